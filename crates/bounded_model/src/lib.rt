@@ -1,1 +1,13 @@
+//! What a bounded container is, before any word or thread: its events, the machine that says which
+//! histories are legal, the sequential list that runs that machine, and the laws of every container.
 #![tactic(auto)]
+
+mod answers;
+mod commands;
+mod history;
+mod views;
+
+pub use answers::{MakeRefused, PutRefused, Stepped, TakeRefused, Word};
+pub use commands::{Command, Reply};
+pub use history::{Event, Order};
+pub use views::{PassView, RootView};
