@@ -1,4 +1,4 @@
-//! A tagged word: an index, two marks and a tag in one `u64`.
+//! A tagged word: from the lowest bit up an index, two marks and a tag, in one `u64`.
 ghost use Rattle.std.specs.Prelude.{◌≡◌, ◌<◌, ◌≤◌, ◌↔◌, ℕ, IsSome, IfSome, IfNone};
 ghost use Rattle.tagged_index.specs.Fields.{Fields, fields_of, index_of, mark_of, second_of, tag_of, number, kept, raised, marked, with_second};
 
@@ -34,7 +34,14 @@ pub const NULL: u32 = (1 << INDEX_BITS) - 1;
 /// The greatest tag: 4,398,046,511,103.
 pub const MAX_TAG: u64 = (1 << TAG_BITS) - 1;
 
-/// An index, a mark, a second mark and a tag in one `u64`.
+// The fields fill a word, and their widths are fixed.
+const _: () = prove!(TAG_SHIFT + TAG_BITS == 64);
+
+const _: () = prove!(NULL == 1_048_575 && MAX_TAG == 4_398_046_511_103);
+
+/// An index from 0 to `NULL`, a mark, a second mark and a tag from 0 to `MAX_TAG`.
+///
+/// What the marks say is the user's; the tag counts the changes of the atomic word that holds it.
 #[derive(Clone, Copy, PartialEq, Eq, Debug)]
 pub struct Tagged {
     word: u64,
@@ -61,6 +68,7 @@ impl Tagged {
         if index > NULL || tag > MAX_TAG {
             return None;
         }
+        // The fields' bits are apart, so a sum is their union.
         let marks = mark as u64 * MARK_UNIT + second as u64 * SECOND_UNIT;
         Some(Tagged {
             word: (tag << TAG_SHIFT) + marks + index as u64,
@@ -75,7 +83,7 @@ impl Tagged {
         Tagged { word }
     }
 
-    /// The `u64` to be kept in an atomic word.
+    /// The `u64` that an atomic word holds.
     #[inline]
     pub fn word(self) -> u64
         ensures same { result ≡ self }
@@ -84,6 +92,7 @@ impl Tagged {
         self.word
     }
 
+    /// The index, from 0 to `NULL`.
     #[inline]
     pub fn index(self) -> u32
         ensures field { result ≡ index_of self }
@@ -92,6 +101,7 @@ impl Tagged {
         (self.word & NULL as u64) as u32
     }
 
+    /// Whether the mark is set.
     #[inline]
     pub fn is_marked(self) -> bool
         ensures { result ≡ mark_of self }
@@ -99,6 +109,7 @@ impl Tagged {
         (self.word >> MARK_SHIFT) & 1 == 1
     }
 
+    /// Whether the second mark is set.
     #[inline]
     pub fn has_second(self) -> bool
         ensures { result ≡ second_of self }
@@ -106,6 +117,7 @@ impl Tagged {
         (self.word >> SECOND_SHIFT) & 1 == 1
     }
 
+    /// The tag, from 0 to `MAX_TAG`.
     #[inline]
     pub fn tag(self) -> u64
         ensures field { result ≡ tag_of self }
@@ -121,6 +133,7 @@ impl Tagged {
         ensures { fields_of result ≡ kept (fields_of self) index }
     {
         Tagged {
+            // Shifting down and up again clears the old index.
             word: (self.word >> INDEX_BITS << INDEX_BITS) + index as u64,
         }
     }
