@@ -4,7 +4,6 @@ use mathlib.Core.Option.{Option, some, none}
 use lib.ListN.{get_elem?}
 use Rattle.atomic_table.specs.Table.{State}
 use Rattle.tagged_index.specs.Fields.{fields_of, number, kept, raised, marked, with_second}
-use Rattle.tagged_index.specs.declared.word.TheConstants.{NULL}
 use Rattle.index_list.specs.Lists.{Layout, word}
 
 -- Loads of the top and of the link of i, a store of n into the link of i, and the exchanges of the seen top w:
