@@ -1,12 +1,12 @@
 -- Links lead through one list only, and a list stands again once its top is changed.
-use Rattle.std.proofs.Common.{◌≡◌, ◌≢◌, ℕ, ◌<◌, List, [], ◌∷◌, ◌++◌, length, refl, sym, ap, ◌∙◌, subst, arith}
+use Rattle.std.proofs.Common.{◌≡◌, ◌≢◌, ℕ, ◌<◌, List, [], ◌∷◌, ◌++◌, length, refl, sym, ap, ◌∙◌, subst, inl, inr, arith}
 use Rattle.std.specs.Prelude.{slice_set}
 use Rattle.std.proofs.lemmas.List.{get_or-set_same, get_or-set_other}
 use mathlib.Core.Option.{Option}
 use Rattle.atomic_table.specs.Table.{State}
 use Rattle.tagged_index.specs.Fields.{index_of}
 use Rattle.tagged_index.specs.declared.word.TheConstants.{NULL}
-use Rattle.index_list.specs.Lists.{Layout, word, Leads, Stands}
+use Rattle.index_list.specs.Lists.{Layout, word, Leads, Holds, Stands}
 
 -- a list whose first index is i begins with i
 pub leads_first : (link : ℕ → ℕ) (i : ℕ) (xs : List ℕ) → i < NULL → Leads link i xs NULL → (ys : List ℕ) × (xs ≡ i ∷ ys)
@@ -25,9 +25,10 @@ pub leads_on : (link : ℕ → ℕ) (i j : ℕ) (xs ys : List ℕ) → Leads lin
 leads_on link i j [] ys c d = subst (λ (z : ℕ). Leads link z ys NULL) (sym c) d
 leads_on link i j (x ∷ xs) ys c d = (c.0, c.1, leads_on link (link x) j xs ys c.2 d)
 
-pub leads_same : (link other : ℕ → ℕ) (i j : ℕ) (xs : List ℕ) → ((x : ℕ) → other x ≡ link x) → Leads link i xs j → Leads other i xs j
-leads_same link other i j [] same c = c
-leads_same link other i j (x ∷ xs) same c = (c.0, c.1, subst (λ (z : ℕ). Leads other z xs j) (sym (same x)) (leads_same link other (link x) j xs same c.2))
+pub leads_kept : (link other : ℕ → ℕ) (i j : ℕ) (xs : List ℕ) → ((x : ℕ) → Holds xs x → other x ≡ link x) → Leads link i xs j → Leads other i xs j
+leads_kept link other i j [] same c = c
+leads_kept link other i j (x ∷ xs) same c =
+    (c.0, c.1, subst (λ (z : ℕ). Leads other z xs j) (sym (same x (inl refl))) (leads_kept link other (link x) j xs (λ z h. same z (inr h)) c.2))
 
 module _ {S V : Type 0} (y : Layout) (held : ℕ → V → List ℕ) (l : ℕ) (links_off : (i : ℕ) → y.link l i ≢ y.top l) where
   -- the links that a table has
@@ -42,5 +43,5 @@ module _ {S V : Type 0} (y : Layout) (held : ℕ → V → List ℕ) (l : ℕ) (
       let t : State S V = record { words = slice_set s.words (y.top l) m; homes = homes; views = views } in
       let top : index_of (word t (y.top l)) ≡ index_of m = ap index_of (get_or-set_same s.words (y.top l) m 0 placed) in
       let after : Leads (next t) (index_of m) st.0 NULL = subst (λ (z : ℕ). Leads (next t) z st.0 NULL) top st.1.leads in
-      let before : Leads (next s) (index_of m) st.0 NULL = leads_same (next t) (next s) (index_of m) NULL st.0 (λ i. sym (get_or-set_other s.words (y.top l) (y.link l i) m 0 (links_off i))) after in
+      let before : Leads (next s) (index_of m) st.0 NULL = leads_kept (next t) (next s) (index_of m) NULL st.0 (λ i _. sym (get_or-set_other s.words (y.top l) (y.link l i) m 0 (links_off i))) after in
       subst (Stands y held l t) (leads_one (next s) (index_of m) st.0 xs before leads) st.1

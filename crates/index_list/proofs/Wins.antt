@@ -7,15 +7,17 @@ use Rattle.tagged_index.specs.Fields.{index_of, fields_of, number, kept, raised,
 use Rattle.tagged_index.specs.declared.word.TheConstants.{NULL}
 use Rattle.tagged_index.proofs.Words.{index_of-number, index_of-in_range}
 use Rattle.index_list.specs.Lists.{Layout, word, Leads, Distinct, AllHome, Stands}
-use Rattle.index_list.specs.Steps.{Each, IsHome, numbers, emptied, filled, ForSlot, ForSlots, WithSlot, WithSlots, changed, Before, Goes, top_after_give}
-use Rattle.index_list.specs.Results.{Made, Won, Took, Gave, Brings, LostFirst, LostAll, Gained, Stayed}
+use Rattle.index_list.specs.Steps.{Each, IsHome, numbers, emptied, filled, ForSlot, ForSlots, WithSlot, WithSlots, arranged, changed, Before, Goes, top_after_give}
+use Rattle.index_list.specs.Results.{Made, Won, Took, TookAll, Gave, Brings, LostFirst, LostAll, Gained, Stayed}
+use Rattle.index_list.specs.declared.front.Front.{Front}
+use Rattle.index_list.specs.declared.front.Front.TheVariants.{First, Last}
 use Rattle.index_list.proofs.Lists.{leads_first, leads_on, stands_again}
-use Rattle.index_list.proofs.Acts.{take_each, give_each, take_each-carried, take_each-homes, take_each-valid, give_each-carried, give_each-homes, give_each-valid, slots_of}
+use Rattle.index_list.proofs.Acts.{take_each, give_each, take_each-carried, take_each-homes, take_each-valid, take_back, take_back-carried, take_back-homes, take_back-valid, give_each-carried, give_each-homes, give_each-valid, slots_of}
 use Rattle.index_list.proofs.Allowed.{Wins}
 
 -- Slots leave the homes, or come back, with an exchange.
 module _ {S V : Type 0} (holds : State S V → Type 0) (steps : V → ℕ) (at m id : ℕ) (won : Me S V → Type 0) (s : State S V) where
-  take_slots : (me : Me S V) (zs : List (ℕ × S)) (did : V → Type 0) → Distinct (numbers zs) → Each (IsHome s.homes) zs
+  pub take_slots : (me : Me S V) (zs : List (ℕ × S)) (did : V → Type 0) → Distinct (numbers zs) → Each (IsHome s.homes) zs
       → (g : Goes holds steps me.0 (changed s at m (emptied s.homes zs) id) did) → won (g.view, zs ++ me.1) → Wins holds steps at m id me won s
   take_slots me zs did distinct home g w = record {
     view = g.view;
@@ -26,7 +28,19 @@ module _ {S V : Type 0} (holds : State S V → Type 0) (steps : V → ℕ) (at m
     told = subst (λ (c : List (ℕ × S)). won (g.view, c)) (sym (take_each-carried zs me.1)) w;
   }
 
-  give_slots : (me : Me S V) (zs others : List (ℕ × S)) (did : V → Type 0) → me.1 ≡ zs ++ others
+  take_all_slots : (front : Front) (me : Me S V) (zs : List (ℕ × S)) (did : V → Type 0) → Distinct (numbers zs) → Each (IsHome s.homes) zs
+      → (g : Goes holds steps me.0 (changed s at m (emptied s.homes zs) id) did) → won (g.view, arranged front zs ++ me.1) → Wins holds steps at m id me won s
+  take_all_slots First me zs did distinct home g w = take_slots me zs did distinct home g w
+  take_all_slots Last me zs did distinct home g w = record {
+    view = g.view;
+    act = take_back zs;
+    valid = take_back-valid s.homes zs me.1 distinct home;
+    rule = subst (λ (homes : List (Option S)). holds (changed s at m homes id g.view)) (sym (take_back-homes s.homes zs me.1 distinct)) g.rule;
+    counted = g.counted;
+    told = subst (λ (c : List (ℕ × S)). won (g.view, c)) (sym (take_back-carried zs me.1)) w;
+  }
+
+  pub give_slots : (me : Me S V) (zs others : List (ℕ × S)) (did : V → Type 0) → me.1 ≡ zs ++ others
       → (g : Goes holds steps me.0 (changed s at m (filled s.homes zs) id) did) → won (g.view, others) → Wins holds steps at m id me won s
   give_slots me zs others did e g w = record {
     view = g.view;
@@ -90,21 +104,21 @@ module _ {S V : Type 0} (y : Layout) (held : ℕ → V → List ℕ) (holds : St
       take_slots holds steps (y.top l) m id (λ me'. WithSlot false i (Taking w m did (LostFirst y held l i) me')) s me [] (did []) tt tt g
       record { moved = refl; said = g.told; step = record { table = s; before = met; hit = hit; after = g.rule; effect = lost_first s w n m s.homes g.view met.rule hit low (follows s met hit) names g.rule } }
 
-  pub wins_take_all : (c : Bool) (w m : ℕ) (did : List (ℕ × S) → V → Type 0) → index_of m ≡ NULL
+  pub wins_take_all : (front : Front) (c : Bool) (w m : ℕ) (did : List (ℕ × S) → V → Type 0) → index_of m ≡ NULL
       → ((s : State S V) (xs : List ℕ) → Stands y held l s xs → IsTrue c → AllHome s.homes xs)
       → ((s : State S V) (xs : List ℕ) → Met s → word s (y.top l) ≡ w → Stands y held l s xs → ForSlots c xs (IsHome s.homes) (λ zs. Goes holds steps me.0 (changed s (y.top l) m (emptied s.homes zs) id) (did zs)))
       → (s : State S V) → Met s → word s (y.top l) ≡ w
-      → Wins holds steps (y.top l) m id me (λ me'. (xs : List ℕ) × WithSlots c xs (Taking w m did (LostAll y held l xs) me')) s
-  wins_take_all true w m did names home law s met hit =
+      → Wins holds steps (y.top l) m id me (λ me'. (xs : List ℕ) × WithSlots c xs (TookAll front holds id (y.top l) w m did (LostAll y held l xs) me me')) s
+  wins_take_all front true w m did names home law s met hit =
       let st = stands s met.rule in
       let r = slots_of s.homes st.0 (home s st.0 st.1 refl) in
       let g = law s st.0 met hit st.1 r.0 r.1 r.2 in
-      take_slots holds steps (y.top l) m id (λ me'. (xs : List ℕ) × WithSlots true xs (Taking w m did (LostAll y held l xs) me')) s me r.0 (did r.0) (subst Distinct (sym r.1) st.1.distinct) r.2 g
+      take_all_slots holds steps (y.top l) m id (λ me'. (xs : List ℕ) × WithSlots true xs (TookAll front holds id (y.top l) w m did (LostAll y held l xs) me me')) s front me r.0 (did r.0) (subst Distinct (sym r.1) st.1.distinct) r.2 g
       (st.0, (r.0, r.1, record { moved = refl; said = g.told; step = record { table = s; before = met; hit = hit; after = g.rule; effect = (st.1, again s m (emptied s.homes r.0) g.view [] met.rule g.rule names) } }))
-  wins_take_all false w m did names home law s met hit =
+  wins_take_all front false w m did names home law s met hit =
       let st = stands s met.rule in
       let g = law s st.0 met hit st.1 in
-      take_slots holds steps (y.top l) m id (λ me'. (xs : List ℕ) × WithSlots false xs (Taking w m did (LostAll y held l xs) me')) s me [] (did []) tt tt g
+      take_all_slots holds steps (y.top l) m id (λ me'. (xs : List ℕ) × WithSlots false xs (TookAll front holds id (y.top l) w m did (LostAll y held l xs) me me')) s front me [] (did []) tt tt g
       (st.0, record { moved = refl; said = g.told; step = record { table = s; before = met; hit = hit; after = g.rule; effect = (st.1, again s m s.homes g.view [] met.rule g.rule names) } })
 
   gained : (s : State S V) (w m i : ℕ) (xs : List ℕ) (homes : List (Option S)) (v : V) → holds s → word s (y.top l) ≡ w → index_of m ≡ i → Leads (next s) i xs (index_of w)

@@ -8,11 +8,13 @@
 //! a held index alone; and each step counts as one.
 #![tactic(auto)]
 
+mod front;
 mod host;
 mod slots;
 mod steps;
 mod told;
 
+pub use front::Front;
 pub use host::ListHost;
 pub use slots::{move_out, put_in};
 pub use steps::{

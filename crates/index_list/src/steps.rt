@@ -4,8 +4,9 @@ ghost use Rattle.tagged_index.specs.Fields.{index_of, tag_of};
 ghost use Rattle.tagged_index.specs.declared.word.TheConstants.{MAX_TAG, NULL};
 ghost use Rattle.index_list.specs.Lists.{Holds};
 ghost use Rattle.index_list.specs.Steps.{read_top, read_link, write_link, take, give, give_chain, take_all, mark, shut, top_after_take, top_after_give, top_after_mark, top_after_shut, WithSlot, WithSlots};
-ghost use Rattle.index_list.specs.Results.{Made, Won, Lost, Took, Gave, Brings, Stood, LostFirst, Gained, LostAll, Stayed};
+ghost use Rattle.index_list.specs.Results.{Made, Won, Lost, Took, TookAll, Gave, Brings, Stood, LostFirst, Gained, LostAll, Stayed};
 
+use crate::front::Front;
 use crate::host::ListHost;
 use crate::told::{exchange_as, load_as, store_as};
 use atomic_table::{Seat, Shared};
@@ -180,13 +181,14 @@ pub fn try_give_chain<S, V, K, P: ListHost<S, V, K, L>, const L: usize>(
 }
 
 /// Exchanges the seen top for null under the next tag, and answers whether it won: then the
-/// whole list is the seat's, with its slots, the first of the list before the others.
+/// whole list is the seat's, with its slots, the first or the last of the list in front.
 #[inline]
 pub fn try_take_all<S, V, K, P: ListHost<S, V, K, L>, const L: usize>(
     table: &Shared<S, V, K, P>,
     seat: &mut Seat<S, V>,
     list: usize,
     seen: Tagged,
+    front: Front,
     line: &P::Line,
 ) -> bool
     requires table { (seat.old.table_id ≡ table.now.table_id) × (list < L) × (P.layout.top list < table.now.table_id.words) }
@@ -194,16 +196,16 @@ pub fn try_take_all<S, V, K, P: ListHost<S, V, K, L>, const L: usize>(
     requires word { (index_of seen < NULL) × (tag_of seen < MAX_TAG) }
     ensures seat { (seat.new.table_id ≡ seat.old.table_id) × (seat.new.id ≡ seat.old.id) }
     ensures counted { P.steps seat.new.me.0 ≡ P.steps seat.old.me.0 + 1 }
-    ensures won { IsTrue result → (xs : List ℕ) × WithSlots (P.layout.carries list) xs (Took (P.holds table.now.key) seat.old.id (P.layout.top list) seen (top_after_take seen NULL) (λ zs. P.did line.now list (take_all seen) seen zs seat.old.me.0) (LostAll P.layout P.held list xs) seat.old.me seat.new.me) }
+    ensures won { IsTrue result → (xs : List ℕ) × WithSlots (P.layout.carries list) xs (TookAll front (P.holds table.now.key) seat.old.id (P.layout.top list) seen (top_after_take seen NULL) (λ zs. P.did line.now list (take_all seen) seen zs seat.old.me.0) (LostAll P.layout P.held list xs) seat.old.me seat.new.me) }
     ensures lost { IsFalse result → Lost (P.holds table.now.key) seat.old.id (P.layout.top list) seen (λ found. P.did line.now list (take_all seen) found []) (Stood P.layout P.held list) seat.old.me seat.new.me }
 {
-    let found = exchange_as::<S, V, K, P, (usize, Tagged), P::Line, Brand>(
+    let found = exchange_as::<S, V, K, P, (usize, Tagged, Front), P::Line, Brand>(
         table,
         seat,
         P::top(list),
         seen.word(),
         raised(seen, NULL).word(),
-        (list, seen),
+        (list, seen, front),
         line,
     );
     found == seen.word()
