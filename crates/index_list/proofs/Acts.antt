@@ -1,11 +1,12 @@
 -- The slots of a whole list move in one act.
-use Rattle.std.proofs.Common.{◌≡◌, ℕ, List, [], ◌∷◌, ◌++◌, refl, sym, ap, ◌∙◌, subst, inl, inr, append_assoc}
+use Rattle.std.proofs.Common.{◌≡◌, ℕ, List, [], ◌∷◌, ◌++◌, refl, sym, ap, ◌∙◌, subst, inl, inr, append_assoc, length, ◌<◌}
 use Rattle.std.specs.Prelude.{slice_set, reverse}
 use Rattle.std.proofs.lemmas.List.{set_comm, reverse-append}
 use mathlib.Core.Option.{Option, some, none}
 use lib.ListN.{get_elem?}
 use Rattle.atomic_table.specs.Table.{Act, keeps, takes, gives, chain, Valid, carried_after, homes_after}
-use Rattle.atomic_table.proofs.Lists.{set_else}
+use Rattle.atomic_table.proofs.Lists.{set_else, set_here}
+use Rattle.std.proofs.Math.ListN.{length-set}
 use Rattle.index_list.specs.Lists.{Holds, Distinct, AllHome}
 use Rattle.index_list.specs.Steps.{numbers, Each, IsHome, emptied, filled}
 
@@ -27,7 +28,7 @@ module _ {S : Type 0} where
   take_each-homes homes [] c = refl
   take_each-homes homes (z ∷ zs) c = ap (λ (k : List (Option S)). slice_set k z.0 none) (take_each-homes homes zs c)
 
-  emptied-else : (homes : List (Option S)) (zs : List (ℕ × S)) (i : ℕ) → ¬ Holds (numbers zs) i → get_elem? (emptied homes zs) i ≡ get_elem? homes i
+  pub emptied-else : (homes : List (Option S)) (zs : List (ℕ × S)) (i : ℕ) → ¬ Holds (numbers zs) i → get_elem? (emptied homes zs) i ≡ get_elem? homes i
   emptied-else homes [] i off = refl
   emptied-else homes (z ∷ zs) i off = set_else (emptied homes zs) z.0 i none (λ e. off (inl e)) ∙ emptied-else homes zs i (λ h. off (inr h))
 
@@ -82,3 +83,24 @@ module _ {S : Type 0} where
   pub take_back-valid : (homes : List (Option S)) (zs c : List (ℕ × S)) → Distinct (numbers zs) → Each (IsHome homes) zs → Valid homes c (take_back zs)
   take_back-valid homes [] c distinct home = tt
   take_back-valid homes (z ∷ zs) c distinct home = (home.0, take_back-valid (slice_set homes z.0 none) zs (z ∷ c) distinct.1 (still_home homes zs z.0 distinct.0 home.1))
+
+  -- What the homes are once slots have come back.
+  pub filled-else : (homes : List (Option S)) (zs : List (ℕ × S)) (i : ℕ) → ¬ Holds (numbers zs) i → get_elem? (filled homes zs) i ≡ get_elem? homes i
+  filled-else homes [] i off = refl
+  filled-else homes (z ∷ zs) i off = filled-else (slice_set homes z.0 (some z.1)) zs i (λ h. off (inr h)) ∙ set_else homes z.0 i (some z.1) (λ e. off (inl e))
+
+  pub length-emptied : (homes : List (Option S)) (zs : List (ℕ × S)) → length (emptied homes zs) ≡ length homes
+  length-emptied homes [] = refl
+  length-emptied homes (z ∷ zs) = length-set (emptied homes zs) z.0 none ∙ length-emptied homes zs
+
+  pub length-filled : (homes : List (Option S)) (zs : List (ℕ × S)) → length (filled homes zs) ≡ length homes
+  length-filled homes [] = refl
+  length-filled homes (z ∷ zs) = length-filled (slice_set homes z.0 (some z.1)) zs ∙ length-set homes z.0 (some z.1)
+
+  pub filled-home : (homes : List (Option S)) (zs : List (ℕ × S)) → Distinct (numbers zs) → ((i : ℕ) → Holds (numbers zs) i → i < length homes) → AllHome (filled homes zs) (numbers zs)
+  filled-home homes [] distinct low i h = absurd h
+  filled-home homes (z ∷ zs) distinct low i (inl e) =
+      let here : get_elem? (filled (slice_set homes z.0 (some z.1)) zs) z.0 ≡ some (some z.1) = filled-else (slice_set homes z.0 (some z.1)) zs z.0 distinct.0 ∙ set_here homes z.0 (some z.1) (low z.0 (inl refl)) in
+      (z.1, subst (λ (k : ℕ). get_elem? (filled (slice_set homes z.0 (some z.1)) zs) k ≡ some (some z.1)) (sym e) here)
+  filled-home homes (z ∷ zs) distinct low i (inr h) =
+      filled-home (slice_set homes z.0 (some z.1)) zs distinct.1 (λ k p. subst (λ (n : ℕ). k < n) (sym (length-set homes z.0 (some z.1))) (low k (inr p))) i h

@@ -1,12 +1,12 @@
 -- Links lead through one list only, and a list stands again once its top is changed.
-use Rattle.std.proofs.Common.{◌≡◌, ◌≢◌, ℕ, ◌<◌, List, [], ◌∷◌, ◌++◌, length, refl, sym, ap, ◌∙◌, subst, inl, inr, arith}
+use Rattle.std.proofs.Common.{◌≡◌, ◌≢◌, ℕ, ◌<◌, List, [], ◌∷◌, ◌++◌, length, refl, sym, ap, ◌∙◌, subst, inl, inr, ⊎_elim, ◌⊎◌, arith}
 use Rattle.std.specs.Prelude.{slice_set}
 use Rattle.std.proofs.lemmas.List.{get_or-set_same, get_or-set_other}
 use mathlib.Core.Option.{Option}
 use Rattle.atomic_table.specs.Table.{State}
 use Rattle.tagged_index.specs.Fields.{index_of}
 use Rattle.tagged_index.specs.declared.word.TheConstants.{NULL}
-use Rattle.index_list.specs.Lists.{Layout, word, Leads, Holds, Stands}
+use Rattle.index_list.specs.Lists.{Layout, word, Leads, Holds, Disjoint, Distinct, Stands}
 
 -- a list whose first index is i begins with i
 pub leads_first : (link : ℕ → ℕ) (i : ℕ) (xs : List ℕ) → i < NULL → Leads link i xs NULL → (ys : List ℕ) × (xs ≡ i ∷ ys)
@@ -29,6 +29,21 @@ pub leads_kept : (link other : ℕ → ℕ) (i j : ℕ) (xs : List ℕ) → ((x 
 leads_kept link other i j [] same c = c
 leads_kept link other i j (x ∷ xs) same c =
     (c.0, c.1, subst (λ (z : ℕ). Leads other z xs j) (sym (same x (inl refl))) (leads_kept link other (link x) j xs (λ z h. same z (inr h)) c.2))
+
+-- Lists one after the other.
+
+pub holds_append : (xs ys : List ℕ) (i : ℕ) → Holds (xs ++ ys) i → Holds xs i ⊎ Holds ys i
+holds_append [] ys i h = inr h
+holds_append (x ∷ xs) ys i (inl e) = inl (inl e)
+holds_append (x ∷ xs) ys i (inr h) = ⊎_elim (λ p. inl (inr p)) (λ p. inr p) (holds_append xs ys i h)
+
+pub holds_after : (xs ys : List ℕ) (i : ℕ) → Holds ys i → Holds (xs ++ ys) i
+holds_after [] ys i h = h
+holds_after (x ∷ xs) ys i h = inr (holds_after xs ys i h)
+
+pub distinct_append : (xs ys : List ℕ) → Distinct xs → Distinct ys → Disjoint xs ys → Distinct (xs ++ ys)
+distinct_append [] ys p q apart = q
+distinct_append (x ∷ xs) ys p q apart = ((λ h. ⊎_elim p.0 (apart x (inl refl)) (holds_append xs ys x h)), distinct_append xs ys p.1 q (λ i h k. apart i (inr h) k))
 
 module _ {S V : Type 0} (y : Layout) (held : ℕ → V → List ℕ) (l : ℕ) (links_off : (i : ℕ) → y.link l i ≢ y.top l) where
   -- the links that a table has
