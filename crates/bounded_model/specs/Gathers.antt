@@ -3,6 +3,8 @@ use Rattle.std.specs.Prelude.{◌≡◌, ℕ, suc, ◌<◌, List, [], ◌∷◌,
 use Rattle.std.specs.List.{AllByRecursion as Every}
 use Rattle.bounded_model.specs.declared.history.Event.{Event}
 use Rattle.bounded_model.specs.declared.history.Event.TheVariants.{Hold, Put, Take, TakeAll, Free, Close, Shut}
+use Rattle.bounded_model.specs.declared.views.PassView.{PassView}
+use Rattle.bounded_model.specs.Histories.{own}
 
 abbrev pub gather : {T A : Type 0} → (Event T → List A) → List (Event T) → List A
 gather f [] = []
@@ -17,23 +19,35 @@ put_of (Free p k) = []
 put_of (Close p) = []
 put_of (Shut p) = []
 
--- a value taken, the number of the call that took it, and the pass that made the call
-pub record Took (T : Type 0) : Type 0 where
+-- a value that went in or out, the number of the call that moved it, and the pass that made the call
+pub record Moved (T : Type 0) : Type 0 where
   pub value : T
   pub number : ℕ
   pub by : ℕ
 
-abbrev pub took_of : {T : Type 0} → Event T → List (Took T)
+abbrev pub moved_by : {T : Type 0} → ℕ → ℕ → List T → List (Moved T)
+moved_by p n vs = map (λ v. record { value = v; number = n; by = p }) vs
+
+abbrev pub sent_of : {T : Type 0} → Event T → List (Moved T)
+sent_of (Hold p) = []
+sent_of (Put p vs n) = moved_by p n vs
+sent_of (Take p v n) = []
+sent_of (TakeAll p vs n) = []
+sent_of (Free p k) = []
+sent_of (Close p) = []
+sent_of (Shut p) = []
+
+abbrev pub took_of : {T : Type 0} → Event T → List (Moved T)
 took_of (Hold p) = []
 took_of (Put p vs n) = []
 took_of (Take p v n) = record { value = v; number = n; by = p } ∷ []
-took_of (TakeAll p vs n) = map (λ v. record { value = v; number = n; by = p }) vs
+took_of (TakeAll p vs n) = moved_by p n vs
 took_of (Free p k) = []
 took_of (Close p) = []
 took_of (Shut p) = []
 
-abbrev pub values_of : {T : Type 0} → List (Took T) → List T
-values_of ts = map (λ t. t.value) ts
+abbrev pub values_of : {T : Type 0} → List (Moved T) → List T
+values_of ms = map (λ m. m.value) ms
 
 -- whose event it is, where it is of one kind
 abbrev pub hold_of : {T : Type 0} → Event T → List ℕ
@@ -86,3 +100,7 @@ Counts key k (x ∷ xs) = (key x ≡ k) × Counts key (suc k) xs
 abbrev pub EachFrom : {A : Type 0} → (ℕ → A → Type 0) → ℕ → List A → Type 0
 EachFrom P a [] = Unit {0}
 EachFrom P a (x ∷ xs) = P a x × EachFrom P (suc a) xs
+
+-- the same of what a pass itself has done
+abbrev pub did : {T A : Type 0} → (Event T → List A) → PassView T → List A
+did f v = gather f (own v.number v.seen)
