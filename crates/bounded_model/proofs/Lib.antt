@@ -8,3 +8,4 @@ pub mod Numbers
 pub mod Joining
 pub mod Doing
 pub mod Consuming
+pub mod Showing

@@ -4,3 +4,6 @@ pub mod Justified
 pub mod Laws
 pub mod Consumes
 pub mod Gathers
+pub mod Replies
+pub mod Plain
+pub mod Shows
