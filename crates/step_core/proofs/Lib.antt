@@ -1,0 +1,7 @@
+pub mod Tests
+pub mod Sums
+pub mod Lists
+pub mod OneList
+pub mod ListKept
+pub mod ListRun
+pub mod ListSamples
