@@ -5,3 +5,4 @@ pub mod OneList
 pub mod ListKept
 pub mod ListRun
 pub mod ListSamples
+pub mod StackRows

@@ -82,13 +82,10 @@ abbrev pub run : ℕ → List (ℕ × Act) → State → State
 run limit [] s = s
 run limit (e ∷ es) s = run limit es (does limit s e.0 e.1 (get_elem? s.passes e.0))
 
--- at the start each index but the last leads to the next one
-abbrev pub start_link : ℕ → ℕ → ℕ
-start_link n i = if i + 1 == n then NULL else i + 1
-
+-- at the start all indexes are in the list
 abbrev pub start : ℕ → ℕ → State
 start n passes = record {
-  top = record { index = 0; mark = false; second = false; tag = 0 };
+  top = start_word 0;
   link = start_link n;
   passes = replicate passes (record { line = Idle; hand = [] });
 }

@@ -8,5 +8,6 @@
 #![tactic(auto)]
 
 mod laws;
+pub mod stack;
 
 pub use laws::list_core;

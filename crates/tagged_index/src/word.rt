@@ -1,6 +1,6 @@
 //! A tagged word: an index, two marks and a tag in one `u64`.
 ghost use Rattle.std.specs.Prelude.{◌≡◌, ◌<◌, ◌≤◌, ◌↔◌, ℕ, IsSome, IfSome, IfNone};
-ghost use Rattle.tagged_index.specs.Fields.{Fields, fields_of, index_of, mark_of, second_of, tag_of, number, kept, raised, marked, with_second};
+ghost use Rattle.tagged_index.specs.Fields.{fields_of, index_of, mark_of, second_of, tag_of, number, kept, raised, marked, with_second};
 
 use std::marker::Model;
 
@@ -33,6 +33,15 @@ pub const NULL: u32 = (1 << INDEX_BITS) - 1;
 
 /// The greatest tag: 4,398,046,511,103.
 pub const MAX_TAG: u64 = (1 << TAG_BITS) - 1;
+
+/// A tagged word taken apart. Definitions and proofs speak of words by their fields.
+#[derive(Clone, Copy, PartialEq, Eq, Debug)]
+pub struct Fields {
+    pub index: u32,
+    pub mark: bool,
+    pub second: bool,
+    pub tag: u64,
+}
 
 /// An index, a mark, a second mark and a tag in one `u64`.
 #[derive(Clone, Copy, PartialEq, Eq, Debug)]
