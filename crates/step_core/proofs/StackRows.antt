@@ -1,22 +1,18 @@
 -- Scripts of calls and single steps, computed: the machine gives the replies and the step counts of the tables.
-use Rattle.std.proofs.Common.{◌≡◌, ℕ, zero, suc, ◌+◌, ◌==◌, Bool, true, false, List, [], ◌∷◌, ◌++◌, set, replicate, refl, Some, None, Ok, Err, Option as Slot, cond}
+use Rattle.std.proofs.Common.{◌≡◌, ℕ, zero, suc, List, [], ◌∷◌, set, refl, Some, None, Ok, cond}
 use mathlib.Core.Option.{Option, none, some}
 use lib.ListN.{get_elem?}
-use Rattle.bounded_model.specs.declared.answers.Word.TheVariants.{Free as FreeWord, Top as TopWord}
-use Rattle.bounded_model.specs.declared.answers.PutRefused.TheVariants.{Full as PutFull, Closed as PutClosed, Spent as PutSpent}
-use Rattle.bounded_model.specs.declared.answers.TakeRefused.TheVariants.{Empty as TakeEmpty, Closed as TakeClosed, Spent as TakeSpent, Shut as TakeShut}
 use Rattle.bounded_model.specs.declared.history.Order.TheVariants.{Lifo}
 use Rattle.bounded_model.specs.Machine.{Shape}
-use Rattle.step_core.specs.declared.stack.Direction.TheVariants.{Down, Up}
-use Rattle.step_core.specs.declared.stack.Taking.TheVariants.{One, Whole}
+use Rattle.step_core.specs.declared.stack.Taking.TheVariants.{One}
 use Rattle.step_core.specs.declared.stack.Answer.{Answer}
-use Rattle.step_core.specs.declared.stack.Answer.TheVariants.{Put, Take, Fold, Close, Shut, Look}
+use Rattle.step_core.specs.declared.stack.Answer.TheVariants.{Put, Take}
 use Rattle.step_core.specs.declared.stack.Line.{Line}
-use Rattle.step_core.specs.declared.stack.Line.TheVariants.{Idle, F1}
+use Rattle.step_core.specs.declared.stack.Line.TheVariants.{Idle}
 use Rattle.step_core.specs.declared.stack.Call.{Call}
-use Rattle.step_core.specs.declared.stack.Call.TheVariants.{Put as CallPut, Take as CallTake, Close as CallClose, Shut as CallShut, Look as CallLook}
+use Rattle.step_core.specs.declared.stack.Call.TheVariants.{Put as CallPut, Take as CallTake}
 use Rattle.step_core.specs.declared.stack.Pass.{Pass}
-use Rattle.step_core.specs.StackMachine.{State, Begin, Step, acts_at, start, is_idle, chain_from, values_in}
+use Rattle.step_core.specs.StackMachine.{State, Begin, Step, acts_at, start, is_idle}
 
 -- a line of a script: a pass makes a whole call, begins one, or makes at most so many steps
 data Says : Type 0 where
