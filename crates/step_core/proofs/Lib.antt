@@ -5,4 +5,6 @@ pub mod OneList
 pub mod ListKept
 pub mod ListRun
 pub mod ListSamples
+pub mod Chains
+pub mod StackLinked
 pub mod StackRows
