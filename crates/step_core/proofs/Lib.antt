@@ -7,4 +7,7 @@ pub mod ListRun
 pub mod ListSamples
 pub mod Chains
 pub mod StackLinked
+pub mod StackFilled
+pub mod StackTold
+pub mod StackKinds
 pub mod StackRows
