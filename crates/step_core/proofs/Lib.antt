@@ -10,4 +10,5 @@ pub mod StackLinked
 pub mod StackFilled
 pub mod StackTold
 pub mod StackKinds
+pub mod StackStep
 pub mod StackRows

@@ -15,8 +15,9 @@ use Rattle.step_core.specs.OneList.{ReadTop, ReadLink}
 use Rattle.step_core.specs.declared.stack.Putting.{Putting}
 use Rattle.step_core.specs.declared.stack.Line.{Line}
 use Rattle.step_core.specs.StackMachine.{Memory, first, last, chain_from, values_in, placed, held, after_hold, after_give, after_put, after_take, after_take_all, after_close, after_shut, after_store}
-use Rattle.step_core.specs.StackRule.{Lists, Puts, Gives, IsFine, HasValues, Linked, Filled, putting, state, Good}
+use Rattle.step_core.specs.StackRule.{Lists, Puts, Gives, IsFine, HasValues, Filled, putting, state, Good}
 use Rattle.step_core.proofs.Tests.{cases}
+use Rattle.step_core.proofs.Sums.{total_one}
 use Rattle.step_core.proofs.Lists.{times_here, leads_from}
 use Rattle.step_core.proofs.OneList.{ready, front_of}
 use Rattle.step_core.proofs.Chains.{chain_from-is, values_in-is}
@@ -33,11 +34,11 @@ pub record Kept (T : Type 0) (n limit : ℕ) (m : Memory T) (who : ℕ → Optio
   pub good : Good T n limit m lists who lines history
 
 -- a won take: the value that was on top, which is taken
-pub record Took (T : Type 0) (n limit : ℕ) (m : Memory T) (who : ℕ → Option ℕ) (lines : List (Line T)) (history : List (Event T)) (q p : ℕ) (w : Tagged) (k : ℕ) (to : Line T) : Type 0 where
+pub record Took (T : Type 0) (n limit : ℕ) (m : Memory T) (who : ℕ → Option ℕ) (lines : List (Line T)) (history : List (Event T)) (q p : ℕ) (w : Tagged) (k : ℕ) (to : T → Line T) : Type 0 where
   pub value : T
   pub here : m.home w.index ≡ some (Some value)
   pub lists : Lists
-  pub good : Good T n limit (after_take m w k) lists who (set lines q to) (Take p value w.tag ∷ history)
+  pub good : Good T n limit (after_take m w k) lists who (set lines q (to value)) (Take p value w.tag ∷ history)
 
 module _ {T : Type 0} {n limit : ℕ} {m : Memory T} {g : Lists} {who : ℕ → Option ℕ} {lines : List (Line T)} {history : List (Event T)} where
   -- a step that changes no word
@@ -109,11 +110,11 @@ module _ {T : Type 0} {n limit : ℕ} {m : Memory T} {g : Lists} {who : ℕ → 
       }
 
   -- the node on top is taken
-  pub good_take : (q p : ℕ) (l l' : Line T) (w : Tagged) (k : ℕ) → Good T n limit m g who lines history → get_elem? lines q ≡ some l → who q ≡ some p → m.top ≡ w → w.second ≡ false → ReadTop limit m.top g.stack w → ReadLink m.top m.link w k
-      → held l ≡ [] → held l' ≡ w.index ∷ [] → putting l' ≡ []
-      → ((rest : List ℕ) → IsFine limit (after_take m w k) (record { frees = g.frees; stack = rest }) l')
-      → Took T n limit m who lines history q p w k l'
-  good_take q p l l' w k x e of won unshut read at mine mine' no_put f =
+  pub good_take : (q p : ℕ) (l : Line T) (to : T → Line T) (w : Tagged) (k : ℕ) → Good T n limit m g who lines history → get_elem? lines q ≡ some l → who q ≡ some p → m.top ≡ w → w.second ≡ false → ReadTop limit m.top g.stack w → ReadLink m.top m.link w k
+      → held l ≡ [] → ((v : T) → held (to v) ≡ w.index ∷ []) → ((v : T) → putting (to v) ≡ [])
+      → ((v : T) (rest : List ℕ) → IsFine limit (after_take m w k) (record { frees = g.frees; stack = rest }) (to v))
+      → Took T n limit m who lines history q p w k to
+  good_take q p l to w k x e of won unshut read at mine mine' no_put f =
       let r = ready limit m.top m.link g.stack w k x.linked.top_stands won read at in
       let once = held_once q w.index l x.linked e in
       let here : times w.index g.stack ≡ 1 + times w.index r.rest = ap (times w.index) r.is ∙ times_here w.index r.rest in
@@ -124,19 +125,20 @@ module _ {T : Type 0} {n limit : ℕ} {m : Memory T} {g : Lists} {who : ℕ → 
         here = y.here;
         lists = record { frees = g.frees; stack = r.rest };
         good = record {
-          linked = take_linked q l l' w k (w.index ∷ []) r.rest (after_take m w k) x.linked e won r.is r.stands mine (λ i. ap (times i) mine') refl refl refl (f r.rest);
+          linked = take_linked q l (to y.value) w k (w.index ∷ []) r.rest (after_take m w k) x.linked e won r.is r.stands mine (λ i. ap (times i) (mine' y.value)) refl refl refl (f y.value r.rest);
           filled = subst (λ (vs : List T). Filled T (after_take m w k) (record { frees = g.frees; stack = r.rest }) (without_first vs)) (sym y.is)
               (take_filled (after_take m w k) w.index r.rest y.left refl (omega arith) (omega arith) y.stored x.filled);
-          told = take_told q p l l' w k r.rest y.value y.left e of won unshut read.below r.is y.is (ap length mine) (ap length mine') (omega (arith, ap length no_put)) x.told;
+          told = take_told q p l (to y.value) w k r.rest y.value y.left e of won unshut read.below r.is y.is (ap length mine) (ap length (mine' y.value)) (omega (arith, ap length (no_put y.value))) x.told;
         };
       }
 
+  -- null is no node
+  pub no_null : (q : ℕ) (l : Line T) → Good T n limit m g who lines history → get_elem? lines q ≡ some l → times NULL g.stack + times NULL (held l) ≡ 0
+  no_null q l x e = omega (arith, x.linked.once NULL, total_one (λ u. times NULL (held u)) lines q l e, not_below NULL n x.linked.small)
+
   -- the chain that a fold takes is the whole stack, and it has the history's values
-  pub all_nodes : (w : Tagged) → Good T n limit m g who lines history → m.top ≡ w → chain_from n m.link w.index ≡ g.stack
-  all_nodes w x won = chain_from-is m.link n w.index g.stack (omega (arith, x.told.room)) (nothing_at_null x.linked) (leads_from m.link m.top.index w.index g.stack NULL (ap (λ (y : Tagged). y.index) won) x.linked.top_stands)
-    where
-      nothing_at_null : Linked T n limit m g lines → times NULL g.stack ≡ 0
-      nothing_at_null s = omega (arith, s.once NULL, not_below NULL n s.small)
+  pub all_nodes : (q : ℕ) (l : Line T) (w : Tagged) → Good T n limit m g who lines history → get_elem? lines q ≡ some l → m.top ≡ w → chain_from n m.link w.index ≡ g.stack
+  all_nodes q l w x e won = chain_from-is m.link n w.index g.stack (omega (arith, x.told.room)) (omega (arith, no_null q l x e)) (leads_from m.link m.top.index w.index g.stack NULL (ap (λ (y : Tagged). y.index) won) x.linked.top_stands)
 
   pub all_values : Good T n limit m g who lines history → values_in m.home g.stack ≡ (state n limit history).values
   all_values x = values_in-is m.home g.stack (state n limit history).values x.filled.stored
