@@ -1,1 +1,2 @@
+pub mod StackScripts
 pub mod StackRows
