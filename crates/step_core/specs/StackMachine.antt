@@ -10,7 +10,7 @@ use Rattle.bounded_model.specs.declared.answers.TakeRefused.{TakeRefused}
 use Rattle.bounded_model.specs.declared.history.Event.{Event}
 use Rattle.bounded_model.specs.declared.history.Event.TheVariants.{Hold, Put, Take, TakeAll, Free, Close, Shut}
 use Rattle.bounded_model.specs.Machine.{Shape}
-use Rattle.step_core.specs.Words.{Tagged, kept, raised, marked, with_second, same, store}
+use Rattle.step_core.specs.Words.{Tagged, kept, raised, marked, with_second, same, store, start_word, start_link}
 use Rattle.step_core.specs.declared.stack.Putting.{Putting}
 use Rattle.step_core.specs.declared.stack.Direction.{Direction}
 use Rattle.step_core.specs.declared.stack.Direction.TheVariants.{Down, Up}
@@ -274,13 +274,6 @@ module _ {T : Type 0} where
   starts CallClose = Z1
   starts CallShut = Y1
   starts CallLook = V1
-
--- The start: all nodes are free, each linked to the next one
-abbrev pub start_link : ℕ → ℕ → ℕ
-start_link nodes i = if suc i == nodes then NULL else suc i
-
-abbrev pub start_word : ℕ → Tagged
-start_word i = record { index = i; mark = false; second = false; tag = 0 }
 
 -- What a schedule has a pass do
 pub data Act (T : Type 0) : Type 0 where

@@ -1,5 +1,5 @@
 -- Tagged words, links, and lists of indexes that stand in them.
-use Rattle.std.specs.Prelude.{◌≡◌, ℕ, ◌+◌, Bool, not, ◌&&◌, ◌==◌, if◌then◌else◌, List, [], ◌∷◌}
+use Rattle.std.specs.Prelude.{◌≡◌, ℕ, ◌+◌, Bool, false, not, ◌&&◌, ◌==◌, if◌then◌else◌, List, [], ◌∷◌}
 use Rattle.tagged_index.specs.declared.word.TheConstants.{NULL}
 pub use Rattle.tagged_index.specs.Fields.{Fields as Tagged, kept, raised, marked, with_second}
 
@@ -38,3 +38,10 @@ abbrev pub IsChain : (ℕ → ℕ) → List ℕ → Type 0
 IsChain link [] = Unit {0}
 IsChain link (i ∷ []) = Unit {0}
 IsChain link (i ∷ j ∷ js) = (link i ≡ j) × IsChain link (j ∷ js)
+
+-- at the start a top names node i or is null, and each of n nodes but the last is linked to the next
+abbrev pub start_word : ℕ → Tagged
+start_word i = record { index = i; mark = false; second = false; tag = 0 }
+
+abbrev pub start_link : ℕ → ℕ → ℕ
+start_link n i = if i + 1 == n then NULL else i + 1

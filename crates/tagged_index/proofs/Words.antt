@@ -1,5 +1,5 @@
 -- The fields of a word and its number: each reads back from the other.
-use Rattle.std.proofs.Common.{◌≡◌, ◌≢◌, ℕ, zero, suc, ◌==◌, ◌+◌, ◌*◌, ◌/◌, ◌%◌, ◌^◌, ◌<◌, ◌≤◌, ◌↔◌, Bool, true, false, refl, sym, ap, ◌∙◌, arith, bit_or}
+use Rattle.std.proofs.Common.{◌≡◌, ◌≢◌, ℕ, zero, suc, ◌==◌, ◌+◌, ◌/◌, ◌%◌, ◌^◌, ◌<◌, ◌≤◌, ◌↔◌, Bool, true, false, refl, sym, ap, ◌∙◌, arith, bit_or}
 use Rattle.tagged_index.specs.declared.word.TheConstants.{MARK_SHIFT, MARK_UNIT, SECOND_SHIFT, SECOND_UNIT, NULL, MAX_TAG}
 use Rattle.tagged_index.specs.Fields.{Fields, IsInRange, bit, number, fields_of, index_of, mark_of, second_of, tag_of, kept, raised, marked, with_second}
 use Rattle.tagged_index.proofs.Bits.{or_bit}
@@ -101,21 +101,13 @@ raised-differs f i e = let same : f.tag + 1 ≡ f.tag = ap (λ (g : Fields). g.t
 
 or-mark : (w : ℕ) → bit_or w MARK_UNIT ≡ number (marked (fields_of w))
 or-mark w =
-    let split : w / MARK_UNIT * 2 ^ MARK_SHIFT + w % MARK_UNIT ≡ w = omega arith in
-    let set : bit_or (w / MARK_UNIT * 2 ^ MARK_SHIFT + w % MARK_UNIT) MARK_UNIT ≡ (w / MARK_UNIT / 2 * 2 + 1) * 2 ^ MARK_SHIFT + w % MARK_UNIT =
-    or_bit MARK_SHIFT (w / MARK_UNIT) (w % MARK_UNIT) (omega arith) in
     let second : bit (second_of w) ≡ w / SECOND_UNIT % 2 = test-bit (w / SECOND_UNIT % 2) (omega arith) in
-    let sum : (w / MARK_UNIT / 2 * 2 + 1) * 2 ^ MARK_SHIFT + w % MARK_UNIT ≡ number (marked (fields_of w)) = omega arith in
-    rw split at set ∙ sum
+    or_bit MARK_SHIFT w ∙ omega arith
 
 or-second : (w : ℕ) → bit_or w SECOND_UNIT ≡ number (with_second (fields_of w))
 or-second w =
-    let split : w / SECOND_UNIT * 2 ^ SECOND_SHIFT + w % SECOND_UNIT ≡ w = omega arith in
-    let set : bit_or (w / SECOND_UNIT * 2 ^ SECOND_SHIFT + w % SECOND_UNIT) SECOND_UNIT ≡ (w / SECOND_UNIT / 2 * 2 + 1) * 2 ^ SECOND_SHIFT + w % SECOND_UNIT =
-    or_bit SECOND_SHIFT (w / SECOND_UNIT) (w % SECOND_UNIT) (omega arith) in
     let mark : bit (mark_of w) ≡ w / MARK_UNIT % 2 = test-bit (w / MARK_UNIT % 2) (omega arith) in
-    let sum : (w / SECOND_UNIT / 2 * 2 + 1) * 2 ^ SECOND_SHIFT + w % SECOND_UNIT ≡ number (with_second (fields_of w)) = omega arith in
-    rw split at set ∙ sum
+    or_bit SECOND_SHIFT w ∙ omega arith
 
 pub fields_of-or-mark : (w : ℕ) → fields_of (bit_or w MARK_UNIT) ≡ marked (fields_of w)
 fields_of-or-mark w = rw (or-mark w) (fields_of-number (marked (fields_of w)) (index_of-in_range w))
