@@ -117,7 +117,11 @@ impl<T> PlainList<T> {
             return Err(TakeRefused::Shut);
         }
         if self.values.is_empty() {
-            return Err(if self.closed { TakeRefused::Closed } else { TakeRefused::Empty });
+            return Err(if self.closed {
+                TakeRefused::Closed
+            } else {
+                TakeRefused::Empty
+            });
         }
         let number = match self.order {
             Order::Fifo => self.takes,

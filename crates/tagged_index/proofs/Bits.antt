@@ -12,10 +12,10 @@ or_one-bit (suc (suc b)) h = absurd (omega arith)
 or_one : (a : ℕ) → bit_or a 1 ≡ a / 2 * 2 + 1
 or_one a =
     let halves : a / 2 * 2 ^ 1 + a % 2 ≡ a = omega arith in
-    let block : bit_or (a / 2 * 2 ^ 1 + a % 2) (0 * 2 ^ 1 + 1) ≡ bit_or (a / 2) 0 * 2 ^ 1 + bit_or (a % 2) 1 =
-    or_block 1 (a / 2) 0 (a % 2) 1 (omega arith) (omega arith) in
+    let block = or_block 1 (a / 2) 0 (a % 2) 1 (omega arith) (omega arith) in
     rw halves at block ∙ rw (or_one-bit (a % 2) (omega arith), or_zero_r (a / 2)) refl
 
+-- the lowest bit above k lower bits set
 or_block-bit : (k a r : ℕ) → r < 2 ^ k → bit_or (a * 2 ^ k + r) (1 * 2 ^ k + 0) ≡ (a / 2 * 2 + 1) * 2 ^ k + r
 or_block-bit k a r h = or_block k a 1 r 0 h (pow_pos k) ∙ rw (or_one a, or_zero_r r) refl
 

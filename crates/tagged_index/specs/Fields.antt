@@ -19,6 +19,8 @@ bit b = if b then 1 else 0
 abbrev pub number : Fields → ℕ
 number f = f.index + MARK_UNIT * bit f.mark + SECOND_UNIT * bit f.second + TAG_UNIT * f.tag
 
+-- the fields of any number, by its binary digits
+
 abbrev pub index_of : ℕ → ℕ
 index_of w = w % 2 ^ INDEX_BITS
 
@@ -31,7 +33,6 @@ second_of w = w / SECOND_UNIT % 2 == 1
 abbrev pub tag_of : ℕ → ℕ
 tag_of w = w / TAG_UNIT
 
--- the fields of the word with this number
 abbrev pub fields_of : ℕ → Fields
 fields_of w = record { index = index_of w; mark = mark_of w; second = second_of w; tag = tag_of w }
 

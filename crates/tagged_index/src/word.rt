@@ -1,4 +1,4 @@
-//! A tagged word: an index, two marks and a tag in one `u64`.
+//! A tagged word: from the lowest bit up an index, two marks and a tag, in one `u64`.
 ghost use Rattle.std.specs.Prelude.{◌≡◌, ◌<◌, ◌≤◌, ◌↔◌, ℕ, IsSome, IfSome, IfNone};
 ghost use Rattle.tagged_index.specs.Fields.{fields_of, index_of, mark_of, second_of, tag_of, number, kept, raised, marked, with_second};
 
@@ -34,6 +34,11 @@ pub const NULL: u32 = (1 << INDEX_BITS) - 1;
 /// The greatest tag: 4,398,046,511,103.
 pub const MAX_TAG: u64 = (1 << TAG_BITS) - 1;
 
+// The fields fill a word, and their widths are fixed.
+const _: () = prove!(TAG_SHIFT + TAG_BITS == 64);
+
+const _: () = prove!(NULL == 1_048_575 && MAX_TAG == 4_398_046_511_103);
+
 /// A tagged word taken apart. Definitions and proofs speak of words by their fields.
 #[derive(Clone, Copy, PartialEq, Eq, Debug)]
 pub struct Fields {
@@ -43,7 +48,9 @@ pub struct Fields {
     pub tag: u64,
 }
 
-/// An index, a mark, a second mark and a tag in one `u64`.
+/// An index from 0 to `NULL`, a mark, a second mark and a tag from 0 to `MAX_TAG`.
+///
+/// What the marks say is the user's; the tag counts the changes of the atomic word that holds it.
 #[derive(Clone, Copy, PartialEq, Eq, Debug)]
 pub struct Tagged {
     word: u64,
@@ -70,6 +77,7 @@ impl Tagged {
         if index > NULL || tag > MAX_TAG {
             return None;
         }
+        // The fields' bits are apart, so a sum is their union.
         let marks = mark as u64 * MARK_UNIT + second as u64 * SECOND_UNIT;
         Some(Tagged {
             word: (tag << TAG_SHIFT) + marks + index as u64,
@@ -84,7 +92,7 @@ impl Tagged {
         Tagged { word }
     }
 
-    /// The `u64` to be kept in an atomic word.
+    /// The `u64` that an atomic word holds.
     #[inline]
     pub fn word(self) -> u64
         ensures same { result ≡ self }
@@ -93,6 +101,7 @@ impl Tagged {
         self.word
     }
 
+    /// The index, from 0 to `NULL`.
     #[inline]
     pub fn index(self) -> u32
         ensures field { result ≡ index_of self }
@@ -101,6 +110,7 @@ impl Tagged {
         (self.word & NULL as u64) as u32
     }
 
+    /// Whether the mark is set.
     #[inline]
     pub fn is_marked(self) -> bool
         ensures { result ≡ mark_of self }
@@ -108,6 +118,7 @@ impl Tagged {
         (self.word >> MARK_SHIFT) & 1 == 1
     }
 
+    /// Whether the second mark is set.
     #[inline]
     pub fn has_second(self) -> bool
         ensures { result ≡ second_of self }
@@ -115,6 +126,7 @@ impl Tagged {
         (self.word >> SECOND_SHIFT) & 1 == 1
     }
 
+    /// The tag, from 0 to `MAX_TAG`.
     #[inline]
     pub fn tag(self) -> u64
         ensures field { result ≡ tag_of self }
@@ -130,6 +142,7 @@ impl Tagged {
         ensures { fields_of result ≡ kept (fields_of self) index }
     {
         Tagged {
+            // Shifting down and up again clears the old index.
             word: (self.word >> INDEX_BITS << INDEX_BITS) + index as u64,
         }
     }
@@ -153,6 +166,7 @@ impl Tagged {
 
     /// The mark set, with all else kept.
     #[inline]
+    #[tactic(auto, using(crate::proofs::Words::fields_of_or_mark))]
     pub fn marked(self) -> Tagged
         ensures { fields_of result ≡ marked (fields_of self) }
     {
@@ -163,6 +177,7 @@ impl Tagged {
 
     /// The second mark set, with all else kept.
     #[inline]
+    #[tactic(auto, using(crate::proofs::Words::fields_of_or_second))]
     pub fn with_second(self) -> Tagged
         ensures { fields_of result ≡ with_second (fields_of self) }
     {
