@@ -4,7 +4,7 @@ use Rattle.std.proofs.lemmas.Bool.Decides.{nat_tests, eqb_tells}
 use mathlib.Core.Option.{Option, none, some, some-injective, some-ne-none}
 use lib.ListN.{get_elem?}
 use Rattle.tagged_index.specs.declared.word.TheConstants.{NULL}
-use Rattle.step_core.specs.Words.{Tagged, raised, kept, same, times, Stands}
+use Rattle.step_core.specs.Words.{Tagged, raised, kept, same, times, Stands, start_link}
 use Rattle.step_core.specs.ListMachine.{Line, Idle, X1, X2, X3, G1, G2, G3, Pass, State, Act, Take, Give, Step, giving, holds, goes, steps, gives, begins, does, run, start, Lawful}
 use Rattle.step_core.specs.ListRule.{IsFine}
 use Rattle.step_core.proofs.Tests.{cases, neither, same-is}

@@ -1,10 +1,10 @@
 -- One list of n indexes with a tagged top: any number of passes take from it and give to it, a
 -- step at a time (Treiber 1986, with tags against a top that changed and came back).
-use Rattle.std.specs.Prelude.{◌≡◌, ℕ, ◌+◌, ◌≤◌, false, ◌==◌, leb, ltb, ◌||◌, if◌then◌else◌, List, [], ◌∷◌, set, replicate, remove}
+use Rattle.std.specs.Prelude.{◌≡◌, ℕ, ◌+◌, ◌≤◌, ◌==◌, leb, ltb, ◌||◌, if◌then◌else◌, List, [], ◌∷◌, set, replicate, remove}
 use mathlib.Core.Option.{Option, none, some}
 use lib.ListN.{get_elem?}
 use Rattle.tagged_index.specs.declared.word.TheConstants.{NULL}
-use Rattle.step_core.specs.Words.{Tagged, raised, kept, same, store, times, total, Stands}
+use Rattle.step_core.specs.Words.{Tagged, raised, kept, same, store, times, total, Stands, start_word, start_link}
 
 -- where a pass is, with what it has read: the top w, the link k of its index. A give has index i
 pub data Line : Type 0 where
