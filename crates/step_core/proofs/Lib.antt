@@ -7,3 +7,5 @@ pub mod ListRun
 pub mod ListSamples
 pub mod StackScripts
 pub mod StackRows
+pub mod StackRank
+pub mod StackBounded

@@ -1,4 +1,3 @@
-<<<<<<< HEAD
 -- Worked scripts of the stack: the machine computes their replies and step counts.
 use Rattle.std.proofs.Common.{ℕ, true, false, List, [], ◌∷◌, refl, Ok, Err}
 use Rattle.bounded_model.specs.declared.answers.Word.TheVariants.{Free as FreeWord, Top as TopWord}
@@ -12,23 +11,6 @@ use Rattle.step_core.specs.declared.stack.Answer.TheVariants.{Put, Take, Fold, C
 use Rattle.step_core.specs.declared.stack.Call.{Call}
 use Rattle.step_core.specs.declared.stack.Call.TheVariants.{Put as PutCall, Take as TakeCall, Close as CloseCall, Shut as ShutCall, Look as LookCall}
 use Rattle.step_core.proofs.StackScripts.{calls, begins, steps, finish, answers, begun, again, ended, rest, stack, Plays}
-=======
--- Scripts of calls and single steps, computed: the machine gives the replies and the step counts of the tables.
-use Rattle.std.proofs.Common.{◌≡◌, ℕ, zero, suc, List, [], ◌∷◌, set, refl, Some, None, Ok, cond}
-use mathlib.Core.Option.{Option, none, some}
-use lib.ListN.{get_elem?}
-use Rattle.bounded_model.specs.declared.history.Order.TheVariants.{Lifo}
-use Rattle.bounded_model.specs.Machine.{Shape}
-use Rattle.step_core.specs.declared.stack.Taking.TheVariants.{One}
-use Rattle.step_core.specs.declared.stack.Answer.{Answer}
-use Rattle.step_core.specs.declared.stack.Answer.TheVariants.{Put, Take}
-use Rattle.step_core.specs.declared.stack.Line.{Line}
-use Rattle.step_core.specs.declared.stack.Line.TheVariants.{Idle}
-use Rattle.step_core.specs.declared.stack.Call.{Call}
-use Rattle.step_core.specs.declared.stack.Call.TheVariants.{Put as CallPut, Take as CallTake}
-use Rattle.step_core.specs.declared.stack.Pass.{Pass}
-use Rattle.step_core.specs.StackMachine.{State, Begin, Step, acts_at, start, is_idle}
->>>>>>> core
 
 -- passes
 abbrev a : ℕ

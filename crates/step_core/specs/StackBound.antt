@@ -30,7 +30,7 @@ module _ {T : Type 0} where
   abbrev pub IsStretch : Shape → ℕ → List (ℕ × Act T) → State T → Type 0
   IsStretch c p [] s = Unit {0}
   IsStretch c p (a ∷ more) s =
-    ((a.0 ≡ p) ⊎ (wins_at s.memory a.1 (get_elem? s.passes a.0) ≡ false)) × IsStretch c p more (acts_at c s a.0 a.1 (get_elem? s.passes a.0))
+      ((a.0 ≡ p) ⊎ (wins_at s.memory a.1 (get_elem? s.passes a.0) ≡ false)) × IsStretch c p more (acts_at c s a.0 a.1 (get_elem? s.passes a.0))
 
   abbrev pub is_busy : Option (Pass T) → Bool
   is_busy none = false
@@ -44,9 +44,9 @@ module _ {T : Type 0} where
   abbrev pub own_steps : Shape → ℕ → List (ℕ × Act T) → State T → ℕ
   own_steps c p [] s = 0
   own_steps c p (a ∷ more) s =
-    if is_busy (get_elem? s.passes p)
-    then (if a.0 == p then counted a.1 else 0) + own_steps c p more (acts_at c s a.0 a.1 (get_elem? s.passes a.0))
-    else 0
+      if is_busy (get_elem? s.passes p)
+      then (if a.0 == p then counted a.1 else 0) + own_steps c p more (acts_at c s a.0 a.1 (get_elem? s.passes a.0))
+      else 0
 
   -- a put of one value, a take of one value, a close, a shut or a look, wherever it is
   abbrev pub IsSingle : Line T → Type 0
