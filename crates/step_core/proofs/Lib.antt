@@ -11,4 +11,7 @@ pub mod StackFilled
 pub mod StackTold
 pub mod StackKinds
 pub mod StackStep
+pub mod StackScripts
 pub mod StackRows
+pub mod StackRank
+pub mod StackBounded

@@ -7,7 +7,9 @@
 //! step: the contract of each is a law, true of every schedule of any number of passes.
 #![tactic(auto)]
 
+mod bounds;
 mod laws;
 pub mod stack;
 
+pub use bounds::stack_bound;
 pub use laws::list_core;

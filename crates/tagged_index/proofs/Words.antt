@@ -109,8 +109,8 @@ or-second w =
     let mark : bit (mark_of w) ≡ w / MARK_UNIT % 2 = test-bit (w / MARK_UNIT % 2) (omega arith) in
     or_bit SECOND_SHIFT w ∙ omega arith
 
-pub fields_of-or-mark : (w : ℕ) → fields_of (bit_or w MARK_UNIT) ≡ marked (fields_of w)
-fields_of-or-mark w = rw (or-mark w) (fields_of-number (marked (fields_of w)) (index_of-in_range w))
+pub fields_of_or_mark : (w : ℕ) → fields_of (bit_or w MARK_UNIT) ≡ marked (fields_of w)
+fields_of_or_mark w = rw (or-mark w) (fields_of-number (marked (fields_of w)) (index_of-in_range w))
 
-pub fields_of-or-second : (w : ℕ) → fields_of (bit_or w SECOND_UNIT) ≡ with_second (fields_of w)
-fields_of-or-second w = rw (or-second w) (fields_of-number (with_second (fields_of w)) (index_of-in_range w))
+pub fields_of_or_second : (w : ℕ) → fields_of (bit_or w SECOND_UNIT) ≡ with_second (fields_of w)
+fields_of_or_second w = rw (or-second w) (fields_of-number (with_second (fields_of w)) (index_of-in_range w))

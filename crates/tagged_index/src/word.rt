@@ -166,6 +166,7 @@ impl Tagged {
 
     /// The mark set, with all else kept.
     #[inline]
+    #[tactic(auto, using(crate::proofs::Words::fields_of_or_mark))]
     pub fn marked(self) -> Tagged
         ensures { fields_of result ≡ marked (fields_of self) }
     {
@@ -176,6 +177,7 @@ impl Tagged {
 
     /// The second mark set, with all else kept.
     #[inline]
+    #[tactic(auto, using(crate::proofs::Words::fields_of_or_second))]
     pub fn with_second(self) -> Tagged
         ensures { fields_of result ≡ with_second (fields_of self) }
     {
