@@ -1,0 +1,17 @@
+pub mod Tests
+pub mod Sums
+pub mod Lists
+pub mod OneList
+pub mod ListKept
+pub mod ListRun
+pub mod ListSamples
+pub mod Chains
+pub mod StackLinked
+pub mod StackFilled
+pub mod StackTold
+pub mod StackKinds
+pub mod StackStep
+pub mod StackScripts
+pub mod StackRows
+pub mod StackRank
+pub mod StackBounded
