@@ -9,3 +9,4 @@ pub mod StackScripts
 pub mod StackRows
 pub mod StackRank
 pub mod StackBounded
+pub mod StackMistakes
