@@ -18,6 +18,7 @@ use crate::{Command, MakeRefused, Order, PutRefused, Reply, TakeRefused, Word};
 use std::alloc::Global;
 use std::collections::VecDeque;
 use std::marker::Model;
+use std::mem;
 
 /// The largest capacity of a list.
 pub const MAX_CAPACITY: u32 = 1 << 20;
@@ -116,7 +117,7 @@ impl<T> PlainList<T> {
         if self.shut {
             return Err(TakeRefused::Shut);
         }
-        if self.values.is_empty() {
+        if self.is_empty() {
             return Err(if self.closed {
                 TakeRefused::Closed
             } else {
@@ -140,9 +141,7 @@ impl<T> PlainList<T> {
         ensures answer { IsTrue result ↔ (self.old.closed ≡ false) }
         ensures list { self.new ≡ record self.old { closed = true } }
     {
-        let was_open = !self.closed;
-        self.closed = true;
-        was_open
+        !mem::replace(&mut self.closed, true)
     }
 
     /// Shuts the list: every later take is refused. True where this call shut it.
@@ -150,9 +149,7 @@ impl<T> PlainList<T> {
         ensures answer { IsTrue result ↔ (self.old.shut ≡ false) }
         ensures list { self.new ≡ record self.old { shut = true } }
     {
-        let was_unshut = !self.shut;
-        self.shut = true;
-        was_unshut
+        !mem::replace(&mut self.shut, true)
     }
 
     /// Whether there is no value, whatever the list's marks.
@@ -166,7 +163,8 @@ impl<T> PlainList<T> {
     pub fn into_values(self) -> VecDeque<T>
         ensures { result.items ≡ self.values }
     {
-        self.values
+        let PlainList { values, .. } = self;
+        values
     }
 
     fn play(&mut self, command: Command<T>) -> Reply<T>
@@ -204,3 +202,6 @@ impl<T: Drop> PlainList<T> {
         Ok(replies)
     }
 }
+
+#[cfg(test)]
+mod tests;

@@ -8,10 +8,17 @@
 //! a held index alone; and each step counts as one.
 #![tactic(auto)]
 
+mod front;
 mod host;
+mod slots;
 mod steps;
 mod told;
 
+pub use front::Front;
 pub use host::ListHost;
-pub use steps::{load_link, load_top, store_link};
+pub use slots::{move_out, put_in};
+pub use steps::{
+    load_link, load_top, store_link, try_give, try_give_chain, try_mark, try_shut, try_take,
+    try_take_all,
+};
 pub use told::{Telling, exchange_as, load_as, store_as};

@@ -5,6 +5,12 @@ pub mod OneList
 pub mod ListKept
 pub mod ListRun
 pub mod ListSamples
+pub mod Chains
+pub mod StackLinked
+pub mod StackFilled
+pub mod StackTold
+pub mod StackKinds
+pub mod StackStep
 pub mod StackScripts
 pub mod StackRows
 pub mod StackRank
