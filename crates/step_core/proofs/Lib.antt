@@ -15,3 +15,4 @@ pub mod StackScripts
 pub mod StackRows
 pub mod StackRank
 pub mod StackBounded
+pub mod StackMistakes
