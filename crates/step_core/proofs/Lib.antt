@@ -8,3 +8,7 @@ pub mod ListSamples
 pub mod Chains
 pub mod StackLinked
 pub mod StackRows
+pub mod Hands
+pub mod Seating
+pub mod SeatedEnds
+pub mod SeatedCalls

@@ -8,6 +8,7 @@
 #![tactic(auto)]
 
 mod laws;
+pub mod seats;
 pub mod stack;
 
 pub use laws::list_core;
