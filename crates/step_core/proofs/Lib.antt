@@ -16,3 +16,7 @@ pub mod StackRows
 pub mod StackRank
 pub mod StackBounded
 pub mod StackMistakes
+pub mod Hands
+pub mod Seating
+pub mod SeatedEnds
+pub mod SeatedCalls

@@ -9,6 +9,7 @@
 
 mod bounds;
 mod laws;
+pub mod seats;
 pub mod stack;
 
 pub use bounds::stack_bound;
