@@ -1,0 +1,2 @@
+//! Treiber's stack over a fixed pool.
+#![tactic(auto)]
