@@ -11,6 +11,7 @@ pub mod StackFilled
 pub mod StackTold
 pub mod StackKinds
 pub mod StackStep
+pub mod StackAnswers
 pub mod StackScripts
 pub mod StackRows
 pub mod StackRank
