@@ -13,4 +13,4 @@ pub mod seats;
 pub mod stack;
 
 pub use bounds::stack_bound;
-pub use laws::list_core;
+pub use laws::{list_core, stack_core};
