@@ -22,10 +22,10 @@ pub fn load_top<S, V, K, P: ListHost<S, V, K, L>, const L: usize>(
     line: &P::Line,
 ) -> Tagged
     requires table { (seat.old.table_id ≡ table.now.table_id) × (list < L) × (P.layout.top list < table.now.table_id.words) }
-    requires may { P.may line.now list read_top seat.old.me.0 }
+    requires may { P.may table.now.key line.now list read_top seat.old.me.0 }
     ensures seat { (seat.new.table_id ≡ seat.old.table_id) × (seat.new.id ≡ seat.old.id) × (seat.new.me.1 ≡ seat.old.me.1) }
     ensures counted { P.steps seat.new.me.0 ≡ P.steps seat.old.me.0 + 1 }
-    ensures said { P.did line.now list read_top result [] seat.old.me.0 seat.new.me.0 }
+    ensures said { P.did table.now.key line.now list read_top result [] seat.old.me.0 seat.new.me.0 }
     ensures step { Made (P.holds table.now.key) seat.old.id seat.old.me.0 seat.new.me.0 (P.layout.top list) result result (λ homes. homes) (Stood P.layout P.held list) }
 {
     let word = load_as::<S, V, K, P, usize, P::Line, Brand>(table, seat, P::top(list), list, line);
@@ -42,10 +42,10 @@ pub fn load_link<S, V, K, P: ListHost<S, V, K, L>, const L: usize>(
     line: &P::Line,
 ) -> u64
     requires table { (seat.old.table_id ≡ table.now.table_id) × (list < L) × (index ≤ NULL) × (P.layout.link list index < table.now.table_id.words) }
-    requires may { P.may line.now list (read_link index) seat.old.me.0 }
+    requires may { P.may table.now.key line.now list (read_link index) seat.old.me.0 }
     ensures seat { (seat.new.table_id ≡ seat.old.table_id) × (seat.new.id ≡ seat.old.id) × (seat.new.me.1 ≡ seat.old.me.1) }
     ensures counted { P.steps seat.new.me.0 ≡ P.steps seat.old.me.0 + 1 }
-    ensures said { P.did line.now list (read_link index) result [] seat.old.me.0 seat.new.me.0 }
+    ensures said { P.did table.now.key line.now list (read_link index) result [] seat.old.me.0 seat.new.me.0 }
     ensures step { Made (P.holds table.now.key) seat.old.id seat.old.me.0 seat.new.me.0 (P.layout.link list index) result result (λ homes. homes) (Stood P.layout P.held list) }
 {
     load_as::<S, V, K, P, (usize, u32), P::Line, Brand>(
@@ -68,11 +68,11 @@ pub fn store_link<S, V, K, P: ListHost<S, V, K, L>, const L: usize>(
     line: &P::Line,
 )
     requires table { (seat.old.table_id ≡ table.now.table_id) × (list < L) × (index ≤ NULL) × (P.layout.link list index < table.now.table_id.words) }
-    requires may { P.may line.now list (write_link index next) seat.old.me.0 }
+    requires may { P.may table.now.key line.now list (write_link index next) seat.old.me.0 }
     requires held { Holds (P.held list seat.old.me.0) index }
     ensures seat { (seat.new.table_id ≡ seat.old.table_id) × (seat.new.id ≡ seat.old.id) × (seat.new.me.1 ≡ seat.old.me.1) }
     ensures counted { P.steps seat.new.me.0 ≡ P.steps seat.old.me.0 + 1 }
-    ensures said { P.did line.now list (write_link index next) next [] seat.old.me.0 seat.new.me.0 }
+    ensures said { P.did table.now.key line.now list (write_link index next) next [] seat.old.me.0 seat.new.me.0 }
     ensures step { (found : _) × Made (P.holds table.now.key) seat.old.id seat.old.me.0 seat.new.me.0 (P.layout.link list index) found next (λ homes. homes) (Stood P.layout P.held list) }
 {
     store_as::<S, V, K, P, (usize, u32), P::Line, Brand>(
@@ -97,12 +97,12 @@ pub fn try_take<S, V, K, P: ListHost<S, V, K, L>, const L: usize>(
     line: &P::Line,
 ) -> bool
     requires table { (seat.old.table_id ≡ table.now.table_id) × (list < L) × (P.layout.top list < table.now.table_id.words) }
-    requires may { P.may line.now list (take seen next) seat.old.me.0 }
+    requires may { P.may table.now.key line.now list (take seen next) seat.old.me.0 }
     requires word { (index_of seen < NULL) × (tag_of seen < MAX_TAG) × (next ≤ NULL) }
     ensures seat { (seat.new.table_id ≡ seat.old.table_id) × (seat.new.id ≡ seat.old.id) }
     ensures counted { P.steps seat.new.me.0 ≡ P.steps seat.old.me.0 + 1 }
-    ensures won { IsTrue result → WithSlot (P.layout.carries list) (index_of seen) (Took (P.holds table.now.key) seat.old.id (P.layout.top list) seen (top_after_take seen next) (λ zs. P.did line.now list (take seen next) seen zs seat.old.me.0) (LostFirst P.layout P.held list (index_of seen)) seat.old.me seat.new.me) }
-    ensures lost { IsFalse result → Lost (P.holds table.now.key) seat.old.id (P.layout.top list) seen (λ found. P.did line.now list (take seen next) found []) (Stood P.layout P.held list) seat.old.me seat.new.me }
+    ensures won { IsTrue result → WithSlot (P.layout.carries list) (index_of seen) (Took (P.holds table.now.key) seat.old.id (P.layout.top list) seen (top_after_take seen next) (λ zs. P.did table.now.key line.now list (take seen next) seen zs seat.old.me.0) (LostFirst P.layout P.held list (index_of seen)) seat.old.me seat.new.me) }
+    ensures lost { IsFalse result → Lost (P.holds table.now.key) seat.old.id (P.layout.top list) seen (λ found. P.did table.now.key line.now list (take seen next) found []) (Stood P.layout P.held list) seat.old.me seat.new.me }
 {
     let found = exchange_as::<S, V, K, P, (usize, Tagged, u32), P::Line, Brand>(
         table,
@@ -128,13 +128,13 @@ pub fn try_give<S, V, K, P: ListHost<S, V, K, L>, const L: usize>(
     line: &P::Line,
 ) -> bool
     requires table { (seat.old.table_id ≡ table.now.table_id) × (list < L) × (P.layout.top list < table.now.table_id.words) }
-    requires may { P.may line.now list (give seen index) seat.old.me.0 }
+    requires may { P.may table.now.key line.now list (give seen index) seat.old.me.0 }
     requires word { (index < NULL) × (P.layout.keeps list ≡ false → tag_of seen < MAX_TAG) }
     requires held { Holds (P.held list seat.old.me.0) index × WithSlot (P.layout.carries list) index (Brings (P.rests list) seat.old.me.1) }
     ensures seat { (seat.new.table_id ≡ seat.old.table_id) × (seat.new.id ≡ seat.old.id) }
     ensures counted { P.steps seat.new.me.0 ≡ P.steps seat.old.me.0 + 1 }
-    ensures won { IsTrue result → WithSlot (P.layout.carries list) index (Gave (P.holds table.now.key) seat.old.id (P.layout.top list) seen (top_after_give P.layout list seen index) (λ zs. P.did line.now list (give seen index) seen zs seat.old.me.0) (Gained P.layout P.held list (index ∷ [])) seat.old.me seat.new.me) }
-    ensures lost { IsFalse result → Lost (P.holds table.now.key) seat.old.id (P.layout.top list) seen (λ found. P.did line.now list (give seen index) found []) (Stood P.layout P.held list) seat.old.me seat.new.me }
+    ensures won { IsTrue result → WithSlot (P.layout.carries list) index (Gave (P.holds table.now.key) seat.old.id (P.layout.top list) seen (top_after_give P.layout list seen index) (λ zs. P.did table.now.key line.now list (give seen index) seen zs seat.old.me.0) (Gained P.layout P.held list (index ∷ [])) seat.old.me seat.new.me) }
+    ensures lost { IsFalse result → Lost (P.holds table.now.key) seat.old.id (P.layout.top list) seen (λ found. P.did table.now.key line.now list (give seen index) found []) (Stood P.layout P.held list) seat.old.me seat.new.me }
 {
     let found = exchange_as::<S, V, K, P, (usize, Tagged, u32), P::Line, Brand>(
         table,
@@ -160,13 +160,13 @@ pub fn try_give_chain<S, V, K, P: ListHost<S, V, K, L>, const L: usize>(
     line: &P::Line,
 ) -> bool
     requires table { (seat.old.table_id ≡ table.now.table_id) × (list < L) × (P.layout.top list < table.now.table_id.words) }
-    requires may { P.may line.now list (give_chain seen index) seat.old.me.0 }
+    requires may { P.may table.now.key line.now list (give_chain seen index) seat.old.me.0 }
     requires word { (index < NULL) × (P.layout.keeps list ≡ false → tag_of seen < MAX_TAG) }
     requires held { ((others : List ℕ) × (P.held list seat.old.me.0 ≡ index ∷ others)) × WithSlots (P.layout.carries list) (P.held list seat.old.me.0) (Brings (P.rests list) seat.old.me.1) }
     ensures seat { (seat.new.table_id ≡ seat.old.table_id) × (seat.new.id ≡ seat.old.id) }
     ensures counted { P.steps seat.new.me.0 ≡ P.steps seat.old.me.0 + 1 }
-    ensures won { IsTrue result → WithSlots (P.layout.carries list) (P.held list seat.old.me.0) (Gave (P.holds table.now.key) seat.old.id (P.layout.top list) seen (top_after_give P.layout list seen index) (λ zs. P.did line.now list (give_chain seen index) seen zs seat.old.me.0) (Gained P.layout P.held list (P.held list seat.old.me.0)) seat.old.me seat.new.me) }
-    ensures lost { IsFalse result → Lost (P.holds table.now.key) seat.old.id (P.layout.top list) seen (λ found. P.did line.now list (give_chain seen index) found []) (Stood P.layout P.held list) seat.old.me seat.new.me }
+    ensures won { IsTrue result → WithSlots (P.layout.carries list) (P.held list seat.old.me.0) (Gave (P.holds table.now.key) seat.old.id (P.layout.top list) seen (top_after_give P.layout list seen index) (λ zs. P.did table.now.key line.now list (give_chain seen index) seen zs seat.old.me.0) (Gained P.layout P.held list (P.held list seat.old.me.0)) seat.old.me seat.new.me) }
+    ensures lost { IsFalse result → Lost (P.holds table.now.key) seat.old.id (P.layout.top list) seen (λ found. P.did table.now.key line.now list (give_chain seen index) found []) (Stood P.layout P.held list) seat.old.me seat.new.me }
 {
     let found = exchange_as::<S, V, K, P, (usize, Tagged, u32), P::Line, Brand>(
         table,
@@ -192,12 +192,12 @@ pub fn try_take_all<S, V, K, P: ListHost<S, V, K, L>, const L: usize>(
     line: &P::Line,
 ) -> bool
     requires table { (seat.old.table_id ≡ table.now.table_id) × (list < L) × (P.layout.top list < table.now.table_id.words) }
-    requires may { P.may line.now list (take_all seen) seat.old.me.0 }
+    requires may { P.may table.now.key line.now list (take_all seen) seat.old.me.0 }
     requires word { (index_of seen < NULL) × (tag_of seen < MAX_TAG) }
     ensures seat { (seat.new.table_id ≡ seat.old.table_id) × (seat.new.id ≡ seat.old.id) }
     ensures counted { P.steps seat.new.me.0 ≡ P.steps seat.old.me.0 + 1 }
-    ensures won { IsTrue result → (xs : List ℕ) × WithSlots (P.layout.carries list) xs (TookAll front (P.holds table.now.key) seat.old.id (P.layout.top list) seen (top_after_take seen NULL) (λ zs. P.did line.now list (take_all seen) seen zs seat.old.me.0) (LostAll P.layout P.held list xs) seat.old.me seat.new.me) }
-    ensures lost { IsFalse result → Lost (P.holds table.now.key) seat.old.id (P.layout.top list) seen (λ found. P.did line.now list (take_all seen) found []) (Stood P.layout P.held list) seat.old.me seat.new.me }
+    ensures won { IsTrue result → (xs : List ℕ) × WithSlots (P.layout.carries list) xs (TookAll front (P.holds table.now.key) seat.old.id (P.layout.top list) seen (top_after_take seen NULL) (λ zs. P.did table.now.key line.now list (take_all seen) seen zs seat.old.me.0) (LostAll P.layout P.held list xs) seat.old.me seat.new.me) }
+    ensures lost { IsFalse result → Lost (P.holds table.now.key) seat.old.id (P.layout.top list) seen (λ found. P.did table.now.key line.now list (take_all seen) found []) (Stood P.layout P.held list) seat.old.me seat.new.me }
 {
     let found = exchange_as::<S, V, K, P, (usize, Tagged, Front), P::Line, Brand>(
         table,
@@ -221,11 +221,11 @@ pub fn try_mark<S, V, K, P: ListHost<S, V, K, L>, const L: usize>(
     line: &P::Line,
 ) -> bool
     requires table { (seat.old.table_id ≡ table.now.table_id) × (list < L) × (P.layout.top list < table.now.table_id.words) }
-    requires may { P.may line.now list (mark seen) seat.old.me.0 }
+    requires may { P.may table.now.key line.now list (mark seen) seat.old.me.0 }
     ensures seat { (seat.new.table_id ≡ seat.old.table_id) × (seat.new.id ≡ seat.old.id) }
     ensures counted { P.steps seat.new.me.0 ≡ P.steps seat.old.me.0 + 1 }
-    ensures won { IsTrue result → Won (seat.new.me.1 ≡ seat.old.me.1) (P.did line.now list (mark seen) seen [] seat.old.me.0 seat.new.me.0) (Made (P.holds table.now.key) seat.old.id seat.old.me.0 seat.new.me.0 (P.layout.top list) seen (top_after_mark seen) (λ homes. homes) (Stayed P.layout P.held list)) }
-    ensures lost { IsFalse result → Lost (P.holds table.now.key) seat.old.id (P.layout.top list) seen (λ found. P.did line.now list (mark seen) found []) (Stood P.layout P.held list) seat.old.me seat.new.me }
+    ensures won { IsTrue result → Won (seat.new.me.1 ≡ seat.old.me.1) (P.did table.now.key line.now list (mark seen) seen [] seat.old.me.0 seat.new.me.0) (Made (P.holds table.now.key) seat.old.id seat.old.me.0 seat.new.me.0 (P.layout.top list) seen (top_after_mark seen) (λ homes. homes) (Stayed P.layout P.held list)) }
+    ensures lost { IsFalse result → Lost (P.holds table.now.key) seat.old.id (P.layout.top list) seen (λ found. P.did table.now.key line.now list (mark seen) found []) (Stood P.layout P.held list) seat.old.me seat.new.me }
 {
     let found = exchange_as::<S, V, K, P, (usize, Tagged), P::Line, Brand>(
         table,
@@ -249,11 +249,11 @@ pub fn try_shut<S, V, K, P: ListHost<S, V, K, L>, const L: usize>(
     line: &P::Line,
 ) -> bool
     requires table { (seat.old.table_id ≡ table.now.table_id) × (list < L) × (P.layout.top list < table.now.table_id.words) }
-    requires may { P.may line.now list (shut seen) seat.old.me.0 }
+    requires may { P.may table.now.key line.now list (shut seen) seat.old.me.0 }
     ensures seat { (seat.new.table_id ≡ seat.old.table_id) × (seat.new.id ≡ seat.old.id) }
     ensures counted { P.steps seat.new.me.0 ≡ P.steps seat.old.me.0 + 1 }
-    ensures won { IsTrue result → Won (seat.new.me.1 ≡ seat.old.me.1) (P.did line.now list (shut seen) seen [] seat.old.me.0 seat.new.me.0) (Made (P.holds table.now.key) seat.old.id seat.old.me.0 seat.new.me.0 (P.layout.top list) seen (top_after_shut seen) (λ homes. homes) (Stayed P.layout P.held list)) }
-    ensures lost { IsFalse result → Lost (P.holds table.now.key) seat.old.id (P.layout.top list) seen (λ found. P.did line.now list (shut seen) found []) (Stood P.layout P.held list) seat.old.me seat.new.me }
+    ensures won { IsTrue result → Won (seat.new.me.1 ≡ seat.old.me.1) (P.did table.now.key line.now list (shut seen) seen [] seat.old.me.0 seat.new.me.0) (Made (P.holds table.now.key) seat.old.id seat.old.me.0 seat.new.me.0 (P.layout.top list) seen (top_after_shut seen) (λ homes. homes) (Stayed P.layout P.held list)) }
+    ensures lost { IsFalse result → Lost (P.holds table.now.key) seat.old.id (P.layout.top list) seen (λ found. P.did table.now.key line.now list (shut seen) found []) (Stood P.layout P.held list) seat.old.me seat.new.me }
 {
     let found = exchange_as::<S, V, K, P, (usize, Tagged), P::Line, Brand>(
         table,

@@ -8,7 +8,7 @@ pub load_as-word-requires : goal.load_as-word-requires
 load_as-word-requires g c = let host = g.P.ListHost in let law = g.met.P.ListHost in let a = c.args in let key = a.table.now.key in let l = a.list in let listed = c.requires.table.1 in (
   search rules,
   search rules,
-  loads_at (g.P.TableRule.holds key) host.steps _ _ _ _ _ (λ n v. host.did a.line.now l read_top n [] a.seat.now.me.0 v) (Stood host.layout host.held l) c.top.ensures
+  loads_at (g.P.TableRule.holds key) host.steps _ _ _ _ _ (λ n v. host.did a.table.now.key a.line.now l read_top n [] a.seat.now.me.0 v) (Stood host.layout host.held l) c.top.ensures
       (λ s. law.reads_top a.line.now key l a.seat.now.id a.seat.now.me.0 s listed c.requires.may)
       (λ s _ rule. law.stands key l s listed rule),
 )

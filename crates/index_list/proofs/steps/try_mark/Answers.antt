@@ -9,7 +9,7 @@ use Rattle.index_list.proofs.steps.try_mark.Goals as goal
 
 pub exchange_as-found-requires : goal.exchange_as-found-requires
 exchange_as-found-requires g c = let host = g.P.ListHost in let law = g.met.P.ListHost in let a = c.args in let key = a.table.now.key in let holds = g.P.TableRule.holds key in let id : ℕ = a.seat.now.id in let me = a.seat.now.me in
-    let l : ℕ = a.list in let w : ℕ = a.seen in let listed = c.requires.table.1 in let may = c.requires.may in let did = host.did a.line.now l (mark w) in (
+    let l : ℕ = a.list in let w : ℕ = a.seen in let listed = c.requires.table.1 in let may = c.requires.may in let did = host.did a.table.now.key a.line.now l (mark w) in (
       search rules,
       search rules,
       tries_at holds host.steps _ _ (host.layout.top l) _ w _ (top_after_mark w) id me
