@@ -1,2 +1,9 @@
 //! Treiber's stack over a fixed pool.
 #![tactic(auto)]
+
+mod calls;
+mod layout;
+mod rule;
+mod stack;
+
+pub use stack::{Pass, Root, Stack};

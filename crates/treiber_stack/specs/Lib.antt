@@ -1,0 +1,4 @@
+pub mod Layout
+pub mod Rule
+pub mod Stack
+pub mod KeepsRule
