@@ -3,7 +3,9 @@
 
 mod calls;
 mod layout;
+mod rest;
 mod rule;
 mod stack;
 
+pub use rest::Rest;
 pub use stack::{Pass, Root, Stack};
