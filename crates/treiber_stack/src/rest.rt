@@ -74,3 +74,5 @@ impl<T: Drop> Drop for Rest<T> {
         closed.free();
     }
 }
+// A caller who needs this cites `proofs/Crossing.antt`, since `Closed` has no such impl of its own.
+unsafe impl<T: Send> Send for Rest<T> {}
