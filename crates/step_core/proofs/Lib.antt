@@ -16,3 +16,4 @@ pub mod StackRows
 pub mod StackRank
 pub mod StackBounded
 pub mod StackMistakes
+pub mod StackAnswering
