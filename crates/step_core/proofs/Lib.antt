@@ -11,6 +11,9 @@ pub mod StackFilled
 pub mod StackTold
 pub mod StackKinds
 pub mod StackStep
+pub mod StackAnswers
+pub mod StackTells
+pub mod StackRun
 pub mod StackScripts
 pub mod StackRows
 pub mod StackRank

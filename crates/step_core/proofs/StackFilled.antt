@@ -4,7 +4,8 @@ use Rattle.std.specs.Prelude.{Option as Slot, Some}
 use mathlib.Core.Option.{Option, none, some}
 use Rattle.step_core.specs.Words.{times}
 use Rattle.step_core.specs.StackMachine.{Memory, with_home, away, filled, emptied}
-use Rattle.step_core.specs.StackRule.{Lists, HasValues, Filled}
+use Rattle.step_core.specs.StackLaw.{HasValues}
+use Rattle.step_core.specs.StackRule.{Lists, Filled}
 use Rattle.step_core.proofs.Lists.{times_append, not_there}
 use Rattle.step_core.proofs.Chains.{home_else, away_else, emptied_else, emptied_here, filled_else, filled_values, values_frame}
 

@@ -15,7 +15,8 @@ use Rattle.step_core.specs.OneList.{ReadTop, ReadLink}
 use Rattle.step_core.specs.declared.stack.Putting.{Putting}
 use Rattle.step_core.specs.declared.stack.Line.{Line}
 use Rattle.step_core.specs.StackMachine.{Memory, first, last, chain_from, values_in, placed, held, after_hold, after_give, after_put, after_take, after_take_all, after_close, after_shut, after_store}
-use Rattle.step_core.specs.StackRule.{Lists, Puts, Gives, IsFine, HasValues, Filled, putting, state, Good}
+use Rattle.step_core.specs.StackLaw.{HasValues, state}
+use Rattle.step_core.specs.StackRule.{Lists, Puts, Gives, IsFine, Filled, putting, Good}
 use Rattle.step_core.proofs.Tests.{cases}
 use Rattle.step_core.proofs.Sums.{total_one}
 use Rattle.step_core.proofs.Lists.{times_here, leads_from}
@@ -25,7 +26,7 @@ use Rattle.step_core.proofs.StackLinked.{held_once, goes_linked, store_linked, h
 use Rattle.step_core.proofs.StackFilled.{same_filled, hold_filled, give_filled, put_filled, take_filled, take_all_filled, first_value}
 use Rattle.step_core.proofs.StackTold.{goes_told, hold_told, give_told, put_told, take_told, take_all_told, close_told, shut_told}
 
-not_below : (i n : ℕ) → n ≤ i → cond (ltb i n) 1 0 ≤ 0
+pub not_below : (i n : ℕ) → n ≤ i → cond (ltb i n) 1 0 ≤ 0
 not_below i n h = cases (λ x. x ≤ 0) (ltb i n) 1 0 (λ b. absurd (grind (arith, nat_tests))) (λ b. omega arith)
 
 -- good with some lists

@@ -1,9 +1,8 @@
 -- How many steps an operation of the stack has left at most, where the tops stay as they are.
-use Rattle.std.proofs.Common.{◌≡◌, ◌≢◌, ◌⊎◌, ℕ, zero, suc, ◌+◌, ◌<◌, ◌≤◌, ◌==◌, ◌++◌, not, Bool, true, false, cond, eqb, ltb, leb, List, [], ◌∷◌, length, set, refl, sym, ap, ◌∙◌, subst, ⊎_elim, ltb-true, arith, Option as Slot, Some, None, Ok, Err}
+use Rattle.std.proofs.Common.{◌≡◌, ℕ, ◌<◌, ◌≤◌, ◌==◌, Bool, true, false, cond, ltb, leb, length, refl, sym, ltb-true, arith, Option as Slot, Some, None, Ok, Err}
 use Rattle.std.proofs.lemmas.Bool.{false≢true}
-use Rattle.std.proofs.lemmas.Bool.Decides.{eqb_tells, nat_tests}
-use mathlib.Core.Option.{Option, none, some, some-ne-none}
-use lib.ListN.{get_elem?}
+use Rattle.std.proofs.lemmas.Bool.Decides.{nat_tests}
+use mathlib.Core.Option.{Option, none, some}
 use Rattle.tagged_index.specs.declared.word.TheConstants.{NULL}
 use Rattle.bounded_model.specs.declared.answers.Word.TheVariants.{Free as FreeWord, Top as TopWord}
 use Rattle.bounded_model.specs.declared.answers.PutRefused.TheVariants.{Full as PutFull, Closed as PutClosed, Spent as PutSpent}
@@ -12,15 +11,12 @@ use Rattle.bounded_model.specs.declared.history.Event.TheVariants.{Hold, Put, Fr
 use Rattle.bounded_model.specs.Machine.{Shape}
 use Rattle.step_core.specs.Words.{Tagged, same}
 use Rattle.step_core.specs.declared.stack.Putting.{Putting}
-use Rattle.step_core.specs.declared.stack.Direction.TheVariants.{Down, Up}
-use Rattle.step_core.specs.declared.stack.Taking.{Taking}
 use Rattle.step_core.specs.declared.stack.Taking.TheVariants.{One, Whole}
 use Rattle.step_core.specs.declared.stack.Answer.{Answer}
 use Rattle.step_core.specs.declared.stack.Answer.TheVariants.{Put as AnswerPut, Close as AnswerClose, Shut as AnswerShut, Look as AnswerLook}
 use Rattle.step_core.specs.declared.stack.Line.{Line}
 use Rattle.step_core.specs.declared.stack.Line.TheVariants.{Idle, F1, F2, F3, F4, P1, P2, P3, D1, S1, S2, S3, A1, R1, R2, W1, G1, G2, G3, Z1, Z2, Y1, Y2, V1}
-use Rattle.step_core.specs.declared.stack.Pass.{Pass}
-use Rattle.step_core.specs.StackMachine.{Memory, Outcome, step, first, second, last, placed, unplaced, next_node, no_node, with_node, at_F1, at_F3, at_P1, at_D1, at_S1, at_Z1, at_Y1, is_idle, goes_on, wins, wins_value, after_hold, after_give, after_store, after_put, after_close, after_shut, ends, gives, refuses, takes}
+use Rattle.step_core.specs.StackMachine.{Memory, Outcome, step, first, second, last, placed, unplaced, next_node, no_node, with_node, at_F3, is_idle, goes_on, wins, wins_value, after_hold, after_give, after_store, after_put, after_close, after_shut, ends, gives, refuses}
 use Rattle.step_core.specs.StackBound.{IsSingle}
 use Rattle.step_core.proofs.Tests.{cases, same-self}
 

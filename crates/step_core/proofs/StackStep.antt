@@ -23,7 +23,8 @@ use Rattle.step_core.specs.declared.stack.Answer.TheVariants.{Put as AnswerPut, 
 use Rattle.step_core.specs.declared.stack.Line.{Line}
 use Rattle.step_core.specs.declared.stack.Line.TheVariants.{Idle, F1, F2, F3, F4, P1, P2, P3, D1, S1, S2, S3, A1, R1, R2, W1, G1, G2, G3, Z1, Z2, Y1, Y2, V1}
 use Rattle.step_core.specs.StackMachine.{Memory, Outcome, first, last, second, chain_from, values_in, placed, unplaced, with_node, held, ends, gives, next_node, no_node, refuses, takes, at_F3, at_A1, goes_on, wins, wins_value, wins_chain, step, after_hold, after_give, after_put, after_take_all, after_close, after_shut, after_store}
-use Rattle.step_core.specs.StackRule.{shape, Lists, Collects, Adds, Puts, Gives, Walks, Turns, IsFine, putting, Good}
+use Rattle.step_core.specs.StackLaw.{shape}
+use Rattle.step_core.specs.StackRule.{Lists, Collects, Adds, Puts, Gives, Walks, Turns, IsFine, putting, Good}
 use Rattle.step_core.proofs.Tests.{cases, same-is}
 use Rattle.step_core.proofs.Lists.{times_here, times_append, not_there, store_here, store_else, leads_frame, leads_from}
 use Rattle.step_core.proofs.OneList.{read_top, front_of}

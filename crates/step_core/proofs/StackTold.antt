@@ -9,7 +9,8 @@ use Rattle.bounded_model.specs.Machine.{with_hand, without_first}
 use Rattle.step_core.specs.Words.{Tagged, raised, kept, marked, with_second}
 use Rattle.step_core.specs.declared.stack.Line.{Line}
 use Rattle.step_core.specs.StackMachine.{held}
-use Rattle.step_core.specs.StackRule.{Lists, state, putting, Told}
+use Rattle.step_core.specs.StackLaw.{state}
+use Rattle.step_core.specs.StackRule.{Lists, putting, Told}
 use Rattle.step_core.proofs.Sums.{total_set, total_one, at_set}
 
 hand_here : (hand : ℕ → ℕ) (p k : ℕ) → with_hand hand p k p ≡ k

@@ -1,12 +1,12 @@
 -- How many of its own steps an operation of the stack makes, while no other pass wins an exchange.
-use Rattle.std.specs.Prelude.{◌≡◌, ◌⊎◌, ℕ, ◌+◌, ◌==◌, if◌then◌else◌, Bool, true, false, not, List, [], ◌∷◌, length}
+use Rattle.std.specs.Prelude.{◌≡◌, ◌⊎◌, ℕ, ◌+◌, ◌==◌, if◌then◌else◌, Bool, false, not, List, [], ◌∷◌, length}
 use mathlib.Core.Option.{Option, none, some}
 use lib.ListN.{get_elem?}
 use Rattle.bounded_model.specs.Machine.{Shape}
 use Rattle.step_core.specs.Words.{same}
-use Rattle.step_core.specs.declared.stack.Taking.TheVariants.{One, Whole}
+use Rattle.step_core.specs.declared.stack.Taking.TheVariants.{Whole}
 use Rattle.step_core.specs.declared.stack.Line.{Line}
-use Rattle.step_core.specs.declared.stack.Line.TheVariants.{Idle, F1, F2, F3, F4, P1, P2, P3, D1, S1, S2, S3, A1, R1, R2, W1, G1, G2, G3, Z1, Z2, Y1, Y2, V1}
+use Rattle.step_core.specs.declared.stack.Line.TheVariants.{F1, F2, F3, F4, P3, S1, S3, A1, R1, R2, W1, G3, Z2, Y2}
 use Rattle.step_core.specs.declared.stack.Pass.{Pass}
 use Rattle.step_core.specs.StackMachine.{Memory, State, Act, Begin, Step, acts_at, is_idle}
 

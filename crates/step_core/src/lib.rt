@@ -12,4 +12,4 @@ mod laws;
 pub mod stack;
 
 pub use bounds::stack_bound;
-pub use laws::list_core;
+pub use laws::{list_core, stack_core};
