@@ -19,4 +19,5 @@ pub mod StackRows
 pub mod StackRank
 pub mod StackBounded
 pub mod StackMistakes
-pub mod StackAnswering
+pub mod StackDoing
+pub mod StackDone

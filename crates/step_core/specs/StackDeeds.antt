@@ -1,18 +1,22 @@
--- What a pass of the stack has done and may say, from the begin of its operation on.
+-- What a pass of the stack has done since its operation was begun: its own events, by its line and at the end by its answer.
 use Rattle.std.specs.Prelude.{◌≡◌, ◌⊎◌, ℕ, ◌<◌, ◌≤◌, Bool, true, false, List, [], ◌∷◌, ◌++◌, length, reverse, Some, None, Ok, Err}
+use mathlib.Core.Option.{some}
+use lib.ListN.{get_elem?}
 use Rattle.bounded_model.specs.declared.answers.PutRefused.{PutRefused}
 use Rattle.bounded_model.specs.declared.answers.PutRefused.TheVariants.{Full, Closed, Spent}
 use Rattle.bounded_model.specs.declared.history.Event.{Event}
 use Rattle.bounded_model.specs.declared.history.Event.TheVariants.{Put, Take, TakeAll, Free, Close, Shut}
 use Rattle.bounded_model.specs.Machine.{Shape, state}
 use Rattle.bounded_model.specs.Histories.{own}
-use Rattle.bounded_model.specs.Justified.{Justifies, Sometime, IsFull, take_answer, PutFull, PutClosed, PutSpent, NotClosed, NotShut, Looked}
+use Rattle.bounded_model.specs.Justified.{Sometime, IsFull}
 use Rattle.bounded_model.specs.Laws.{holds_of, gave_back}
 use Rattle.step_core.specs.declared.stack.Putting.{Putting}
 use Rattle.step_core.specs.declared.stack.Giving.{Giving}
 use Rattle.step_core.specs.declared.stack.Answer.{Answer}
 use Rattle.step_core.specs.declared.stack.Answer.TheVariants.{Put as AnswerPut, Take as AnswerTake, Fold as AnswerFold, Close as AnswerClose, Shut as AnswerShut, Look as AnswerLook}
+use Rattle.step_core.specs.declared.stack.Pass.{Pass}
 use Rattle.step_core.specs.declared.stack.Line.{Line}
+use Rattle.step_core.specs.StackMachine.{State}
 use Rattle.step_core.specs.declared.stack.Line.TheVariants.{Idle, F1, F2, F3, F4, P1, P2, P3, D1, S1, S2, S3, A1, R1, R2, W1, G1, G2, G3, Z1, Z2, Y1, Y2, V1}
 
 -- What pass p has done. Its own events are given, the newest first
@@ -74,58 +78,49 @@ module _ {T : Type 0} where
   HasMade p (G3 give w) events = Makes p give.answer (Free p (length give.chain) ∷ events)
   HasMade p l events = events ≡ []
 
--- What it may say. The histories are those that the pass had seen as its operation was begun, and has seen by now
+-- A range leaves values out only where no node could be had. The histories are those that the pass had seen as its
+-- operation was begun, and has seen by now
 
 module _ {T : Type 0} where
   -- no node is free, or none can be taken any more
   abbrev pub HasNoNode : Shape → List (Event T) → Type 0
   HasNoNode c h = IsFull c h ⊎ ((state c h).holds ≡ c.limit)
 
-  -- a put leaves values out only where no node can be had; every answer that changes nothing was right at some time of the operation
-  abbrev pub IsRight : Shape → List (Event T) → List (Event T) → Answer T → Type 0
-  IsRight c begun seen (AnswerPut (Ok r)) = (r.1 ≡ []) ⊎ Sometime begun seen (HasNoNode c)
-  IsRight c begun seen (AnswerPut (Err (Full values))) = Sometime begun seen (λ h. Justifies c h PutFull)
-  IsRight c begun seen (AnswerPut (Err (Closed values))) = Sometime begun seen (λ h. Justifies c h PutClosed)
-  IsRight c begun seen (AnswerPut (Err (Spent values word tag))) = Sometime begun seen (λ h. Justifies c h (PutSpent word tag))
-  IsRight c begun seen (AnswerTake (Ok r)) = Unit {0}
-  IsRight c begun seen (AnswerTake (Err why)) = Sometime begun seen (λ h. Justifies c h (take_answer why))
-  IsRight c begun seen (AnswerFold (Ok r)) = Unit {0}
-  IsRight c begun seen (AnswerFold (Err why)) = Sometime begun seen (λ h. Justifies c h (take_answer why))
-  IsRight c begun seen (AnswerClose true) = Unit {0}
-  IsRight c begun seen (AnswerClose false) = Sometime begun seen (λ h. Justifies c h NotClosed)
-  IsRight c begun seen (AnswerShut true) = Unit {0}
-  IsRight c begun seen (AnswerShut false) = Sometime begun seen (λ h. Justifies c h NotShut)
-  IsRight c begun seen (AnswerLook empty) = Sometime begun seen (λ h. Justifies c h (Looked empty))
-
   -- a put goes to the top with all its values, or no further node could be had
   abbrev pub HasAll : Shape → List (Event T) → List (Event T) → Putting T → Type 0
   HasAll c begun seen put = (length put.values ≤ length put.chain) ⊎ Sometime begun seen (HasNoNode c)
 
-  -- what a pass knows at a line
-  abbrev pub Knows : Shape → List (Event T) → List (Event T) → Line T → Type 0
-  Knows c begun seen (Idle (Some a)) = IsRight c begun seen a
-  Knows c begun seen (P1 put) = HasAll c begun seen put
-  Knows c begun seen (P2 put w) = HasAll c begun seen put
-  Knows c begun seen (P3 put w) = HasAll c begun seen put
-  Knows c begun seen (D1 values) = Sometime begun seen (IsFull c)
-  Knows c begun seen (R1 give above i) = IsRight c begun seen give.answer
-  Knows c begun seen (R2 give above i k) = IsRight c begun seen give.answer
-  Knows c begun seen (W1 give i) = IsRight c begun seen give.answer
-  Knows c begun seen (G1 give) = IsRight c begun seen give.answer
-  Knows c begun seen (G2 give w) = IsRight c begun seen give.answer
-  Knows c begun seen (G3 give w) = IsRight c begun seen give.answer
-  Knows c begun seen l = Unit {0}
+  abbrev pub PutsAll : Shape → List (Event T) → List (Event T) → Answer T → Type 0
+  PutsAll c begun seen (AnswerPut (Ok r)) = (r.1 ≡ []) ⊎ Sometime begun seen (HasNoNode c)
+  PutsAll c begun seen a = Unit {0}
 
--- pass p at a line: what it has seen begins with what it had seen at the begin, and its own events in between and its knowledge are the line's
-pub record Story {T : Type 0} (c : Shape) (p : ℕ) (l : Line T) (begun seen : List (Event T)) : Type 0 where
+  abbrev pub IsAll : Shape → List (Event T) → List (Event T) → Line T → Type 0
+  IsAll c begun seen (Idle (Some a)) = PutsAll c begun seen a
+  IsAll c begun seen (P1 put) = HasAll c begun seen put
+  IsAll c begun seen (P2 put w) = HasAll c begun seen put
+  IsAll c begun seen (P3 put w) = HasAll c begun seen put
+  IsAll c begun seen (R1 give above i) = PutsAll c begun seen give.answer
+  IsAll c begun seen (R2 give above i k) = PutsAll c begun seen give.answer
+  IsAll c begun seen (W1 give i) = PutsAll c begun seen give.answer
+  IsAll c begun seen (G1 give) = PutsAll c begun seen give.answer
+  IsAll c begun seen (G2 give w) = PutsAll c begun seen give.answer
+  IsAll c begun seen (G3 give w) = PutsAll c begun seen give.answer
+  IsAll c begun seen l = Unit {0}
+
+-- what pass p has done by the time it is at a line
+pub record Deeds {T : Type 0} (c : Shape) (p : ℕ) (l : Line T) (begun seen : List (Event T)) : Type 0 where
   pub between : List (Event T)
   pub is : seen ≡ between ++ begun
   pub made : HasMade p l (own p between)
-  pub knows : Knows c begun seen l
+  pub all : IsAll c begun seen l
 
--- an answer is borne out: the pass's own events are exactly those that it speaks of, and it was right
-pub record IsBorneOut {T : Type 0} (c : Shape) (p : ℕ) (begun seen : List (Event T)) (a : Answer T) : Type 0 where
+-- what pass p has done once its operation has answered: its own events are exactly those that the answer speaks of
+pub record HasDone {T : Type 0} (c : Shape) (p : ℕ) (a : Answer T) (begun seen : List (Event T)) : Type 0 where
   pub between : List (Event T)
   pub is : seen ≡ between ++ begun
   pub made : Makes p a (own p between)
-  pub right : IsRight c begun seen a
+  pub all : PutsAll c begun seen a
+
+-- each pass that has ended an operation has done what it answered
+abbrev pub AllDone : {T : Type 0} → Shape → State T → Type 0
+AllDone {T} c s = (p : ℕ) (v : Pass T) (a : Answer T) → get_elem? s.passes p ≡ some v → v.line ≡ Idle (Some a) → HasDone c p a v.begun v.seen
