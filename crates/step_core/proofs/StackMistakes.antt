@@ -5,8 +5,8 @@ use mathlib.Core.Option.{Option, none, some}
 use lib.ListN.{get_elem?}
 use Rattle.tagged_index.specs.declared.word.TheConstants.{NULL}
 use Rattle.bounded_model.specs.declared.history.Event.{Event}
-use Rattle.bounded_model.specs.declared.history.Event.TheVariants.{Hold, Put, Take, TakeAll, Free, Close, Shut}
-use Rattle.bounded_model.specs.Machine.{Shape, Legal, state}
+use Rattle.bounded_model.specs.declared.history.Event.TheVariants.{Hold, Put, Take, Free, Close, Shut}
+use Rattle.bounded_model.specs.Machine.{Legal}
 use Rattle.bounded_model.specs.Histories.{own}
 use Rattle.bounded_model.specs.Laws.{holds_of}
 use Rattle.step_core.specs.Words.{Tagged, kept, same, times, total, Stands}
@@ -14,10 +14,10 @@ use Rattle.step_core.specs.declared.stack.Direction.TheVariants.{Down}
 use Rattle.step_core.specs.declared.stack.Taking.TheVariants.{One, Whole}
 use Rattle.step_core.specs.declared.stack.Answer.TheVariants.{Put as AnswerPut, Close as AnswerClose, Shut as AnswerShut}
 use Rattle.step_core.specs.declared.stack.Line.{Line}
-use Rattle.step_core.specs.declared.stack.Line.TheVariants.{Idle, F1, F3, P1, P3, S1, S3, W1, Z1, Z2, Y1, Y2}
+use Rattle.step_core.specs.declared.stack.Line.TheVariants.{F1, F3, P1, P3, S1, S3, W1, Z1, Z2, Y1, Y2}
 use Rattle.step_core.specs.declared.stack.Call.TheVariants.{Put as CallPut, Take as CallTake, Close as CallClose, Shut as CallShut}
 use Rattle.step_core.specs.declared.stack.Pass.{Pass}
-use Rattle.step_core.specs.StackMachine.{Memory, State, Act, Begin, Step, Outcome, step, held, is_idle, starts, begun, stepped, start, chain_from, values_in, goes_on, wins, wins_value, after_hold, after_put, after_store, at_F3, at_P1, at_S1, ends, next_node, placed, with_node, with_home}
+use Rattle.step_core.specs.StackMachine.{Memory, State, Act, Begin, Step, Outcome, step, held, is_idle, starts, begun, stepped, start, goes_on, wins, wins_value, after_hold, after_put, after_store, at_F3, at_P1, at_S1, ends, placed, with_node, with_home}
 use Rattle.step_core.specs.StackLaw.{shape, HasValues, Lawful}
 use Rattle.step_core.specs.StackDeeds.{PutAtOnce, AllDone}
 use Rattle.step_core.proofs.StackAnswers.{none_there}
