@@ -1,7 +1,7 @@
 -- A step of any pass of the stack keeps what holds between any two steps, from any state where it holds.
 use Rattle.std.proofs.Common.{◌≡◌, ◌≢◌, ℕ, ◌+◌, ◌<◌, ◌≤◌, true, false, cond, eqb, ltb, leb, List, [], ◌∷◌, ◌++◌, length, reverse, set, refl, sym, ap, ◌∙◌, subst, arith, append_assoc, eqb-true}
 use Rattle.std.proofs.lemmas.Bool.Decides.{nat_tests}
-use Rattle.std.proofs.lemmas.List.{reverse-append, reverse-reverse, append-nil, length-append, length-reverse}
+use Rattle.std.proofs.lemmas.List.{reverse-append, reverse-reverse, append-nil, length-append, length-reverse, length-take-le}
 use Rattle.std.specs.Prelude.{Option as Slot, Some, Ok, Err}
 use mathlib.Core.Option.{Option, some}
 use lib.ListN.{get_elem?}
@@ -187,8 +187,9 @@ module _ {T : Type 0} (n limit : ℕ) (m : Memory T) (who : ℕ → Option ℕ) 
     P3_kept put w e =
         let f : IsFine limit m x.lists (P3 put w) = x.good.linked.fine q (P3 put w) e in
         let done : Line T = ends (AnswerPut (Ok (w.tag, unplaced put))) in
+        let gives : Gives m.link put.chain = record { chained = f.0.chained; some_node = f.0.some_node } in
         cases (After q) (same m.top w) (wins (after_put m w put) done (Put p (placed put) w.tag)) (goes_on m (P1 put))
-        (λ h. record { lists = record { frees = x.lists.frees; stack = put.chain ++ x.lists.stack }; good = good_put q p (P3 put w) done w put x.good e of (same-is m.top w h) f.1 f.2 f.0 f.3 refl refl refl refl tt })
+        (λ h. record { lists = record { frees = x.lists.frees; stack = put.chain ++ x.lists.stack }; good = good_put q p (P3 put w) done w put.chain (placed put) x.good e of (same-is m.top w h) f.1 f.2 gives f.3 (length-take-le (length put.chain) put.values f.0.few) refl refl refl refl tt })
         (λ h. only q (P3 put w) (P1 put) x e refl (omega arith) f.0)
 
     D1_kept : (values : List T) → get_elem? lines q ≡ some (D1 values) → After q (step (shape n limit) m p (D1 values))
