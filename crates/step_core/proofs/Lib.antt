@@ -19,3 +19,6 @@ pub mod StackScripts
 pub mod StackRows
 pub mod StackRank
 pub mod StackBounded
+pub mod StackMistakes
+pub mod StackDoing
+pub mod StackDone
