@@ -1,5 +1,5 @@
 -- Each step of a pass of the stack carries on what it has done.
-use Rattle.std.proofs.Common.{◌≡◌, ◌≢◌, ◌⊎◌, ℕ, zero, suc, ◌+◌, ◌*◌, ◌<◌, ◌≤◌, ◌==◌, Bool, true, false, cond, eqb, ltb, leb, List, [], ◌∷◌, ◌++◌, length, reverse, take, drop, refl, sym, ap, ◌∙◌, subst, inl, inr, ⊎_elim, append_assoc, eqb-true, eq-eqb, leb-true, true≢false, arith, Option as Slot, Some, None, Ok, Err}
+use Rattle.std.proofs.Common.{◌≡◌, ℕ, zero, suc, ◌<◌, ◌≤◌, true, false, cond, eqb, ltb, leb, List, [], ◌∷◌, ◌++◌, length, reverse, refl, sym, ap, ◌∙◌, subst, inl, inr, ⊎_elim, append_assoc, eqb-true, leb-true, arith, Option as Slot, Some, None, Ok, Err}
 use Rattle.std.proofs.lemmas.Bool.Decides.{nat_tests}
 use Rattle.std.proofs.lemmas.List.{length-take-le, length-reverse, drop_all}
 use mathlib.Core.Option.{Option, none, some}
@@ -10,13 +10,12 @@ use Rattle.bounded_model.specs.declared.answers.TakeRefused.{TakeRefused}
 use Rattle.bounded_model.specs.declared.answers.TakeRefused.TheVariants.{Empty as TakeEmpty, Closed as TakeClosed, Spent as TakeSpent, Shut as TakeShut}
 use Rattle.bounded_model.specs.declared.history.Event.{Event}
 use Rattle.bounded_model.specs.declared.history.Event.TheVariants.{Hold, Put, Take, TakeAll, Free, Close, Shut}
-use Rattle.bounded_model.specs.Machine.{Shape, Legal, state}
+use Rattle.bounded_model.specs.Machine.{Shape, state}
 use Rattle.bounded_model.specs.Histories.{own, pass_of, Later}
-use Rattle.bounded_model.specs.Justified.{Justifies, Sometime, IsFull, IsEmpty, IsWorn, IsClosed, IsShut, IsUnshut, PutClosed as ClosedPut, PutSpent as SpentPut, NotClosed, NotShut, Looked, take_answer}
+use Rattle.bounded_model.specs.Justified.{IsFull}
 use Rattle.bounded_model.specs.Laws.{holds_of, gave_back}
 use Rattle.bounded_model.proofs.Histories.{own-append, own-mine, Later-refl, Later-cons}
 use Rattle.bounded_model.proofs.Adding.{Sometime-now, Sometime-wider}
-use Rattle.bounded_model.proofs.Staying.{open_before}
 use Rattle.step_core.specs.Words.{Tagged, same}
 use Rattle.step_core.specs.declared.stack.Putting.{Putting}
 use Rattle.step_core.specs.declared.stack.Giving.{Giving}

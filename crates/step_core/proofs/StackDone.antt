@@ -1,21 +1,20 @@
 -- In every schedule of the stack, a pass has done what it answered.
-use Rattle.std.proofs.Common.{◌≡◌, ℕ, ◌+◌, ◌<◌, ◌≤◌, true, false, List, [], ◌∷◌, ◌++◌, map, length, set, replicate, refl, sym, ap, ◌∙◌, subst, ⊎_elim, arith, Some, None}
-use mathlib.Core.Option.{Option, none, some, some-injective}
+use Rattle.std.proofs.Common.{◌≡◌, ℕ, ◌<◌, ◌≤◌, List, [], ◌∷◌, ◌++◌, map, length, set, refl, sym, ap, ◌∙◌, subst, ⊎_elim, Some, None}
+use mathlib.Core.Option.{Option, none, some}
 use lib.ListN.{get_elem?}
 use Rattle.tagged_index.specs.declared.word.TheConstants.{NULL}
 use Rattle.bounded_model.specs.declared.history.Event.{Event}
 use Rattle.bounded_model.specs.Histories.{own}
 use Rattle.bounded_model.proofs.Histories.{own-between}
-use Rattle.step_core.specs.declared.stack.Answer.{Answer}
 use Rattle.step_core.specs.declared.stack.Line.{Line}
 use Rattle.step_core.specs.declared.stack.Line.TheVariants.{Idle}
 use Rattle.step_core.specs.declared.stack.Call.{Call}
 use Rattle.step_core.specs.declared.stack.Call.TheVariants.{Put as CallPut, Take as CallTake, Close as CallClose, Shut as CallShut, Look as CallLook}
 use Rattle.step_core.specs.declared.stack.Pass.{Pass}
-use Rattle.step_core.specs.StackMachine.{Memory, State, Outcome, is_idle, starts, step, stepped, begun, Act, Begin, Step, acts, acts_at, run, start, values_in, chain_from}
+use Rattle.step_core.specs.StackMachine.{Memory, State, Outcome, is_idle, starts, step, stepped, begun, Act, Begin, Step, acts, acts_at, run, start, values_in}
 use Rattle.step_core.specs.StackLaw.{shape, Knows}
 use Rattle.step_core.specs.StackRule.{Lists, Good}
-use Rattle.step_core.specs.StackDeeds.{Deeds, HasDone, AllDone}
+use Rattle.step_core.specs.StackDeeds.{Deeds, AllDone}
 use Rattle.step_core.proofs.Tests.{cases}
 use Rattle.step_core.proofs.Sums.{at_set}
 use Rattle.step_core.proofs.StackKinds.{all_nodes, all_values}

@@ -1,21 +1,21 @@
 -- Machines that are nearly the stack's, and for each a schedule in which it breaks the law.
-use Rattle.std.proofs.Common.{◌≡◌, ℕ, ◌+◌, ◌==◌, if◌then◌else◌, true, false, List, [], ◌∷◌, ◌++◌, replicate, refl, sym, arith, Some, None, Ok, Option as Slot}
+use Rattle.std.proofs.Common.{◌≡◌, ℕ, ◌+◌, ◌==◌, if◌then◌else◌, true, false, List, [], ◌∷◌, ◌++◌, replicate, refl, sym, arith, Ok}
 use Rattle.std.proofs.lemmas.Bool.{false≢true}
 use mathlib.Core.Option.{Option, none, some}
 use lib.ListN.{get_elem?}
 use Rattle.tagged_index.specs.declared.word.TheConstants.{NULL}
 use Rattle.bounded_model.specs.declared.history.Event.{Event}
-use Rattle.bounded_model.specs.declared.history.Event.TheVariants.{Hold, Put, Take, TakeAll, Free, Close, Shut}
-use Rattle.bounded_model.specs.Machine.{Shape, Legal, state}
+use Rattle.bounded_model.specs.declared.history.Event.TheVariants.{Hold, Put, Take, Free, Close, Shut}
+use Rattle.bounded_model.specs.Machine.{Legal, state}
 use Rattle.step_core.specs.Words.{Tagged, kept, same, times, total}
 use Rattle.step_core.specs.declared.stack.Direction.TheVariants.{Down}
 use Rattle.step_core.specs.declared.stack.Taking.TheVariants.{One, Whole}
 use Rattle.step_core.specs.declared.stack.Answer.TheVariants.{Put as AnswerPut, Close as AnswerClose, Shut as AnswerShut}
 use Rattle.step_core.specs.declared.stack.Line.{Line}
-use Rattle.step_core.specs.declared.stack.Line.TheVariants.{Idle, F1, F3, P1, P3, S1, S3, W1, Z1, Z2, Y1, Y2}
+use Rattle.step_core.specs.declared.stack.Line.TheVariants.{F1, F3, P1, P3, S1, S3, W1, Z1, Z2, Y1, Y2}
 use Rattle.step_core.specs.declared.stack.Call.TheVariants.{Put as CallPut, Take as CallTake, Close as CallClose, Shut as CallShut}
 use Rattle.step_core.specs.declared.stack.Pass.{Pass}
-use Rattle.step_core.specs.StackMachine.{Memory, State, Act, Begin, Step, Outcome, step, held, is_idle, starts, begun, stepped, start, chain_from, values_in, goes_on, wins, wins_value, after_hold, after_put, after_store, at_F3, at_P1, at_S1, ends, next_node, placed, with_node, with_home}
+use Rattle.step_core.specs.StackMachine.{Memory, State, Act, Begin, Step, Outcome, step, held, is_idle, starts, begun, stepped, start, chain_from, goes_on, wins, wins_value, after_hold, after_put, after_store, at_F3, at_P1, at_S1, ends, placed, with_home}
 use Rattle.step_core.proofs.StackScripts.{stack, left}
 
 -- how a machine makes a step, in place of the stack's

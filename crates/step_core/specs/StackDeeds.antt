@@ -1,5 +1,5 @@
 -- What a pass of the stack has done since its operation was begun: its own events, by its line and at the end by its answer.
-use Rattle.std.specs.Prelude.{◌≡◌, ◌⊎◌, ℕ, ◌<◌, ◌≤◌, Bool, true, false, List, [], ◌∷◌, ◌++◌, length, reverse, Some, None, Ok, Err}
+use Rattle.std.specs.Prelude.{◌≡◌, ◌⊎◌, ℕ, ◌<◌, ◌≤◌, true, false, List, [], ◌∷◌, ◌++◌, length, reverse, Some, Ok, Err}
 use mathlib.Core.Option.{some}
 use lib.ListN.{get_elem?}
 use Rattle.bounded_model.specs.declared.answers.PutRefused.{PutRefused}
@@ -11,13 +11,12 @@ use Rattle.bounded_model.specs.Histories.{own}
 use Rattle.bounded_model.specs.Justified.{Sometime, IsFull}
 use Rattle.bounded_model.specs.Laws.{holds_of, gave_back}
 use Rattle.step_core.specs.declared.stack.Putting.{Putting}
-use Rattle.step_core.specs.declared.stack.Giving.{Giving}
 use Rattle.step_core.specs.declared.stack.Answer.{Answer}
 use Rattle.step_core.specs.declared.stack.Answer.TheVariants.{Put as AnswerPut, Take as AnswerTake, Fold as AnswerFold, Close as AnswerClose, Shut as AnswerShut, Look as AnswerLook}
 use Rattle.step_core.specs.declared.stack.Pass.{Pass}
 use Rattle.step_core.specs.declared.stack.Line.{Line}
 use Rattle.step_core.specs.StackMachine.{State}
-use Rattle.step_core.specs.declared.stack.Line.TheVariants.{Idle, F1, F2, F3, F4, P1, P2, P3, D1, S1, S2, S3, A1, R1, R2, W1, G1, G2, G3, Z1, Z2, Y1, Y2, V1}
+use Rattle.step_core.specs.declared.stack.Line.TheVariants.{Idle, F1, F2, F3, F4, P1, P2, P3, R1, R2, W1, G1, G2, G3}
 
 -- What pass p has done. Its own events are given, the newest first
 
