@@ -14,6 +14,7 @@ pub mod StackStep
 pub mod StackAnswers
 pub mod StackTells
 pub mod StackRun
+pub mod StackSeats
 pub mod StackScripts
 pub mod StackRows
 pub mod StackRank
