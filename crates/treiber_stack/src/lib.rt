@@ -3,6 +3,7 @@
 
 mod calls;
 mod layout;
+mod operation;
 mod rule;
 mod stack;
 
