@@ -95,6 +95,10 @@ module _ {T : Type 0} where
         (λ t. subst (λ (k : Line T). Good T n limit m g of (set lines q k) h) (sym t.1) (goes_empty q l idle x e t.0 refl refl tt))
         (quiet_or l)
 
+  pub now_held : (o : Operation T) (l : Line T) → held (line_now o l) ≡ held l
+  now_held o (Idle a) = first_holds o
+  now_held o l = refl
+
   quiet_held : (l : Line T) → held (quiet l) ≡ held l
   quiet_held (Idle a) = refl
   quiet_held l = refl
@@ -130,7 +134,7 @@ module _ {T : Type 0} (n limit : ℕ) (o : Operation T) (id at : ℕ) (p from : 
   of_pass : who s.views id ≡ some p.number
   of_pass = ap number_at met.mine
 
-  ready : Good T n limit m r.lists (who s.views) (set lines id now) r.history
+  pub ready : Good T n limit m r.lists (who s.views) (set lines id now) r.history
   ready = begins id o l r.good here
 
   pub ready_here : get_elem? (set lines id now) id ≡ some now

@@ -5,3 +5,7 @@ pub mod Host
 pub mod KeepsRule
 pub mod KeepsStep
 pub mod KeepsMemory
+pub mod KeepsReads
+pub mod KeepsMarks
+pub mod KeepsTakes
+pub mod KeepsGives
