@@ -98,7 +98,7 @@ module _ {T : Type 0} where
   Makes list read_top l = reads_top_of l ≡ some list
   Makes list (read_link i) l = reads_link_of l ≡ some i
   Makes list (write_link i x) l = (stores_of l ≡ some (i, x)) × (x ≤ NULL)
-  Makes list (take w k) l = takes_of l ≡ some (list, (fields_of w, k))
+  Makes list (take w k) l = (takes_of l ≡ some (list, (fields_of w, k))) × (k ≤ NULL)
   Makes list (give w i) l = ⊥
   Makes list (give_chain w i) l = (list ≡ 0) × ((chain : List ℕ) × (gives_of l ≡ some (fields_of w, chain)) × (first chain ≡ i))
   Makes list (take_all w) l = ⊥

@@ -85,7 +85,7 @@ module _ {T : Type 0} (c : Shape) (m : Memory T) (p : ℕ) where
   give_lost l w chain e miss = absurd (some-ne-none (w, chain) (sym e))
 
   lost_memory : (l : Line T) (list w : ℕ) (kind : Kind) → Makes list kind l → Expects kind w → (top_in list m ≡ fields_of w → ⊥) → m ≡ (step c m p l).memory
-  lost_memory l list w (take x k) makes is miss = take_lost l list k (fields_of x) makes (λ e. miss (e ∙ ap fields_of (sym is)))
+  lost_memory l list w (take x k) makes is miss = take_lost l list k (fields_of x) makes.0 (λ e. miss (e ∙ ap fields_of (sym is)))
   lost_memory l list w (give_chain x i) makes is miss = give_lost l (fields_of x) makes.1.0 makes.1.1 (λ e. miss (ap (λ (k : ℕ). top_in k m) makes.0 ∙ e ∙ ap fields_of (sym is)))
   lost_memory l list w (mark x) makes is miss = mark_lost l (fields_of x) makes.1 (λ e. miss (ap (λ (k : ℕ). top_in k m) makes.0 ∙ e ∙ ap fields_of (sym is)))
   lost_memory l list w (shut x) makes is miss = shut_lost l (fields_of x) makes.1 (λ e. miss (ap (λ (k : ℕ). top_in k m) makes.0 ∙ e ∙ ap fields_of (sym is)))

@@ -93,35 +93,35 @@ module _ {T : Type 0} (n limit : ℕ) where
 
   -- the link of the first index is still the one that was read
   pub follows_law : (o : Operation T) (l id : ℕ) (v : View T (Line T)) (s : State (Slot T) (View T (Line T))) (w k : ℕ) → l < 2 → may_step o l (take w k) v → Before (Rule n limit) id v (top_at l) s → word s (top_at l) ≡ w → word s (link_at (index_of w)) ≡ k
-  follows_law o zero id (AtPass p from line) s w k h may met hit = (read_by o zero id 0 p from line s w k met may).link (ap tag_of (sym hit))
-  follows_law o (suc zero) id (AtPass p from line) s w k h may met hit = (read_by o (suc zero) id 16 p from line s w k met may).link (ap tag_of (sym hit))
+  follows_law o zero id (AtPass p from line) s w k h may met hit = (read_by o zero id 0 p from line s w k met may.0).link (ap tag_of (sym hit))
+  follows_law o (suc zero) id (AtPass p from line) s w k h may met hit = (read_by o (suc zero) id 16 p from line s w k met may.0).link (ap tag_of (sym hit))
   follows_law o (suc (suc l)) id (AtPass p from line) s w k h may met hit = absurd (omega arith)
   follows_law o l id (AtRoot r heard) s w k h may met hit = absurd may
   follows_law o l id (AtMeeting p q) s w k h may met hit = absurd may
   follows_law o l id Left s w k h may met hit = absurd may
 
-  pub takes_law : (o : Operation T) (l id : ℕ) (v : View T (Line T)) (s : State (Slot T) (View T (Line T))) (w k : ℕ) → l < 2 → k ≤ NULL → may_step o l (take w k) v → Before (Rule n limit) id v (top_at l) s → word s (top_at l) ≡ w
+  pub takes_law : (o : Operation T) (l id : ℕ) (v : View T (Line T)) (s : State (Slot T) (View T (Line T))) (w k : ℕ) → l < 2 → may_step o l (take w k) v → Before (Rule n limit) id v (top_at l) s → word s (top_at l) ≡ w
       → ForSlot true (index_of w) (IsHome s.homes) (λ zs. Goes (Rule n limit) steps_in v (changed s (top_at l) (top_after_take w k) (emptied s.homes zs) id) (Did n limit o l (take w k) w zs v))
-  takes_law o zero id (AtPass p from line) s w k h small may met hit x home =
+  takes_law o zero id (AtPass p from line) s w k h may met hit x home =
       let m : Memory T = memory_of s.words s.homes in
       let i : ℕ = index_of w in
       let won : m.free ≡ fields_of w = ap fields_of hit in
       let long : 32 ≤ length s.words = let j = met.rule.words in omega arith in
       goes n limit o id 0 p from line s met 0 (take w k) w ((i, x) ∷ []) (set s.words 0 (top_after_take w k)) (set s.homes i none)
-      (free_set s.words s.homes (set s.homes i none) (top_after_take w k) (raised (fields_of w) k) (with_home m.home i none) long (fields_of-number (raised (fields_of w) k) small) (home_set s.homes i none (home_below s.homes i (some x) home))
-      ∙ hold_memory (shape n limit) m p.number (line_now o line) (fields_of w) k may won)
+      (free_set s.words s.homes (set s.homes i none) (top_after_take w k) (raised (fields_of w) k) (with_home m.home i none) long (fields_of-number (raised (fields_of w) k) may.1) (home_set s.homes i none (home_below s.homes i (some x) home))
+      ∙ hold_memory (shape n limit) m p.number (line_now o line) (fields_of w) k may.0 won)
       (length-set s.words 0 (top_after_take w k)) (length-set s.homes i none) (plain_free s met.rule (top_after_take w k)) (sym won) (λ _. (x, refl, ap at_home home))
-  takes_law o (suc zero) id (AtPass p from line) s w k h small may met hit x home =
+  takes_law o (suc zero) id (AtPass p from line) s w k h may met hit x home =
       let m : Memory T = memory_of s.words s.homes in
       let i : ℕ = index_of w in
       let won : m.top ≡ fields_of w = ap fields_of hit in
       let long : 32 ≤ length s.words = let j = met.rule.words in omega arith in
-      let value = value_there (fields_of w) k (ready_line n limit o id 16 p from line s met) won (read_by o (suc zero) id 16 p from line s w k met may) in
+      let value = value_there (fields_of w) k (ready_line n limit o id 16 p from line s met) won (read_by o (suc zero) id 16 p from line s w k met may.0) in
       goes n limit o id 16 p from line s met 1 (take w k) w ((i, x) ∷ []) (set s.words 16 (top_after_take w k)) (set s.homes i none)
-      (top_set s.words s.homes (set s.homes i none) (top_after_take w k) (raised (fields_of w) k) (with_home m.home i none) long (fields_of-number (raised (fields_of w) k) small) (home_set s.homes i none (home_below s.homes i (some x) home))
-      ∙ take_memory (shape n limit) m p.number (line_now o line) (fields_of w) k value.0 may won value.1)
+      (top_set s.words s.homes (set s.homes i none) (top_after_take w k) (raised (fields_of w) k) (with_home m.home i none) long (fields_of-number (raised (fields_of w) k) may.1) (home_set s.homes i none (home_below s.homes i (some x) home))
+      ∙ take_memory (shape n limit) m p.number (line_now o line) (fields_of w) k value.0 may.0 won value.1)
       (length-set s.words 16 (top_after_take w k)) (length-set s.homes i none) (plain_top n limit s met.rule (top_after_take w k)) (sym won) (λ _. (x, refl, ap at_home home))
-  takes_law o (suc (suc l)) id (AtPass p from line) s w k h small may met hit x home = absurd (omega arith)
-  takes_law o l id (AtRoot r heard) s w k h small may met hit x home = absurd may
-  takes_law o l id (AtMeeting p q) s w k h small may met hit x home = absurd may
-  takes_law o l id Left s w k h small may met hit x home = absurd may
+  takes_law o (suc (suc l)) id (AtPass p from line) s w k h may met hit x home = absurd (omega arith)
+  takes_law o l id (AtRoot r heard) s w k h may met hit x home = absurd may
+  takes_law o l id (AtMeeting p q) s w k h may met hit x home = absurd may
+  takes_law o l id Left s w k h may met hit x home = absurd may

@@ -9,3 +9,5 @@ pub mod KeepsReads
 pub mod KeepsMarks
 pub mod KeepsTakes
 pub mod KeepsGives
+pub mod KeepsHost
+pub mod Operations

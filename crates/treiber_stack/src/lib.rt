@@ -2,9 +2,11 @@
 #![tactic(auto)]
 
 mod calls;
+mod host;
 mod layout;
 mod operation;
 mod rule;
 mod stack;
+mod steps;
 
 pub use stack::{Pass, Root, Stack};
