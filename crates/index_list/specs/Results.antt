@@ -58,5 +58,5 @@ module _ {S V : Type 0} where
   Gave holds id at w m did lists me me' zs = Won (me.1 ≡ zs ++ me'.1) (did zs me'.0) (Made holds id me.0 me'.0 at w m (λ homes. filled homes zs) lists)
 
 -- these slots, each fit to go home, are before the others that a seat has
-abbrev pub Brings : {S : Type 0} → (S → Type 0) → List (ℕ × S) → List (ℕ × S) → Type 0
-Brings {S} rests slots zs = Each (λ _. rests) zs × ((others : List (ℕ × S)) × (slots ≡ zs ++ others))
+abbrev pub Brings : {S : Type 0} → (ℕ → S → Type 0) → List (ℕ × S) → List (ℕ × S) → Type 0
+Brings {S} rests slots zs = Each rests zs × ((others : List (ℕ × S)) × (slots ≡ zs ++ others))

@@ -15,7 +15,7 @@ use atomic_table::TableRule;
 /// says that a seat with this view may make this kind of step on a list, under the host's own
 /// name of it (a `Line`: one kind of step can stand at several places of an operation). `did`
 /// says what the seat's view is after the step, by the word that it found and the slots that it
-/// moved. `rests` says with which values a slot may go home.
+/// moved. `rests` says with which value the slot of an index may go home.
 ///
 /// The second part is laws over plain data, one for each kind of step: a table that meets the
 /// rule meets it again after the step, under some new view of the seat that made it. A host
@@ -33,7 +33,7 @@ pub trait ListHost<S, V, K, const L: usize>: TableRule<S, V, K> {
 
     ghost did: { K → Self.Line → ℕ → Kind → ℕ → List (ℕ × S) → V → V → Type 0 };
 
-    ghost rests: { ℕ → S → Type 0 };
+    ghost rests: { ℕ → V → ℕ → S → Type 0 };
 
     /// The word that is the top of the list.
     fn top(list: usize) -> usize
@@ -82,10 +82,10 @@ pub trait ListHost<S, V, K, const L: usize>: TableRule<S, V, K> {
         → ForSlot (layout.carries l) (index_of w) (IsHome s.homes) (λ zs. Goes (Self.holds key) steps v (changed s (layout.top l) (top_after_take w n) (emptied s.homes zs) id) (did key line l (take w n) w zs v)) };
 
     ghost gives: { (line : Self.Line) (key : K) (l id : ℕ) (v : V) (s : State S V) (w i : ℕ) → l < L → may key line l (give w i) v → Holds (held l v) i → i < NULL → Before (Self.holds key) id v (layout.top l) s → word s (layout.top l) ≡ w
-        → ForSlot (layout.carries l) i (λ _. rests l) (λ zs. Goes (Self.holds key) steps v (changed s (layout.top l) (top_after_give layout l w i) (filled s.homes zs) id) (did key line l (give w i) w zs v)) };
+        → ForSlot (layout.carries l) i (rests l v) (λ zs. Goes (Self.holds key) steps v (changed s (layout.top l) (top_after_give layout l w i) (filled s.homes zs) id) (did key line l (give w i) w zs v)) };
 
     ghost gives_chain: { (line : Self.Line) (key : K) (l id : ℕ) (v : V) (s : State S V) (w i : ℕ) (others : List ℕ) → l < L → may key line l (give_chain w i) v → held l v ≡ i ∷ others → i < NULL → Before (Self.holds key) id v (layout.top l) s → word s (layout.top l) ≡ w
-        → ForSlots (layout.carries l) (held l v) (λ _. rests l) (λ zs. Goes (Self.holds key) steps v (changed s (layout.top l) (top_after_give layout l w i) (filled s.homes zs) id) (did key line l (give_chain w i) w zs v)) };
+        → ForSlots (layout.carries l) (held l v) (rests l v) (λ zs. Goes (Self.holds key) steps v (changed s (layout.top l) (top_after_give layout l w i) (filled s.homes zs) id) (did key line l (give_chain w i) w zs v)) };
 
     ghost takes_all: { (line : Self.Line) (key : K) (l id : ℕ) (v : V) (s : State S V) (w : ℕ) (xs : List ℕ) → l < L → may key line l (take_all w) v → index_of w < NULL → tag_of w < MAX_TAG → Before (Self.holds key) id v (layout.top l) s → word s (layout.top l) ≡ w → Stands layout held l s xs
         → ForSlots (layout.carries l) xs (IsHome s.homes) (λ zs. Goes (Self.holds key) steps v (changed s (layout.top l) (top_after_take w NULL) (emptied s.homes zs) id) (did key line l (take_all w) w zs v)) };

@@ -130,7 +130,7 @@ pub fn try_give<S, V, K, P: ListHost<S, V, K, L>, const L: usize>(
     requires table { (seat.old.table_id ≡ table.now.table_id) × (list < L) × (P.layout.top list < table.now.table_id.words) }
     requires may { P.may table.now.key line.now list (give seen index) seat.old.me.0 }
     requires word { (index < NULL) × (P.layout.keeps list ≡ false → tag_of seen < MAX_TAG) }
-    requires held { Holds (P.held list seat.old.me.0) index × WithSlot (P.layout.carries list) index (Brings (P.rests list) seat.old.me.1) }
+    requires held { Holds (P.held list seat.old.me.0) index × WithSlot (P.layout.carries list) index (Brings (P.rests list seat.old.me.0) seat.old.me.1) }
     ensures seat { (seat.new.table_id ≡ seat.old.table_id) × (seat.new.id ≡ seat.old.id) }
     ensures counted { P.steps seat.new.me.0 ≡ P.steps seat.old.me.0 + 1 }
     ensures won { IsTrue result → WithSlot (P.layout.carries list) index (Gave (P.holds table.now.key) seat.old.id (P.layout.top list) seen (top_after_give P.layout list seen index) (λ zs. P.did table.now.key line.now list (give seen index) seen zs seat.old.me.0) (Gained P.layout P.held list (index ∷ [])) seat.old.me seat.new.me) }
@@ -162,7 +162,7 @@ pub fn try_give_chain<S, V, K, P: ListHost<S, V, K, L>, const L: usize>(
     requires table { (seat.old.table_id ≡ table.now.table_id) × (list < L) × (P.layout.top list < table.now.table_id.words) }
     requires may { P.may table.now.key line.now list (give_chain seen index) seat.old.me.0 }
     requires word { (index < NULL) × (P.layout.keeps list ≡ false → tag_of seen < MAX_TAG) }
-    requires held { ((others : List ℕ) × (P.held list seat.old.me.0 ≡ index ∷ others)) × WithSlots (P.layout.carries list) (P.held list seat.old.me.0) (Brings (P.rests list) seat.old.me.1) }
+    requires held { ((others : List ℕ) × (P.held list seat.old.me.0 ≡ index ∷ others)) × WithSlots (P.layout.carries list) (P.held list seat.old.me.0) (Brings (P.rests list seat.old.me.0) seat.old.me.1) }
     ensures seat { (seat.new.table_id ≡ seat.old.table_id) × (seat.new.id ≡ seat.old.id) }
     ensures counted { P.steps seat.new.me.0 ≡ P.steps seat.old.me.0 + 1 }
     ensures won { IsTrue result → WithSlots (P.layout.carries list) (P.held list seat.old.me.0) (Gave (P.holds table.now.key) seat.old.id (P.layout.top list) seen (top_after_give P.layout list seen index) (λ zs. P.did table.now.key line.now list (give_chain seen index) seen zs seat.old.me.0) (Gained P.layout P.held list (P.held list seat.old.me.0)) seat.old.me seat.new.me) }

@@ -14,6 +14,7 @@ pub mod StackStep
 pub mod StackAnswers
 pub mod StackTells
 pub mod StackRun
+pub mod StackSeats
 pub mod StackScripts
 pub mod StackRows
 pub mod StackRank
@@ -23,3 +24,5 @@ pub mod Hands
 pub mod Seating
 pub mod SeatedEnds
 pub mod SeatedCalls
+pub mod StackDoing
+pub mod StackDone

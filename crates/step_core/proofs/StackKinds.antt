@@ -1,7 +1,7 @@
 -- Each kind of step of the stack keeps what holds between any two steps, from any state where it
 -- holds. Running code cites these.
 use Rattle.std.proofs.Common.{◌≡◌, ◌≢◌, ℕ, ◌+◌, ◌<◌, ◌≤◌, cond, ltb, false, List, [], ◌∷◌, ◌++◌, length, reverse, set, refl, sym, ap, ◌∙◌, subst, arith}
-use Rattle.std.proofs.lemmas.List.{length-reverse, length-take-le, append-nil}
+use Rattle.std.proofs.lemmas.List.{length-reverse, append-nil}
 use Rattle.std.specs.Prelude.{Some, None}
 use Rattle.std.proofs.lemmas.Bool.Decides.{nat_tests}
 use mathlib.Core.Option.{Option, some}
@@ -12,11 +12,10 @@ use Rattle.bounded_model.specs.declared.history.Event.TheVariants.{Hold, Put, Ta
 use Rattle.bounded_model.specs.Machine.{without_first}
 use Rattle.step_core.specs.Words.{Tagged, marked, with_second, times, Stands}
 use Rattle.step_core.specs.OneList.{ReadTop, ReadLink}
-use Rattle.step_core.specs.declared.stack.Putting.{Putting}
 use Rattle.step_core.specs.declared.stack.Line.{Line}
-use Rattle.step_core.specs.StackMachine.{Memory, first, last, chain_from, values_in, placed, held, after_hold, after_give, after_put, after_take, after_take_all, after_close, after_shut, after_store}
+use Rattle.step_core.specs.StackMachine.{Memory, first, last, chain_from, values_in, held, after_hold, after_give, after_put_of, after_take, after_take_all, after_close, after_shut, after_store}
 use Rattle.step_core.specs.StackLaw.{HasValues, state}
-use Rattle.step_core.specs.StackRule.{Lists, Puts, Gives, IsFine, Filled, putting, Good}
+use Rattle.step_core.specs.StackRule.{Lists, Gives, IsFine, Filled, putting, Good}
 use Rattle.step_core.proofs.Tests.{cases}
 use Rattle.step_core.proofs.Sums.{total_one}
 use Rattle.step_core.proofs.Lists.{times_here, leads_from}
@@ -95,19 +94,18 @@ module _ {T : Type 0} {n limit : ℕ} {m : Memory T} {g : Lists} {who : ℕ → 
         told = give_told q p l l' w chain (first chain) e of won gives.some_node (ap length mine) (ap length mine') (omega (arith, ap length no_put)) x.told;
       }
 
-  -- a chain is put on top, its slots with any values in it
-  pub good_put : (q p : ℕ) (l l' : Line T) (w : Tagged) (put : Putting T) → Good T n limit m g who lines history → get_elem? lines q ≡ some l → who q ≡ some p → m.top ≡ w → w.mark ≡ false → w.tag < limit
-      → Puts m.link put → m.link (last put.chain) ≡ w.index → held l ≡ put.chain → putting l ≡ put.chain → held l' ≡ [] → putting l' ≡ []
-      → IsFine limit (after_put m w put) (record { frees = g.frees; stack = put.chain ++ g.stack }) l'
-      → Good T n limit (after_put m w put) (record { frees = g.frees; stack = put.chain ++ g.stack }) who (set lines q l') (Put p (placed put) w.tag ∷ history)
-  good_put q p l l' w put x e of won unmarked below puts own mine mine_put mine' no_put f =
-      let long : length (placed put) ≡ length put.chain = length-take-le (length put.chain) put.values puts.few in
-      let values : length put.chain ≡ length (reverse (placed put)) = sym (length-reverse (placed put) ∙ long) in
-      let gives : Gives m.link put.chain = record { chained = puts.chained; some_node = puts.some_node } in
+  -- A chain is put on top, its slots with these values in them. They are any values, as many as the
+  -- chain has nodes: what a seat carries in its slots is no part of its line
+  pub good_put : (q p : ℕ) (l l' : Line T) (w : Tagged) (chain : List ℕ) (vs : List T) → Good T n limit m g who lines history → get_elem? lines q ≡ some l → who q ≡ some p → m.top ≡ w → w.mark ≡ false → w.tag < limit
+      → Gives m.link chain → m.link (last chain) ≡ w.index → length vs ≡ length chain → held l ≡ chain → putting l ≡ chain → held l' ≡ [] → putting l' ≡ []
+      → IsFine limit (after_put_of m w chain vs) (record { frees = g.frees; stack = chain ++ g.stack }) l'
+      → Good T n limit (after_put_of m w chain vs) (record { frees = g.frees; stack = chain ++ g.stack }) who (set lines q l') (Put p vs w.tag ∷ history)
+  good_put q p l l' w chain vs x e of won unmarked below gives own long mine mine_put mine' no_put f =
+      let values : length chain ≡ length (reverse vs) = sym (length-reverse vs ∙ long) in
       record {
-        linked = put_linked q l l' w put.chain (after_put m w put) x.linked e won gives own (λ i. ap (times i) mine) mine' refl refl refl f;
-        filled = put_filled (after_put m w put) put.chain (reverse (placed put)) refl values (λ j. omega (arith, held_once q j l x.linked e, ap (times j) mine)) x.filled;
-        told = put_told q p l l' w put.chain (placed put) (first put.chain) e of won unmarked below puts.some_node long (ap length mine) (ap length mine_put) (ap length mine') (ap length no_put) x.told;
+        linked = put_linked q l l' w chain (after_put_of m w chain vs) x.linked e won gives own (λ i. ap (times i) mine) mine' refl refl refl f;
+        filled = put_filled (after_put_of m w chain vs) chain (reverse vs) refl values (λ j. omega (arith, held_once q j l x.linked e, ap (times j) mine)) x.filled;
+        told = put_told q p l l' w chain vs (first chain) e of won unmarked below gives.some_node long (ap length mine) (ap length mine_put) (ap length mine') (ap length no_put) x.told;
       }
 
   -- the node on top is taken

@@ -25,13 +25,13 @@ use Rattle.step_core.proofs.StackKinds.{Kept, good_goes}
 use Rattle.step_core.proofs.StackStep.{step_kept}
 use Rattle.step_core.proofs.StackTells.{tells_kept, step_apart}
 
-same_at : {A : Type 0} (k p : ℕ) (x y : A) → get_elem? (replicate k x) p ≡ some y → x ≡ y
+pub same_at : {A : Type 0} (k p : ℕ) (x y : A) → get_elem? (replicate k x) p ≡ some y → x ≡ y
 same_at zero p x y e = absurd (some-ne-none y (sym e))
 same_at (suc k) zero x y e = some-injective x y e
 same_at (suc k) (suc p) x y e = same_at k p x y e
 
 module _ {A B : Type 0} (f : A → B) where
-  at_map : (xs : List A) (i : ℕ) (x : A) → get_elem? xs i ≡ some x → get_elem? (map f xs) i ≡ some (f x)
+  pub at_map : (xs : List A) (i : ℕ) (x : A) → get_elem? xs i ≡ some x → get_elem? (map f xs) i ≡ some (f x)
   at_map [] i x e = absurd (some-ne-none x (sym e))
   at_map (y ∷ ys) zero x e = ap (λ (z : A). some (f z)) (some-injective y x e)
   at_map (y ∷ ys) (suc i) x e = at_map ys i x e
@@ -107,7 +107,7 @@ module _ {T : Type 0} where
     acts_kept Step = cases (Stays n limit) (is_idle v.line) s (stepped s p v (step (shape n limit) s.memory p v.line)) (λ h. x) (λ h. stepped_kept)
 
   module _ (n limit : ℕ) where
-    acts_at_kept : (s : State T) (p : ℕ) (a : Act T) (o : Option (Pass T)) → Stays n limit s → get_elem? s.passes p ≡ o → Stays n limit (acts_at (shape n limit) s p a o)
+    pub acts_at_kept : (s : State T) (p : ℕ) (a : Act T) (o : Option (Pass T)) → Stays n limit s → get_elem? s.passes p ≡ o → Stays n limit (acts_at (shape n limit) s p a o)
     acts_at_kept s p a none x e = x
     acts_at_kept s p a (some v) x e = acts_kept n limit s p v x e a
 
@@ -153,7 +153,7 @@ module _ {T : Type 0} where
     };
   }
 
-  start_stays : (n limit passes : ℕ) → 0 < n → n ≤ NULL → Stays n limit (start (shape n limit) passes)
+  pub start_stays : (n limit passes : ℕ) → 0 < n → n ≤ NULL → Stays n limit (start (shape n limit) passes)
   start_stays n limit passes h small = record {
     kept = subst (λ (ls : List (Line T)). Kept T n limit (start (shape n limit) passes).memory some ls []) (sym (idle_lines passes)) (start_kept n limit passes h small);
     knows = λ p v e. subst (λ (u : Pass T). Knows p u []) (same_at passes p idle_pass v e) (record { before = Later-refl []; now = Later-refl []; own_events = refl });

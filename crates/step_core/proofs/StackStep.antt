@@ -1,7 +1,7 @@
 -- A step of any pass of the stack keeps what holds between any two steps, from any state where it holds.
 use Rattle.std.proofs.Common.{◌≡◌, ◌≢◌, ℕ, ◌+◌, ◌<◌, ◌≤◌, true, false, cond, eqb, ltb, leb, List, [], ◌∷◌, ◌++◌, length, reverse, set, refl, sym, ap, ◌∙◌, subst, arith, append_assoc, eqb-true}
 use Rattle.std.proofs.lemmas.Bool.Decides.{nat_tests}
-use Rattle.std.proofs.lemmas.List.{reverse-append, reverse-reverse, append-nil, length-append, length-reverse}
+use Rattle.std.proofs.lemmas.List.{reverse-append, reverse-reverse, append-nil, length-append, length-reverse, length-take-le}
 use Rattle.std.specs.Prelude.{Option as Slot, Some, Ok, Err}
 use mathlib.Core.Option.{Option, some}
 use lib.ListN.{get_elem?}
@@ -22,7 +22,7 @@ use Rattle.step_core.specs.declared.stack.Taking.TheVariants.{One, Whole}
 use Rattle.step_core.specs.declared.stack.Answer.TheVariants.{Put as AnswerPut, Take as AnswerTake, Close as AnswerClose, Shut as AnswerShut, Look as AnswerLook}
 use Rattle.step_core.specs.declared.stack.Line.{Line}
 use Rattle.step_core.specs.declared.stack.Line.TheVariants.{Idle, F1, F2, F3, F4, P1, P2, P3, D1, S1, S2, S3, A1, R1, R2, W1, G1, G2, G3, Z1, Z2, Y1, Y2, V1}
-use Rattle.step_core.specs.StackMachine.{Memory, Outcome, first, last, second, chain_from, values_in, placed, unplaced, with_node, held, ends, gives, next_node, no_node, refuses, takes, at_F3, at_A1, goes_on, wins, wins_value, wins_chain, step, after_hold, after_give, after_put, after_take_all, after_close, after_shut, after_store}
+use Rattle.step_core.specs.StackMachine.{after_put_of, Memory, Outcome, first, last, second, chain_from, values_in, placed, unplaced, with_node, held, ends, gives, next_node, no_node, refuses, takes, at_F3, at_A1, goes_on, wins, wins_value, wins_chain, step, after_hold, after_give, after_put, after_take_all, after_close, after_shut, after_store}
 use Rattle.step_core.specs.StackLaw.{shape}
 use Rattle.step_core.specs.StackRule.{Lists, Collects, Adds, Puts, Gives, Walks, Turns, IsFine, putting, Good}
 use Rattle.step_core.proofs.Tests.{cases, same-is}
@@ -120,14 +120,14 @@ module _ {T : Type 0} (n limit : ℕ) (m : Memory T) (who : ℕ → Option ℕ) 
 
   -- each line in turn
   module _ (q p : ℕ) (of : who q ≡ some p) (x : Kept T n limit m who lines history) where
-    no_node_kept : (put : Putting T) (refused : Line T) → get_elem? lines q ≡ some (F1 put) → held refused ≡ [] → putting refused ≡ [] → ((g : Lists) → IsFine limit m g refused) → After q (goes_on m (no_node put refused))
+    pub no_node_kept : (put : Putting T) (refused : Line T) → get_elem? lines q ≡ some (F1 put) → held refused ≡ [] → putting refused ≡ [] → ((g : Lists) → IsFine limit m g refused) → After q (goes_on m (no_node put refused))
     no_node_kept put refused e none_held none_put fine =
         let f : Collects m.link put = x.good.linked.fine q (F1 put) e in
         cases (λ l. After q (goes_on m l)) (eqb (length put.chain) 0) refused (P1 put)
         (λ h. only q (F1 put) refused x e (none_held ∙ sym (no_nodes put.chain (eqb-true (length put.chain) 0 h))) (omega (arith, ap length none_put)) (fine x.lists))
         (λ h. only q (F1 put) (P1 put) x e refl (omega arith) (record { chained = f.chained; some_node = grind (arith, nat_tests); few = omega (arith, f.wants) }))
 
-    F1_kept : (put : Putting T) → get_elem? lines q ≡ some (F1 put) → After q (step (shape n limit) m p (F1 put))
+    pub F1_kept : (put : Putting T) → get_elem? lines q ≡ some (F1 put) → After q (step (shape n limit) m p (F1 put))
     F1_kept put e =
         let f : Collects m.link put = x.good.linked.fine q (F1 put) e in
         let refused : Line T = ends (AnswerPut (Err (PutSpent put.values FreeWord m.free.tag))) in
@@ -137,7 +137,7 @@ module _ {T : Type 0} (n limit : ℕ) (m : Memory T) (who : ℕ → Option ℕ) 
         (λ h'. no_node_kept put refused e refl refl (λ g. tt))
         (λ h'. only q (F1 put) (F2 put m.free) x e refl (omega arith) (f, read_top limit m.free m.link x.lists.frees x.good.linked.free_stands (λ z. grind (arith, nat_tests)) (grind (arith, nat_tests)))))
 
-    F3_kept : (put : Putting T) (w : Tagged) (k : ℕ) → get_elem? lines q ≡ some (F3 put w k) → After q (step (shape n limit) m p (F3 put w k))
+    pub F3_kept : (put : Putting T) (w : Tagged) (k : ℕ) → get_elem? lines q ≡ some (F3 put w k) → After q (step (shape n limit) m p (F3 put w k))
     F3_kept put w k e =
         let f : IsFine limit m x.lists (F3 put w k) = x.good.linked.fine q (F3 put w k) e in
         let more : Putting T = with_node put w.index in
@@ -152,7 +152,7 @@ module _ {T : Type 0} (n limit : ℕ) (m : Memory T) (who : ℕ → Option ℕ) 
         (λ h'. good_hold q p (F3 put w k) (F4 more) w k x.good e of won f.1 f.2 refl (omega arith) (λ rest. record { chained = f.0.chained; some_node = omega arith; few = omega arith })))
         (λ h. only q (F3 put w k) (F1 put) x e refl (omega arith) f.0)
 
-    F4_kept : (put : Putting T) → get_elem? lines q ≡ some (F4 put) → After q (step (shape n limit) m p (F4 put))
+    pub F4_kept : (put : Putting T) → get_elem? lines q ≡ some (F4 put) → After q (step (shape n limit) m p (F4 put))
     F4_kept put e =
         let f : Adds m.link put = x.good.linked.fine q (F4 put) e in
         let i = first put.chain in
@@ -164,7 +164,7 @@ module _ {T : Type 0} (n limit : ℕ) (m : Memory T) (who : ℕ → Option ℕ) 
         (λ b. stores q i (second put.chain) (F4 put) (F1 put) x e here refl (omega arith) (record { chained = chained; wants = grind (arith, nat_tests) }))
         (λ b. stores q i (second put.chain) (F4 put) (P1 put) x e here refl (omega arith) (record { chained = chained; some_node = f.some_node; few = few }))
 
-    P1_kept : (put : Putting T) → get_elem? lines q ≡ some (P1 put) → After q (step (shape n limit) m p (P1 put))
+    pub P1_kept : (put : Putting T) → get_elem? lines q ≡ some (P1 put) → After q (step (shape n limit) m p (P1 put))
     P1_kept put e =
         let f : Puts m.link put = x.good.linked.fine q (P1 put) e in
         let closed : Line T = gives put.chain (AnswerPut (Err (PutClosed put.values))) in
@@ -175,7 +175,7 @@ module _ {T : Type 0} (n limit : ℕ) (m : Memory T) (who : ℕ → Option ℕ) 
         (λ h'. only q (P1 put) spent x e refl (omega arith) (record { chained = f.chained; some_node = f.some_node }))
         (λ h'. only q (P1 put) (P2 put m.top) x e refl (omega arith) (f, h, grind (arith, nat_tests))))
 
-    P2_kept : (put : Putting T) (w : Tagged) → get_elem? lines q ≡ some (P2 put w) → After q (step (shape n limit) m p (P2 put w))
+    pub P2_kept : (put : Putting T) (w : Tagged) → get_elem? lines q ≡ some (P2 put w) → After q (step (shape n limit) m p (P2 put w))
     P2_kept put w e =
         let f : IsFine limit m x.lists (P2 put w) = x.good.linked.fine q (P2 put w) e in
         let i = last put.chain in
@@ -183,15 +183,24 @@ module _ {T : Type 0} (n limit : ℕ) (m : Memory T) (who : ℕ → Option ℕ) 
         stores q i w.index (P2 put w) (P3 put w) x e (last_in put.chain f.0.some_node) refl (omega arith)
         (record { chained = chain_store_last m.link put.chain w.index once f.0.chained; some_node = f.0.some_node; few = f.0.few }, f.1, f.2, store_here m.link i w.index)
 
-    P3_kept : (put : Putting T) (w : Tagged) → get_elem? lines q ≡ some (P3 put w) → After q (step (shape n limit) m p (P3 put w))
+    -- a won put, with any values in the slots that the pass brings: its line need not name them
+    pub put_won : (put : Putting T) (w : Tagged) (vs : List T) (l' : Line T) → get_elem? lines q ≡ some (P3 put w) → m.top ≡ w → length vs ≡ length put.chain → held l' ≡ [] → putting l' ≡ [] → ((g : Lists) → IsFine limit (after_put_of m w put.chain vs) g l')
+        → Kept T n limit (after_put_of m w put.chain vs) who (set lines q l') (Put p vs w.tag ∷ history)
+    put_won put w vs l' e won long mine' no_put fine =
+        let f : IsFine limit m x.lists (P3 put w) = x.good.linked.fine q (P3 put w) e in
+        let gives : Gives m.link put.chain = record { chained = f.0.chained; some_node = f.0.some_node } in
+        let after : Lists = record { frees = x.lists.frees; stack = put.chain ++ x.lists.stack } in
+        record { lists = after; good = good_put q p (P3 put w) l' w put.chain vs x.good e of won f.1 f.2 gives f.3 long refl refl mine' no_put (fine after) }
+
+    pub P3_kept : (put : Putting T) (w : Tagged) → get_elem? lines q ≡ some (P3 put w) → After q (step (shape n limit) m p (P3 put w))
     P3_kept put w e =
         let f : IsFine limit m x.lists (P3 put w) = x.good.linked.fine q (P3 put w) e in
         let done : Line T = ends (AnswerPut (Ok (w.tag, unplaced put))) in
         cases (After q) (same m.top w) (wins (after_put m w put) done (Put p (placed put) w.tag)) (goes_on m (P1 put))
-        (λ h. record { lists = record { frees = x.lists.frees; stack = put.chain ++ x.lists.stack }; good = good_put q p (P3 put w) done w put x.good e of (same-is m.top w h) f.1 f.2 f.0 f.3 refl refl refl refl tt })
+        (λ h. put_won put w (placed put) done e (same-is m.top w h) (length-take-le (length put.chain) put.values f.0.few) refl refl (λ g. tt))
         (λ h. only q (P3 put w) (P1 put) x e refl (omega arith) f.0)
 
-    D1_kept : (values : List T) → get_elem? lines q ≡ some (D1 values) → After q (step (shape n limit) m p (D1 values))
+    pub D1_kept : (values : List T) → get_elem? lines q ≡ some (D1 values) → After q (step (shape n limit) m p (D1 values))
     D1_kept values e =
         let closed : Line T = ends (AnswerPut (Err (PutClosed values))) in
         let spent : Line T = ends (AnswerPut (Err (PutSpent values TopWord m.top.tag))) in
@@ -202,15 +211,15 @@ module _ {T : Type 0} (n limit : ℕ) (m : Memory T) (who : ℕ → Option ℕ) 
         (λ h'. only q (D1 values) spent x e refl (omega arith) tt)
         (λ h'. only q (D1 values) full x e refl (omega arith) tt))
 
-    refused_kept : (taking : Taking) (why : TakeRefused) → get_elem? lines q ≡ some (S1 taking) → After q (goes_on m (refuses taking why))
+    pub refused_kept : (taking : Taking) (why : TakeRefused) → get_elem? lines q ≡ some (S1 taking) → After q (goes_on m (refuses taking why))
     refused_kept One why e = only q (S1 One) (refuses One why) x e refl (omega arith) tt
     refused_kept (Whole d) why e = only q (S1 (Whole d)) (refuses (Whole d) why) x e refl (omega arith) tt
 
-    takes_kept : (taking : Taking) → get_elem? lines q ≡ some (S1 taking) → m.top.second ≡ false → m.top.index ≢ NULL → m.top.tag < limit → After q (goes_on m (takes taking m.top))
+    pub takes_kept : (taking : Taking) → get_elem? lines q ≡ some (S1 taking) → m.top.second ≡ false → m.top.index ≢ NULL → m.top.tag < limit → After q (goes_on m (takes taking m.top))
     takes_kept One e unshut node below = only q (S1 One) (S2 m.top) x e refl (omega arith) (read_top limit m.top m.link x.lists.stack x.good.linked.top_stands node below, unshut)
     takes_kept (Whole d) e unshut node below = only q (S1 (Whole d)) (A1 d m.top) x e refl (omega arith) (node, unshut, below)
 
-    S1_kept : (taking : Taking) → get_elem? lines q ≡ some (S1 taking) → After q (step (shape n limit) m p (S1 taking))
+    pub S1_kept : (taking : Taking) → get_elem? lines q ≡ some (S1 taking) → After q (step (shape n limit) m p (S1 taking))
     S1_kept taking e =
         let none_there : Line T = refuses taking (cond m.top.mark TakeClosed TakeEmpty) in
         let spent : Line T = refuses taking (TakeSpent TopWord m.top.tag) in
@@ -222,7 +231,7 @@ module _ {T : Type 0} (n limit : ℕ) (m : Memory T) (who : ℕ → Option ℕ) 
         (λ b. refused_kept taking (TakeSpent TopWord m.top.tag) e)
         (λ b. takes_kept taking e h (λ z. grind (arith, nat_tests)) (grind (arith, nat_tests)))))
 
-    S3_kept : (w : Tagged) (k : ℕ) → get_elem? lines q ≡ some (S3 w k) → After q (step (shape n limit) m p (S3 w k))
+    pub S3_kept : (w : Tagged) (k : ℕ) → get_elem? lines q ≡ some (S3 w k) → After q (step (shape n limit) m p (S3 w k))
     S3_kept w k e =
         let f : IsFine limit m x.lists (S3 w k) = x.good.linked.fine q (S3 w k) e in
         let to : T → Line T = λ v. gives (w.index ∷ []) (AnswerTake (Ok (v, w.tag))) in
@@ -232,7 +241,7 @@ module _ {T : Type 0} (n limit : ℕ) (m : Memory T) (who : ℕ → Option ℕ) 
         subst (λ (o : Option (Slot T)). After q (wins_value m p w k o)) (sym t.here) won)
         (λ h. only q (S3 w k) (S1 One) x e refl (omega arith) tt)
 
-    all_kept : (d : Direction) (w : Tagged) → get_elem? lines q ≡ some (A1 d w) → m.top ≡ w → After q (wins_chain m p d w x.lists.stack)
+    pub all_kept : (d : Direction) (w : Tagged) → get_elem? lines q ≡ some (A1 d w) → m.top ≡ w → After q (wins_chain m p d w x.lists.stack)
     all_kept Down w e won =
         let f : IsFine limit m x.lists (A1 Down w) = x.good.linked.fine q (A1 Down w) e in
         let stands : Stands m.link w.index x.lists.stack = leads_from m.link m.top.index w.index x.lists.stack NULL (ap (λ (y : Tagged). y.index) won) x.good.linked.top_stands in
@@ -254,13 +263,13 @@ module _ {T : Type 0} (n limit : ℕ) (m : Memory T) (who : ℕ → Option ℕ) 
               (record { turned = []; left = x.lists.stack; is = refl; upwards = refl; downwards = stands; here = f.0 }));
         }
 
-    A1_kept : (d : Direction) (w : Tagged) → get_elem? lines q ≡ some (A1 d w) → After q (step (shape n limit) m p (A1 d w))
+    pub A1_kept : (d : Direction) (w : Tagged) → get_elem? lines q ≡ some (A1 d w) → After q (step (shape n limit) m p (A1 d w))
     A1_kept d w e =
         cases (After q) (same m.top w) (wins_chain m p d w (chain_from n m.link w.index)) (goes_on m (S1 (Whole d)))
         (λ h. let won = same-is m.top w h in subst (λ (c : List ℕ). After q (wins_chain m p d w c)) (sym (all_nodes q (A1 d w) w x.good e won)) (all_kept d w e won))
         (λ h. only q (A1 d w) (S1 (Whole d)) x e refl (omega arith) tt)
 
-    R2_kept : (give : Giving T) (lowest i k : ℕ) → get_elem? lines q ≡ some (R2 give lowest i k) → After q (step (shape n limit) m p (R2 give lowest i k))
+    pub R2_kept : (give : Giving T) (lowest i k : ℕ) → get_elem? lines q ≡ some (R2 give lowest i k) → After q (step (shape n limit) m p (R2 give lowest i k))
     R2_kept give lowest i k e =
         let f : IsFine limit m x.lists (R2 give lowest i k) = x.good.linked.fine q (R2 give lowest i k) e in
         let here = turning_in m.link give.chain lowest i f.0 in
@@ -275,14 +284,14 @@ module _ {T : Type 0} (n limit : ℕ) (m : Memory T) (who : ℕ → Option ℕ) 
         (λ h. let on : m.link i ≢ NULL = λ z. grind (arith, nat_tests, f.1) in
         stores q i lowest (R2 give lowest i k) (R1 give i k) x e here refl (omega arith) (subst (λ (y : ℕ). Turns (store m.link i lowest) give.chain i y) f.1 (turn_on m.link give.chain lowest i once f.0 on)))
 
-    W1_kept : (give : Giving T) (i : ℕ) → get_elem? lines q ≡ some (W1 give i) → After q (step (shape n limit) m p (W1 give i))
+    pub W1_kept : (give : Giving T) (i : ℕ) → get_elem? lines q ≡ some (W1 give i) → After q (step (shape n limit) m p (W1 give i))
     W1_kept give i e =
         let f : Walks m.link give.chain i = x.good.linked.fine q (W1 give i) e in
         cases (λ l. After q (goes_on m l)) (eqb (m.link i) NULL) (G1 give) (W1 give (m.link i))
         (λ h. only q (W1 give i) (G1 give) x e refl (omega arith) (walk_gives m.link give.chain i f))
         (λ h. only q (W1 give i) (W1 give (m.link i)) x e refl (omega arith) (walk_on m.link give.chain i f (λ z. grind (arith, nat_tests))))
 
-    G2_kept : (give : Giving T) (w : Tagged) → get_elem? lines q ≡ some (G2 give w) → After q (step (shape n limit) m p (G2 give w))
+    pub G2_kept : (give : Giving T) (w : Tagged) → get_elem? lines q ≡ some (G2 give w) → After q (step (shape n limit) m p (G2 give w))
     G2_kept give w e =
         let f : Gives m.link give.chain = x.good.linked.fine q (G2 give w) e in
         let i = last give.chain in
@@ -290,31 +299,31 @@ module _ {T : Type 0} (n limit : ℕ) (m : Memory T) (who : ℕ → Option ℕ) 
         stores q i w.index (G2 give w) (G3 give w) x e (last_in give.chain f.some_node) refl (omega arith)
         (record { chained = chain_store_last m.link give.chain w.index once f.chained; some_node = f.some_node }, store_here m.link i w.index)
 
-    G3_kept : (give : Giving T) (w : Tagged) → get_elem? lines q ≡ some (G3 give w) → After q (step (shape n limit) m p (G3 give w))
+    pub G3_kept : (give : Giving T) (w : Tagged) → get_elem? lines q ≡ some (G3 give w) → After q (step (shape n limit) m p (G3 give w))
     G3_kept give w e =
         let f : IsFine limit m x.lists (G3 give w) = x.good.linked.fine q (G3 give w) e in
         cases (After q) (same m.free w) (wins (after_give m w give.chain) (ends give.answer) (Free p (length give.chain))) (goes_on m (G1 give))
         (λ h. record { lists = record { frees = give.chain ++ x.lists.frees; stack = x.lists.stack }; good = good_give q p (G3 give w) (ends give.answer) w give.chain x.good e of (same-is m.free w h) f.0 f.1 refl refl refl tt })
         (λ h. only q (G3 give w) (G1 give) x e refl (omega arith) f.0)
 
-    Z1_kept : get_elem? lines q ≡ some Z1 → After q (step (shape n limit) m p Z1)
+    pub Z1_kept : get_elem? lines q ≡ some Z1 → After q (step (shape n limit) m p Z1)
     Z1_kept e = cases (λ l. After q (goes_on m l)) m.top.mark (ends (AnswerClose false)) (Z2 m.top)
         (λ h. only q Z1 (ends (AnswerClose false)) x e refl (omega arith) tt)
         (λ h. only q Z1 (Z2 m.top) x e refl (omega arith) h)
 
-    Z2_kept : (w : Tagged) → get_elem? lines q ≡ some (Z2 w) → After q (step (shape n limit) m p (Z2 w))
+    pub Z2_kept : (w : Tagged) → get_elem? lines q ≡ some (Z2 w) → After q (step (shape n limit) m p (Z2 w))
     Z2_kept w e =
         let f : w.mark ≡ false = x.good.linked.fine q (Z2 w) e in
         cases (After q) (same m.top w) (wins (after_close m w) (ends (AnswerClose true)) (Close p)) (goes_on m Z1)
         (λ h. record { lists = x.lists; good = good_close q p (Z2 w) (ends (AnswerClose true)) w x.good e of (same-is m.top w h) f refl refl refl tt })
         (λ h. only q (Z2 w) Z1 x e refl (omega arith) tt)
 
-    Y1_kept : get_elem? lines q ≡ some Y1 → After q (step (shape n limit) m p Y1)
+    pub Y1_kept : get_elem? lines q ≡ some Y1 → After q (step (shape n limit) m p Y1)
     Y1_kept e = cases (λ l. After q (goes_on m l)) m.top.second (ends (AnswerShut false)) (Y2 m.top)
         (λ h. only q Y1 (ends (AnswerShut false)) x e refl (omega arith) tt)
         (λ h. only q Y1 (Y2 m.top) x e refl (omega arith) h)
 
-    Y2_kept : (w : Tagged) → get_elem? lines q ≡ some (Y2 w) → After q (step (shape n limit) m p (Y2 w))
+    pub Y2_kept : (w : Tagged) → get_elem? lines q ≡ some (Y2 w) → After q (step (shape n limit) m p (Y2 w))
     Y2_kept w e =
         let f : w.second ≡ false = x.good.linked.fine q (Y2 w) e in
         cases (After q) (same m.top w) (wins (after_shut m w) (ends (AnswerShut true)) (Shut p)) (goes_on m Y1)

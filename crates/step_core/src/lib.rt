@@ -8,9 +8,11 @@
 #![tactic(auto)]
 
 mod bounds;
+mod deeds;
 mod laws;
 pub mod seats;
 pub mod stack;
 
 pub use bounds::stack_bound;
+pub use deeds::stack_answers;
 pub use laws::{list_core, stack_core};

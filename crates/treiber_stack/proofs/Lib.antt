@@ -2,3 +2,4 @@ pub mod Seats
 pub mod Opening
 pub mod Leftover
 pub mod Crossing
+pub mod Going

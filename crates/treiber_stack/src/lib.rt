@@ -2,10 +2,13 @@
 #![tactic(auto)]
 
 mod calls;
+mod host;
 mod layout;
 mod rest;
+mod operation;
 mod rule;
 mod stack;
+mod steps;
 
 pub use rest::Rest;
 pub use stack::{Pass, Root, Stack};

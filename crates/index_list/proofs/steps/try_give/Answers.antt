@@ -16,7 +16,7 @@ exchange_as-found-requires g c = let host = g.P.ListHost in let law = g.met.P.Li
           (λ me'. WithSlot (host.layout.carries l) i (Gave holds id (host.layout.top l) w (top_after_give host.layout l w i) (λ zs. did w zs me.0) (Gained host.layout host.held l (i ∷ [])) me me'))
           (λ found. did found []) (Stood host.layout host.held l) c.top.ensures c.word.ensures.same (c.word-2.ensures.same ∙ c.given.ensures)
           (wins_give host.layout host.held holds host.steps l id me (λ j. law.link_not_top l j listed) (λ s rule. law.placed key l s listed rule) (λ s rule. law.stands key l s listed rule)
-          (host.layout.carries l) w i (top_after_give host.layout l w i) (λ zs. did w zs me.0) (host.rests l) low (give_names host.layout l w i (omega arith))
+          (host.layout.carries l) w i (top_after_give host.layout l w i) (λ zs. did w zs me.0) (host.rests l me.0) low (give_names host.layout l w i (omega arith))
           c.requires.held.1
           (λ s met. law.links a.line.now key l id me.0 s w i listed may met)
           (λ s met hit. law.gives a.line.now key l id me.0 s w i listed may c.requires.held.0 low met hit))

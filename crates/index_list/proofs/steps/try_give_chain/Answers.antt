@@ -16,7 +16,7 @@ exchange_as-found-requires g c = let host = g.P.ListHost in let law = g.met.P.Li
           (λ me'. WithSlots (host.layout.carries l) xs (Gave holds id (host.layout.top l) w (top_after_give host.layout l w i) (λ zs. did w zs me.0) (Gained host.layout host.held l xs) me me'))
           (λ found. did found []) (Stood host.layout host.held l) c.top.ensures c.word.ensures.same (c.word-2.ensures.same ∙ c.given.ensures)
           (wins_give_chain host.layout host.held holds host.steps l id me (λ j. law.link_not_top l j listed) (λ s rule. law.placed key l s listed rule) (λ s rule. law.stands key l s listed rule)
-          (host.layout.carries l) w i (top_after_give host.layout l w i) xs (λ zs. did w zs me.0) (host.rests l) (give_names host.layout l w i (omega arith))
+          (host.layout.carries l) w i (top_after_give host.layout l w i) xs (λ zs. did w zs me.0) (host.rests l me.0) (give_names host.layout l w i (omega arith))
           c.requires.held.1
           (λ s met. law.links_chain a.line.now key l id me.0 s w i listed may met)
           (λ s met hit. law.gives_chain a.line.now key l id me.0 s w i first.0 listed may first.1 low met hit))
