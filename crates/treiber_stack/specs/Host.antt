@@ -1,5 +1,5 @@
 -- The stack as a host of two lists: which step a seat may make, and what the step tells.
-use Rattle.std.specs.Prelude.{◌≡◌, ◌≢◌, ℕ, zero, suc, ◌≤◌, ◌<◌, List, [], ◌∷◌, ◌++◌, Option as Slot}
+use Rattle.std.specs.Prelude.{◌≡◌, ℕ, zero, suc, ◌≤◌, List, [], ◌∷◌, ◌++◌, reverse, Option as Slot, None}
 use mathlib.Core.Option.{Option, none, some}
 use Rattle.tagged_index.specs.Fields.{index_of, fields_of}
 use Rattle.tagged_index.specs.declared.word.TheConstants.{NULL}
@@ -9,12 +9,13 @@ use Rattle.bounded_model.specs.Machine.{Legal}
 use Rattle.bounded_model.specs.Histories.{Later}
 use Rattle.index_list.specs.Steps.{Kind, read_top, read_link, write_link, take, give, give_chain, take_all, mark, shut}
 use Rattle.step_core.specs.Words.{Tagged}
+use Rattle.step_core.specs.declared.stack.Putting.{Putting}
 use Rattle.step_core.specs.declared.stack.Taking.TheVariants.{One}
 use Rattle.step_core.specs.declared.stack.Line.{Line}
-use Rattle.step_core.specs.declared.stack.Line.TheVariants.{Idle, F1, F2, F3, F4, P1, P2, P3, D1, S1, S2, S3, A1, R1, R2, W1, G1, G2, G3, Z1, Z2, Y1, Y2, V1}
+use Rattle.step_core.specs.declared.stack.Line.TheVariants.{Idle, F1, F2, F3, F4, P1, P2, P3, D1, S1, S2, S3, R1, R2, W1, G1, G2, G3, Z1, Z2, Y1, Y2, V1}
 use Rattle.step_core.specs.declared.seats.View.{View}
 use Rattle.step_core.specs.declared.seats.View.TheVariants.{AtRoot, AtPass, AtMeeting, Left}
-use Rattle.step_core.specs.StackMachine.{Memory, Outcome, first, second, last, held, step}
+use Rattle.step_core.specs.StackMachine.{Memory, Outcome, first, second, last, held, placed, filled, step}
 use Rattle.step_core.specs.StackLaw.{shape, state}
 use Rattle.step_core.specs.StackRule.{Tells}
 use Rattle.step_core.specs.StackDeeds.{Deeds}
@@ -86,6 +87,10 @@ module _ {T : Type 0} where
   gives_of (G3 giving w) = some (w, giving.chain)
   gives_of l = none
 
+  abbrev pub puts_of : Line T → Option (Tagged × Putting T)
+  puts_of (P3 put w) = some (w, put)
+  puts_of l = none
+
   abbrev pub marks_of : Line T → Option Tagged
   marks_of (Z2 w) = some w
   marks_of l = none
@@ -94,13 +99,18 @@ module _ {T : Type 0} where
   shuts_of (Y2 w) = some w
   shuts_of l = none
 
+  -- a chain goes back to the free list, or onto the stack
+  abbrev pub MakesGive : ℕ → ℕ → ℕ → Line T → Type 0
+  MakesGive zero w i l = (chain : List ℕ) × (gives_of l ≡ some (fields_of w, chain)) × (first chain ≡ i)
+  MakesGive (suc list) w i l = (put : Putting T) × (puts_of l ≡ some (fields_of w, put)) × (first put.chain ≡ i)
+
   abbrev pub Makes : ℕ → Kind → Line T → Type 0
   Makes list read_top l = reads_top_of l ≡ some list
   Makes list (read_link i) l = reads_link_of l ≡ some i
   Makes list (write_link i x) l = (stores_of l ≡ some (i, x)) × (x ≤ NULL)
   Makes list (take w k) l = (takes_of l ≡ some (list, (fields_of w, k))) × (k ≤ NULL)
   Makes list (give w i) l = ⊥
-  Makes list (give_chain w i) l = (list ≡ 0) × ((chain : List ℕ) × (gives_of l ≡ some (fields_of w, chain)) × (first chain ≡ i))
+  Makes list (give_chain w i) l = MakesGive list w i l
   Makes list (take_all w) l = ⊥
   Makes list (mark w) l = (list ≡ 1) × (marks_of l ≡ some (fields_of w))
   Makes list (shut w) l = (list ≡ 1) × (shuts_of l ≡ some (fields_of w))
@@ -114,6 +124,15 @@ module _ {T : Type 0} where
 
   abbrev pub held_in : ℕ → View T (Line T) → List ℕ
   held_in list v = held (line_in v)
+
+  -- with which value the slot of a node may go home: empty to the free list, to the stack with the node's own value of the put
+  abbrev pub Bears : Line T → ℕ → Slot T → Type 0
+  Bears (P3 put w) i x = filled (λ _. none) put.chain (reverse (placed put)) i ≡ some x
+  Bears l i x = ⊥
+
+  abbrev pub rests_in : ℕ → View T (Line T) → ℕ → Slot T → Type 0
+  rests_in zero v i x = x ≡ None
+  rests_in (suc list) v i x = Bears (line_in v) i x
 
   abbrev pub steps_in : View T (Line T) → ℕ
   steps_in (AtPass p begun l) = p.steps

@@ -1,8 +1,8 @@
 -- Won exchanges that give a chain back to the free list, its slots empty; and that both lists stand.
-use Rattle.std.proofs.Common.{◌≡◌, ◌≢◌, ℕ, zero, suc, ◌+◌, ◌<◌, ◌≤◌, ◌⊎◌, inl, inr, ⊎_elim, Bool, true, false, cond, ltb, List, [], ◌∷◌, map, length, set, refl, sym, ap, ◌∙◌, subst, arith}
+use Rattle.std.proofs.Common.{◌≡◌, ℕ, zero, suc, ◌+◌, ◌<◌, ◌≤◌, inl, inr, Bool, true, cond, ltb, List, [], ◌∷◌, map, length, set, sym, ap, ◌∙◌, subst, arith}
 use Rattle.std.proofs.lemmas.List.{length-set}
-use Rattle.std.specs.Prelude.{slice_index, Option as Slot, Some, None}
-use mathlib.Core.Option.{Option, none, some, some-injective, some-ne-none}
+use Rattle.std.specs.Prelude.{Option as Slot, Some, None}
+use mathlib.Core.Option.{Option, some, some-injective, some-ne-none}
 use lib.ListN.{get_elem?}
 use Rattle.atomic_table.specs.Table.{State}
 use Rattle.tagged_index.specs.Fields.{fields_of, index_of, number, kept}
@@ -12,12 +12,12 @@ use Rattle.bounded_model.specs.declared.history.Event.TheVariants.{Free}
 use Rattle.bounded_model.specs.Machine.{Shape}
 use Rattle.index_list.specs.Lists as index_list
 use Rattle.index_list.specs.Lists.{word, Holds, Disjoint, Distinct, AllHome, Stands}
-use Rattle.index_list.specs.Steps.{give_chain, Each, numbers, filled, ForSlots, top_after_give, changed, Before, Goes}
+use Rattle.index_list.specs.Steps.{give_chain, filled, ForSlots, top_after_give, changed, Before, Goes}
 use Rattle.index_list.proofs.Acts.{length-filled}
 use Rattle.step_core.specs.Words.{Tagged, times, total}
 use Rattle.step_core.specs.Words as core
 use Rattle.step_core.specs.declared.stack.Line.{Line}
-use Rattle.step_core.specs.declared.stack.Line.TheVariants.{Idle, F1, F2, F3, F4, P1, P2, P3, D1, S1, S2, S3, A1, R1, R2, W1, G1, G2, G3, Z1, Z2, Y1, Y2, V1}
+use Rattle.step_core.specs.declared.stack.Line.TheVariants.{G1, G3}
 use Rattle.step_core.specs.declared.seats.View.{View}
 use Rattle.step_core.specs.declared.seats.View.TheVariants.{AtRoot, AtPass, AtMeeting, Left}
 use Rattle.step_core.specs.StackMachine.{Memory, held, first, last, step, goes_on, wins, ends, after_give, emptied}
@@ -31,18 +31,14 @@ use Rattle.step_core.proofs.Chains.{chain_leads}
 use Rattle.treiber_stack.specs.declared.operation.Operation.{Operation}
 use Rattle.treiber_stack.specs.Layout.{top_at, link_at, layout_stack}
 use Rattle.treiber_stack.specs.Rule.{at_home, line_in, memory_of, Rule}
-use Rattle.treiber_stack.specs.Host.{line_now, gives_of, may_step, held_in, steps_in, Did}
+use Rattle.treiber_stack.specs.Host.{line_now, gives_of, may_step, held_in, rests_in, steps_in, Did}
 use Rattle.treiber_stack.specs.KeepsRule.{at_map}
-use Rattle.treiber_stack.specs.KeepsMemory.{holds_times, times_holds, free_set, filled_emptied}
+use Rattle.treiber_stack.specs.KeepsMemory.{holds_times, free_set, filled_emptied}
 use Rattle.treiber_stack.specs.KeepsReads.{node_below}
 use Rattle.treiber_stack.specs.KeepsMarks.{is_same}
 use Rattle.treiber_stack.specs.KeepsTakes.{plain_free}
+use Rattle.treiber_stack.specs.KeepsPuts.{leads_on, put_leads, puts_law}
 use Rattle.treiber_stack.specs.KeepsStep.{goes, now_held, ready, ready_here}
-
--- the core's lists as index_list has them, which also says that null is on none
-leads_on : (link : ℕ → ℕ) (i : ℕ) (xs : List ℕ) (j : ℕ) → core.Leads link i xs j → ((x : ℕ) → Holds xs x → x < NULL) → index_list.Leads link i xs j
-leads_on link i [] j s low = s
-leads_on link i (x ∷ xs) j s low = (s.0, low x (inl refl), leads_on link (link x) xs j s.1 (λ y h. low y (inr h)))
 
 distinct_times : (xs : List ℕ) → ((i : ℕ) → times i xs ≤ 1) → Distinct xs
 distinct_times [] once = tt
@@ -118,26 +114,27 @@ module _ {T : Type 0} where
 module _ {T : Type 0} (n limit : ℕ) where
   pub links_chain_law : (o : Operation T) (l id : ℕ) (v : View T (Line T)) (s : State (Slot T) (View T (Line T))) (w i : ℕ) → l < 2 → may_step o l (give_chain w i) v → Before (Rule n limit) id v (top_at l) s
       → index_list.Leads (λ j. word s (link_at j)) i (held_in l v) (index_of w)
-  links_chain_law o l id (AtPass p from line) s w i h may met =
+  links_chain_law o zero id (AtPass p from line) s w i h may met =
       let m : Memory T = memory_of s.words s.homes in
-      let chain : List ℕ = may.1.0 in
-      let mine : held line ≡ chain = sym (now_held o line) ∙ gives_held (line_now o line) (fields_of w) chain may.1.1 in
-      let f = gives_fine limit m met.rule.lists (line_now o line) (fields_of w) chain ((ready n limit o id (top_at l) p from line s met).linked.fine id (line_now o line) (ready_here n limit o id (top_at l) p from line s met)) may.1.1 in
+      let chain : List ℕ = may.0 in
+      let mine : held line ≡ chain = sym (now_held o line) ∙ gives_held (line_now o line) (fields_of w) chain may.1 in
+      let f = gives_fine limit m met.rule.lists (line_now o line) (fields_of w) chain ((ready n limit o id (top_at 0) p from line s met).linked.fine id (line_now o line) (ready_here n limit o id (top_at 0) p from line s met)) may.1 in
       let leads : core.Leads m.link (first chain) chain (m.link (last chain)) = chain_leads m.link chain f.0.some_node f.0.chained in
-      let leads' : core.Leads m.link i chain (index_of w) = subst (λ (x : ℕ). core.Leads m.link x chain (index_of w)) may.1.2 (subst (λ (x : ℕ). core.Leads m.link (first chain) chain x) f.1 leads) in
+      let leads' : core.Leads m.link i chain (index_of w) = subst (λ (x : ℕ). core.Leads m.link x chain (index_of w)) may.2 (subst (λ (x : ℕ). core.Leads m.link (first chain) chain x) f.1 leads) in
       subst (λ (xs : List ℕ). index_list.Leads (λ j. word s (link_at j)) i xs (index_of w)) (sym mine)
       (leads_on m.link i chain (index_of w) leads' (λ x has. let small = met.rule.good.linked.small in
       let b = node_below n limit s met.rule id line x (at_map line_in s.views id (AtPass p from line) met.mine) (subst (λ (xs : List ℕ). 0 < times x xs) (sym mine) (holds_times chain x has)) in omega arith))
+  links_chain_law o (suc l) id (AtPass p from line) s w i h may met = put_leads n limit o l id p from line s w i h may met
   links_chain_law o l id (AtRoot r heard) s w i h may met = absurd may
   links_chain_law o l id (AtMeeting p q) s w i h may met = absurd may
   links_chain_law o l id Left s w i h may met = absurd may
 
   pub gives_chain_law : (o : Operation T) (l id : ℕ) (v : View T (Line T)) (s : State (Slot T) (View T (Line T))) (w i : ℕ) → l < 2 → may_step o l (give_chain w i) v → i < NULL → Before (Rule n limit) id v (top_at l) s → word s (top_at l) ≡ w
-      → ForSlots true (held_in l v) (λ _ x. x ≡ None) (λ zs. Goes (Rule n limit) steps_in v (changed s (top_at l) (top_after_give layout_stack l w i) (filled s.homes zs) id) (Did n limit o l (give_chain w i) w zs v))
+      → ForSlots true (held_in l v) (rests_in l v) (λ zs. Goes (Rule n limit) steps_in v (changed s (top_at l) (top_after_give layout_stack l w i) (filled s.homes zs) id) (Did n limit o l (give_chain w i) w zs v))
   gives_chain_law o zero id (AtPass p from line) s w i h may low met hit zs are empty =
       let m : Memory T = memory_of s.words s.homes in
-      let chain : List ℕ = may.1.0 in
-      let mine : held line ≡ chain = sym (now_held o line) ∙ gives_held (line_now o line) (fields_of w) chain may.1.1 in
+      let chain : List ℕ = may.0 in
+      let mine : held line ≡ chain = sym (now_held o line) ∙ gives_held (line_now o line) (fields_of w) chain may.1 in
       let won : m.free ≡ fields_of w = ap fields_of hit in
       let long : 32 ≤ length s.words = let j = met.rule.words in omega arith in
       let x : ℕ = number (kept (fields_of w) i) in
@@ -145,11 +142,12 @@ module _ {T : Type 0} (n limit : ℕ) where
       let b = node_below n limit s met.rule id line j (at_map line_in s.views id (AtPass p from line) met.mine) (subst (λ (xs : List ℕ). 0 < times j xs) (sym mine) (holds_times chain j has)) in omega arith in
       goes n limit o id 0 p from line s met 0 (give_chain w i) w zs (set s.words 0 x) (filled s.homes zs)
       (free_set s.words s.homes (filled s.homes zs) x (kept (fields_of w) (first chain)) (emptied m.home chain) long
-      (fields_of-number (kept (fields_of w) i) (omega arith) ∙ ap (kept (fields_of w)) (sym may.1.2))
+      (fields_of-number (kept (fields_of w) i) (omega arith) ∙ ap (kept (fields_of w)) (sym may.2))
       (filled_emptied s.homes zs chain (are ∙ mine) empty below)
-      ∙ give_memory (shape n limit) m p.number (line_now o line) (fields_of w) chain may.1.1 won)
+      ∙ give_memory (shape n limit) m p.number (line_now o line) (fields_of w) chain may.1 won)
       (length-set s.words 0 x) (length-filled s.homes zs) (plain_free n limit s met.rule x) (sym won) tt
-  gives_chain_law o (suc l) id (AtPass p from line) s w i h may low met hit zs are empty = absurd (let e : suc l ≡ 0 = may.0 in omega arith)
+  gives_chain_law o (suc zero) id (AtPass p from line) s w i h may low met hit zs are fit = puts_law n limit o id p from line s w i may low met hit zs are fit
+  gives_chain_law o (suc (suc l)) id (AtPass p from line) s w i h may low met hit zs are fit = absurd (omega arith)
   gives_chain_law o l id (AtRoot r heard) s w i h may low met hit zs are empty = absurd may
   gives_chain_law o l id (AtMeeting p q) s w i h may low met hit zs are empty = absurd may
   gives_chain_law o l id Left s w i h may low met hit zs are empty = absurd may

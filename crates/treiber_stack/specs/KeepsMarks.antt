@@ -1,33 +1,31 @@
 -- Exchanges of the stack's top that set a mark, and exchanges of either top that find another word.
-use Rattle.std.proofs.Common.{◌≡◌, ◌≢◌, ℕ, zero, suc, ◌+◌, ◌<◌, ◌≤◌, Bool, true, false, cond, List, [], ◌∷◌, length, set, refl, sym, ap, ◌∙◌, subst, arith}
+use Rattle.std.proofs.Common.{◌≡◌, ◌≢◌, ℕ, zero, suc, ◌<◌, ◌≤◌, Bool, true, false, cond, List, [], length, set, refl, sym, ap, ◌∙◌, subst, arith}
 use Rattle.std.proofs.lemmas.List.{length-set, get_or-set_other}
-use Rattle.std.specs.Prelude.{slice_index, Option as Slot, Some, Ok}
-use mathlib.Core.Option.{Option, none, some, some-injective, some-ne-none}
-use lib.ListN.{get_elem?}
+use Rattle.std.specs.Prelude.{slice_index, Option as Slot, Ok}
+use mathlib.Core.Option.{some, some-injective, some-ne-none}
 use Rattle.atomic_table.specs.Table.{State}
-use Rattle.tagged_index.specs.Fields.{fields_of, index_of, number, marked, with_second}
+use Rattle.tagged_index.specs.Fields.{fields_of, marked, with_second}
 use Rattle.tagged_index.specs.declared.word.TheConstants.{NULL}
 use Rattle.tagged_index.proofs.Words.{fields_of-number, index_of-in_range, same_fields}
-use Rattle.bounded_model.specs.declared.history.Event.{Event}
-use Rattle.bounded_model.specs.declared.history.Event.TheVariants.{Hold, Free, Close, Shut}
+use Rattle.bounded_model.specs.declared.history.Event.TheVariants.{Hold, Put, Free, Close, Shut}
 use Rattle.bounded_model.specs.Machine.{Shape}
 use Rattle.index_list.specs.Lists.{word}
 use Rattle.index_list.specs.Steps.{Kind, read_top, read_link, write_link, take, give, give_chain, take_all, mark, shut, Expects, top_after_mark, top_after_shut, looked, changed, Before, Goes}
 use Rattle.step_core.specs.Words.{Tagged, same}
 use Rattle.step_core.specs.declared.stack.Taking.TheVariants.{One}
-use Rattle.step_core.specs.declared.stack.Answer.TheVariants.{Close as AnswerClose, Shut as AnswerShut}
-use Rattle.step_core.specs.declared.stack.Giving.{Giving}
+use Rattle.step_core.specs.declared.stack.Answer.TheVariants.{Put as AnswerPut, Close as AnswerClose, Shut as AnswerShut}
+use Rattle.step_core.specs.declared.stack.Putting.{Putting}
 use Rattle.step_core.specs.declared.stack.Line.{Line}
-use Rattle.step_core.specs.declared.stack.Line.TheVariants.{Idle, F1, F2, F3, F4, P1, P2, P3, D1, S1, S2, S3, A1, R1, R2, W1, G1, G2, G3, Z1, Z2, Y1, Y2, V1}
+use Rattle.step_core.specs.declared.stack.Line.TheVariants.{F1, F3, P1, P3, S1, S3, G1, G3, Z1, Z2, Y1, Y2}
 use Rattle.step_core.specs.declared.seats.View.{View}
 use Rattle.step_core.specs.declared.seats.View.TheVariants.{AtRoot, AtPass, AtMeeting, Left}
-use Rattle.step_core.specs.StackMachine.{Memory, Outcome, step, goes_on, wins, wins_value, ends, at_F3, after_hold, after_give, after_close, after_shut}
+use Rattle.step_core.specs.StackMachine.{Memory, step, goes_on, wins, wins_value, ends, at_F3, after_hold, after_give, after_put, after_close, after_shut, placed, unplaced}
 use Rattle.step_core.specs.StackLaw.{shape}
 use Rattle.step_core.proofs.Tests.{same-is, same-self}
 use Rattle.treiber_stack.specs.declared.operation.Operation.{Operation}
 use Rattle.treiber_stack.specs.Layout.{top_at, link_at}
-use Rattle.treiber_stack.specs.Rule.{at_home, memory_of, Rule}
-use Rattle.treiber_stack.specs.Host.{line_now, takes_of, gives_of, marks_of, shuts_of, Makes, may_step, steps_in, top_in, Moves, Finds, Did}
+use Rattle.treiber_stack.specs.Rule.{memory_of, Rule}
+use Rattle.treiber_stack.specs.Host.{line_now, takes_of, gives_of, puts_of, marks_of, shuts_of, MakesGive, Makes, may_step, steps_in, top_in, Moves, Finds, Did}
 use Rattle.treiber_stack.specs.KeepsMemory.{top_set}
 use Rattle.treiber_stack.specs.KeepsReads.{finds_top}
 use Rattle.treiber_stack.specs.KeepsStep.{goes}
@@ -84,9 +82,20 @@ module _ {T : Type 0} (c : Shape) (m : Memory T) (p : ℕ) where
       (not_same m.free x (λ q. miss (q ∙ ap (λ (t : Tagged × List ℕ). t.0) is))))
   give_lost l w chain e miss = absurd (some-ne-none (w, chain) (sym e))
 
+  put_lost : (l : Line T) (w : Tagged) (put : Putting T) → puts_of l ≡ some (w, put) → (m.top ≡ w → ⊥) → m ≡ (step c m p l).memory
+  put_lost (P3 mine x) w put e miss =
+      let is = some-injective (x, mine) (w, put) e in
+      sym (ap (λ (b : Bool). (cond b (wins (after_put m x mine) (ends (AnswerPut (Ok (x.tag, unplaced mine)))) (Put p (placed mine) x.tag)) (goes_on m (P1 mine))).memory)
+      (not_same m.top x (λ q. miss (q ∙ ap (λ (t : Tagged × Putting T). t.0) is))))
+  put_lost l w put e miss = absurd (some-ne-none (w, put) (sym e))
+
+  chain_lost : (l : Line T) (list w i : ℕ) → MakesGive list w i l → (top_in list m ≡ fields_of w → ⊥) → m ≡ (step c m p l).memory
+  chain_lost l zero w i makes miss = give_lost l (fields_of w) makes.0 makes.1 miss
+  chain_lost l (suc list) w i makes miss = put_lost l (fields_of w) makes.0 makes.1 miss
+
   lost_memory : (l : Line T) (list w : ℕ) (kind : Kind) → Makes list kind l → Expects kind w → (top_in list m ≡ fields_of w → ⊥) → m ≡ (step c m p l).memory
   lost_memory l list w (take x k) makes is miss = take_lost l list k (fields_of x) makes.0 (λ e. miss (e ∙ ap fields_of (sym is)))
-  lost_memory l list w (give_chain x i) makes is miss = give_lost l (fields_of x) makes.1.0 makes.1.1 (λ e. miss (ap (λ (k : ℕ). top_in k m) makes.0 ∙ e ∙ ap fields_of (sym is)))
+  lost_memory l list w (give_chain x i) makes is miss = chain_lost l list x i makes (λ e. miss (e ∙ ap fields_of (sym is)))
   lost_memory l list w (mark x) makes is miss = mark_lost l (fields_of x) makes.1 (λ e. miss (ap (λ (k : ℕ). top_in k m) makes.0 ∙ e ∙ ap fields_of (sym is)))
   lost_memory l list w (shut x) makes is miss = shut_lost l (fields_of x) makes.1 (λ e. miss (ap (λ (k : ℕ). top_in k m) makes.0 ∙ e ∙ ap fields_of (sym is)))
   lost_memory l list w (give x i) makes is miss = absurd makes

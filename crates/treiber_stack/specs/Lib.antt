@@ -9,6 +9,7 @@ pub mod KeepsMemory
 pub mod KeepsReads
 pub mod KeepsMarks
 pub mod KeepsTakes
+pub mod KeepsPuts
 pub mod KeepsGives
 pub mod KeepsHost
 pub mod Operations

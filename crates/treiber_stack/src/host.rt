@@ -8,10 +8,9 @@ use step_core::stack::Line;
 use tagged_index::Limits;
 
 impl<T> ListHost<Option<T>, View<T, Line<T>>, Limits, 2> for Stacked<T> {
-    ghost use Rattle.std.specs.Prelude.{◌≡◌, None};
     ghost use Rattle.tagged_index.specs.Limits.{capacity_of, tag_limit_of};
     ghost use Rattle.treiber_stack.specs.Layout.{layout_stack};
-    ghost use Rattle.treiber_stack.specs.Host.{held_in, steps_in, may_step, Did};
+    ghost use Rattle.treiber_stack.specs.Host.{held_in, rests_in, steps_in, may_step, Did};
     ghost use Rattle.treiber_stack.specs.KeepsReads as reads;
     ghost use Rattle.treiber_stack.specs.KeepsMarks as marking;
     ghost use Rattle.treiber_stack.specs.KeepsTakes as taking;
@@ -30,7 +29,7 @@ impl<T> ListHost<Option<T>, View<T, Line<T>>, Limits, 2> for Stacked<T> {
 
     ghost did = { λ limits. Did (capacity_of limits) (tag_limit_of limits) };
 
-    ghost rests = { λ _ x. x ≡ None };
+    ghost rests = { rests_in };
 
     fn top(list: usize) -> usize {
         layout::top(list)

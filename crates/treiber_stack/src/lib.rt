@@ -4,8 +4,8 @@
 mod calls;
 mod host;
 mod layout;
-mod rest;
 mod operation;
+mod rest;
 mod rule;
 mod stack;
 mod steps;
