@@ -127,6 +127,7 @@ module _ {T : Type 0} where
       first_deeds CloseFirst = record { between = []; is = refl; made = refl; all = tt }
       first_deeds ShutFirst = record { between = []; is = refl; made = refl; all = tt }
       first_deeds LookFirst = record { between = []; is = refl; made = refl; all = tt }
+
       first_tells : (o : Operation T) → Tells n limit (pass_of v).seen (pass_of v).seen (first_line o)
       first_tells (PutFirst x) = tt
       first_tells TakeFirst = tt

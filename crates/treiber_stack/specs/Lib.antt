@@ -11,3 +11,4 @@ pub mod KeepsTakes
 pub mod KeepsGives
 pub mod KeepsHost
 pub mod Operations
+pub mod Closing

@@ -2,6 +2,7 @@
 #![tactic(auto)]
 
 mod calls;
+mod closing;
 mod host;
 mod layout;
 mod operation;
@@ -9,4 +10,5 @@ mod rule;
 mod stack;
 mod steps;
 
+pub use closing::{CloseOp, ShutOp};
 pub use stack::{Pass, Root, Stack};
