@@ -2,3 +2,5 @@ pub mod Seats
 pub mod Opening
 pub mod Going
 pub mod Closes
+pub mod Nodes
+pub mod Givings
