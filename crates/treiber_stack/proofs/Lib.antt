@@ -3,3 +3,6 @@ pub mod Opening
 pub mod Leftover
 pub mod Crossing
 pub mod Going
+pub mod Closes
+pub mod Nodes
+pub mod Givings

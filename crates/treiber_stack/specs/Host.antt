@@ -1,5 +1,5 @@
 -- The stack as a host of two lists: which step a seat may make, and what the step tells.
-use Rattle.std.specs.Prelude.{◌≡◌, ℕ, zero, suc, ◌≤◌, List, [], ◌∷◌, ◌++◌, reverse, Option as Slot, None}
+use Rattle.std.specs.Prelude.{◌≡◌, ◌≢◌, ℕ, zero, suc, ◌≤◌, ◌<◌, List, [], ◌∷◌, ◌++◌, reverse, Option as Slot, Some, None}
 use mathlib.Core.Option.{Option, none, some}
 use Rattle.tagged_index.specs.Fields.{index_of, fields_of}
 use Rattle.tagged_index.specs.declared.word.TheConstants.{NULL}
@@ -150,10 +150,15 @@ module _ {T : Type 0} where
   Finds list (write_link i x) found m = Unit {0}
   Finds list kind found m = fields_of found ≡ top_in list m
 
+  -- a free node's slot is empty, and one of the stack has a value
+  abbrev pub Rests : ℕ → Slot T → Type 0
+  Rests zero x = x ≡ None
+  Rests (suc list) x = (v : T) × (x ≡ Some v)
+
   -- which slots moved: a won take brings the node's
-  abbrev pub Moves : Kind → ℕ → List (ℕ × Slot T) → Memory T → Type 0
-  Moves (take w k) found zs m = found ≡ w → (x : Slot T) × (zs ≡ (index_of w, x) ∷ []) × (m.home (index_of w) ≡ some x)
-  Moves kind found zs m = Unit {0}
+  abbrev pub Moves : ℕ → Kind → ℕ → List (ℕ × Slot T) → Memory T → Type 0
+  Moves list (take w k) found zs m = found ≡ w → (x : Slot T) × (zs ≡ (index_of w, x) ∷ []) × (m.home (index_of w) ≡ some x) × Rests list x
+  Moves list kind found zs m = Unit {0}
 
 -- What a step tells: it was the core's step of the line that the pass was at, from a memory and a
 -- history that meet the core's rule. So what the pass has done and may answer goes on as the core
@@ -168,7 +173,7 @@ pub record Did {T : Type 0} (n limit : ℕ) (o : Operation T) (list : ℕ) (kind
   pub out : Outcome T
   pub steps : out ≡ step (shape n limit) memory pass.number (line_now o at)
   pub finds : Finds list kind found memory
-  pub moves : Moves kind found zs memory
+  pub moves : Moves list kind found zs memory
   pub saw : Saw history pass
   pub becomes : v' ≡ view_after (stepped (out.events ++ history) pass) (begun_now pass from at) out.line
   pub deeds : (b : List (Event T)) → Deeds (shape n limit) pass.number (line_now o at) b pass.seen → Deeds (shape n limit) pass.number out.line b (out.events ++ history)

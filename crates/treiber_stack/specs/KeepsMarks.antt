@@ -116,16 +116,16 @@ module _ {T : Type 0} where
   finds_lost list w found (read_link i) m is e = absurd is
   finds_lost list w found (write_link i x) m is e = absurd is
 
-  moves_lost : (w found : ℕ) (kind : Kind) (m : Memory T) → Expects kind w → found ≢ w → Moves kind found [] m
-  moves_lost w found (take x k) m is miss = λ hit. absurd (miss (hit ∙ sym is))
-  moves_lost w found (give_chain x i) m is miss = tt
-  moves_lost w found (mark x) m is miss = tt
-  moves_lost w found (shut x) m is miss = tt
-  moves_lost w found (give x i) m is miss = tt
-  moves_lost w found (take_all x) m is miss = tt
-  moves_lost w found read_top m is miss = tt
-  moves_lost w found (read_link i) m is miss = tt
-  moves_lost w found (write_link i x) m is miss = tt
+  moves_lost : (list w found : ℕ) (kind : Kind) (m : Memory T) → Expects kind w → found ≢ w → Moves list kind found [] m
+  moves_lost list w found (take x k) m is miss = λ hit. absurd (miss (hit ∙ sym is))
+  moves_lost list w found (give_chain x i) m is miss = tt
+  moves_lost list w found (mark x) m is miss = tt
+  moves_lost list w found (shut x) m is miss = tt
+  moves_lost list w found (give x i) m is miss = tt
+  moves_lost list w found (take_all x) m is miss = tt
+  moves_lost list w found read_top m is miss = tt
+  moves_lost list w found (read_link i) m is miss = tt
+  moves_lost list w found (write_link i x) m is miss = tt
 
 module _ {T : Type 0} (n limit : ℕ) where
   pub loses_law : (o : Operation T) (l id : ℕ) (v : View T (Line T)) (s : State (Slot T) (View T (Line T))) (kind : Kind) (w : ℕ) → l < 2 → may_step o l kind v → Expects kind w → Before (Rule n limit) id v (top_at l) s → word s (top_at l) ≢ w
@@ -136,7 +136,7 @@ module _ {T : Type 0} (n limit : ℕ) where
       let at_top : fields_of found ≡ top_in l m = finds_top l s.words s.homes h in
       goes n limit o id (top_at l) p from line s met l kind found [] s.words s.homes
       (lost_memory (shape n limit) m p.number (line_now o line) l w kind may is (λ e. miss ((same_fields found w).1 (at_top ∙ e))))
-      refl refl met.rule.plain (finds_lost l w found kind m is at_top) (moves_lost w found kind m is miss)
+      refl refl met.rule.plain (finds_lost l w found kind m is at_top) (moves_lost l w found kind m is miss)
   loses_law o l id (AtRoot r heard) s kind w h may is met miss = absurd may
   loses_law o l id (AtMeeting p q) s kind w h may is met miss = absurd may
   loses_law o l id Left s kind w h may is met miss = absurd may

@@ -182,7 +182,7 @@ module _ {T : Type 0} (n limit : ℕ) (o : Operation T) (id at : ℕ) (p from : 
   -- what the step tells
   pub goes : (list : ℕ) (kind : Kind) (found : ℕ) (zs : List (ℕ × Slot T)) (words : List ℕ) (homes : List (Option (Slot T)))
       → memory_of words homes ≡ out.memory → length words ≡ length s.words → length homes ≡ length s.homes → ((i : ℕ) → slice_index words (link_at i) ≤ NULL)
-      → Finds list kind found m → Moves kind found zs m
+      → Finds list kind found m → Moves list kind found zs m
       → Goes (Rule n limit) steps_in (AtPass p from l) (λ u. record { words = words; homes = homes; views = set s.views id u }) (Did n limit o list kind found zs (AtPass p from l))
   goes list kind found zs words homes e same_words same_homes plain finds moves = record {
     view = after;

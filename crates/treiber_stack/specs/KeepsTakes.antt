@@ -1,7 +1,7 @@
 -- Won exchanges that take the first node of either list, with its slot.
 use Rattle.std.proofs.Common.{◌≡◌, ℕ, zero, suc, ◌<◌, ◌≤◌, Bool, true, cond, List, [], ◌∷◌, length, set, refl, sym, ap, ◌∙◌, subst, arith}
 use Rattle.std.proofs.lemmas.List.{length-set, get_or-set_other}
-use Rattle.std.specs.Prelude.{slice_index, Option as Slot, Some}
+use Rattle.std.specs.Prelude.{slice_index, Option as Slot, Some, None, Ok}
 use mathlib.Core.Option.{Option, none, some, some-injective, some-ne-none}
 use Rattle.atomic_table.specs.Table.{State}
 use Rattle.tagged_index.specs.Fields.{fields_of, index_of, tag_of, raised}
@@ -24,6 +24,7 @@ use Rattle.step_core.specs.StackLaw.{shape, state, HasValues}
 use Rattle.step_core.specs.StackRule.{Lists, IsFine, Good}
 use Rattle.step_core.proofs.OneList.{ready}
 use Rattle.step_core.proofs.StackFilled.{first_value}
+use Rattle.step_core.proofs.StackKinds.{hold_slot}
 use Rattle.treiber_stack.specs.declared.operation.Operation.{Operation}
 use Rattle.treiber_stack.specs.Layout.{top_at, link_at}
 use Rattle.treiber_stack.specs.Rule.{at_home, memory_of, Rule}
@@ -105,11 +106,12 @@ module _ {T : Type 0} (n limit : ℕ) where
       let m : Memory T = memory_of s.words s.homes in
       let i : ℕ = index_of w in
       let won : m.free ≡ fields_of w = ap fields_of hit in
+      let empty = hold_slot (fields_of w) (ready_line n limit o id 0 p from line s met) won (read_by o zero id 0 p from line s w k met may.0).top in
       let long : 32 ≤ length s.words = let j = met.rule.words in omega arith in
       goes n limit o id 0 p from line s met 0 (take w k) w ((i, x) ∷ []) (set s.words 0 (top_after_take w k)) (set s.homes i none)
       (free_set s.words s.homes (set s.homes i none) (top_after_take w k) (raised (fields_of w) k) (with_home m.home i none) long (fields_of-number (raised (fields_of w) k) may.1) (home_set s.homes i none (home_below s.homes i (some x) home))
       ∙ hold_memory (shape n limit) m p.number (line_now o line) (fields_of w) k may.0 won)
-      (length-set s.words 0 (top_after_take w k)) (length-set s.homes i none) (plain_free s met.rule (top_after_take w k)) (sym won) (λ _. (x, refl, ap at_home home))
+      (length-set s.words 0 (top_after_take w k)) (length-set s.homes i none) (plain_free s met.rule (top_after_take w k)) (sym won) (λ _. (x, refl, ap at_home home, some-injective x None (sym (ap at_home home) ∙ empty)))
   takes_law o (suc zero) id (AtPass p from line) s w k h may met hit x home =
       let m : Memory T = memory_of s.words s.homes in
       let i : ℕ = index_of w in
@@ -119,7 +121,7 @@ module _ {T : Type 0} (n limit : ℕ) where
       goes n limit o id 16 p from line s met 1 (take w k) w ((i, x) ∷ []) (set s.words 16 (top_after_take w k)) (set s.homes i none)
       (top_set s.words s.homes (set s.homes i none) (top_after_take w k) (raised (fields_of w) k) (with_home m.home i none) long (fields_of-number (raised (fields_of w) k) may.1) (home_set s.homes i none (home_below s.homes i (some x) home))
       ∙ take_memory (shape n limit) m p.number (line_now o line) (fields_of w) k value.0 may.0 won value.1)
-      (length-set s.words 16 (top_after_take w k)) (length-set s.homes i none) (plain_top n limit s met.rule (top_after_take w k)) (sym won) (λ _. (x, refl, ap at_home home))
+      (length-set s.words 16 (top_after_take w k)) (length-set s.homes i none) (plain_top n limit s met.rule (top_after_take w k)) (sym won) (λ _. (x, refl, ap at_home home, (value.0, some-injective x (Some value.0) (sym (ap at_home home) ∙ value.1))))
   takes_law o (suc (suc l)) id (AtPass p from line) s w k h may met hit x home = absurd (omega arith)
   takes_law o l id (AtRoot r heard) s w k h may met hit x home = absurd may
   takes_law o l id (AtMeeting p q) s w k h may met hit x home = absurd may

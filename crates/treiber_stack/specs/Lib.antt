@@ -13,3 +13,4 @@ pub mod KeepsPuts
 pub mod KeepsGives
 pub mod KeepsHost
 pub mod Operations
+pub mod Closing

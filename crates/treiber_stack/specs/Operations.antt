@@ -1,5 +1,5 @@
 -- A pass in an operation, and a pass whose operation has answered.
-use Rattle.std.specs.Prelude.{◌≡◌, ◌≢◌, ℕ, ◌+◌, ◌<◌, ◌≤◌, List, [], Option as Slot, Some}
+use Rattle.std.specs.Prelude.{◌≡◌, ◌≢◌, ℕ, ◌+◌, ◌<◌, ◌≤◌, false, List, [], ◌∷◌, Option as Slot, Some}
 use Rattle.tagged_index.specs.Limits.{capacity_of, tag_limit_of}
 use Rattle.bounded_model.specs.declared.views.PassView.{PassView}
 use Rattle.bounded_model.specs.Histories.{Later}
@@ -14,7 +14,8 @@ use Rattle.step_core.specs.StackRule.{Tells}
 use Rattle.step_core.specs.StackDeeds.{Deeds}
 use Rattle.step_core.specs.Seats.{at_rest, pass_of}
 use Rattle.treiber_stack.specs.Rule.{idle}
-use Rattle.index_list.specs.Steps.{Kind}
+use Rattle.tagged_index.specs.Fields.{index_of}
+use Rattle.index_list.specs.Steps.{Kind, take, give_chain}
 use Rattle.treiber_stack.specs.Host.{line_now, begun_now, steps_in, Did}
 use Rattle.treiber_stack.specs.declared.operation.Operation.{Operation}
 use Rattle.treiber_stack.specs.declared.stack.Stack.{Stack}
@@ -75,3 +76,15 @@ module _ {T : Type 0} where
     pub found : ℕ
     pub other : found ≢ expected
     pub told : Told c o list kind found [] p q
+
+  -- a won take of a node: its slot is before those that the pass had
+  pub record Takes (c : Stack T) (o : Operation T) (list w k : ℕ) (p q : Pass T) : Type 0 where
+    pub slot : Slot T
+    pub has : q.seat.me.1 ≡ (index_of w, slot) ∷ p.seat.me.1
+    pub told : Told c o list (take w k) w ((index_of w, slot) ∷ []) p q
+
+  -- a won give of the one node in hand
+  pub record Gives (c : Stack T) (o : Operation T) (w i : ℕ) (p q : Pass T) : Type 0 where
+    pub slots : List (ℕ × Slot T)
+    pub none_left : q.seat.me.1 ≡ []
+    pub told : Told c o 0 (give_chain w i) w slots p q

@@ -2,6 +2,7 @@
 #![tactic(auto)]
 
 mod calls;
+mod closing;
 mod host;
 mod layout;
 mod operation;
@@ -10,5 +11,6 @@ mod rule;
 mod stack;
 mod steps;
 
+pub use closing::{CloseOp, ShutOp};
 pub use rest::Rest;
 pub use stack::{Pass, Root, Stack};

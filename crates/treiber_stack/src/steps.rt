@@ -1,15 +1,20 @@
 //! The stack's atomic steps: those of `index_list` on its two lists, each by a pass at its line.
-ghost use Rattle.std.specs.Prelude.{◌≡◌, ◌≢◌, ℕ, ◌<◌, ◌≤◌, [], IsTrue, IsFalse};
+ghost use Rattle.std.specs.Prelude.{◌≡◌, ◌≢◌, ℕ, ◌<◌, ◌≤◌, [], ◌∷◌, List, None, IsTrue, IsFalse};
 ghost use Rattle.tagged_index.specs.Limits.{capacity_of, tag_limit_of};
-ghost use Rattle.index_list.specs.Steps.{read_top, mark, shut};
+ghost use Rattle.tagged_index.specs.Fields.{index_of, tag_of};
+ghost use Rattle.tagged_index.specs.declared.word.TheConstants.{NULL, MAX_TAG};
+ghost use Rattle.index_list.specs.Lists.{Holds};
+ghost use Rattle.index_list.specs.Steps.{read_top, read_link, write_link, take, give_chain, mark, shut};
+ghost use Rattle.step_core.specs.StackMachine.{held};
+ghost use Rattle.treiber_stack.specs.Rule.{line_in};
 ghost use Rattle.treiber_stack.specs.Host.{may_step, Did};
-ghost use Rattle.treiber_stack.specs.Operations.{IsSame, Told, Lost};
+ghost use Rattle.treiber_stack.specs.Operations.{IsSame, Told, Lost, Takes, Gives};
 
-use crate::layout::TOP;
+use crate::layout::{FREE, TOP};
 use crate::operation::Operation;
 use crate::rule::Stacked;
 use crate::stack::{Pass, Stack};
-use index_list::{load_top, try_mark, try_shut};
+use index_list::{load_link, load_top, store_link, try_give_chain, try_mark, try_shut, try_take};
 use step_core::seats::View;
 use step_core::stack::Line;
 use tagged_index::{Limits, Tagged};
@@ -22,11 +27,116 @@ impl<T> Stack<T> {
         requires may { may_step operation.now list read_top by.old.seat.me.0 }
         ensures same { IsSame by.old by.new }
         ensures told { Told self.now operation.now list read_top result [] by.old by.new }
+        ensures node { index_of result ≢ NULL → index_of result < capacity_of self.now.limits }
     {
         load_top::<Option<T>, View<T, Line<T>>, Limits, Stacked<T>, 2>(
             &self.table.shared,
             &mut by.seat,
             list,
+            operation,
+        )
+    }
+
+    /// Loads the link of a node.
+    #[inline]
+    pub(crate) fn load_next(
+        &self,
+        by: &mut Pass<T>,
+        list: usize,
+        index: u32,
+        operation: &Operation<T>,
+    ) -> u32
+        requires table { (by.old.seat.table_id ≡ self.now.table.shared.table_id) × (list < 2) × (index < capacity_of self.now.limits) }
+        requires may { may_step operation.now list (read_link index) by.old.seat.me.0 }
+        ensures same { IsSame by.old by.new }
+        ensures told { Told self.now operation.now list (read_link index) result [] by.old by.new }
+        ensures index { result ≤ NULL }
+    {
+        let link = load_link::<Option<T>, View<T, Line<T>>, Limits, Stacked<T>, 2>(
+            &self.table.shared,
+            &mut by.seat,
+            list,
+            index,
+            operation,
+        );
+        Tagged::from_word(link).index()
+    }
+
+    /// Links a node in hand to the node that a top names.
+    #[inline]
+    pub(crate) fn link_to(
+        &self,
+        by: &mut Pass<T>,
+        list: usize,
+        index: u32,
+        next: u32,
+        operation: &Operation<T>,
+    )
+        requires table { (by.old.seat.table_id ≡ self.now.table.shared.table_id) × (list < 2) × (index < capacity_of self.now.limits) }
+        requires may { may_step operation.now list (write_link index next) by.old.seat.me.0 }
+        requires held { Holds (held (line_in by.old.seat.me.0)) index }
+        ensures same { IsSame by.old by.new }
+        ensures told { Told self.now operation.now list (write_link index next) next [] by.old by.new }
+    {
+        store_link::<Option<T>, View<T, Line<T>>, Limits, Stacked<T>, 2>(
+            &self.table.shared,
+            &mut by.seat,
+            list,
+            index,
+            next as u64,
+            operation,
+        );
+    }
+
+    /// Takes the first node of a list with its slot, and answers whether it won.
+    #[inline]
+    pub(crate) fn take_node(
+        &self,
+        by: &mut Pass<T>,
+        list: usize,
+        seen: Tagged,
+        next: u32,
+        operation: &Operation<T>,
+    ) -> bool
+        requires table { (by.old.seat.table_id ≡ self.now.table.shared.table_id) × (list < 2) }
+        requires may { may_step operation.now list (take seen next) by.old.seat.me.0 }
+        requires word { (index_of seen < NULL) × (tag_of seen < MAX_TAG) × (next ≤ NULL) }
+        ensures table { by.new.seat.table_id ≡ by.old.seat.table_id }
+        ensures won { IsTrue result → Takes self.now operation.now list seen next by.old by.new }
+        ensures lost { IsFalse result → (by.new.seat.me.1 ≡ by.old.seat.me.1) × Lost self.now operation.now list (take seen next) seen by.old by.new }
+    {
+        try_take::<Option<T>, View<T, Line<T>>, Limits, Stacked<T>, 2>(
+            &self.table.shared,
+            &mut by.seat,
+            list,
+            seen,
+            next,
+            operation,
+        )
+    }
+
+    /// Gives the one node in hand to the free list, its slot empty, and answers whether it won.
+    #[inline]
+    pub(crate) fn give_node(
+        &self,
+        by: &mut Pass<T>,
+        seen: Tagged,
+        index: u32,
+        operation: &Operation<T>,
+    ) -> bool
+        requires table { by.old.seat.table_id ≡ self.now.table.shared.table_id }
+        requires may { may_step operation.now 0 (give_chain seen index) by.old.seat.me.0 }
+        requires held { (held (line_in by.old.seat.me.0) ≡ index ∷ []) × (by.old.seat.me.1 ≡ (index, None) ∷ []) × (index < NULL) }
+        ensures table { by.new.seat.table_id ≡ by.old.seat.table_id }
+        ensures won { IsTrue result → Gives self.now operation.now seen index by.old by.new }
+        ensures lost { IsFalse result → (by.new.seat.me.1 ≡ by.old.seat.me.1) × Lost self.now operation.now 0 (give_chain seen index) seen by.old by.new }
+    {
+        try_give_chain::<Option<T>, View<T, Line<T>>, Limits, Stacked<T>, 2>(
+            &self.table.shared,
+            &mut by.seat,
+            FREE,
+            seen,
+            index,
             operation,
         )
     }

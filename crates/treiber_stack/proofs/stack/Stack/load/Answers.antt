@@ -1,8 +1,11 @@
-use Rattle.std.proofs.Common.{arith, [], subst}
+use Rattle.std.proofs.Common.{rules, ◌≡◌, ◌≢◌, ℕ, ◌+◌, ◌<◌, ◌∙◌, arith, [], ap, sym, subst}
+use Rattle.tagged_index.specs.Fields.{index_of}
 use Rattle.tagged_index.specs.Limits.{capacity_of, tag_limit_of}
 use Rattle.tagged_index.specs.declared.limit.Limits.{Limits}
+use Rattle.tagged_index.specs.declared.word.TheConstants.{NULL}
 use Rattle.index_list.specs.Steps.{read_top}
 use Rattle.treiber_stack.specs.Host.{Did}
+use Rattle.treiber_stack.proofs.Nodes.{top_below}
 use Rattle.treiber_stack.proofs.stack.Stack.load.Goals as goal
 
 pub load_top-requires : goal.load_top-requires
@@ -16,3 +19,11 @@ returns-clause-told g c = record {
   did = subst (λ (k : Limits). Did (capacity_of k) (tag_limit_of k) c.args.operation.now c.args.list read_top c.load_top.result [] c.args.by.now.seat.me.0 c.load_top.new.seat.me.0) c.args.self.now.keyed c.load_top.ensures.said;
   counted = c.load_top.ensures.counted;
 }
+
+pub returns-clause-node : goal.returns-clause-node
+returns-clause-node g c ne =
+    let key = c.args.self.now.table.shared.key in
+    let made = c.load_top.ensures.step in
+    let same = ap index_of made.hit in
+    let low = top_below (capacity_of key) (tag_limit_of key) made.table made.before.rule c.args.list c.requires.table.1 (λ e. ne (sym same ∙ e)) in
+    subst (λ (k : Limits). index_of c.load_top.result < capacity_of k) c.args.self.now.keyed (subst (λ (i : ℕ). i < capacity_of key) same low)
