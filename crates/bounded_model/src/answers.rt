@@ -24,7 +24,7 @@ pub enum Word {
 }
 
 /// Why a put was refused. The value comes back.
-#[derive(Debug, Drop, Error)]
+#[derive(Debug, Drop, Error, PartialEq)]
 pub enum PutRefused<T> {
     /// Every cell holds a value or is in a pass's hand.
     #[error("full")]
@@ -38,7 +38,7 @@ pub enum PutRefused<T> {
 }
 
 /// Why a take was refused.
-#[derive(Debug, Drop, Error)]
+#[derive(Debug, Drop, Error, PartialEq)]
 pub enum TakeRefused {
     /// There is no value, and more may be put.
     #[error("empty")]

@@ -1,7 +1,6 @@
 -- What each step tells, and that a host's law lets the table's step be made.
 use Rattle.std.proofs.Common.{◌≡◌, ◌≢◌, ℕ, ◌+◌, List, refl, sym, subst, set, eqb}
 use Rattle.std.proofs.lemmas.List.{set-get_or}
-use mathlib.Core.Option.{Option}
 use prog.Atomic.{either}
 use Rattle.atomic_table.specs.Table.{State, Me, Act, keeps, Valid, stepped, carried_after, Allows}
 use Rattle.atomic_table.proofs.Lists.{exchanged}
@@ -82,7 +81,7 @@ module _ {S V : Type 0} (holds : State S V → Type 0) (steps : V → ℕ) where
       ))
 
   -- how an exchange of w for m goes on where it finds w
-  pub record Wins (at w m id : ℕ) (me : Me S V) (won : Me S V → Type 0) (s : State S V) : Type 0 where
+  pub record Wins (at m id : ℕ) (me : Me S V) (won : Me S V → Type 0) (s : State S V) : Type 0 where
     pub view : V
     pub act : Act S
     pub valid : Valid s.homes me.1 act
@@ -91,7 +90,7 @@ module _ {S V : Type 0} (holds : State S V → Type 0) (steps : V → ℕ) where
     pub told : won (view, carried_after me.1 act)
 
   tries : (slots at w m id : ℕ) (me : Me S V) (won : Me S V → Type 0) (did : ℕ → V → V → Type 0) (lists : State S V → State S V → Type 0)
-      → ((s : State S V) → Before holds id me.0 at s → word s at ≡ w → Wins at w m id me won s)
+      → ((s : State S V) → Before holds id me.0 at s → word s at ≡ w → Wins at m id me won s)
       → ((s : State S V) → Before holds id me.0 at s → word s at ≢ w → Goes holds steps me.0 (looked s id) (did (word s at) me.0))
       → ((s : State S V) (v : V) → holds s → lists s (changed s at (word s at) s.homes id v))
       → Allows holds slots id me at (λ n. either (eqb n w) m n) (Tried w won (Lost holds id at w did lists me) me)
@@ -118,7 +117,7 @@ module _ {S V : Type 0} (holds : State S V → Type 0) (steps : V → ℕ) where
       ))
 
   pub tries_at : (slots i at old w new m id : ℕ) (me : Me S V) (won : Me S V → Type 0) (did : ℕ → V → V → Type 0) (lists : State S V → State S V → Type 0) → i ≡ at → old ≡ w → new ≡ m
-      → ((s : State S V) → Before holds id me.0 at s → word s at ≡ w → Wins at w m id me won s)
+      → ((s : State S V) → Before holds id me.0 at s → word s at ≡ w → Wins at m id me won s)
       → ((s : State S V) → Before holds id me.0 at s → word s at ≢ w → Goes holds steps me.0 (looked s id) (did (word s at) me.0))
       → ((s : State S V) (v : V) → holds s → lists s (changed s at (word s at) s.homes id v))
       → Allows holds slots id me i (λ n. either (eqb n old) new n) (Tried w won (Lost holds id at w did lists me) me)

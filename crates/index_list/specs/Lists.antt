@@ -3,7 +3,7 @@ use Rattle.std.specs.Prelude.{◌≡◌, ◌⊎◌, ℕ, ◌<◌, Bool, IsTrue, 
 use mathlib.Core.Option.{Option, some}
 use lib.ListN.{get_elem?}
 use Rattle.atomic_table.specs.Table.{State}
-use Rattle.tagged_index.specs.Fields.{fields_of}
+use Rattle.tagged_index.specs.Fields.{index_of}
 use Rattle.tagged_index.specs.declared.word.TheConstants.{NULL}
 
 -- where the lists of a table are, and how each is kept
@@ -15,12 +15,6 @@ pub record Layout : Type 0 where
   pub keeps : ℕ → Bool
   -- whether each index carries the value slot of its number
   pub carries : ℕ → Bool
-
-abbrev pub index_of : ℕ → ℕ
-index_of w = (fields_of w).index
-
-abbrev pub tag_of : ℕ → ℕ
-tag_of w = (fields_of w).tag
 
 -- from i the links lead through each index of the list, in order, to j
 abbrev pub Leads : (ℕ → ℕ) → ℕ → List ℕ → ℕ → Type 0

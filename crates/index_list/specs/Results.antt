@@ -3,7 +3,8 @@ use Rattle.std.specs.Prelude.{◌≡◌, ◌≢◌, ℕ, List, [], ◌∷◌, �
 use mathlib.Core.Option.{Option}
 use Rattle.atomic_table.specs.Table.{State, Me}
 use Rattle.index_list.specs.Lists.{Layout, word, Stands}
-use Rattle.index_list.specs.Steps.{Before, changed}
+use Rattle.index_list.specs.Steps.{Before, changed, Each, emptied, filled, arranged}
+use Rattle.index_list.specs.declared.front.Front.{Front}
 
 -- an exchange that won: which slots moved, what the host says of it, and the step
 pub record Won (slots told made : Type 0) : Type 0 where
@@ -43,3 +44,19 @@ module _ {S V : Type 0} where
     pub unmoved : me'.1 ≡ me.1
     pub said : did found me.0 me'.0
     pub step : Made holds id me.0 me'.0 at found found (λ homes. homes) lists
+
+  -- a won exchange of w for m that took these slots from home, which are now before those that the seat had
+  abbrev pub Took : (State S V → Type 0) → (id at w m : ℕ) → (List (ℕ × S) → V → Type 0) → (State S V → State S V → Type 0) → (me me' : Me S V) → List (ℕ × S) → Type 0
+  Took holds id at w m did lists me me' zs = Won (me'.1 ≡ zs ++ me.1) (did zs me'.0) (Made holds id me.0 me'.0 at w m (λ homes. emptied homes zs) lists)
+
+  -- the same of a whole list, whose slots came in this order
+  abbrev pub TookAll : Front → (State S V → Type 0) → (id at w m : ℕ) → (List (ℕ × S) → V → Type 0) → (State S V → State S V → Type 0) → (me me' : Me S V) → List (ℕ × S) → Type 0
+  TookAll front holds id at w m did lists me me' zs = Won (me'.1 ≡ arranged front zs ++ me.1) (did zs me'.0) (Made holds id me.0 me'.0 at w m (λ homes. emptied homes zs) lists)
+
+  -- a won exchange of w for m that gave these slots home, which were before those that the seat still has
+  abbrev pub Gave : (State S V → Type 0) → (id at w m : ℕ) → (List (ℕ × S) → V → Type 0) → (State S V → State S V → Type 0) → (me me' : Me S V) → List (ℕ × S) → Type 0
+  Gave holds id at w m did lists me me' zs = Won (me.1 ≡ zs ++ me'.1) (did zs me'.0) (Made holds id me.0 me'.0 at w m (λ homes. filled homes zs) lists)
+
+-- these slots, each fit to go home, are before the others that a seat has
+abbrev pub Brings : {S : Type 0} → (S → Type 0) → List (ℕ × S) → List (ℕ × S) → Type 0
+Brings {S} rests slots zs = Each (λ _. rests) zs × ((others : List (ℕ × S)) × (slots ≡ zs ++ others))

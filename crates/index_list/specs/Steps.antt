@@ -1,11 +1,12 @@
 -- The kinds of atomic step on a list, and what each does to a table as plain data.
-use Rattle.std.specs.Prelude.{◌≡◌, ℕ, ◌+◌, ◌<◌, ◌^◌, Bool, true, false, cond, List, [], ◌∷◌, slice_set}
+use Rattle.std.specs.Prelude.{◌≡◌, ℕ, ◌+◌, ◌<◌, ◌^◌, Bool, true, false, cond, List, [], ◌∷◌, slice_set, reverse}
 use mathlib.Core.Option.{Option, some, none}
 use lib.ListN.{get_elem?}
 use Rattle.atomic_table.specs.Table.{State}
 use Rattle.tagged_index.specs.Fields.{fields_of, number, kept, raised, marked, with_second}
-use Rattle.tagged_index.specs.declared.word.TheConstants.{NULL}
 use Rattle.index_list.specs.Lists.{Layout, word}
+use Rattle.index_list.specs.declared.front.Front.{Front}
+use Rattle.index_list.specs.declared.front.Front.TheVariants.{First, Last}
 
 -- Loads of the top and of the link of i, a store of n into the link of i, and the exchanges of the seen top w:
 -- a take of its first index, whose link names n; a give of the index i; a give of the whole hand, a chain that begins with i;
@@ -87,6 +88,11 @@ module _ {S : Type 0} where
   abbrev pub WithSlots : Bool → List ℕ → (List (ℕ × S) → Type 0) → Type 0
   WithSlots true xs P = (zs : List (ℕ × S)) × (numbers zs ≡ xs) × P zs
   WithSlots false xs P = P []
+
+  -- the slots of a list in the order in which a seat has them
+  abbrev pub arranged : Front → List (ℕ × S) → List (ℕ × S)
+  arranged First zs = zs
+  arranged Last zs = reverse zs
 
 module _ {S V : Type 0} where
   -- the seat id has the view v, and no word is changed

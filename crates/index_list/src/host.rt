@@ -1,8 +1,9 @@
 //! What a host says of its lists, and the laws that it keeps.
 ghost use Rattle.std.specs.Prelude.{◌≡◌, ◌≢◌, ℕ, ◌<◌, ◌≤◌, List, [], ◌∷◌, length};
 ghost use Rattle.atomic_table.specs.Table.{State};
+ghost use Rattle.tagged_index.specs.Fields.{index_of, tag_of};
 ghost use Rattle.tagged_index.specs.declared.word.TheConstants.{MAX_TAG, NULL};
-ghost use Rattle.index_list.specs.Lists.{Layout, index_of, tag_of, word, Leads, Holds, Stands};
+ghost use Rattle.index_list.specs.Lists.{Layout, word, Leads, Holds, Stands};
 ghost use Rattle.index_list.specs.Steps.{Kind, read_top, read_link, write_link, take, give, give_chain, take_all, mark, shut, Expects, top_after_take, top_after_give, top_after_mark, top_after_shut, IsHome, emptied, filled, ForSlot, ForSlots, looked, changed, Before, Goes};
 
 use atomic_table::TableRule;

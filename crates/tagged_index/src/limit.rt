@@ -36,7 +36,8 @@ impl Limits {
         ensures in_range { IsSome result
             ↔ ((MIN_CAPACITY ≤ capacity) × (capacity ≤ MAX_CAPACITY)
             × (MIN_TAG_LIMIT ≤ tag_limit) × (tag_limit ≤ MAX_TAG)) }
-        ensures values { IfSome result (λ l. (capacity_of l ≡ capacity) × (tag_limit_of l ≡ tag_limit)) }
+        ensures values { IfSome result (λ l.
+            (capacity_of l ≡ capacity) × (tag_limit_of l ≡ tag_limit)) }
     {
         if capacity < MIN_CAPACITY || capacity > MAX_CAPACITY {
             return None;

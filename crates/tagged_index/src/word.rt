@@ -62,8 +62,10 @@ impl Tagged {
     #[inline]
     pub fn of(index: u32, mark: bool, second: bool, tag: u64) -> Option<Tagged>
         ensures in_range { IsSome result ↔ ((index ≤ NULL) × (tag ≤ MAX_TAG)) }
-        ensures fields { IfSome result (λ t. fields_of t ≡ record { index = index; mark = mark; second = second; tag = tag }) }
-        ensures sum { IfSome result (λ t. t ≡ number (record { index = index; mark = mark; second = second; tag = tag })) }
+        ensures fields { IfSome result (λ t.
+            fields_of t ≡ record { index = index; mark = mark; second = second; tag = tag }) }
+        ensures sum { IfSome result (λ t.
+            t ≡ number (record { index = index; mark = mark; second = second; tag = tag })) }
     {
         if index > NULL || tag > MAX_TAG {
             return None;
