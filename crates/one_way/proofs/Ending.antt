@@ -1,5 +1,5 @@
 -- Both passes together: from their splits to the end.
-use Rattle.std.proofs.Common.{◌≡◌, ◌≢◌, ℕ, zero, suc, ◌+◌, ◌*◌, ◌<◌, ◌≤◌, List, [], ◌∷◌, ◌++◌, refl, Bool, true, false, ap, sym, ◌∙◌, subst, arith, append-nil, length, IsPermutation, inl, inr}
+use Rattle.std.proofs.Common.{◌≡◌, ◌≢◌, ℕ, zero, suc, ◌+◌, ◌<◌, ◌≤◌, List, [], ◌∷◌, ◌++◌, refl, Bool, true, false, ap, sym, ◌∙◌, subst, arith, append-nil, length, IsPermutation, inl, inr}
 use Rattle.std.specs.Prelude.{◌⊎◌}
 use Rattle.std.specs.List.{AllByRecursion as Every}
 use Rattle.std.proofs.lemmas.List.Sorted.{IsPermutation-append_left}
@@ -9,7 +9,7 @@ use Rattle.bounded_model.specs.declared.views.PassView.{PassView}
 use Rattle.bounded_model.specs.declared.views.RootView.{RootView}
 use Rattle.bounded_model.specs.Machine.{Shape, state}
 use Rattle.bounded_model.specs.Histories.{own, pass_of, Later}
-use Rattle.bounded_model.specs.Justified.{IsEmpty, IsClosed, IsShut, IsWorn, IsFull}
+use Rattle.bounded_model.specs.Justified.{IsClosed}
 use Rattle.bounded_model.specs.Gathers.{gather, did, put_of, took_of, values_of, hold_of, close_of, shut_of}
 use Rattle.bounded_model.specs.Laws.{fresh, IsSound, NoneOut, CloseGives, Splits, Joins, Leaves}
 use Rattle.bounded_model.proofs.Histories.{Later-trans, own-unknown}

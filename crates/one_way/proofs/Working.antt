@@ -1,6 +1,5 @@
 -- One more call of the pass that puts, and of the pass that takes.
 use Rattle.std.proofs.Common.{◌≡◌, ℕ, suc, ◌+◌, ◌<◌, ◌≤◌, List, [], ◌∷◌, ◌++◌, refl, ap, sym, ◌∙◌, arith, append-nil, append_assoc, length, length-append, Ok, Err, inl, inr}
-use Rattle.std.specs.Prelude.{◌⊎◌}
 use Rattle.bounded_model.specs.declared.answers.PutRefused.{PutRefused}
 use Rattle.bounded_model.specs.declared.answers.PutRefused.TheVariants.{Full, Closed, Spent}
 use Rattle.bounded_model.specs.declared.answers.TakeRefused.{TakeRefused}
@@ -8,10 +7,10 @@ use Rattle.bounded_model.specs.declared.answers.TakeRefused.TheVariants.{Empty, 
 use Rattle.bounded_model.specs.declared.views.PassView.{PassView}
 use Rattle.bounded_model.specs.Machine.{Shape}
 use Rattle.bounded_model.specs.Gathers.{did, put_of, took_of, values_of, hold_of, close_of, shut_of}
-use Rattle.bounded_model.specs.Laws.{Adds, BacksOut, PutGives, TakeGives}
+use Rattle.bounded_model.specs.Laws.{BacksOut, PutGives, TakeGives}
 use Rattle.bounded_model.proofs.Doing.{did-adds, did-nothing, did-backs_out, holds_by-backs_out}
 use Rattle.bounded_model.proofs.Balance.{values_of-append}
-use Rattle.one_way.specs.Carrying.{value_of, Once, Puts, PutEnded, Takes, TakeEnded}
+use Rattle.one_way.specs.Carrying.{value_of, Puts, PutEnded, Takes, TakeEnded}
 
 pub length-front : {A : Type 0} {x : A} {all rest : List A} → all ≡ x ∷ rest → length all ≡ suc (length rest)
 length-front is = ap length is

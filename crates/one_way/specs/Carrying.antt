@@ -1,5 +1,5 @@
 -- What the two passes of a carry do.
-use Rattle.std.specs.Prelude.{◌≡◌, ℕ, ◌+◌, ◌*◌, ◌<◌, ◌≤◌, ◌⊎◌, List, [], ◌++◌, length}
+use Rattle.std.specs.Prelude.{◌≡◌, ℕ, ◌*◌, ◌<◌, ◌≤◌, ◌⊎◌, List, [], ◌++◌}
 use Rattle.bounded_model.specs.declared.history.Event.{Event}
 use Rattle.bounded_model.specs.declared.answers.PutRefused.{PutRefused}
 use Rattle.bounded_model.specs.declared.answers.PutRefused.TheVariants.{Full, Closed, Spent}
@@ -7,7 +7,11 @@ use Rattle.bounded_model.specs.declared.views.PassView.{PassView}
 use Rattle.bounded_model.specs.Machine.{Shape}
 use Rattle.bounded_model.specs.Histories.{Later}
 use Rattle.bounded_model.specs.Justified.{IsEmpty, IsClosed, IsFull, IsShut, IsWorn}
-use Rattle.bounded_model.specs.Gathers.{did, put_of, took_of, values_of, hold_of, close_of, shut_of}
+use Rattle.bounded_model.specs.Gathers.{did, put_of, took_of, values_of, hold_of, holds_by, close_of, shut_of}
+
+-- what was taken, then what is left, then what was not put
+abbrev pub all_of : {T : Type 0} → List T → List T → List T → List T
+all_of taken left unsent = (taken ++ left) ++ unsent
 
 -- the value that a refusal hands back
 abbrev pub value_of : {T : Type 0} → PutRefused T → T
@@ -21,13 +25,18 @@ pub record Once {T : Type 0} (h : List (Event T)) (P : List (Event T) → Type 0
   pub until : Later at h
   pub holds : P at
 
--- a put was refused for good: the container was full while this pass had taken fewer cells than there are items, or ..
+-- a put was refused: the container was full though this pass had taken fewer cells than that, or it
+-- was closed, or worn
 abbrev pub PutEnded : {T : Type 0} → Shape → PassView T → ℕ → Type 0
-PutEnded c w count = (Once w.seen (IsFull c) × (length (did hold_of w) < count)) ⊎ (Once w.seen (IsClosed c) ⊎ Once w.seen (IsWorn c))
+PutEnded c w count =
+    (Once w.seen (IsFull c) × (holds_by w < count))
+    ⊎ (Once w.seen (IsClosed c) ⊎ Once w.seen (IsWorn c))
 
 -- a take was refused for good
 abbrev pub TakeEnded : {T : Type 0} → Shape → PassView T → Type 0
-TakeEnded c w = Once w.seen (λ q. IsEmpty c q × IsClosed c q) ⊎ (Once w.seen (IsShut c) ⊎ Once w.seen (IsWorn c))
+TakeEnded c w =
+    Once w.seen (λ q. IsEmpty c q × IsClosed c q)
+    ⊎ (Once w.seen (IsShut c) ⊎ Once w.seen (IsWorn c))
 
 -- a pass has put the items but those that are unsent, and done nothing else
 pub record Puts {T : Type 0} (v w : PassView T) (items unsent : List T) : Type 0 where

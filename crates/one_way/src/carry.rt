@@ -1,10 +1,10 @@
 //! The whole way.
 
-ghost use Rattle.std.specs.Prelude.{◌≡◌, ◌++◌, IfOk, IsPermutation, length};
+ghost use Rattle.std.specs.Prelude.{◌≡◌, IfOk, IsPermutation, length};
 ghost use Rattle.bounded_model.specs.declared.history.Order.{Order};
 ghost use Rattle.bounded_model.specs.declared.history.Order.TheVariants.{Fifo};
 ghost use Rattle.bounded_model.specs.Laws.{fresh};
-ghost use Rattle.one_way.specs.Carrying.{WhyUnsent, WhyLeft};
+ghost use Rattle.one_way.specs.Carrying.{all_of, WhyUnsent, WhyLeft};
 
 use crate::leftover::drain;
 use crate::put::put_all;
@@ -38,10 +38,11 @@ pub fn carry_all<T: Drop, C: Container<T>, W: Wait>(
     requires fresh { C.root root ≡ fresh }
 
     // Each item is taken, left or unsent, once.
-    ensures each_once { IfOk result (λ r. IsPermutation items.items ((r.taken.items ++ r.left.items) ++ r.unsent.items)) }
+    ensures each_once { IfOk result (λ r. IsPermutation items.items (all_of r.taken.items r.left.items r.unsent.items)) }
 
     // Over a queue, in their order.
-    ensures in_order { C.ORDER ≡ Fifo → IfOk result (λ r. (r.taken.items ++ r.left.items) ++ r.unsent.items ≡ items.items) }
+    ensures in_order { C.ORDER ≡ Fifo
+        → IfOk result (λ r. all_of r.taken.items r.left.items r.unsent.items ≡ items.items) }
     ensures unsent { IfOk result (λ r. WhyUnsent (C.shape c) (length items.items) r.unsent.items) }
     ensures left { IfOk result (λ r. WhyLeft (C.shape c) (length items.items) r.left.items) }
 {

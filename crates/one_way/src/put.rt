@@ -1,7 +1,7 @@
 //! The pass that puts.
 
 ghost use Rattle.std.specs.Prelude.{◌≡◌, ◌+◌, ◌≤◌, ◌⊎◌, [], length};
-ghost use Rattle.bounded_model.specs.Gathers.{did, hold_of};
+ghost use Rattle.bounded_model.specs.Gathers.{holds_by};
 ghost use Rattle.one_way.specs.Carrying.{Puts, PutEnded, value_of};
 
 use bounded_model::{Container, PutRefused};
@@ -29,8 +29,9 @@ pub(crate) fn put_all<T: Drop, C: Container<T>, W: Wait>(
     requires { C.is_pass c.now by }
     ensures of { C.is_pass c.now result.0 }
     ensures puts { Puts (C.pass by) (C.pass result.0) items.items result.1.items }
-    ensures cells { length (did hold_of (C.pass result.0)) ≤ length (did hold_of (C.pass by)) + length items.items }
-    ensures ended { (result.1.items ≡ []) ⊎ PutEnded (C.shape c.now) (C.pass result.0) (length (did hold_of (C.pass by)) + length items.items) }
+    ensures cells { holds_by (C.pass result.0) ≤ holds_by (C.pass by) + length items.items }
+    ensures ended { (result.1.items ≡ [])
+        ⊎ PutEnded (C.shape c.now) (C.pass result.0) (holds_by (C.pass by) + length items.items) }
 {
     let mut pass = by;
     let mut rest = items;
