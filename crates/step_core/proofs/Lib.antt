@@ -1,0 +1,14 @@
+pub mod Tests
+pub mod Sums
+pub mod Lists
+pub mod OneList
+pub mod ListKept
+pub mod ListRun
+pub mod ListSamples
+pub mod Chains
+pub mod StackLinked
+pub mod StackRows
+pub mod Hands
+pub mod Seating
+pub mod SeatedEnds
+pub mod SeatedCalls
