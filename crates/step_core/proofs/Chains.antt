@@ -8,7 +8,7 @@ use Rattle.tagged_index.specs.declared.word.TheConstants.{NULL}
 use Rattle.bounded_model.specs.Machine.{without_first}
 use Rattle.step_core.specs.Words.{store, times, Leads, Stands, IsChain}
 use Rattle.step_core.specs.StackMachine.{first, last, second, chain_from, with_home, away, filled, emptied, values_in}
-use Rattle.step_core.specs.StackRule.{HasValues}
+use Rattle.step_core.specs.StackLaw.{HasValues}
 use Rattle.step_core.proofs.Lists.{times_here, times_else, times_append, not_there, store_here, store_else}
 
 pub times_reverse : (i : ℕ) (is : List ℕ) → times i (reverse is) ≡ times i is

@@ -1,78 +1,228 @@
--- Scripts of calls and single steps, computed: the machine gives the replies and the step counts of the tables.
-use Rattle.std.proofs.Common.{◌≡◌, ℕ, zero, suc, List, [], ◌∷◌, set, refl, Some, None, Ok, cond}
-use mathlib.Core.Option.{Option, none, some}
-use lib.ListN.{get_elem?}
-use Rattle.bounded_model.specs.declared.history.Order.TheVariants.{Lifo}
-use Rattle.bounded_model.specs.Machine.{Shape}
-use Rattle.step_core.specs.declared.stack.Taking.TheVariants.{One}
+-- Worked scripts of the stack: the machine computes their replies and step counts.
+use Rattle.std.proofs.Common.{ℕ, true, false, List, [], ◌∷◌, refl, Ok, Err}
+use Rattle.bounded_model.specs.declared.answers.Word.TheVariants.{Free as FreeWord, Top as TopWord}
+use Rattle.bounded_model.specs.declared.answers.PutRefused.TheVariants.{Full, Closed as PutClosed, Spent as PutSpent}
+use Rattle.bounded_model.specs.declared.answers.TakeRefused.{TakeRefused}
+use Rattle.bounded_model.specs.declared.answers.TakeRefused.TheVariants.{Empty, Closed, Spent, Shut}
+use Rattle.step_core.specs.declared.stack.Direction.TheVariants.{Down, Up}
+use Rattle.step_core.specs.declared.stack.Taking.TheVariants.{One, Whole}
 use Rattle.step_core.specs.declared.stack.Answer.{Answer}
-use Rattle.step_core.specs.declared.stack.Answer.TheVariants.{Put, Take}
-use Rattle.step_core.specs.declared.stack.Line.{Line}
-use Rattle.step_core.specs.declared.stack.Line.TheVariants.{Idle}
+use Rattle.step_core.specs.declared.stack.Answer.TheVariants.{Put, Take, Fold, Close, Shut as ShutAnswer, Look}
 use Rattle.step_core.specs.declared.stack.Call.{Call}
-use Rattle.step_core.specs.declared.stack.Call.TheVariants.{Put as CallPut, Take as CallTake}
-use Rattle.step_core.specs.declared.stack.Pass.{Pass}
-use Rattle.step_core.specs.StackMachine.{State, Begin, Step, acts_at, start, is_idle}
+use Rattle.step_core.specs.declared.stack.Call.TheVariants.{Put as PutCall, Take as TakeCall, Close as CloseCall, Shut as ShutCall, Look as LookCall}
+use Rattle.step_core.proofs.StackScripts.{calls, begins, steps, finish, answers, begun, again, ended, rest, stack, Plays}
 
--- a line of a script: a pass makes a whole call, begins one, or makes at most so many steps
-data Says : Type 0 where
-  calls : (p : ℕ) (call : Call ℕ) → Says
-  begins : (p : ℕ) (call : Call ℕ) → Says
-  steps : (p count : ℕ) → Says
+-- passes
+abbrev a : ℕ
+a = 0
 
--- its reply: the operation goes on after so many steps, or it has ended after so many with an answer
-data Said : Type 0 where
-  begun : Said
-  again : (count : ℕ) → Said
-  ended : (answer : Answer ℕ) (count : ℕ) → Said
-  nothing : Said
+abbrev b : ℕ
+b = 1
 
--- the machine, and how many steps each pass has made since its operation was begun
-record Stage : Type 0 where
-  machine : State ℕ
-  counts : List ℕ
+abbrev c : ℕ
+c = 2
 
-stack : ℕ → ℕ → Shape
-stack capacity limit = record { order = Lifo; capacity = capacity; limit = limit }
+-- values
+abbrev t : ℕ
+t = 116
 
-abbrev line_of : Option (Pass ℕ) → Line ℕ
-line_of none = Idle None
-line_of (some v) = v.line
+abbrev u : ℕ
+u = 117
 
-abbrev or_zero : Option ℕ → ℕ
-or_zero none = 0
-or_zero (some n) = n
+abbrev v : ℕ
+v = 118
 
-abbrev line_at : Stage → ℕ → Line ℕ
-line_at s p = line_of (get_elem? s.machine.passes p)
+abbrev w : ℕ
+w = 119
 
-abbrev does : Shape → Stage → ℕ → Stage
-does c s p = record { machine = acts_at c s.machine p Step (get_elem? s.machine.passes p); counts = set s.counts p (suc (or_zero (get_elem? s.counts p))) }
+abbrev x : ℕ
+x = 120
 
-abbrev does_many : Shape → ℕ → Stage → ℕ → Stage
-does_many c zero s p = s
-does_many c (suc k) s p = cond (is_idle (line_at s p)) s (does_many c k (does c s p) p)
+abbrev y : ℕ
+y = 121
 
-abbrev starts_up : Shape → Stage → ℕ → Call ℕ → Stage
-starts_up c s p call = record { machine = acts_at c s.machine p (Begin call) (get_elem? s.machine.passes p); counts = set s.counts p 0 }
+abbrev z : ℕ
+z = 122
 
-abbrev said : Line ℕ → ℕ → Said
-said (Idle (Some a)) n = ended a n
-said (Idle None) n = nothing
-said l n = again n
+-- calls
+abbrev put : ℕ → Call ℕ
+put value = PutCall value []
 
-abbrev said_at : Stage → ℕ → Said
-said_at s p = said (line_at s p) (or_zero (get_elem? s.counts p))
+abbrev range : ℕ → List ℕ → Call ℕ
+range value more = PutCall value more
 
-abbrev plays : Shape → Stage → List Says → List Said
-plays c s [] = []
-plays c s (calls p call ∷ more) = let t = does_many c 40 (starts_up c s p call) p in said_at t p ∷ plays c t more
-plays c s (begins p call ∷ more) = begun ∷ plays c (starts_up c s p call) more
-plays c s (steps p k ∷ more) = let t = does_many c k s p in said_at t p ∷ plays c t more
+abbrev take : Call ℕ
+take = TakeCall One
 
-abbrev opens : Shape → Stage
-opens c = record { machine = start c 3; counts = 0 ∷ 0 ∷ 0 ∷ [] }
+abbrev fold : Call ℕ
+fold = TakeCall (Whole Down)
 
-solo_put : plays (stack 3 15) (opens (stack 3 15)) (calls 0 (CallPut 7 []) ∷ calls 0 (CallTake One) ∷ []) ≡ ended (Put (Ok (0, []))) 6 ∷ ended (Take (Ok (7, 1))) 6 ∷ []
-unfolding stack
-solo_put = refl
+abbrev reversed_fold : Call ℕ
+reversed_fold = TakeCall (Whole Up)
+
+-- answers
+abbrev put_is : ℕ → Answer ℕ
+put_is n = Put (Ok (n, []))
+
+abbrev range_is : ℕ → List ℕ → Answer ℕ
+range_is n kept = Put (Ok (n, kept))
+
+abbrev full : List ℕ → Answer ℕ
+full values = Put (Err (Full values))
+
+abbrev put_closed : List ℕ → Answer ℕ
+put_closed values = Put (Err (PutClosed values))
+
+abbrev top_spent : ℕ → List ℕ → Answer ℕ
+top_spent tag values = Put (Err (PutSpent values TopWord tag))
+
+abbrev free_spent : ℕ → List ℕ → Answer ℕ
+free_spent tag values = Put (Err (PutSpent values FreeWord tag))
+
+abbrev take_is : ℕ → ℕ → Answer ℕ
+take_is n value = Take (Ok (value, n))
+
+abbrev no_take : TakeRefused → Answer ℕ
+no_take why = Take (Err why)
+
+abbrev fold_is : ℕ → List ℕ → Answer ℕ
+fold_is n values = Fold (Ok (values, n))
+
+abbrev no_fold : TakeRefused → Answer ℕ
+no_fold why = Fold (Err why)
+
+-- how many steps each call makes alone: put and take, a full put, an empty take, close, shut, look
+alone : Plays (stack 1 15)
+    ((begins a take, begun) ∷ (steps a 40, ended (no_take Empty) 1)
+    ∷ (begins a (put x), begun) ∷ (steps a 40, ended (put_is 0) 6)
+    ∷ (begins a (put y), begun) ∷ (steps a 40, ended (full (y ∷ [])) 2)
+    ∷ (begins a take, begun) ∷ (steps a 40, ended (take_is 1 x) 6)
+    ∷ (begins a CloseCall, begun) ∷ (steps a 40, ended (Close true) 2)
+    ∷ (begins a ShutCall, begun) ∷ (steps a 40, ended (ShutAnswer true) 2)
+    ∷ (begins a LookCall, begun) ∷ (steps a 40, ended (Look true) 1)
+    ∷ [])
+alone = refl
+
+-- at the lost exchange the top names the old node again, with tag 5 where a had read tag 2
+same_node_other_tag : Plays (stack 3 15)
+    ((calls b (put x), answers (put_is 0))
+    ∷ (calls b (put y), answers (put_is 1))
+    ∷ (begins a take, begun)
+    ∷ (steps a 2, again 2)
+    ∷ (calls b take, answers (take_is 2 y))
+    ∷ (calls b take, answers (take_is 3 x))
+    ∷ (begins c (put z), begun)
+    ∷ (steps c 3, again 3)
+    ∷ (calls b (put w), answers (put_is 4))
+    ∷ (steps a 1, again 3)
+    ∷ (steps a 6, ended (take_is 5 w) 9)
+    ∷ (steps c 3, ended (put_is 6) 6)
+    ∷ [])
+same_node_other_tag = refl
+
+-- the top's tag is at the limit
+spent_top : Plays (stack 2 2)
+    ((calls a (put x), answers (put_is 0))
+    ∷ (calls a (put y), answers (put_is 1))
+    ∷ (calls a (put z), answers (top_spent 2 (z ∷ [])))
+    ∷ (calls a take, answers (no_take (Spent TopWord 2)))
+    ∷ (calls a CloseCall, answers (Close true))
+    ∷ (calls a (put w), answers (put_closed (w ∷ [])))
+    ∷ (calls a take, answers (no_take (Spent TopWord 2)))
+    ∷ (finish, rest (y ∷ x ∷ []))
+    ∷ [])
+spent_top = refl
+
+-- a range goes in by one exchange, as much of it as finds nodes
+ranges : Plays (stack 3 15)
+    ((calls a (range 1 (2 ∷ 3 ∷ 4 ∷ 5 ∷ [])), answers (range_is 0 (4 ∷ 5 ∷ [])))
+    ∷ (calls a take, answers (take_is 1 3))
+    ∷ (calls a (range 6 (7 ∷ [])), answers (range_is 2 (7 ∷ [])))
+    ∷ (calls a take, answers (take_is 3 6))
+    ∷ [])
+ranges = refl
+
+folds : Plays (stack 3 15)
+    ((calls a (put x), answers (put_is 0))
+    ∷ (calls a (put y), answers (put_is 1))
+    ∷ (calls a (put z), answers (put_is 2))
+    ∷ (calls a fold, answers (fold_is 3 (z ∷ y ∷ x ∷ [])))
+    ∷ (calls a (put u), answers (put_is 4))
+    ∷ (calls a (put v), answers (put_is 5))
+    ∷ (calls a (put w), answers (put_is 6))
+    ∷ (calls a reversed_fold, answers (fold_is 7 (u ∷ v ∷ w ∷ [])))
+    ∷ (calls a (put t), answers (put_is 8))
+    ∷ (calls a fold, answers (fold_is 9 (t ∷ [])))
+    ∷ (calls a fold, answers (no_fold Empty))
+    ∷ [])
+folds = refl
+
+-- what is left, from the top down
+left_over : Plays (stack 3 7)
+    ((calls a (put x), answers (put_is 0))
+    ∷ (calls a (put y), answers (put_is 1))
+    ∷ (calls a (put z), answers (put_is 2))
+    ∷ (calls b LookCall, answers (Look false))
+    ∷ (calls b take, answers (take_is 3 z))
+    ∷ (finish, rest (y ∷ x ∷ []))
+    ∷ [])
+left_over = refl
+
+-- a close overtakes a put that holds a node
+closed_under_a_put : Plays (stack 1 7)
+    ((begins a (put x), begun)
+    ∷ (steps a 3, again 3)
+    ∷ (calls b CloseCall, answers (Close true))
+    ∷ (steps a 20, ended (put_closed (x ∷ [])) 7)
+    ∷ (calls b take, answers (no_take Closed))
+    ∷ [])
+closed_under_a_put = refl
+
+range_spent : Plays (stack 3 2)
+    ((calls a (range x (y ∷ z ∷ [])), answers (range_is 0 (z ∷ [])))
+    ∷ (calls a (range z []), answers (free_spent 2 (z ∷ [])))
+    ∷ (calls a take, answers (take_is 1 y))
+    ∷ (calls a fold, answers (no_fold (Spent TopWord 2)))
+    ∷ [])
+range_spent = refl
+
+range_closed : Plays (stack 2 7)
+    ((calls a CloseCall, answers (Close true))
+    ∷ (calls a (range x (y ∷ [])), answers (put_closed (x ∷ y ∷ [])))
+    ∷ (calls a fold, answers (no_fold Closed))
+    ∷ [])
+range_closed = refl
+
+range_full : Plays (stack 1 7)
+    ((calls a (put x), answers (put_is 0))
+    ∷ (calls a (range y (z ∷ [])), answers (full (y ∷ z ∷ [])))
+    ∷ (calls b fold, answers (fold_is 1 (x ∷ [])))
+    ∷ (calls a (range y (z ∷ [])), answers (range_is 2 (z ∷ [])))
+    ∷ (calls a (put w), answers (full (w ∷ [])))
+    ∷ (calls b take, answers (take_is 3 y))
+    ∷ (calls a (put w), answers (put_is 4))
+    ∷ [])
+range_full = refl
+
+-- both tags at their limits
+spent_free : Plays (stack 2 2)
+    ((calls a (put x), answers (put_is 0))
+    ∷ (calls a take, answers (take_is 1 x))
+    ∷ (calls a (put y), answers (top_spent 2 (y ∷ [])))
+    ∷ (calls a (put z), answers (free_spent 2 (z ∷ [])))
+    ∷ (calls a take, answers (no_take Empty))
+    ∷ (calls a CloseCall, answers (Close true))
+    ∷ (calls a (put w), answers (free_spent 2 (w ∷ [])))
+    ∷ (calls a take, answers (no_take Closed))
+    ∷ [])
+spent_free = refl
+
+shut_stack : Plays (stack 2 7)
+    ((calls a (put x), answers (put_is 0))
+    ∷ (calls a ShutCall, answers (ShutAnswer true))
+    ∷ (calls a (put y), answers (put_is 1))
+    ∷ (calls a take, answers (no_take Shut))
+    ∷ (calls a fold, answers (no_fold Shut))
+    ∷ (finish, rest (y ∷ x ∷ []))
+    ∷ [])
+shut_stack = refl

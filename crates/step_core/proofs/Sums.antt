@@ -1,5 +1,5 @@
 -- The passes as a list, and sums over it, when one of them changes.
-use Rattle.std.proofs.Common.{◌≡◌, ◌⊎◌, inl, inr, ⊎_elim, ℕ, zero, suc, ◌+◌, ◌≤◌, ◌≢◌, List, [], ◌∷◌, set, replicate, refl, sym, ap, arith}
+use Rattle.std.proofs.Common.{◌≡◌, ◌⊎◌, inl, inr, ⊎_elim, ℕ, zero, suc, ◌+◌, ◌≤◌, ◌≢◌, List, [], ◌∷◌, set, replicate, map, refl, sym, ap, arith}
 use mathlib.Core.Option.{some, some-injective, some-ne-none}
 use lib.ListN.{get_elem?}
 use Rattle.step_core.specs.Words.{total}
@@ -34,3 +34,7 @@ module _ {V : Type 0} where
   at_set (x ∷ xs) zero (suc q) v u e = inr ((λ h. omega arith), e)
   at_set (x ∷ xs) (suc p) zero v u e = inr ((λ h. omega arith), e)
   at_set (x ∷ xs) (suc p) (suc q) v u e = ⊎_elim (λ t. inl (ap suc t.0, t.1)) (λ t. let n = t.0 in inr ((λ h. n (omega arith)), t.1)) (at_set xs p q v u e)
+
+pub total_map : {A B : Type 0} (f : B → ℕ) (g : A → B) (xs : List A) → total f (map g xs) ≡ total (λ x. f (g x)) xs
+total_map f g [] = refl
+total_map f g (x ∷ xs) = let h = total_map f g xs in omega arith

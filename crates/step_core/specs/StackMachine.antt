@@ -100,8 +100,12 @@ module _ {T : Type 0} where
   abbrev pub after_hold : Memory T → Tagged → ℕ → Memory T
   after_hold m w k = record m { free = raised w k; home = with_home m.home w.index none }
 
+  -- a chain on top, with values of which the first stands lowest
+  abbrev pub after_put_of : Memory T → Tagged → List ℕ → List T → Memory T
+  after_put_of m w chain values = record m { top = raised w (first chain); home = filled m.home chain (reverse values) }
+
   abbrev pub after_put : Memory T → Tagged → Putting T → Memory T
-  after_put m w put = record m { top = raised w (first put.chain); home = filled m.home put.chain (reverse (placed put)) }
+  after_put m w put = after_put_of m w put.chain (placed put)
 
   abbrev pub after_take : Memory T → Tagged → ℕ → Memory T
   after_take m w k = record m { top = raised w k; home = with_home m.home w.index none }

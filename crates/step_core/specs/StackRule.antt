@@ -1,10 +1,9 @@
 -- What holds of the stack between any two steps: of its words and links, of its slots, and of its
 -- history.
-use Rattle.std.specs.Prelude.{◌≡◌, ◌≢◌, ℕ, ◌+◌, ◌<◌, ◌≤◌, false, ltb, if◌then◌else◌, List, [], ◌∷◌, ◌++◌, length, reverse, Option as Slot, Some, None}
+use Rattle.std.specs.Prelude.{◌≡◌, ◌≢◌, ℕ, ◌+◌, ◌<◌, ◌≤◌, false, ltb, if◌then◌else◌, List, [], ◌∷◌, ◌++◌, length, reverse, None, Some}
 use mathlib.Core.Option.{Option, some}
 use lib.ListN.{get_elem?}
 use Rattle.tagged_index.specs.declared.word.TheConstants.{NULL}
-use Rattle.bounded_model.specs.declared.history.Order.TheVariants.{Lifo}
 use Rattle.bounded_model.specs.declared.history.Event.{Event}
 use Rattle.bounded_model.specs.declared.history.Event.TheVariants.{Put}
 use Rattle.bounded_model.specs.Machine as bounded
@@ -14,13 +13,8 @@ use Rattle.step_core.specs.declared.stack.Putting.{Putting}
 use Rattle.step_core.specs.declared.stack.Line.{Line}
 use Rattle.step_core.specs.declared.stack.Line.TheVariants.{Idle, F1, F2, F3, F4, P1, P2, P3, D1, S1, S2, S3, A1, R1, R2, W1, G1, G2, G3, Z1, Z2, Y1, Y2, V1}
 use Rattle.step_core.specs.StackMachine.{Memory, last, held}
-
-abbrev pub shape : ℕ → ℕ → bounded.Shape
-shape n limit = record { order = Lifo; capacity = n; limit = limit }
-
--- the bounded machine at the end of a history
-abbrev pub state : {T : Type 0} → ℕ → ℕ → List (Event T) → bounded.State T
-state n limit history = bounded.state (shape n limit) history
+use Rattle.bounded_model.specs.Justified.{Sometime, IsFull}
+use Rattle.step_core.specs.StackLaw.{IsRight, shape, state, HasValues}
 
 -- the free nodes and the nodes of the stack, the top first
 pub record Lists : Type 0 where
@@ -106,13 +100,6 @@ module _ (T : Type 0) where
     pub once : (i : ℕ) → times i g.frees + times i g.stack + total (λ l. times i (held l)) lines ≡ if ltb i n then 1 else 0
     pub fine : (q : ℕ) (l : Line T) → get_elem? lines q ≡ some l → IsFine limit m g l
 
--- the slots of these nodes have these values
-abbrev pub HasValues : {T : Type 0} → (ℕ → Option (Slot T)) → List ℕ → List T → Type 0
-HasValues home [] [] = Unit {0}
-HasValues home (i ∷ is) (v ∷ vs) = (home i ≡ some (Some v)) × HasValues home is vs
-HasValues home [] (v ∷ vs) = ⊥
-HasValues home (i ∷ is) [] = ⊥
-
 -- The slots at home: those of free nodes are empty, those of the stack have its values
 pub record Filled (T : Type 0) (m : Memory T) (g : Lists) (values : List T) : Type 0 where
   pub empty : (i : ℕ) → 0 < times i g.frees → m.home i ≡ some None
@@ -156,3 +143,18 @@ pub record Good (T : Type 0) (n limit : ℕ) (m : Memory T) (g : Lists) (who : �
   pub linked : Linked T n limit m g lines
   pub filled : Filled T m g (state n limit history).values
   pub told : Told T n limit m.free m.top g who lines history
+
+-- What a line says of the histories that its pass had seen at the begin and has seen by now: a put that
+-- found no node had found all of them taken, and the answer that is on its way is right
+module _ {T : Type 0} (n limit : ℕ) (begun seen : List (Event T)) where
+  abbrev pub Tells : Line T → Type 0
+  Tells (Idle None) = Unit {0}
+  Tells (Idle (Some a)) = IsRight n limit begun seen a
+  Tells (D1 values) = Sometime begun seen (IsFull (shape n limit))
+  Tells (R1 give lowest i) = IsRight n limit begun seen give.answer
+  Tells (R2 give lowest i k) = IsRight n limit begun seen give.answer
+  Tells (W1 give i) = IsRight n limit begun seen give.answer
+  Tells (G1 give) = IsRight n limit begun seen give.answer
+  Tells (G2 give w) = IsRight n limit begun seen give.answer
+  Tells (G3 give w) = IsRight n limit begun seen give.answer
+  Tells l = Unit {0}

@@ -7,8 +7,12 @@
 //! step: the contract of each is a law, true of every schedule of any number of passes.
 #![tactic(auto)]
 
+mod bounds;
+mod deeds;
 mod laws;
 pub mod seats;
 pub mod stack;
 
-pub use laws::list_core;
+pub use bounds::stack_bound;
+pub use deeds::stack_answers;
+pub use laws::{list_core, stack_core};
