@@ -18,7 +18,7 @@ use Rattle.step_core.proofs.OneList.{front_of}
 use Rattle.step_core.proofs.StackKinds.{not_below}
 
 -- a list whose first index is null is empty
-none_there : (link : ℕ → ℕ) (x : ℕ) (list : List ℕ) → x ≡ NULL → times NULL list ≡ 0 → Stands link x list → list ≡ []
+pub none_there : (link : ℕ → ℕ) (x : ℕ) (list : List ℕ) → x ≡ NULL → times NULL list ≡ 0 → Stands link x list → list ≡ []
 none_there link x [] e never s = refl
 none_there link x (i ∷ is) e never s = absurd (omega (arith, ap (λ (k : ℕ). times NULL (k ∷ is)) (sym s.0 ∙ e), times_here NULL is))
 

@@ -10,7 +10,8 @@ use Rattle.step_core.specs.declared.stack.Answer.{Answer}
 use Rattle.step_core.specs.declared.stack.Answer.TheVariants.{Put, Take, Fold, Close, Shut as ShutAnswer, Look}
 use Rattle.step_core.specs.declared.stack.Call.{Call}
 use Rattle.step_core.specs.declared.stack.Call.TheVariants.{Put as PutCall, Take as TakeCall, Close as CloseCall, Shut as ShutCall, Look as LookCall}
-use Rattle.step_core.proofs.StackScripts.{calls, begins, steps, finish, answers, begun, again, ended, rest, stack, Plays}
+use Rattle.step_core.specs.StackLaw.{shape}
+use Rattle.step_core.proofs.StackScripts.{calls, begins, steps, finish, answers, begun, again, ended, rest, Plays}
 
 -- passes
 abbrev a : ℕ
@@ -92,7 +93,7 @@ abbrev no_fold : TakeRefused → Answer ℕ
 no_fold why = Fold (Err why)
 
 -- how many steps each call makes alone: put and take, a full put, an empty take, close, shut, look
-alone : Plays (stack 1 15)
+alone : Plays (shape 1 15)
     ((begins a take, begun) ∷ (steps a 40, ended (no_take Empty) 1)
     ∷ (begins a (put x), begun) ∷ (steps a 40, ended (put_is 0) 6)
     ∷ (begins a (put y), begun) ∷ (steps a 40, ended (full (y ∷ [])) 2)
@@ -104,7 +105,7 @@ alone : Plays (stack 1 15)
 alone = refl
 
 -- at the lost exchange the top names the old node again, with tag 5 where a had read tag 2
-same_node_other_tag : Plays (stack 3 15)
+same_node_other_tag : Plays (shape 3 15)
     ((calls b (put x), answers (put_is 0))
     ∷ (calls b (put y), answers (put_is 1))
     ∷ (begins a take, begun)
@@ -121,7 +122,7 @@ same_node_other_tag : Plays (stack 3 15)
 same_node_other_tag = refl
 
 -- the top's tag is at the limit
-spent_top : Plays (stack 2 2)
+spent_top : Plays (shape 2 2)
     ((calls a (put x), answers (put_is 0))
     ∷ (calls a (put y), answers (put_is 1))
     ∷ (calls a (put z), answers (top_spent 2 (z ∷ [])))
@@ -134,7 +135,7 @@ spent_top : Plays (stack 2 2)
 spent_top = refl
 
 -- a range goes in by one exchange, as much of it as finds nodes
-ranges : Plays (stack 3 15)
+ranges : Plays (shape 3 15)
     ((calls a (range 1 (2 ∷ 3 ∷ 4 ∷ 5 ∷ [])), answers (range_is 0 (4 ∷ 5 ∷ [])))
     ∷ (calls a take, answers (take_is 1 3))
     ∷ (calls a (range 6 (7 ∷ [])), answers (range_is 2 (7 ∷ [])))
@@ -142,7 +143,7 @@ ranges : Plays (stack 3 15)
     ∷ [])
 ranges = refl
 
-folds : Plays (stack 3 15)
+folds : Plays (shape 3 15)
     ((calls a (put x), answers (put_is 0))
     ∷ (calls a (put y), answers (put_is 1))
     ∷ (calls a (put z), answers (put_is 2))
@@ -158,7 +159,7 @@ folds : Plays (stack 3 15)
 folds = refl
 
 -- what is left, from the top down
-left_over : Plays (stack 3 7)
+left_over : Plays (shape 3 7)
     ((calls a (put x), answers (put_is 0))
     ∷ (calls a (put y), answers (put_is 1))
     ∷ (calls a (put z), answers (put_is 2))
@@ -169,7 +170,7 @@ left_over : Plays (stack 3 7)
 left_over = refl
 
 -- a close overtakes a put that holds a node
-closed_under_a_put : Plays (stack 1 7)
+closed_under_a_put : Plays (shape 1 7)
     ((begins a (put x), begun)
     ∷ (steps a 3, again 3)
     ∷ (calls b CloseCall, answers (Close true))
@@ -178,7 +179,7 @@ closed_under_a_put : Plays (stack 1 7)
     ∷ [])
 closed_under_a_put = refl
 
-range_spent : Plays (stack 3 2)
+range_spent : Plays (shape 3 2)
     ((calls a (range x (y ∷ z ∷ [])), answers (range_is 0 (z ∷ [])))
     ∷ (calls a (range z []), answers (free_spent 2 (z ∷ [])))
     ∷ (calls a take, answers (take_is 1 y))
@@ -186,14 +187,14 @@ range_spent : Plays (stack 3 2)
     ∷ [])
 range_spent = refl
 
-range_closed : Plays (stack 2 7)
+range_closed : Plays (shape 2 7)
     ((calls a CloseCall, answers (Close true))
     ∷ (calls a (range x (y ∷ [])), answers (put_closed (x ∷ y ∷ [])))
     ∷ (calls a fold, answers (no_fold Closed))
     ∷ [])
 range_closed = refl
 
-range_full : Plays (stack 1 7)
+range_full : Plays (shape 1 7)
     ((calls a (put x), answers (put_is 0))
     ∷ (calls a (range y (z ∷ [])), answers (full (y ∷ z ∷ [])))
     ∷ (calls b fold, answers (fold_is 1 (x ∷ [])))
@@ -205,7 +206,7 @@ range_full : Plays (stack 1 7)
 range_full = refl
 
 -- both tags at their limits
-spent_free : Plays (stack 2 2)
+spent_free : Plays (shape 2 2)
     ((calls a (put x), answers (put_is 0))
     ∷ (calls a take, answers (take_is 1 x))
     ∷ (calls a (put y), answers (top_spent 2 (y ∷ [])))
@@ -217,7 +218,7 @@ spent_free : Plays (stack 2 2)
     ∷ [])
 spent_free = refl
 
-shut_stack : Plays (stack 2 7)
+shut_stack : Plays (shape 2 7)
     ((calls a (put x), answers (put_is 0))
     ∷ (calls a ShutCall, answers (ShutAnswer true))
     ∷ (calls a (put y), answers (put_is 1))

@@ -2,7 +2,6 @@
 use Rattle.std.proofs.Common.{◌≡◌, ℕ, zero, suc, cond, List, [], ◌∷◌, map, set, Some, None}
 use mathlib.Core.Option.{Option, none, some}
 use lib.ListN.{get_elem?}
-use Rattle.bounded_model.specs.declared.history.Order.TheVariants.{Lifo}
 use Rattle.bounded_model.specs.Machine.{Shape}
 use Rattle.step_core.specs.declared.stack.Answer.{Answer}
 use Rattle.step_core.specs.declared.stack.Line.{Line}
@@ -31,9 +30,6 @@ pub data Reply : Type 0 where
 pub record Stage : Type 0 where
   pub machine : State ℕ
   pub counts : List ℕ
-
-abbrev pub stack : ℕ → ℕ → Shape
-stack capacity limit = record { order = Lifo; capacity = capacity; limit = limit }
 
 abbrev pub line_of : Option (Pass ℕ) → Line ℕ
 line_of none = Idle None
