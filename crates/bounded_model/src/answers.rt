@@ -1,5 +1,9 @@
 //! Why a call was refused, and what a single step answers.
 
+ghost use Rattle.std.specs.Prelude.{◌≡◌};
+ghost use Rattle.bounded_model.specs.declared.answers.MakeRefused.TheVariants.{NoMemory};
+
+use std::alloc::AllocError;
 use thiserror::Error;
 
 /// The word whose tag has reached the limit.
@@ -20,18 +24,21 @@ pub enum Word {
 }
 
 /// Why a put was refused. The value comes back.
-#[derive(Drop)]
+#[derive(Debug, Drop, Error, PartialEq)]
 pub enum PutRefused<T> {
     /// Every cell holds a value or is in a pass's hand.
+    #[error("full")]
     Full(T),
     /// The container is closed.
+    #[error("closed")]
     Closed(T),
     /// The tag of this word has reached the limit: the value, the word, and the tag that was read.
+    #[error("spent")]
     Spent(T, Word, u64),
 }
 
 /// Why a take was refused.
-#[derive(Debug, Drop, Error)]
+#[derive(Debug, Drop, Error, PartialEq)]
 pub enum TakeRefused {
     /// There is no value, and more may be put.
     #[error("empty")]
@@ -53,6 +60,14 @@ pub enum MakeRefused {
     /// The allocator had no memory.
     #[error("no memory")]
     NoMemory,
+}
+
+impl From<AllocError> for MakeRefused {
+    ghost from_gives = { λ _ e. e ≡ NoMemory };
+
+    fn from(_refused: AllocError) -> MakeRefused {
+        MakeRefused::NoMemory
+    }
 }
 
 /// What one atomic step of an operation answers.

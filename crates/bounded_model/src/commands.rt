@@ -13,7 +13,7 @@ pub enum Command<T> {
 }
 
 /// What that call answered.
-#[derive(Drop)]
+#[derive(Debug, Drop, PartialEq)]
 pub enum Reply<T> {
     /// The put's number, or why it was refused.
     Put(Result<u64, PutRefused<T>>),

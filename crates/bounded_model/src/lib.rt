@@ -5,9 +5,11 @@
 mod answers;
 mod commands;
 mod history;
+mod plain_list;
 mod views;
 
 pub use answers::{MakeRefused, PutRefused, Stepped, TakeRefused, Word};
 pub use commands::{Command, Reply};
 pub use history::{Event, Order};
+pub use plain_list::{COUNT_LIMIT, MAX_CAPACITY, PlainList};
 pub use views::{PassView, RootView};

@@ -1,0 +1,4 @@
+pub mod Allowed
+pub mod Lists
+pub mod Acts
+pub mod Wins
