@@ -1,4 +1,5 @@
--- What a pass of the stack has done since its operation was begun: its own events, by its line and at the end by its answer.
+-- What a pass of the stack has done since its operation was begun: its own events, by its line and
+-- at the end by its answer.
 use Rattle.std.specs.Prelude.{◌≡◌, ◌⊎◌, ℕ, ◌<◌, ◌≤◌, true, false, List, [], ◌∷◌, ◌++◌, length, reverse, Some, Ok, Err}
 use mathlib.Core.Option.{some}
 use lib.ListN.{get_elem?}
@@ -32,7 +33,8 @@ pub record BackedOut {T : Type 0} (p most : ℕ) (events : List (Event T)) : Typ
   pub at_most : nodes ≤ most
   pub is : events ≡ gave_back p nodes
 
--- it took all values by one exchange and gave their nodes back by another; it folded them in one order or the other
+-- it took all values by one exchange and gave their nodes back by another; it folded them in one
+-- order or the other
 pub record FoldedAll {T : Type 0} (p n : ℕ) (folded : List T) (events : List (Event T)) : Type 0 where
   pub values : List T
   pub is : events ≡ Free p (length values) ∷ TakeAll p values n ∷ []
@@ -77,8 +79,8 @@ module _ {T : Type 0} where
   HasMade p (G3 give w) events = Makes p give.answer (Free p (length give.chain) ∷ events)
   HasMade p l events = events ≡ []
 
--- A range leaves values out only where no node could be had. The histories are those that the pass had seen as its
--- operation was begun, and has seen by now
+-- A range leaves values out only where no node could be had. The histories are those that the pass
+-- had seen as its operation was begun, and has seen by now
 
 module _ {T : Type 0} where
   -- no node is free, or none can be taken any more
@@ -113,7 +115,8 @@ pub record Deeds {T : Type 0} (c : Shape) (p : ℕ) (l : Line T) (begun seen : L
   pub made : HasMade p l (own p between)
   pub all : IsAll c begun seen l
 
--- what pass p has done once its operation has answered: its own events are exactly those that the answer speaks of
+-- what pass p has done once its operation has answered: its own events are exactly those that the
+-- answer speaks of
 pub record HasDone {T : Type 0} (c : Shape) (p : ℕ) (a : Answer T) (begun seen : List (Event T)) : Type 0 where
   pub between : List (Event T)
   pub is : seen ≡ between ++ begun

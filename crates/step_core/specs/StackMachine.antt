@@ -1,4 +1,5 @@
--- The stack as a machine: any number of passes put, take, fold, close, shut and look, one atomic step at a time.
+-- Treiber's stack as a machine: any number of passes put, take, fold, close, shut and look, one
+-- atomic step at a time. `step` is its table of lines.
 use Rattle.std.specs.Prelude.{ℕ, zero, suc, ◌==◌, ltb, leb, if◌then◌else◌, Bool, true, false, List, [], ◌∷◌, ◌++◌, length, reverse, take, drop, set, replicate, Option as Slot, Some, None, Ok, Err}
 use mathlib.Core.Option.{Option, none, some}
 use lib.ListN.{get_elem?}
@@ -25,7 +26,8 @@ use Rattle.step_core.specs.declared.stack.Call.{Call}
 use Rattle.step_core.specs.declared.stack.Call.TheVariants.{Put as CallPut, Take as CallTake, Close as CallClose, Shut as CallShut, Look as CallLook}
 use Rattle.step_core.specs.declared.stack.Pass.{Pass}
 
--- The words, and what each node's slot has: none while a pass holds it, some None where it is empty at home
+-- The words, and what each node's slot has: none while a pass holds it, some None where it is empty
+-- at home
 pub record Memory (T : Type 0) : Type 0 where
   pub free : Tagged
   pub top : Tagged
@@ -194,7 +196,8 @@ module _ {T : Type 0} where
   abbrev pub at_Y1 : Tagged → Line T
   at_Y1 w = if w.second then ends (AnswerShut false) else Y2 w
 
--- What one step does: it leaves this memory, the pass goes on at this line, and the history grows by these events, of which there is one or none
+-- What one step does: it leaves this memory, the pass goes on at this line, and the history grows by
+-- these events, of which there is one or none
 pub record Outcome (T : Type 0) : Type 0 where
   pub memory : Memory T
   pub line : Line T
@@ -207,7 +210,8 @@ module _ {T : Type 0} where
   abbrev pub wins : Memory T → Line T → Event T → Outcome T
   wins m l e = record { memory = m; line = l; events = e ∷ [] }
 
-  -- the exchange of S3 is won: the node's value goes with it (there always is one: a pass without one would stop here, with no answer)
+  -- the exchange of S3 is won: the node's value goes with it. There always is one; a pass that found
+  -- none would stop here without an answer
   abbrev pub wins_value : Memory T → ℕ → Tagged → ℕ → Option (Slot T) → Outcome T
   wins_value m p w k none = goes_on m (Idle None)
   wins_value m p w k (some None) = goes_on m (Idle None)
@@ -228,21 +232,27 @@ module _ {T : Type 0} where
   -- .. then onto the top
   step c m p (P1 put) = goes_on m (at_P1 c.limit put m.top)
   step c m p (P2 put w) = goes_on (after_store m (last put.chain) w.index) (P3 put w)
-  step c m p (P3 put w) = if same m.top w then wins (after_put m w put) (ends (AnswerPut (Ok (w.tag, unplaced put)))) (Put p (placed put) w.tag) else goes_on m (P1 put)
+  step c m p (P3 put w) =
+      if same m.top w then wins (after_put m w put) (ends (AnswerPut (Ok (w.tag, unplaced put)))) (Put p (placed put) w.tag)
+      else goes_on m (P1 put)
   step c m p (D1 values) = goes_on m (at_D1 c.limit values m.top)
   -- take
   step c m p (S1 taking) = goes_on m (at_S1 c.limit taking m.top)
   step c m p (S2 w) = goes_on m (S3 w (m.link w.index))
   step c m p (S3 w k) = if same m.top w then wins_value m p w k (m.home w.index) else goes_on m (S1 One)
   -- fold: the whole chain, turned round where it is wanted from the bottom up, then its values
-  step c m p (A1 d w) = if same m.top w then wins_chain m p d w (chain_from c.capacity m.link w.index) else goes_on m (S1 (Whole d))
+  step c m p (A1 d w) =
+      if same m.top w then wins_chain m p d w (chain_from c.capacity m.link w.index)
+      else goes_on m (S1 (Whole d))
   step c m p (R1 give above i) = goes_on m (R2 give above i (m.link i))
   step c m p (R2 give above i k) = goes_on (after_store m i above) (at_R2 give i k)
   step c m p (W1 give i) = goes_on m (at_W1 give (m.link i))
   -- a chain goes back to the free list
   step c m p (G1 give) = goes_on m (G2 give m.free)
   step c m p (G2 give w) = goes_on (after_store m (last give.chain) w.index) (G3 give w)
-  step c m p (G3 give w) = if same m.free w then wins (after_give m w give.chain) (ends give.answer) (Free p (length give.chain)) else goes_on m (G1 give)
+  step c m p (G3 give w) =
+      if same m.free w then wins (after_give m w give.chain) (ends give.answer) (Free p (length give.chain))
+      else goes_on m (G1 give)
   -- close, shut, look
   step c m p Z1 = goes_on m (at_Z1 m.top)
   step c m p (Z2 w) = if same m.top w then wins (after_close m w) (ends (AnswerClose true)) (Close p) else goes_on m Z1
