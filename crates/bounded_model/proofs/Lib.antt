@@ -1,1 +1,12 @@
+pub mod Histories
+pub mod Adding
+pub mod Gathering
+pub mod Staying
+pub mod Hands
+pub mod Balance
+pub mod Numbers
+pub mod Joining
+pub mod Whole
+pub mod Doing
+pub mod Consuming
 pub mod Showing

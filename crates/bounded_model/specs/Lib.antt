@@ -1,5 +1,9 @@
 pub mod Machine
 pub mod Histories
+pub mod Justified
+pub mod Laws
+pub mod Consumes
+pub mod Gathers
 pub mod Replies
 pub mod Plain
 pub mod Shows

@@ -4,12 +4,16 @@
 
 mod answers;
 mod commands;
+mod consume;
+mod container;
 mod history;
 mod plain_list;
 mod views;
 
 pub use answers::{MakeRefused, PutRefused, Stepped, TakeRefused, Word};
 pub use commands::{Command, Reply};
+pub use consume::{consume_all, consume_one};
+pub use container::{Container, Leaving};
 pub use history::{Event, Order};
 pub use plain_list::{COUNT_LIMIT, MAX_CAPACITY, PlainList};
 pub use views::{PassView, RootView};

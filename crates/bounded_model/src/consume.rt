@@ -1,0 +1,55 @@
+//! Takes over any container that hand what they took to a function.
+
+ghost use Rattle.std.specs.Prelude.{MatchResult};
+ghost use Rattle.bounded_model.specs.Laws.{TakeGives, TakesNothing};
+ghost use Rattle.bounded_model.specs.Consumes.{ConsumesAll};
+
+use crate::{Container, TakeRefused};
+use std::sync::Wait;
+
+/// One take: `f` is called once, and only where a value was taken. Answers what `f` made of the
+/// value, with the take's number.
+pub fn consume_one<T, C: Container<T>, W: Wait, R, F: FnOnce(T) -> R + Drop>(
+    c: &C,
+    rt: &W,
+    by: C::Pass,
+    f: F,
+) -> (C::Pass, Result<(R, u64), TakeRefused>)
+    requires pass { C.is_pass c.now by }
+    requires call { F.IsAlwaysCallable f }
+    ensures of { C.is_pass c.now result.0 }
+    ensures gives { MatchResult result.1 (λ r. (x : T) × TakeGives (C.shape c.now) (C.pass by) (C.pass result.0) (Ok (x, r.1)) × F.post f x r.0) (λ e. TakesNothing (C.shape c.now) (C.pass by) (C.pass result.0) e) }
+{
+    let (by, taken) = c.take(rt, by);
+    match taken {
+        Ok((value, number)) => (by, Ok((f(value), number))),
+        Err(refused) => (by, Err(refused)),
+    }
+}
+
+/// Takes one value after another until a take is refused, and folds them in the order of taking.
+/// Answers the last state, and why it stopped.
+pub fn consume_all<T, C: Container<T>, W: Wait, S, F: Fn(S, T) -> S + Drop>(
+    c: &C,
+    rt: &W,
+    by: C::Pass,
+    state: S,
+    f: F,
+) -> (C::Pass, S, TakeRefused)
+    requires pass { C.is_pass c.now by }
+    requires call { F.IsAlwaysCallable f }
+    ensures of { C.is_pass c.now result.0 }
+    ensures gives { ConsumesAll (C.shape c.now) (λ s x t. F.post f s x t) (C.pass by) state (C.pass result.0) result.1 result.2 }
+{
+    let mut pass = by;
+    let mut folded = state;
+    for _ in rt.forever() {
+        let (back, taken) = c.take(rt, pass);
+        pass = back;
+        match taken {
+            Ok((value, _)) => folded = f(folded, value),
+            Err(refused) => return (pass, folded, refused),
+        }
+    }
+    unreachable!()
+}

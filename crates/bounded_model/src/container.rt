@@ -1,0 +1,140 @@
+//! The laws of every container.
+
+ghost use Rattle.std.specs.Prelude.{◌≡◌, ◌∷◌, [], List, MatchOption};
+ghost use Rattle.bounded_model.specs.declared.history.Order.{Order};
+ghost use Rattle.bounded_model.specs.declared.views.PassView.{PassView};
+ghost use Rattle.bounded_model.specs.declared.views.RootView.{RootView};
+ghost use Rattle.bounded_model.specs.Machine.{Shape};
+ghost use Rattle.bounded_model.specs.Laws.{
+  IsAtRest,
+  IsSound,
+  IsFullOfPasses,
+  PutGives,
+  TakeGives,
+  CloseGives,
+  ShutGives,
+  Splits,
+  Joins,
+  MeetGives,
+  Leaves,
+};
+
+use crate::{Order, PutRefused, TakeRefused};
+use std::sync::Wait;
+
+/// The values that are left in a container at its end: a queue's in the order of their puts, a
+/// stack's from the top down.
+pub trait Leaving<T> {
+    /// What has not been given yet.
+    ghost left: { Self → List T };
+
+    /// The next value; once there is none, never again one.
+    fn next(&mut self) -> Option<T>
+        ensures { MatchOption result ((left self.old ≡ []) × (left self.new ≡ [])) (λ v. left self.old ≡ v ∷ left self.new) };
+}
+
+/// A bounded container that many threads share, each through passes of its own.
+///
+/// A root gives passes, one for each thread, and takes them back. What a call promises is said by
+/// what its pass has seen, before and afterwards: a history of the container, legal by the bounded
+/// machine, that only grows.
+///
+/// A pass or a root is used only with the container that it came from. Calls that take `rt` may
+/// retry for as long as others interfere; they promise this if they return.
+pub trait Container<T>: Drop {
+    type Root: Drop + Send;
+
+    type Pass: Drop + Send;
+
+    type Rest: Leaving<T> + Drop + Send;
+
+    /// In which order values leave.
+    const ORDER: Order;
+
+    ghost ORDER: { Order };
+
+    /// Its order, its capacity, and the limit of its tags.
+    ghost shape: { Self → Shape };
+
+    /// Whether this is a pass of this container, between its calls.
+    ghost is_pass: { Self → Self.Pass → Type 0 };
+
+    /// Whether this is the root of this container.
+    ghost is_root: { Self → Self.Root → Type 0 };
+
+    /// A pass's number, what it has seen, and how many steps it has made.
+    ghost pass: { Self.Pass → PassView T };
+
+    /// What a root has seen, how many passes it has given, and what those joined have done.
+    ghost root: { Self.Root → RootView T };
+
+    /// How many values it has room for.
+    fn capacity(&self) -> u32
+        ensures { result ≡ (shape self.now).capacity };
+
+    /// A new pass; `None` exactly where 65,535 passes are out, and then nothing has changed.
+    fn split(&self, parent: &mut Self::Root) -> Option<Self::Pass>
+        requires { is_root self.now parent.old }
+        ensures root { is_root self.now parent.new }
+        ensures gives { MatchOption result ((root parent.new ≡ root parent.old) × IsFullOfPasses (root parent.old)) (λ p. is_pass self.now p × Splits (root parent.old) (root parent.new) (pass p)) };
+
+    /// Puts one value; answers the put's number. A refusal hands the value back.
+    fn put<R: Wait>(
+        &self,
+        rt: &R,
+        by: Self::Pass,
+        value: T,
+    ) -> (Self::Pass, Result<u64, PutRefused<T>>)
+        requires { is_pass self.now by }
+        ensures of { is_pass self.now result.0 }
+        ensures gives { PutGives (shape self.now) (pass by) value (pass result.0) result.1 };
+
+    /// Takes one value; answers it with the take's number.
+    fn take<R: Wait>(&self, rt: &R, by: Self::Pass) -> (Self::Pass, Result<(T, u64), TakeRefused>)
+        requires { is_pass self.now by }
+        ensures of { is_pass self.now result.0 }
+        ensures gives { TakeGives (shape self.now) (pass by) (pass result.0) result.1 };
+
+    /// Closes the container: no put follows. Answers whether this call closed it.
+    fn close<R: Wait>(&self, rt: &R, by: Self::Pass) -> (Self::Pass, bool)
+        requires { is_pass self.now by }
+        ensures of { is_pass self.now result.0 }
+        ensures gives { CloseGives (shape self.now) (pass by) (pass result.0) result.1 };
+
+    /// Shuts the container: no take follows, and puts go on until it is closed. Answers whether
+    /// this call shut it.
+    fn shut<R: Wait>(&self, rt: &R, by: Self::Pass) -> (Self::Pass, bool)
+        requires { is_pass self.now by }
+        ensures of { is_pass self.now result.0 }
+        ensures gives { ShutGives (shape self.now) (pass by) (pass result.0) result.1 };
+
+    /// True: the first pass has now seen what either had. False, where there is no seat for that:
+    /// it is as it was. The second pass comes back as it was.
+    fn meet(&self, first: &mut Self::Pass, second: Self::Pass) -> (Self::Pass, bool)
+        requires first { is_pass self.now first.old }
+        requires second { is_pass self.now second }
+        ensures first { is_pass self.now first.new }
+        ensures second { is_pass self.now result.0 × (pass result.0 ≡ pass second) }
+        ensures gives { MeetGives (pass first.old) (pass second) (pass first.new) result.1 };
+
+    /// Takes a pass back: the root has now seen what the pass has.
+    fn join(&self, parent: &mut Self::Root, by: Self::Pass)
+        requires root { is_root self.now parent.old }
+        requires pass { is_pass self.now by }
+        ensures root { is_root self.now parent.new }
+        ensures gives { Joins (root parent.old) (pass by) (root parent.new) };
+
+    /// The end: what is left.
+    fn finish(self, parent: Self::Root) -> Self::Rest
+        requires { is_root self parent }
+        ensures { Leaves (shape self) (root parent) (Self.Rest.left result) };
+
+    /// Its order is the constant's.
+    ghost order_law: { (c : Self) → (shape c).order ≡ ORDER };
+
+    /// What a pass has seen is legal, and between its calls its hand is empty.
+    ghost pass_law: { (c : Self) (p : Self.Pass) → is_pass c p → IsAtRest (shape c) (pass p) };
+
+    /// What a root has seen is legal, and its account is right.
+    ghost root_law: { (c : Self) (r : Self.Root) → is_root c r → IsSound (shape c) (root r) };
+}
