@@ -1,7 +1,7 @@
 -- The replies of a sequential list are those of the bounded machine.
-use Rattle.std.proofs.Common.{◌≡◌, ℕ, Bool, true, false, List, [], ◌∷◌, ◌++◌, Option, Some, None, Result, Ok, Err, refl, sym, ap, subst, ◌∙◌, map}
+use Rattle.std.proofs.Common.{◌≡◌, ℕ, Bool, List, [], ◌∷◌, ◌++◌, Result, Ok, Err, refl, sym, ap, subst, ◌∙◌, map}
 use Rattle.std.specs.Prelude.{codes, filter_map}
-use Rattle.std.specs.List.{list_any, flat_map}
+use Rattle.std.specs.List.{list_any}
 use Rattle.std.proofs.lemmas.List.Concat.{flat_map-append}
 use Rattle.bounded_model.specs.declared.answers.PutRefused.{PutRefused}
 use Rattle.bounded_model.specs.declared.answers.TakeRefused.{TakeRefused}
@@ -15,7 +15,7 @@ use Rattle.bounded_model.specs.Replies.{reply, replies, history_after, history_a
 use Rattle.bounded_model.specs.Shows.{Shows, Runs}
 use Rattle.lockfree_tool.specs.declared.script.Line.{Line}
 use Rattle.lockfree_tool.specs.declared.script.Line.TheVariants.{Call, Finish}
-use Rattle.lockfree_tool.specs.Replies.{command_in, is_finish, replies_to, reply_text, rest_text, end_text, output_of, shape_for}
+use Rattle.lockfree_tool.specs.Replies.{command_in, is_finish, replies_to, reply_text, end_text, output_of, shape_for}
 use Rattle.lockfree_tool.specs.Script.{Head, FinishesLast, text_of}
 
 abbrev Values : Type 0

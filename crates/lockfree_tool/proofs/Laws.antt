@@ -1,5 +1,5 @@
 -- What is read as a script is one, every script is read, and a fault is the text's.
-use Rattle.std.proofs.Common.{◌≡◌, ◌≢◌, ℕ, zero, suc, ◌+◌, ◌^◌, ◌<◌, ◌≤◌, ◌⊎◌, Bool, true, false, cond, eqb, leb, ◌&&◌, List, [], ◌∷◌, ◌++◌, length, get_or, Option, Some, None, Result, Ok, Err, refl, sym, ap, subst, ◌∙◌, arith, inl, inr, append_assoc}
+use Rattle.std.proofs.Common.{◌≡◌, ℕ, suc, ◌+◌, ◌≤◌, Bool, true, false, cond, leb, List, [], ◌∷◌, ◌++◌, Option, Some, None, Result, Ok, Err, refl, sym, ap, subst, ◌∙◌, arith, inl, inr, append_assoc}
 use Rattle.std.specs.Prelude.{codes, map, option_and_then}
 use Rattle.std.specs.Char.{is_ascii_alphanumeric, is_ascii_lowercase}
 use Rattle.std.specs.Fmt.{decimal}
@@ -11,15 +11,13 @@ use Rattle.bounded_model.specs.declared.commands.Command.{Command}
 use Rattle.bounded_model.specs.declared.commands.Command.TheVariants.{Put, Take, Close, Shut, Look}
 use Rattle.bounded_model.specs.declared.history.Order.{Order}
 use Rattle.bounded_model.specs.declared.history.Order.TheVariants.{Fifo, Lifo}
-use Rattle.tagged_index.specs.declared.limit.TheConstants.{MAX_CAPACITY}
-use Rattle.tagged_index.specs.declared.word.TheConstants.{MAX_TAG}
 use Rattle.lockfree_tool.specs.declared.fault.ReplayFault.{ReplayFault}
-use Rattle.lockfree_tool.specs.declared.fault.ReplayFault.TheVariants.{NoMemory, Device, NoFinalNewline, TooLong, BadLine, Output}
+use Rattle.lockfree_tool.specs.declared.fault.ReplayFault.TheVariants.{NoFinalNewline, BadLine}
 use Rattle.lockfree_tool.specs.declared.script.Line.{Line}
 use Rattle.lockfree_tool.specs.declared.script.Line.TheVariants.{Call, Finish}
 use Rattle.lockfree_tool.specs.Reading.{is_ended, split_lines, line_of, placed, line_before, with_line, lines_from, numbered, head_of, with_head, script_in, script_of}
 use Rattle.lockfree_tool.specs.Script.{Head, IsHead, IsCommand, IsLine, IsScript, FinishesLast, order_text, head_text, command_text, line_text, text_of}
-use Rattle.lockfree_tool.specs.Outcome.{IsUnended, IsHeadText, StandsBefore, IsWrongAt, IsFirstBad, IsAccepted, IsFaultOf, IsOutside}
+use Rattle.lockfree_tool.specs.Outcome.{IsUnended, IsWrongAt, IsFirstBad, IsAccepted, IsFaultOf}
 use Rattle.lockfree_tool.proofs.Cuts.{Lacks, Lacks-cons, Lacks-rest}
 use Rattle.lockfree_tool.proofs.Heads.{Lacks-decimal, limits_text, head_text_is, head_again, head_found}
 use Rattle.lockfree_tool.proofs.Splitting.{split_written}
@@ -270,18 +268,37 @@ unended (b ∷ c ∷ text) e =
     let u = unended (c ∷ text) e in
     (b ∷ u.0, u.1, ap (λ (t : List ℕ). b ∷ t) u.2, u.3)
 
+same_last : (b last : ℕ) → b ∷ [] ≡ last ∷ [] → b ≡ last
+same_last b last e = cc
+
+same_front : (b c : ℕ) (bs cs : List ℕ) → b ∷ bs ≡ c ∷ cs → bs ≡ cs
+same_front b c bs cs e = cc
+
+-- nothing stands behind the last newline of a text that ends with it
+ends_so : (text front : List ℕ) (last : ℕ) → is_ended text ≡ true → text ≡ front ++ last ∷ [] → last ≡ 10
+ends_so [] [] last e is = absurd cc
+ends_so [] (f ∷ front) last e is = absurd cc
+ends_so (b ∷ []) [] last e is = sym (same_last b last is) ∙ eqb-true b 10 e
+ends_so (b ∷ []) (f ∷ []) last e is = let no : [] ≡ last ∷ [] = same_front b f [] (last ∷ []) is in absurd cc
+ends_so (b ∷ []) (f ∷ g ∷ front) last e is = let no : [] ≡ (g ∷ front) ++ last ∷ [] = same_front b f [] ((g ∷ front) ++ last ∷ []) is in absurd cc
+ends_so (b ∷ c ∷ text) [] last e is = let no : c ∷ text ≡ [] = same_front b last (c ∷ text) [] is in absurd cc
+ends_so (b ∷ c ∷ text) (f ∷ front) last e is = ends_so (c ∷ text) front last e (same_front b f (c ∷ text) (front ++ last ∷ []) is)
+
+not_unended : (text : List ℕ) → is_ended text ≡ true → ¬ (IsUnended text)
+not_unended text e u = u.3 (ends_so text u.0 u.1 e u.2)
+
 same_fault : (e f : ReplayFault) → refused e ≡ refused f → e ≡ f
 same_fault e f h = cc
 
-whole_fault : (text first : List ℕ) (after : List (List ℕ)) (fault : ReplayFault) → split_lines text ≡ first ∷ after → (h : Option Head) → head_of first ≡ h → (r : Result (List Line) ℕ) → lines_from after ≡ r → with_head h (numbered r) ≡ Err fault → IsFaultOf fault text
-whole_fault text first after fault split None is r read found =
+whole_fault : (text first : List ℕ) (after : List (List ℕ)) (fault : ReplayFault) → is_ended text ≡ true → split_lines text ≡ first ∷ after → (h : Option Head) → head_of first ≡ h → (r : Result (List Line) ℕ) → lines_from after ≡ r → with_head h (numbered r) ≡ Err fault → IsFaultOf fault text
+whole_fault text first after fault ended split None is r read found =
     let bad : IsFirstBad (first ∷ after) 1 = inl (refl, λ s. let there : head_of first ≡ Some s.0 = ap head_of s.2 ∙ head_again s.0 s.1 in let no : None ≡ Some s.0 = sym is ∙ there in absurd cc) in
-    subst (λ (f : ReplayFault). IsFaultOf f text) (same_fault (BadLine 1) fault found) (subst (λ (ls : List (List ℕ)). IsFirstBad ls 1) (sym split) bad)
-whole_fault text first after fault split (Some head) is (Ok lines) read found = absurd cc
-whole_fault text first after fault split (Some head) is (Err place) read found =
+    subst (λ (f : ReplayFault). IsFaultOf f text) (same_fault (BadLine 1) fault found) (not_unended text ended, subst (λ (ls : List (List ℕ)). IsFirstBad ls 1) (sym split) bad)
+whole_fault text first after fault ended split (Some head) is (Ok lines) read found = absurd cc
+whole_fault text first after fault ended split (Some head) is (Err place) read found =
     let h = head_found first head is in
     let bad : IsFirstBad (first ∷ after) (place + 2) = inr ((head, h.is, h.written), place, refl, wrong_at after place read) in
-    subst (λ (f : ReplayFault). IsFaultOf f text) (same_fault (BadLine (place + 2)) fault found) (subst (λ (ls : List (List ℕ)). IsFirstBad ls (place + 2)) (sym split) bad)
+    subst (λ (f : ReplayFault). IsFaultOf f text) (same_fault (BadLine (place + 2)) fault found) (not_unended text ended, subst (λ (ls : List (List ℕ)). IsFirstBad ls (place + 2)) (sym split) bad)
 
 -- a fault of reading is in the text
 pub script_fault : (text : List ℕ) (fault : ReplayFault) → script_of text ≡ Err fault → IsFaultOf fault text
@@ -289,8 +306,8 @@ unfolding script_of
 script_fault text fault e = go (is_ended text) refl (split_lines text) refl e
   where
     go : (b : Bool) → is_ended text ≡ b → (ls : List (List ℕ)) → split_lines text ≡ ls → cond b (script_in ls) (Err NoFinalNewline) ≡ Err fault → IsFaultOf fault text
-    go true ended [] split found = subst (λ (f : ReplayFault). IsFaultOf f text) (same_fault (BadLine 1) fault found) (subst (λ (ls : List (List ℕ)). IsFirstBad ls 1) (sym split) refl)
-    go true ended (first ∷ after) split found = whole_fault text first after fault split (head_of first) refl (lines_from after) refl found
+    go true ended [] split found = subst (λ (f : ReplayFault). IsFaultOf f text) (same_fault (BadLine 1) fault found) (not_unended text ended, subst (λ (ls : List (List ℕ)). IsFirstBad ls 1) (sym split) refl)
+    go true ended (first ∷ after) split found = whole_fault text first after fault ended split (head_of first) refl (lines_from after) refl found
     go false ended ls split found = subst (λ (f : ReplayFault). IsFaultOf f text) (same_fault NoFinalNewline fault found) (unended text ended)
 
 -- a script has no fault

@@ -1,5 +1,5 @@
 -- What is known after a script was read from a reader whose bytes are known.
-use Rattle.std.proofs.Common.{◌≡◌, ◌≢◌, ℕ, ◌⊎◌, List, Option, Some, None, Result, Ok, Err, refl, sym, ap, subst, ◌∙◌, inl, inr}
+use Rattle.std.proofs.Common.{◌≡◌, ◌≢◌, ℕ, ◌⊎◌, List, Option, Some, None, Result, Ok, Err, sym, ap, subst, ◌∙◌, inl, inr}
 use Rattle.std.specs.Prelude.{IfOk, IfSome}
 use Rattle.lockfree_tool.specs.declared.fault.ReplayFault.{ReplayFault}
 use Rattle.lockfree_tool.specs.declared.fault.ReplayFault.TheVariants.{NoMemory, Output}

@@ -1,9 +1,9 @@
 -- Reading a script from its text.
-use Rattle.std.proofs.Common.{◌≡◌, ◌⊎◌, inl, inr, ℕ, true, List, [], ◌∷◌, Option, Some, None, Result, Ok, Err, refl, sym, ap, ◌∙◌}
+use Rattle.std.proofs.Common.{◌≡◌, ◌⊎◌, inl, inr, ℕ, true, List, Option, Some, None, Ok, Err, refl, ap, ◌∙◌}
 use Rattle.lockfree_tool.specs.declared.fault.ReplayFault.{ReplayFault}
 use Rattle.lockfree_tool.specs.declared.fault.ReplayFault.TheVariants.{NoMemory, BadLine}
 use Rattle.lockfree_tool.specs.declared.script.Line.{Line}
-use Rattle.lockfree_tool.specs.Reading.{cut_at, is_ended, split_lines, lines_from, numbered, head_of, with_head, script_in, script_of}
+use Rattle.lockfree_tool.specs.Reading.{cut_at, is_ended, split_lines, lines_from, numbered, head_of, with_head, script_of}
 use Rattle.lockfree_tool.specs.Script.{Head}
 use Rattle.lockfree_tool.proofs.Splitting.{split_cut, uncut_ended}
 

@@ -1,13 +1,13 @@
 -- Reading the lines of a text one after another.
-use Rattle.std.proofs.Common.{◌≡◌, ◌≢◌, ℕ, zero, suc, ◌+◌, ◌-◌, ◌<◌, ◌≤◌, ◌⊎◌, Bool, true, false, cond, eqb, List, [], ◌∷◌, ◌++◌, length, get_or, Option, Some, None, Result, Ok, Err, option_map, refl, sym, ap, subst, ◌∙◌, arith, inl, inr, append_assoc}
+use Rattle.std.proofs.Common.{◌≡◌, ◌≢◌, ℕ, ◌+◌, ◌<◌, ◌≤◌, Bool, true, false, cond, eqb, List, [], ◌∷◌, ◌++◌, length, Option, Some, None, Result, Ok, Err, option_map, refl, sym, ap, subst, ◌∙◌, arith, inl, inr, append_assoc}
 use Rattle.std.specs.List.{onto_first}
 use Rattle.std.proofs.lemmas.Bool.{eqb-true}
 use Rattle.std.proofs.lemmas.Bool.Decides.{eqb_tells}
 use Rattle.std.proofs.lemmas.List.{length-append, append-nil}
 use Rattle.lockfree_tool.specs.declared.script.Line.{Line}
-use Rattle.lockfree_tool.specs.declared.script.Line.TheVariants.{Call, Finish}
+use Rattle.lockfree_tool.specs.declared.script.Line.TheVariants.{Finish}
 use Rattle.lockfree_tool.specs.Reading.{cut_at, is_ended, split_lines, line_of, placed, line_before, with_line, lines_from}
-use Rattle.lockfree_tool.proofs.Cuts.{Cut, onto_cut, Lacks, Lacks-rest, cut_found, cut_again}
+use Rattle.lockfree_tool.proofs.Cuts.{onto_cut, Lacks, Lacks-rest, cut_found}
 
 -- ---- cutting a line off
 

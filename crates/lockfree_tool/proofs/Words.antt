@@ -1,11 +1,11 @@
 -- A line that is read is written so, and a line that is written is read again.
-use Rattle.std.proofs.Common.{◌≡◌, ◌≢◌, ℕ, zero, suc, ◌+◌, ◌^◌, ◌<◌, ◌≤◌, ◌⊎◌, Bool, true, false, cond, eqb, leb, ◌&&◌, List, [], ◌∷◌, ◌++◌, length, get_or, Option, Some, None, option_map, refl, sym, ap, subst, ◌∙◌, arith, inl, inr}
+use Rattle.std.proofs.Common.{◌≡◌, ◌≢◌, ℕ, Bool, true, false, cond, leb, ◌&&◌, List, [], ◌∷◌, ◌++◌, length, Option, Some, None, option_map, refl, sym, ap, subst, arith}
 use Rattle.std.specs.Prelude.{IsTrue, codes, option_and_then}
 use Rattle.std.specs.Char.{is_ascii_alphanumeric, is_ascii_lowercase}
 use Rattle.std.specs.List.{list_all}
 use Rattle.std.specs.Str.{bytes_eq}
-use Rattle.std.proofs.lemmas.Bool.{cases_Bool, and_parts, and_from, le-leb, leb-true, false_from_ne_true}
-use Rattle.std.proofs.lemmas.Option.{cond_some, option_and_then_some, same_Some}
+use Rattle.std.proofs.lemmas.Bool.{and_parts, and_from, le-leb, leb-true, false_from_ne_true}
+use Rattle.std.proofs.lemmas.Option.{cond_some, same_Some}
 use Rattle.std.proofs.lemmas.Slice.Eq.{bytes_eq-Decides}
 use Rattle.bounded_model.specs.declared.commands.Command.{Command}
 use Rattle.bounded_model.specs.declared.commands.Command.TheVariants.{Put, Take, Close, Shut, Look}
@@ -13,9 +13,9 @@ use Rattle.lockfree_tool.specs.declared.script.PassName.{PassName}
 use Rattle.lockfree_tool.specs.declared.script.Line.{Line}
 use Rattle.lockfree_tool.specs.declared.script.Line.TheVariants.{Call, Finish}
 use Rattle.lockfree_tool.specs.declared.script.TheConstants.{MAX_VALUE_LEN}
-use Rattle.lockfree_tool.specs.Reading.{is_value, value_of, pass_of, cut_at, word_and_rest, call_with, call_alone, call_of_words, command_of, line_of}
+use Rattle.lockfree_tool.specs.Reading.{is_value, value_of, pass_of, word_and_rest, call_with, call_alone, call_of_words, command_of, line_of}
 use Rattle.lockfree_tool.specs.Script.{IsValue, IsCommand, IsLine, command_text, line_text}
-use Rattle.lockfree_tool.proofs.Cuts.{Lacks, Lacks-cons, cut_again, cut_found}
+use Rattle.lockfree_tool.proofs.Cuts.{Lacks-cons, cut_again, cut_found}
 
 -- two texts are told apart
 pub differs : (xs ys : List ℕ) → (xs ≡ ys → ⊥) → bytes_eq xs ys ≡ false

@@ -1,5 +1,6 @@
+pub mod Failure
+pub mod Outcome
 pub mod Reading
+pub mod Replies
 pub mod Script
 pub mod View
-pub mod Outcome
-pub mod Replies

@@ -46,7 +46,7 @@ pub record IsOutputFor (text output : List ℕ) : Type 0 where
 -- what is known of the text after a fault
 abbrev pub IsFaultOf : ReplayFault → List ℕ → Type 0
 IsFaultOf NoFinalNewline text = IsUnended text
-IsFaultOf (BadLine number) text = IsFirstBad (split_lines text) number
+IsFaultOf (BadLine number) text = ¬ (IsUnended text) × IsFirstBad (split_lines text) number
 IsFaultOf NoMemory text = Unit {0}
 IsFaultOf Device text = Unit {0}
 IsFaultOf TooLong text = Unit {0}

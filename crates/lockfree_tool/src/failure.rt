@@ -37,6 +37,11 @@ impl Failure {
 }
 
 impl From<ReplayFault> for Failure {
+    ghost use Rattle.std.specs.Prelude.{◌≡◌};
+    ghost use Rattle.lockfree_tool.specs.Failure.{failure_of};
+
+    ghost from_gives = { λ fault failure. failure ≡ failure_of fault };
+
     fn from(fault: ReplayFault) -> Failure {
         match fault {
             ReplayFault::Output => Failure::Output,

@@ -21,6 +21,8 @@ mod parse;
 mod replay;
 mod reply;
 mod script;
+#[cfg(test)]
+mod tests;
 
 use crate::failure::Failure;
 use crate::replay::replay;

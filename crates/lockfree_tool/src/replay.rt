@@ -1,6 +1,6 @@
 //! Scripts replayed.
 
-ghost use Rattle.std.specs.Prelude.{◌≡◌, ◌≢◌, IfErr, IfOk, OnOk, IfSome, List, ℕ, string_bytes};
+ghost use Rattle.std.specs.Prelude.{◌≡◌, ◌≢◌, ◌≤◌, length, IfErr, IfOk, OnOk, IfSome, List, ℕ, string_bytes};
 ghost use Rattle.std.specs.Io.KnownBytes.{Appends};
 ghost use Rattle.lockfree_tool.specs.declared.fault.ReplayFault.TheVariants.{Output};
 ghost use Rattle.lockfree_tool.specs.declared.script.Line.{Line};
@@ -10,7 +10,7 @@ ghost use Rattle.lockfree_tool.specs.Script.{Head, IsScript};
 
 use crate::answer::answer;
 use crate::fault::ReplayFault;
-use crate::input::read_text;
+use crate::input::{MAX_SCRIPT_LEN, read_text};
 use crate::output::write_all;
 use crate::parse::parse;
 use std::alloc::Global;
@@ -21,6 +21,7 @@ fn output_for<R: Read>(alloc: Global, reader: &mut R) -> Result<String, ReplayFa
     ensures output { IfOk result (λ output. IfSome (R.remaining reader.old) (λ text. IsOutputFor text (string_bytes output))) }
     ensures fault { IfErr result (λ fault. IfSome (R.remaining reader.old) (λ text. IsFaultOf fault text)) }
     ensures only { IfErr result (λ fault. IfSome (R.remaining reader.old) (λ text. IsAccepted text → IsOutside fault)) }
+    ensures short { OnOk result (IfSome (R.remaining reader.old) (λ text. length text ≤ MAX_SCRIPT_LEN)) }
     ensures unwritten { IfErr result (λ fault. fault ≢ Output) }
 {
     let text = read_text(alloc, reader)?;
@@ -45,6 +46,7 @@ pub fn replay<S, R: Read, W: Write>(
 ) -> Result<(), ReplayFault>
     // What is accepted is a script.
     ensures accepted { OnOk result (IfSome (R.remaining reader.old) IsAccepted) }
+    ensures short { OnOk result (IfSome (R.remaining reader.old) (λ text. length text ≤ MAX_SCRIPT_LEN)) }
     // What is written is the bounded machine's replies to it, and nothing else.
     ensures replies { OnOk result (IfSome (R.remaining reader.old) (λ text. (head : Head) (lines : List Line) →
         IsScript text head lines → Appends (W.contents writer.old) (W.contents writer.new) (output_of head lines))) }

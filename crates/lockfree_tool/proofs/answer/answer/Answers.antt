@@ -1,4 +1,4 @@
-use Rattle.std.proofs.Common.{◌≡◌, ◌++◌, map, string_bytes, sym, ap, ◌∙◌}
+use Rattle.std.proofs.Common.{◌++◌, map, string_bytes, ap, ◌∙◌}
 use Rattle.bounded_model.specs.Plain.{empty_list}
 use Rattle.lockfree_tool.specs.Replies.{reply_text}
 use Rattle.lockfree_tool.specs.Script.{text_of}

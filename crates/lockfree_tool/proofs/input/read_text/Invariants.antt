@@ -1,4 +1,4 @@
-use Rattle.std.proofs.Common.{◌≡◌, ◌≤◌, vec_len}
+use Rattle.std.proofs.Common.{◌≤◌, vec_len}
 use Rattle.std.specs.Io.KnownBytes.{Consumes}
 use Rattle.lockfree_tool.specs.declared.input.TheConstants.{MAX_SCRIPT_LEN}
 use Rattle.lockfree_tool.proofs.input.read_text.Given as goal

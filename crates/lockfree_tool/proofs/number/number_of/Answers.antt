@@ -1,4 +1,4 @@
-use Rattle.std.proofs.Common.{◌≡◌, ◌≢◌, ℕ, ◌<◌, true, false, length, get_or, arith, sym, ◌∙◌}
+use Rattle.std.proofs.Common.{◌≡◌, ◌≢◌, ◌<◌, length, get_or, arith, sym, ◌∙◌}
 use Rattle.std.proofs.lemmas.Str.Pattern.{starts_char}
 use Rattle.lockfree_tool.proofs.Numbers.{refuses_plus, refuses_zero, parsed_number}
 use Rattle.lockfree_tool.proofs.number.number_of.Goals as goal

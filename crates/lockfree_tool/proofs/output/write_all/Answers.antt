@@ -1,4 +1,4 @@
-use Rattle.std.proofs.Common.{◌≡◌, ℕ, List, ap, ◌∙◌, Bor}
+use Rattle.std.proofs.Common.{ℕ, List, ap, ◌∙◌, Bor}
 use Rattle.std.proofs.lemmas.List.{take_rest}
 use Rattle.lockfree_tool.proofs.Writing.{Sent, Sent-more, Sent-same}
 use Rattle.lockfree_tool.proofs.output.write_all.Goals as goal

@@ -1,4 +1,4 @@
-use Rattle.std.proofs.Common.{◌≡◌, ℕ, ◌+◌, Err, sym, ap, ◌∙◌, arith, inl, inr, length, ◌<◌}
+use Rattle.std.proofs.Common.{◌≡◌, ℕ, ◌+◌, Err, sym, ap, ◌∙◌, arith, inr, length, ◌<◌}
 use Rattle.lockfree_tool.specs.declared.fault.ReplayFault.TheVariants.{BadLine}
 use Rattle.lockfree_tool.specs.Reading.{numbered}
 use Rattle.lockfree_tool.proofs.Splitting.{Progress-start, Progress-more, Progress-end, Progress-wrong, shorter_cut}

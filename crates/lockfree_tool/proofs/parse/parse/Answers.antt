@@ -1,8 +1,7 @@
-use Rattle.std.proofs.Common.{◌≡◌, true, length, sym, ap, ◌∙◌, arith, inl, inr}
+use Rattle.std.proofs.Common.{sym, ◌∙◌, arith, inr}
 use Rattle.std.proofs.lemmas.Result.{err_from_is_err_and}
 use Rattle.lockfree_tool.proofs.Scripts.{script-no_line, script-first, script-read, script-fault}
 use Rattle.lockfree_tool.proofs.Splitting.{ended_cut, shorter_cut}
-use Rattle.lockfree_tool.specs.Reading.{is_ended}
 use Rattle.lockfree_tool.proofs.parse.parse.Goals as goal
 
 pub returns-in_default : goal.returns-in_default
