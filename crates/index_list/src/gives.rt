@@ -1,10 +1,10 @@
 //! Gives of a held index, and of a held chain, to a list.
-ghost use Rattle.std.specs.Prelude.{◌≡◌, ℕ, ◌+◌, ◌<◌, ◌≤◌, false, IsTrue, IsFalse, List, [], ◌∷◌};
+ghost use Rattle.std.specs.Prelude.{◌≡◌, ℕ, ◌+◌, ◌<◌, ◌≤◌, false, IsTrue, IsFalse, List, ◌∷◌};
 ghost use Rattle.tagged_index.specs.Fields.{tag_of};
 ghost use Rattle.tagged_index.specs.declared.word.TheConstants.{MAX_TAG, NULL};
 ghost use Rattle.index_list.specs.Lists.{Holds};
 ghost use Rattle.index_list.specs.Steps.{give, give_chain, top_after_give, WithSlot, WithSlots};
-ghost use Rattle.index_list.specs.Results.{Lost, Gave, Brings, Stood, Gained};
+ghost use Rattle.index_list.specs.Results.{Given, GivenChain, Brings, Missed};
 
 use crate::host::ListHost;
 use crate::takes::raised;
@@ -24,14 +24,18 @@ pub fn try_give<S, V, K, P: ListHost<S, V, K, L>, const L: usize>(
     index: u32,
     line: &P::Line,
 ) -> bool
-    requires table { (seat.old.table_id ≡ table.now.table_id) × (list < L) × (P.layout.top list < table.now.table_id.words) }
+    requires table { seat.old.table_id ≡ table.now.table_id }
+    requires list { (list < L) × (P.layout.top list < table.now.table_id.words) }
     requires may { P.may line.now list (give seen index) seat.old.me.0 }
     requires word { (index < NULL) × (P.layout.keeps list ≡ false → tag_of seen < MAX_TAG) }
-    requires held { Holds (P.held list seat.old.me.0) index × WithSlot (P.layout.carries list) index (Brings (P.rests list) seat.old.me.1) }
+    requires held { Holds (P.held list seat.old.me.0) index }
+    requires slot { WithSlot (P.layout.carries list) index (Brings (P.rests list) seat.old.me.1) }
     ensures seat { (seat.new.table_id ≡ seat.old.table_id) × (seat.new.id ≡ seat.old.id) }
     ensures counted { P.steps seat.new.me.0 ≡ P.steps seat.old.me.0 + 1 }
-    ensures won { IsTrue result → WithSlot (P.layout.carries list) index (Gave (P.holds table.now.key) seat.old.id (P.layout.top list) seen (top_after_give P.layout list seen index) (λ zs. P.did line.now list (give seen index) seen zs seat.old.me.0) (Gained P.layout P.held list (index ∷ [])) seat.old.me seat.new.me) }
-    ensures lost { IsFalse result → Lost (P.holds table.now.key) seat.old.id (P.layout.top list) seen (λ found. P.did line.now list (give seen index) found []) (Stood P.layout P.held list) seat.old.me seat.new.me }
+    ensures won { IsTrue result → Given P.layout P.held (P.holds table.now.key) seat.old.id list
+        seen index (P.did line.now list (give seen index)) seat.old.me seat.new.me }
+    ensures lost { IsFalse result → Missed P.layout P.held (P.holds table.now.key) seat.old.id list
+        seen (P.did line.now list (give seen index)) seat.old.me seat.new.me }
 {
     try_as::<S, V, K, P, (usize, Tagged, u32), P::Line, Brand>(
         table,
@@ -55,14 +59,19 @@ pub fn try_give_chain<S, V, K, P: ListHost<S, V, K, L>, const L: usize>(
     first: u32,
     line: &P::Line,
 ) -> bool
-    requires table { (seat.old.table_id ≡ table.now.table_id) × (list < L) × (P.layout.top list < table.now.table_id.words) }
+    requires table { seat.old.table_id ≡ table.now.table_id }
+    requires list { (list < L) × (P.layout.top list < table.now.table_id.words) }
     requires may { P.may line.now list (give_chain seen first) seat.old.me.0 }
     requires word { (first < NULL) × (P.layout.keeps list ≡ false → tag_of seen < MAX_TAG) }
-    requires held { ((others : List ℕ) × (P.held list seat.old.me.0 ≡ first ∷ others)) × WithSlots (P.layout.carries list) (P.held list seat.old.me.0) (Brings (P.rests list) seat.old.me.1) }
+    requires held { (others : List ℕ) × (P.held list seat.old.me.0 ≡ first ∷ others) }
+    requires slots { WithSlots (P.layout.carries list) (P.held list seat.old.me.0)
+        (Brings (P.rests list) seat.old.me.1) }
     ensures seat { (seat.new.table_id ≡ seat.old.table_id) × (seat.new.id ≡ seat.old.id) }
     ensures counted { P.steps seat.new.me.0 ≡ P.steps seat.old.me.0 + 1 }
-    ensures won { IsTrue result → WithSlots (P.layout.carries list) (P.held list seat.old.me.0) (Gave (P.holds table.now.key) seat.old.id (P.layout.top list) seen (top_after_give P.layout list seen first) (λ zs. P.did line.now list (give_chain seen first) seen zs seat.old.me.0) (Gained P.layout P.held list (P.held list seat.old.me.0)) seat.old.me seat.new.me) }
-    ensures lost { IsFalse result → Lost (P.holds table.now.key) seat.old.id (P.layout.top list) seen (λ found. P.did line.now list (give_chain seen first) found []) (Stood P.layout P.held list) seat.old.me seat.new.me }
+    ensures won { IsTrue result → GivenChain P.layout P.held (P.holds table.now.key) seat.old.id list
+        seen first (P.did line.now list (give_chain seen first)) seat.old.me seat.new.me }
+    ensures lost { IsFalse result → Missed P.layout P.held (P.holds table.now.key) seat.old.id list
+        seen (P.did line.now list (give_chain seen first)) seat.old.me seat.new.me }
 {
     try_as::<S, V, K, P, (usize, Tagged, u32), P::Line, Brand>(
         table,

@@ -1,7 +1,7 @@
 //! The two marks of a list's top.
-ghost use Rattle.std.specs.Prelude.{◌≡◌, ◌+◌, ◌<◌, IsTrue, IsFalse, []};
+ghost use Rattle.std.specs.Prelude.{◌≡◌, ◌+◌, ◌<◌, IsTrue, IsFalse};
 ghost use Rattle.index_list.specs.Steps.{mark, shut, top_after_mark, top_after_shut};
-ghost use Rattle.index_list.specs.Results.{Made, Won, Lost, Stood, Stayed};
+ghost use Rattle.index_list.specs.Results.{Remarked, Missed};
 
 use crate::host::ListHost;
 use crate::told::try_as;
@@ -18,12 +18,15 @@ pub fn try_mark<S, V, K, P: ListHost<S, V, K, L>, const L: usize>(
     seen: Tagged,
     line: &P::Line,
 ) -> bool
-    requires table { (seat.old.table_id ≡ table.now.table_id) × (list < L) × (P.layout.top list < table.now.table_id.words) }
+    requires table { seat.old.table_id ≡ table.now.table_id }
+    requires list { (list < L) × (P.layout.top list < table.now.table_id.words) }
     requires may { P.may line.now list (mark seen) seat.old.me.0 }
     ensures seat { (seat.new.table_id ≡ seat.old.table_id) × (seat.new.id ≡ seat.old.id) }
     ensures counted { P.steps seat.new.me.0 ≡ P.steps seat.old.me.0 + 1 }
-    ensures won { IsTrue result → Won (seat.new.me.1 ≡ seat.old.me.1) (P.did line.now list (mark seen) seen [] seat.old.me.0 seat.new.me.0) (Made (P.holds table.now.key) seat.old.id seat.old.me.0 seat.new.me.0 (P.layout.top list) seen (top_after_mark seen) (λ homes. homes) (Stayed P.layout P.held list)) }
-    ensures lost { IsFalse result → Lost (P.holds table.now.key) seat.old.id (P.layout.top list) seen (λ found. P.did line.now list (mark seen) found []) (Stood P.layout P.held list) seat.old.me seat.new.me }
+    ensures won { IsTrue result → Remarked P.layout P.held (P.holds table.now.key) seat.old.id list
+        seen (top_after_mark seen) (P.did line.now list (mark seen)) seat.old.me seat.new.me }
+    ensures lost { IsFalse result → Missed P.layout P.held (P.holds table.now.key) seat.old.id list
+        seen (P.did line.now list (mark seen)) seat.old.me seat.new.me }
 {
     try_as::<S, V, K, P, (usize, Tagged), P::Line, Brand>(
         table,
@@ -45,12 +48,15 @@ pub fn try_shut<S, V, K, P: ListHost<S, V, K, L>, const L: usize>(
     seen: Tagged,
     line: &P::Line,
 ) -> bool
-    requires table { (seat.old.table_id ≡ table.now.table_id) × (list < L) × (P.layout.top list < table.now.table_id.words) }
+    requires table { seat.old.table_id ≡ table.now.table_id }
+    requires list { (list < L) × (P.layout.top list < table.now.table_id.words) }
     requires may { P.may line.now list (shut seen) seat.old.me.0 }
     ensures seat { (seat.new.table_id ≡ seat.old.table_id) × (seat.new.id ≡ seat.old.id) }
     ensures counted { P.steps seat.new.me.0 ≡ P.steps seat.old.me.0 + 1 }
-    ensures won { IsTrue result → Won (seat.new.me.1 ≡ seat.old.me.1) (P.did line.now list (shut seen) seen [] seat.old.me.0 seat.new.me.0) (Made (P.holds table.now.key) seat.old.id seat.old.me.0 seat.new.me.0 (P.layout.top list) seen (top_after_shut seen) (λ homes. homes) (Stayed P.layout P.held list)) }
-    ensures lost { IsFalse result → Lost (P.holds table.now.key) seat.old.id (P.layout.top list) seen (λ found. P.did line.now list (shut seen) found []) (Stood P.layout P.held list) seat.old.me seat.new.me }
+    ensures won { IsTrue result → Remarked P.layout P.held (P.holds table.now.key) seat.old.id list
+        seen (top_after_shut seen) (P.did line.now list (shut seen)) seat.old.me seat.new.me }
+    ensures lost { IsFalse result → Missed P.layout P.held (P.holds table.now.key) seat.old.id list
+        seen (P.did line.now list (shut seen)) seat.old.me seat.new.me }
 {
     try_as::<S, V, K, P, (usize, Tagged), P::Line, Brand>(
         table,

@@ -1,9 +1,9 @@
 //! Takes of a list's first index, and of all its indexes.
-ghost use Rattle.std.specs.Prelude.{◌≡◌, ℕ, ◌+◌, ◌<◌, ◌≤◌, IsTrue, IsFalse, List, []};
+ghost use Rattle.std.specs.Prelude.{◌≡◌, ◌+◌, ◌<◌, ◌≤◌, IsTrue, IsFalse};
 ghost use Rattle.tagged_index.specs.Fields.{index_of, tag_of};
 ghost use Rattle.tagged_index.specs.declared.word.TheConstants.{MAX_TAG, NULL};
-ghost use Rattle.index_list.specs.Steps.{take, take_all, top_after_take, WithSlot, WithSlots};
-ghost use Rattle.index_list.specs.Results.{Lost, Took, TookAll, Stood, LostFirst, LostAll};
+ghost use Rattle.index_list.specs.Steps.{take, take_all, top_after_take};
+ghost use Rattle.index_list.specs.Results.{Taken, TakenAll, Missed};
 
 use crate::front::Front;
 use crate::host::ListHost;
@@ -23,13 +23,16 @@ pub fn try_take<S, V, K, P: ListHost<S, V, K, L>, const L: usize>(
     next: u32,
     line: &P::Line,
 ) -> bool
-    requires table { (seat.old.table_id ≡ table.now.table_id) × (list < L) × (P.layout.top list < table.now.table_id.words) }
+    requires table { seat.old.table_id ≡ table.now.table_id }
+    requires list { (list < L) × (P.layout.top list < table.now.table_id.words) }
     requires may { P.may line.now list (take seen next) seat.old.me.0 }
     requires word { (index_of seen < NULL) × (tag_of seen < MAX_TAG) × (next ≤ NULL) }
     ensures seat { (seat.new.table_id ≡ seat.old.table_id) × (seat.new.id ≡ seat.old.id) }
     ensures counted { P.steps seat.new.me.0 ≡ P.steps seat.old.me.0 + 1 }
-    ensures won { IsTrue result → WithSlot (P.layout.carries list) (index_of seen) (Took (P.holds table.now.key) seat.old.id (P.layout.top list) seen (top_after_take seen next) (λ zs. P.did line.now list (take seen next) seen zs seat.old.me.0) (LostFirst P.layout P.held list (index_of seen)) seat.old.me seat.new.me) }
-    ensures lost { IsFalse result → Lost (P.holds table.now.key) seat.old.id (P.layout.top list) seen (λ found. P.did line.now list (take seen next) found []) (Stood P.layout P.held list) seat.old.me seat.new.me }
+    ensures won { IsTrue result → Taken P.layout P.held (P.holds table.now.key) seat.old.id list
+        seen next (P.did line.now list (take seen next)) seat.old.me seat.new.me }
+    ensures lost { IsFalse result → Missed P.layout P.held (P.holds table.now.key) seat.old.id list
+        seen (P.did line.now list (take seen next)) seat.old.me seat.new.me }
 {
     try_as::<S, V, K, P, (usize, Tagged, u32), P::Line, Brand>(
         table,
@@ -53,13 +56,16 @@ pub fn try_take_all<S, V, K, P: ListHost<S, V, K, L>, const L: usize>(
     front: Front,
     line: &P::Line,
 ) -> bool
-    requires table { (seat.old.table_id ≡ table.now.table_id) × (list < L) × (P.layout.top list < table.now.table_id.words) }
+    requires table { seat.old.table_id ≡ table.now.table_id }
+    requires list { (list < L) × (P.layout.top list < table.now.table_id.words) }
     requires may { P.may line.now list (take_all seen) seat.old.me.0 }
     requires word { (index_of seen < NULL) × (tag_of seen < MAX_TAG) }
     ensures seat { (seat.new.table_id ≡ seat.old.table_id) × (seat.new.id ≡ seat.old.id) }
     ensures counted { P.steps seat.new.me.0 ≡ P.steps seat.old.me.0 + 1 }
-    ensures won { IsTrue result → (xs : List ℕ) × WithSlots (P.layout.carries list) xs (TookAll front (P.holds table.now.key) seat.old.id (P.layout.top list) seen (top_after_take seen NULL) (λ zs. P.did line.now list (take_all seen) seen zs seat.old.me.0) (LostAll P.layout P.held list xs) seat.old.me seat.new.me) }
-    ensures lost { IsFalse result → Lost (P.holds table.now.key) seat.old.id (P.layout.top list) seen (λ found. P.did line.now list (take_all seen) found []) (Stood P.layout P.held list) seat.old.me seat.new.me }
+    ensures won { IsTrue result → TakenAll P.layout P.held (P.holds table.now.key) seat.old.id list
+        front seen (P.did line.now list (take_all seen)) seat.old.me seat.new.me }
+    ensures lost { IsFalse result → Missed P.layout P.held (P.holds table.now.key) seat.old.id list
+        seen (P.did line.now list (take_all seen)) seat.old.me seat.new.me }
 {
     try_as::<S, V, K, P, (usize, Tagged, Front), P::Line, Brand>(
         table,

@@ -39,8 +39,12 @@ pub fn load_as<S, V, K, P: TableRule<S, V, K>, A: Copy, X, W: Telling<S, V>>(
     about: A,
     line: &X,
 ) -> u64
-    requires { (seat.old.table_id ≡ table.now.table_id) × (at < table.now.table_id.words) × Allows (P.holds table.now.key) table.now.table_id.slots seat.old.id seat.old.me at (λ n. n) (W.told (step table.now.table_id.slots at 0 0 none) seat.old.me) }
-    ensures { (seat.new.table_id ≡ seat.old.table_id) × (seat.new.id ≡ seat.old.id) × W.told (step table.now.table_id.slots at 0 0 none) seat.old.me result seat.new.me }
+    requires table { seat.old.table_id ≡ table.now.table_id }
+    requires word { at < table.now.table_id.words }
+    requires allowed { Allows (P.holds table.now.key) table.now.table_id.slots seat.old.id seat.old.me at
+        (λ n. n) (W.told (step table.now.table_id.slots at 0 0 none) seat.old.me) }
+    ensures seat { (seat.new.table_id ≡ seat.old.table_id) × (seat.new.id ≡ seat.old.id) }
+    ensures told { W.told (step table.now.table_id.slots at 0 0 none) seat.old.me result seat.new.me }
 {
     let _ = about;
     let _ = line;
@@ -57,8 +61,12 @@ pub fn store_as<S, V, K, P: TableRule<S, V, K>, A: Copy, X, W: Telling<S, V>>(
     about: A,
     line: &X,
 )
-    requires { (seat.old.table_id ≡ table.now.table_id) × (at < table.now.table_id.words) × Allows (P.holds table.now.key) table.now.table_id.slots seat.old.id seat.old.me at (λ _. new) (λ _. W.told (step table.now.table_id.slots at new 0 none) seat.old.me new) }
-    ensures { (seat.new.table_id ≡ seat.old.table_id) × (seat.new.id ≡ seat.old.id) × W.told (step table.now.table_id.slots at new 0 none) seat.old.me new seat.new.me }
+    requires table { seat.old.table_id ≡ table.now.table_id }
+    requires word { at < table.now.table_id.words }
+    requires allowed { Allows (P.holds table.now.key) table.now.table_id.slots seat.old.id seat.old.me at
+        (λ _. new) (λ _. W.told (step table.now.table_id.slots at new 0 none) seat.old.me new) }
+    ensures seat { (seat.new.table_id ≡ seat.old.table_id) × (seat.new.id ≡ seat.old.id) }
+    ensures told { W.told (step table.now.table_id.slots at new 0 none) seat.old.me new seat.new.me }
 {
     let _ = about;
     let _ = line;
@@ -76,8 +84,12 @@ pub fn exchange_as<S, V, K, P: TableRule<S, V, K>, A: Copy, X, W: Telling<S, V>>
     about: A,
     line: &X,
 ) -> u64
-    requires { (seat.old.table_id ≡ table.now.table_id) × (at < table.now.table_id.words) × Allows (P.holds table.now.key) table.now.table_id.slots seat.old.id seat.old.me at (λ n. either (n == old) new n) (W.told (step table.now.table_id.slots at old new none) seat.old.me) }
-    ensures { (seat.new.table_id ≡ seat.old.table_id) × (seat.new.id ≡ seat.old.id) × W.told (step table.now.table_id.slots at old new none) seat.old.me result seat.new.me }
+    requires table { seat.old.table_id ≡ table.now.table_id }
+    requires word { at < table.now.table_id.words }
+    requires allowed { Allows (P.holds table.now.key) table.now.table_id.slots seat.old.id seat.old.me at
+        (λ n. either (n == old) new n) (W.told (step table.now.table_id.slots at old new none) seat.old.me) }
+    ensures seat { (seat.new.table_id ≡ seat.old.table_id) × (seat.new.id ≡ seat.old.id) }
+    ensures told { W.told (step table.now.table_id.slots at old new none) seat.old.me result seat.new.me }
 {
     let _ = about;
     let _ = line;
@@ -95,8 +107,13 @@ pub fn try_as<S, V, K, P: TableRule<S, V, K>, A: Copy, X, W: Telling<S, V>>(
     about: A,
     line: &X,
 ) -> bool
-    requires { (seat.old.table_id ≡ table.now.table_id) × (at < table.now.table_id.words) × Allows (P.holds table.now.key) table.now.table_id.slots seat.old.id seat.old.me at (λ n. either (n == seen) new n) (W.told (step table.now.table_id.slots at seen new none) seat.old.me) }
-    ensures { (seat.new.table_id ≡ seat.old.table_id) × (seat.new.id ≡ seat.old.id) × ((found : ℕ) × (IsTrue result ↔ (found ≡ seen)) × W.told (step table.now.table_id.slots at seen new none) seat.old.me found seat.new.me) }
+    requires table { seat.old.table_id ≡ table.now.table_id }
+    requires word { at < table.now.table_id.words }
+    requires allowed { Allows (P.holds table.now.key) table.now.table_id.slots seat.old.id seat.old.me at
+        (λ n. either (n == seen) new n) (W.told (step table.now.table_id.slots at seen new none) seat.old.me) }
+    ensures seat { (seat.new.table_id ≡ seat.old.table_id) × (seat.new.id ≡ seat.old.id) }
+    ensures told { (found : ℕ) × (IsTrue result ↔ (found ≡ seen))
+        × W.told (step table.now.table_id.slots at seen new none) seat.old.me found seat.new.me }
 {
     let found = exchange_as::<S, V, K, P, A, X, W>(
         table,

@@ -1,12 +1,11 @@
 -- What a tagged word says: four fields, and the number that stands for them.
 use Rattle.std.specs.Prelude.{ℕ, Bool, true, ◌+◌, ◌*◌, ◌/◌, ◌%◌, ◌^◌, ◌==◌, ◌≤◌, if◌then◌else◌}
+use Rattle.tagged_index.specs.declared.word.Fields as Word
 use Rattle.tagged_index.specs.declared.word.TheConstants.{INDEX_BITS, MARK_UNIT, SECOND_UNIT, TAG_UNIT, NULL, MAX_TAG}
 
-pub record Fields : Type 0 where
-  pub index : ℕ
-  pub mark : Bool
-  pub second : Bool
-  pub tag : ℕ
+-- index, mark, second (the second mark), tag
+abbrev pub Fields : Type 0
+Fields = Word.Fields
 
 -- the fields that a word has room for
 pub record IsInRange (f : Fields) : Type 0 where

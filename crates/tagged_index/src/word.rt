@@ -1,6 +1,6 @@
 //! A tagged word: from the lowest bit up an index, two marks and a tag, in one `u64`.
 ghost use Rattle.std.specs.Prelude.{◌≡◌, ◌<◌, ◌≤◌, ◌↔◌, ℕ, IsSome, IfSome, IfNone};
-ghost use Rattle.tagged_index.specs.Fields.{Fields, fields_of, index_of, mark_of, second_of, tag_of, number, kept, raised, marked, with_second};
+ghost use Rattle.tagged_index.specs.Fields.{fields_of, index_of, mark_of, second_of, tag_of, number, kept, raised, marked, with_second};
 
 use std::marker::Model;
 
@@ -38,6 +38,15 @@ pub const MAX_TAG: u64 = (1 << TAG_BITS) - 1;
 const _: () = prove!(TAG_SHIFT + TAG_BITS == 64);
 
 const _: () = prove!(NULL == 1_048_575 && MAX_TAG == 4_398_046_511_103);
+
+/// A tagged word taken apart. Definitions and proofs speak of words by their fields.
+#[derive(Clone, Copy, PartialEq, Eq, Debug)]
+pub struct Fields {
+    pub index: u32,
+    pub mark: bool,
+    pub second: bool,
+    pub tag: u64,
+}
 
 /// An index from 0 to `NULL`, a mark, a second mark and a tag from 0 to `MAX_TAG`.
 ///

@@ -56,7 +56,7 @@ pub chain_kept : (i w n : ℕ) (me me' : Seated) → HasChain First i me → me'
 chain_kept i w n me me' c slots did = chain_same First i me me' (record { hand = did.hand; last_link = did.last_link; slots = slots }) c
 
 pub chain_taken : (front : Front) (id w m : ℕ) (me me' : Seated) (xs : List ℕ) → IsFree me → index_of w < NULL → index_of w < 3
-    → WithSlots true xs (TookAll front Rule id 0 w m (λ zs. Did 0 (take_all w) w zs me.0) (LostAll three hand 0 xs) me me') → HasChain front (index_of w) me'
+    → WithSlots true xs (TookAll Rule id front 0 w m (λ zs. Did 0 (take_all w) w zs) (LostAll three hand 0 xs) me me') → HasChain front (index_of w) me'
 chain_taken front id w m me me' xs free low three_low took =
     let zs = took.0 in
     let won = took.2 in

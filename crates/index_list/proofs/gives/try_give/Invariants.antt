@@ -1,6 +1,5 @@
-use Rattle.std.proofs.Common.{[], ◌∷◌}
-use Rattle.index_list.specs.Steps.{give, top_after_give, WithSlot}
-use Rattle.index_list.specs.Results.{Lost, Gave, Stood, Gained}
+use Rattle.index_list.specs.Steps.{give}
+use Rattle.index_list.specs.Results.{Given, Missed}
 use Rattle.index_list.proofs.Allowed.{Tried}
 use Rattle.index_list.proofs.gives.try_give.Given as goal
 
@@ -8,6 +7,6 @@ abbrev pub ghosts-try_as : goal.ghosts-try_as
 ghosts-try_as g a = let host = g.P.ListHost in let holds = g.P.TableRule.holds a.table.now.key in let id = a.seat.now.id in let l = a.about.0 in let w = a.about.1 in let i = a.about.2 in
     let did = host.did a.line.now l (give w i) in record {
       told = λ _ me. Tried holds host.steps w
-          (λ me'. WithSlot (host.layout.carries l) i (Gave holds id (host.layout.top l) w (top_after_give host.layout l w i) (λ zs. did w zs me.0) (Gained host.layout host.held l (i ∷ [])) me me'))
-          (Lost holds id (host.layout.top l) w (λ found. did found []) (Stood host.layout host.held l) me) me;
+          (Given host.layout host.held holds id l w i did me)
+          (Missed host.layout host.held holds id l w did me) me;
     }

@@ -14,8 +14,11 @@ try_give_chain-requires-clause-may c = let chain = chain_same First _ _ _ c.top-
     ((chain.others, chain.hand), chain.last_link ∙ sym null)
 
 pub try_give_chain-requires-clause-held : goal.try_give_chain-requires-clause-held
-try_give_chain-requires-clause-held c = let chain = chain_same First _ _ _ c.top-top.ensures.same.1 c.requires.1 in
-    ((chain.others, chain.hand), (chain.chain, chain.numbered, (each_rests chain.chain, ([], chain.slots ∙ sym (append-nil chain.chain)))))
+try_give_chain-requires-clause-held c = let chain = chain_same First _ _ _ c.top-top.ensures.same.1 c.requires.1 in (chain.others, chain.hand)
+
+pub try_give_chain-requires-clause-slots : goal.try_give_chain-requires-clause-slots
+try_give_chain-requires-clause-slots c = let chain = chain_same First _ _ _ c.top-top.ensures.same.1 c.requires.1 in
+    (chain.chain, chain.numbered, (each_rests chain.chain, ([], chain.slots ∙ sym (append-nil chain.chain))))
 
 pub returns-clause-won : goal.returns-clause-won
 returns-clause-won c t = chain_given c.args.index c.top-top.result _ _ _ (chain_same First _ _ _ c.top-top.ensures.same.1 c.requires.1) (c.try_give_chain.ensures.won t)

@@ -1,0 +1,5 @@
+use Rattle.step_core.proofs.StackBounded.{stack_bounded}
+use Rattle.step_core.proofs.bounds.stack_bound.Goals as goal
+
+pub returns : goal.returns
+returns g c = stack_bounded
