@@ -1,0 +1,4 @@
+pub mod Seats
+pub mod Opening
+pub mod Going
+pub mod Closes

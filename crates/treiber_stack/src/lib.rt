@@ -1,0 +1,14 @@
+//! Treiber's stack over a fixed pool.
+#![tactic(auto)]
+
+mod calls;
+mod closing;
+mod host;
+mod layout;
+mod operation;
+mod rule;
+mod stack;
+mod steps;
+
+pub use closing::{CloseOp, ShutOp};
+pub use stack::{Pass, Root, Stack};
