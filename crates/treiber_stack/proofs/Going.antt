@@ -1,5 +1,5 @@
 -- How an operation goes on by what a step tells.
-use Rattle.std.proofs.Common.{◌≡◌, ℕ, ◌+◌, ◌<◌, ◌≤◌, true, false, List, [], ◌∷◌, ◌++◌, refl, sym, ap, ◌∙◌, subst, arith}
+use Rattle.std.proofs.Common.{◌≡◌, ℕ, ◌<◌, ◌≤◌, false, List, [], ◌++◌, refl, sym, ap, ◌∙◌, subst, arith}
 use Rattle.std.proofs.lemmas.Bool.{false≢true}
 use Rattle.std.specs.Prelude.{Option as Slot, Some}
 use Rattle.bounded_model.specs.declared.history.Event.{Event}
@@ -17,7 +17,7 @@ use Rattle.step_core.specs.StackMachine.{is_idle, step}
 use Rattle.step_core.specs.StackLaw.{shape}
 use Rattle.step_core.specs.StackRule.{Tells}
 use Rattle.step_core.specs.StackDeeds.{Deeds}
-use Rattle.step_core.specs.Seats.{at_rest, stepped, pass_of, begun_of, line_of}
+use Rattle.step_core.specs.Seats.{at_rest, stepped, pass_of, line_of}
 use Rattle.treiber_stack.specs.declared.operation.Operation.{Operation}
 use Rattle.treiber_stack.specs.declared.operation.Operation.TheVariants.{Put as PutFirst, Take as TakeFirst, Close as CloseFirst, Shut as ShutFirst, Look as LookFirst}
 use Rattle.treiber_stack.specs.Rule.{idle, holding}

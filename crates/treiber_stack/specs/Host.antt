@@ -1,5 +1,5 @@
 -- The stack as a host of two lists: which step a seat may make, and what the step tells.
-use Rattle.std.specs.Prelude.{◌≡◌, ◌≢◌, ℕ, zero, suc, ◌≤◌, ◌<◌, List, [], ◌∷◌, ◌++◌, Option as Slot}
+use Rattle.std.specs.Prelude.{◌≡◌, ℕ, zero, suc, ◌≤◌, List, [], ◌∷◌, ◌++◌, Option as Slot}
 use mathlib.Core.Option.{Option, none, some}
 use Rattle.tagged_index.specs.Fields.{index_of, fields_of}
 use Rattle.tagged_index.specs.declared.word.TheConstants.{NULL}
@@ -11,7 +11,7 @@ use Rattle.index_list.specs.Steps.{Kind, read_top, read_link, write_link, take, 
 use Rattle.step_core.specs.Words.{Tagged}
 use Rattle.step_core.specs.declared.stack.Taking.TheVariants.{One}
 use Rattle.step_core.specs.declared.stack.Line.{Line}
-use Rattle.step_core.specs.declared.stack.Line.TheVariants.{Idle, F1, F2, F3, F4, P1, P2, P3, D1, S1, S2, S3, A1, R1, R2, W1, G1, G2, G3, Z1, Z2, Y1, Y2, V1}
+use Rattle.step_core.specs.declared.stack.Line.TheVariants.{Idle, F1, F2, F3, F4, P1, P2, D1, S1, S2, S3, R1, R2, W1, G1, G2, G3, Z1, Z2, Y1, Y2, V1}
 use Rattle.step_core.specs.declared.seats.View.{View}
 use Rattle.step_core.specs.declared.seats.View.TheVariants.{AtRoot, AtPass, AtMeeting, Left}
 use Rattle.step_core.specs.StackMachine.{Memory, Outcome, first, second, last, held, step}

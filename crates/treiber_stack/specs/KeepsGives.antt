@@ -1,8 +1,8 @@
 -- Won exchanges that give a chain back to the free list, its slots empty; and that both lists stand.
-use Rattle.std.proofs.Common.{◌≡◌, ◌≢◌, ℕ, zero, suc, ◌+◌, ◌<◌, ◌≤◌, ◌⊎◌, inl, inr, ⊎_elim, Bool, true, false, cond, ltb, List, [], ◌∷◌, map, length, set, refl, sym, ap, ◌∙◌, subst, arith}
+use Rattle.std.proofs.Common.{◌≡◌, ℕ, zero, suc, ◌+◌, ◌<◌, ◌≤◌, inl, inr, Bool, true, cond, ltb, List, [], ◌∷◌, map, length, set, refl, sym, ap, ◌∙◌, subst, arith}
 use Rattle.std.proofs.lemmas.List.{length-set}
-use Rattle.std.specs.Prelude.{slice_index, Option as Slot, Some, None}
-use mathlib.Core.Option.{Option, none, some, some-injective, some-ne-none}
+use Rattle.std.specs.Prelude.{Option as Slot, Some, None}
+use mathlib.Core.Option.{Option, some, some-injective, some-ne-none}
 use lib.ListN.{get_elem?}
 use Rattle.atomic_table.specs.Table.{State}
 use Rattle.tagged_index.specs.Fields.{fields_of, index_of, number, kept}
@@ -12,12 +12,12 @@ use Rattle.bounded_model.specs.declared.history.Event.TheVariants.{Free}
 use Rattle.bounded_model.specs.Machine.{Shape}
 use Rattle.index_list.specs.Lists as index_list
 use Rattle.index_list.specs.Lists.{word, Holds, Disjoint, Distinct, AllHome, Stands}
-use Rattle.index_list.specs.Steps.{give_chain, Each, numbers, filled, ForSlots, top_after_give, changed, Before, Goes}
+use Rattle.index_list.specs.Steps.{give_chain, filled, ForSlots, top_after_give, changed, Before, Goes}
 use Rattle.index_list.proofs.Acts.{length-filled}
 use Rattle.step_core.specs.Words.{Tagged, times, total}
 use Rattle.step_core.specs.Words as core
 use Rattle.step_core.specs.declared.stack.Line.{Line}
-use Rattle.step_core.specs.declared.stack.Line.TheVariants.{Idle, F1, F2, F3, F4, P1, P2, P3, D1, S1, S2, S3, A1, R1, R2, W1, G1, G2, G3, Z1, Z2, Y1, Y2, V1}
+use Rattle.step_core.specs.declared.stack.Line.TheVariants.{G1, G3}
 use Rattle.step_core.specs.declared.seats.View.{View}
 use Rattle.step_core.specs.declared.seats.View.TheVariants.{AtRoot, AtPass, AtMeeting, Left}
 use Rattle.step_core.specs.StackMachine.{Memory, held, first, last, step, goes_on, wins, ends, after_give, emptied}
@@ -33,7 +33,7 @@ use Rattle.treiber_stack.specs.Layout.{top_at, link_at, layout_stack}
 use Rattle.treiber_stack.specs.Rule.{at_home, line_in, memory_of, Rule}
 use Rattle.treiber_stack.specs.Host.{line_now, gives_of, may_step, held_in, steps_in, Did}
 use Rattle.treiber_stack.specs.KeepsRule.{at_map}
-use Rattle.treiber_stack.specs.KeepsMemory.{holds_times, times_holds, free_set, filled_emptied}
+use Rattle.treiber_stack.specs.KeepsMemory.{holds_times, free_set, filled_emptied}
 use Rattle.treiber_stack.specs.KeepsReads.{node_below}
 use Rattle.treiber_stack.specs.KeepsMarks.{is_same}
 use Rattle.treiber_stack.specs.KeepsTakes.{plain_free}

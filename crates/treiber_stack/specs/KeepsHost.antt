@@ -1,5 +1,5 @@
 -- What is left of the laws of a host: places, and the kinds of step that a stack's lists never see.
-use Rattle.std.proofs.Common.{◌≡◌, ◌≢◌, ℕ, ◌+◌, ◌*◌, ◌<◌, length, arith}
+use Rattle.std.proofs.Common.{◌≢◌, ℕ, ◌<◌, length, arith}
 use Rattle.std.specs.Prelude.{Option as Slot}
 use Rattle.atomic_table.specs.Table.{State}
 use Rattle.index_list.specs.Steps.{give, take_all}

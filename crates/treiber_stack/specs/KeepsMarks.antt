@@ -1,14 +1,12 @@
 -- Exchanges of the stack's top that set a mark, and exchanges of either top that find another word.
-use Rattle.std.proofs.Common.{◌≡◌, ◌≢◌, ℕ, zero, suc, ◌+◌, ◌<◌, ◌≤◌, Bool, true, false, cond, List, [], ◌∷◌, length, set, refl, sym, ap, ◌∙◌, subst, arith}
+use Rattle.std.proofs.Common.{◌≡◌, ◌≢◌, ℕ, zero, suc, ◌<◌, ◌≤◌, Bool, true, false, cond, List, [], length, set, refl, sym, ap, ◌∙◌, subst, arith}
 use Rattle.std.proofs.lemmas.List.{length-set, get_or-set_other}
-use Rattle.std.specs.Prelude.{slice_index, Option as Slot, Some, Ok}
-use mathlib.Core.Option.{Option, none, some, some-injective, some-ne-none}
-use lib.ListN.{get_elem?}
+use Rattle.std.specs.Prelude.{slice_index, Option as Slot}
+use mathlib.Core.Option.{some, some-injective, some-ne-none}
 use Rattle.atomic_table.specs.Table.{State}
-use Rattle.tagged_index.specs.Fields.{fields_of, index_of, number, marked, with_second}
+use Rattle.tagged_index.specs.Fields.{fields_of, marked, with_second}
 use Rattle.tagged_index.specs.declared.word.TheConstants.{NULL}
 use Rattle.tagged_index.proofs.Words.{fields_of-number, index_of-in_range, same_fields}
-use Rattle.bounded_model.specs.declared.history.Event.{Event}
 use Rattle.bounded_model.specs.declared.history.Event.TheVariants.{Hold, Free, Close, Shut}
 use Rattle.bounded_model.specs.Machine.{Shape}
 use Rattle.index_list.specs.Lists.{word}
@@ -16,17 +14,16 @@ use Rattle.index_list.specs.Steps.{Kind, read_top, read_link, write_link, take, 
 use Rattle.step_core.specs.Words.{Tagged, same}
 use Rattle.step_core.specs.declared.stack.Taking.TheVariants.{One}
 use Rattle.step_core.specs.declared.stack.Answer.TheVariants.{Close as AnswerClose, Shut as AnswerShut}
-use Rattle.step_core.specs.declared.stack.Giving.{Giving}
 use Rattle.step_core.specs.declared.stack.Line.{Line}
-use Rattle.step_core.specs.declared.stack.Line.TheVariants.{Idle, F1, F2, F3, F4, P1, P2, P3, D1, S1, S2, S3, A1, R1, R2, W1, G1, G2, G3, Z1, Z2, Y1, Y2, V1}
+use Rattle.step_core.specs.declared.stack.Line.TheVariants.{F1, F3, S1, S3, G1, G3, Z1, Z2, Y1, Y2}
 use Rattle.step_core.specs.declared.seats.View.{View}
 use Rattle.step_core.specs.declared.seats.View.TheVariants.{AtRoot, AtPass, AtMeeting, Left}
-use Rattle.step_core.specs.StackMachine.{Memory, Outcome, step, goes_on, wins, wins_value, ends, at_F3, after_hold, after_give, after_close, after_shut}
+use Rattle.step_core.specs.StackMachine.{Memory, step, goes_on, wins, wins_value, ends, at_F3, after_hold, after_give, after_close, after_shut}
 use Rattle.step_core.specs.StackLaw.{shape}
 use Rattle.step_core.proofs.Tests.{same-is, same-self}
 use Rattle.treiber_stack.specs.declared.operation.Operation.{Operation}
 use Rattle.treiber_stack.specs.Layout.{top_at, link_at}
-use Rattle.treiber_stack.specs.Rule.{at_home, memory_of, Rule}
+use Rattle.treiber_stack.specs.Rule.{memory_of, Rule}
 use Rattle.treiber_stack.specs.Host.{line_now, takes_of, gives_of, marks_of, shuts_of, Makes, may_step, steps_in, top_in, Moves, Finds, Did}
 use Rattle.treiber_stack.specs.KeepsMemory.{top_set}
 use Rattle.treiber_stack.specs.KeepsReads.{finds_top}

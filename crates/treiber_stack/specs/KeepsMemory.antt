@@ -1,9 +1,9 @@
 -- What a write to one word, and moves of slots, leave of the core's memory.
-use Rattle.std.proofs.Common.{◌≡◌, ◌≢◌, ℕ, zero, suc, ◌+◌, ◌<◌, ◌≤◌, ◌⊎◌, inl, inr, ⊎_elim, cond, eqb, ltb, List, [], ◌∷◌, length, get_or, set, refl, sym, ap, ◌∙◌, subst, eq-eqb, ne_eqb, arith}
-use Rattle.std.proofs.lemmas.Bool.Decides.{eqb_tells, nat_tests}
+use Rattle.std.proofs.Common.{◌≡◌, ◌≢◌, ℕ, zero, suc, ◌<◌, ◌≤◌, ◌⊎◌, inl, inr, ⊎_elim, cond, eqb, List, [], ◌∷◌, length, get_or, set, refl, sym, ap, ◌∙◌, subst, arith}
+use Rattle.std.proofs.lemmas.Bool.Decides.{eqb_tells}
 use Rattle.std.proofs.lemmas.List.{get_or-set_other, get_or-set_same, length-set}
-use Rattle.std.specs.Prelude.{slice_index, slice_set, Option as Slot, None}
-use mathlib.Core.Option.{Option, none, some, some-injective, some-ne-none}
+use Rattle.std.specs.Prelude.{slice_index, Option as Slot, None}
+use mathlib.Core.Option.{Option, some, some-ne-none}
 use lib.ListN.{get_elem?}
 use Rattle.atomic_table.proofs.Lists.{set_here, set_else}
 use Rattle.tagged_index.specs.Fields.{fields_of}
@@ -11,8 +11,7 @@ use Rattle.index_list.specs.Lists.{Holds}
 use Rattle.index_list.specs.Steps.{numbers, Each, filled}
 use Rattle.index_list.proofs.Acts.{filled-else}
 use Rattle.step_core.specs.Words.{Tagged, times, store}
-use Rattle.step_core.specs.StackMachine.{Memory, with_home, after_store, emptied}
-use Rattle.step_core.proofs.Tests.{cases}
+use Rattle.step_core.specs.StackMachine.{Memory, after_store, emptied}
 use Rattle.step_core.proofs.Lists.{times_here, times_else}
 use Rattle.step_core.proofs.Chains.{emptied_here, emptied_else}
 use Rattle.treiber_stack.specs.Layout.{link_at}

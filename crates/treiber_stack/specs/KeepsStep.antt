@@ -1,7 +1,7 @@
 -- One step of one pass keeps the rule of a stack's table, whatever its line, where the words and the slots become what the core says.
-use Rattle.std.proofs.Common.{◌≡◌, ◌≢◌, ℕ, zero, suc, ◌+◌, ◌<◌, ◌≤◌, ◌⊎◌, inl, inr, ⊎_elim, List, [], ◌∷◌, ◌++◌, map, length, set, refl, sym, ap, ◌∙◌, subst, arith}
-use Rattle.std.specs.Prelude.{slice_index, slice_set, Option as Slot}
-use mathlib.Core.Option.{Option, none, some, some-injective, some-ne-none}
+use Rattle.std.proofs.Common.{◌≡◌, ℕ, zero, suc, ◌≤◌, ◌⊎◌, inl, inr, ⊎_elim, List, [], ◌∷◌, ◌++◌, map, length, set, refl, sym, ap, ◌∙◌, subst, arith}
+use Rattle.std.specs.Prelude.{slice_index, Option as Slot}
+use mathlib.Core.Option.{Option, some, some-ne-none}
 use lib.ListN.{get_elem?}
 use Rattle.atomic_table.specs.Table.{State}
 use Rattle.atomic_table.proofs.Lists.{set_again}
@@ -9,19 +9,18 @@ use Rattle.tagged_index.specs.declared.word.TheConstants.{NULL}
 use Rattle.bounded_model.specs.declared.history.Event.{Event}
 use Rattle.bounded_model.specs.declared.views.PassView.{PassView}
 use Rattle.bounded_model.specs.Machine.{Shape}
-use Rattle.bounded_model.specs.Histories.{Later}
 use Rattle.bounded_model.proofs.Histories.{Later-refl, own-between}
 use Rattle.bounded_model.specs.Histories.{own}
 use Rattle.index_list.specs.Steps.{Kind, Goes, Before}
 use Rattle.step_core.specs.Words.{times}
 use Rattle.step_core.specs.declared.stack.Line.{Line}
-use Rattle.step_core.specs.declared.stack.Line.TheVariants.{Idle, F1, S1, Z1, Y1, V1}
+use Rattle.step_core.specs.declared.stack.Line.TheVariants.{Idle}
 use Rattle.step_core.specs.declared.seats.View.{View}
 use Rattle.step_core.specs.declared.seats.View.TheVariants.{AtPass}
 use Rattle.step_core.specs.StackMachine.{Memory, Outcome, held, step}
 use Rattle.step_core.specs.StackLaw.{shape, state}
 use Rattle.step_core.specs.StackRule.{Lists, IsFine, putting, Good}
-use Rattle.step_core.specs.Seats.{Saw, Fine, Seated, held_at, stepped}
+use Rattle.step_core.specs.Seats.{Saw, Fine, Seated, stepped}
 use Rattle.step_core.proofs.Seating.{seated_step}
 use Rattle.step_core.proofs.StackKinds.{Kept, good_goes}
 use Rattle.step_core.proofs.StackStep.{step_kept}

@@ -1,23 +1,22 @@
 -- Won exchanges that take the first node of either list, with its slot.
-use Rattle.std.proofs.Common.{◌≡◌, ◌≢◌, ℕ, zero, suc, ◌+◌, ◌<◌, ◌≤◌, Bool, true, false, cond, List, [], ◌∷◌, length, set, refl, sym, ap, ◌∙◌, subst, arith}
+use Rattle.std.proofs.Common.{◌≡◌, ℕ, zero, suc, ◌<◌, ◌≤◌, Bool, true, cond, List, [], ◌∷◌, length, set, refl, sym, ap, ◌∙◌, subst, arith}
 use Rattle.std.proofs.lemmas.List.{length-set, get_or-set_other}
-use Rattle.std.specs.Prelude.{slice_index, Option as Slot, Some, Ok}
+use Rattle.std.specs.Prelude.{slice_index, Option as Slot, Some}
 use mathlib.Core.Option.{Option, none, some, some-injective, some-ne-none}
-use lib.ListN.{get_elem?}
 use Rattle.atomic_table.specs.Table.{State}
-use Rattle.tagged_index.specs.Fields.{fields_of, index_of, tag_of, number, raised}
-use Rattle.tagged_index.specs.declared.word.TheConstants.{NULL, MAX_TAG}
+use Rattle.tagged_index.specs.Fields.{fields_of, index_of, tag_of, raised}
+use Rattle.tagged_index.specs.declared.word.TheConstants.{NULL}
 use Rattle.tagged_index.proofs.Words.{fields_of-number}
 use Rattle.bounded_model.specs.declared.history.Event.{Event}
 use Rattle.bounded_model.specs.declared.history.Event.TheVariants.{Hold}
 use Rattle.bounded_model.specs.Machine.{Shape}
 use Rattle.index_list.specs.Lists.{word}
 use Rattle.index_list.specs.Steps.{take, IsHome, emptied, ForSlot, top_after_take, changed, Before, Goes}
-use Rattle.step_core.specs.Words.{Tagged, same}
+use Rattle.step_core.specs.Words.{Tagged}
 use Rattle.step_core.specs.OneList.{ReadTop, ReadLink}
 use Rattle.step_core.specs.declared.stack.Taking.TheVariants.{One}
 use Rattle.step_core.specs.declared.stack.Line.{Line}
-use Rattle.step_core.specs.declared.stack.Line.TheVariants.{Idle, F1, F2, F3, F4, P1, P2, P3, D1, S1, S2, S3, A1, R1, R2, W1, G1, G2, G3, Z1, Z2, Y1, Y2, V1}
+use Rattle.step_core.specs.declared.stack.Line.TheVariants.{F1, F3, S1, S3}
 use Rattle.step_core.specs.declared.seats.View.{View}
 use Rattle.step_core.specs.declared.seats.View.TheVariants.{AtRoot, AtPass, AtMeeting, Left}
 use Rattle.step_core.specs.StackMachine.{Memory, step, goes_on, wins, wins_value, at_F3, after_hold, after_take, with_home}
@@ -27,7 +26,7 @@ use Rattle.step_core.proofs.OneList.{ready}
 use Rattle.step_core.proofs.StackFilled.{first_value}
 use Rattle.treiber_stack.specs.declared.operation.Operation.{Operation}
 use Rattle.treiber_stack.specs.Layout.{top_at, link_at}
-use Rattle.treiber_stack.specs.Rule.{at_home, who, line_in, memory_of, Rule}
+use Rattle.treiber_stack.specs.Rule.{at_home, memory_of, Rule}
 use Rattle.treiber_stack.specs.Host.{line_now, takes_of, may_step, steps_in, top_in, Did}
 use Rattle.treiber_stack.specs.KeepsMemory.{free_set, top_set, home_set, home_below}
 use Rattle.treiber_stack.specs.KeepsMarks.{is_same, plain_top}

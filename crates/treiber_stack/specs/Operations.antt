@@ -1,7 +1,6 @@
 -- A pass in an operation, and a pass whose operation has answered.
-use Rattle.std.specs.Prelude.{◌≡◌, ◌≢◌, ℕ, ◌+◌, ◌<◌, ◌≤◌, false, List, [], Option as Slot, Some}
+use Rattle.std.specs.Prelude.{◌≡◌, ◌≢◌, ℕ, ◌+◌, ◌<◌, ◌≤◌, List, [], Option as Slot, Some}
 use Rattle.tagged_index.specs.Limits.{capacity_of, tag_limit_of}
-use Rattle.bounded_model.specs.declared.history.Event.{Event}
 use Rattle.bounded_model.specs.declared.views.PassView.{PassView}
 use Rattle.bounded_model.specs.Histories.{Later}
 use Rattle.bounded_model.specs.Laws.{IsAtRest}
@@ -10,7 +9,6 @@ use Rattle.step_core.specs.declared.stack.Line.{Line}
 use Rattle.step_core.specs.declared.stack.Line.TheVariants.{Idle}
 use Rattle.step_core.specs.declared.seats.View.{View}
 use Rattle.step_core.specs.declared.seats.View.TheVariants.{AtPass}
-use Rattle.step_core.specs.StackMachine.{is_idle}
 use Rattle.step_core.specs.StackLaw.{shape}
 use Rattle.step_core.specs.StackRule.{Tells}
 use Rattle.step_core.specs.StackDeeds.{Deeds}
@@ -18,7 +16,6 @@ use Rattle.step_core.specs.Seats.{at_rest, pass_of}
 use Rattle.treiber_stack.specs.Rule.{idle}
 use Rattle.index_list.specs.Steps.{Kind}
 use Rattle.treiber_stack.specs.Host.{line_now, begun_now, steps_in, Did}
-use Rattle.treiber_stack.specs.Stack.{shape_of, pass_in, IsPassOf}
 use Rattle.treiber_stack.specs.declared.operation.Operation.{Operation}
 use Rattle.treiber_stack.specs.declared.stack.Stack.{Stack}
 use Rattle.treiber_stack.specs.declared.stack.Pass.{Pass}
