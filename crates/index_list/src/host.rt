@@ -18,7 +18,8 @@ use atomic_table::TableRule;
 /// of it (a `Line`, since one kind of step can stand at several places of an operation). `did`
 /// says what the seat's view is after the step, by the word found and the slots moved: at an
 /// exchange that loses another word than the one expected, and none. `rests` says with which
-/// values a slot may go home.
+/// value the slot of an index may go home. `may` and `did` see the table's key too, and so
+/// may tell of limits that are set when the table is made.
 ///
 /// Its laws speak of plain data, one for each kind of step: a table that meets the rule meets
 /// it again after the step, under some new view of the seat that made it. A host whose lists
@@ -32,11 +33,11 @@ pub trait ListHost<S, V, K, const L: usize>: TableRule<S, V, K> {
 
     ghost steps: { V → ℕ };
 
-    ghost may: { Self.Line → ℕ → Kind → V → Type 0 };
+    ghost may: { K → Self.Line → ℕ → Kind → V → Type 0 };
 
-    ghost did: { Self.Line → ℕ → Kind → ℕ → List (ℕ × S) → V → V → Type 0 };
+    ghost did: { K → Self.Line → ℕ → Kind → ℕ → List (ℕ × S) → V → V → Type 0 };
 
-    ghost rests: { ℕ → S → Type 0 };
+    ghost rests: { ℕ → V → ℕ → S → Type 0 };
 
     /// The word that is the top of the list.
     fn top(list: usize) -> usize
@@ -65,86 +66,86 @@ pub trait ListHost<S, V, K, const L: usize>: TableRule<S, V, K> {
     // A seat that may take has read the link that the first index still has, if the top is still
     // the one seen.
     ghost follows: { (line : Self.Line) (key : K) (l id : ℕ) (v : V) (s : State S V) (w n : ℕ)
-        → l < L → may line l (take w n) v → index_of w < NULL
+        → l < L → may key line l (take w n) v → index_of w < NULL
         → Before (Self.holds key) id v (layout.top l) s → word s (layout.top l) ≡ w
         → word s (layout.link l (index_of w)) ≡ n };
 
     // A seat that may give has stored the seen top in the link of the last index that it gives.
     ghost links: { (line : Self.Line) (key : K) (l id : ℕ) (v : V) (s : State S V) (w i : ℕ)
-        → l < L → may line l (give w i) v → Before (Self.holds key) id v (layout.top l) s
+        → l < L → may key line l (give w i) v → Before (Self.holds key) id v (layout.top l) s
         → word s (layout.link l i) ≡ index_of w };
 
     ghost links_chain: { (line : Self.Line) (key : K) (l id : ℕ) (v : V) (s : State S V) (w i : ℕ)
-        → l < L → may line l (give_chain w i) v → Before (Self.holds key) id v (layout.top l) s
+        → l < L → may key line l (give_chain w i) v → Before (Self.holds key) id v (layout.top l) s
         → Leads (λ j. word s (layout.link l j)) i (held l v) (index_of w) };
 
     ghost reads_top: { (line : Self.Line) (key : K) (l id : ℕ) (v : V) (s : State S V)
-        → l < L → may line l read_top v → Before (Self.holds key) id v (layout.top l) s
+        → l < L → may key line l read_top v → Before (Self.holds key) id v (layout.top l) s
         → Goes (Self.holds key) steps v (looked s id)
-        (did line l read_top (word s (layout.top l)) [] v) };
+        (did key line l read_top (word s (layout.top l)) [] v) };
 
     ghost reads_link: { (line : Self.Line) (key : K) (l id : ℕ) (v : V) (s : State S V) (i : ℕ)
-        → l < L → may line l (read_link i) v → Before (Self.holds key) id v (layout.link l i) s
+        → l < L → may key line l (read_link i) v → Before (Self.holds key) id v (layout.link l i) s
         → Goes (Self.holds key) steps v (looked s id)
-        (did line l (read_link i) (word s (layout.link l i)) [] v) };
+        (did key line l (read_link i) (word s (layout.link l i)) [] v) };
 
     ghost writes_link: { (line : Self.Line) (key : K) (l id : ℕ) (v : V) (s : State S V) (i n : ℕ)
-        → l < L → may line l (write_link i n) v → Holds (held l v) i
+        → l < L → may key line l (write_link i n) v → Holds (held l v) i
         → Before (Self.holds key) id v (layout.link l i) s
         → Goes (Self.holds key) steps v (changed s (layout.link l i) n s.homes id)
-        (did line l (write_link i n) n [] v) };
+        (did key line l (write_link i n) n [] v) };
 
     // An exchange of any kind that finds another word than it expects.
     ghost loses: { (line : Self.Line) (key : K) (l id : ℕ) (v : V) (s : State S V) (k : Kind) (w : ℕ)
-        → l < L → may line l k v → Expects k w
+        → l < L → may key line l k v → Expects k w
         → Before (Self.holds key) id v (layout.top l) s → word s (layout.top l) ≢ w
-        → Goes (Self.holds key) steps v (looked s id) (did line l k (word s (layout.top l)) [] v) };
+        → Goes (Self.holds key) steps v (looked s id) (did key line l k (word s (layout.top l)) [] v) };
 
     ghost takes: { (line : Self.Line) (key : K) (l id : ℕ) (v : V) (s : State S V) (w n : ℕ)
-        → l < L → may line l (take w n) v → index_of w < NULL → tag_of w < MAX_TAG
+        → l < L → may key line l (take w n) v → index_of w < NULL → tag_of w < MAX_TAG
         → Before (Self.holds key) id v (layout.top l) s → word s (layout.top l) ≡ w
         → ForSlot (layout.carries l) (index_of w) (IsHome s.homes)
         (λ zs. Goes (Self.holds key) steps v
         (changed s (layout.top l) (top_after_take w n) (emptied s.homes zs) id)
-        (did line l (take w n) w zs v)) };
+        (did key line l (take w n) w zs v)) };
 
     ghost gives: { (line : Self.Line) (key : K) (l id : ℕ) (v : V) (s : State S V) (w i : ℕ)
-        → l < L → may line l (give w i) v → Holds (held l v) i → i < NULL
+        → l < L → may key line l (give w i) v → Holds (held l v) i → i < NULL
         → Before (Self.holds key) id v (layout.top l) s → word s (layout.top l) ≡ w
-        → ForSlot (layout.carries l) i (λ _. rests l)
+        → ForSlot (layout.carries l) i (rests l v)
         (λ zs. Goes (Self.holds key) steps v
         (changed s (layout.top l) (top_after_give layout l w i) (filled s.homes zs) id)
-        (did line l (give w i) w zs v)) };
+        (did key line l (give w i) w zs v)) };
 
     ghost gives_chain: { (line : Self.Line) (key : K) (l id : ℕ) (v : V) (s : State S V) (w i : ℕ)
         (others : List ℕ)
-        → l < L → may line l (give_chain w i) v → held l v ≡ i ∷ others → i < NULL
+        → l < L → may key line l (give_chain w i) v → held l v ≡ i ∷ others → i < NULL
         → Before (Self.holds key) id v (layout.top l) s → word s (layout.top l) ≡ w
-        → ForSlots (layout.carries l) (held l v) (λ _. rests l)
+        → ForSlots (layout.carries l) (held l v) (rests l v)
         (λ zs. Goes (Self.holds key) steps v
         (changed s (layout.top l) (top_after_give layout l w i) (filled s.homes zs) id)
-        (did line l (give_chain w i) w zs v)) };
+        (did key line l (give_chain w i) w zs v)) };
 
     ghost takes_all: { (line : Self.Line) (key : K) (l id : ℕ) (v : V) (s : State S V) (w : ℕ) (xs : List ℕ)
-        → l < L → may line l (take_all w) v → index_of w < NULL → tag_of w < MAX_TAG
+        → l < L → may key line l (take_all w) v → index_of w < NULL → tag_of w < MAX_TAG
         → Before (Self.holds key) id v (layout.top l) s → word s (layout.top l) ≡ w
         → Stands layout held l s xs
         → ForSlots (layout.carries l) xs (IsHome s.homes)
         (λ zs. Goes (Self.holds key) steps v
         (changed s (layout.top l) (top_after_take w NULL) (emptied s.homes zs) id)
-        (did line l (take_all w) w zs v)) };
+        (did key line l (take_all w) w zs v)) };
 
     ghost marks: { (line : Self.Line) (key : K) (l id : ℕ) (v : V) (s : State S V) (w : ℕ)
-        → l < L → may line l (mark w) v
+        → l < L → may key line l (mark w) v
         → Before (Self.holds key) id v (layout.top l) s → word s (layout.top l) ≡ w
         → Goes (Self.holds key) steps v
         (changed s (layout.top l) (top_after_mark w) s.homes id)
-        (did line l (mark w) w [] v) };
+        (did key line l (mark w) w [] v) };
 
     ghost shuts: { (line : Self.Line) (key : K) (l id : ℕ) (v : V) (s : State S V) (w : ℕ)
-        → l < L → may line l (shut w) v
+        → l < L → may key line l (shut w) v
         → Before (Self.holds key) id v (layout.top l) s → word s (layout.top l) ≡ w
         → Goes (Self.holds key) steps v
         (changed s (layout.top l) (top_after_shut w) s.homes id)
-        (did line l (shut w) w [] v) };
+        (did key line l (shut w) w [] v) };
 }

@@ -20,13 +20,13 @@ pub fn try_mark<S, V, K, P: ListHost<S, V, K, L>, const L: usize>(
 ) -> bool
     requires table { seat.old.table_id ≡ table.now.table_id }
     requires list { (list < L) × (P.layout.top list < table.now.table_id.words) }
-    requires may { P.may line.now list (mark seen) seat.old.me.0 }
+    requires may { P.may table.now.key line.now list (mark seen) seat.old.me.0 }
     ensures seat { (seat.new.table_id ≡ seat.old.table_id) × (seat.new.id ≡ seat.old.id) }
     ensures counted { P.steps seat.new.me.0 ≡ P.steps seat.old.me.0 + 1 }
     ensures won { IsTrue result → Remarked P.layout P.held (P.holds table.now.key) seat.old.id list
-        seen (top_after_mark seen) (P.did line.now list (mark seen)) seat.old.me seat.new.me }
+        seen (top_after_mark seen) (P.did table.now.key line.now list (mark seen)) seat.old.me seat.new.me }
     ensures lost { IsFalse result → Missed P.layout P.held (P.holds table.now.key) seat.old.id list
-        seen (P.did line.now list (mark seen)) seat.old.me seat.new.me }
+        seen (P.did table.now.key line.now list (mark seen)) seat.old.me seat.new.me }
 {
     try_as::<S, V, K, P, (usize, Tagged), P::Line, Brand>(
         table,
@@ -50,13 +50,13 @@ pub fn try_shut<S, V, K, P: ListHost<S, V, K, L>, const L: usize>(
 ) -> bool
     requires table { seat.old.table_id ≡ table.now.table_id }
     requires list { (list < L) × (P.layout.top list < table.now.table_id.words) }
-    requires may { P.may line.now list (shut seen) seat.old.me.0 }
+    requires may { P.may table.now.key line.now list (shut seen) seat.old.me.0 }
     ensures seat { (seat.new.table_id ≡ seat.old.table_id) × (seat.new.id ≡ seat.old.id) }
     ensures counted { P.steps seat.new.me.0 ≡ P.steps seat.old.me.0 + 1 }
     ensures won { IsTrue result → Remarked P.layout P.held (P.holds table.now.key) seat.old.id list
-        seen (top_after_shut seen) (P.did line.now list (shut seen)) seat.old.me seat.new.me }
+        seen (top_after_shut seen) (P.did table.now.key line.now list (shut seen)) seat.old.me seat.new.me }
     ensures lost { IsFalse result → Missed P.layout P.held (P.holds table.now.key) seat.old.id list
-        seen (P.did line.now list (shut seen)) seat.old.me seat.new.me }
+        seen (P.did table.now.key line.now list (shut seen)) seat.old.me seat.new.me }
 {
     try_as::<S, V, K, P, (usize, Tagged), P::Line, Brand>(
         table,

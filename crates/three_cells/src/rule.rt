@@ -25,11 +25,11 @@ impl ListHost<Option<u8>, View, (), 1> for Three {
 
     ghost steps = { steps };
 
-    ghost may = { λ _. May };
+    ghost may = { λ _ _. May };
 
-    ghost did = { λ _. Did };
+    ghost did = { λ _ _. Did };
 
-    ghost rests = { λ _ _. Unit {0} };
+    ghost rests = { λ _ _ _ _. Unit {0} };
 
     fn top(_list: usize) -> usize {
         0

@@ -9,7 +9,7 @@ use Rattle.index_list.proofs.marks.try_mark.Goals as goal
 
 pub try_as-requires-clause-allowed : goal.try_as-requires-clause-allowed
 try_as-requires-clause-allowed g c = let host = g.P.ListHost in let law = g.met.P.ListHost in let a = c.args in let key = a.table.now.key in let holds = g.P.TableRule.holds key in let id : ℕ = a.seat.now.id in let me = a.seat.now.me in
-    let l : ℕ = a.list in let w : ℕ = a.seen in let listed = c.requires.list.0 in let may = c.requires.may in let did = host.did a.line.now l (mark w) in
+    let l : ℕ = a.list in let w : ℕ = a.seen in let listed = c.requires.list.0 in let may = c.requires.may in let did = host.did a.table.now.key a.line.now l (mark w) in
     tries_at holds host.steps _ _ (host.layout.top l) _ w _ (top_after_mark w) id me
     (Remarked host.layout host.held holds id l w (top_after_mark w) did me) did (Stood host.layout host.held l) c.top.ensures refl (number_of_fields c.marked.result (marked (fields_of w)) c.marked.ensures)
     (wins_mark host.layout host.held holds host.steps l id me (λ i. law.link_not_top l i listed) (λ s rule. law.placed key l s listed rule) (λ s rule. law.stands key l s listed rule)
