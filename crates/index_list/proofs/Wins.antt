@@ -129,10 +129,10 @@ module _ {S V : Type 0} (y : Layout) (held : ℕ → V → List ℕ) (holds : St
       let whole : Leads (next s) (index_of m) (xs ++ st.0) NULL = subst (λ (z : ℕ). Leads (next s) z (xs ++ st.0) NULL) (sym names) (leads_on (next s) i (index_of w) xs st.0 leads rest) in
       (st.0, st.1, again s m homes v (xs ++ st.0) rule after whole)
 
-  pub wins_give : (c : Bool) (w i m : ℕ) (did : List (ℕ × S) → V → V → Type 0) (rests : S → Type 0) → i < NULL → index_of m ≡ i
+  pub wins_give : (c : Bool) (w i m : ℕ) (did : List (ℕ × S) → V → V → Type 0) (rests : ℕ → S → Type 0) → i < NULL → index_of m ≡ i
       → WithSlot c i (Brings rests me.1)
       → ((s : State S V) → Met s → next s i ≡ index_of w)
-      → ((s : State S V) → Met s → word s (y.top l) ≡ w → ForSlot c i (λ _. rests) (λ zs. Goes holds steps me.0 (changed s (y.top l) m (filled s.homes zs) id) (did zs me.0)))
+      → ((s : State S V) → Met s → word s (y.top l) ≡ w → ForSlot c i rests (λ zs. Goes holds steps me.0 (changed s (y.top l) m (filled s.homes zs) id) (did zs me.0)))
       → (s : State S V) → Met s → word s (y.top l) ≡ w
       → Wins holds steps (y.top l) m id me (λ me'. WithSlot c i (Giving w m did (Gained y held l (i ∷ [])) me')) s
   wins_give true w i m did rests low names brings links law s met hit =
@@ -148,10 +148,10 @@ module _ {S V : Type 0} (y : Layout) (held : ℕ → V → List ℕ) (holds : St
       give_slots holds steps (y.top l) m id (λ me'. WithSlot false i (Giving w m did (Gained y held l (i ∷ [])) me')) s me [] me.1 (did [] me.0) refl g
       record { moved = refl; said = g.told; step = record { table = s; before = met; hit = hit; after = g.rule; effect = gained s w m i (i ∷ []) s.homes g.view met.rule hit names (refl, low, links s met) g.rule } }
 
-  pub wins_give_chain : (c : Bool) (w i m : ℕ) (xs : List ℕ) (did : List (ℕ × S) → V → V → Type 0) (rests : S → Type 0) → index_of m ≡ i
+  pub wins_give_chain : (c : Bool) (w i m : ℕ) (xs : List ℕ) (did : List (ℕ × S) → V → V → Type 0) (rests : ℕ → S → Type 0) → index_of m ≡ i
       → WithSlots c xs (Brings rests me.1)
       → ((s : State S V) → Met s → Leads (next s) i xs (index_of w))
-      → ((s : State S V) → Met s → word s (y.top l) ≡ w → ForSlots c xs (λ _. rests) (λ zs. Goes holds steps me.0 (changed s (y.top l) m (filled s.homes zs) id) (did zs me.0)))
+      → ((s : State S V) → Met s → word s (y.top l) ≡ w → ForSlots c xs rests (λ zs. Goes holds steps me.0 (changed s (y.top l) m (filled s.homes zs) id) (did zs me.0)))
       → (s : State S V) → Met s → word s (y.top l) ≡ w
       → Wins holds steps (y.top l) m id me (λ me'. WithSlots c xs (Giving w m did (Gained y held l xs) me')) s
   wins_give_chain true w i m xs did rests names brings links law s met hit =

@@ -108,5 +108,5 @@ module _ {S V : Type 0} (y : Layout) (held : ℕ → V → List ℕ) (holds : St
   Missed w did me me' = Lost holds id (y.top l) w did (Stood y held l) me me'
 
 -- these slots, each fit to go home, are before the others that a seat has
-abbrev pub Brings : {S : Type 0} → (S → Type 0) → List (ℕ × S) → List (ℕ × S) → Type 0
-Brings {S} rests slots zs = Each (λ _. rests) zs × ((others : List (ℕ × S)) × (slots ≡ zs ++ others))
+abbrev pub Brings : {S : Type 0} → (ℕ → S → Type 0) → List (ℕ × S) → List (ℕ × S) → Type 0
+Brings {S} rests slots zs = Each rests zs × ((others : List (ℕ × S)) × (slots ≡ zs ++ others))

@@ -18,7 +18,8 @@ use atomic_table::TableRule;
 /// of it (a `Line`, since one kind of step can stand at several places of an operation). `did`
 /// says what the seat's view is after the step, by the word found and the slots moved: at an
 /// exchange that loses another word than the one expected, and none. `rests` says with which
-/// values a slot may go home.
+/// value the slot of an index may go home. `may` and `did` see the table's key too, and so
+/// may tell of limits that are set when the table is made.
 ///
 /// Its laws speak of plain data, one for each kind of step: a table that meets the rule meets
 /// it again after the step, under some new view of the seat that made it. A host whose lists
@@ -36,7 +37,7 @@ pub trait ListHost<S, V, K, const L: usize>: TableRule<S, V, K> {
 
     ghost did: { K → Self.Line → ℕ → Kind → ℕ → List (ℕ × S) → V → V → Type 0 };
 
-    ghost rests: { ℕ → S → Type 0 };
+    ghost rests: { ℕ → V → ℕ → S → Type 0 };
 
     /// The word that is the top of the list.
     fn top(list: usize) -> usize
@@ -111,7 +112,7 @@ pub trait ListHost<S, V, K, const L: usize>: TableRule<S, V, K> {
     ghost gives: { (line : Self.Line) (key : K) (l id : ℕ) (v : V) (s : State S V) (w i : ℕ)
         → l < L → may key line l (give w i) v → Holds (held l v) i → i < NULL
         → Before (Self.holds key) id v (layout.top l) s → word s (layout.top l) ≡ w
-        → ForSlot (layout.carries l) i (λ _. rests l)
+        → ForSlot (layout.carries l) i (rests l v)
         (λ zs. Goes (Self.holds key) steps v
         (changed s (layout.top l) (top_after_give layout l w i) (filled s.homes zs) id)
         (did key line l (give w i) w zs v)) };
@@ -120,7 +121,7 @@ pub trait ListHost<S, V, K, const L: usize>: TableRule<S, V, K> {
         (others : List ℕ)
         → l < L → may key line l (give_chain w i) v → held l v ≡ i ∷ others → i < NULL
         → Before (Self.holds key) id v (layout.top l) s → word s (layout.top l) ≡ w
-        → ForSlots (layout.carries l) (held l v) (λ _. rests l)
+        → ForSlots (layout.carries l) (held l v) (rests l v)
         (λ zs. Goes (Self.holds key) steps v
         (changed s (layout.top l) (top_after_give layout l w i) (filled s.homes zs) id)
         (did key line l (give_chain w i) w zs v)) };

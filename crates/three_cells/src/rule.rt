@@ -29,7 +29,7 @@ impl ListHost<Option<u8>, View, (), 1> for Three {
 
     ghost did = { λ _ _. Did };
 
-    ghost rests = { λ _ _. Unit {0} };
+    ghost rests = { λ _ _ _ _. Unit {0} };
 
     fn top(_list: usize) -> usize {
         0

@@ -12,7 +12,7 @@ try_as-requires-clause-allowed g c = let host = g.P.ListHost in let law = g.met.
     tries_at holds host.steps _ _ (host.layout.top l) _ w _ (top_after_give host.layout l w i) id me
     (GivenChain host.layout host.held holds id l w i did me) did (Stood host.layout host.held l) c.top.ensures refl c.given.ensures
     (wins_give_chain host.layout host.held holds host.steps l id me (λ j. law.link_not_top l j listed) (λ s rule. law.placed key l s listed rule) (λ s rule. law.stands key l s listed rule)
-    (host.layout.carries l) w i (top_after_give host.layout l w i) (host.held l me.0) (did w) (host.rests l) (give_names host.layout l w i (omega arith))
+    (host.layout.carries l) w i (top_after_give host.layout l w i) (host.held l me.0) (did w) (host.rests l me.0) (give_names host.layout l w i (omega arith))
     c.requires.slots
     (λ s met. law.links_chain a.line.now key l id me.0 s w i listed may met)
     (λ s met hit. law.gives_chain a.line.now key l id me.0 s w i others.0 listed may others.1 low met hit))
