@@ -23,18 +23,18 @@ module _ {T : Type 0} where
   -- with or without their numbers, what was put is the same
   pub values_of-sent : (h : List (Event T)) → values_of (gather sent_of h) ≡ gather put_of h
   values_of-sent [] = refl
-  values_of-sent (Hold p ∷ h) = rw (append-nil, append-nil) (values_of-sent h)
+  values_of-sent (Hold p ∷ h) = simp append-nil (values_of-sent h)
   values_of-sent (Put p vs n ∷ h) = values_of-append (gather sent_of h) (moved_by p n vs) ∙ rw (values_of-sent h, values_of-moved_by p n vs) refl
-  values_of-sent (Take p v n ∷ h) = rw (append-nil, append-nil) (values_of-sent h)
-  values_of-sent (TakeAll p vs n ∷ h) = rw (append-nil, append-nil) (values_of-sent h)
-  values_of-sent (Free p k ∷ h) = rw (append-nil, append-nil) (values_of-sent h)
-  values_of-sent (Close p ∷ h) = rw (append-nil, append-nil) (values_of-sent h)
-  values_of-sent (Shut p ∷ h) = rw (append-nil, append-nil) (values_of-sent h)
+  values_of-sent (Take p v n ∷ h) = simp append-nil (values_of-sent h)
+  values_of-sent (TakeAll p vs n ∷ h) = simp append-nil (values_of-sent h)
+  values_of-sent (Free p k ∷ h) = simp append-nil (values_of-sent h)
+  values_of-sent (Close p ∷ h) = simp append-nil (values_of-sent h)
+  values_of-sent (Shut p ∷ h) = simp append-nil (values_of-sent h)
 
   -- a queue: what was put is what was taken, and then what is there
   pub first_in_first_out : (c : Shape) (h : List (Event T)) → c.order ≡ Fifo → Legal c h → gather put_of h ≡ values_of (gather took_of h) ++ (state c h).values
   first_in_first_out c [] queue l = refl
-  first_in_first_out c (Hold p ∷ h) queue l = rw (append-nil, append-nil) (first_in_first_out c h queue l.1)
+  first_in_first_out c (Hold p ∷ h) queue l = simp append-nil (first_in_first_out c h queue l.1)
   first_in_first_out c (Put p vs n ∷ h) queue l =
       let more : put_on c.order (state c h).values vs ≡ (state c h).values ++ vs = rw queue in
       let before = first_in_first_out c h queue l.1 in
@@ -45,9 +45,9 @@ module _ {T : Type 0} where
       let taken = values_of-append (gather took_of h) (record { value = v; number = n; by = p } ∷ []) in
       rw (append-nil, taken, before, is) (sym (append_assoc (values_of (gather took_of h)) (v ∷ []) l.0.1.0))
   first_in_first_out c (TakeAll p vs n ∷ h) queue l = absurd (rw queue at l.0.1)
-  first_in_first_out c (Free p k ∷ h) queue l = rw (append-nil, append-nil) (first_in_first_out c h queue l.1)
-  first_in_first_out c (Close p ∷ h) queue l = rw (append-nil, append-nil) (first_in_first_out c h queue l.1)
-  first_in_first_out c (Shut p ∷ h) queue l = rw (append-nil, append-nil) (first_in_first_out c h queue l.1)
+  first_in_first_out c (Free p k ∷ h) queue l = simp append-nil (first_in_first_out c h queue l.1)
+  first_in_first_out c (Close p ∷ h) queue l = simp append-nil (first_in_first_out c h queue l.1)
+  first_in_first_out c (Shut p ∷ h) queue l = simp append-nil (first_in_first_out c h queue l.1)
 
 module _ {T : Type 0} (p : T → Bool) where
   filter_back : (xs : List T) → IsPermutation (filter p (reverse xs)) (filter p xs)
@@ -75,7 +75,7 @@ module _ {T : Type 0} (p : T → Bool) where
   -- in either order: among the values of one kind, what was put is what was taken and what is there
   pub all_there_of : (c : Shape) (h : List (Event T)) → Legal c h → IsPermutation (filter p (gather put_of h)) (filter p (values_of (gather took_of h)) ++ filter p (state c h).values)
   all_there_of c [] l = IsPermutation-refl []
-  all_there_of c (Hold q ∷ h) l = rw (append-nil, append-nil) (all_there_of c h l.1)
+  all_there_of c (Hold q ∷ h) l = simp append-nil (all_there_of c h l.1)
   all_there_of c (Put q vs n ∷ h) l =
       let before = all_there_of c h l.1 in
       let fp = filter p (gather put_of h) in
@@ -101,9 +101,9 @@ module _ {T : Type 0} (p : T → Bool) where
       let all : vs ++ [] ≡ (state c h).values = append-nil vs ∙ sym l.0.2 in
       subst (λ l. IsPermutation l (filter p (values_of (gather took_of h ++ moved_by q n vs)) ++ [])) (ap (filter p) (sym (append-nil (gather put_of h))))
       (subst (IsPermutation (filter p (gather put_of h))) (sym (right ∙ ap (λ l. filter p (values_of (gather took_of h)) ++ filter p l) all)) before)
-  all_there_of c (Free q j ∷ h) l = rw (append-nil, append-nil) (all_there_of c h l.1)
-  all_there_of c (Close q ∷ h) l = rw (append-nil, append-nil) (all_there_of c h l.1)
-  all_there_of c (Shut q ∷ h) l = rw (append-nil, append-nil) (all_there_of c h l.1)
+  all_there_of c (Free q j ∷ h) l = simp append-nil (all_there_of c h l.1)
+  all_there_of c (Close q ∷ h) l = simp append-nil (all_there_of c h l.1)
+  all_there_of c (Shut q ∷ h) l = simp append-nil (all_there_of c h l.1)
 
 filter_all : {T : Type 0} (xs : List T) → filter (λ x. true) xs ≡ xs
 filter_all [] = refl

@@ -4,7 +4,7 @@ use Rattle.bounded_model.specs.declared.history.Event.{Event}
 use Rattle.bounded_model.specs.declared.history.Event.TheVariants.{Hold, Free}
 use Rattle.bounded_model.specs.declared.views.PassView.{PassView}
 use Rattle.bounded_model.specs.Histories.{own}
-use Rattle.bounded_model.specs.Gathers.{gather, did, hold_of}
+use Rattle.bounded_model.specs.Gathers.{gather, did, hold_of, holds_by}
 use Rattle.bounded_model.specs.Laws.{Adds, Idled, holds_of, gave_back, BacksOut}
 use Rattle.bounded_model.proofs.Adding.{own-adds, own-idled}
 use Rattle.bounded_model.proofs.Gathering.{gather-append}
@@ -38,10 +38,6 @@ holds-holds_of T p (suc k) = length-append (gather (hold_of {T = T}) (holds_of p
 holds-gave_back : (T : Type 0) (p k : ℕ) → length (gather (hold_of {T = T}) (gave_back p k)) ≡ k
 holds-gave_back T p zero = refl
 holds-gave_back T p (suc k) = ap length (append-nil (gather (hold_of {T = T}) (holds_of p (suc k)))) ∙ holds-holds_of T p (suc k)
-
--- how many cells a pass has taken so far
-abbrev pub holds_by : {T : Type 0} → PassView T → ℕ
-holds_by v = length (did hold_of v)
 
 pub holds_by-backs_out : {T : Type 0} {v w : PassView T} {most : ℕ} → BacksOut v w most → holds_by w ≤ holds_by v + most
 holds_by-backs_out {T} {v} {w} {most} b =

@@ -4,9 +4,9 @@ use Rattle.std.specs.List.{AllByRecursion as Every, flat_map}
 use Rattle.std.proofs.lemmas.Bool.Decides.{nat_tests}
 use Rattle.std.proofs.lemmas.List.Sorted.{IsPermutation-refl, IsPermutation-trans, IsPermutation-append_left, IsPermutation-append_right, IsPermutation-append_comm, length_permutation}
 use Rattle.bounded_model.specs.declared.history.Event.{Event}
-use Rattle.bounded_model.specs.Histories.{own, pass_of}
+use Rattle.bounded_model.specs.Histories.{own, pass_of, Later}
 use Rattle.bounded_model.specs.Gathers.{gather, EachFrom}
-use Rattle.bounded_model.proofs.Histories.{own-mine, own-other, is_nil}
+use Rattle.bounded_model.proofs.Histories.{own-mine, own-other, own-append, is_nil, no_parts, Later-cons}
 
 pub gather-append : {T A : Type 0} (f : Event T → List A) (more h : List (Event T)) → gather f (more ++ h) ≡ gather f h ++ gather f more
 gather-append f [] h = sym (append-nil (gather f h))
@@ -94,3 +94,24 @@ module _ {T A : Type 0} (f : Event T → List A) where
   nobody h ws each known =
       let p = by_passes (λ w. []) h ws each known in
       is_nil (gather f h) (length_permutation _ _ p ∙ ap length (nothing_of_all ws))
+
+  -- what a pass has not done by a later time, it has not done before
+  pub gather-own-earlier : (p : ℕ) {old new : List (Event T)} → Later old new → gather f (own p new) ≡ [] → gather f (own p old) ≡ []
+  gather-own-earlier p {old} {new} later none =
+      (no_parts (gather f (own p old)) (gather f (own p later.more)) (sym (gather-append f (own p later.more) (own p old)) ∙ (ap (gather f) (sym (own-append p later.more old) ∙ sym (ap (own p) later.is)) ∙ none))).0
+
+  stranger : (e : Event T) (p : ℕ) (h : List (Event T)) → pass_of e ≢ p → gather f h ≡ gather f (own p h) → gather f (own (pass_of e) (e ∷ h)) ≡ [] → gather f (e ∷ h) ≡ gather f (own p (e ∷ h))
+  stranger e p h other before none =
+      let nothing : f e ≡ [] = (no_parts (gather f (own (pass_of e) h)) (f e) (sym (ap (gather f) (own-mine (pass_of e) e h refl)) ∙ none)).1 in
+      rw (own-other p e h other, nothing, append-nil (gather f h), before) refl
+
+  -- where no other pass did any, what one pass did is all there is, in its order
+  pub alone : (p : ℕ) (h : List (Event T)) → ((q : ℕ) → q ≢ p → gather f (own q h) ≡ []) → gather f h ≡ gather f (own p h)
+  alone p [] others = refl
+  alone p (e ∷ h) others =
+      let before : gather f h ≡ gather f (own p h) = alone p h (λ q other. gather-own-earlier q (Later-cons e h) (others q other)) in
+      elim (placed (pass_of e) p) [
+        | Below below ↦ let other : pass_of e ≢ p = λ q. absurd (omega arith) in stranger e p h other before (others (pass_of e) other)
+        | Here is ↦ rw (own-mine p e h is, before) refl
+        | Above above ↦ let other : pass_of e ≢ p = λ q. absurd (omega arith) in stranger e p h other before (others (pass_of e) other)
+      ]

@@ -6,6 +6,7 @@ pub mod Hands
 pub mod Balance
 pub mod Numbers
 pub mod Joining
+pub mod Whole
 pub mod Doing
 pub mod Consuming
 pub mod Showing

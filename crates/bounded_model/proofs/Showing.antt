@@ -1,11 +1,11 @@
 -- Each call of the sequential list is a call of the bounded machine.
 use Rattle.std.proofs.Common.{◌≡◌, ℕ, ◌+◌, ◌-◌, ◌<◌, ◌≤◌, List, [], ◌∷◌, ◌++◌, refl, sym, ap, ◌∙◌, length, Bool, true, false, arith, Result, Ok, Err}
-use Rattle.std.specs.Prelude.{nat_le, if◌then◌else◌, not, ◌==◌}
+use Rattle.std.specs.Prelude.{nat_le, if◌then◌else◌, not}
 use Rattle.std.proofs.lemmas.Bool.Decides.{nat_tests}
 use Rattle.bounded_model.specs.declared.history.Order.{Order}
 use Rattle.bounded_model.specs.declared.history.Order.TheVariants.{Fifo, Lifo}
 use Rattle.bounded_model.specs.declared.history.Event.{Event}
-use Rattle.bounded_model.specs.declared.history.Event.TheVariants.{Hold, Put, Take, Free, Close, Shut}
+use Rattle.bounded_model.specs.declared.history.Event.TheVariants.{Hold, Put, Take, Free}
 use Rattle.bounded_model.specs.declared.answers.PutRefused.{PutRefused}
 use Rattle.bounded_model.specs.declared.answers.PutRefused.TheVariants.{Full, Closed as ClosedToPuts, Spent as SpentPut}
 use Rattle.bounded_model.specs.declared.answers.Word.TheVariants.{Count}
@@ -16,10 +16,10 @@ use Rattle.bounded_model.specs.declared.commands.Command.TheVariants.{Put as Put
 use Rattle.bounded_model.specs.declared.commands.Reply.{Reply}
 use Rattle.bounded_model.specs.declared.commands.Reply.TheVariants.{Put as PutReply, Take as TakeReply, Close as CloseReply, Shut as ShutReply}
 use Rattle.bounded_model.specs.declared.plain_list.TheConstants.{COUNT_LIMIT}
-use Rattle.bounded_model.specs.Machine.{State, state, with_hand, put_on, MayPut, StartsWith, without_first, next_put, next_take}
-use Rattle.bounded_model.specs.Replies.{reply, put_reply, take_reply, take_reply_of, added, history_after, replies, history_after_all, is_nil}
+use Rattle.bounded_model.specs.Machine.{State, state, with_hand, put_on, MayPut, without_first, next_put, next_take}
+use Rattle.bounded_model.specs.Replies.{reply, take_reply_of, added, history_after, replies, history_after_all}
 use Rattle.bounded_model.specs.Plain.{Plain, shape_of, at_rest, put_answer, take_answer, plain_reply, with_value, without_value, after_put, after_take, list_after, plain_replies, list_after_all}
-use Rattle.bounded_model.specs.Shows.{IsAtRest, Shows, Runs}
+use Rattle.bounded_model.specs.Shows.{RestsWith, Shows, Runs}
 
 -- a hand that was raised by one and lowered by one is empty again
 hands_back : (hand : ℕ → ℕ) → ((z : ℕ) → hand z ≡ 0) → (q z : ℕ) → with_hand (with_hand hand q (hand q + 1)) q (with_hand hand q (hand q + 1) q - 1) z ≡ 0
@@ -29,11 +29,11 @@ one_in_hand : (hand : ℕ → ℕ) (q : ℕ) → 1 ≤ with_hand hand q (hand q 
 one_in_hand hand q = grind (arith, nat_tests)
 
 module _ {T : Type 0} where
-  next_put-rest : (o : Order) (p : Plain T) (s : State T) → IsAtRest p s → next_put o s ≡ next_put o (at_rest p)
+  next_put-rest : (o : Order) (p : Plain T) (s : State T) → RestsWith p s → next_put o s ≡ next_put o (at_rest p)
   next_put-rest Fifo p s r = r.puts
   next_put-rest Lifo p s r = cc (r.puts, r.takes)
 
-  next_take-rest : (o : Order) (p : Plain T) (s : State T) → IsAtRest p s → next_take o s ≡ next_take o (at_rest p)
+  next_take-rest : (o : Order) (p : Plain T) (s : State T) → RestsWith p s → next_take o s ≡ next_take o (at_rest p)
   next_take-rest Fifo p s r = r.takes
   next_take-rest Lifo p s r = cc (r.puts, r.takes)
 
@@ -46,12 +46,12 @@ module _ {T : Type 0} where
   may_put_one Fifo x = refl
   may_put_one Lifo x = omega arith
 
-  take_reply_of-rest : (p : Plain T) (s : State T) (xs : List T) → IsAtRest p s → take_reply_of (shape_of p) s xs ≡ take_reply_of (shape_of p) (at_rest p) xs
+  take_reply_of-rest : (p : Plain T) (s : State T) (xs : List T) → RestsWith p s → take_reply_of (shape_of p) s xs ≡ take_reply_of (shape_of p) (at_rest p) xs
   take_reply_of-rest p s [] r = rw r.closed
   take_reply_of-rest p s (x ∷ xs) r = rw (next_take-rest p.order p s r)
 
   -- the machine answers at rest what it answers at the list
-  reply-rest : (p : Plain T) (s : State T) (m : Command T) → IsAtRest p s → reply (shape_of p) s m ≡ plain_reply p m
+  reply-rest : (p : Plain T) (s : State T) (m : Command T) → RestsWith p s → reply (shape_of p) s m ≡ plain_reply p m
   reply-rest p s (PutCommand x) r = rw (next_put-rest p.order p s r, r.closed, r.values, r.held)
   reply-rest p s TakeCommand r = rw (take_reply_of-rest p s s.values r, r.shut, r.values)
   reply-rest p s CloseCommand r = rw r.closed

@@ -5,7 +5,7 @@ use Rattle.bounded_model.specs.declared.history.Event.TheVariants.{Hold, Put, Ta
 use Rattle.bounded_model.specs.Machine.{Shape, state, Legal}
 use Rattle.bounded_model.specs.Histories.{Later}
 use Rattle.bounded_model.specs.Justified.{IsEmpty, IsOpen, IsClosed, IsShut, IsUnshut, IsWorn}
-use Rattle.bounded_model.specs.Gathers.{gather, hold_of, close_of, shut_of}
+use Rattle.bounded_model.specs.Gathers.{gather, put_of, took_of, hold_of, close_of, shut_of}
 use Rattle.bounded_model.proofs.Histories.{no_parts}
 use Rattle.bounded_model.proofs.Gathering.{gather-append}
 
@@ -123,3 +123,24 @@ module _ {T : Type 0} (c : Shape) where
   -- worn once, worn for good
   pub worn_stays : {old new : List (Event T)} → Later old new → IsWorn c old → c.limit ≤ 2 * length (gather hold_of new)
   worn_stays {old} {new} later worn = let grow = holds_grow later in let counted = holds_counted new in omega arith
+
+  -- what is closed is put into no more, and what is shut is taken from no more
+  pub closed_ends_puts : (more h : List (Event T)) → Legal c (more ++ h) → IsClosed c h → gather put_of more ≡ []
+  closed_ends_puts [] h l k = refl
+  closed_ends_puts (Hold p ∷ more) h l k = append-nil (gather put_of more) ∙ closed_ends_puts more h l.1 k
+  closed_ends_puts (Put p vs n ∷ more) h l k = let closed = closed_below more h k in cc (l.0.0, closed)
+  closed_ends_puts (Take p v n ∷ more) h l k = append-nil (gather put_of more) ∙ closed_ends_puts more h l.1 k
+  closed_ends_puts (TakeAll p vs n ∷ more) h l k = append-nil (gather put_of more) ∙ closed_ends_puts more h l.1 k
+  closed_ends_puts (Free p j ∷ more) h l k = append-nil (gather put_of more) ∙ closed_ends_puts more h l.1 k
+  closed_ends_puts (Close p ∷ more) h l k = append-nil (gather put_of more) ∙ closed_ends_puts more h l.1 k
+  closed_ends_puts (Shut p ∷ more) h l k = append-nil (gather put_of more) ∙ closed_ends_puts more h l.1 k
+
+  pub shut_ends_takes : (more h : List (Event T)) → Legal c (more ++ h) → IsShut c h → gather took_of more ≡ []
+  shut_ends_takes [] h l k = refl
+  shut_ends_takes (Hold p ∷ more) h l k = append-nil (gather took_of more) ∙ shut_ends_takes more h l.1 k
+  shut_ends_takes (Put p vs n ∷ more) h l k = append-nil (gather took_of more) ∙ shut_ends_takes more h l.1 k
+  shut_ends_takes (Take p v n ∷ more) h l k = let shut = shut_below more h k in cc (l.0.0, shut)
+  shut_ends_takes (TakeAll p vs n ∷ more) h l k = let shut = shut_below more h k in cc (l.0.0, shut)
+  shut_ends_takes (Free p j ∷ more) h l k = append-nil (gather took_of more) ∙ shut_ends_takes more h l.1 k
+  shut_ends_takes (Close p ∷ more) h l k = append-nil (gather took_of more) ∙ shut_ends_takes more h l.1 k
+  shut_ends_takes (Shut p ∷ more) h l k = append-nil (gather took_of more) ∙ shut_ends_takes more h l.1 k

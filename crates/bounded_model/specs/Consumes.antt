@@ -10,7 +10,8 @@ abbrev pub TakesEach : {T : Type 0} → Shape → PassView T → List (T × ℕ)
 TakesEach c v [] w = v ≡ w
 TakesEach {T} c v (x ∷ xs) w = (u : PassView T) × TakeGives c v u (Ok x) × TakesEach c u xs w
 
--- f made t of s and these values, one after another; `Gives s x t` says that f may answer t on s and x
+-- f made t of s and these values, one after another; `Gives s x t` says that f may answer t on s
+-- and x
 abbrev pub Folds : {T S : Type 0} → (S → T → S → Type 0) → S → List T → S → Type 0
 Folds Gives s [] t = s ≡ t
 Folds {T} {S} Gives s (x ∷ xs) t = (r : S) × Gives s x r × Folds Gives r xs t

@@ -1,5 +1,5 @@
 -- What a history holds of one thing, in the order of time: the values put, the values taken, ..
-use Rattle.std.specs.Prelude.{◌≡◌, ℕ, suc, ◌<◌, List, [], ◌∷◌, ◌++◌, map}
+use Rattle.std.specs.Prelude.{◌≡◌, ℕ, suc, ◌<◌, List, [], ◌∷◌, ◌++◌, map, length}
 use Rattle.std.specs.List.{AllByRecursion as Every}
 use Rattle.bounded_model.specs.declared.history.Event.{Event}
 use Rattle.bounded_model.specs.declared.history.Event.TheVariants.{Hold, Put, Take, TakeAll, Free, Close, Shut}
@@ -19,7 +19,7 @@ put_of (Free p k) = []
 put_of (Close p) = []
 put_of (Shut p) = []
 
--- a value that went in or out, the number of the call that moved it, and the pass that made the call
+-- a value that went in or out, the number of the call that moved it, and the pass that called
 pub record Moved (T : Type 0) : Type 0 where
   pub value : T
   pub number : ℕ
@@ -104,3 +104,7 @@ EachFrom P a (x ∷ xs) = P a x × EachFrom P (suc a) xs
 -- the same of what a pass itself has done
 abbrev pub did : {T A : Type 0} → (Event T → List A) → PassView T → List A
 did f v = gather f (own v.number v.seen)
+
+-- how many cells it has taken so far
+abbrev pub holds_by : {T : Type 0} → PassView T → ℕ
+holds_by v = length (did hold_of v)

@@ -1,4 +1,5 @@
--- When an answer that changes nothing is justified: the container really was so, at some time of the call.
+-- When an answer that changes nothing is justified: the container really was so, at some time of
+-- the call.
 use Rattle.std.specs.Prelude.{◌≡◌, ℕ, ◌+◌, ◌*◌, ◌<◌, ◌≤◌, Bool, true, false, List, [], length}
 use Rattle.bounded_model.specs.declared.history.Event.{Event}
 use Rattle.bounded_model.specs.declared.answers.Word.{Word}

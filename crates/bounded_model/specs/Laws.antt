@@ -40,7 +40,8 @@ abbrev pub Apart : {A : Type 0} → List (ℕ × A) → Type 0
 Apart [] = Unit {0}
 Apart (a ∷ rest) = Every (λ b. b.0 ≢ a.0) rest × Apart rest
 
--- a root: of each joined pass it has seen exactly the events of the account, and none of a pass that it has not given
+-- a root: of each joined pass it has seen exactly the events of the account, and none of a pass
+-- that it has not given
 pub record IsSound {T : Type 0} (c : Shape) (r : RootView T) : Type 0 where
   pub legal : Legal c r.seen
   pub joined : Every (λ a. own a.0 r.seen ≡ a.1) r.account
@@ -50,7 +51,8 @@ pub record IsSound {T : Type 0} (c : Shape) (r : RootView T) : Type 0 where
 
 -- What a call of a pass adds
 
--- it has made steps and seen more, and in the new part its own events are exactly these, the newest first
+-- it has made steps and seen more, and in the new part its own events are exactly these, the
+-- newest first
 pub record Adds {T : Type 0} (v w : PassView T) (events : List (Event T)) : Type 0 where
   pub number : w.number ≡ v.number
   pub steps : v.steps < w.steps
@@ -136,7 +138,8 @@ pub record Joins {T : Type 0} (r : RootView T) (v : PassView T) (s : RootView T)
   pub root_seen : Later r.seen s.seen
   pub seen : Later v.seen s.seen
 
--- meet: the first pass, v and then w, has seen what either had, and of each exactly its own events; u is the second
+-- meet: the first pass, v and then w, has seen what either had, and of each exactly its own
+-- events; u is the second
 pub record Meets {T : Type 0} (v u w : PassView T) : Type 0 where
   pub number : w.number ≡ v.number
   pub steps : v.steps < w.steps
@@ -150,7 +153,8 @@ abbrev pub MeetGives : {T : Type 0} → PassView T → PassView T → PassView T
 MeetGives v u w true = Meets v u w
 MeetGives v u w false = w ≡ v
 
--- finish: the list of a legal history that begins with what the root has seen, and is just that where no pass is out
+-- finish: the list of a legal history that begins with what the root has seen, and is just that
+-- where no pass is out
 pub record Leaves {T : Type 0} (c : Shape) (r : RootView T) (left : List T) : Type 0 where
   pub history : List (Event T)
   pub legal : Legal c history

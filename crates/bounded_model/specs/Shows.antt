@@ -8,7 +8,7 @@ use Rattle.bounded_model.specs.Replies.{replies, history_after_all}
 use Rattle.bounded_model.specs.Plain.{Plain, shape_of}
 
 -- the machine is at rest, no pass has a cell in hand, and this is its list
-pub record IsAtRest {T : Type 0} (p : Plain T) (s : State T) : Type 0 where
+pub record RestsWith {T : Type 0} (p : Plain T) (s : State T) : Type 0 where
   pub values : s.values ≡ p.values
   pub hands : (q : ℕ) → s.hand q ≡ 0
   pub held : s.held ≡ 0
@@ -20,7 +20,7 @@ pub record IsAtRest {T : Type 0} (p : Plain T) (s : State T) : Type 0 where
 -- the list is the end of this legal history
 pub record Shows {T : Type 0} (p : Plain T) (h : List (Event T)) : Type 0 where
   pub legal : Legal (shape_of p) h
-  pub rest : IsAtRest p (state (shape_of p) h)
+  pub rest : RestsWith p (state (shape_of p) h)
 
 -- the commands were answered as the machine answers them from any history that the old list shows, and the
 -- new list shows that history with their events added

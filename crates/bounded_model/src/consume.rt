@@ -1,7 +1,7 @@
 //! Takes over any container that hand what they took to a function.
 
 ghost use Rattle.std.specs.Prelude.{MatchResult};
-ghost use Rattle.bounded_model.specs.Laws.{TakeGives, TakesNothing};
+ghost use Rattle.bounded_model.specs.Laws.{TakeGives};
 ghost use Rattle.bounded_model.specs.Consumes.{ConsumesAll};
 
 use crate::{Container, TakeRefused};
@@ -18,7 +18,10 @@ pub fn consume_one<T, C: Container<T>, W: Wait, R, F: FnOnce(T) -> R + Drop>(
     requires pass { C.is_pass c.now by }
     requires call { F.IsAlwaysCallable f }
     ensures of { C.is_pass c.now result.0 }
-    ensures gives { MatchResult result.1 (λ r. (x : T) × TakeGives (C.shape c.now) (C.pass by) (C.pass result.0) (Ok (x, r.1)) × F.post f x r.0) (λ e. TakesNothing (C.shape c.now) (C.pass by) (C.pass result.0) e) }
+    ensures gives { let took = TakeGives (C.shape c.now) (C.pass by) (C.pass result.0) in
+        MatchResult result.1
+        (λ r. (x : T) × took (Ok (x, r.1)) × F.post f x r.0)
+        (λ why. took (Err why)) }
 {
     let (by, taken) = c.take(rt, by);
     match taken {
@@ -39,7 +42,8 @@ pub fn consume_all<T, C: Container<T>, W: Wait, S, F: Fn(S, T) -> S + Drop>(
     requires pass { C.is_pass c.now by }
     requires call { F.IsAlwaysCallable f }
     ensures of { C.is_pass c.now result.0 }
-    ensures gives { ConsumesAll (C.shape c.now) (λ s x t. F.post f s x t) (C.pass by) state (C.pass result.0) result.1 result.2 }
+    ensures gives { ConsumesAll (C.shape c.now) (λ s x t. F.post f s x t)
+        (C.pass by) state (C.pass result.0) result.1 result.2 }
 {
     let mut pass = by;
     let mut folded = state;

@@ -30,7 +30,9 @@ pub trait Leaving<T> {
 
     /// The next value; once there is none, never again one.
     fn next(&mut self) -> Option<T>
-        ensures { MatchOption result ((left self.old ≡ []) × (left self.new ≡ [])) (λ v. left self.old ≡ v ∷ left self.new) };
+        ensures { MatchOption result
+            ((left self.old ≡ []) × (left self.new ≡ []))
+            (λ v. left self.old ≡ v ∷ left self.new) };
 }
 
 /// A bounded container that many threads share, each through passes of its own.
@@ -76,7 +78,9 @@ pub trait Container<T>: Drop {
     fn split(&self, parent: &mut Self::Root) -> Option<Self::Pass>
         requires { is_root self.now parent.old }
         ensures root { is_root self.now parent.new }
-        ensures gives { MatchOption result ((root parent.new ≡ root parent.old) × IsFullOfPasses (root parent.old)) (λ p. is_pass self.now p × Splits (root parent.old) (root parent.new) (pass p)) };
+        ensures gives { MatchOption result
+            ((root parent.new ≡ root parent.old) × IsFullOfPasses (root parent.old))
+            (λ p. is_pass self.now p × Splits (root parent.old) (root parent.new) (pass p)) };
 
     /// Puts one value; answers the put's number. A refusal hands the value back.
     fn put<R: Wait>(

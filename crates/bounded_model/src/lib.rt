@@ -8,6 +8,7 @@ mod consume;
 mod container;
 mod history;
 mod plain_list;
+mod theorems;
 mod views;
 
 pub use answers::{MakeRefused, PutRefused, Stepped, TakeRefused, Word};
@@ -16,4 +17,5 @@ pub use consume::{consume_all, consume_one};
 pub use container::{Container, Leaving};
 pub use history::{Event, Order};
 pub use plain_list::{COUNT_LIMIT, MAX_CAPACITY, PlainList};
+pub use theorems::{capacity_is_kept, closing_is_final, nothing_is_lost, queue_keeps_order};
 pub use views::{PassView, RootView};

@@ -26,14 +26,15 @@ pub const MAX_CAPACITY: u32 = 1 << 20;
 /// Every number that a list answers is below this one.
 pub const COUNT_LIMIT: u64 = (1 << 42) - 1;
 
-/// A bounded list of values in an order: the machine that the concurrent containers are measured by, run by
-/// one caller at a time.
+/// A bounded list of values in an order: the machine that the concurrent containers are measured
+/// by, run by one caller at a time.
 ///
-/// Its calls are counted, a queue's puts and takes each from 0, a stack's together. A refusal leaves the list
-/// unchanged and uses no number.
+/// Its calls are counted, a queue's puts and takes each from 0, a stack's together. A refusal
+/// leaves the list unchanged and uses no number.
 #[derive(Drop)]
 pub struct PlainList<T> {
-    // A queue's from the front, a stack's from the top: either way the next to be taken stands first.
+    // A queue's from the front, a stack's from the top: either way the next to be taken stands
+    // first.
     values: VecDeque<T>,
     capacity: u32,
     order: Order,
@@ -57,8 +58,8 @@ impl<T> Model for PlainList<T> {
 }
 
 impl<T> PlainList<T> {
-    /// An empty list for so many values, from 1 to [`MAX_CAPACITY`]. All its room is taken here, so no later
-    /// put wants memory.
+    /// An empty list for so many values, from 1 to [`MAX_CAPACITY`]. All its room is taken here, so
+    /// no later put wants memory.
     pub fn new(alloc: Global, capacity: u32, order: Order) -> Result<PlainList<T>, MakeRefused>
         requires some { 0 < capacity }
         requires within { capacity ≤ MAX_CAPACITY }
@@ -77,9 +78,9 @@ impl<T> PlainList<T> {
         })
     }
 
-    /// Puts a value and answers the put's number. Refused with the value as `Closed` where the list is closed,
-    /// then as `Full` where it holds as many values as it has room for, then as `Spent` where the number would
-    /// reach [`COUNT_LIMIT`].
+    /// Puts a value and answers the put's number. Refused with the value as `Closed` where the list
+    /// is closed, then as `Full` where it holds as many values as it has room for, then as `Spent`
+    /// where the number would reach [`COUNT_LIMIT`].
     pub fn put(&mut self, value: T) -> Result<u64, PutRefused<T>>
         ensures answer { result ≡ put_answer self.old value }
         ensures accepted { OnOk result (self.new ≡ with_value self.old value) }
@@ -106,9 +107,10 @@ impl<T> PlainList<T> {
         Ok(number)
     }
 
-    /// Takes the oldest value of a queue or the newest of a stack, and answers it with the take's number.
-    /// Refused as `Shut` where the list is shut, then, where it is empty, as `Closed` if it is closed and as
-    /// `Empty` if not, then as `Spent` where the number would reach [`COUNT_LIMIT`].
+    /// Takes the oldest value of a queue or the newest of a stack, and answers it with the take's
+    /// number. Refused as `Shut` where the list is shut, then, where it is empty, as `Closed` if it
+    /// is closed and as `Empty` if not, then as `Spent` where the number would reach
+    /// [`COUNT_LIMIT`].
     pub fn take(&mut self) -> Result<(T, u64), TakeRefused>
         ensures answer { result ≡ take_answer self.old }
         ensures accepted { OnOk result (self.new ≡ without_value self.old) }
@@ -182,8 +184,8 @@ impl<T> PlainList<T> {
 }
 
 impl<T: Drop> PlainList<T> {
-    /// Does the commands in order and answers each. Room for all replies is taken first: where there is none
-    /// the list is unchanged and the commands are dropped.
+    /// Does the commands in order and answers each. Room for all replies is taken first: where
+    /// there is none the list is unchanged and the commands are dropped.
     pub fn run(
         &mut self,
         alloc: Global,

@@ -1,5 +1,5 @@
 -- What each step tells, and that a host's law lets the table's step be made.
-use Rattle.std.proofs.Common.{◌≡◌, ◌≢◌, ℕ, ◌+◌, List, refl, sym, subst, set, eqb}
+use Rattle.std.proofs.Common.{◌≡◌, ◌≢◌, ℕ, ◌+◌, List, [], refl, sym, subst, set, eqb}
 use Rattle.std.proofs.lemmas.List.{set-get_or}
 use prog.Atomic.{either}
 use Rattle.atomic_table.specs.Table.{State, Me, Act, keeps, Valid, stepped, carried_after, Allows}
@@ -89,9 +89,9 @@ module _ {S V : Type 0} (holds : State S V → Type 0) (steps : V → ℕ) where
     pub counted : steps view ≡ steps me.0 + 1
     pub told : won (view, carried_after me.1 act)
 
-  tries : (slots at w m id : ℕ) (me : Me S V) (won : Me S V → Type 0) (did : ℕ → V → V → Type 0) (lists : State S V → State S V → Type 0)
+  tries : (slots at w m id : ℕ) (me : Me S V) (won : Me S V → Type 0) (did : ℕ → List (ℕ × S) → V → V → Type 0) (lists : State S V → State S V → Type 0)
       → ((s : State S V) → Before holds id me.0 at s → word s at ≡ w → Wins at m id me won s)
-      → ((s : State S V) → Before holds id me.0 at s → word s at ≢ w → Goes holds steps me.0 (looked s id) (did (word s at) me.0))
+      → ((s : State S V) → Before holds id me.0 at s → word s at ≢ w → Goes holds steps me.0 (looked s id) (did (word s at) [] me.0))
       → ((s : State S V) (v : V) → holds s → lists s (changed s at (word s at) s.homes id v))
       → Allows holds slots id me at (λ n. either (eqb n w) m n) (Tried w won (Lost holds id at w did lists me) me)
   tries slots at w m id me won did lists wins loses effect s rule wide mine fits =
@@ -116,9 +116,9 @@ module _ {S V : Type 0} (holds : State S V → Type 0) (steps : V → ℕ) where
         },
       ))
 
-  pub tries_at : (slots i at old w new m id : ℕ) (me : Me S V) (won : Me S V → Type 0) (did : ℕ → V → V → Type 0) (lists : State S V → State S V → Type 0) → i ≡ at → old ≡ w → new ≡ m
+  pub tries_at : (slots i at old w new m id : ℕ) (me : Me S V) (won : Me S V → Type 0) (did : ℕ → List (ℕ × S) → V → V → Type 0) (lists : State S V → State S V → Type 0) → i ≡ at → old ≡ w → new ≡ m
       → ((s : State S V) → Before holds id me.0 at s → word s at ≡ w → Wins at m id me won s)
-      → ((s : State S V) → Before holds id me.0 at s → word s at ≢ w → Goes holds steps me.0 (looked s id) (did (word s at) me.0))
+      → ((s : State S V) → Before holds id me.0 at s → word s at ≢ w → Goes holds steps me.0 (looked s id) (did (word s at) [] me.0))
       → ((s : State S V) (v : V) → holds s → lists s (changed s at (word s at) s.homes id v))
       → Allows holds slots id me i (λ n. either (eqb n old) new n) (Tried w won (Lost holds id at w did lists me) me)
   tries_at slots i at old w new m id me won did lists ei eo en wins loses effect =

@@ -61,10 +61,10 @@ module _ {S V : Type 0} (y : Layout) (held : ℕ → V → List ℕ) (holds : St
   abbrev Met : State S V → Type 0
   Met s = Before holds id me.0 (y.top l) s
 
-  abbrev Taking : (w m : ℕ) → (List (ℕ × S) → V → Type 0) → (State S V → State S V → Type 0) → Me S V → List (ℕ × S) → Type 0
+  abbrev Taking : (w m : ℕ) → (List (ℕ × S) → V → V → Type 0) → (State S V → State S V → Type 0) → Me S V → List (ℕ × S) → Type 0
   Taking w m did lists me' zs = Took holds id (y.top l) w m did lists me me' zs
 
-  abbrev Giving : (w m : ℕ) → (List (ℕ × S) → V → Type 0) → (State S V → State S V → Type 0) → Me S V → List (ℕ × S) → Type 0
+  abbrev Giving : (w m : ℕ) → (List (ℕ × S) → V → V → Type 0) → (State S V → State S V → Type 0) → Me S V → List (ℕ × S) → Type 0
   Giving w m did lists me' zs = Gave holds id (y.top l) w m did lists me me' zs
 
   -- the list from which the first is taken
@@ -84,10 +84,10 @@ module _ {S V : Type 0} (y : Layout) (held : ℕ → V → List ℕ) (holds : St
       let st = first_stands s w rule hit low in
       (st.0, st.1, again s m homes v st.0 rule after (subst (λ (z : ℕ). Leads (next s) z st.0 NULL) (follows ∙ sym names) st.1.leads.2))
 
-  pub wins_take : (c : Bool) (w n m : ℕ) (did : List (ℕ × S) → V → Type 0) → index_of w < NULL → index_of m ≡ n
+  pub wins_take : (c : Bool) (w n m : ℕ) (did : List (ℕ × S) → V → V → Type 0) → index_of w < NULL → index_of m ≡ n
       → ((s : State S V) (xs : List ℕ) → Stands y held l s xs → IsTrue c → AllHome s.homes xs)
       → ((s : State S V) → Met s → word s (y.top l) ≡ w → next s (index_of w) ≡ n)
-      → ((s : State S V) → Met s → word s (y.top l) ≡ w → ForSlot c (index_of w) (IsHome s.homes) (λ zs. Goes holds steps me.0 (changed s (y.top l) m (emptied s.homes zs) id) (did zs)))
+      → ((s : State S V) → Met s → word s (y.top l) ≡ w → ForSlot c (index_of w) (IsHome s.homes) (λ zs. Goes holds steps me.0 (changed s (y.top l) m (emptied s.homes zs) id) (did zs me.0)))
       → (s : State S V) → Met s → word s (y.top l) ≡ w
       → Wins holds steps (y.top l) m id me (λ me'. WithSlot c (index_of w) (Taking w m did (LostFirst y held l (index_of w)) me')) s
   wins_take true w n m did low names home follows law s met hit =
@@ -96,29 +96,29 @@ module _ {S V : Type 0} (y : Layout) (held : ℕ → V → List ℕ) (holds : St
       let x = home s (i ∷ st.0) st.1 refl i (inl refl) in
       let zs : List (ℕ × S) = (i, x.0) ∷ [] in
       let g = law s met hit x.0 x.1 in
-      take_slots holds steps (y.top l) m id (λ me'. WithSlot true i (Taking w m did (LostFirst y held l i) me')) s me zs (did zs) ((λ h. h), tt) (x.1, tt) g
+      take_slots holds steps (y.top l) m id (λ me'. WithSlot true i (Taking w m did (LostFirst y held l i) me')) s me zs (did zs me.0) ((λ h. h), tt) (x.1, tt) g
       (x.0, record { moved = refl; said = g.told; step = record { table = s; before = met; hit = hit; after = g.rule; effect = lost_first s w n m (emptied s.homes zs) g.view met.rule hit low (follows s met hit) names g.rule } })
   wins_take false w n m did low names home follows law s met hit =
       let i : ℕ = index_of w in
       let g = law s met hit in
-      take_slots holds steps (y.top l) m id (λ me'. WithSlot false i (Taking w m did (LostFirst y held l i) me')) s me [] (did []) tt tt g
+      take_slots holds steps (y.top l) m id (λ me'. WithSlot false i (Taking w m did (LostFirst y held l i) me')) s me [] (did [] me.0) tt tt g
       record { moved = refl; said = g.told; step = record { table = s; before = met; hit = hit; after = g.rule; effect = lost_first s w n m s.homes g.view met.rule hit low (follows s met hit) names g.rule } }
 
-  pub wins_take_all : (front : Front) (c : Bool) (w m : ℕ) (did : List (ℕ × S) → V → Type 0) → index_of m ≡ NULL
+  pub wins_take_all : (front : Front) (c : Bool) (w m : ℕ) (did : List (ℕ × S) → V → V → Type 0) → index_of m ≡ NULL
       → ((s : State S V) (xs : List ℕ) → Stands y held l s xs → IsTrue c → AllHome s.homes xs)
-      → ((s : State S V) (xs : List ℕ) → Met s → word s (y.top l) ≡ w → Stands y held l s xs → ForSlots c xs (IsHome s.homes) (λ zs. Goes holds steps me.0 (changed s (y.top l) m (emptied s.homes zs) id) (did zs)))
+      → ((s : State S V) (xs : List ℕ) → Met s → word s (y.top l) ≡ w → Stands y held l s xs → ForSlots c xs (IsHome s.homes) (λ zs. Goes holds steps me.0 (changed s (y.top l) m (emptied s.homes zs) id) (did zs me.0)))
       → (s : State S V) → Met s → word s (y.top l) ≡ w
-      → Wins holds steps (y.top l) m id me (λ me'. (xs : List ℕ) × WithSlots c xs (TookAll front holds id (y.top l) w m did (LostAll y held l xs) me me')) s
+      → Wins holds steps (y.top l) m id me (λ me'. (xs : List ℕ) × WithSlots c xs (TookAll holds id front (y.top l) w m did (LostAll y held l xs) me me')) s
   wins_take_all front true w m did names home law s met hit =
       let st = stands s met.rule in
       let r = slots_of s.homes st.0 (home s st.0 st.1 refl) in
       let g = law s st.0 met hit st.1 r.0 r.1 r.2 in
-      take_all_slots holds steps (y.top l) m id (λ me'. (xs : List ℕ) × WithSlots true xs (TookAll front holds id (y.top l) w m did (LostAll y held l xs) me me')) s front me r.0 (did r.0) (subst Distinct (sym r.1) st.1.distinct) r.2 g
+      take_all_slots holds steps (y.top l) m id (λ me'. (xs : List ℕ) × WithSlots true xs (TookAll holds id front (y.top l) w m did (LostAll y held l xs) me me')) s front me r.0 (did r.0 me.0) (subst Distinct (sym r.1) st.1.distinct) r.2 g
       (st.0, (r.0, r.1, record { moved = refl; said = g.told; step = record { table = s; before = met; hit = hit; after = g.rule; effect = (st.1, again s m (emptied s.homes r.0) g.view [] met.rule g.rule names) } }))
   wins_take_all front false w m did names home law s met hit =
       let st = stands s met.rule in
       let g = law s st.0 met hit st.1 in
-      take_all_slots holds steps (y.top l) m id (λ me'. (xs : List ℕ) × WithSlots false xs (TookAll front holds id (y.top l) w m did (LostAll y held l xs) me me')) s front me [] (did []) tt tt g
+      take_all_slots holds steps (y.top l) m id (λ me'. (xs : List ℕ) × WithSlots false xs (TookAll holds id front (y.top l) w m did (LostAll y held l xs) me me')) s front me [] (did [] me.0) tt tt g
       (st.0, record { moved = refl; said = g.told; step = record { table = s; before = met; hit = hit; after = g.rule; effect = (st.1, again s m s.homes g.view [] met.rule g.rule names) } })
 
   gained : (s : State S V) (w m i : ℕ) (xs : List ℕ) (homes : List (Option S)) (v : V) → holds s → word s (y.top l) ≡ w → index_of m ≡ i → Leads (next s) i xs (index_of w)
@@ -129,10 +129,10 @@ module _ {S V : Type 0} (y : Layout) (held : ℕ → V → List ℕ) (holds : St
       let whole : Leads (next s) (index_of m) (xs ++ st.0) NULL = subst (λ (z : ℕ). Leads (next s) z (xs ++ st.0) NULL) (sym names) (leads_on (next s) i (index_of w) xs st.0 leads rest) in
       (st.0, st.1, again s m homes v (xs ++ st.0) rule after whole)
 
-  pub wins_give : (c : Bool) (w i m : ℕ) (did : List (ℕ × S) → V → Type 0) (rests : ℕ → S → Type 0) → i < NULL → index_of m ≡ i
+  pub wins_give : (c : Bool) (w i m : ℕ) (did : List (ℕ × S) → V → V → Type 0) (rests : ℕ → S → Type 0) → i < NULL → index_of m ≡ i
       → WithSlot c i (Brings rests me.1)
       → ((s : State S V) → Met s → next s i ≡ index_of w)
-      → ((s : State S V) → Met s → word s (y.top l) ≡ w → ForSlot c i rests (λ zs. Goes holds steps me.0 (changed s (y.top l) m (filled s.homes zs) id) (did zs)))
+      → ((s : State S V) → Met s → word s (y.top l) ≡ w → ForSlot c i rests (λ zs. Goes holds steps me.0 (changed s (y.top l) m (filled s.homes zs) id) (did zs me.0)))
       → (s : State S V) → Met s → word s (y.top l) ≡ w
       → Wins holds steps (y.top l) m id me (λ me'. WithSlot c i (Giving w m did (Gained y held l (i ∷ [])) me')) s
   wins_give true w i m did rests low names brings links law s met hit =
@@ -141,17 +141,17 @@ module _ {S V : Type 0} (y : Layout) (held : ℕ → V → List ℕ) (holds : St
       let others = brings.1.1.0 in
       let e = brings.1.1.1 in
       let g = law s met hit x brings.1.0.0 in
-      give_slots holds steps (y.top l) m id (λ me'. WithSlot true i (Giving w m did (Gained y held l (i ∷ [])) me')) s me zs others (did zs) e g
+      give_slots holds steps (y.top l) m id (λ me'. WithSlot true i (Giving w m did (Gained y held l (i ∷ [])) me')) s me zs others (did zs me.0) e g
       (x, record { moved = e; said = g.told; step = record { table = s; before = met; hit = hit; after = g.rule; effect = gained s w m i (i ∷ []) (filled s.homes zs) g.view met.rule hit names (refl, low, links s met) g.rule } })
   wins_give false w i m did rests low names brings links law s met hit =
       let g = law s met hit in
-      give_slots holds steps (y.top l) m id (λ me'. WithSlot false i (Giving w m did (Gained y held l (i ∷ [])) me')) s me [] me.1 (did []) refl g
+      give_slots holds steps (y.top l) m id (λ me'. WithSlot false i (Giving w m did (Gained y held l (i ∷ [])) me')) s me [] me.1 (did [] me.0) refl g
       record { moved = refl; said = g.told; step = record { table = s; before = met; hit = hit; after = g.rule; effect = gained s w m i (i ∷ []) s.homes g.view met.rule hit names (refl, low, links s met) g.rule } }
 
-  pub wins_give_chain : (c : Bool) (w i m : ℕ) (xs : List ℕ) (did : List (ℕ × S) → V → Type 0) (rests : ℕ → S → Type 0) → index_of m ≡ i
+  pub wins_give_chain : (c : Bool) (w i m : ℕ) (xs : List ℕ) (did : List (ℕ × S) → V → V → Type 0) (rests : ℕ → S → Type 0) → index_of m ≡ i
       → WithSlots c xs (Brings rests me.1)
       → ((s : State S V) → Met s → Leads (next s) i xs (index_of w))
-      → ((s : State S V) → Met s → word s (y.top l) ≡ w → ForSlots c xs rests (λ zs. Goes holds steps me.0 (changed s (y.top l) m (filled s.homes zs) id) (did zs)))
+      → ((s : State S V) → Met s → word s (y.top l) ≡ w → ForSlots c xs rests (λ zs. Goes holds steps me.0 (changed s (y.top l) m (filled s.homes zs) id) (did zs me.0)))
       → (s : State S V) → Met s → word s (y.top l) ≡ w
       → Wins holds steps (y.top l) m id me (λ me'. WithSlots c xs (Giving w m did (Gained y held l xs) me')) s
   wins_give_chain true w i m xs did rests names brings links law s met hit =
@@ -159,11 +159,11 @@ module _ {S V : Type 0} (y : Layout) (held : ℕ → V → List ℕ) (holds : St
       let others = brings.2.1.0 in
       let e = brings.2.1.1 in
       let g = law s met hit zs brings.1 brings.2.0 in
-      give_slots holds steps (y.top l) m id (λ me'. WithSlots true xs (Giving w m did (Gained y held l xs) me')) s me zs others (did zs) e g
+      give_slots holds steps (y.top l) m id (λ me'. WithSlots true xs (Giving w m did (Gained y held l xs) me')) s me zs others (did zs me.0) e g
       (zs, brings.1, record { moved = e; said = g.told; step = record { table = s; before = met; hit = hit; after = g.rule; effect = gained s w m i xs (filled s.homes zs) g.view met.rule hit names (links s met) g.rule } })
   wins_give_chain false w i m xs did rests names brings links law s met hit =
       let g = law s met hit in
-      give_slots holds steps (y.top l) m id (λ me'. WithSlots false xs (Giving w m did (Gained y held l xs) me')) s me [] me.1 (did []) refl g
+      give_slots holds steps (y.top l) m id (λ me'. WithSlots false xs (Giving w m did (Gained y held l xs) me')) s me [] me.1 (did [] me.0) refl g
       record { moved = refl; said = g.told; step = record { table = s; before = met; hit = hit; after = g.rule; effect = gained s w m i xs s.homes g.view met.rule hit names (links s met) g.rule } }
 
   -- a new top that names the same index

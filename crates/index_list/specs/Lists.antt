@@ -1,4 +1,5 @@
--- Lists of indexes among the words of a table: a top names the first index, each link names the next, and the last link is null.
+-- Lists of indexes among the words of a table: a top names the first index, each link names the
+-- next, and the last link is null.
 use Rattle.std.specs.Prelude.{◌≡◌, ◌⊎◌, ℕ, ◌<◌, Bool, IsTrue, List, [], ◌∷◌, slice_index}
 use mathlib.Core.Option.{Option, some}
 use lib.ListN.{get_elem?}
@@ -40,7 +41,8 @@ module _ {S V : Type 0} where
   abbrev pub word : State S V → ℕ → ℕ
   word s at = slice_index s.words at
 
-  -- the list l of the table is xs: its indexes are distinct and in no hand, and their slots are at home
+  -- the list l of the table is xs: its indexes are distinct and in no hand, and their slots are
+  -- at home
   pub record Stands (y : Layout) (held : ℕ → V → List ℕ) (l : ℕ) (s : State S V) (xs : List ℕ) : Type 0 where
     pub leads : Leads (λ i. word s (y.link l i)) (index_of (word s (y.top l))) xs NULL
     pub distinct : Distinct xs

@@ -8,9 +8,10 @@ use Rattle.index_list.specs.Lists.{Layout, word}
 use Rattle.index_list.specs.declared.front.Front.{Front}
 use Rattle.index_list.specs.declared.front.Front.TheVariants.{First, Last}
 
--- Loads of the top and of the link of i, a store of n into the link of i, and the exchanges of the seen top w:
--- a take of its first index, whose link names n; a give of the index i; a give of the whole hand, a chain that begins with i;
--- a take of the whole list; a set of the mark, and of the second mark.
+-- Loads of the top and of the link of i, a store of n into the link of i, and the exchanges of
+-- the seen top w: a take of its first index, whose link names n; a give of the index i; a give
+-- of the whole hand, a chain that begins with i; a take of the whole list; a set of the mark,
+-- and of the second mark.
 pub data Kind : Type 0 where
   read_top : Kind
   read_link : (i : ℕ) → Kind
@@ -70,7 +71,8 @@ module _ {S : Type 0} where
   filled homes [] = homes
   filled homes (z ∷ zs) = filled (slice_set homes z.0 (some z.1)) zs
 
-  -- P of the slot that goes with the index i, whatever value with Q it has, or of no slot where the list carries none
+  -- P of the slot that goes with the index i, whatever value with Q it has, or of no slot where
+  -- the list carries none
   abbrev pub ForSlot : Bool → ℕ → (ℕ → S → Type 0) → (List (ℕ × S) → Type 0) → Type 0
   ForSlot true i Q P = (x : S) → Q i x → P ((i, x) ∷ [])
   ForSlot false i Q P = P []
@@ -109,7 +111,8 @@ module _ {S V : Type 0} where
     pub mine : get_elem? s.views id ≡ some v
     pub fits : word s at < 2 ^ 64
 
-  -- a step that leads to `after` can be made: under some new view of the seat the rule holds again, `did` holds of it, and it has one step more
+  -- a step that leads to `after` can be made: under some new view of the seat the rule holds
+  -- again, `did` holds of it, and it has one step more
   pub record Goes (holds : State S V → Type 0) (steps : V → ℕ) (v : V) (after : V → State S V) (did : V → Type 0) : Type 0 where
     pub view : V
     pub rule : holds (after view)

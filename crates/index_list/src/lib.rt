@@ -9,16 +9,19 @@
 #![tactic(auto)]
 
 mod front;
+mod gives;
 mod host;
+mod links;
+mod marks;
 mod slots;
-mod steps;
+mod takes;
 mod told;
 
 pub use front::Front;
+pub use gives::{try_give, try_give_chain};
 pub use host::ListHost;
+pub use links::{load_link, load_top, store_link};
+pub use marks::{try_mark, try_shut};
 pub use slots::{move_out, put_in};
-pub use steps::{
-    load_link, load_top, store_link, try_give, try_give_chain, try_mark, try_shut, try_take,
-    try_take_all,
-};
-pub use told::{Telling, exchange_as, load_as, store_as};
+pub use takes::{try_take, try_take_all};
+pub use told::{Telling, exchange_as, load_as, store_as, try_as};

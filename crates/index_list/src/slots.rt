@@ -12,7 +12,8 @@ pub fn put_in<T, V, K, P: TableRule<Option<T>, V, K>>(
     index: u32,
     value: T,
 )
-    requires { (seat.old.table_id ≡ table.now.table_id) × (seat.old.me.1 ≡ (index, None) ∷ rest seat.old.me.1) }
+    requires table { seat.old.table_id ≡ table.now.table_id }
+    requires empty { seat.old.me.1 ≡ (index, None) ∷ rest seat.old.me.1 }
     ensures seat { (seat.new.table_id ≡ seat.old.table_id) × (seat.new.id ≡ seat.old.id) }
     ensures put { seat.new.me ≡ (seat.old.me.0, (index, Some value) ∷ rest seat.old.me.1) }
 {
@@ -29,7 +30,8 @@ pub fn move_out<T, V, K, P: TableRule<Option<T>, V, K>>(
     seat: &mut Seat<Option<T>, V>,
     index: u32,
 ) -> T
-    requires { (seat.old.table_id ≡ table.now.table_id) × ((x : T) × (seat.old.me.1 ≡ (index, Some x) ∷ rest seat.old.me.1)) }
+    requires table { seat.old.table_id ≡ table.now.table_id }
+    requires full { (x : T) × (seat.old.me.1 ≡ (index, Some x) ∷ rest seat.old.me.1) }
     ensures seat { (seat.new.table_id ≡ seat.old.table_id) × (seat.new.id ≡ seat.old.id) }
     ensures value { seat.old.me.1 ≡ (index, Some result) ∷ rest seat.old.me.1 }
     ensures out { seat.new.me ≡ (seat.old.me.0, (index, None) ∷ rest seat.old.me.1) }

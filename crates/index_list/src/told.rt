@@ -1,12 +1,13 @@
 //! A table's steps whose telling is picked by the proof of the caller. They cost what the
 //! table's own steps do.
-ghost use Rattle.std.specs.Prelude.{◌≡◌, ◌==◌, ℕ, ◌<◌};
+ghost use Rattle.std.specs.Prelude.{◌≡◌, ◌==◌, ◌↔◌, ℕ, ◌<◌, IsTrue};
 ghost use mathlib.Core.Option.{none};
 ghost use prog.Atomic.{either};
 ghost use Rattle.atomic_table.specs.Table.{Step, step, Me, Allows};
 
 use atomic_table::{Play, Seat, Shared, TableRule};
 use std::marker::{Brand, PhantomData};
+use tagged_index::Tagged;
 
 /// What a step tells its caller: a fact of the step, the seat before, the word found (of a
 /// store, the word stored) and the seat after.
@@ -38,8 +39,12 @@ pub fn load_as<S, V, K, P: TableRule<S, V, K>, A: Copy, X, W: Telling<S, V>>(
     about: A,
     line: &X,
 ) -> u64
-    requires { (seat.old.table_id ≡ table.now.table_id) × (at < table.now.table_id.words) × Allows (P.holds table.now.key) table.now.table_id.slots seat.old.id seat.old.me at (λ n. n) (W.told (step table.now.table_id.slots at 0 0 none) seat.old.me) }
-    ensures { (seat.new.table_id ≡ seat.old.table_id) × (seat.new.id ≡ seat.old.id) × W.told (step table.now.table_id.slots at 0 0 none) seat.old.me result seat.new.me }
+    requires table { seat.old.table_id ≡ table.now.table_id }
+    requires word { at < table.now.table_id.words }
+    requires allowed { Allows (P.holds table.now.key) table.now.table_id.slots seat.old.id seat.old.me at
+        (λ n. n) (W.told (step table.now.table_id.slots at 0 0 none) seat.old.me) }
+    ensures seat { (seat.new.table_id ≡ seat.old.table_id) × (seat.new.id ≡ seat.old.id) }
+    ensures told { W.told (step table.now.table_id.slots at 0 0 none) seat.old.me result seat.new.me }
 {
     let _ = about;
     let _ = line;
@@ -56,8 +61,12 @@ pub fn store_as<S, V, K, P: TableRule<S, V, K>, A: Copy, X, W: Telling<S, V>>(
     about: A,
     line: &X,
 )
-    requires { (seat.old.table_id ≡ table.now.table_id) × (at < table.now.table_id.words) × Allows (P.holds table.now.key) table.now.table_id.slots seat.old.id seat.old.me at (λ _. new) (λ _. W.told (step table.now.table_id.slots at new 0 none) seat.old.me new) }
-    ensures { (seat.new.table_id ≡ seat.old.table_id) × (seat.new.id ≡ seat.old.id) × W.told (step table.now.table_id.slots at new 0 none) seat.old.me new seat.new.me }
+    requires table { seat.old.table_id ≡ table.now.table_id }
+    requires word { at < table.now.table_id.words }
+    requires allowed { Allows (P.holds table.now.key) table.now.table_id.slots seat.old.id seat.old.me at
+        (λ _. new) (λ _. W.told (step table.now.table_id.slots at new 0 none) seat.old.me new) }
+    ensures seat { (seat.new.table_id ≡ seat.old.table_id) × (seat.new.id ≡ seat.old.id) }
+    ensures told { W.told (step table.now.table_id.slots at new 0 none) seat.old.me new seat.new.me }
 {
     let _ = about;
     let _ = line;
@@ -75,10 +84,45 @@ pub fn exchange_as<S, V, K, P: TableRule<S, V, K>, A: Copy, X, W: Telling<S, V>>
     about: A,
     line: &X,
 ) -> u64
-    requires { (seat.old.table_id ≡ table.now.table_id) × (at < table.now.table_id.words) × Allows (P.holds table.now.key) table.now.table_id.slots seat.old.id seat.old.me at (λ n. either (n == old) new n) (W.told (step table.now.table_id.slots at old new none) seat.old.me) }
-    ensures { (seat.new.table_id ≡ seat.old.table_id) × (seat.new.id ≡ seat.old.id) × W.told (step table.now.table_id.slots at old new none) seat.old.me result seat.new.me }
+    requires table { seat.old.table_id ≡ table.now.table_id }
+    requires word { at < table.now.table_id.words }
+    requires allowed { Allows (P.holds table.now.key) table.now.table_id.slots seat.old.id seat.old.me at
+        (λ n. either (n == old) new n) (W.told (step table.now.table_id.slots at old new none) seat.old.me) }
+    ensures seat { (seat.new.table_id ≡ seat.old.table_id) × (seat.new.id ≡ seat.old.id) }
+    ensures told { W.told (step table.now.table_id.slots at old new none) seat.old.me result seat.new.me }
 {
     let _ = about;
     let _ = line;
     table.compare_exchange::<Told<W>>(seat, at, old, new)
+}
+
+/// The same, and answers whether the word was `seen`.
+#[inline]
+pub fn try_as<S, V, K, P: TableRule<S, V, K>, A: Copy, X, W: Telling<S, V>>(
+    table: &Shared<S, V, K, P>,
+    seat: &mut Seat<S, V>,
+    at: usize,
+    seen: Tagged,
+    new: Tagged,
+    about: A,
+    line: &X,
+) -> bool
+    requires table { seat.old.table_id ≡ table.now.table_id }
+    requires word { at < table.now.table_id.words }
+    requires allowed { Allows (P.holds table.now.key) table.now.table_id.slots seat.old.id seat.old.me at
+        (λ n. either (n == seen) new n) (W.told (step table.now.table_id.slots at seen new none) seat.old.me) }
+    ensures seat { (seat.new.table_id ≡ seat.old.table_id) × (seat.new.id ≡ seat.old.id) }
+    ensures told { (found : ℕ) × (IsTrue result ↔ (found ≡ seen))
+        × W.told (step table.now.table_id.slots at seen new none) seat.old.me found seat.new.me }
+{
+    let found = exchange_as::<S, V, K, P, A, X, W>(
+        table,
+        seat,
+        at,
+        seen.word(),
+        new.word(),
+        about,
+        line,
+    );
+    found == seen.word()
 }

@@ -13,7 +13,7 @@ use Rattle.step_core.specs.declared.seats.View.TheVariants.{AtRoot, AtPass, AtMe
 use Rattle.step_core.specs.Seats.{Owns, Saw, Rooted, Knows, Fine, Looks, held_at, at_rest, new_pass, gives_one, takes_back, stepped, looked, left_of, right_of, both_of, pass_of, root_of}
 use Rattle.step_core.proofs.Hands.{same_hand}
 use Rattle.step_core.proofs.Seating.{below_more}
-use Rattle.step_core.proofs.SeatedEnds.{at_most}
+use Rattle.bounded_model.proofs.Whole.{few}
 
 module _ {T : Type 0} where
   -- a step that adds no event of the pass
@@ -141,7 +141,7 @@ module _ {T L : Type 0} where
 module _ {T : Type 0} where
   pub was_out : (c : Shape) (r s : RootView T) (p : PassView T) (out : ℕ) → Joins r p s → IsSound c s → r.given ≡ out + length r.account → 0 < out
   was_out c r s p out j sound counted =
-      let most = at_most s.given s.account sound.apart sound.given in
+      let most = few s.given s.account sound.apart sound.given in
       let given : s.given ≡ r.given = j.given in
       let account : length s.account ≡ length r.account + 1 = ap length j.account ∙ omega arith in
       omega arith

@@ -1,5 +1,5 @@
 -- What each step of a close, a shut and a look leads to.
-use Rattle.std.proofs.Common.{◌≡◌, ◌≢◌, ℕ, ◌+◌, Bool, true, false, cond, eqb, List, [], ◌∷◌, refl, sym, ap, ◌∙◌, subst}
+use Rattle.std.proofs.Common.{◌≡◌, ◌≢◌, ℕ, Bool, true, false, cond, eqb, List, [], ◌∷◌, refl, sym, ap, ◌∙◌, subst}
 use Rattle.std.specs.Prelude.{Option as Slot}
 use Rattle.tagged_index.specs.Fields.{fields_of, index_of, mark_of, second_of}
 use Rattle.tagged_index.specs.Limits.{capacity_of, tag_limit_of}
@@ -7,7 +7,7 @@ use Rattle.tagged_index.specs.declared.word.TheConstants.{NULL}
 use Rattle.tagged_index.proofs.Words.{same_fields}
 use Rattle.bounded_model.specs.declared.history.Event.TheVariants.{Close, Shut}
 use Rattle.bounded_model.specs.declared.views.PassView.{PassView}
-use Rattle.bounded_model.specs.Laws.{CloseGives, ShutGives, LookGives, Adds}
+use Rattle.bounded_model.specs.Laws.{CloseGives, ShutGives, LookGives}
 use Rattle.index_list.specs.Steps.{Kind, read_top, mark, shut}
 use Rattle.step_core.specs.Words.{Tagged, same}
 use Rattle.step_core.specs.declared.stack.Answer.{Answer}
@@ -15,15 +15,15 @@ use Rattle.step_core.specs.declared.stack.Answer.TheVariants.{Close as AnswerClo
 use Rattle.step_core.specs.declared.stack.Line.{Line}
 use Rattle.step_core.specs.declared.stack.Line.TheVariants.{Z1, Z2, Y1, Y2, V1}
 use Rattle.step_core.specs.declared.seats.View.{View}
-use Rattle.step_core.specs.StackMachine.{Outcome, ends, at_Z1, at_Y1, step, goes_on as core_goes_on, wins, after_close, after_shut}
+use Rattle.step_core.specs.StackMachine.{Outcome, ends, at_Z1, at_Y1, goes_on as core_goes_on, wins, after_close, after_shut}
 use Rattle.step_core.specs.StackLaw.{shape}
 use Rattle.step_core.specs.Seats.{pass_of}
 use Rattle.treiber_stack.specs.declared.operation.Operation.{Operation}
 use Rattle.treiber_stack.specs.Host.{first_line, Did}
 use Rattle.treiber_stack.specs.KeepsMarks.{is_same, not_same}
-use Rattle.treiber_stack.specs.Operations.{Going, Ended, IsAt, IsSame, Told, Lost, begun_in}
+use Rattle.treiber_stack.specs.Operations.{Going, Ended, IsAt, IsSame, Told, begun_in}
 use Rattle.treiber_stack.specs.Closing.{GoesOn}
-use Rattle.treiber_stack.specs.Stack.{shape_of, pass_in, IsPassOf}
+use Rattle.treiber_stack.specs.Stack.{IsPassOf}
 use Rattle.treiber_stack.specs.declared.stack.Stack.{Stack}
 use Rattle.treiber_stack.specs.declared.stack.Pass.{Pass}
 use Rattle.treiber_stack.proofs.Going.{goes_on, ends_so, out_at, begun_going, adds_of, starts, begun_at_rest}

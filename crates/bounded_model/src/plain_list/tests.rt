@@ -99,8 +99,8 @@ fn a_shut_list_takes_puts_alone(rt: HostRuntime) -> Result<(), Fail> {
     Ok(())
 }
 
-// Holds whichever allocation is refused: `rt try --test --fail-alloc N` refuses the list's room, the
-// commands' and the replies' as N is 1, 2 and 3.
+// Holds whichever allocation is refused: `rt try --test --fail-alloc N` refuses the list's room,
+// the commands' and the replies' as N is 1, 2 and 3.
 #[test]
 fn a_run_without_room_changes_nothing(rt: HostRuntime) {
     let alloc = rt.alloc();

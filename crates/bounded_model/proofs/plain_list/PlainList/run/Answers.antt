@@ -1,7 +1,6 @@
 use Rattle.std.proofs.Common.{◌≡◌, List, [], ◌∷◌, ◌++◌, length, refl, arith, sym, ◌∙◌, append-nil}
 use Rattle.std.specs.Vec.Iter.{into_iter_items}
 use Rattle.bounded_model.specs.Plain.{plain_replies, list_after_all}
-use Rattle.bounded_model.specs.Shows.{Runs}
 use Rattle.bounded_model.proofs.Showing.{runs}
 use Rattle.bounded_model.proofs.plain_list.PlainList.run.Goals as goal
 

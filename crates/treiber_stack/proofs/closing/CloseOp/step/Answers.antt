@@ -1,4 +1,4 @@
-use Rattle.std.proofs.Common.{◌≡◌, ℕ, true, false, [], refl, sym, subst, ◌∙◌}
+use Rattle.std.proofs.Common.{ℕ, true, false, [], refl, sym, subst}
 use Rattle.std.specs.Prelude.{Option as Slot}
 use Rattle.tagged_index.specs.Fields.{fields_of}
 use Rattle.index_list.specs.Steps.{read_top, mark}

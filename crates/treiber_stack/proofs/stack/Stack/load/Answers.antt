@@ -9,10 +9,10 @@ use Rattle.treiber_stack.proofs.Nodes.{top_below}
 use Rattle.treiber_stack.proofs.stack.Stack.load.Goals as goal
 
 pub load_top-requires : goal.load_top-requires
-load_top-requires g c = let words = c.args.self.now.words in record { table = (c.requires.table.0, c.requires.table.1, omega arith); may = c.requires.may }
+load_top-requires g c = let words = c.args.self.now.words in record { table = c.requires.table.0; list = (c.requires.table.1, omega arith); may = c.requires.may }
 
 pub returns-clause-same : goal.returns-clause-same
-returns-clause-same g c = let e = c.load_top.ensures.seat in record { table = e.0; slots = e.2 }
+returns-clause-same g c = record { table = c.load_top.ensures.seat.0; slots = c.load_top.ensures.slots }
 
 pub returns-clause-told : goal.returns-clause-told
 returns-clause-told g c = record {

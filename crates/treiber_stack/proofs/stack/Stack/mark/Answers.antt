@@ -6,7 +6,7 @@ use Rattle.treiber_stack.specs.Host.{Did}
 use Rattle.treiber_stack.proofs.stack.Stack.mark.Goals as goal
 
 pub try_mark-requires : goal.try_mark-requires
-try_mark-requires g c = let words = c.args.self.now.words in record { table = (c.requires.table, omega arith, omega arith); may = c.requires.may }
+try_mark-requires g c = let words = c.args.self.now.words in record { table = c.requires.table; list = (omega arith, omega arith); may = c.requires.may }
 
 pub returns-clause-won : goal.returns-clause-won
 returns-clause-won g c h = record {

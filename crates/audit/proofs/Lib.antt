@@ -1,0 +1,4 @@
+pub mod LinesSoFar
+pub mod OneReading
+pub mod Writing
+pub mod Texts

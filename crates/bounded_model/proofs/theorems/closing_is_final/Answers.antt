@@ -1,0 +1,8 @@
+use Rattle.bounded_model.proofs.Staying.{closed_ends_puts, shut_ends_takes}
+use Rattle.bounded_model.proofs.theorems.closing_is_final.Goals as goal
+
+pub returns-clause-puts : goal.returns-clause-puts
+returns-clause-puts g c = closed_ends_puts
+
+pub returns-clause-takes : goal.returns-clause-takes
+returns-clause-takes g c = shut_ends_takes

@@ -1,0 +1,10 @@
+use Rattle.std.proofs.Common.{[]}
+use Rattle.index_list.specs.Steps.{read_top}
+use Rattle.index_list.specs.Results.{Stood}
+use Rattle.index_list.proofs.Allowed.{Loaded}
+use Rattle.index_list.proofs.links.load_top.Given as goal
+
+abbrev pub ghosts-load_as : goal.ghosts-load_as
+ghosts-load_as g a = let host = g.P.ListHost in record {
+  told = λ _. Loaded (g.P.TableRule.holds a.table.now.key) host.steps a.seat.now.id (host.layout.top a.about) (λ n v. host.did a.table.now.key a.line.now a.about read_top n [] a.seat.now.me.0 v) (Stood host.layout host.held a.about);
+}

@@ -1,0 +1,13 @@
+-- How the program fails after a fault of a replay.
+use Rattle.lockfree_tool.specs.declared.failure.Failure.{Failure}
+use Rattle.lockfree_tool.specs.declared.failure.Failure.TheVariants.{Script, Output as OutputFailed}
+use Rattle.lockfree_tool.specs.declared.fault.ReplayFault.{ReplayFault}
+use Rattle.lockfree_tool.specs.declared.fault.ReplayFault.TheVariants.{NoMemory, Device, NoFinalNewline, TooLong, BadLine, Output}
+
+abbrev pub failure_of : ReplayFault → Failure
+failure_of Output = OutputFailed
+failure_of NoMemory = Script NoMemory
+failure_of Device = Script Device
+failure_of NoFinalNewline = Script NoFinalNewline
+failure_of TooLong = Script TooLong
+failure_of (BadLine number) = Script (BadLine number)

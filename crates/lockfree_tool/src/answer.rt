@@ -1,0 +1,84 @@
+//! What is written for a script, by a sequential list.
+
+ghost use Rattle.std.specs.Prelude.{◌≡◌, ◌++◌, ◌∷◌, [], IfOk, IfErr, OnOk, filter_map, map, string_bytes};
+ghost use Rattle.std.specs.List.{list_any};
+ghost use Rattle.lockfree_tool.specs.declared.fault.ReplayFault.TheVariants.{NoMemory};
+ghost use Rattle.lockfree_tool.specs.Replies.{command_in, is_finish, output_of, reply_text, end_text};
+ghost use Rattle.lockfree_tool.specs.Script.{FinishesLast, text_of};
+ghost use Rattle.lockfree_tool.specs.View.{head_view};
+
+use crate::fault::ReplayFault;
+use crate::reply::ReplyText;
+use crate::script::{Line, Script, Value};
+use bounded_model::{Command, PlainList, Reply};
+use std::alloc::{AllocError, Global};
+use std::collections::VecDeque;
+use std::fmt::Write;
+
+/// The calls of these lines, and whether a line ends the script. To a sequential list all passes
+/// are one.
+fn calls_of(
+    alloc: Global,
+    lines: VecDeque<Line<'_>>,
+) -> Result<(Vec<Command<Value<'_>>>, bool), AllocError>
+    ensures calls { IfOk result (λ found. found.0.items ≡ filter_map command_in lines.entry.items) }
+    ensures end { IfOk result (λ found. found.1 ≡ list_any is_finish lines.entry.items) }
+{
+    let mut lines = lines;
+    let mut calls = Vec::new(alloc);
+    let mut is_finished = false;
+    while let Some(line) = lines.pop_front() {
+        match line {
+            Line::Call(_, command) => calls.push(command)?,
+            Line::Finish => is_finished = true,
+        }
+    }
+    Ok((calls, is_finished))
+}
+
+/// Adds a line for each reply.
+fn push_replies(output: &mut String, replies: &[Reply<Value<'_>>]) -> Result<(), AllocError>
+    ensures { OnOk result (string_bytes output.new ≡ string_bytes output.old ++ text_of (map reply_text replies.now)) }
+{
+    for reply in replies {
+        let reply = ReplyText(reply);
+        writeln!(output, "{reply}")?;
+    }
+    Ok(())
+}
+
+/// Adds the line of the values left, where the script ends with `finish`.
+fn push_end(
+    output: &mut String,
+    is_finished: bool,
+    values: VecDeque<Value<'_>>,
+) -> Result<(), AllocError>
+    ensures { OnOk result (string_bytes output.new ≡ string_bytes output.old ++ text_of (end_text is_finished values.entry.items)) }
+{
+    if !is_finished {
+        return Ok(());
+    }
+    let mut values = values;
+    output.push_str("rest")?;
+    while let Some(value) = values.pop_front() {
+        write!(output, " {value}")?;
+    }
+    output.push_str("\n")
+}
+
+/// What is written for a script. All memory is taken here, so that no writer is touched before the
+/// whole output stands.
+pub fn answer(alloc: Global, script: Script<'_>) -> Result<String, ReplayFault>
+    requires { FinishesLast script.lines.items }
+    ensures output { IfOk result (λ output. string_bytes output ≡ output_of (head_view script.entry.header) script.entry.lines.items) }
+    ensures no_memory { IfErr result (λ fault. fault ≡ NoMemory) }
+{
+    let Script { header, lines } = script;
+    let (calls, is_finished) = calls_of(alloc, lines)?;
+    let mut list = PlainList::new(alloc, header.limits.capacity(), header.order)?;
+    let replies = list.run(alloc, calls)?;
+    let mut output = String::new(alloc);
+    push_replies(&mut output, &replies)?;
+    push_end(&mut output, is_finished, list.into_values())?;
+    Ok(output)
+}

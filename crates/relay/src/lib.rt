@@ -1,0 +1,15 @@
+//! A relay: producer threads put the messages of their inputs into a bounded container, consumer
+//! threads take them out, and nothing is lost, doubled, or put out of a sender's order.
+//!
+//! This crate stands on the laws of a container alone, and names none. So far it has what a relay
+//! is given and gives: [`Message`], [`Plan`], [`Relayed`], the [`Gate`] that a test may close, and
+//! [`numbered`], which tells whether inputs are numbered as a relay wants them.
+#![tactic(auto)]
+
+mod gates;
+mod messages;
+mod outcome;
+
+pub use gates::{FreeGate, Gate};
+pub use messages::{Message, numbered};
+pub use outcome::{Plan, Relayed, Taken};
