@@ -1,5 +1,5 @@
 -- The stack as a host of two lists: which step a seat may make, and what the step tells.
-use Rattle.std.specs.Prelude.{◌≡◌, ◌≢◌, ℕ, zero, suc, ◌≤◌, ◌<◌, List, [], ◌∷◌, ◌++◌, reverse, Option as Slot, Some, None}
+use Rattle.std.specs.Prelude.{◌≡◌, ℕ, zero, suc, ◌≤◌, List, [], ◌∷◌, ◌++◌, reverse, Option as Slot, Some, None}
 use mathlib.Core.Option.{Option, none, some}
 use Rattle.tagged_index.specs.Fields.{index_of, fields_of}
 use Rattle.tagged_index.specs.declared.word.TheConstants.{NULL}

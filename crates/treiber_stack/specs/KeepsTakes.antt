@@ -1,7 +1,7 @@
 -- Won exchanges that take the first node of either list, with its slot.
 use Rattle.std.proofs.Common.{◌≡◌, ℕ, zero, suc, ◌<◌, ◌≤◌, Bool, true, cond, List, [], ◌∷◌, length, set, refl, sym, ap, ◌∙◌, subst, arith}
 use Rattle.std.proofs.lemmas.List.{length-set, get_or-set_other}
-use Rattle.std.specs.Prelude.{slice_index, Option as Slot, Some, None, Ok}
+use Rattle.std.specs.Prelude.{slice_index, Option as Slot, Some, None}
 use mathlib.Core.Option.{Option, none, some, some-injective, some-ne-none}
 use Rattle.atomic_table.specs.Table.{State}
 use Rattle.tagged_index.specs.Fields.{fields_of, index_of, tag_of, raised}

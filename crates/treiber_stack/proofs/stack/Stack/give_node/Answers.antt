@@ -1,4 +1,5 @@
-use Rattle.std.proofs.Common.{rules, ◌≡◌, ℕ, ◌+◌, ◌<◌, ◌≤◌, ◌∙◌, arith, true, false, List, [], ◌∷◌, sym, subst}
+use Rattle.std.proofs.Common.{◌≡◌, arith, [], refl, sym, subst}
+use Rattle.std.specs.Prelude.{None}
 use Rattle.std.proofs.lemmas.Bool.{false≢true}
 use Rattle.tagged_index.specs.Limits.{capacity_of, tag_limit_of}
 use Rattle.tagged_index.specs.declared.limit.Limits.{Limits}
@@ -12,10 +13,12 @@ try_give_chain-requires g c =
     let words = c.args.self.now.words in
     let h = c.requires.held in
     record {
-      table = (c.requires.table, omega arith, omega arith);
+      table = c.requires.table;
+      list = (omega arith, omega arith);
       may = c.requires.may;
       word = (h.2, λ e. absurd (false≢true (sym e)));
-      held = (([], h.0), brings_one _ c.args.index c.args.by.now.seat.me.1 h.0 h.1);
+      held = ([], h.0);
+      slots = brings_one (λ _ x. x ≡ None) _ c.args.index None c.args.by.now.seat.me.1 h.0 h.1 refl;
     }
 
 pub returns-clause-won : goal.returns-clause-won
@@ -24,7 +27,7 @@ returns-clause-won g c h =
     let held = c.requires.held in
     record {
       slots = w.0;
-      none_left = nothing_left _ c.args.index w.0 c.args.by.now.seat.me.1 c.try_give_chain.new.seat.me.1 held.0 w.1 held.1 w.2.moved;
+      none_left = nothing_left _ c.args.index None w.0 c.args.by.now.seat.me.1 c.try_give_chain.new.seat.me.1 held.0 w.1 held.1 w.2.moved;
       told = record {
         did = subst (λ (k : Limits). Did (capacity_of k) (tag_limit_of k) c.args.operation.now 0 (give_chain c.args.seen c.args.index) c.args.seen w.0 c.args.by.now.seat.me.0 c.try_give_chain.new.seat.me.0) c.args.self.now.keyed w.2.said;
         counted = c.try_give_chain.ensures.counted;
@@ -33,8 +36,7 @@ returns-clause-won g c h =
 
 pub returns-clause-lost : goal.returns-clause-lost
 returns-clause-lost g c h =
-    let l = c.try_give_chain.ensures.lost h in
-    (
+    let l = c.try_give_chain.ensures.lost h in (
       l.unmoved,
       record {
         found = l.found;

@@ -1,4 +1,4 @@
-use Rattle.std.proofs.Common.{rules, ◌≡◌, ℕ, ◌+◌, ◌<◌, ◌≤◌, ◌∙◌, arith, [], subst}
+use Rattle.std.proofs.Common.{arith, [], subst}
 use Rattle.tagged_index.specs.Limits.{capacity_of, tag_limit_of}
 use Rattle.tagged_index.specs.declared.limit.Limits.{Limits}
 use Rattle.index_list.specs.Steps.{write_link}
@@ -10,7 +10,7 @@ store_link-requires g c =
     let words = c.args.self.now.words in
     let most = c.args.self.now.limits.capacity_in_range in
     let low = c.requires.table.2 in
-    record { table = (c.requires.table.0, c.requires.table.1, omega arith, omega arith); may = c.requires.may; held = c.requires.held }
+    record { table = c.requires.table.0; list = (c.requires.table.1, omega arith, omega arith); may = c.requires.may; held = c.requires.held }
 
 pub returns-clause-told : goal.returns-clause-told
 returns-clause-told g c = record {

@@ -1,8 +1,7 @@
-use Rattle.std.proofs.Common.{rules, ◌≡◌, ◌≢◌, ℕ, ◌+◌, ◌<◌, ◌∙◌, arith, [], ap, sym, subst}
+use Rattle.std.proofs.Common.{ℕ, ◌<◌, ◌∙◌, arith, [], ap, sym, subst}
 use Rattle.tagged_index.specs.Fields.{index_of}
 use Rattle.tagged_index.specs.Limits.{capacity_of, tag_limit_of}
 use Rattle.tagged_index.specs.declared.limit.Limits.{Limits}
-use Rattle.tagged_index.specs.declared.word.TheConstants.{NULL}
 use Rattle.index_list.specs.Steps.{read_top}
 use Rattle.treiber_stack.specs.Host.{Did}
 use Rattle.treiber_stack.proofs.Nodes.{top_below}

@@ -1,4 +1,4 @@
-use Rattle.std.proofs.Common.{rules, ◌≡◌, ℕ, ◌+◌, ◌<◌, ◌≤◌, ◌∙◌, arith, [], ap, sym, subst}
+use Rattle.std.proofs.Common.{◌≡◌, ℕ, ◌∙◌, arith, [], ap, sym, subst}
 use Rattle.tagged_index.specs.Fields.{index_of}
 use Rattle.tagged_index.specs.Limits.{capacity_of, tag_limit_of}
 use Rattle.tagged_index.specs.declared.limit.Limits.{Limits}
@@ -12,7 +12,7 @@ load_link-link-requires g c =
     let words = c.args.self.now.words in
     let most = c.args.self.now.limits.capacity_in_range in
     let low = c.requires.table.2 in
-    record { table = (c.requires.table.0, c.requires.table.1, omega arith, omega arith); may = c.requires.may }
+    record { table = c.requires.table.0; list = (c.requires.table.1, omega arith, omega arith); may = c.requires.may }
 
 pub returns-clause-told : goal.returns-clause-told
 returns-clause-told g c =

@@ -1,4 +1,4 @@
-use Rattle.std.proofs.Common.{rules, ◌≡◌, ℕ, ◌+◌, ◌<◌, ◌≤◌, ◌∙◌, arith, List, [], ◌∷◌, subst}
+use Rattle.std.proofs.Common.{arith, [], ◌∷◌, subst}
 use Rattle.tagged_index.specs.Fields.{index_of}
 use Rattle.tagged_index.specs.Limits.{capacity_of, tag_limit_of}
 use Rattle.tagged_index.specs.declared.limit.Limits.{Limits}
@@ -7,7 +7,7 @@ use Rattle.treiber_stack.specs.Host.{Did}
 use Rattle.treiber_stack.proofs.stack.Stack.take_node.Goals as goal
 
 pub try_take-requires : goal.try_take-requires
-try_take-requires g c = let words = c.args.self.now.words in let l = c.requires.table.1 in record { table = (c.requires.table.0, l, omega arith); may = c.requires.may; word = c.requires.word }
+try_take-requires g c = let words = c.args.self.now.words in let l = c.requires.table.1 in record { table = c.requires.table.0; list = (l, omega arith); may = c.requires.may; word = c.requires.word }
 
 pub returns-clause-won : goal.returns-clause-won
 returns-clause-won g c h =
@@ -23,8 +23,7 @@ returns-clause-won g c h =
 
 pub returns-clause-lost : goal.returns-clause-lost
 returns-clause-lost g c h =
-    let l = c.try_take.ensures.lost h in
-    (
+    let l = c.try_take.ensures.lost h in (
       l.unmoved,
       record {
         found = l.found;
