@@ -3,6 +3,7 @@ pub mod Rule
 pub mod Stack
 pub mod Host
 pub mod KeepsRule
+pub mod Left
 pub mod KeepsStep
 pub mod KeepsMemory
 pub mod KeepsReads

@@ -2,13 +2,15 @@
 ghost use Rattle.std.specs.Prelude.{◌≡◌, ℕ, ◌<◌, ◌≤◌, length, slice_index, IfOk, MatchOption};
 ghost use Rattle.tagged_index.specs.Limits.{capacity_of, tag_limit_of};
 ghost use Rattle.tagged_index.specs.declared.word.TheConstants.{NULL};
-ghost use Rattle.bounded_model.specs.Laws.{fresh, IsFullOfPasses, Splits, Joins, MeetGives};
+ghost use Rattle.bounded_model.specs.Laws.{fresh, IsFullOfPasses, Splits, Joins, MeetGives, Leaves};
 ghost use Rattle.step_core.specs.StackLaw.{shape};
 ghost use Rattle.step_core.specs.Seats.{Looks};
 ghost use Rattle.treiber_stack.specs.Layout.{words_for, start_at};
 ghost use Rattle.treiber_stack.specs.Stack.{shape_of, IsPassOf, IsRootOf, pass_in, root_in};
+ghost use Rattle.treiber_stack.specs.Left.{left_in};
 
 use crate::layout::{self, TOP};
+use crate::rest::Rest;
 use crate::rule::{Cuts, Makes, Stacked};
 use crate::stack::{Pass, Root, Stack};
 use atomic_table::{Seat, Table};
@@ -113,5 +115,16 @@ impl<T> Stack<T> {
         self.table.shared.join_seat::<Makes>(&mut parent.seat, seat);
         self.look_round(&mut parent.seat);
         parent.out -= 1;
+    }
+
+    /// The end: what is left, from the top down. A value that was out with a pass which stopped in
+    /// mid-operation is not among it, and is dropped with the rest.
+    pub fn finish(self, parent: Root<T>) -> Rest<T>
+        requires { IsRootOf self parent }
+        ensures { Leaves (shape_of self) (root_in parent) (left_in result) }
+    {
+        let Stack { table, limits: _ } = self;
+        let Root { seat, out: _ } = parent;
+        Rest::of(table.close_with(seat))
     }
 }

@@ -30,7 +30,7 @@ impl<T> ListHost<Option<T>, View<T, Line<T>>, Limits, 2> for Stacked<T> {
 
     ghost did = { λ limits. Did (capacity_of limits) (tag_limit_of limits) };
 
-    ghost rests = { λ _ x. x ≡ None };
+    ghost rests = { λ _ _ _ x. x ≡ None };
 
     fn top(list: usize) -> usize {
         layout::top(list)

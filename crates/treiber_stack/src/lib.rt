@@ -6,9 +6,11 @@ mod closing;
 mod host;
 mod layout;
 mod operation;
+mod rest;
 mod rule;
 mod stack;
 mod steps;
 
 pub use closing::{CloseOp, ShutOp};
+pub use rest::Rest;
 pub use stack::{Pass, Root, Stack};
