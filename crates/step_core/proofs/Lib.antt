@@ -17,12 +17,12 @@ pub mod StackRun
 pub mod StackSeats
 pub mod StackScripts
 pub mod StackRows
+pub mod StackRank
+pub mod StackBounded
+pub mod StackMistakes
 pub mod Hands
 pub mod Seating
 pub mod SeatedEnds
 pub mod SeatedCalls
-pub mod StackRank
-pub mod StackBounded
-pub mod StackMistakes
 pub mod StackDoing
 pub mod StackDone

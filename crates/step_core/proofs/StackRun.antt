@@ -122,7 +122,7 @@ module _ {T : Type 0} where
   idle_lines zero = refl
   idle_lines (suc k) = ap (λ (ls : List (Line T)). Idle None ∷ ls) (idle_lines k)
 
-  start_kept : (n limit passes : ℕ) → 0 < n → n ≤ NULL → Kept T n limit (start (shape n limit) passes).memory some (replicate passes (Idle None)) []
+  pub start_kept : (n limit passes : ℕ) → 0 < n → n ≤ NULL → Kept T n limit (start (shape n limit) passes).memory some (replicate passes (Idle None)) []
   start_kept zero limit passes h small = absurd (omega arith)
   start_kept (suc k) limit passes h small = record {
     lists = record { frees = from 0 (suc k); stack = [] };

@@ -1,0 +1,109 @@
+-- What each step of a close, a shut and a look leads to.
+use Rattle.std.proofs.Common.{◌≡◌, ◌≢◌, ℕ, Bool, true, false, cond, eqb, List, [], ◌∷◌, refl, sym, ap, ◌∙◌, subst}
+use Rattle.std.specs.Prelude.{Option as Slot}
+use Rattle.tagged_index.specs.Fields.{fields_of, index_of, mark_of, second_of}
+use Rattle.tagged_index.specs.Limits.{capacity_of, tag_limit_of}
+use Rattle.tagged_index.specs.declared.word.TheConstants.{NULL}
+use Rattle.tagged_index.proofs.Words.{same_fields}
+use Rattle.bounded_model.specs.declared.history.Event.TheVariants.{Close, Shut}
+use Rattle.bounded_model.specs.declared.views.PassView.{PassView}
+use Rattle.bounded_model.specs.Laws.{CloseGives, ShutGives, LookGives}
+use Rattle.index_list.specs.Steps.{Kind, read_top, mark, shut}
+use Rattle.step_core.specs.Words.{Tagged, same}
+use Rattle.step_core.specs.declared.stack.Answer.{Answer}
+use Rattle.step_core.specs.declared.stack.Answer.TheVariants.{Close as AnswerClose, Shut as AnswerShut, Look as AnswerLook}
+use Rattle.step_core.specs.declared.stack.Line.{Line}
+use Rattle.step_core.specs.declared.stack.Line.TheVariants.{Z1, Z2, Y1, Y2, V1}
+use Rattle.step_core.specs.declared.seats.View.{View}
+use Rattle.step_core.specs.StackMachine.{Outcome, ends, at_Z1, at_Y1, goes_on as core_goes_on, wins, after_close, after_shut}
+use Rattle.step_core.specs.StackLaw.{shape}
+use Rattle.step_core.specs.Seats.{pass_of}
+use Rattle.treiber_stack.specs.declared.operation.Operation.{Operation}
+use Rattle.treiber_stack.specs.Host.{first_line, Did}
+use Rattle.treiber_stack.specs.KeepsMarks.{is_same, not_same}
+use Rattle.treiber_stack.specs.Operations.{Going, Ended, IsAt, IsSame, Told, begun_in}
+use Rattle.treiber_stack.specs.Closing.{GoesOn}
+use Rattle.treiber_stack.specs.Stack.{IsPassOf}
+use Rattle.treiber_stack.specs.declared.stack.Stack.{Stack}
+use Rattle.treiber_stack.specs.declared.stack.Pass.{Pass}
+use Rattle.treiber_stack.proofs.Going.{goes_on, ends_so, out_at, begun_going, adds_of, starts, begun_at_rest}
+
+module _ {T : Type 0} {n limit : ℕ} {o : Operation T} {v v' : View T (Line T)} {begun : PassView T} where
+  Z1_leads : (w : ℕ) (g : Going n limit o v begun Z1) (d : Did n limit o 1 read_top w [] v v') → d.out.line ≡ at_Z1 (fields_of w)
+  Z1_leads w g d = ap (λ (x : Outcome T). x.line) (out_at g d) ∙ ap (λ (x : Tagged). at_Z1 x) (sym d.finds)
+
+  pub Z1_ends : (w : ℕ) → Going n limit o v begun Z1 → Did n limit o 1 read_top w [] v v' → mark_of w ≡ true → Ended n limit v' begun (AnswerClose false)
+  Z1_ends w g d e = ends_so g d (AnswerClose false) (Z1_leads w g d ∙ ap (λ (b : Bool). cond b (ends (AnswerClose false)) (Z2 (fields_of w))) e)
+
+  pub Z1_goes : (w : ℕ) → Going n limit o v begun Z1 → Did n limit o 1 read_top w [] v v' → mark_of w ≡ false → Going n limit o v' begun (Z2 (fields_of w))
+  Z1_goes w g d e = goes_on g d o (Z2 (fields_of w)) (Z1_leads w g d ∙ ap (λ (b : Bool). cond b (ends (AnswerClose false)) (Z2 (fields_of w))) e) refl
+
+  Z2_leads : (w found : ℕ) (g : Going n limit o v begun (Z2 (fields_of w))) (d : Did n limit o 1 (mark w) found [] v v') (b : Bool) → same d.memory.top (fields_of w) ≡ b → d.out.line ≡ cond b (ends (AnswerClose true)) Z1
+  Z2_leads w found g d b e = ap (λ (x : Outcome T). x.line) (out_at g d)
+      ∙ ap (λ (x : Bool). (cond x (wins (after_close d.memory (fields_of w)) (ends (AnswerClose true)) (Close d.pass.number)) (core_goes_on d.memory Z1)).line) e
+      ∙ by_cases b
+    where
+      by_cases : (b : Bool) → (cond b (wins (after_close d.memory (fields_of w)) (ends (AnswerClose true)) (Close d.pass.number)) (core_goes_on d.memory Z1)).line ≡ cond b (ends (AnswerClose true)) Z1
+      by_cases true = refl
+      by_cases false = refl
+
+  pub Z2_ends : (w : ℕ) → Going n limit o v begun (Z2 (fields_of w)) → Did n limit o 1 (mark w) w [] v v' → Ended n limit v' begun (AnswerClose true)
+  Z2_ends w g d = ends_so g d (AnswerClose true) (Z2_leads w w g d true (is_same d.memory.top (fields_of w) (sym d.finds)))
+
+  pub Z2_goes : (w found : ℕ) → found ≢ w → Going n limit o v begun (Z2 (fields_of w)) → Did n limit o 1 (mark w) found [] v v' → Going n limit o v' begun Z1
+  Z2_goes w found ne g d = goes_on g d o Z1 (Z2_leads w found g d false (not_same d.memory.top (fields_of w) (λ e. ne ((same_fields found w).1 (d.finds ∙ e))))) refl
+
+  Y1_leads : (w : ℕ) (g : Going n limit o v begun Y1) (d : Did n limit o 1 read_top w [] v v') → d.out.line ≡ at_Y1 (fields_of w)
+  Y1_leads w g d = ap (λ (x : Outcome T). x.line) (out_at g d) ∙ ap (λ (x : Tagged). at_Y1 x) (sym d.finds)
+
+  pub Y1_ends : (w : ℕ) → Going n limit o v begun Y1 → Did n limit o 1 read_top w [] v v' → second_of w ≡ true → Ended n limit v' begun (AnswerShut false)
+  Y1_ends w g d e = ends_so g d (AnswerShut false) (Y1_leads w g d ∙ ap (λ (b : Bool). cond b (ends (AnswerShut false)) (Y2 (fields_of w))) e)
+
+  pub Y1_goes : (w : ℕ) → Going n limit o v begun Y1 → Did n limit o 1 read_top w [] v v' → second_of w ≡ false → Going n limit o v' begun (Y2 (fields_of w))
+  Y1_goes w g d e = goes_on g d o (Y2 (fields_of w)) (Y1_leads w g d ∙ ap (λ (b : Bool). cond b (ends (AnswerShut false)) (Y2 (fields_of w))) e) refl
+
+  Y2_leads : (w found : ℕ) (g : Going n limit o v begun (Y2 (fields_of w))) (d : Did n limit o 1 (shut w) found [] v v') (b : Bool) → same d.memory.top (fields_of w) ≡ b → d.out.line ≡ cond b (ends (AnswerShut true)) Y1
+  Y2_leads w found g d b e = ap (λ (x : Outcome T). x.line) (out_at g d)
+      ∙ ap (λ (x : Bool). (cond x (wins (after_shut d.memory (fields_of w)) (ends (AnswerShut true)) (Shut d.pass.number)) (core_goes_on d.memory Y1)).line) e
+      ∙ by_cases b
+    where
+      by_cases : (b : Bool) → (cond b (wins (after_shut d.memory (fields_of w)) (ends (AnswerShut true)) (Shut d.pass.number)) (core_goes_on d.memory Y1)).line ≡ cond b (ends (AnswerShut true)) Y1
+      by_cases true = refl
+      by_cases false = refl
+
+  pub Y2_ends : (w : ℕ) → Going n limit o v begun (Y2 (fields_of w)) → Did n limit o 1 (shut w) w [] v v' → Ended n limit v' begun (AnswerShut true)
+  Y2_ends w g d = ends_so g d (AnswerShut true) (Y2_leads w w g d true (is_same d.memory.top (fields_of w) (sym d.finds)))
+
+  pub Y2_goes : (w found : ℕ) → found ≢ w → Going n limit o v begun (Y2 (fields_of w)) → Did n limit o 1 (shut w) found [] v v' → Going n limit o v' begun Y1
+  Y2_goes w found ne g d = goes_on g d o Y1 (Y2_leads w found g d false (not_same d.memory.top (fields_of w) (λ e. ne ((same_fields found w).1 (d.finds ∙ e))))) refl
+
+  pub V1_ends : (w : ℕ) (b : Bool) → b ≡ eqb (index_of w) NULL → Going n limit o v begun V1 → Did n limit o 1 read_top w [] v v' → Ended n limit v' begun (AnswerLook b)
+  V1_ends w b is g d = ends_so g d (AnswerLook b) (ap (λ (x : Outcome T). x.line) (out_at g d) ∙ ap (λ (x : Tagged). ends (AnswerLook (eqb x.index NULL))) (sym d.finds) ∙ ap (λ (x : Bool). ends (AnswerLook x)) (sym is))
+
+module _ {T : Type 0} {n limit : ℕ} {v : View T (Line T)} {begun : PassView T} where
+  pub close_gives : (b : Bool) → Ended n limit v begun (AnswerClose b) → CloseGives (shape n limit) begun (pass_of v) b
+  close_gives true e = adds_of e (Close begun.number ∷ []) (e.deeds.made ∙ ap (λ (k : ℕ). Close k ∷ []) e.number)
+  close_gives false e = (adds_of e [] e.deeds.made, e.tells)
+
+  pub shut_gives : (b : Bool) → Ended n limit v begun (AnswerShut b) → ShutGives (shape n limit) begun (pass_of v) b
+  shut_gives true e = adds_of e (Shut begun.number ∷ []) (e.deeds.made ∙ ap (λ (k : ℕ). Shut k ∷ []) e.number)
+  shut_gives false e = (adds_of e [] e.deeds.made, e.tells)
+
+  pub look_gives : (b : Bool) → Ended n limit v begun (AnswerLook b) → LookGives (shape n limit) begun (pass_of v) b
+  look_gives b e = (adds_of e [] e.deeds.made, e.tells)
+
+module _ {T : Type 0} (c : Stack T) (o : Operation T) (p : Pass T) (l : Line T) (slots : List (ℕ × Slot T)) (at : IsAt c o p l slots) (q : Pass T) (same_seat : IsSame p q) where
+  -- an operation has ended
+  pub is_pass : (a : Answer T) → slots ≡ [] → Ended (capacity_of c.limits) (tag_limit_of c.limits) q.seat.me.0 (begun_in p) a → IsPassOf c q
+  is_pass a none_there e = record { table = same_seat.table ∙ at.table; view = e.view; slots = same_seat.slots ∙ at.has ∙ none_there; rests = e.rests }
+
+  -- or goes on
+  pub is_at : (l' : Line T) → Going (capacity_of c.limits) (tag_limit_of c.limits) o q.seat.me.0 (begun_in p) l' → IsAt c o q l' slots
+  is_at l' g = record { table = same_seat.table ∙ at.table; has = same_seat.slots ∙ at.has; going = subst (λ (b : PassView T). Going (capacity_of c.limits) (tag_limit_of c.limits) o q.seat.me.0 b l') (sym (begun_going g)) g }
+
+  pub went_on : (l' : Line T) (list : ℕ) (kind : Kind) (found : ℕ) (zs : List (ℕ × Slot T)) → Going (capacity_of c.limits) (tag_limit_of c.limits) o q.seat.me.0 (begun_in p) l' → Told c o list kind found zs p q → GoesOn p q
+  went_on l' list kind found zs g t = record { begun = begun_going g; steps = t.counted }
+
+module _ {T : Type 0} (c : Stack T) (o : Operation T) (p : Pass T) where
+  pub is_started : IsPassOf c p → IsAt c o p (first_line o) []
+  is_started f = record { table = f.table; has = f.slots; going = subst (λ (b : PassView T). Going (capacity_of c.limits) (tag_limit_of c.limits) o p.seat.me.0 b (first_line o)) (sym (begun_at_rest p.seat.me.0 f.view)) (starts (capacity_of c.limits) (tag_limit_of c.limits) o p.seat.me.0 f.view) }

@@ -1,0 +1,159 @@
+-- How an operation goes on by what a step tells.
+use Rattle.std.proofs.Common.{◌≡◌, ℕ, ◌<◌, ◌≤◌, false, List, [], ◌++◌, refl, sym, ap, ◌∙◌, subst, arith}
+use Rattle.std.proofs.lemmas.Bool.{false≢true}
+use Rattle.std.specs.Prelude.{Option as Slot, Some}
+use Rattle.bounded_model.specs.declared.history.Event.{Event}
+use Rattle.bounded_model.specs.declared.views.PassView.{PassView}
+use Rattle.bounded_model.specs.Histories.{Later, own}
+use Rattle.bounded_model.specs.Laws.{IsAtRest, Adds}
+use Rattle.bounded_model.proofs.Histories.{Later-refl, Later-trans}
+use Rattle.index_list.specs.Steps.{Kind}
+use Rattle.step_core.specs.declared.stack.Answer.{Answer}
+use Rattle.step_core.specs.declared.stack.Line.{Line}
+use Rattle.step_core.specs.declared.stack.Line.TheVariants.{Idle}
+use Rattle.step_core.specs.declared.seats.View.{View}
+use Rattle.step_core.specs.declared.seats.View.TheVariants.{AtPass}
+use Rattle.step_core.specs.StackMachine.{is_idle, step}
+use Rattle.step_core.specs.StackLaw.{shape}
+use Rattle.step_core.specs.StackRule.{Tells}
+use Rattle.step_core.specs.StackDeeds.{Deeds}
+use Rattle.step_core.specs.Seats.{at_rest, stepped, pass_of, line_of}
+use Rattle.treiber_stack.specs.declared.operation.Operation.{Operation}
+use Rattle.treiber_stack.specs.declared.operation.Operation.TheVariants.{Put as PutFirst, Take as TakeFirst, Close as CloseFirst, Shut as ShutFirst, Look as LookFirst}
+use Rattle.treiber_stack.specs.Rule.{idle, holding}
+use Rattle.treiber_stack.specs.Host.{first_line, line_now, begun_now, quiet, view_after, Did}
+use Rattle.treiber_stack.specs.Operations.{Going, Ended, begun_view}
+
+module _ {T : Type 0} where
+  busy_now : (o : Operation T) (l : Line T) → is_idle l ≡ false → line_now o (quiet l) ≡ l
+  busy_now o (Idle a) e = absurd (false≢true (sym e))
+  busy_now o l e = refl
+
+  busy_begun : (q b : PassView T) (l : Line T) → is_idle l ≡ false → begun_now q (begun_now q b l) (quiet l) ≡ b
+  busy_begun q b (Idle a) e = absurd (false≢true (sym e))
+  busy_begun q b l e = refl
+
+  module _ {n limit : ℕ} {o : Operation T} {list : ℕ} {kind : Kind} {found : ℕ} {zs : List (ℕ × Slot T)} {v v' : View T (Line T)} {begun : PassView T} {l : Line T} (g : Going n limit o v begun l) (d : Did n limit o list kind found zs v v') where
+    same_view : AtPass d.pass d.from d.at ≡ AtPass g.pass g.from g.at
+    same_view = sym d.is ∙ g.is
+
+    same_pass : d.pass ≡ g.pass
+    same_pass = ap pass_of same_view
+
+    same_at : d.at ≡ g.at
+    same_at = ap (line_of idle) same_view
+
+    same_now : line_now o d.at ≡ l
+    same_now = ap (line_now o) same_at ∙ g.now
+
+    same_begun : begun_now d.pass d.from d.at ≡ begun
+    same_begun = ap begun_view same_view ∙ g.begun_is
+
+    abbrev newer : List (Event T)
+    newer = d.out.events ++ d.history
+
+    later : Later begun.seen newer
+    later = Later-trans g.seen (Later-trans (subst (λ (p : PassView T). Later p.seen d.history) same_pass d.saw.seen) (record { more = d.out.events; is = refl }))
+
+    deeds_after : Deeds (shape n limit) d.pass.number d.out.line begun.seen newer
+    deeds_after = d.deeds begun.seen (subst (λ (k : Line T). Deeds (shape n limit) d.pass.number k begun.seen d.pass.seen) (sym same_now) (subst (λ (p : PassView T). Deeds (shape n limit) p.number l begun.seen p.seen) (sym same_pass) g.deeds))
+
+    tells_after : Tells n limit begun.seen newer d.out.line
+    tells_after = d.tells begun.seen (subst (λ (p : PassView T). Later begun.seen p.seen) (sym same_pass) g.seen)
+        (subst (λ (k : Line T). Tells n limit begun.seen d.pass.seen k) (sym same_now) (subst (λ (p : PassView T). Tells n limit begun.seen p.seen l) (sym same_pass) g.tells))
+
+    number_after : d.pass.number ≡ begun.number
+    number_after = ap (λ (p : PassView T). p.number) same_pass ∙ g.number
+
+    steps_before : begun.steps ≤ d.pass.steps
+    steps_before = subst (λ (p : PassView T). begun.steps ≤ p.steps) (sym same_pass) g.steps
+
+    -- the operation goes on at the line that the core's step leads to
+    pub goes_on : (o' : Operation T) (l' : Line T) → d.out.line ≡ l' → is_idle l' ≡ false → Going n limit o' v' begun l'
+    goes_on o' l' e busy =
+        let q : PassView T = stepped newer d.pass in
+        let before = steps_before in
+        record {
+          pass = q;
+          from = begun_now q begun l';
+          at = quiet l';
+          is = d.becomes ∙ (λ k. view_after q (same_begun k) (e k));
+          now = busy_now o' l' busy;
+          begun_is = busy_begun q begun l' busy;
+          number = number_after;
+          steps = omega arith;
+          seen = later;
+          deeds = subst (λ (k : Line T). Deeds (shape n limit) d.pass.number k begun.seen newer) e deeds_after;
+          tells = subst (λ (k : Line T). Tells n limit begun.seen newer k) e tells_after;
+        }
+
+    -- or has ended with this answer
+    pub ends_so : (a : Answer T) → d.out.line ≡ Idle (Some a) → Ended n limit v' begun a
+    ends_so a e =
+        let q : PassView T = stepped newer d.pass in
+        let before = steps_before in
+        let is : v' ≡ at_rest idle q = d.becomes ∙ (λ k. view_after q (same_begun k) (e k)) in
+        let same : q ≡ pass_of v' = sym (ap pass_of is) in
+        let rest : IsAtRest (shape n limit) q = record { legal = d.legal; hand = d.hand ∙ ap (λ (k : Line T). holding k) e } in
+        record {
+          view = is ∙ ap (λ (x : PassView T). at_rest idle x) same;
+          rests = subst (IsAtRest (shape n limit)) same rest;
+          number = ap (λ (x : PassView T). x.number) (sym same) ∙ number_after;
+          steps = subst (λ (x : PassView T). begun.steps < x.steps) same (omega arith);
+          seen = subst (λ (x : PassView T). Later begun.seen x.seen) same later;
+          deeds = subst (λ (x : PassView T). Deeds (shape n limit) x.number (Idle (Some a)) begun.seen x.seen) same (subst (λ (k : Line T). Deeds (shape n limit) d.pass.number k begun.seen newer) e deeds_after);
+          tells = subst (λ (x : PassView T). Tells n limit begun.seen x.seen (Idle (Some a))) same (subst (λ (k : Line T). Tells n limit begun.seen newer k) e tells_after);
+        }
+
+  -- a pass between its operations may begin any
+  pub starts : (n limit : ℕ) (o : Operation T) (v : View T (Line T)) → v ≡ at_rest idle (pass_of v) → Going n limit o v (pass_of v) (first_line o)
+  starts n limit o v is = record {
+    pass = pass_of v;
+    from = pass_of v;
+    at = idle;
+    is = is;
+    now = refl;
+    begun_is = refl;
+    number = refl;
+    steps = omega arith;
+    seen = Later-refl (pass_of v).seen;
+    deeds = first_deeds o;
+    tells = first_tells o;
+  }
+    where
+      first_deeds : (o : Operation T) → Deeds (shape n limit) (pass_of v).number (first_line o) (pass_of v).seen (pass_of v).seen
+      first_deeds (PutFirst x) = record { between = []; is = refl; made = refl; all = tt }
+      first_deeds TakeFirst = record { between = []; is = refl; made = refl; all = tt }
+      first_deeds CloseFirst = record { between = []; is = refl; made = refl; all = tt }
+      first_deeds ShutFirst = record { between = []; is = refl; made = refl; all = tt }
+      first_deeds LookFirst = record { between = []; is = refl; made = refl; all = tt }
+
+      first_tells : (o : Operation T) → Tells n limit (pass_of v).seen (pass_of v).seen (first_line o)
+      first_tells (PutFirst x) = tt
+      first_tells TakeFirst = tt
+      first_tells CloseFirst = tt
+      first_tells ShutFirst = tt
+      first_tells LookFirst = tt
+
+  -- the core's step from the line that the operation was at
+  pub out_at : {n limit : ℕ} {o : Operation T} {list : ℕ} {kind : Kind} {found : ℕ} {zs : List (ℕ × Slot T)} {v v' : View T (Line T)} {begun : PassView T} {l : Line T} (g : Going n limit o v begun l) (d : Did n limit o list kind found zs v v')
+      → d.out ≡ step (shape n limit) d.memory d.pass.number l
+  out_at {n} {limit} g d = d.steps ∙ ap (step (shape n limit) d.memory d.pass.number) (same_now g d)
+
+  -- what `begun_in` reads off a view at rest
+  pub begun_at_rest : (v : View T (Line T)) → v ≡ at_rest idle (pass_of v) → begun_view v ≡ pass_of v
+  begun_at_rest v is = ap begun_view is
+
+  -- and off one in an operation
+  pub begun_going : {n limit : ℕ} {o : Operation T} {v : View T (Line T)} {begun : PassView T} {l : Line T} → Going n limit o v begun l → begun_view v ≡ begun
+  begun_going g = ap begun_view g.is ∙ g.begun_is
+
+  -- an operation of any kind has added its own events
+  pub adds_of : {n limit : ℕ} {v : View T (Line T)} {begun : PassView T} {a : Answer T} (e : Ended n limit v begun a) (events : List (Event T)) → own (pass_of v).number e.deeds.between ≡ events → Adds begun (pass_of v) events
+  adds_of {n} {limit} {v} e events made = record {
+    number = e.number;
+    steps = e.steps;
+    between = e.deeds.between;
+    seen = e.deeds.is;
+    own_events = ap (λ (k : ℕ). own k e.deeds.between) (sym e.number) ∙ made;
+  }

@@ -1,0 +1,51 @@
+use Rattle.std.proofs.Common.{ℕ, true, false, [], refl, sym, subst}
+use Rattle.std.specs.Prelude.{Option as Slot}
+use Rattle.tagged_index.specs.Fields.{fields_of}
+use Rattle.index_list.specs.Steps.{read_top, mark}
+use Rattle.step_core.specs.declared.stack.Answer.TheVariants.{Close as Answer}
+use Rattle.step_core.specs.declared.stack.Line.TheVariants.{Z1, Z2}
+use Rattle.treiber_stack.specs.declared.operation.Operation.TheVariants.{Close as First}
+use Rattle.treiber_stack.specs.Operations.{IsAt}
+use Rattle.treiber_stack.specs.Closing.{close_line}
+use Rattle.treiber_stack.proofs.Closes.{Z1_ends, Z1_goes, Z2_ends, Z2_goes, close_gives, is_pass, is_at, went_on}
+use Rattle.treiber_stack.proofs.closing.CloseOp.step.Goals as goal
+
+pub returns-then-is_marked : goal.returns-then-is_marked
+returns-then-is_marked g c =
+    let stack = c.args.stack.now in
+    let p = c.args.self.pass in
+    let at = subst (λ (s : Slot ℕ). IsAt stack First p (close_line s) []) c.in-None.is c.requires in
+    let e = Z1_ends c.load-top.result at.going c.load-top.ensures.told.did (sym c.if-is_marked.ensures) in
+    (is_pass stack First p Z1 [] at c.load-top.new.by c.load-top.ensures.same (Answer false) refl e, close_gives false e)
+
+pub returns-else-is_marked : goal.returns-else-is_marked
+returns-else-is_marked g c =
+    let stack = c.args.stack.now in
+    let p = c.args.self.pass in
+    let at = subst (λ (s : Slot ℕ). IsAt stack First p (close_line s) []) c.in-None.is c.requires in
+    let w : ℕ = c.load-top.result in
+    let e = Z1_goes w at.going c.load-top.ensures.told.did (sym c.if-is_marked.ensures) in (
+      is_at stack First p Z1 [] at c.load-top.new.by c.load-top.ensures.same (Z2 (fields_of w)) e,
+      went_on stack First p Z1 [] at c.load-top.new.by c.load-top.ensures.same (Z2 (fields_of w)) 1 read_top w [] e c.load-top.ensures.told,
+    )
+
+pub returns-then-mark : goal.returns-then-mark
+returns-then-mark g c =
+    let stack = c.args.stack.now in
+    let p = c.args.self.pass in
+    let w : ℕ = c.in-Some.top in
+    let at = subst (λ (s : Slot ℕ). IsAt stack First p (close_line s) []) c.in-Some.is c.requires in
+    let e = Z2_ends w at.going (c.if-mark.ensures.won refl).did in
+    (is_pass stack First p (Z2 (fields_of w)) [] at c.mark.new.by c.mark.ensures.same (Answer true) refl e, close_gives true e)
+
+pub returns-else-mark : goal.returns-else-mark
+returns-else-mark g c =
+    let stack = c.args.stack.now in
+    let p = c.args.self.pass in
+    let w : ℕ = c.in-Some.top in
+    let at = subst (λ (s : Slot ℕ). IsAt stack First p (close_line s) []) c.in-Some.is c.requires in
+    let lost = c.if-mark.ensures.lost refl in
+    let e = Z2_goes w lost.found lost.other at.going lost.told.did in (
+      is_at stack First p (Z2 (fields_of w)) [] at c.mark.new.by c.mark.ensures.same Z1 e,
+      went_on stack First p (Z2 (fields_of w)) [] at c.mark.new.by c.mark.ensures.same Z1 1 (mark w) lost.found [] e lost.told,
+    )

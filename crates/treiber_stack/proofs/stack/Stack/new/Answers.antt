@@ -1,0 +1,12 @@
+use Rattle.std.proofs.Common.{◌≡◌, ℕ, ◌<◌, length, rules, subst}
+use Rattle.std.specs.Prelude.{slice_index}
+use Rattle.treiber_stack.specs.Layout.{words_for, start_at}
+use Rattle.treiber_stack.proofs.Opening.{opens}
+use Rattle.treiber_stack.proofs.stack.Stack.new.Goals as goal
+
+pub vacant-requires : goal.vacant-requires
+vacant-requires g c =
+    let l = c.args.limits in
+    let xs = c.in_ok-words.words.items in
+    let e = subst (λ (n : ℕ). (length xs ≡ words_for n) × ((k : ℕ) → k < words_for n → slice_index xs k ≡ start_at n k)) c.capacity.ensures c.in_ok-words.ensures in
+    opens c.as_slice.result.now xs c.as_slice.ensures.value l.some_capacity (search rules) e.0 e.1 _ c.capacity-count.ensures

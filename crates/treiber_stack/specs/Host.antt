@@ -1,0 +1,158 @@
+-- The stack as a host of two lists: which step a seat may make, and what the step tells.
+use Rattle.std.specs.Prelude.{◌≡◌, ℕ, zero, suc, ◌≤◌, List, [], ◌∷◌, ◌++◌, Option as Slot}
+use mathlib.Core.Option.{Option, none, some}
+use Rattle.tagged_index.specs.Fields.{index_of, fields_of}
+use Rattle.tagged_index.specs.declared.word.TheConstants.{NULL}
+use Rattle.bounded_model.specs.declared.history.Event.{Event}
+use Rattle.bounded_model.specs.declared.views.PassView.{PassView}
+use Rattle.bounded_model.specs.Machine.{Legal}
+use Rattle.bounded_model.specs.Histories.{Later}
+use Rattle.index_list.specs.Steps.{Kind, read_top, read_link, write_link, take, give, give_chain, take_all, mark, shut}
+use Rattle.step_core.specs.Words.{Tagged}
+use Rattle.step_core.specs.declared.stack.Taking.TheVariants.{One}
+use Rattle.step_core.specs.declared.stack.Line.{Line}
+use Rattle.step_core.specs.declared.stack.Line.TheVariants.{Idle, F1, F2, F3, F4, P1, P2, D1, S1, S2, S3, R1, R2, W1, G1, G2, G3, Z1, Z2, Y1, Y2, V1}
+use Rattle.step_core.specs.declared.seats.View.{View}
+use Rattle.step_core.specs.declared.seats.View.TheVariants.{AtRoot, AtPass, AtMeeting, Left}
+use Rattle.step_core.specs.StackMachine.{Memory, Outcome, first, second, last, held, step}
+use Rattle.step_core.specs.StackLaw.{shape, state}
+use Rattle.step_core.specs.StackRule.{Tells}
+use Rattle.step_core.specs.StackDeeds.{Deeds}
+use Rattle.step_core.specs.Seats.{Saw, stepped}
+use Rattle.treiber_stack.specs.Rule.{idle, line_in, holding}
+use Rattle.treiber_stack.specs.declared.operation.Operation.{Operation}
+use Rattle.treiber_stack.specs.declared.operation.Operation.TheVariants.{Put as PutFirst, Take as TakeFirst, Close as CloseFirst, Shut as ShutFirst, Look as LookFirst}
+
+module _ {T : Type 0} where
+  -- the first step of an operation
+  abbrev pub first_line : Operation T → Line T
+  first_line (PutFirst v) = F1 (record { values = v ∷ []; chain = [] })
+  first_line TakeFirst = S1 One
+  first_line CloseFirst = Z1
+  first_line ShutFirst = Y1
+  first_line LookFirst = V1
+
+  -- the line of a pass's next step: a pass between its operations begins one
+  abbrev pub line_now : Operation T → Line T → Line T
+  line_now o (Idle a) = first_line o
+  line_now o l = l
+
+  -- the pass as it was when its operation was begun
+  abbrev pub begun_now : PassView T → PassView T → Line T → PassView T
+  begun_now p begun (Idle a) = p
+  begun_now p begun l = begun
+
+  -- an operation that has ended leaves the pass idle, as it is by then
+  abbrev pub quiet : Line T → Line T
+  quiet (Idle a) = idle
+  quiet l = l
+
+  abbrev pub view_after : PassView T → PassView T → Line T → View T (Line T)
+  view_after q begun l = AtPass q (begun_now q begun l) (quiet l)
+
+  -- the step that a line makes: on which list and with which words
+
+  abbrev pub reads_top_of : Line T → Option ℕ
+  reads_top_of (F1 put) = some 0
+  reads_top_of (G1 giving) = some 0
+  reads_top_of (P1 put) = some 1
+  reads_top_of (D1 values) = some 1
+  reads_top_of (S1 taking) = some 1
+  reads_top_of Z1 = some 1
+  reads_top_of Y1 = some 1
+  reads_top_of V1 = some 1
+  reads_top_of l = none
+
+  abbrev pub reads_link_of : Line T → Option ℕ
+  reads_link_of (F2 put w) = some w.index
+  reads_link_of (S2 w) = some w.index
+  reads_link_of (R1 giving above i) = some i
+  reads_link_of (W1 giving i) = some i
+  reads_link_of l = none
+
+  abbrev pub stores_of : Line T → Option (ℕ × ℕ)
+  stores_of (F4 put) = some (first put.chain, second put.chain)
+  stores_of (P2 put w) = some (last put.chain, w.index)
+  stores_of (R2 giving above i k) = some (i, above)
+  stores_of (G2 giving w) = some (last giving.chain, w.index)
+  stores_of l = none
+
+  abbrev pub takes_of : Line T → Option (ℕ × (Tagged × ℕ))
+  takes_of (F3 put w k) = some (0, (w, k))
+  takes_of (S3 w k) = some (1, (w, k))
+  takes_of l = none
+
+  abbrev pub gives_of : Line T → Option (Tagged × List ℕ)
+  gives_of (G3 giving w) = some (w, giving.chain)
+  gives_of l = none
+
+  abbrev pub marks_of : Line T → Option Tagged
+  marks_of (Z2 w) = some w
+  marks_of l = none
+
+  abbrev pub shuts_of : Line T → Option Tagged
+  shuts_of (Y2 w) = some w
+  shuts_of l = none
+
+  abbrev pub Makes : ℕ → Kind → Line T → Type 0
+  Makes list read_top l = reads_top_of l ≡ some list
+  Makes list (read_link i) l = reads_link_of l ≡ some i
+  Makes list (write_link i x) l = (stores_of l ≡ some (i, x)) × (x ≤ NULL)
+  Makes list (take w k) l = (takes_of l ≡ some (list, (fields_of w, k))) × (k ≤ NULL)
+  Makes list (give w i) l = ⊥
+  Makes list (give_chain w i) l = (list ≡ 0) × ((chain : List ℕ) × (gives_of l ≡ some (fields_of w, chain)) × (first chain ≡ i))
+  Makes list (take_all w) l = ⊥
+  Makes list (mark w) l = (list ≡ 1) × (marks_of l ≡ some (fields_of w))
+  Makes list (shut w) l = (list ≡ 1) × (shuts_of l ≡ some (fields_of w))
+
+  -- a pass may make exactly the step that it is at
+  abbrev pub may_step : Operation T → ℕ → Kind → View T (Line T) → Type 0
+  may_step o list kind (AtPass p begun l) = Makes list kind (line_now o l)
+  may_step o list kind (AtRoot r heard) = ⊥
+  may_step o list kind (AtMeeting p q) = ⊥
+  may_step o list kind Left = ⊥
+
+  abbrev pub held_in : ℕ → View T (Line T) → List ℕ
+  held_in list v = held (line_in v)
+
+  abbrev pub steps_in : View T (Line T) → ℕ
+  steps_in (AtPass p begun l) = p.steps
+  steps_in (AtRoot r heard) = 0
+  steps_in (AtMeeting p q) = p.steps
+  steps_in Left = 0
+
+  -- what a step found
+  abbrev pub top_in : ℕ → Memory T → Tagged
+  top_in zero m = m.free
+  top_in (suc list) m = m.top
+
+  abbrev pub Finds : ℕ → Kind → ℕ → Memory T → Type 0
+  Finds list (read_link i) found m = (m.link i ≡ found) × (found ≤ NULL)
+  Finds list (write_link i x) found m = Unit {0}
+  Finds list kind found m = fields_of found ≡ top_in list m
+
+  -- which slots moved: a won take brings the node's
+  abbrev pub Moves : Kind → ℕ → List (ℕ × Slot T) → Memory T → Type 0
+  Moves (take w k) found zs m = found ≡ w → (x : Slot T) × (zs ≡ (index_of w, x) ∷ []) × (m.home (index_of w) ≡ some x)
+  Moves kind found zs m = Unit {0}
+
+-- What a step tells: it was the core's step of the line that the pass was at, from a memory and a
+-- history that meet the core's rule. So what the pass has done and may answer goes on as the core
+-- says.
+pub record Did {T : Type 0} (n limit : ℕ) (o : Operation T) (list : ℕ) (kind : Kind) (found : ℕ) (zs : List (ℕ × Slot T)) (v v' : View T (Line T)) : Type 0 where
+  pub pass : PassView T
+  pub from : PassView T
+  pub at : Line T
+  pub is : v ≡ AtPass pass from at
+  pub memory : Memory T
+  pub history : List (Event T)
+  pub out : Outcome T
+  pub steps : out ≡ step (shape n limit) memory pass.number (line_now o at)
+  pub finds : Finds list kind found memory
+  pub moves : Moves kind found zs memory
+  pub saw : Saw history pass
+  pub becomes : v' ≡ view_after (stepped (out.events ++ history) pass) (begun_now pass from at) out.line
+  pub deeds : (b : List (Event T)) → Deeds (shape n limit) pass.number (line_now o at) b pass.seen → Deeds (shape n limit) pass.number out.line b (out.events ++ history)
+  pub tells : (b : List (Event T)) → Later b pass.seen → Tells n limit b pass.seen (line_now o at) → Tells n limit b (out.events ++ history) out.line
+  pub legal : Legal (shape n limit) (out.events ++ history)
+  pub hand : (state n limit (out.events ++ history)).hand pass.number ≡ holding out.line

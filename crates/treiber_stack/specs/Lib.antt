@@ -1,0 +1,15 @@
+pub mod Layout
+pub mod Rule
+pub mod Stack
+pub mod Host
+pub mod KeepsRule
+pub mod Left
+pub mod KeepsStep
+pub mod KeepsMemory
+pub mod KeepsReads
+pub mod KeepsMarks
+pub mod KeepsTakes
+pub mod KeepsGives
+pub mod KeepsHost
+pub mod Operations
+pub mod Closing

@@ -1,0 +1,77 @@
+-- A pass in an operation, and a pass whose operation has answered.
+use Rattle.std.specs.Prelude.{◌≡◌, ◌≢◌, ℕ, ◌+◌, ◌<◌, ◌≤◌, List, [], Option as Slot, Some}
+use Rattle.tagged_index.specs.Limits.{capacity_of, tag_limit_of}
+use Rattle.bounded_model.specs.declared.views.PassView.{PassView}
+use Rattle.bounded_model.specs.Histories.{Later}
+use Rattle.bounded_model.specs.Laws.{IsAtRest}
+use Rattle.step_core.specs.declared.stack.Answer.{Answer}
+use Rattle.step_core.specs.declared.stack.Line.{Line}
+use Rattle.step_core.specs.declared.stack.Line.TheVariants.{Idle}
+use Rattle.step_core.specs.declared.seats.View.{View}
+use Rattle.step_core.specs.declared.seats.View.TheVariants.{AtPass}
+use Rattle.step_core.specs.StackLaw.{shape}
+use Rattle.step_core.specs.StackRule.{Tells}
+use Rattle.step_core.specs.StackDeeds.{Deeds}
+use Rattle.step_core.specs.Seats.{at_rest, pass_of}
+use Rattle.treiber_stack.specs.Rule.{idle}
+use Rattle.index_list.specs.Steps.{Kind}
+use Rattle.treiber_stack.specs.Host.{line_now, begun_now, steps_in, Did}
+use Rattle.treiber_stack.specs.declared.operation.Operation.{Operation}
+use Rattle.treiber_stack.specs.declared.stack.Stack.{Stack}
+use Rattle.treiber_stack.specs.declared.stack.Pass.{Pass}
+
+module _ {T : Type 0} where
+  -- A view of a pass in the operation o, which was begun as the pass was `begun`; its next step is that of the line l.
+  -- What it has done so far, and may answer, is as the core says of that line
+  pub record Going (n limit : ℕ) (o : Operation T) (v : View T (Line T)) (begun : PassView T) (l : Line T) : Type 0 where
+    pub pass : PassView T
+    pub from : PassView T
+    pub at : Line T
+    pub is : v ≡ AtPass pass from at
+    pub now : line_now o at ≡ l
+    pub begun_is : begun_now pass from at ≡ begun
+    pub number : pass.number ≡ begun.number
+    pub steps : begun.steps ≤ pass.steps
+    pub seen : Later begun.seen pass.seen
+    pub deeds : Deeds (shape n limit) pass.number l begun.seen pass.seen
+    pub tells : Tells n limit begun.seen pass.seen l
+
+  -- its operation has answered
+  pub record Ended (n limit : ℕ) (v : View T (Line T)) (begun : PassView T) (a : Answer T) : Type 0 where
+    pub view : v ≡ at_rest idle (pass_of v)
+    pub rests : IsAtRest (shape n limit) (pass_of v)
+    pub number : (pass_of v).number ≡ begun.number
+    pub steps : begun.steps < (pass_of v).steps
+    pub seen : Later begun.seen (pass_of v).seen
+    pub deeds : Deeds (shape n limit) (pass_of v).number (Idle (Some a)) begun.seen (pass_of v).seen
+    pub tells : Tells n limit begun.seen (pass_of v).seen (Idle (Some a))
+
+  -- the pass as it was when its operation was begun
+  abbrev pub begun_view : View T (Line T) → PassView T
+  begun_view (AtPass p from l) = begun_now p from l
+  begun_view v = pass_of v
+
+  abbrev pub begun_in : Pass T → PassView T
+  begun_in p = begun_view p.seat.me.0
+
+  -- a pass of this stack in an operation, at a line and with these slots in hand
+  pub record IsAt (c : Stack T) (o : Operation T) (p : Pass T) (l : Line T) (slots : List (ℕ × Slot T)) : Type 0 where
+    pub table : p.seat.table_id ≡ c.table.shared.table_id
+    pub has : p.seat.me.1 ≡ slots
+    pub going : Going (capacity_of c.limits) (tag_limit_of c.limits) o p.seat.me.0 (begun_in p) l
+
+  -- the pass is of the same table, and has the same slots
+  pub record IsSame (p q : Pass T) : Type 0 where
+    pub table : q.seat.table_id ≡ p.seat.table_id
+    pub slots : q.seat.me.1 ≡ p.seat.me.1
+
+  -- a step of a pass was the core's step of its line, and counts as one
+  pub record Told (c : Stack T) (o : Operation T) (list : ℕ) (kind : Kind) (found : ℕ) (zs : List (ℕ × Slot T)) (p q : Pass T) : Type 0 where
+    pub did : Did (capacity_of c.limits) (tag_limit_of c.limits) o list kind found zs p.seat.me.0 q.seat.me.0
+    pub counted : steps_in q.seat.me.0 ≡ steps_in p.seat.me.0 + 1
+
+  -- an exchange found another word than it expected
+  pub record Lost (c : Stack T) (o : Operation T) (list : ℕ) (kind : Kind) (expected : ℕ) (p q : Pass T) : Type 0 where
+    pub found : ℕ
+    pub other : found ≢ expected
+    pub told : Told c o list kind found [] p q

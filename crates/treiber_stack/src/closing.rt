@@ -1,0 +1,128 @@
+//! Closing and shutting a stack, by steps, and looking whether it is empty.
+ghost use Rattle.std.specs.Prelude.{◌≡◌};
+ghost use Rattle.bounded_model.specs.Laws.{LookGives};
+ghost use Rattle.treiber_stack.specs.Closing.{IsClosing, IsShutting, CloseStep, ShutStep};
+ghost use Rattle.treiber_stack.specs.Operations.{begun_in};
+ghost use Rattle.treiber_stack.specs.Stack.{shape_of, IsPassOf, pass_in};
+
+use crate::layout::TOP;
+use crate::operation::Operation;
+use crate::stack::{Pass, Stack};
+use bounded_model::Stepped;
+use tagged_index::{NULL, Tagged};
+
+/// A close that was begun.
+#[derive(Drop)]
+pub struct CloseOp<T> {
+    pub(crate) pass: Pass<T>,
+    /// The top, once it was read open.
+    pub(crate) seen: Option<Tagged>,
+}
+
+/// A shut that was begun.
+#[derive(Drop)]
+pub struct ShutOp<T> {
+    pub(crate) pass: Pass<T>,
+    /// The top, once it was read unshut.
+    pub(crate) seen: Option<Tagged>,
+}
+
+impl<T> Stack<T> {
+    /// A close that makes no step yet.
+    #[inline]
+    pub fn begin_close(&self, by: Pass<T>) -> CloseOp<T>
+        requires { IsPassOf self.now by }
+        ensures { IsClosing self.now result × (begun_in result.pass ≡ pass_in by) }
+    {
+        CloseOp {
+            pass: by,
+            seen: None,
+        }
+    }
+
+    /// A shut that makes no step yet.
+    #[inline]
+    pub fn begin_shut(&self, by: Pass<T>) -> ShutOp<T>
+        requires { IsPassOf self.now by }
+        ensures { IsShutting self.now result × (begun_in result.pass ≡ pass_in by) }
+    {
+        ShutOp {
+            pass: by,
+            seen: None,
+        }
+    }
+
+    /// Whether the stack is empty: one load of its top.
+    #[inline]
+    pub fn is_empty(&self, by: Pass<T>) -> (Pass<T>, bool)
+        requires { IsPassOf self.now by }
+        ensures of { IsPassOf self.now result.0 }
+        ensures gives { LookGives (shape_of self.now) (pass_in by) (pass_in result.0) result.1 }
+    {
+        let mut pass = by;
+        let top = self.load(&mut pass, TOP, &Operation::Look);
+        (pass, top.index() == NULL)
+    }
+}
+
+impl<T> CloseOp<T> {
+    /// One atomic step: a load of the top, or the exchange that sets its mark. Answers whether
+    /// this operation closed the stack.
+    #[inline]
+    pub fn step(self, stack: &Stack<T>) -> Stepped<CloseOp<T>, Pass<T>, bool>
+        requires { IsClosing stack.now self }
+        ensures { CloseStep stack.now self result }
+    {
+        let CloseOp { pass, seen } = self;
+        let mut pass = pass;
+        match seen {
+            None => {
+                let top = stack.load(&mut pass, TOP, &Operation::Close);
+                if top.is_marked() {
+                    return Stepped::Done(pass, false);
+                }
+                Stepped::Again(CloseOp {
+                    pass,
+                    seen: Some(top),
+                })
+            }
+            Some(top) => {
+                if stack.mark(&mut pass, top, &Operation::Close) {
+                    return Stepped::Done(pass, true);
+                }
+                Stepped::Again(CloseOp { pass, seen: None })
+            }
+        }
+    }
+}
+
+impl<T> ShutOp<T> {
+    /// One atomic step: a load of the top, or the exchange that sets its second mark. Answers
+    /// whether this operation shut the stack.
+    #[inline]
+    pub fn step(self, stack: &Stack<T>) -> Stepped<ShutOp<T>, Pass<T>, bool>
+        requires { IsShutting stack.now self }
+        ensures { ShutStep stack.now self result }
+    {
+        let ShutOp { pass, seen } = self;
+        let mut pass = pass;
+        match seen {
+            None => {
+                let top = stack.load(&mut pass, TOP, &Operation::Shut);
+                if top.has_second() {
+                    return Stepped::Done(pass, false);
+                }
+                Stepped::Again(ShutOp {
+                    pass,
+                    seen: Some(top),
+                })
+            }
+            Some(top) => {
+                if stack.mark_second(&mut pass, top, &Operation::Shut) {
+                    return Stepped::Done(pass, true);
+                }
+                Stepped::Again(ShutOp { pass, seen: None })
+            }
+        }
+    }
+}
