@@ -71,7 +71,11 @@ module _ {T : Type 0} (items : List T) where
     -- at rest
     pub Produces_from : (v : PassView T) (rest : List T) (n : ℕ) (end : ProducerEnd) → Every (λ x. sender x ≡ v.number) items → Producing v items rest n → SendEnds c plan v.seen v.number (mine v) items rest end → Made v rest end
     Produces_from v rest n end from p e = record {
-      from = from; puts = p.puts; takes = p.takes; folds = p.folds; shuts = p.shuts;
+      from = from;
+      puts = p.puts;
+      takes = p.takes;
+      folds = p.folds;
+      shuts = p.shuts;
       holds = omega (arith, p.holds, p.count, ap length p.puts, length-append (gather put_of (mine v)) rest);
       ends = e;
     }
@@ -151,8 +155,14 @@ module _ {T : Type 0} where
     pub Consumes_shut : (v w : PassView T) (taken : List (Moved T)) (b : Bool) → Consuming v taken → ShutGives c v w b → Within plan w.number (length taken) → w.number ≡ plan.producers → plan.shut_after ≡ Some (length taken)
         → Consumes c plan w.seen w.number (mine w) taken ShutIt
     Consumes_shut v w taken true p g i z m = record {
-      takes = keep took_of v w _ g refl ∙ p.takes; puts = keep put_of v w _ g refl ∙ p.puts; folds = keep fold_of v w _ g refl ∙ p.folds;
-      closes = keep close_of v w _ g refl ∙ p.closes; holds = keep hold_of v w _ g refl ∙ p.holds; most = i.most; most_first = i.most_first; ends = (z, m);
+      takes = keep took_of v w _ g refl ∙ p.takes;
+      puts = keep put_of v w _ g refl ∙ p.puts;
+      folds = keep fold_of v w _ g refl ∙ p.folds;
+      closes = keep close_of v w _ g refl ∙ p.closes;
+      holds = keep hold_of v w _ g refl ∙ p.holds;
+      most = i.most;
+      most_first = i.most_first;
+      ends = (z, m);
     }
     Consumes_shut v w taken false p g i z m = Consumes_from w taken ShutIt (Consuming_same v w taken p g.0) i (z, m)
 

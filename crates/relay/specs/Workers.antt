@@ -144,6 +144,12 @@ AtMost k s (Producer items unsent end) = Unit {0}
 AtMost k s (Consumer taken end) = length taken ≤ k
 AtMost k s (Closer used) = Unit {0}
 
+-- consumer 0 took at most m
+abbrev pub AtMostFirst : {T : Type 0} → Orders → ℕ → ℕ → Worker T → Type 0
+AtMostFirst plan m s (Producer items unsent end) = Unit {0}
+AtMostFirst plan m s (Consumer taken end) = s ≡ plan.producers → length taken ≤ m
+AtMostFirst plan m s (Closer used) = Unit {0}
+
 -- consumer 0 took m, or fewer where that was enough
 abbrev pub FirstTook : {T : Type 0} → Orders → ℕ → ℕ → Worker T → Type 0
 FirstTook plan m s (Producer items unsent end) = Unit {0}

@@ -19,8 +19,7 @@ returns-in_default-clause-did g c =
     let none = is_nil c.loop.rest.items (sym c.loop.rest.ok.0 ∙ c.in_default.ensures.cases.0) in
     let long = c.loop.invariant.long in
     Produces_from c.args.messages.items (λ m. m.sender) (C.shape c.args.container.now) c.args.orders.now (C.pass c.loop.pass) c.pop_front.new.self.items c.loop.put SentAll
-    (from_number (λ m. m.sender) c.args.who (C.pass c.loop.pass).number c.args.messages.items c.loop.invariant.number c.requires.from) (rw c.in_default.ensures.items at c.loop.invariant.producing)
-    (
+    (from_number (λ m. m.sender) c.args.who (C.pass c.loop.pass).number c.args.messages.items c.loop.invariant.number c.requires.from) (rw c.in_default.ensures.items at c.loop.invariant.producing) (
       sym c.in_default.ensures.items ∙ none,
       c.loop.invariant.producing.closes,
       λ m z e. omega (arith, ap length none, c.loop.invariant.most m (c.told_first-last.ensures.first (sym c.loop.invariant.number ∙ z) ∙ e)),
