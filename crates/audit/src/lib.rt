@@ -14,6 +14,8 @@ mod faults;
 mod list_text;
 mod message_file;
 mod output;
+#[cfg(test)]
+mod tests;
 mod text;
 
 pub use audit_text::write_audit;

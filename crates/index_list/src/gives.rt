@@ -29,13 +29,16 @@ pub fn try_give<S, V, K, P: ListHost<S, V, K, L>, const L: usize>(
     requires may { P.may table.now.key line.now list (give seen index) seat.old.me.0 }
     requires word { (index < NULL) × (P.layout.keeps list ≡ false → tag_of seen < MAX_TAG) }
     requires held { Holds (P.held list seat.old.me.0) index }
-    requires slot { WithSlot (P.layout.carries list) index (Brings (P.rests list seat.old.me.0) seat.old.me.1) }
+    requires slot { WithSlot (P.layout.carries list) index
+        (Brings (P.rests list seat.old.me.0) seat.old.me.1) }
     ensures seat { (seat.new.table_id ≡ seat.old.table_id) × (seat.new.id ≡ seat.old.id) }
     ensures counted { P.steps seat.new.me.0 ≡ P.steps seat.old.me.0 + 1 }
     ensures won { IsTrue result → Given P.layout P.held (P.holds table.now.key) seat.old.id list
-        seen index (P.did table.now.key line.now list (give seen index)) seat.old.me seat.new.me }
+        seen index (P.did table.now.key line.now list (give seen index))
+        seat.old.me seat.new.me }
     ensures lost { IsFalse result → Missed P.layout P.held (P.holds table.now.key) seat.old.id list
-        seen (P.did table.now.key line.now list (give seen index)) seat.old.me seat.new.me }
+        seen (P.did table.now.key line.now list (give seen index))
+        seat.old.me seat.new.me }
 {
     try_as::<S, V, K, P, (usize, Tagged, u32), P::Line, Brand>(
         table,
@@ -69,9 +72,11 @@ pub fn try_give_chain<S, V, K, P: ListHost<S, V, K, L>, const L: usize>(
     ensures seat { (seat.new.table_id ≡ seat.old.table_id) × (seat.new.id ≡ seat.old.id) }
     ensures counted { P.steps seat.new.me.0 ≡ P.steps seat.old.me.0 + 1 }
     ensures won { IsTrue result → GivenChain P.layout P.held (P.holds table.now.key) seat.old.id list
-        seen first (P.did table.now.key line.now list (give_chain seen first)) seat.old.me seat.new.me }
+        seen first (P.did table.now.key line.now list (give_chain seen first))
+        seat.old.me seat.new.me }
     ensures lost { IsFalse result → Missed P.layout P.held (P.holds table.now.key) seat.old.id list
-        seen (P.did table.now.key line.now list (give_chain seen first)) seat.old.me seat.new.me }
+        seen (P.did table.now.key line.now list (give_chain seen first))
+        seat.old.me seat.new.me }
 {
     try_as::<S, V, K, P, (usize, Tagged, u32), P::Line, Brand>(
         table,

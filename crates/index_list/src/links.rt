@@ -25,7 +25,8 @@ pub fn load_top<S, V, K, P: ListHost<S, V, K, L>, const L: usize>(
     ensures seat { (seat.new.table_id ≡ seat.old.table_id) × (seat.new.id ≡ seat.old.id) }
     ensures slots { seat.new.me.1 ≡ seat.old.me.1 }
     ensures counted { P.steps seat.new.me.0 ≡ P.steps seat.old.me.0 + 1 }
-    ensures said { P.did table.now.key line.now list read_top result [] seat.old.me.0 seat.new.me.0 }
+    ensures said { P.did table.now.key line.now list read_top result []
+        seat.old.me.0 seat.new.me.0 }
     ensures step { Read P.layout P.held (P.holds table.now.key) seat.old.id list
         (P.layout.top list) result seat.old.me seat.new.me }
 {
@@ -43,12 +44,14 @@ pub fn load_link<S, V, K, P: ListHost<S, V, K, L>, const L: usize>(
     line: &P::Line,
 ) -> u64
     requires table { seat.old.table_id ≡ table.now.table_id }
-    requires list { (list < L) × (index ≤ NULL) × (P.layout.link list index < table.now.table_id.words) }
+    requires list { (list < L) × (index ≤ NULL)
+        × (P.layout.link list index < table.now.table_id.words) }
     requires may { P.may table.now.key line.now list (read_link index) seat.old.me.0 }
     ensures seat { (seat.new.table_id ≡ seat.old.table_id) × (seat.new.id ≡ seat.old.id) }
     ensures slots { seat.new.me.1 ≡ seat.old.me.1 }
     ensures counted { P.steps seat.new.me.0 ≡ P.steps seat.old.me.0 + 1 }
-    ensures said { P.did table.now.key line.now list (read_link index) result [] seat.old.me.0 seat.new.me.0 }
+    ensures said { P.did table.now.key line.now list (read_link index) result []
+        seat.old.me.0 seat.new.me.0 }
     ensures step { Read P.layout P.held (P.holds table.now.key) seat.old.id list
         (P.layout.link list index) result seat.old.me seat.new.me }
 {
@@ -67,13 +70,15 @@ pub fn store_link<S, V, K, P: ListHost<S, V, K, L>, const L: usize>(
     line: &P::Line,
 )
     requires table { seat.old.table_id ≡ table.now.table_id }
-    requires list { (list < L) × (index ≤ NULL) × (P.layout.link list index < table.now.table_id.words) }
+    requires list { (list < L) × (index ≤ NULL)
+        × (P.layout.link list index < table.now.table_id.words) }
     requires may { P.may table.now.key line.now list (write_link index next) seat.old.me.0 }
     requires held { Holds (P.held list seat.old.me.0) index }
     ensures seat { (seat.new.table_id ≡ seat.old.table_id) × (seat.new.id ≡ seat.old.id) }
     ensures slots { seat.new.me.1 ≡ seat.old.me.1 }
     ensures counted { P.steps seat.new.me.0 ≡ P.steps seat.old.me.0 + 1 }
-    ensures said { P.did table.now.key line.now list (write_link index next) next [] seat.old.me.0 seat.new.me.0 }
+    ensures said { P.did table.now.key line.now list (write_link index next) next []
+        seat.old.me.0 seat.new.me.0 }
     ensures step { Written P.layout P.held (P.holds table.now.key) seat.old.id list
         (P.layout.link list index) next seat.old.me seat.new.me }
 {

@@ -24,9 +24,11 @@ pub fn try_mark<S, V, K, P: ListHost<S, V, K, L>, const L: usize>(
     ensures seat { (seat.new.table_id ≡ seat.old.table_id) × (seat.new.id ≡ seat.old.id) }
     ensures counted { P.steps seat.new.me.0 ≡ P.steps seat.old.me.0 + 1 }
     ensures won { IsTrue result → Remarked P.layout P.held (P.holds table.now.key) seat.old.id list
-        seen (top_after_mark seen) (P.did table.now.key line.now list (mark seen)) seat.old.me seat.new.me }
+        seen (top_after_mark seen) (P.did table.now.key line.now list (mark seen))
+        seat.old.me seat.new.me }
     ensures lost { IsFalse result → Missed P.layout P.held (P.holds table.now.key) seat.old.id list
-        seen (P.did table.now.key line.now list (mark seen)) seat.old.me seat.new.me }
+        seen (P.did table.now.key line.now list (mark seen))
+        seat.old.me seat.new.me }
 {
     try_as::<S, V, K, P, (usize, Tagged), P::Line, Brand>(
         table,
@@ -54,9 +56,11 @@ pub fn try_shut<S, V, K, P: ListHost<S, V, K, L>, const L: usize>(
     ensures seat { (seat.new.table_id ≡ seat.old.table_id) × (seat.new.id ≡ seat.old.id) }
     ensures counted { P.steps seat.new.me.0 ≡ P.steps seat.old.me.0 + 1 }
     ensures won { IsTrue result → Remarked P.layout P.held (P.holds table.now.key) seat.old.id list
-        seen (top_after_shut seen) (P.did table.now.key line.now list (shut seen)) seat.old.me seat.new.me }
+        seen (top_after_shut seen) (P.did table.now.key line.now list (shut seen))
+        seat.old.me seat.new.me }
     ensures lost { IsFalse result → Missed P.layout P.held (P.holds table.now.key) seat.old.id list
-        seen (P.did table.now.key line.now list (shut seen)) seat.old.me seat.new.me }
+        seen (P.did table.now.key line.now list (shut seen))
+        seat.old.me seat.new.me }
 {
     try_as::<S, V, K, P, (usize, Tagged), P::Line, Brand>(
         table,

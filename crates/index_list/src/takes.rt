@@ -30,9 +30,11 @@ pub fn try_take<S, V, K, P: ListHost<S, V, K, L>, const L: usize>(
     ensures seat { (seat.new.table_id ≡ seat.old.table_id) × (seat.new.id ≡ seat.old.id) }
     ensures counted { P.steps seat.new.me.0 ≡ P.steps seat.old.me.0 + 1 }
     ensures won { IsTrue result → Taken P.layout P.held (P.holds table.now.key) seat.old.id list
-        seen next (P.did table.now.key line.now list (take seen next)) seat.old.me seat.new.me }
+        seen next (P.did table.now.key line.now list (take seen next))
+        seat.old.me seat.new.me }
     ensures lost { IsFalse result → Missed P.layout P.held (P.holds table.now.key) seat.old.id list
-        seen (P.did table.now.key line.now list (take seen next)) seat.old.me seat.new.me }
+        seen (P.did table.now.key line.now list (take seen next))
+        seat.old.me seat.new.me }
 {
     try_as::<S, V, K, P, (usize, Tagged, u32), P::Line, Brand>(
         table,
@@ -63,9 +65,11 @@ pub fn try_take_all<S, V, K, P: ListHost<S, V, K, L>, const L: usize>(
     ensures seat { (seat.new.table_id ≡ seat.old.table_id) × (seat.new.id ≡ seat.old.id) }
     ensures counted { P.steps seat.new.me.0 ≡ P.steps seat.old.me.0 + 1 }
     ensures won { IsTrue result → TakenAll P.layout P.held (P.holds table.now.key) seat.old.id list
-        front seen (P.did table.now.key line.now list (take_all seen)) seat.old.me seat.new.me }
+        front seen (P.did table.now.key line.now list (take_all seen))
+        seat.old.me seat.new.me }
     ensures lost { IsFalse result → Missed P.layout P.held (P.holds table.now.key) seat.old.id list
-        seen (P.did table.now.key line.now list (take_all seen)) seat.old.me seat.new.me }
+        seen (P.did table.now.key line.now list (take_all seen))
+        seat.old.me seat.new.me }
 {
     try_as::<S, V, K, P, (usize, Tagged, Front), P::Line, Brand>(
         table,

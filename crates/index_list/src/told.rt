@@ -41,10 +41,12 @@ pub fn load_as<S, V, K, P: TableRule<S, V, K>, A: Copy, X, W: Telling<S, V>>(
 ) -> u64
     requires table { seat.old.table_id ≡ table.now.table_id }
     requires word { at < table.now.table_id.words }
-    requires allowed { Allows (P.holds table.now.key) table.now.table_id.slots seat.old.id seat.old.me at
+    requires allowed { Allows (P.holds table.now.key) table.now.table_id.slots
+        seat.old.id seat.old.me at
         (λ n. n) (W.told (step table.now.table_id.slots at 0 0 none) seat.old.me) }
     ensures seat { (seat.new.table_id ≡ seat.old.table_id) × (seat.new.id ≡ seat.old.id) }
-    ensures told { W.told (step table.now.table_id.slots at 0 0 none) seat.old.me result seat.new.me }
+    ensures told { W.told (step table.now.table_id.slots at 0 0 none)
+        seat.old.me result seat.new.me }
 {
     let _ = about;
     let _ = line;
@@ -63,10 +65,12 @@ pub fn store_as<S, V, K, P: TableRule<S, V, K>, A: Copy, X, W: Telling<S, V>>(
 )
     requires table { seat.old.table_id ≡ table.now.table_id }
     requires word { at < table.now.table_id.words }
-    requires allowed { Allows (P.holds table.now.key) table.now.table_id.slots seat.old.id seat.old.me at
+    requires allowed { Allows (P.holds table.now.key) table.now.table_id.slots
+        seat.old.id seat.old.me at
         (λ _. new) (λ _. W.told (step table.now.table_id.slots at new 0 none) seat.old.me new) }
     ensures seat { (seat.new.table_id ≡ seat.old.table_id) × (seat.new.id ≡ seat.old.id) }
-    ensures told { W.told (step table.now.table_id.slots at new 0 none) seat.old.me new seat.new.me }
+    ensures told { W.told (step table.now.table_id.slots at new 0 none)
+        seat.old.me new seat.new.me }
 {
     let _ = about;
     let _ = line;
@@ -86,10 +90,13 @@ pub fn exchange_as<S, V, K, P: TableRule<S, V, K>, A: Copy, X, W: Telling<S, V>>
 ) -> u64
     requires table { seat.old.table_id ≡ table.now.table_id }
     requires word { at < table.now.table_id.words }
-    requires allowed { Allows (P.holds table.now.key) table.now.table_id.slots seat.old.id seat.old.me at
-        (λ n. either (n == old) new n) (W.told (step table.now.table_id.slots at old new none) seat.old.me) }
+    requires allowed { Allows (P.holds table.now.key) table.now.table_id.slots
+        seat.old.id seat.old.me at
+        (λ n. either (n == old) new n)
+        (W.told (step table.now.table_id.slots at old new none) seat.old.me) }
     ensures seat { (seat.new.table_id ≡ seat.old.table_id) × (seat.new.id ≡ seat.old.id) }
-    ensures told { W.told (step table.now.table_id.slots at old new none) seat.old.me result seat.new.me }
+    ensures told { W.told (step table.now.table_id.slots at old new none)
+        seat.old.me result seat.new.me }
 {
     let _ = about;
     let _ = line;
@@ -109,8 +116,10 @@ pub fn try_as<S, V, K, P: TableRule<S, V, K>, A: Copy, X, W: Telling<S, V>>(
 ) -> bool
     requires table { seat.old.table_id ≡ table.now.table_id }
     requires word { at < table.now.table_id.words }
-    requires allowed { Allows (P.holds table.now.key) table.now.table_id.slots seat.old.id seat.old.me at
-        (λ n. either (n == seen) new n) (W.told (step table.now.table_id.slots at seen new none) seat.old.me) }
+    requires allowed { Allows (P.holds table.now.key) table.now.table_id.slots
+        seat.old.id seat.old.me at
+        (λ n. either (n == seen) new n)
+        (W.told (step table.now.table_id.slots at seen new none) seat.old.me) }
     ensures seat { (seat.new.table_id ≡ seat.old.table_id) × (seat.new.id ≡ seat.old.id) }
     ensures told { (found : ℕ) × (IsTrue result ↔ (found ≡ seen))
         × W.told (step table.now.table_id.slots at seen new none) seat.old.me found seat.new.me }

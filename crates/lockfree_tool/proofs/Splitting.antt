@@ -11,21 +11,18 @@ use Rattle.lockfree_tool.proofs.Cuts.{onto_cut, Lacks, Lacks-rest, cut_found}
 
 -- ---- cutting a line off
 
-split_at : (line rest : List ℕ) → Lacks 10 line → split_lines (line ++ 10 ∷ rest) ≡ line ∷ split_lines rest
-split_at [] rest lacks = refl
-split_at (b ∷ line) rest lacks =
+pub split_written : (line rest : List ℕ) → Lacks 10 line → split_lines (line ++ 10 ∷ rest) ≡ line ∷ split_lines rest
+split_written [] rest lacks = refl
+split_written (b ∷ line) rest lacks =
     elim (eqb_tells b 10) [
       | inl here ↦ absurd (lacks 0 (omega arith) here.1)
-      | inr other ↦ rw (other.0, split_at line rest (Lacks-rest 10 b line lacks)) refl
+      | inr other ↦ rw (other.0, split_written line rest (Lacks-rest 10 b line lacks)) refl
     ]
-
-pub split_written : (line rest : List ℕ) → Lacks 10 line → split_lines (line ++ 10 ∷ rest) ≡ line ∷ split_lines rest
-split_written line rest lacks = split_at line rest lacks
 
 pub split_cut : (text line rest : List ℕ) → cut_at 10 text ≡ Some (line, rest) → split_lines text ≡ line ∷ split_lines rest
 split_cut text line rest e =
     let c = cut_found 10 text line rest e in
-    ap split_lines c.parts ∙ split_at line rest c.lacks
+    ap split_lines c.parts ∙ split_written line rest c.lacks
 
 pub shorter_cut : (text line rest : List ℕ) → cut_at 10 text ≡ Some (line, rest) → length rest + 1 ≤ length text
 shorter_cut text line rest e =

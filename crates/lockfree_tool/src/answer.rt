@@ -38,7 +38,8 @@ fn calls_of(
 
 /// Adds a line for each reply.
 fn push_replies(output: &mut String, replies: &[Reply<Value<'_>>]) -> Result<(), AllocError>
-    ensures { OnOk result (string_bytes output.new ≡ string_bytes output.old ++ text_of (map reply_text replies.now)) }
+    ensures { OnOk result (string_bytes output.new
+        ≡ string_bytes output.old ++ text_of (map reply_text replies.now)) }
 {
     for reply in replies {
         let reply = ReplyText(reply);
@@ -53,7 +54,8 @@ fn push_end(
     is_finished: bool,
     values: VecDeque<Value<'_>>,
 ) -> Result<(), AllocError>
-    ensures { OnOk result (string_bytes output.new ≡ string_bytes output.old ++ text_of (end_text is_finished values.entry.items)) }
+    ensures { OnOk result (string_bytes output.new
+        ≡ string_bytes output.old ++ text_of (end_text is_finished values.entry.items)) }
 {
     if !is_finished {
         return Ok(());
@@ -70,7 +72,8 @@ fn push_end(
 /// whole output stands.
 pub fn answer(alloc: Global, script: Script<'_>) -> Result<String, ReplayFault>
     requires { FinishesLast script.lines.items }
-    ensures output { IfOk result (λ output. string_bytes output ≡ output_of (head_view script.entry.header) script.entry.lines.items) }
+    ensures output { IfOk result (λ output. string_bytes output
+        ≡ output_of (head_view script.entry.header) script.entry.lines.items) }
     ensures no_memory { IfErr result (λ fault. fault ≡ NoMemory) }
 {
     let Script { header, lines } = script;

@@ -18,9 +18,11 @@ use std::io::{Read, Write};
 
 /// What is to be written for the script that the reader gives, all of it.
 fn output_for<R: Read>(alloc: Global, reader: &mut R) -> Result<String, ReplayFault>
-    ensures output { IfOk result (λ output. IfSome (R.remaining reader.old) (λ text. IsOutputFor text (string_bytes output))) }
+    ensures output { IfOk result (λ output. IfSome (R.remaining reader.old)
+        (λ text. IsOutputFor text (string_bytes output))) }
     ensures fault { IfErr result (λ fault. IfSome (R.remaining reader.old) (λ text. IsFaultOf fault text)) }
-    ensures only { IfErr result (λ fault. IfSome (R.remaining reader.old) (λ text. IsAccepted text → IsOutside fault)) }
+    ensures only { IfErr result (λ fault. IfSome (R.remaining reader.old)
+        (λ text. IsAccepted text → IsOutside fault)) }
     ensures short { OnOk result (IfSome (R.remaining reader.old) (λ text. length text ≤ MAX_SCRIPT_LEN)) }
     ensures unwritten { IfErr result (λ fault. fault ≢ Output) }
 {
@@ -48,16 +50,19 @@ pub fn replay<S, R: Read, W: Write>(
     ensures accepted { OnOk result (IfSome (R.remaining reader.old) IsAccepted) }
     ensures short { OnOk result (IfSome (R.remaining reader.old) (λ text. length text ≤ MAX_SCRIPT_LEN)) }
     // What is written is the bounded machine's replies to it, and nothing else.
-    ensures replies { OnOk result (IfSome (R.remaining reader.old) (λ text. (head : Head) (lines : List Line) →
-        IsScript text head lines → Appends (W.contents writer.old) (W.contents writer.new) (output_of head lines))) }
+    ensures replies { OnOk result (IfSome (R.remaining reader.old) (λ text. (head : Head) (lines : List Line)
+        → IsScript text head lines
+        → Appends (W.contents writer.old) (W.contents writer.new) (output_of head lines))) }
     // A fault of the text is in the text, and a script has none.
     ensures fault { IfErr result (λ fault. IfSome (R.remaining reader.old) (λ text. IsFaultOf fault text)) }
-    ensures only { IfErr result (λ fault. IfSome (R.remaining reader.old) (λ text. IsAccepted text → IsOutside fault)) }
+    ensures only { IfErr result (λ fault. IfSome (R.remaining reader.old)
+        (λ text. IsAccepted text → IsOutside fault)) }
     // Nothing is written before the script was read and checked whole, nor after want of memory.
     ensures untouched { IfErr result (λ fault. fault ≢ Output → writer.new ≡ writer.old) }
     // After a failed write a front of the replies went out.
-    ensures front { IfErr result (λ fault. fault ≡ Output → IfSome (R.remaining reader.old) (λ text. (head : Head) (lines : List Line) →
-        IsScript text head lines → AppendsFront (W.contents writer.old) (W.contents writer.new) (output_of head lines))) }
+    ensures front { IfErr result (λ fault. fault ≡ Output → IfSome (R.remaining reader.old)
+        (λ text. (head : Head) (lines : List Line) → IsScript text head lines
+        → AppendsFront (W.contents writer.old) (W.contents writer.new) (output_of head lines))) }
 {
     let output = output_for(alloc, reader)?;
     write_all(writer, output.as_bytes())

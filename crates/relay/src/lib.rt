@@ -6,9 +6,13 @@
 //! [`numbered`], which tells whether inputs are numbered as a relay wants them.
 #![tactic(auto)]
 
+mod consumer;
+mod ends;
 mod gates;
 mod messages;
+mod orders;
 mod outcome;
+mod producer;
 
 pub use gates::{FreeGate, Gate};
 pub use messages::{Message, numbered};
