@@ -9,6 +9,8 @@ mod operation;
 mod rule;
 mod stack;
 mod steps;
+mod taking;
 
 pub use closing::{CloseOp, ShutOp};
 pub use stack::{Pass, Root, Stack};
+pub use taking::TakeOp;

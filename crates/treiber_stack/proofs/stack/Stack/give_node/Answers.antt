@@ -33,8 +33,7 @@ returns-clause-won g c h =
 
 pub returns-clause-lost : goal.returns-clause-lost
 returns-clause-lost g c h =
-    let l = c.try_give_chain.ensures.lost h in
-    (
+    let l = c.try_give_chain.ensures.lost h in (
       l.unmoved,
       record {
         found = l.found;

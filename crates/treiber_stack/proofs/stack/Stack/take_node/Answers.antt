@@ -23,8 +23,7 @@ returns-clause-won g c h =
 
 pub returns-clause-lost : goal.returns-clause-lost
 returns-clause-lost g c h =
-    let l = c.try_take.ensures.lost h in
-    (
+    let l = c.try_take.ensures.lost h in (
       l.unmoved,
       record {
         found = l.found;
