@@ -6,3 +6,4 @@ pub mod Going
 pub mod Closes
 pub mod Nodes
 pub mod Givings
+pub mod Takings

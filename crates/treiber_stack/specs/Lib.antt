@@ -14,3 +14,4 @@ pub mod KeepsGives
 pub mod KeepsHost
 pub mod Operations
 pub mod Closing
+pub mod Taking

@@ -10,7 +10,9 @@ mod rest;
 mod rule;
 mod stack;
 mod steps;
+mod taking;
 
 pub use closing::{CloseOp, ShutOp};
 pub use rest::Rest;
 pub use stack::{Pass, Root, Stack};
+pub use taking::TakeOp;

@@ -1,0 +1,48 @@
+use Rattle.std.proofs.Common.{rules, ◌≡◌, ◌≢◌, ℕ, ◌<◌, ◌≤◌, ◌∙◌, arith, true, false, List, [], ◌∷◌, refl, sym, ap, subst}
+use Rattle.std.specs.Prelude.{Option as Slot, Some, None, Ok, Err}
+use Rattle.tagged_index.specs.Fields.{fields_of, index_of, tag_of}
+use Rattle.tagged_index.specs.declared.word.TheConstants.{NULL}
+use Rattle.bounded_model.specs.declared.answers.Word.TheVariants.{Top as TopWord}
+use Rattle.bounded_model.specs.declared.answers.TakeRefused.TheVariants.{Empty as TakeEmpty, Closed as TakeClosed, Spent as TakeSpent, Shut as TakeShut}
+use Rattle.index_list.specs.Steps.{read_top, read_link, write_link, take, give_chain}
+use Rattle.step_core.specs.declared.stack.Answer.TheVariants.{Take as AnswerTake}
+use Rattle.step_core.specs.declared.stack.Taking.TheVariants.{One}
+use Rattle.step_core.specs.declared.stack.Line.TheVariants.{S1, S2, S3, G1, G2, G3}
+use Rattle.treiber_stack.specs.declared.operation.Operation.TheVariants.{Take as First}
+use Rattle.treiber_stack.specs.Operations.{IsSame}
+use Rattle.treiber_stack.specs.Taking.{giving}
+use Rattle.treiber_stack.proofs.Closes.{is_pass, is_at, went_on}
+use Rattle.treiber_stack.proofs.Takings.{may_going, held_going, S1_shut, S1_none, S1_spent, S1_goes, S2_goes, S3_value, S3_won, S3_lost, G1_goes, G2_goes, G3_won, G3_lost, take_gives}
+use Rattle.treiber_stack.proofs.stack.Stack.take_give_back.Goals as goal
+
+pub give_node-requires : goal.give_node-requires
+give_node-requires g c =
+    let at = c.requires.line in
+    let t = c.args.taken in
+    let low = c.requires.node in
+    let most = c.args.self.now.limits.capacity_in_range in
+    record {
+      table = at.table;
+      may = may_going 0 (give_chain c.args.free t.index) at.going (refl, (t.index ∷ [], refl, refl));
+      held = (held_going at.going, at.has, omega arith);
+    }
+
+pub returns : goal.returns
+returns g c =
+    let stack = c.args.self.now in
+    let at = c.requires.line in
+    let t = c.args.taken in
+    let lost = c.if-give_node.ensures.lost refl in
+    let e = G3_lost c.args.free t.index lost.1.found (giving t) lost.1.other at.going lost.1.told.did in
+    let same : IsSame c.args.by c.give_node.new.by = record { table = c.if-give_node.ensures.table; slots = lost.0 } in (
+      record { line = is_at stack First c.args.by (G3 (giving t) (fields_of c.args.free)) ((t.index, None) ∷ []) at c.give_node.new.by same (G1 (giving t)) e; node = c.requires.node },
+      went_on stack First c.args.by (G3 (giving t) (fields_of c.args.free)) ((t.index, None) ∷ []) at c.give_node.new.by same (G1 (giving t)) 0 (give_chain c.args.free t.index) lost.1.found [] e lost.1.told,
+    )
+
+pub returns-then-give_node : goal.returns-then-give_node
+returns-then-give_node g c =
+    let at = c.requires.line in
+    let t = c.args.taken in
+    let won = c.if-give_node.ensures.won refl in
+    let e = G3_won c.args.free t.index (giving t) won.slots at.going won.told.did in
+    (record { table = c.if-give_node.ensures.table ∙ at.table; view = e.view; slots = won.none_left; rests = e.rests }, take_gives (Ok (t.value, t.number)) e)

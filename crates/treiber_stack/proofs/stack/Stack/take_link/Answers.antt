@@ -1,0 +1,36 @@
+use Rattle.std.proofs.Common.{rules, ◌≡◌, ◌≢◌, ℕ, ◌<◌, ◌≤◌, ◌∙◌, arith, true, false, List, [], ◌∷◌, refl, sym, ap, subst}
+use Rattle.std.specs.Prelude.{Option as Slot, Some, None, Ok, Err}
+use Rattle.tagged_index.specs.Limits.{capacity_of}
+use mathlib.Core.Option.{some}
+use Rattle.tagged_index.specs.Fields.{fields_of, index_of, tag_of}
+use Rattle.tagged_index.specs.declared.word.TheConstants.{NULL}
+use Rattle.bounded_model.specs.declared.answers.Word.TheVariants.{Top as TopWord}
+use Rattle.bounded_model.specs.declared.answers.TakeRefused.TheVariants.{Empty as TakeEmpty, Closed as TakeClosed, Spent as TakeSpent, Shut as TakeShut}
+use Rattle.index_list.specs.Steps.{read_top, read_link, write_link, take, give_chain}
+use Rattle.step_core.specs.declared.stack.Answer.TheVariants.{Take as AnswerTake}
+use Rattle.step_core.specs.declared.stack.Taking.TheVariants.{One}
+use Rattle.step_core.specs.declared.stack.Line.TheVariants.{S1, S2, S3, G1, G2, G3}
+use Rattle.treiber_stack.specs.declared.operation.Operation.TheVariants.{Take as First}
+use Rattle.treiber_stack.specs.Taking.{giving}
+use Rattle.treiber_stack.proofs.Closes.{is_pass, is_at, went_on}
+use Rattle.treiber_stack.proofs.Takings.{may_going, held_going, S1_shut, S1_none, S1_spent, S1_goes, S2_goes, S3_value, S3_won, S3_lost, G1_goes, G2_goes, G3_won, G3_lost, take_gives}
+use Rattle.treiber_stack.proofs.stack.Stack.take_link.Goals as goal
+
+pub load_next-next-requires : goal.load_next-next-requires
+load_next-next-requires g c =
+    let at = c.requires.line in
+    record {
+      table = (at.table, omega arith, subst (λ (i : ℕ). i < capacity_of c.args.self.now.limits) (sym c.index.ensures.field) c.requires.node.0);
+      may = may_going 1 (read_link c.index.result) at.going (ap some (sym c.index.ensures.field));
+    }
+
+pub returns : goal.returns
+returns g c =
+    let stack = c.args.self.now in
+    let at = c.requires.line in
+    let w : ℕ = c.args.top in
+    let k : ℕ = c.load_next-next.result in
+    let e = S2_goes w c.index.result k c.index.ensures.field at.going c.load_next-next.ensures.told.did in (
+      record { line = is_at stack First c.args.by (S2 (fields_of w)) [] at c.load_next-next.new.by c.load_next-next.ensures.same (S3 (fields_of w) k) e; node = (c.requires.node.0, c.requires.node.1, c.load_next-next.ensures.index) },
+      went_on stack First c.args.by (S2 (fields_of w)) [] at c.load_next-next.new.by c.load_next-next.ensures.same (S3 (fields_of w) k) 1 (read_link c.index.result) k [] e c.load_next-next.ensures.told,
+    )

@@ -1,0 +1,39 @@
+use Rattle.std.proofs.Common.{rules, ◌≡◌, ◌≢◌, ℕ, ◌<◌, ◌≤◌, ◌∙◌, arith, true, false, List, [], ◌∷◌, refl, sym, ap, subst}
+use Rattle.std.specs.Prelude.{Option as Slot, Some, None, Ok, Err}
+use mathlib.Core.Option.{some}
+use Rattle.std.proofs.Common.{inl}
+use Rattle.index_list.specs.Lists.{Holds}
+use Rattle.tagged_index.specs.Fields.{fields_of, index_of, tag_of}
+use Rattle.tagged_index.specs.declared.word.TheConstants.{NULL}
+use Rattle.bounded_model.specs.declared.answers.Word.TheVariants.{Top as TopWord}
+use Rattle.bounded_model.specs.declared.answers.TakeRefused.TheVariants.{Empty as TakeEmpty, Closed as TakeClosed, Spent as TakeSpent, Shut as TakeShut}
+use Rattle.index_list.specs.Steps.{read_top, read_link, write_link, take, give_chain}
+use Rattle.step_core.specs.declared.stack.Answer.TheVariants.{Take as AnswerTake}
+use Rattle.step_core.specs.declared.stack.Taking.TheVariants.{One}
+use Rattle.step_core.specs.declared.stack.Line.TheVariants.{S1, S2, S3, G1, G2, G3}
+use Rattle.treiber_stack.specs.declared.operation.Operation.TheVariants.{Take as First}
+use Rattle.treiber_stack.specs.Taking.{giving}
+use Rattle.treiber_stack.proofs.Closes.{is_pass, is_at, went_on}
+use Rattle.treiber_stack.proofs.Takings.{may_going, held_going, S1_shut, S1_none, S1_spent, S1_goes, S2_goes, S3_value, S3_won, S3_lost, G1_goes, G2_goes, G3_won, G3_lost, take_gives}
+use Rattle.treiber_stack.proofs.stack.Stack.take_link_back.Goals as goal
+
+pub link_to-requires : goal.link_to-requires
+link_to-requires g c =
+    let at = c.requires.line in
+    let t = c.args.taken in
+    record {
+      table = (at.table, omega arith, c.requires.node);
+      may = may_going 0 (write_link t.index c.index.result) at.going (ap (λ (x : ℕ). some (t.index, x)) (sym c.index.ensures.field), c.index.ensures.in_range);
+      held = subst (λ (xs : List ℕ). Holds xs t.index) (sym (held_going at.going)) (inl refl);
+    }
+
+pub returns : goal.returns
+returns g c =
+    let stack = c.args.self.now in
+    let at = c.requires.line in
+    let t = c.args.taken in
+    let w : ℕ = c.args.free in
+    let e = G2_goes w t.index c.index.result c.index.result (giving t) at.going c.link_to.ensures.told.did in (
+      record { line = is_at stack First c.args.by (G2 (giving t) (fields_of w)) ((t.index, None) ∷ []) at c.link_to.new.by c.link_to.ensures.same (G3 (giving t) (fields_of w)) e; node = c.requires.node },
+      went_on stack First c.args.by (G2 (giving t) (fields_of w)) ((t.index, None) ∷ []) at c.link_to.new.by c.link_to.ensures.same (G3 (giving t) (fields_of w)) 0 (write_link t.index c.index.result) c.index.result [] e c.link_to.ensures.told,
+    )

@@ -1,0 +1,87 @@
+use Rattle.std.proofs.Common.{rules, ◌≡◌, ◌≢◌, ℕ, ◌<◌, ◌≤◌, ◌∙◌, arith, true, false, List, [], ◌∷◌, refl, sym, ap, subst}
+use Rattle.std.specs.Prelude.{Option as Slot, Some, None, Ok, Err}
+use Rattle.tagged_index.specs.Limits.{capacity_of, tag_limit_of}
+use Rattle.tagged_index.specs.Fields.{fields_of, index_of, tag_of}
+use Rattle.tagged_index.specs.declared.word.TheConstants.{NULL}
+use Rattle.bounded_model.specs.declared.answers.Word.TheVariants.{Top as TopWord}
+use Rattle.bounded_model.specs.declared.answers.TakeRefused.TheVariants.{Empty as TakeEmpty, Closed as TakeClosed, Spent as TakeSpent, Shut as TakeShut}
+use Rattle.index_list.specs.Steps.{read_top, read_link, write_link, take, give_chain}
+use Rattle.step_core.specs.declared.stack.Answer.TheVariants.{Take as AnswerTake}
+use Rattle.step_core.specs.declared.stack.Taking.TheVariants.{One}
+use Rattle.step_core.specs.declared.stack.Line.TheVariants.{S1, S2, S3, G1, G2, G3}
+use Rattle.treiber_stack.specs.declared.operation.Operation.TheVariants.{Take as First}
+use Rattle.treiber_stack.specs.Taking.{giving}
+use Rattle.treiber_stack.proofs.Closes.{is_pass, is_at, went_on}
+use Rattle.treiber_stack.proofs.Takings.{may_going, held_going, S1_shut, S1_none, S1_spent, S1_goes, S2_goes, S3_value, S3_won, S3_lost, G1_goes, G2_goes, G3_won, G3_lost, take_gives}
+use Rattle.treiber_stack.proofs.stack.Stack.take_load.Goals as goal
+
+pub load-top-requires : goal.load-top-requires
+load-top-requires g c =
+    let at = c.requires.line in
+    record { table = (at.table, omega arith); may = may_going 1 read_top at.going refl }
+
+pub returns-then-has_second : goal.returns-then-has_second
+returns-then-has_second g c =
+    let stack = c.args.self.now in
+    let at = c.requires.line in
+    let w : ℕ = c.load-top.result in
+    let did = c.load-top.ensures.told.did in
+    let q = c.load-top.new.by in
+    let same = c.load-top.ensures.same in
+    let e = S1_shut w at.going did (sym c.if-has_second.ensures) in
+    (is_pass stack First c.args.by (S1 One) [] at q same (AnswerTake (Err TakeShut)) refl e, take_gives (Err TakeShut) e)
+
+pub returns-then-is_marked : goal.returns-then-is_marked
+returns-then-is_marked g c =
+    let stack = c.args.self.now in
+    let at = c.requires.line in
+    let w : ℕ = c.load-top.result in
+    let did = c.load-top.ensures.told.did in
+    let q = c.load-top.new.by in
+    let same = c.load-top.ensures.same in
+    let e = S1_none w at.going did true (sym c.if-has_second.ensures) (sym c.index.ensures.field ∙ c.if-index-eq-NULL.true) (sym c.if-is_marked.ensures) in
+    (is_pass stack First c.args.by (S1 One) [] at q same (AnswerTake (Err TakeClosed)) refl e, take_gives (Err TakeClosed) e)
+
+pub returns-then-index-eq-NULL : goal.returns-then-index-eq-NULL
+returns-then-index-eq-NULL g c =
+    let stack = c.args.self.now in
+    let at = c.requires.line in
+    let w : ℕ = c.load-top.result in
+    let did = c.load-top.ensures.told.did in
+    let q = c.load-top.new.by in
+    let same = c.load-top.ensures.same in
+    let e = S1_none w at.going did false (sym c.if-has_second.ensures) (sym c.index.ensures.field ∙ c.if-index-eq-NULL.true) (sym c.if-is_marked.ensures) in
+    (is_pass stack First c.args.by (S1 One) [] at q same (AnswerTake (Err TakeEmpty)) refl e, take_gives (Err TakeEmpty) e)
+
+pub returns-then-tag-tag_limit : goal.returns-then-tag-tag_limit
+returns-then-tag-tag_limit g c =
+    let stack = c.args.self.now in
+    let at = c.requires.line in
+    let w : ℕ = c.load-top.result in
+    let did = c.load-top.ensures.told.did in
+    let q = c.load-top.new.by in
+    let same = c.load-top.ensures.same in
+    let high = c.if-tag-tag_limit.true in
+    let tag = c.tag.ensures.field in
+    let limit = c.tag_limit.ensures in
+    let t : ℕ = c.tag-then-tag-tag_limit.result in
+    let e = S1_spent w at.going did t c.tag-then-tag-tag_limit.ensures.field (sym c.if-has_second.ensures) (λ z. c.if-index-eq-NULL.false (c.index.ensures.field ∙ z)) (omega arith) in
+    (is_pass stack First c.args.by (S1 One) [] at q same (AnswerTake (Err (TakeSpent TopWord t))) refl e, take_gives (Err (TakeSpent TopWord t)) e)
+
+pub returns : goal.returns
+returns g c =
+    let stack = c.args.self.now in
+    let at = c.requires.line in
+    let w : ℕ = c.load-top.result in
+    let did = c.load-top.ensures.told.did in
+    let q = c.load-top.new.by in
+    let same = c.load-top.ensures.same in
+    let low = c.if-tag-tag_limit.false in
+    let tag = c.tag.ensures.field in
+    let limit = c.tag_limit.ensures in
+    let below : tag_of w < tag_limit_of stack.limits = omega arith in
+    let node : index_of w ≢ NULL = λ z. c.if-index-eq-NULL.false (c.index.ensures.field ∙ z) in
+    let e = S1_goes w at.going did (sym c.if-has_second.ensures) node below in (
+      record { line = is_at stack First c.args.by (S1 One) [] at q same (S2 (fields_of w)) e; node = (c.load-top.ensures.node node, below) },
+      went_on stack First c.args.by (S1 One) [] at q same (S2 (fields_of w)) 1 read_top w [] e c.load-top.ensures.told,
+    )
