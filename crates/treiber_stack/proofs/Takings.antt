@@ -1,8 +1,8 @@
 -- What each step of a take leads to.
 use Rattle.std.proofs.Common.{◌≡◌, ◌≢◌, ℕ, ◌+◌, ◌<◌, ◌≤◌, Bool, true, false, cond, eqb, leb, List, [], ◌∷◌, length, refl, sym, ap, ◌∙◌, subst, eq-eqb, ne_eqb, arith}
 use Rattle.std.proofs.lemmas.Bool.Decides.{nat_tests}
-use Rattle.std.specs.Prelude.{Option as Slot, Some, None, Result, Ok, Err}
-use mathlib.Core.Option.{Option, some, some-injective}
+use Rattle.std.specs.Prelude.{Option as Slot, Some, Result, Ok, Err}
+use mathlib.Core.Option.{Option, some}
 use Rattle.tagged_index.specs.Fields.{fields_of, index_of, tag_of, mark_of, second_of}
 use Rattle.tagged_index.specs.declared.word.TheConstants.{NULL}
 use Rattle.tagged_index.proofs.Words.{same_fields}
@@ -20,11 +20,11 @@ use Rattle.step_core.specs.declared.stack.Taking.TheVariants.{One}
 use Rattle.step_core.specs.declared.stack.Line.{Line}
 use Rattle.step_core.specs.declared.stack.Line.TheVariants.{S1, S2, S3, G1, G2, G3}
 use Rattle.step_core.specs.declared.seats.View.{View}
-use Rattle.step_core.specs.StackMachine.{Outcome, held, ends, gives, refuses, takes, at_S1, goes_on as core_goes_on, wins, wins_value, after_give}
+use Rattle.step_core.specs.StackMachine.{Outcome, held, ends, at_S1, goes_on as core_goes_on, wins, wins_value, after_give}
 use Rattle.step_core.specs.StackLaw.{shape}
 use Rattle.step_core.specs.Seats.{pass_of}
 use Rattle.treiber_stack.specs.declared.operation.Operation.{Operation}
-use Rattle.treiber_stack.specs.Host.{line_now, Makes, may_step, steps_in, Did}
+use Rattle.treiber_stack.specs.Host.{Makes, may_step, steps_in, Did}
 use Rattle.treiber_stack.specs.Rule.{line_in}
 use Rattle.treiber_stack.specs.KeepsMarks.{is_same, not_same}
 use Rattle.treiber_stack.specs.KeepsStep.{now_held}

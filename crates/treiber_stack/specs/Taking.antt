@@ -1,5 +1,5 @@
 -- A take made by steps.
-use Rattle.std.specs.Prelude.{◌≡◌, ℕ, ◌<◌, ◌≤◌, List, [], ◌∷◌, Option as Slot, Some, None, Result, Ok, Err}
+use Rattle.std.specs.Prelude.{ℕ, ◌<◌, ◌≤◌, List, [], ◌∷◌, Option as Slot, None, Result, Ok}
 use Rattle.tagged_index.specs.Fields.{fields_of, index_of, tag_of}
 use Rattle.tagged_index.specs.Limits.{capacity_of, tag_limit_of}
 use Rattle.tagged_index.specs.declared.word.TheConstants.{NULL}

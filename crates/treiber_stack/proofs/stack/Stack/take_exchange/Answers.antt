@@ -1,20 +1,16 @@
-use Rattle.std.proofs.Common.{rules, ◌≡◌, ◌≢◌, ℕ, ◌<◌, ◌≤◌, ◌∙◌, arith, true, false, List, [], ◌∷◌, refl, sym, ap, subst}
-use Rattle.std.specs.Prelude.{Option as Slot, Some, None, Ok, Err}
+use Rattle.std.proofs.Common.{ℕ, ◌<◌, ◌∙◌, arith, List, [], ◌∷◌, refl, sym, ap, subst}
+use Rattle.std.specs.Prelude.{Option as Slot, Some, None}
 use Rattle.tagged_index.specs.Limits.{capacity_of}
 use Rattle.treiber_stack.specs.Operations.{IsSame}
 use Rattle.atomic_table.specs.Table.{rest}
-use Rattle.tagged_index.specs.Fields.{fields_of, index_of, tag_of}
-use Rattle.tagged_index.specs.declared.word.TheConstants.{NULL}
-use Rattle.bounded_model.specs.declared.answers.Word.TheVariants.{Top as TopWord}
-use Rattle.bounded_model.specs.declared.answers.TakeRefused.TheVariants.{Empty as TakeEmpty, Closed as TakeClosed, Spent as TakeSpent, Shut as TakeShut}
-use Rattle.index_list.specs.Steps.{read_top, read_link, write_link, take, give_chain}
-use Rattle.step_core.specs.declared.stack.Answer.TheVariants.{Take as AnswerTake}
+use Rattle.tagged_index.specs.Fields.{fields_of, index_of}
+use Rattle.index_list.specs.Steps.{take}
 use Rattle.step_core.specs.declared.stack.Taking.TheVariants.{One}
-use Rattle.step_core.specs.declared.stack.Line.TheVariants.{S1, S2, S3, G1, G2, G3}
+use Rattle.step_core.specs.declared.stack.Line.TheVariants.{S1, S3, G1}
 use Rattle.treiber_stack.specs.declared.operation.Operation.TheVariants.{Take as First}
 use Rattle.treiber_stack.specs.Taking.{giving}
-use Rattle.treiber_stack.proofs.Closes.{is_pass, is_at, went_on}
-use Rattle.treiber_stack.proofs.Takings.{may_going, held_going, S1_shut, S1_none, S1_spent, S1_goes, S2_goes, S3_value, S3_won, S3_lost, front_slot, S3_won_as, moved_on, G1_goes, G2_goes, G3_won, G3_lost, take_gives}
+use Rattle.treiber_stack.proofs.Closes.{is_at, went_on}
+use Rattle.treiber_stack.proofs.Takings.{may_going, S3_value, S3_lost, front_slot, S3_won_as, moved_on}
 use Rattle.treiber_stack.proofs.stack.Stack.take_exchange.Goals as goal
 
 pub take_node-requires : goal.take_node-requires
@@ -52,7 +48,7 @@ move_out-value-requires g c =
     let at = c.requires.line in
     let i : ℕ = c.index-index.result in
     let has = won.has ∙ (λ k. (sym c.index-index.ensures.field k, x.1 k) ∷ at.has k) in
-    (c.if-take_node.ensures.table ∙ at.table, (x.0, has ∙ ap (λ (zs : List (ℕ × Slot _)). (i, Some x.0) ∷ rest zs) (sym has)))
+    record { table = c.if-take_node.ensures.table ∙ at.table; full = (x.0, has ∙ ap (λ (zs : List (ℕ × Slot _)). (i, Some x.0) ∷ rest zs) (sym has)) }
 
 pub returns-then-take_node : goal.returns-then-take_node
 returns-then-take_node g c =
