@@ -10,6 +10,7 @@ mod rule;
 mod stack;
 mod steps;
 mod taking;
+mod whole;
 
 pub use closing::{CloseOp, ShutOp};
 pub use stack::{Pass, Root, Stack};
