@@ -11,6 +11,7 @@ mod rule;
 mod stack;
 mod steps;
 mod taking;
+mod whole;
 
 pub use closing::{CloseOp, ShutOp};
 pub use rest::Rest;
