@@ -8,7 +8,7 @@ use Rattle.bounded_model.specs.Machine.{Shape}
 use Rattle.step_core.specs.Words.{same}
 use Rattle.step_core.specs.declared.stack.Taking.TheVariants.{One, Whole}
 use Rattle.step_core.specs.declared.stack.Line.{Line}
-use Rattle.step_core.specs.declared.stack.Line.TheVariants.{Idle, F1, F2, F3, F4, P1, P2, P3, D1, S1, S2, S3, A1, R1, R2, W1, G1, G2, G3, Z1, Z2, Y1, Y2, V1}
+use Rattle.step_core.specs.declared.stack.Line.TheVariants.{Idle, F1, F2, F3, F4, P1, P2, P3, D1, S1, S2, S3, A1, A2, A3, A4, G1, G2, G3, Z1, Z2, Y1, Y2, V1}
 use Rattle.step_core.specs.declared.stack.Pass.{Pass}
 use Rattle.step_core.specs.StackMachine.{Memory, State, Act, Begin, Step, Outcome, step, is_idle, starts, begun, stepped, acts, acts_at, goes_on}
 use Rattle.step_core.specs.StackBound.{wins_exchange, wins_at, IsStretch, is_busy, counted, own_steps, IsSingle, IsSingleAt}
@@ -51,9 +51,9 @@ module _ {T : Type 0} where
   step_still c m p (S2 w) e = record { free = refl; top = refl }
   step_still c m p (S3 w k) e = lost (same m.top w) m _ (S1 One) e
   step_still c m p (A1 d w) e = lost (same m.top w) m _ (S1 (Whole d)) e
-  step_still c m p (R1 give above i) e = record { free = refl; top = refl }
-  step_still c m p (R2 give above i k) e = record { free = refl; top = refl }
-  step_still c m p (W1 give i) e = record { free = refl; top = refl }
+  step_still c m p (A2 give above i) e = record { free = refl; top = refl }
+  step_still c m p (A3 give above i k) e = record { free = refl; top = refl }
+  step_still c m p (A4 give i) e = record { free = refl; top = refl }
   step_still c m p (G1 give) e = record { free = refl; top = refl }
   step_still c m p (G2 give w) e = record { free = refl; top = refl }
   step_still c m p (G3 give w) e = lost (same m.free w) m _ (G1 give) e

@@ -26,7 +26,7 @@ use Rattle.step_core.specs.declared.stack.Taking.TheVariants.{One, Whole}
 use Rattle.step_core.specs.declared.stack.Answer.{Answer}
 use Rattle.step_core.specs.declared.stack.Answer.TheVariants.{Put as AnswerPut, Take as AnswerTake, Fold as AnswerFold, Close as AnswerClose, Shut as AnswerShut, Look as AnswerLook}
 use Rattle.step_core.specs.declared.stack.Line.{Line}
-use Rattle.step_core.specs.declared.stack.Line.TheVariants.{Idle, F1, F2, F3, F4, P1, P2, P3, D1, S1, S2, S3, A1, R1, R2, W1, G1, G2, G3, Z1, Z2, Y1, Y2, V1}
+use Rattle.step_core.specs.declared.stack.Line.TheVariants.{Idle, F1, F2, F3, F4, P1, P2, P3, D1, S1, S2, S3, A1, A2, A3, A4, G1, G2, G3, Z1, Z2, Y1, Y2, V1}
 use Rattle.step_core.specs.StackMachine.{Memory, Outcome, step, at_P1, at_D1, at_S1, goes_on, wins, wins_value, wins_chain, at_A1, after_hold, after_put, after_give, after_close, after_shut, at_F3, refuses, takes, ends, gives, no_node, next_node, with_node, placed, unplaced, values_in, chain_from}
 use Rattle.step_core.specs.StackRule.{Lists, IsFine}
 use Rattle.step_core.specs.StackDeeds.{BackedOut, Makes, HasMade, HasNoNode, HasAll, PutsAll, IsAll, Deeds}
@@ -81,9 +81,9 @@ module _ {T : Type 0} (c : Shape) where
   still_all begun seen h (S2 w) later k = tt
   still_all begun seen h (S3 w x) later k = tt
   still_all begun seen h (A1 d w) later k = tt
-  still_all begun seen h (R1 give above i) later k = puts_later begun seen h give.answer later k
-  still_all begun seen h (R2 give above i x) later k = puts_later begun seen h give.answer later k
-  still_all begun seen h (W1 give i) later k = puts_later begun seen h give.answer later k
+  still_all begun seen h (A2 give above i) later k = puts_later begun seen h give.answer later k
+  still_all begun seen h (A3 give above i x) later k = puts_later begun seen h give.answer later k
+  still_all begun seen h (A4 give i) later k = puts_later begun seen h give.answer later k
   still_all begun seen h (G1 give) later k = puts_later begun seen h give.answer later k
   still_all begun seen h (G2 give w) later k = puts_later begun seen h give.answer later k
   still_all begun seen h (G3 give w) later k = puts_later begun seen h give.answer later k
@@ -258,17 +258,17 @@ module _ {T : Type 0} (n limit : ℕ) (p : ℕ) (begun h : List (Event T)) where
         whole Up each = adds (A1 d w) (at_A1 Up w chain values) (TakeAll p values w.tag) s refl (record { values = values; is = made each; order = inr refl }) tt
 
     -- a chain that was turned round is as long as before
-    R2_does : (give : Giving T) (above i k : ℕ) → At (R2 give above i k) → Does (step c m p (R2 give above i k))
-    R2_does give above i k s =
+    A3_does : (give : Giving T) (above i k : ℕ) → At (A3 give above i k) → Does (step c m p (A3 give above i k))
+    A3_does give above i k s =
         let turned : Giving T = record give { chain = reverse give.chain } in
-        cases At (eqb k NULL) (W1 turned i) (R1 give i k)
-        (λ e. stays (R2 give above i k) (W1 turned i) s (subst (λ (x : ℕ). Makes p give.answer (Free p x ∷ own p s.between)) (sym (length-reverse give.chain)) s.made) s.all)
-        (λ e. stays (R2 give above i k) (R1 give i k) s s.made s.all)
+        cases At (eqb k NULL) (A4 turned i) (A2 give i k)
+        (λ e. stays (A3 give above i k) (A4 turned i) s (subst (λ (x : ℕ). Makes p give.answer (Free p x ∷ own p s.between)) (sym (length-reverse give.chain)) s.made) s.all)
+        (λ e. stays (A3 give above i k) (A2 give i k) s s.made s.all)
 
-    W1_does : (give : Giving T) (i : ℕ) → At (W1 give i) → Does (step c m p (W1 give i))
-    W1_does give i s = cases At (eqb (m.link i) NULL) (G1 give) (W1 give (m.link i))
-        (λ e. stays (W1 give i) (G1 give) s s.made s.all)
-        (λ e. stays (W1 give i) (W1 give (m.link i)) s s.made s.all)
+    A4_does : (give : Giving T) (i : ℕ) → At (A4 give i) → Does (step c m p (A4 give i))
+    A4_does give i s = cases At (eqb (m.link i) NULL) (G1 give) (A4 give (m.link i))
+        (λ e. stays (A4 give i) (G1 give) s s.made s.all)
+        (λ e. stays (A4 give i) (A4 give (m.link i)) s s.made s.all)
 
     -- the exchange that gives a chain back
     G3_does : (give : Giving T) (w : Tagged) → At (G3 give w) → Does (step c m p (G3 give w))
@@ -310,9 +310,9 @@ module _ {T : Type 0} (n limit : ℕ) (p : ℕ) (begun h : List (Event T)) where
     step_does g (S2 w) r f s = stays (S2 w) (S3 w (m.link w.index)) s s.made tt
     step_does g (S3 w k) r f s = S3_does w k s
     step_does g (A1 d w) r f s = A1_does d w r s
-    step_does g (R1 give above i) r f s = stays (R1 give above i) (R2 give above i (m.link i)) s s.made s.all
-    step_does g (R2 give above i k) r f s = R2_does give above i k s
-    step_does g (W1 give i) r f s = W1_does give i s
+    step_does g (A2 give above i) r f s = stays (A2 give above i) (A3 give above i (m.link i)) s s.made s.all
+    step_does g (A3 give above i k) r f s = A3_does give above i k s
+    step_does g (A4 give i) r f s = A4_does give i s
     step_does g (G1 give) r f s = stays (G1 give) (G2 give m.free) s s.made s.all
     step_does g (G2 give w) r f s = stays (G2 give w) (G3 give w) s s.made s.all
     step_does g (G3 give w) r f s = G3_does give w s

@@ -8,7 +8,7 @@ use Rattle.step_core.specs.Words.{Tagged, raised, kept, store, times, Stands}
 use Rattle.step_core.specs.OneList.{Later}
 use Rattle.step_core.specs.declared.stack.Putting.{Putting}
 use Rattle.step_core.specs.declared.stack.Line.{Line}
-use Rattle.step_core.specs.declared.stack.Line.TheVariants.{Idle, F1, F2, F3, F4, P1, P2, P3, D1, S1, S2, S3, A1, R1, R2, W1, G1, G2, G3, Z1, Z2, Y1, Y2, V1}
+use Rattle.step_core.specs.declared.stack.Line.TheVariants.{Idle, F1, F2, F3, F4, P1, P2, P3, D1, S1, S2, S3, A1, A2, A3, A4, G1, G2, G3, Z1, Z2, Y1, Y2, V1}
 use Rattle.step_core.specs.StackMachine.{Memory, first, last, held}
 use Rattle.step_core.specs.StackRule.{Lists, Collects, Adds, Puts, Gives, Walks, Turns, IsFine, Linked}
 use Rattle.step_core.proofs.Tests.{at_most_one}
@@ -80,9 +80,9 @@ module _ {T : Type 0} where
   fine_later limit m g m' g' (S2 w) rf rt own f = (read_top_later w rt f.0, f.1)
   fine_later limit m g m' g' (S3 w k) rf rt own f = (read_top_later w rt f.0, f.1, read_link_later w k rt f.0 f.2)
   fine_later limit m g m' g' (A1 d w) rf rt own f = f
-  fine_later limit m g m' g' (R1 give lowest i) rf rt own f = turns_later m.link m'.link give.chain lowest i own f
-  fine_later limit m g m' g' (R2 give lowest i k) rf rt own f = (turns_later m.link m'.link give.chain lowest i own f.0, own i (turning_in m.link give.chain lowest i f.0) ∙ f.1)
-  fine_later limit m g m' g' (W1 give i) rf rt own f = walks_later m.link m'.link give.chain i own f
+  fine_later limit m g m' g' (A2 give lowest i) rf rt own f = turns_later m.link m'.link give.chain lowest i own f
+  fine_later limit m g m' g' (A3 give lowest i k) rf rt own f = (turns_later m.link m'.link give.chain lowest i own f.0, own i (turning_in m.link give.chain lowest i f.0) ∙ f.1)
+  fine_later limit m g m' g' (A4 give i) rf rt own f = walks_later m.link m'.link give.chain i own f
   fine_later limit m g m' g' (G1 give) rf rt own f = gives_later m.link m'.link give.chain own f
   fine_later limit m g m' g' (G2 give w) rf rt own f = gives_later m.link m'.link give.chain own f
   fine_later limit m g m' g' (G3 give w) rf rt own f = (gives_later m.link m'.link give.chain own f.0, own (last give.chain) (last_in give.chain f.0.some_node) ∙ f.1)

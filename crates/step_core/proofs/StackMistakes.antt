@@ -14,7 +14,7 @@ use Rattle.step_core.specs.declared.stack.Direction.TheVariants.{Down}
 use Rattle.step_core.specs.declared.stack.Taking.TheVariants.{One, Whole}
 use Rattle.step_core.specs.declared.stack.Answer.TheVariants.{Put as AnswerPut, Close as AnswerClose, Shut as AnswerShut}
 use Rattle.step_core.specs.declared.stack.Line.{Line}
-use Rattle.step_core.specs.declared.stack.Line.TheVariants.{F1, F3, P1, P3, S1, S3, W1, Z1, Z2, Y1, Y2}
+use Rattle.step_core.specs.declared.stack.Line.TheVariants.{F1, F3, P1, P3, S1, S3, A4, Z1, Z2, Y1, Y2}
 use Rattle.step_core.specs.declared.stack.Call.TheVariants.{Put as CallPut, Take as CallTake, Close as CallClose, Shut as CallShut}
 use Rattle.step_core.specs.declared.stack.Pass.{Pass}
 use Rattle.step_core.specs.StackMachine.{Memory, State, Act, Begin, Step, Outcome, step, held, is_idle, starts, begun, stepped, start, goes_on, wins, wins_value, after_hold, after_put, after_store, at_F3, at_P1, at_S1, ends, placed, with_node, with_home}
@@ -110,7 +110,7 @@ cut_off-unlawful law = two law.stack law.top_stands law.stored
 
 -- A fold that answers without giving its nodes back: the node is nowhere
 abbrev forgets_nodes : Steps
-forgets_nodes m p (W1 give i) = if m.link i == NULL then goes_on m (ends give.answer) else goes_on m (W1 give (m.link i))
+forgets_nodes m p (A4 give i) = if m.link i == NULL then goes_on m (ends give.answer) else goes_on m (A4 give (m.link i))
 forgets_nodes m p l = step (shape 1 15) m p l
 
 abbrev forgotten : State ℕ

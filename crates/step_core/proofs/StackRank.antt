@@ -15,7 +15,7 @@ use Rattle.step_core.specs.declared.stack.Taking.TheVariants.{One, Whole}
 use Rattle.step_core.specs.declared.stack.Answer.{Answer}
 use Rattle.step_core.specs.declared.stack.Answer.TheVariants.{Put as AnswerPut, Close as AnswerClose, Shut as AnswerShut, Look as AnswerLook}
 use Rattle.step_core.specs.declared.stack.Line.{Line}
-use Rattle.step_core.specs.declared.stack.Line.TheVariants.{Idle, F1, F2, F3, F4, P1, P2, P3, D1, S1, S2, S3, A1, R1, R2, W1, G1, G2, G3, Z1, Z2, Y1, Y2, V1}
+use Rattle.step_core.specs.declared.stack.Line.TheVariants.{Idle, F1, F2, F3, F4, P1, P2, P3, D1, S1, S2, S3, A1, A2, A3, A4, G1, G2, G3, Z1, Z2, Y1, Y2, V1}
 use Rattle.step_core.specs.StackMachine.{Memory, Outcome, step, first, second, last, placed, unplaced, next_node, no_node, with_node, at_F3, is_idle, goes_on, wins, wins_value, after_hold, after_give, after_store, after_put, after_close, after_shut, ends, gives, refuses}
 use Rattle.step_core.specs.StackBound.{IsSingle}
 use Rattle.step_core.proofs.Tests.{cases, same-self}
@@ -66,9 +66,9 @@ module _ {T : Type 0} where
   rank_small free top (S2 w) = one_of (same top w) 5 8 10 (omega arith) (omega arith)
   rank_small free top (S3 w k) = one_of (same top w) 4 7 10 (omega arith) (omega arith)
   rank_small free top (A1 d w) = omega arith
-  rank_small free top (R1 give above i) = omega arith
-  rank_small free top (R2 give above i k) = omega arith
-  rank_small free top (W1 give i) = omega arith
+  rank_small free top (A2 give above i) = omega arith
+  rank_small free top (A3 give above i k) = omega arith
+  rank_small free top (A4 give i) = omega arith
   rank_small free top (G1 give) = omega arith
   rank_small free top (G2 give w) = one_of (same free w) 2 5 10 (omega arith) (omega arith)
   rank_small free top (G3 give w) = one_of (same free w) 1 4 10 (omega arith) (omega arith)
@@ -174,9 +174,9 @@ module _ {T : Type 0} where
       value (some None) = record { falls = omega arith; single = tt }
       value (some (Some v)) = record { falls = omega arith; single = tt }
   step_falls c m p (A1 d w) s e = absurd s
-  step_falls c m p (R1 give above i) s e = absurd s
-  step_falls c m p (R2 give above i k) s e = absurd s
-  step_falls c m p (W1 give i) s e = absurd s
+  step_falls c m p (A2 give above i) s e = absurd s
+  step_falls c m p (A3 give above i k) s e = absurd s
+  step_falls c m p (A4 give i) s e = absurd s
   step_falls c m p (G1 give) s e = holds_word m 3 m.free (G2 give m.free) 2 5 refl tt (omega arith)
   step_falls c m p (G2 give w) s e = nearer (after_store m (last give.chain) w.index) (same m.free w) (G3 give w) 1 4 2 5 refl tt (omega arith) (omega arith)
   step_falls c m p (G3 give w) s e =

@@ -21,7 +21,7 @@ use Rattle.step_core.specs.declared.stack.Taking.{Taking}
 use Rattle.step_core.specs.declared.stack.Taking.TheVariants.{One, Whole}
 use Rattle.step_core.specs.declared.stack.Answer.TheVariants.{Put as AnswerPut, Take as AnswerTake, Close as AnswerClose, Shut as AnswerShut, Look as AnswerLook}
 use Rattle.step_core.specs.declared.stack.Line.{Line}
-use Rattle.step_core.specs.declared.stack.Line.TheVariants.{Idle, F1, F2, F3, F4, P1, P2, P3, D1, S1, S2, S3, A1, R1, R2, W1, G1, G2, G3, Z1, Z2, Y1, Y2, V1}
+use Rattle.step_core.specs.declared.stack.Line.TheVariants.{Idle, F1, F2, F3, F4, P1, P2, P3, D1, S1, S2, S3, A1, A2, A3, A4, G1, G2, G3, Z1, Z2, Y1, Y2, V1}
 use Rattle.step_core.specs.StackMachine.{after_put_of, Memory, Outcome, first, last, second, chain_from, values_in, placed, unplaced, with_node, held, ends, gives, next_node, no_node, refuses, takes, at_F3, at_A1, goes_on, wins, wins_value, wins_chain, step, after_hold, after_give, after_put, after_take_all, after_close, after_shut, after_store}
 use Rattle.step_core.specs.StackLaw.{shape}
 use Rattle.step_core.specs.StackRule.{Lists, Collects, Adds, Puts, Gives, Walks, Turns, IsFine, putting, Good}
@@ -269,27 +269,27 @@ module _ {T : Type 0} (n limit : ℕ) (m : Memory T) (who : ℕ → Option ℕ) 
         (λ h. let won = same-is m.top w h in subst (λ (c : List ℕ). After q (wins_chain m p d w c)) (sym (all_nodes q (A1 d w) w x.good e won)) (all_kept d w e won))
         (λ h. only q (A1 d w) (S1 (Whole d)) x e refl (omega arith) tt)
 
-    pub R2_kept : (give : Giving T) (lowest i k : ℕ) → get_elem? lines q ≡ some (R2 give lowest i k) → After q (step (shape n limit) m p (R2 give lowest i k))
-    R2_kept give lowest i k e =
-        let f : IsFine limit m x.lists (R2 give lowest i k) = x.good.linked.fine q (R2 give lowest i k) e in
+    pub A3_kept : (give : Giving T) (lowest i k : ℕ) → get_elem? lines q ≡ some (A3 give lowest i k) → After q (step (shape n limit) m p (A3 give lowest i k))
+    A3_kept give lowest i k e =
+        let f : IsFine limit m x.lists (A3 give lowest i k) = x.good.linked.fine q (A3 give lowest i k) e in
         let here = turning_in m.link give.chain lowest i f.0 in
-        let once : times i give.chain ≤ 1 = omega (arith, held_once q i (R2 give lowest i k) x.good.linked e) in
+        let once : times i give.chain ≤ 1 = omega (arith, held_once q i (A3 give lowest i k) x.good.linked e) in
         let back : Giving T = record give { chain = reverse give.chain } in
-        cases (λ l. After q (goes_on (after_store m i lowest) l)) (eqb k NULL) (W1 back i) (R1 give i k)
+        cases (λ l. After q (goes_on (after_store m i lowest) l)) (eqb k NULL) (A4 back i) (A2 give i k)
         (λ h. record {
           lists = x.lists;
-          good = good_store q i lowest (R2 give lowest i k) (W1 back i) x.good e here (λ j. times_reverse j give.chain) (length-reverse give.chain) (omega arith)
-              (turn_ends m.link give.chain lowest i once (omega (arith, no_null q (R2 give lowest i k) x.good e)) f.0 (f.1 ∙ eqb-true k NULL h));
+          good = good_store q i lowest (A3 give lowest i k) (A4 back i) x.good e here (λ j. times_reverse j give.chain) (length-reverse give.chain) (omega arith)
+              (turn_ends m.link give.chain lowest i once (omega (arith, no_null q (A3 give lowest i k) x.good e)) f.0 (f.1 ∙ eqb-true k NULL h));
         })
         (λ h. let on : m.link i ≢ NULL = λ z. grind (arith, nat_tests, f.1) in
-        stores q i lowest (R2 give lowest i k) (R1 give i k) x e here refl (omega arith) (subst (λ (y : ℕ). Turns (store m.link i lowest) give.chain i y) f.1 (turn_on m.link give.chain lowest i once f.0 on)))
+        stores q i lowest (A3 give lowest i k) (A2 give i k) x e here refl (omega arith) (subst (λ (y : ℕ). Turns (store m.link i lowest) give.chain i y) f.1 (turn_on m.link give.chain lowest i once f.0 on)))
 
-    pub W1_kept : (give : Giving T) (i : ℕ) → get_elem? lines q ≡ some (W1 give i) → After q (step (shape n limit) m p (W1 give i))
-    W1_kept give i e =
-        let f : Walks m.link give.chain i = x.good.linked.fine q (W1 give i) e in
-        cases (λ l. After q (goes_on m l)) (eqb (m.link i) NULL) (G1 give) (W1 give (m.link i))
-        (λ h. only q (W1 give i) (G1 give) x e refl (omega arith) (walk_gives m.link give.chain i f))
-        (λ h. only q (W1 give i) (W1 give (m.link i)) x e refl (omega arith) (walk_on m.link give.chain i f (λ z. grind (arith, nat_tests))))
+    pub A4_kept : (give : Giving T) (i : ℕ) → get_elem? lines q ≡ some (A4 give i) → After q (step (shape n limit) m p (A4 give i))
+    A4_kept give i e =
+        let f : Walks m.link give.chain i = x.good.linked.fine q (A4 give i) e in
+        cases (λ l. After q (goes_on m l)) (eqb (m.link i) NULL) (G1 give) (A4 give (m.link i))
+        (λ h. only q (A4 give i) (G1 give) x e refl (omega arith) (walk_gives m.link give.chain i f))
+        (λ h. only q (A4 give i) (A4 give (m.link i)) x e refl (omega arith) (walk_on m.link give.chain i f (λ z. grind (arith, nat_tests))))
 
     pub G2_kept : (give : Giving T) (w : Tagged) → get_elem? lines q ≡ some (G2 give w) → After q (step (shape n limit) m p (G2 give w))
     G2_kept give w e =
@@ -349,11 +349,11 @@ module _ {T : Type 0} (n limit : ℕ) (m : Memory T) (who : ℕ → Option ℕ) 
         only q (S2 w) (S3 w (m.link w.index)) x e refl (omega arith) (f.0, f.1, λ t. refl)
     step_kept (S3 w k) e = S3_kept w k e
     step_kept (A1 d w) e = A1_kept d w e
-    step_kept (R1 give lowest i) e =
-        let f : Turns m.link give.chain lowest i = x.good.linked.fine q (R1 give lowest i) e in
-        only q (R1 give lowest i) (R2 give lowest i (m.link i)) x e refl (omega arith) (f, refl)
-    step_kept (R2 give lowest i k) e = R2_kept give lowest i k e
-    step_kept (W1 give i) e = W1_kept give i e
+    step_kept (A2 give lowest i) e =
+        let f : Turns m.link give.chain lowest i = x.good.linked.fine q (A2 give lowest i) e in
+        only q (A2 give lowest i) (A3 give lowest i (m.link i)) x e refl (omega arith) (f, refl)
+    step_kept (A3 give lowest i k) e = A3_kept give lowest i k e
+    step_kept (A4 give i) e = A4_kept give i e
     step_kept (G1 give) e = only q (G1 give) (G2 give m.free) x e refl (omega arith) (x.good.linked.fine q (G1 give) e)
     step_kept (G2 give w) e = G2_kept give w e
     step_kept (G3 give w) e = G3_kept give w e

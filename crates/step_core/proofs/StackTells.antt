@@ -25,7 +25,7 @@ use Rattle.step_core.specs.declared.stack.Taking.TheVariants.{One, Whole}
 use Rattle.step_core.specs.declared.stack.Answer.{Answer}
 use Rattle.step_core.specs.declared.stack.Answer.TheVariants.{Put as AnswerPut, Take as AnswerTake, Fold as AnswerFold, Close as AnswerClose, Shut as AnswerShut, Look as AnswerLook}
 use Rattle.step_core.specs.declared.stack.Line.{Line}
-use Rattle.step_core.specs.declared.stack.Line.TheVariants.{Idle, F1, F2, F3, F4, P1, P2, P3, D1, S1, S2, S3, A1, R1, R2, W1, G1, G2, G3, Z1, Z2, Y1, Y2, V1}
+use Rattle.step_core.specs.declared.stack.Line.TheVariants.{Idle, F1, F2, F3, F4, P1, P2, P3, D1, S1, S2, S3, A1, A2, A3, A4, G1, G2, G3, Z1, Z2, Y1, Y2, V1}
 use Rattle.step_core.specs.StackMachine.{Memory, Outcome, chain_from, values_in, placed, unplaced, with_node, ends, gives, next_node, no_node, at_F1, at_P1, at_D1, at_S1, refuses, takes, at_F3, at_A1, goes_on, wins, wins_value, wins_chain, step, after_hold, after_give, after_put, after_close, after_shut}
 use Rattle.step_core.specs.StackLaw.{shape, IsRight}
 use Rattle.step_core.specs.StackRule.{Lists, Tells, Good}
@@ -152,13 +152,13 @@ module _ {T : Type 0} where
     tells_kept (A1 d w) t =
         let chain = chain_from n m.link w.index in
         cases Told (same m.top w) (wins_chain m p d w chain) (goes_on m (S1 (Whole d))) (λ h. chain_tells (TakeAll p (values_in m.home chain) w.tag ∷ history) d w chain (values_in m.home chain)) (λ h. tt)
-    tells_kept (R1 give lowest i) t = right_wider n limit begun seen history give.answer now t
-    tells_kept (R2 give lowest i k) t =
+    tells_kept (A2 give lowest i) t = right_wider n limit begun seen history give.answer now t
+    tells_kept (A3 give lowest i k) t =
         let r = right_wider n limit begun seen history give.answer now t in
-        cases (Tells n limit begun history) (eqb k NULL) (W1 (record give { chain = reverse give.chain }) i) (R1 give i k) (λ h. r) (λ h. r)
-    tells_kept (W1 give i) t =
+        cases (Tells n limit begun history) (eqb k NULL) (A4 (record give { chain = reverse give.chain }) i) (A2 give i k) (λ h. r) (λ h. r)
+    tells_kept (A4 give i) t =
         let r = right_wider n limit begun seen history give.answer now t in
-        cases (Tells n limit begun history) (eqb (m.link i) NULL) (G1 give) (W1 give (m.link i)) (λ h. r) (λ h. r)
+        cases (Tells n limit begun history) (eqb (m.link i) NULL) (G1 give) (A4 give (m.link i)) (λ h. r) (λ h. r)
     tells_kept (G1 give) t = right_wider n limit begun seen history give.answer now t
     tells_kept (G2 give w) t = right_wider n limit begun seen history give.answer now t
     tells_kept (G3 give w) t =
@@ -201,9 +201,9 @@ module _ {T : Type 0} (c : Shape) (m : Memory T) (p q : ℕ) (other : q ≢ p) (
       let chain = chain_from c.capacity m.link w.index in
       let all : Event T = TakeAll p (values_in m.home chain) w.tag in
       cases Apart (same m.top w) (wins_chain m p d w chain) (goes_on m (S1 (Whole d))) (λ h. own-other q all history (λ e. other (sym e))) (λ h. refl)
-  step_apart (R1 give lowest i) = refl
-  step_apart (R2 give lowest i k) = refl
-  step_apart (W1 give i) = refl
+  step_apart (A2 give lowest i) = refl
+  step_apart (A3 give lowest i k) = refl
+  step_apart (A4 give i) = refl
   step_apart (G1 give) = refl
   step_apart (G2 give w) = refl
   step_apart (G3 give w) =

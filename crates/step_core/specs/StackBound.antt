@@ -6,7 +6,7 @@ use Rattle.bounded_model.specs.Machine.{Shape}
 use Rattle.step_core.specs.Words.{same}
 use Rattle.step_core.specs.declared.stack.Taking.TheVariants.{Whole}
 use Rattle.step_core.specs.declared.stack.Line.{Line}
-use Rattle.step_core.specs.declared.stack.Line.TheVariants.{F1, F2, F3, F4, P3, S1, S3, A1, R1, R2, W1, G3, Z2, Y2}
+use Rattle.step_core.specs.declared.stack.Line.TheVariants.{F1, F2, F3, F4, P3, S1, S3, A1, A2, A3, A4, G3, Z2, Y2}
 use Rattle.step_core.specs.declared.stack.Pass.{Pass}
 use Rattle.step_core.specs.StackMachine.{Memory, State, Act, Begin, Step, acts_at, is_idle}
 
@@ -56,9 +56,9 @@ module _ {T : Type 0} where
   IsSingle (F4 put) = length put.values ≡ 1
   IsSingle (S1 (Whole d)) = ⊥
   IsSingle (A1 d w) = ⊥
-  IsSingle (R1 give above i) = ⊥
-  IsSingle (R2 give above i k) = ⊥
-  IsSingle (W1 give i) = ⊥
+  IsSingle (A2 give above i) = ⊥
+  IsSingle (A3 give above i k) = ⊥
+  IsSingle (A4 give i) = ⊥
   IsSingle l = Unit {0}
 
   abbrev pub IsSingleAt : Option (Pass T) → Type 0

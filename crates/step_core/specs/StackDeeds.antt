@@ -17,7 +17,7 @@ use Rattle.step_core.specs.declared.stack.Answer.TheVariants.{Put as AnswerPut, 
 use Rattle.step_core.specs.declared.stack.Pass.{Pass}
 use Rattle.step_core.specs.declared.stack.Line.{Line}
 use Rattle.step_core.specs.StackMachine.{State}
-use Rattle.step_core.specs.declared.stack.Line.TheVariants.{Idle, F1, F2, F3, F4, P1, P2, P3, R1, R2, W1, G1, G2, G3}
+use Rattle.step_core.specs.declared.stack.Line.TheVariants.{Idle, F1, F2, F3, F4, P1, P2, P3, A2, A3, A4, G1, G2, G3}
 
 -- What pass p has done. Its own events are given, the newest first
 
@@ -71,9 +71,9 @@ module _ {T : Type 0} where
   HasMade p (P1 put) events = events ≡ holds_of p (length put.chain)
   HasMade p (P2 put w) events = events ≡ holds_of p (length put.chain)
   HasMade p (P3 put w) events = events ≡ holds_of p (length put.chain)
-  HasMade p (R1 give above i) events = Makes p give.answer (Free p (length give.chain) ∷ events)
-  HasMade p (R2 give above i k) events = Makes p give.answer (Free p (length give.chain) ∷ events)
-  HasMade p (W1 give i) events = Makes p give.answer (Free p (length give.chain) ∷ events)
+  HasMade p (A2 give above i) events = Makes p give.answer (Free p (length give.chain) ∷ events)
+  HasMade p (A3 give above i k) events = Makes p give.answer (Free p (length give.chain) ∷ events)
+  HasMade p (A4 give i) events = Makes p give.answer (Free p (length give.chain) ∷ events)
   HasMade p (G1 give) events = Makes p give.answer (Free p (length give.chain) ∷ events)
   HasMade p (G2 give w) events = Makes p give.answer (Free p (length give.chain) ∷ events)
   HasMade p (G3 give w) events = Makes p give.answer (Free p (length give.chain) ∷ events)
@@ -100,9 +100,9 @@ module _ {T : Type 0} where
   IsAll c begun seen (P1 put) = HasAll c begun seen put
   IsAll c begun seen (P2 put w) = HasAll c begun seen put
   IsAll c begun seen (P3 put w) = HasAll c begun seen put
-  IsAll c begun seen (R1 give above i) = PutsAll c begun seen give.answer
-  IsAll c begun seen (R2 give above i k) = PutsAll c begun seen give.answer
-  IsAll c begun seen (W1 give i) = PutsAll c begun seen give.answer
+  IsAll c begun seen (A2 give above i) = PutsAll c begun seen give.answer
+  IsAll c begun seen (A3 give above i k) = PutsAll c begun seen give.answer
+  IsAll c begun seen (A4 give i) = PutsAll c begun seen give.answer
   IsAll c begun seen (G1 give) = PutsAll c begun seen give.answer
   IsAll c begun seen (G2 give w) = PutsAll c begun seen give.answer
   IsAll c begun seen (G3 give w) = PutsAll c begun seen give.answer

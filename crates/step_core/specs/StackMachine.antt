@@ -21,7 +21,7 @@ use Rattle.step_core.specs.declared.stack.Answer.{Answer}
 use Rattle.step_core.specs.declared.stack.Answer.TheVariants.{Put as AnswerPut, Take as AnswerTake, Fold as AnswerFold, Close as AnswerClose, Shut as AnswerShut, Look as AnswerLook}
 use Rattle.step_core.specs.declared.stack.Giving.{Giving}
 use Rattle.step_core.specs.declared.stack.Line.{Line}
-use Rattle.step_core.specs.declared.stack.Line.TheVariants.{Idle, F1, F2, F3, F4, P1, P2, P3, D1, S1, S2, S3, A1, R1, R2, W1, G1, G2, G3, Z1, Z2, Y1, Y2, V1}
+use Rattle.step_core.specs.declared.stack.Line.TheVariants.{Idle, F1, F2, F3, F4, P1, P2, P3, D1, S1, S2, S3, A1, A2, A3, A4, G1, G2, G3, Z1, Z2, Y1, Y2, V1}
 use Rattle.step_core.specs.declared.stack.Call.{Call}
 use Rattle.step_core.specs.declared.stack.Call.TheVariants.{Put as CallPut, Take as CallTake, Close as CallClose, Shut as CallShut, Look as CallLook}
 use Rattle.step_core.specs.declared.stack.Pass.{Pass}
@@ -180,15 +180,15 @@ module _ {T : Type 0} where
 
   -- the chain of w is in hand, with these values from the top down
   abbrev pub at_A1 : Direction → Tagged → List ℕ → List T → Line T
-  at_A1 Down w chain values = W1 (record { chain = chain; answer = AnswerFold (Ok (values, w.tag)) }) w.index
-  at_A1 Up w chain values = R1 (record { chain = chain; answer = AnswerFold (Ok (reverse values, w.tag)) }) NULL w.index
+  at_A1 Down w chain values = A4 (record { chain = chain; answer = AnswerFold (Ok (values, w.tag)) }) w.index
+  at_A1 Up w chain values = A2 (record { chain = chain; answer = AnswerFold (Ok (reverse values, w.tag)) }) NULL w.index
 
   -- node i was linked to its upper neighbour, and k is the lower one
   abbrev pub at_R2 : Giving T → ℕ → ℕ → Line T
-  at_R2 give i k = if k == NULL then W1 (record give { chain = reverse give.chain }) i else R1 give i k
+  at_R2 give i k = if k == NULL then A4 (record give { chain = reverse give.chain }) i else A2 give i k
 
   abbrev pub at_W1 : Giving T → ℕ → Line T
-  at_W1 give k = if k == NULL then G1 give else W1 give k
+  at_W1 give k = if k == NULL then G1 give else A4 give k
 
   abbrev pub at_Z1 : Tagged → Line T
   at_Z1 w = if w.mark then ends (AnswerClose false) else Z2 w
@@ -244,9 +244,9 @@ module _ {T : Type 0} where
   step c m p (A1 d w) =
       if same m.top w then wins_chain m p d w (chain_from c.capacity m.link w.index)
       else goes_on m (S1 (Whole d))
-  step c m p (R1 give above i) = goes_on m (R2 give above i (m.link i))
-  step c m p (R2 give above i k) = goes_on (after_store m i above) (at_R2 give i k)
-  step c m p (W1 give i) = goes_on m (at_W1 give (m.link i))
+  step c m p (A2 give above i) = goes_on m (A3 give above i (m.link i))
+  step c m p (A3 give above i k) = goes_on (after_store m i above) (at_R2 give i k)
+  step c m p (A4 give i) = goes_on m (at_W1 give (m.link i))
   -- a chain goes back to the free list
   step c m p (G1 give) = goes_on m (G2 give m.free)
   step c m p (G2 give w) = goes_on (after_store m (last give.chain) w.index) (G3 give w)
@@ -269,9 +269,9 @@ module _ {T : Type 0} where
   held (P1 put) = put.chain
   held (P2 put w) = put.chain
   held (P3 put w) = put.chain
-  held (R1 give above i) = give.chain
-  held (R2 give above i k) = give.chain
-  held (W1 give i) = give.chain
+  held (A2 give above i) = give.chain
+  held (A3 give above i k) = give.chain
+  held (A4 give i) = give.chain
   held (G1 give) = give.chain
   held (G2 give w) = give.chain
   held (G3 give w) = give.chain

@@ -11,7 +11,7 @@ use Rattle.step_core.specs.Words.{Tagged, times, total, Stands, IsChain}
 use Rattle.step_core.specs.OneList.{ReadTop, ReadLink}
 use Rattle.step_core.specs.declared.stack.Putting.{Putting}
 use Rattle.step_core.specs.declared.stack.Line.{Line}
-use Rattle.step_core.specs.declared.stack.Line.TheVariants.{Idle, F1, F2, F3, F4, P1, P2, P3, D1, S1, S2, S3, A1, R1, R2, W1, G1, G2, G3, Z1, Z2, Y1, Y2, V1}
+use Rattle.step_core.specs.declared.stack.Line.TheVariants.{Idle, F1, F2, F3, F4, P1, P2, P3, D1, S1, S2, S3, A1, A2, A3, A4, G1, G2, G3, Z1, Z2, Y1, Y2, V1}
 use Rattle.step_core.specs.StackMachine.{Memory, last, held}
 use Rattle.bounded_model.specs.Justified.{Sometime, IsFull}
 use Rattle.step_core.specs.StackLaw.{IsRight, shape, state, HasValues}
@@ -78,9 +78,9 @@ module _ {T : Type 0} (limit : ℕ) (m : Memory T) (g : Lists) where
   IsFine (S2 w) = ReadTop limit m.top g.stack w × (w.second ≡ false)
   IsFine (S3 w k) = ReadTop limit m.top g.stack w × (w.second ≡ false) × ReadLink m.top m.link w k
   IsFine (A1 d w) = (w.index ≢ NULL) × (w.second ≡ false) × (w.tag < limit)
-  IsFine (R1 give lowest i) = Turns m.link give.chain lowest i
-  IsFine (R2 give lowest i k) = Turns m.link give.chain lowest i × (m.link i ≡ k)
-  IsFine (W1 give i) = Walks m.link give.chain i
+  IsFine (A2 give lowest i) = Turns m.link give.chain lowest i
+  IsFine (A3 give lowest i k) = Turns m.link give.chain lowest i × (m.link i ≡ k)
+  IsFine (A4 give i) = Walks m.link give.chain i
   IsFine (G1 give) = Gives m.link give.chain
   IsFine (G2 give w) = Gives m.link give.chain
   IsFine (G3 give w) = Gives m.link give.chain × (m.link (last give.chain) ≡ w.index)
@@ -151,9 +151,9 @@ module _ {T : Type 0} (n limit : ℕ) (begun seen : List (Event T)) where
   Tells (Idle None) = Unit {0}
   Tells (Idle (Some a)) = IsRight n limit begun seen a
   Tells (D1 values) = Sometime begun seen (IsFull (shape n limit))
-  Tells (R1 give lowest i) = IsRight n limit begun seen give.answer
-  Tells (R2 give lowest i k) = IsRight n limit begun seen give.answer
-  Tells (W1 give i) = IsRight n limit begun seen give.answer
+  Tells (A2 give lowest i) = IsRight n limit begun seen give.answer
+  Tells (A3 give lowest i k) = IsRight n limit begun seen give.answer
+  Tells (A4 give i) = IsRight n limit begun seen give.answer
   Tells (G1 give) = IsRight n limit begun seen give.answer
   Tells (G2 give w) = IsRight n limit begun seen give.answer
   Tells (G3 give w) = IsRight n limit begun seen give.answer

@@ -86,11 +86,11 @@ pub enum Line<T> {
     /// Exchange `TOP` for null: the whole chain is in hand.
     A1(Direction, Fields),
     /// Load the link of a node of the chain, whose upper neighbour is the first index.
-    R1(Giving<T>, u32, u32),
+    A2(Giving<T>, u32, u32),
     /// Link this node to its upper neighbour.
-    R2(Giving<T>, u32, u32, u32),
+    A3(Giving<T>, u32, u32, u32),
     /// Move the value out of this node of the chain, and load its link.
-    W1(Giving<T>, u32),
+    A4(Giving<T>, u32),
     /// Load `FREE`.
     G1(Giving<T>),
     /// Link the chain's last node to the free one.

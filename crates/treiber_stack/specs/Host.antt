@@ -12,7 +12,7 @@ use Rattle.step_core.specs.Words.{Tagged}
 use Rattle.step_core.specs.declared.stack.Putting.{Putting}
 use Rattle.step_core.specs.declared.stack.Taking.TheVariants.{One}
 use Rattle.step_core.specs.declared.stack.Line.{Line}
-use Rattle.step_core.specs.declared.stack.Line.TheVariants.{Idle, F1, F2, F3, F4, P1, P2, P3, D1, S1, S2, S3, R1, R2, W1, G1, G2, G3, Z1, Z2, Y1, Y2, V1}
+use Rattle.step_core.specs.declared.stack.Line.TheVariants.{Idle, F1, F2, F3, F4, P1, P2, P3, D1, S1, S2, S3, A2, A3, A4, G1, G2, G3, Z1, Z2, Y1, Y2, V1}
 use Rattle.step_core.specs.declared.seats.View.{View}
 use Rattle.step_core.specs.declared.seats.View.TheVariants.{AtRoot, AtPass, AtMeeting, Left}
 use Rattle.step_core.specs.StackMachine.{Memory, Outcome, first, second, last, held, placed, filled, step}
@@ -67,14 +67,14 @@ module _ {T : Type 0} where
   abbrev pub reads_link_of : Line T → Option ℕ
   reads_link_of (F2 put w) = some w.index
   reads_link_of (S2 w) = some w.index
-  reads_link_of (R1 giving above i) = some i
-  reads_link_of (W1 giving i) = some i
+  reads_link_of (A2 giving above i) = some i
+  reads_link_of (A4 giving i) = some i
   reads_link_of l = none
 
   abbrev pub stores_of : Line T → Option (ℕ × ℕ)
   stores_of (F4 put) = some (first put.chain, second put.chain)
   stores_of (P2 put w) = some (last put.chain, w.index)
-  stores_of (R2 giving above i k) = some (i, above)
+  stores_of (A3 giving above i k) = some (i, above)
   stores_of (G2 giving w) = some (last giving.chain, w.index)
   stores_of l = none
 

@@ -13,7 +13,7 @@ use Rattle.index_list.specs.Lists.{word, Holds}
 use Rattle.index_list.specs.Steps.{read_top, read_link, write_link, looked, changed, Before, Goes}
 use Rattle.step_core.specs.Words.{times, total}
 use Rattle.step_core.specs.declared.stack.Line.{Line}
-use Rattle.step_core.specs.declared.stack.Line.TheVariants.{F1, F2, F4, P1, P2, D1, S1, S2, R1, R2, W1, G1, G2, Z1, Y1, V1}
+use Rattle.step_core.specs.declared.stack.Line.TheVariants.{F1, F2, F4, P1, P2, D1, S1, S2, A2, A3, A4, G1, G2, Z1, Y1, V1}
 use Rattle.step_core.specs.declared.seats.View.{View}
 use Rattle.step_core.specs.declared.seats.View.TheVariants.{AtRoot, AtPass, AtMeeting, Left}
 use Rattle.step_core.specs.StackMachine.{Memory, held, step, after_store}
@@ -43,14 +43,14 @@ module _ {T : Type 0} (c : Shape) (m : Memory T) (p : ℕ) where
   link_memory : (l : Line T) (k : ℕ) → reads_link_of l ≡ some k → m ≡ (step c m p l).memory
   link_memory (F2 put w) k e = refl
   link_memory (S2 w) k e = refl
-  link_memory (R1 giving above i) k e = refl
-  link_memory (W1 giving i) k e = refl
+  link_memory (A2 giving above i) k e = refl
+  link_memory (A4 giving i) k e = refl
   link_memory l k e = absurd (some-ne-none k (sym e))
 
   store_memory : (l : Line T) (t : ℕ × ℕ) → stores_of l ≡ some t → after_store m t.0 t.1 ≡ (step c m p l).memory
   store_memory (F4 put) t e = ap (λ (u : ℕ × ℕ). after_store m u.0 u.1) (sym (some-injective _ t e))
   store_memory (P2 put w) t e = ap (λ (u : ℕ × ℕ). after_store m u.0 u.1) (sym (some-injective _ t e))
-  store_memory (R2 giving above i k) t e = ap (λ (u : ℕ × ℕ). after_store m u.0 u.1) (sym (some-injective _ t e))
+  store_memory (A3 giving above i k) t e = ap (λ (u : ℕ × ℕ). after_store m u.0 u.1) (sym (some-injective _ t e))
   store_memory (G2 giving w) t e = ap (λ (u : ℕ × ℕ). after_store m u.0 u.1) (sym (some-injective _ t e))
   store_memory l t e = absurd (some-ne-none t (sym e))
 
