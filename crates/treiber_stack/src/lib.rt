@@ -20,6 +20,8 @@ mod rule;
 mod stack;
 mod steps;
 mod taking;
+#[cfg(test)]
+mod tests;
 mod whole;
 
 pub use closing::{CloseOp, ShutOp};
