@@ -14,3 +14,6 @@ mod steps;
 pub use closing::{CloseOp, ShutOp};
 pub use rest::Rest;
 pub use stack::{Pass, Root, Stack};
+
+#[cfg(test)]
+mod tests;
