@@ -9,30 +9,34 @@ use std::alloc::{AllocError, Global};
 use std::io;
 use std::io::{Error, ErrorKind, Read, Write};
 
-/// Gives these bytes one read at a time, is interrupted before each, and fails at a read.
+/// Gives `a`, a line feed and `b` at its first read, `c` and a line feed at its second, as many reads
+/// as are left; is interrupted before each read; then fails, or is at its end.
 #[derive(Drop)]
-struct Faulty<'a> {
-    pieces: &'a [&'a [u8]],
+struct Faulty {
+    left: u8,
+    given: u8,
     interrupted: bool,
     fails: bool,
 }
 
-impl Read for Faulty<'_> {
+impl Read for Faulty {
     fn read(&mut self, buf: &mut [u8]) -> io::Result<usize> {
         self.interrupted = !self.interrupted;
         if self.interrupted {
             return Err(Error::from(ErrorKind::Interrupted));
         }
-        let Some((first, others)) = self.pieces.split_first() else {
+        if self.left == 0 {
             return if self.fails {
                 Err(Error::from(ErrorKind::BrokenPipe))
             } else {
                 Ok(0)
             };
-        };
-        self.pieces = others;
-        let mut rest: &[u8] = first;
-        rest.read(buf)
+        }
+        self.left -= 1;
+        let is_first = self.given == 0;
+        self.given = 1;
+        let mut piece: &[u8] = if is_first { b"a\nb" } else { b"c\n" };
+        piece.read(buf)
     }
 }
 
@@ -153,8 +157,7 @@ fn keeps_the_limits(rt: HostRuntime) -> Result<(), AllocError> {
 
 #[test]
 fn tells_a_reader_that_fails(rt: HostRuntime) {
-    let pieces: [&[u8]; 2] = [b"a\nb", b"c\n"];
-    for (given, fails, want) in [
+    for (left, fails, want) in [
         (2, false, Ok(2)),
         (0, true, Err(ReadFault::Device)),
         (1, true, Err(ReadFault::Device)),
@@ -162,12 +165,13 @@ fn tells_a_reader_that_fails(rt: HostRuntime) {
         (1, false, Err(ReadFault::NoFinalNewline)),
     ] {
         let mut reader = Faulty {
-            pieces: &pieces[..given.min(2)],
+            left,
+            given: 0,
             interrupted: false,
             fails,
         };
         let got = read_messages(rt.alloc(), &mut reader, 0).map(|messages| messages.len());
-        assert_eq!(rt; got, want, "after {given}");
+        assert_eq!(rt; got, want, "after {left}");
     }
 }
 
@@ -258,20 +262,32 @@ fn counts_what_went_out(rt: HostRuntime) -> io::Result<()> {
     Ok(())
 }
 
+// Two messages of sender 0 were delivered, by takes of these numbers, and one of this sender is left.
+fn outcome_of(alloc: Global, takes: [(u64, u32); 2], left: u32) -> Result<Relayed, AllocError> {
+    let mut relayed = outcome(alloc, b"", 0, 0)?;
+    for (number, seq) in takes {
+        let message = message(alloc, 0, seq, b"x")?;
+        relayed.delivered.push(Taken {
+            message,
+            number,
+            consumer: 0,
+        })?;
+    }
+    relayed.left.push(message(alloc, left, 2, b"y")?)?;
+    Ok(relayed)
+}
+
 #[test]
 fn checks_a_queue(rt: HostRuntime) -> Result<(), AllocError> {
-    let mut relayed = outcome(rt.alloc(), b"abcd", 2, 1)?;
-    assert!(rt; check_queue(&relayed));
-    relayed.delivered[1].number = 2;
-    assert!(rt; !check_queue(&relayed));
-    relayed.delivered[1].number = 1;
-    relayed.delivered[0].message.seq = 1;
-    relayed.delivered[1].message.seq = 0;
-    assert!(rt; !check_queue(&relayed));
-    relayed.delivered[0].message.seq = 0;
-    relayed.delivered[1].message.seq = 1;
-    relayed.left[0].sender = 1;
-    assert!(rt; !check_queue(&relayed));
+    for (takes, left, want) in [
+        ([(0, 0), (1, 1)], 0, true),
+        ([(0, 0), (2, 1)], 0, false),
+        ([(0, 1), (1, 0)], 0, false),
+        ([(0, 0), (1, 1)], 1, false),
+    ] {
+        let relayed = outcome_of(rt.alloc(), takes, left)?;
+        assert_eq!(rt; check_queue(&relayed), want, "at {left}");
+    }
     Ok(())
 }
 
