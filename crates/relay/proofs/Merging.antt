@@ -1,5 +1,5 @@
 -- A list that is put together from parts and sorted by number is the rising list of the same elements.
-use Rattle.std.proofs.Common.{◌≡◌, ℕ, ◌+◌, ◌*◌, ◌<◌, ◌≤◌, List, [], ◌∷◌, ◌++◌, refl, Bool, true, false, arith, ap, sym, ◌∙◌, subst, inl, inr, zero, suc, ◌≢◌, length, IsPermutation, cond, sum_by, All, Contains, get_or}
+use Rattle.std.proofs.Common.{◌≡◌, ℕ, ◌<◌, ◌≤◌, List, [], ◌∷◌, refl, true, false, arith, ap, sym, subst, inl, inr, zero, suc, ◌≢◌, IsPermutation, cond, sum_by}
 use Rattle.std.specs.Prelude.{◌==◌, ◌⊎◌}
 use Rattle.std.specs.List.Sorted.{IsNonDecreasingBy}
 use Rattle.std.proofs.lemmas.Bool.Decides.{nat_tests}

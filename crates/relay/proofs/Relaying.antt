@@ -1,11 +1,11 @@
 -- What the relay promises follows from what its workers did.
-use Rattle.std.proofs.Common.{◌≡◌, ℕ, ◌+◌, ◌*◌, ◌<◌, ◌≤◌, List, [], ◌∷◌, ◌++◌, refl, Bool, true, false, arith, ap, sym, ◌∙◌, subst, append-nil, append_assoc, inl, inr, zero, suc, ◌≢◌, length, filter, flat_map, IsPermutation, cond, drop, Option, Some, None, true≢false, length-append}
+use Rattle.std.proofs.Common.{◌≡◌, ℕ, ◌+◌, ◌*◌, ◌<◌, ◌≤◌, List, [], ◌∷◌, ◌++◌, refl, Bool, true, false, arith, ap, sym, ◌∙◌, subst, append-nil, inl, inr, zero, suc, ◌≢◌, length, flat_map, IsPermutation, drop, Option, Some, None, length-append}
 use Rattle.std.specs.Prelude.{◌==◌, ◌⊎◌}
 use Rattle.std.specs.List.{AllByRecursion as Every}
 use Rattle.std.specs.List.Sorted.{IsNonDecreasingBy}
 use Rattle.std.proofs.lemmas.Bool.Decides.{nat_tests}
 use Rattle.std.proofs.lemmas.List.Elements.{filter-append}
-use Rattle.std.proofs.lemmas.List.Sorted.{IsPermutation-refl, IsPermutation-trans, IsPermutation-append_left, IsPermutation-append_right, IsPermutation-sym, length_permutation}
+use Rattle.std.proofs.lemmas.List.Sorted.{IsPermutation-append_left, length_permutation}
 use Rattle.bounded_model.specs.declared.history.Order.TheVariants.{Fifo}
 use Rattle.bounded_model.specs.declared.history.Event.{Event}
 use Rattle.bounded_model.specs.Machine.{Shape, state, Legal}
@@ -13,7 +13,7 @@ use Rattle.bounded_model.specs.Histories.{own, pass_of}
 use Rattle.bounded_model.specs.Justified.{IsEmpty, IsClosed, IsShut, IsWorn}
 use Rattle.bounded_model.specs.Gathers.{gather, Moved, values_of, put_of, took_of, hold_of, fold_of, close_of, shut_of, Rises, Counts, EachFrom}
 use Rattle.bounded_model.proofs.Histories.{own-mine, own-other}
-use Rattle.bounded_model.proofs.Gathering.{gather-append, by_passes, nobody}
+use Rattle.bounded_model.proofs.Gathering.{by_passes, nobody}
 use Rattle.bounded_model.proofs.Balance.{first_in_first_out, all_there_of, all_there}
 use Rattle.bounded_model.proofs.Numbers.{takes_rise, takes_count}
 use Rattle.bounded_model.proofs.Staying.{done_stays, never_closed, never_shut as unshut_for_good, worn_stays}

@@ -1,18 +1,17 @@
 -- What one call after another makes of a worker's own events.
-use Rattle.std.proofs.Common.{◌≡◌, ℕ, ◌+◌, ◌<◌, ◌≤◌, List, [], ◌∷◌, ◌++◌, refl, arith, ap, sym, ◌∙◌, subst, append-nil, append_assoc, length, length-append, Bool, true, false, inl, inr, Some}
-use Rattle.std.specs.Prelude.{◌⊎◌}
+use Rattle.std.proofs.Common.{◌≡◌, ℕ, ◌+◌, ◌≤◌, List, [], ◌∷◌, ◌++◌, refl, arith, ap, sym, ◌∙◌, subst, append-nil, append_assoc, length, length-append, Bool, true, false, Some}
 use Rattle.bounded_model.specs.declared.history.Event.{Event}
-use Rattle.bounded_model.specs.declared.history.Event.TheVariants.{Hold, Put, Take, Free, Close, Shut}
+use Rattle.bounded_model.specs.declared.history.Event.TheVariants.{Hold, Put, Take, Free}
 use Rattle.relay.specs.declared.ends.ProducerEnd.{ProducerEnd}
-use Rattle.relay.specs.declared.ends.ProducerEnd.TheVariants.{SentAll, ClosedIt, MetClosed, MetSpent}
+use Rattle.relay.specs.declared.ends.ProducerEnd.TheVariants.{ClosedIt}
 use Rattle.relay.specs.declared.ends.ConsumerEnd.{ConsumerEnd}
-use Rattle.relay.specs.declared.ends.ConsumerEnd.TheVariants.{TookEnough, ShutIt, FoundClosed, FoundShut, FoundSpent, NoRoom}
+use Rattle.relay.specs.declared.ends.ConsumerEnd.TheVariants.{ShutIt}
 use Rattle.relay.specs.declared.orders.Orders.{Orders}
 use Rattle.std.specs.List.{AllByRecursion as Every}
 use Rattle.bounded_model.specs.declared.views.PassView.{PassView}
 use Rattle.bounded_model.specs.Machine.{Shape}
 use Rattle.bounded_model.specs.Histories.{own}
-use Rattle.bounded_model.specs.Gathers.{gather, did, Moved, put_of, took_of, hold_of, fold_of, close_of, shut_of}
+use Rattle.bounded_model.specs.Gathers.{gather, Moved, put_of, took_of, hold_of, fold_of, close_of, shut_of}
 use Rattle.bounded_model.specs.Laws.{Adds, BacksOut, CloseGives, ShutGives}
 use Rattle.relay.specs.Workers.{Produces, Consumes, SendEnds, TakeEnds, Once}
 use Rattle.bounded_model.specs.Justified.{Sometime}

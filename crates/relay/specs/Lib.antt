@@ -1,3 +1,4 @@
 pub mod Messages
 pub mod KeepsMessages
 pub mod Workers
+pub mod Jobs

@@ -6,13 +6,14 @@ ghost use Rattle.relay.specs.Workers.{Consumer, DidBy, moves_of};
 
 use crate::ends::ConsumerEnd;
 use crate::orders::{Orders, is_reached, told_first};
-use crate::{Gate, Message, Taken};
-use bounded_model::{Container, TakeRefused};
+use crate::pool::Pool;
+use crate::{Gate, Taken};
+use bounded_model::TakeRefused;
 use std::sync::Wait;
 use std::thread;
 
 /// Takes messages, as many as it is told; answers them in the order of taking, and how it ended.
-pub(crate) fn consume<C: Container<Message>, G: Gate, W: Wait>(
+pub(crate) fn consume<C: Pool, G: Gate, W: Wait>(
     rt: &W,
     container: &C,
     gate: &G,

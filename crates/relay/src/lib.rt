@@ -3,16 +3,22 @@
 //!
 //! This crate stands on the laws of a container alone, and names none. So far it has what a relay
 //! is given and gives: [`Message`], [`Plan`], [`Relayed`], the [`Gate`] that a test may close, and
-//! [`numbered`], which tells whether inputs are numbered as a relay wants them.
+//! [`numbered`], which tells whether inputs are numbered as a relay wants them; what a producer and
+//! a consumer do, proved over any container; and the proof that whatever such workers do, in
+//! whatever order, every message is delivered, left, or unsent. The threads are still to come.
 #![tactic(auto)]
 
 mod consumer;
 mod ends;
 mod gates;
+mod jobs;
 mod messages;
 mod orders;
 mod outcome;
+mod pool;
 mod producer;
+#[cfg(test)]
+mod tests;
 
 pub use gates::{FreeGate, Gate};
 pub use messages::{Message, numbered};

@@ -7,14 +7,15 @@ ghost use Rattle.relay.specs.Workers.{Producer, DidBy};
 
 use crate::ends::ProducerEnd;
 use crate::orders::{Orders, is_reached, told_first};
+use crate::pool::Pool;
 use crate::{Gate, Message};
-use bounded_model::{Container, PutRefused};
+use bounded_model::PutRefused;
 use std::collections::VecDeque;
 use std::sync::Wait;
 use std::thread;
 
 /// Puts its messages in their order; answers those that were not put, and how it ended.
-pub(crate) fn produce<C: Container<Message>, G: Gate, W: Wait>(
+pub(crate) fn produce<C: Pool, G: Gate, W: Wait>(
     rt: &W,
     container: &C,
     gate: &G,

@@ -1,4 +1,4 @@
-use Rattle.std.proofs.Common.{◌≡◌, ◌+◌, ◌<◌, ◌≤◌, ℕ, length, vec_len, vec_capacity}
+use Rattle.std.proofs.Common.{◌≡◌, ◌+◌, ◌<◌, vec_len, vec_capacity}
 use Rattle.relay.specs.Workers.{moves_of}
 use Rattle.relay.proofs.Working.{Consuming, Within}
 use Rattle.relay.proofs.consumer.consume.Given as goal
@@ -8,9 +8,9 @@ invariant-loop g l =
     record {
       can : (goal.iterator-loop g).can_next l.iterator';
       finite : (goal.iterator-loop g).is_finite l.iterator';
-      of : g.C.Container.is_pass l.container l.pass;
-      number : (g.C.Container.pass l.pass).number ≡ l.orders.producers + l.consumer;
+      of : g.C.Pool.is_pass l.container l.pass;
+      number : (g.C.Pool.pass l.pass).number ≡ l.orders.producers + l.consumer;
       room : l.orders.messages < vec_capacity l.taken;
       within : Within l.orders (l.orders.producers + l.consumer) (vec_len l.taken);
-      consuming : Consuming (g.C.Container.pass l.pass) (moves_of (l.orders.producers + l.consumer) l.taken.items);
+      consuming : Consuming (g.C.Pool.pass l.pass) (moves_of (l.orders.producers + l.consumer) l.taken.items);
     }

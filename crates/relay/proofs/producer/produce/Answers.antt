@@ -1,11 +1,11 @@
-use Rattle.std.proofs.Common.{◌≡◌, ℕ, arith, sym, ap, ◌∙◌, [], ◌∷◌, length, Some, subst}
-use Rattle.relay.specs.declared.ends.ProducerEnd.TheVariants.{SentAll, ClosedIt, MetClosed, MetSpent}
+use Rattle.std.proofs.Common.{arith, sym, ap, ◌∙◌, length}
+use Rattle.relay.specs.declared.ends.ProducerEnd.TheVariants.{SentAll, MetClosed, MetSpent}
 use Rattle.relay.proofs.Working.{Produces_from, Produces_refused, Produces_closed, is_nil, number-from_close, from_number, once, once_by}
 use Rattle.relay.proofs.producer.produce.Goals as goal
 
 pub returns-then-is_reached-clause-did : goal.returns-then-is_reached-clause-did
 returns-then-is_reached-clause-did g c =
-    let C = g.C.Container in
+    let C = g.C.Pool in
     let hit = c.is_reached.ensures.0 c.if-is_reached.true in
     let first = c.told_first-last.ensures.others c.loop.put hit in
     let after = sym (c.told_first-last.ensures.first first) ∙ hit in
@@ -15,7 +15,7 @@ returns-then-is_reached-clause-did g c =
 
 pub returns-in_default-clause-did : goal.returns-in_default-clause-did
 returns-in_default-clause-did g c =
-    let C = g.C.Container in
+    let C = g.C.Pool in
     let none = is_nil c.loop.rest.items (sym c.loop.rest.ok.0 ∙ c.in_default.ensures.cases.0) in
     let long = c.loop.invariant.long in
     Produces_from c.args.messages.items (λ m. m.sender) (C.shape c.args.container.now) c.args.orders.now (C.pass c.loop.pass) c.pop_front.new.self.items c.loop.put SentAll
@@ -27,7 +27,7 @@ returns-in_default-clause-did g c =
 
 pub returns-in-Err-Closed-clause-did : goal.returns-in-Err-Closed-clause-did
 returns-in-Err-Closed-clause-did g c =
-    let C = g.C.Container in
+    let C = g.C.Pool in
     let gives = rw (c.in-Err-Closed.is, c.in-Err-Closed.field-0-is) at c.put-back.ensures.gives in
     let number = gives.1.adds.number ∙ c.loop.invariant.number in
     rw (c.push_front_reserved-in-Err-Closed.ensures.items, gives.0)
@@ -36,7 +36,7 @@ returns-in-Err-Closed-clause-did g c =
 
 pub returns-in-Err-Spent-clause-did : goal.returns-in-Err-Spent-clause-did
 returns-in-Err-Spent-clause-did g c =
-    let C = g.C.Container in
+    let C = g.C.Pool in
     let gives = rw (c.in-Err-Spent.is, c.in-Err-Spent.field-0-is) at c.put-back.ensures.gives in
     let number = gives.1.adds.number ∙ c.loop.invariant.number in
     rw (c.push_front_reserved-in-Err-Spent.ensures.items, gives.0)
