@@ -11,6 +11,7 @@ pub mod KeepsMarks
 pub mod KeepsTakes
 pub mod KeepsPuts
 pub mod KeepsGives
+pub mod KeepsTakeAll
 pub mod KeepsHost
 pub mod Operations
 pub mod Closing
