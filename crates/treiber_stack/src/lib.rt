@@ -13,6 +13,7 @@
 
 mod calls;
 mod closing;
+mod container;
 mod host;
 mod layout;
 mod operation;

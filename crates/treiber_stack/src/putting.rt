@@ -160,11 +160,7 @@ impl<T> Stack<T> {
         ensures value { by.old.seat.me.1 ≡ (index, Some result) ∷ [] }
         ensures out { by.new.seat.me ≡ (by.old.seat.me.0, (index, None) ∷ []) }
     {
-        move_out::<T, View<T, Line<T>>, Limits, Stacked<T>>(
-            &self.table.shared,
-            &mut by.seat,
-            index,
-        )
+        move_out::<T, View<T, Line<T>>, Limits, Stacked<T>>(&self.table.shared, &mut by.seat, index)
     }
 
     // The top to put onto, or why nothing can be put: then the value moves out of the slot.
