@@ -1,7 +1,6 @@
 -- The stack as a host of two lists: which step a seat may make, and what the step tells.
 use Rattle.std.specs.Prelude.{◌≡◌, ℕ, zero, suc, ◌≤◌, List, [], ◌∷◌, ◌++◌, reverse, Option as Slot, Some, None}
 use mathlib.Core.Option.{Option, none, some}
-use lib.ListN.{get_elem?}
 use Rattle.tagged_index.specs.Fields.{index_of, fields_of}
 use Rattle.tagged_index.specs.declared.word.TheConstants.{NULL}
 use Rattle.bounded_model.specs.declared.history.Event.{Event}
@@ -23,10 +22,10 @@ use Rattle.step_core.specs.declared.seats.View.{View}
 use Rattle.step_core.specs.declared.seats.View.TheVariants.{AtRoot, AtPass, AtMeeting, Left}
 use Rattle.step_core.specs.StackMachine.{Memory, Outcome, first, second, last, held, placed, filled, step}
 use Rattle.step_core.specs.StackLaw.{shape, state}
-use Rattle.step_core.specs.StackRule.{Lists, Good, Tells}
+use Rattle.step_core.specs.StackRule.{Tells}
 use Rattle.step_core.specs.StackDeeds.{Deeds}
 use Rattle.step_core.specs.Seats.{Saw, stepped}
-use Rattle.treiber_stack.specs.Rule.{idle, line_in, holding}
+use Rattle.treiber_stack.specs.Rule.{idle, line_in, holding, Meets}
 use Rattle.treiber_stack.specs.declared.operation.Operation.{Operation}
 use Rattle.treiber_stack.specs.declared.operation.Operation.TheVariants.{Put as PutFirst, Take as TakeFirst, Close as CloseFirst, Shut as ShutFirst, Look as LookFirst, Fold as FoldFirst}
 
@@ -189,6 +188,7 @@ pub record Did {T : Type 0} (n limit : ℕ) (o : Operation T) (list : ℕ) (kind
   pub history : List (Event T)
   pub out : Outcome T
   pub steps : out ≡ step (shape n limit) memory pass.number (line_now o at)
+  pub meets : Meets n limit memory history pass.number (line_now o at)
   pub finds : Finds list kind found memory
   pub moves : Moves list kind found zs memory
   pub saw : Saw history pass
@@ -197,9 +197,3 @@ pub record Did {T : Type 0} (n limit : ℕ) (o : Operation T) (list : ℕ) (kind
   pub tells : (b : List (Event T)) → Later b pass.seen → Tells n limit b pass.seen (line_now o at) → Tells n limit b (out.events ++ history) out.line
   pub legal : Legal (shape n limit) (out.events ++ history)
   pub hand : (state n limit (out.events ++ history)).hand pass.number ≡ holding out.line
-  pub lists : Lists
-  pub who : ℕ → Option ℕ
-  pub lines : List (Line T)
-  pub place : ℕ
-  pub mine : get_elem? lines place ≡ some (line_now o at)
-  pub good : Good T n limit memory lists who lines history

@@ -199,6 +199,7 @@ module _ {T : Type 0} (n limit : ℕ) (o : Operation T) (id at : ℕ) (p from : 
       history = r.history;
       out = out;
       steps = refl;
+      meets = record { lists = r.lists; who = who s.views; lines = set lines id now; seat = id; is = of_pass; here = ready_here; good = ready };
       finds = finds;
       moves = moves;
       saw = saw;
@@ -207,12 +208,6 @@ module _ {T : Type 0} (n limit : ℕ) (o : Operation T) (id at : ℕ) (p from : 
       tells = λ b before t. tells_kept ready p.number b p.seen before saw.seen now t;
       legal = quieted.told.legal;
       hand = hand_after;
-      lists = r.lists;
-      who = who s.views;
-      lines = set lines id now;
-      place = id;
-      mine = ready_here;
-      good = ready;
     };
     counted = refl;
   }
