@@ -17,3 +17,4 @@ pub mod Operations
 pub mod Closing
 pub mod Taking
 pub mod Putting
+pub mod Folding

@@ -14,6 +14,7 @@
 mod calls;
 mod closing;
 mod container;
+mod folding;
 mod host;
 mod layout;
 mod operation;
@@ -25,9 +26,12 @@ mod steps;
 mod taking;
 #[cfg(test)]
 mod tests;
+#[cfg(test)]
+mod tests_folds;
 mod whole;
 
 pub use closing::{CloseOp, ShutOp};
+pub use folding::Folded;
 pub use putting::PutOp;
 pub use rest::Rest;
 pub use stack::{Pass, Root, Stack};
