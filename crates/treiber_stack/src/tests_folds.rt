@@ -1,6 +1,5 @@
-use crate::{Folded, Pass, Stack};
+use crate::{Folded, Stack};
 use bounded_model::{Container, TakeRefused};
-use std::sync::Wait;
 use std::test::Fail;
 use tagged_index::Limits;
 
