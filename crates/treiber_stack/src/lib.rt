@@ -11,12 +11,12 @@
 //! by step, or by a whole call, which retries while others interfere.
 #![tactic(auto)]
 
-mod calls;
 mod closing;
 mod container;
 mod folding;
 mod host;
 mod layout;
+mod making;
 mod operation;
 mod putting;
 mod rest;
@@ -28,7 +28,6 @@ mod taking;
 mod tests;
 #[cfg(test)]
 mod tests_folds;
-mod whole;
 
 pub use closing::{CloseOp, ShutOp};
 pub use folding::Folded;
