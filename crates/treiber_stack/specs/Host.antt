@@ -25,9 +25,10 @@ use Rattle.step_core.specs.StackLaw.{shape, state}
 use Rattle.step_core.specs.StackRule.{Tells}
 use Rattle.step_core.specs.StackDeeds.{Deeds}
 use Rattle.step_core.specs.Seats.{Saw, stepped}
+use Rattle.treiber_stack.specs.Places.{values_of}
 use Rattle.treiber_stack.specs.Rule.{idle, line_in, holding, Meets}
 use Rattle.treiber_stack.specs.declared.operation.Operation.{Operation}
-use Rattle.treiber_stack.specs.declared.operation.Operation.TheVariants.{Put as PutFirst, Take as TakeFirst, Close as CloseFirst, Shut as ShutFirst, Look as LookFirst, Fold as FoldFirst}
+use Rattle.treiber_stack.specs.declared.operation.Operation.TheVariants.{Put as PutFirst, Take as TakeFirst, Close as CloseFirst, Shut as ShutFirst, Look as LookFirst, Fold as FoldFirst, Range as RangeFirst}
 
 -- a fold that begins with the first node goes down, one that begins with the last goes up
 abbrev pub direction : Front → Direction
@@ -43,6 +44,7 @@ module _ {T : Type 0} where
   first_line ShutFirst = Y1
   first_line LookFirst = V1
   first_line (FoldFirst front) = S1 (Whole (direction front))
+  first_line (RangeFirst v others) = F1 (record { values = v.value ∷ values_of others.value; chain = [] })
 
   -- the line of a pass's next step: a pass between its operations begins one
   abbrev pub line_now : Operation T → Line T → Line T
