@@ -1,0 +1,21 @@
+//! The grammar of scripts: a container's capacity and tag limit, and lines that use it.
+//!
+//! Promised: `parse` accepts exactly the texts of the grammar (`specs/Script.antt`), and gives the
+//! script that the text is. Of any other text it names what is wrong: the newline that its last line
+//! lacks, or the first line that a script cannot have there.
+#![tactic(auto)]
+
+mod fault;
+mod grammar;
+mod header;
+mod line;
+mod lines;
+mod number;
+mod reading;
+mod value;
+
+pub use fault::ScriptFault;
+pub use header::Header;
+pub use line::{Act, Line, PassName};
+pub use reading::{MAX_SCRIPT_LEN, Script, parse};
+pub use value::{MAX_VALUE_LEN, Value, Values};
