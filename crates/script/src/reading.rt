@@ -1,8 +1,10 @@
 //! A script from its text.
 
-ghost use Rattle.std.specs.Prelude.{◌≡◌, ◌≤◌, length, option_map, true};
+ghost use Rattle.std.specs.Prelude.{◌≡◌, ◌≤◌, length, option_map, true, IfOk, IfErr};
 ghost use Rattle.script.specs.declared.fault.ScriptFault.TheVariants.{NoMemory};
+ghost use Rattle.script.specs.Faults.{IsAccepted, IsTextFault};
 ghost use Rattle.script.specs.Reading.{Gives, head_of, is_ended, is_in_place, line_before, lines_from, script_of, numbered, split_lines};
+ghost use Rattle.script.specs.Script.{IsScript};
 ghost use Rattle.script.specs.View.{head_view, script_view};
 
 use crate::fault::ScriptFault;
@@ -82,11 +84,9 @@ fn lines_of(
     Ok(lines)
 }
 
-/// The script that has this text, or the first thing that is wrong with the text: no newline at the
-/// end, or the first line that a script cannot have there. `NoMemory` where there was no room for
-/// the lines.
+/// The script that has this text, or the first thing that is wrong with the text.
 #[tactic(auto, unfolding(crate::specs::Reading::script_of))]
-pub fn parse(alloc: Global, text: &[u8]) -> Result<Script<'_>, ScriptFault>
+fn read_script(alloc: Global, text: &[u8]) -> Result<Script<'_>, ScriptFault>
     requires { length text.now ≤ MAX_SCRIPT_LEN }
     ensures { Gives NoMemory script_view result (script_of text.now) }
 {
@@ -101,4 +101,19 @@ pub fn parse(alloc: Global, text: &[u8]) -> Result<Script<'_>, ScriptFault>
     };
     let lines = lines_of(alloc, header.order, rest)?;
     Ok(Script { header, lines })
+}
+
+/// The script that has this text.
+///
+/// `NoMemory` where there was no room for the lines, then `NoFinalNewline` where the last line has
+/// no newline, then `BadLine` with the number of the first line that a script cannot have there.
+pub fn parse(alloc: Global, text: &[u8]) -> Result<Script<'_>, ScriptFault>
+    requires { length text.now ≤ MAX_SCRIPT_LEN }
+    // What is read is the text's script.
+    ensures script { IfOk result (λ script. IsScript text.now (head_view script.header) script.lines.items) }
+    // A fault of the text is in the text, and a script has none.
+    ensures fault { IfErr result (λ fault. IsTextFault fault text.now) }
+    ensures only { IfErr result (λ fault. IsAccepted text.now → fault ≡ NoMemory) }
+{
+    read_script(alloc, text)
 }
