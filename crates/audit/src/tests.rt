@@ -175,6 +175,16 @@ fn tells_a_reader_that_fails(rt: HostRuntime) {
     }
 }
 
+// Holds whichever allocation is refused: `rt try --test --fail-alloc N` for each N that this test
+// reaches.
+#[test]
+fn want_of_memory_is_told(rt: HostRuntime) {
+    match read_messages(rt.alloc(), &mut &b"ab\n\ncd\n"[..], 5) {
+        Ok(messages) => assert_eq!(rt; messages.len(), 3),
+        Err(fault) => assert_eq!(rt; fault, ReadFault::NoMemory),
+    }
+}
+
 #[test]
 fn writes_the_audit_and_the_list(rt: HostRuntime) -> io::Result<()> {
     for (delivered, left, audit, list) in [

@@ -1,5 +1,6 @@
 pub mod Failure
 pub mod Outcome
+pub mod Ranges
 pub mod Reading
 pub mod Replies
 pub mod Script

@@ -9,6 +9,10 @@
 #![tactic(auto)]
 
 mod answer;
+mod arguments;
+#[cfg(test)]
+mod arguments_tests;
+mod command_line;
 mod failure;
 mod fault;
 mod grammar;

@@ -13,9 +13,11 @@
 
 mod calls;
 mod closing;
+mod container;
 mod host;
 mod layout;
 mod operation;
+mod putting;
 mod rest;
 mod rule;
 mod stack;
@@ -26,6 +28,7 @@ mod tests;
 mod whole;
 
 pub use closing::{CloseOp, ShutOp};
+pub use putting::PutOp;
 pub use rest::Rest;
 pub use stack::{Pass, Root, Stack};
 pub use taking::TakeOp;

@@ -1,0 +1,21 @@
+-- The ranges of what the words ask for.
+use Rattle.std.specs.Prelude.{◌≡◌, ℕ, ◌≤◌, Option, IfSome, length}
+use Rattle.lockfree_tool.specs.declared.command_line.TheConstants.{MAX_CAPACITY, MAX_CONSUMERS, MAX_COUNT, MAX_FILES}
+use Rattle.lockfree_tool.specs.declared.arguments.Chosen.{Chosen}
+use Rattle.lockfree_tool.specs.declared.arguments.Chosen.TheVariants.{Replay, Relay}
+use Rattle.lockfree_tool.specs.declared.arguments.RelayArgs.{RelayArgs}
+
+-- how a relay is run: each value lies in its range
+pub record IsInRange (args : RelayArgs) : Type 0 where
+  pub some_capacity : 1 ≤ args.capacity
+  pub capacity : args.capacity ≤ MAX_CAPACITY
+  pub some_consumers : 1 ≤ args.consumers
+  pub consumers : args.consumers ≤ MAX_CONSUMERS
+  pub take : IfSome args.take (λ count. count ≤ MAX_COUNT)
+  pub close_after : IfSome args.close_after (λ count. count ≤ MAX_COUNT)
+  pub shut_after : IfSome args.shut_after (λ count. count ≤ MAX_COUNT)
+
+-- what the program is to do: a relay has its values in their ranges, and 1 to 16 files
+abbrev pub AreInRange : Chosen → Type 0
+AreInRange (Replay file) = Unit {0}
+AreInRange (Relay args files) = IsInRange args × (1 ≤ length files.items) × (length files.items ≤ MAX_FILES)

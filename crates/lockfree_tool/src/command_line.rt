@@ -1,0 +1,156 @@
+//! The words that the program understands, and its help.
+
+use clap::{Arg, ArgAction, Command, value_parser};
+use std::alloc::{AllocError, Global};
+
+/// The largest capacity of a relay's container.
+pub const MAX_CAPACITY: u32 = 1_048_573;
+
+/// The most consumers of a relay.
+pub const MAX_CONSUMERS: u32 = 16;
+
+/// The largest count after which a relay's worker stops: the most messages of a file.
+pub const MAX_COUNT: u32 = 65_535;
+
+/// The most files of a relay.
+pub const MAX_FILES: usize = 16;
+
+const ABOUT: &str =
+    "Runs bounded lock-free containers: relays the lines of files through one, or replays a script of its calls";
+
+const EXAMPLES: &str =
+    "Without words, a script is read from standard input. `lockfree relay --help` tells the rest.
+
+Examples:
+  lockfree < script.txt
+  lockfree replay script.txt
+  lockfree relay --kind stack --capacity 1024 --consumers 4 a.txt b.txt";
+
+const ABOUT_REPLAY: &str =
+    "Replays a script of calls, and writes a reply for each line after the first";
+
+const REPLAY_EXAMPLE: &str = "Example:
+  lockfree replay script.txt
+
+A script that starts
+  stack 1 7
+  a put x
+  a put y
+is answered with
+  put 0
+  full y";
+
+const ABOUT_RELAY: &str =
+    "Relays the lines of files through one container, a producer thread for each file, and writes how many lines of each were delivered, left and unsent";
+
+const RELAY_EXAMPLE: &str =
+    "A line has at most 1,024 bytes and ends in a line feed; a file has at most 65,535 lines.
+
+Example:
+  lockfree relay --kind stack --capacity 1024 --consumers 4 --list a.txt b.txt";
+
+/// The command line.
+pub fn command_line<'a>(alloc: Global) -> Result<Command<'a>, AllocError> {
+    Command::new(alloc, "lockfree")
+        .bin_name("lockfree")?
+        .about(ABOUT)
+        .after_help(EXAMPLES)
+        .subcommand(replay(alloc)?)?
+        .subcommand(relay(alloc)?)
+}
+
+fn replay<'a>(alloc: Global) -> Result<Command<'a>, AllocError> {
+    let file = Arg::new(alloc, "file")
+        .value_name("FILE")
+        .required(true)
+        .action(ArgAction::Set)
+        .help("The script");
+    Command::new(alloc, "replay")
+        .about(ABOUT_REPLAY)
+        .after_help(REPLAY_EXAMPLE)
+        .arg(file)
+}
+
+fn relay<'a>(alloc: Global) -> Result<Command<'a>, AllocError> {
+    let files = Arg::new(alloc, "files")
+        .value_name("FILE")
+        .required(true)
+        .num_args(1..=MAX_FILES)
+        .action(ArgAction::Append)
+        .help("The files, 1 to 16 of them; file 1 is sender 0");
+    Command::new(alloc, "relay")
+        .about(ABOUT_RELAY)
+        .after_help(RELAY_EXAMPLE)
+        .arg(kind(alloc))?
+        .arg(capacity(alloc))?
+        .arg(consumers(alloc))?
+        .arg(take(alloc))?
+        .arg(close_after(alloc))?
+        .arg(shut_after(alloc))?
+        .arg(list(alloc))?
+        .arg(files)
+}
+
+fn kind<'a>(alloc: Global) -> Arg<'a> {
+    Arg::new(alloc, "kind")
+        .long("kind")
+        .value_name("KIND")
+        .required(true)
+        .value_parser(["stack"].as_slice())
+        .help("Which container: the last line in comes out first")
+}
+
+fn capacity<'a>(alloc: Global) -> Arg<'a> {
+    Arg::new(alloc, "capacity")
+        .long("capacity")
+        .value_name("N")
+        .required(true)
+        .value_parser(value_parser!(u32).range(1..=i64::from(MAX_CAPACITY)))
+        .help("The most lines that the container holds, 1 to 1,048,573")
+}
+
+fn consumers<'a>(alloc: Global) -> Arg<'a> {
+    Arg::new(alloc, "consumers")
+        .long("consumers")
+        .value_name("C")
+        .required(true)
+        .value_parser(value_parser!(u32).range(1..=i64::from(MAX_CONSUMERS)))
+        .help("How many threads take lines out, 1 to 16")
+}
+
+fn take<'a>(alloc: Global) -> Arg<'a> {
+    Arg::new(alloc, "take")
+        .long("take")
+        .value_name("K")
+        .value_parser(value_parser!(u32).range(0..=i64::from(MAX_COUNT)))
+        .help(
+            "Each consumer ends after K lines, 0 to 65,535; then N + C * K lines have to be room for all",
+        )
+}
+
+fn close_after<'a>(alloc: Global) -> Arg<'a> {
+    Arg::new(alloc, "close_after")
+        .long("close-after")
+        .value_name("M")
+        .value_parser(value_parser!(u32).range(0..=i64::from(MAX_COUNT)))
+        .help(
+            "The first file's producer closes the container after M lines, 0 to 65,535; no line gets in afterwards",
+        )
+}
+
+fn shut_after<'a>(alloc: Global) -> Arg<'a> {
+    Arg::new(alloc, "shut_after")
+        .long("shut-after")
+        .value_name("M")
+        .value_parser(value_parser!(u32).range(0..=i64::from(MAX_COUNT)))
+        .help(
+            "The first consumer shuts the container after M lines, 0 to 65,535; no line gets out afterwards",
+        )
+}
+
+fn list<'a>(alloc: Global) -> Arg<'a> {
+    Arg::new(alloc, "list")
+        .long("list")
+        .action(ArgAction::SetTrue)
+        .help("Also writes a line for each line of the files: taken, left or unsent")
+}
