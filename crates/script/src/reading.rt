@@ -10,9 +10,9 @@ ghost use Rattle.script.specs.View.{head_view, script_view};
 use crate::fault::ScriptFault;
 use crate::grammar::line_of;
 use crate::header::{Header, header_of};
+use crate::line::Line;
 use crate::lines::{is_ended, line_and_rest};
 use bounded_model::Order;
-use crate::line::Line;
 use std::alloc::Global;
 use std::collections::VecDeque;
 
@@ -62,11 +62,7 @@ fn line_before<'a>(order: Order, text: &'a [u8], after: &[u8]) -> Option<Line<'a
 }
 
 /// The lines of this text, which begins with line 2 of a script.
-fn lines_of(
-    alloc: Global,
-    order: Order,
-    text: &[u8],
-) -> Result<VecDeque<Line<'_>>, ScriptFault>
+fn lines_of(alloc: Global, order: Order, text: &[u8]) -> Result<VecDeque<Line<'_>>, ScriptFault>
     requires ended { is_ended text.now ≡ true }
     requires short { length text.now ≤ MAX_SCRIPT_LEN }
     ensures { Gives NoMemory (λ lines. lines.items) result (numbered (lines_from order (split_lines text.now))) }
