@@ -11,11 +11,11 @@
 //! by step, or by a whole call, which retries while others interfere.
 #![tactic(auto)]
 
-mod calls;
 mod closing;
 mod container;
 mod host;
 mod layout;
+mod making;
 mod operation;
 mod putting;
 mod rest;
@@ -25,7 +25,6 @@ mod steps;
 mod taking;
 #[cfg(test)]
 mod tests;
-mod whole;
 
 pub use closing::{CloseOp, ShutOp};
 pub use putting::PutOp;

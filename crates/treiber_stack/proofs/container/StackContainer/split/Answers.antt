@@ -7,7 +7,7 @@ use Rattle.step_core.proofs.SeatedCalls.{split_view}
 use Rattle.treiber_stack.specs.Rule.{idle}
 use Rattle.treiber_stack.specs.Stack.{shape_of, root_in}
 use Rattle.treiber_stack.proofs.Seats.{splits}
-use Rattle.treiber_stack.proofs.stack.Stack.split.Goals as goal
+use Rattle.treiber_stack.proofs.container.StackContainer.split.Goals as goal
 
 pub split_seat-seat-requires : goal.split_seat-seat-requires
 split_seat-seat-requires g c = let key = c.args.self.now.table.shared.key in (c.requires.table, search rules, splits (capacity_of key) (tag_limit_of key) c.args.parent.now.seat.id c.args.parent.now.seat.me.0)

@@ -6,7 +6,7 @@ use Rattle.step_core.proofs.SeatedCalls.{meet_view}
 use Rattle.treiber_stack.specs.Rule.{idle, holding}
 use Rattle.treiber_stack.specs.Stack.{shape_of}
 use Rattle.treiber_stack.proofs.Seats.{joins, splits}
-use Rattle.treiber_stack.proofs.stack.Stack.meet.Goals as goal
+use Rattle.treiber_stack.proofs.container.StackContainer.meet.Goals as goal
 
 pub join_seat-requires : goal.join_seat-requires
 join_seat-requires g c = let key = c.args.self.now.table.shared.key in

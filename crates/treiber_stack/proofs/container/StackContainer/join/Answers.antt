@@ -6,7 +6,7 @@ use Rattle.step_core.proofs.SeatedCalls.{join_view, was_out}
 use Rattle.treiber_stack.specs.Rule.{idle, holding}
 use Rattle.treiber_stack.specs.Stack.{shape_of, root_in, pass_in}
 use Rattle.treiber_stack.proofs.Seats.{joins}
-use Rattle.treiber_stack.proofs.stack.Stack.join.Goals as goal
+use Rattle.treiber_stack.proofs.container.StackContainer.join.Goals as goal
 
 pub join_seat-requires : goal.join_seat-requires
 join_seat-requires g c = let key = c.args.self.now.table.shared.key in

@@ -11,7 +11,7 @@ use Rattle.treiber_stack.specs.Layout.{top_at}
 use Rattle.treiber_stack.specs.Rule.{Rule}
 use Rattle.treiber_stack.specs.Stack.{shape_of, root_in}
 use Rattle.treiber_stack.proofs.Leftover.{leaves_all}
-use Rattle.treiber_stack.proofs.stack.Stack.finish.Goals as goal
+use Rattle.treiber_stack.proofs.container.StackContainer.finish.Goals as goal
 
 pub returns : goal.returns
 returns g c =
