@@ -2,3 +2,4 @@ pub mod Messages
 pub mod KeepsMessages
 pub mod Workers
 pub mod Parts
+pub mod Rooms

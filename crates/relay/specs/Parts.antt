@@ -1,5 +1,5 @@
 -- When a worker's part is ready, and when it is done.
-use Rattle.std.specs.Prelude.{◌≡◌, ℕ, ◌+◌, ◌<◌, Bool, false, [], vec_capacity}
+use Rattle.std.specs.Prelude.{◌≡◌, ◌+◌, ◌<◌, ◌^◌, Bool, false, [], vec_capacity}
 use Rattle.std.specs.List.{AllByRecursion as Every}
 use Rattle.bounded_model.specs.declared.views.PassView.{PassView}
 use Rattle.bounded_model.specs.Machine.{Shape}
@@ -12,7 +12,7 @@ use Rattle.relay.specs.declared.parts.Sender.{Sender}
 use Rattle.relay.specs.declared.parts.Sent.{Sent}
 use Rattle.relay.specs.declared.parts.Taker.{Taker}
 use Rattle.relay.specs.declared.parts.Took.{Took}
-use Rattle.relay.specs.Workers.{Producer, Consumer, DidBy, moves_of}
+use Rattle.relay.specs.Workers.{Producer, Consumer, ClosesLast, DidBy, moves_of}
 
 module _ {P : Type 0} (is_pass : P → Type 0) (view : P → PassView Message) where
   -- a producer with a new pass of its own number, and with messages of its own
@@ -27,6 +27,7 @@ module _ {P : Type 0} (is_pass : P → Type 0) (view : P → PassView Message) w
     pub of : is_pass job.pass
     pub number : (view job.pass).number ≡ orders.producers + job.consumer
     pub new : own (view job.pass).number (view job.pass).seen ≡ []
+    pub few : orders.producers < 2 ^ 63
     pub room : orders.messages < vec_capacity job.room
     pub empty : job.room.items ≡ []
 
@@ -41,6 +42,12 @@ module _ {P : Type 0} (is_pass : P → Type 0) (view : P → PassView Message) w
     pub of : is_pass done.pass
     pub number : (view done.pass).number ≡ orders.producers + job.consumer
     pub did : DidBy (λ m. m.sender) c orders (view done.pass) (Consumer (moves_of orders.producers done.taken.items) done.end)
+
+  -- the same pass, with which the container was closed where it was used, and otherwise nothing done
+  pub record DidClose (pass : P) (done : P) (used : Bool) : Type 0 where
+    pub of : is_pass done
+    pub number : (view done).number ≡ (view pass).number
+    pub did : ClosesLast (own (view done).number (view done).seen) used
 
 -- the closing pass was not used where this producer met the close
 abbrev pub NotMet : Bool → ProducerEnd → Type 0

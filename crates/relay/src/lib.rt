@@ -19,6 +19,7 @@ mod pool;
 mod producer;
 #[cfg(test)]
 mod tests;
+mod threads;
 
 pub use gates::{FreeGate, Gate};
 pub use messages::{Message, numbered};
