@@ -3,3 +3,4 @@ pub mod KeepsMessages
 pub mod Workers
 pub mod Parts
 pub mod Rooms
+pub mod Promises

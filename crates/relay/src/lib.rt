@@ -10,6 +10,7 @@
 
 mod consumer;
 mod ends;
+mod faults;
 mod gates;
 mod messages;
 mod orders;
@@ -17,10 +18,12 @@ mod outcome;
 mod parts;
 mod pool;
 mod producer;
+mod sizes;
 #[cfg(test)]
 mod tests;
 mod threads;
 
+pub use faults::RelayFault;
 pub use gates::{FreeGate, Gate};
 pub use messages::{Message, numbered};
 pub use outcome::{Plan, Relayed, Taken};

@@ -8,11 +8,32 @@ scoped-requires g c =
     record {
       at = λ a. (
         asked.senders,
-        (asked.takers, (asked.closer, (asked.new, (asked.producing, (asked.consuming, (asked.sent, (asked.took, (
-          passed_send _ _ _ bounds.send-C-Pass,
-          passed_sync _ _ _ bounds.sync-C,
-          passed_sync _ _ _ bounds.sync-G,
-          passed_sync _ _ _ bounds.sync-R,
-        ))))))))
-      )
+        (
+          asked.takers,
+          (
+            asked.closer,
+            (
+              asked.new,
+              (
+                asked.producing,
+                (
+                  asked.consuming,
+                  (
+                    asked.sent,
+                    (
+                      asked.took,
+                      (
+                        passed_send _ _ _ bounds.send-C-Pass,
+                        passed_sync _ _ _ bounds.sync-C,
+                        passed_sync _ _ _ bounds.sync-G,
+                        passed_sync _ _ _ bounds.sync-R,
+                      ),
+                    ),
+                  ),
+                ),
+              ),
+            ),
+          ),
+        ),
+      );
     }
