@@ -2,6 +2,10 @@
 use Rattle.std.proofs.Common.{◌≡◌, List, [], ◌∷◌, ◌++◌, refl, length, arith, sym, ◌∙◌, ap, subst, append-nil}
 use Rattle.std.specs.List.{AllZip}
 
+pub again : {A : Type 0} (xs : List A) (x : A) (ys : List A) → xs ++ x ∷ ys ≡ (xs ++ x ∷ []) ++ ys
+again [] x ys = refl
+again (a ∷ xs) x ys = ap (λ l. a ∷ l) (again xs x ys)
+
 module _ {A B : Type 0} (R : A → B → Type 0) where
   -- R of what was gone over and what it gave, with this rest to come
   pub record So (all rest : List A) (done : List B) : Type 0 where
@@ -12,15 +16,11 @@ module _ {A B : Type 0} (R : A → B → Type 0) where
   pub So_none : (all : List A) → So all all []
   So_none all = record { front = []; is = refl; each = tt }
 
-  zip_more : (xs : List A) (ys : List B) (x : A) (y : B) → AllZip R xs ys → R x y → AllZip R (xs ++ x ∷ []) (ys ++ y ∷ [])
+  pub zip_more : (xs : List A) (ys : List B) (x : A) (y : B) → AllZip R xs ys → R x y → AllZip R (xs ++ x ∷ []) (ys ++ y ∷ [])
   zip_more [] [] x y z r = (r, tt)
   zip_more [] (b ∷ ys) x y z r = absurd z
   zip_more (a ∷ xs) [] x y z r = absurd z
   zip_more (a ∷ xs) (b ∷ ys) x y z r = (z.0, zip_more xs ys x y z.1 r)
-
-  again : (xs : List A) (x : A) (ys : List A) → xs ++ x ∷ ys ≡ (xs ++ x ∷ []) ++ ys
-  again [] x ys = refl
-  again (a ∷ xs) x ys = ap (λ l. a ∷ l) (again xs x ys)
 
   pub So_more : (all : List A) (x : A) (rest : List A) (done : List B) (y : B) → So all (x ∷ rest) done → R x y → So all rest (done ++ y ∷ [])
   So_more all x rest done y s r = record { front = s.front ++ x ∷ []; is = s.is ∙ again s.front x rest; each = zip_more s.front done x y s.each r }

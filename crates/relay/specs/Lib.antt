@@ -4,3 +4,5 @@ pub mod Workers
 pub mod Parts
 pub mod Rooms
 pub mod Promises
+pub mod Passes
+pub mod Worked

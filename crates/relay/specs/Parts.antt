@@ -6,13 +6,11 @@ use Rattle.bounded_model.specs.Machine.{Shape}
 use Rattle.bounded_model.specs.Histories.{own}
 use Rattle.relay.specs.declared.messages.Message.{Message}
 use Rattle.relay.specs.declared.orders.Orders.{Orders}
-use Rattle.relay.specs.declared.ends.ProducerEnd.{ProducerEnd}
-use Rattle.relay.specs.declared.ends.ProducerEnd.TheVariants.{SentAll, ClosedIt, MetClosed, MetSpent}
 use Rattle.relay.specs.declared.parts.Sender.{Sender}
 use Rattle.relay.specs.declared.parts.Sent.{Sent}
 use Rattle.relay.specs.declared.parts.Taker.{Taker}
 use Rattle.relay.specs.declared.parts.Took.{Took}
-use Rattle.relay.specs.Workers.{Producer, Consumer, ClosesLast, DidBy, moves_of}
+use Rattle.relay.specs.Workers.{Producer, Consumer, ClosesLast, DidBy, NotMet, moves_of}
 
 module _ {P : Type 0} (is_pass : P → Type 0) (view : P → PassView Message) where
   -- a producer with a new pass of its own number, and with messages of its own
@@ -50,11 +48,5 @@ module _ {P : Type 0} (is_pass : P → Type 0) (view : P → PassView Message) w
     pub did : ClosesLast (own (view done).number (view done).seen) used
 
 -- the closing pass was not used where this producer met the close
-abbrev pub NotMet : Bool → ProducerEnd → Type 0
-NotMet used MetClosed = used ≡ false
-NotMet used SentAll = Unit {0}
-NotMet used ClosedIt = Unit {0}
-NotMet used MetSpent = Unit {0}
-
 abbrev pub MayUse : {P : Type 0} → Bool → Sent P → Type 0
 MayUse used done = NotMet used done.end

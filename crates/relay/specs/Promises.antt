@@ -1,5 +1,5 @@
 -- What a relay promises of its inputs and its outcome.
-use Rattle.std.specs.Prelude.{◌≡◌, ℕ, zero, suc, ◌+◌, ◌*◌, ◌<◌, ◌≤◌, ◌==◌, List, [], ◌∷◌, ◌++◌, length, filter, map, drop, Vec, Option, None, Some, IsPermutation, ◌⊎◌}
+use Rattle.std.specs.Prelude.{◌≡◌, ℕ, zero, suc, ◌+◌, ◌*◌, ◌<◌, ◌≤◌, ◌==◌, List, [], ◌∷◌, ◌++◌, length, filter, count_by, map, drop, Vec, Option, None, Some, IsPermutation, ◌⊎◌}
 use Rattle.std.specs.List.{AllByRecursion as Every}
 use Rattle.std.specs.declared.alloc.Global.{Global}
 use Rattle.bounded_model.specs.declared.history.Order.TheVariants.{Fifo}
@@ -33,7 +33,7 @@ messages_of ts = map (λ t. t.message) ts
 
 -- how many one consumer took
 abbrev pub taken_by : ℕ → List Taken → ℕ
-taken_by n ts = length (filter (λ t. t.consumer == n) ts)
+taken_by n ts = count_by (λ t. t.consumer == n) ts
 
 -- where one sender's messages are: delivered, left, unsent
 abbrev pub ended_up : ℕ → Relayed → List Message

@@ -12,12 +12,16 @@ mod consumer;
 mod ends;
 mod faults;
 mod gates;
+mod merge;
 mod messages;
 mod orders;
 mod outcome;
 mod parts;
+mod passes;
 mod pool;
 mod producer;
+mod rooms;
+mod run;
 mod sizes;
 #[cfg(test)]
 mod tests;
