@@ -1,11 +1,3 @@
 pub mod Answering
-pub mod Ascii
-pub mod Cuts
-pub mod Heads
-pub mod Laws
-pub mod Numbers
 pub mod Outcomes
-pub mod Scripts
-pub mod Splitting
-pub mod Words
 pub mod Writing

@@ -15,16 +15,9 @@ mod arguments_tests;
 mod command_line;
 mod failure;
 mod fault;
-mod grammar;
-mod header;
 mod input;
-mod lines;
-mod number;
 mod output;
-mod parse;
 mod replay;
-mod reply;
-mod script;
 #[cfg(test)]
 mod tests;
 
