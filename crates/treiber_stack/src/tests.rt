@@ -1,6 +1,7 @@
 use crate::Stack;
 use bounded_model::{
-    Container, Leaving, PutRefused, Stepped, TakeRefused, Word, consume_all, consume_one,
+    Container, Leaving, MakeRefused, PutRefused, Stepped, TakeRefused, Word, consume_all,
+    consume_one,
 };
 use std::sync::Arc;
 use std::test::Fail;
@@ -351,5 +352,15 @@ fn what_is_left_is_dropped_half_read(rt: HostRuntime) -> Result<(), Fail> {
     assert_eq!(rt; Arc::strong_count(&value), 3);
     drop(rest);
     assert_eq!(rt; Arc::strong_count(&value), 1);
+    Ok(())
+}
+
+#[test]
+fn want_of_memory_refuses_a_stack(rt: HostRuntime) -> Result<(), Fail> {
+    let limits = Limits::of(40, 100).ok_or("limits")?;
+    match Stack::<u32>::new(rt.alloc(), limits) {
+        Ok((stack, _)) => assert_eq!(rt; stack.capacity(), 40),
+        Err(MakeRefused::NoMemory) => {}
+    }
     Ok(())
 }
