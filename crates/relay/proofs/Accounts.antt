@@ -175,9 +175,16 @@ module _ {P : Type 0} (is_pass : P → Type 0) (view : P → PassView Message) (
     -- no pass is out
     pub none_out : NoneOut r
     none_out =
-        omega (arith, given, joined_account (gave (length inputs + length took + 1)) r (views sent took closer) e.joined, sent_long 0 inputs sent e.senders_are,
-        length-append (map (λ (s : Sent P). view s.pass) sent ++ map (λ (t : Took P). view t.pass) took) (view closer ∷ []), length-append (map (λ (s : Sent P). view s.pass) sent) (map (λ (t : Took P). view t.pass) took),
-        length-map sent (λ (s : Sent P). view s.pass), length-map took (λ (t : Took P). view t.pass))
+        omega (
+          arith,
+          given,
+          joined_account (gave (length inputs + length took + 1)) r (views sent took closer) e.joined,
+          sent_long 0 inputs sent e.senders_are,
+          length-append (map (λ (s : Sent P). view s.pass) sent ++ map (λ (t : Took P). view t.pass) took) (view closer ∷ []),
+          length-append (map (λ (s : Sent P). view s.pass) sent) (map (λ (t : Took P). view t.pass) took),
+          length-map sent (λ (s : Sent P). view s.pass),
+          length-map took (λ (t : Took P). view t.pass),
+        )
 
     everyone : Every (HasJoined r) (views sent took closer)
     everyone = all_joined (gave (length inputs + length took + 1)) r (views sent took closer) e.joined
@@ -200,8 +207,13 @@ module _ {P : Type 0} (is_pass : P → Type 0) (view : P → PassView Message) (
 
     pub all_items : length (flat_map items_of (workers inputs sent took used)) ≡ total inputs
     all_items =
-        ap length (flat_map-append items_of (senders inputs sent ++ map taker took) (Closer used ∷ [])) ∙ (length-append (flat_map items_of (senders inputs sent ++ map taker took)) [] ∙ omega (arith,
-        ap length (flat_map-append items_of (senders inputs sent) (map taker took)), length-append (flat_map items_of (senders inputs sent)) (flat_map items_of (map taker took)), ap length (takers_items took), senders_items 0 inputs sent e.senders_are))
+        ap length (flat_map-append items_of (senders inputs sent ++ map taker took) (Closer used ∷ [])) ∙ (length-append (flat_map items_of (senders inputs sent ++ map taker took)) [] ∙ omega (
+          arith,
+          ap length (flat_map-append items_of (senders inputs sent) (map taker took)),
+          length-append (flat_map items_of (senders inputs sent)) (flat_map items_of (map taker took)),
+          ap length (takers_items took),
+          senders_items 0 inputs sent e.senders_are,
+        ))
 
     -- it was a run as the promises want it
     pub ran : Ran sender_of c orders r.seen (workers inputs sent took used) used

@@ -21,7 +21,7 @@ mod passes;
 mod pool;
 mod producer;
 mod rooms;
-mod run;
+mod running;
 mod sizes;
 #[cfg(test)]
 mod tests;
@@ -31,3 +31,4 @@ pub use faults::RelayFault;
 pub use gates::{FreeGate, Gate};
 pub use messages::{Message, numbered};
 pub use outcome::{Plan, Relayed, Taken};
+pub use running::run;
