@@ -1,4 +1,4 @@
-use Rattle.std.proofs.Common.{◌≡◌, List, [], ◌∷◌, string_bytes, refl, ap, subst, ◌∙◌}
+use Rattle.std.proofs.Common.{◌≡◌, List, [], ◌∷◌, string_bytes, length, refl, ap, subst, ◌∙◌, arith}
 use Rattle.std.specs.List.{AllByRecursion}
 use Rattle.std.specs.Prelude.{IsTrue}
 use Rattle.bounded_model.specs.declared.history.Order.TheVariants.{Lifo}
@@ -7,6 +7,10 @@ use Rattle.script.specs.declared.line.Line.TheVariants.{By, Finish}
 use Rattle.script.specs.Script.{FinishesLast, IsLine, is_allowed}
 use Rattle.player.proofs.Telling.{Told, Told-more, Told-end}
 use Rattle.player.proofs.play.play_stack.Goals as goal
+
+empty : (lines : List Line) → length lines ≡ 0 → lines ≡ []
+empty [] e = refl
+empty (line ∷ lines) e = absurd (omega arith)
 
 pub loop-line-preserved : goal.loop-line-preserved
 loop-line-preserved g c =
@@ -38,5 +42,5 @@ pub returns : goal.returns
 returns g c =
     let whole = c.args.script.lines.items in
     let written = string_bytes c.loop-line.output in
-    let none : c.loop-line.lines.items ≡ [] = c.in_default.ensures.cases.0 in
+    let none : c.loop-line.lines.items ≡ [] = empty c.loop-line.lines.items (omega (arith, c.in_default.ensures.cases.0)) in
     Told-end whole written (subst (λ (ls : List Line). Told whole ls written) none c.loop-line.invariant.told)
