@@ -2,8 +2,9 @@
 //! each line after the first to standard output.
 //!
 //! What is accepted is exactly a text of the grammar (`specs/Script.antt`), a refused text's fault
-//! is its first bad line or its missing last newline, and what is written is exactly the bounded
-//! machine's replies, after the script was read and checked whole (`replay`). Where a text or a
+//! is its first bad line or its missing last newline, and what is written is a reply to each line,
+//! after the script was read and checked whole (`replay`): for a queue exactly those of the bounded
+//! machine, for a stack what the calls of a real stack answer. Where a text or a
 //! memory fault comes, nothing is written. The status and the line on standard error follow from
 //! the fault (`Failure`).
 #![tactic(auto)]
@@ -25,11 +26,12 @@ use crate::failure::Failure;
 use crate::replay::replay;
 use std::process::ExitCode;
 use std::rt::Env;
+use std::sync::Wait;
 use std::{env, io};
 
 /// Does what the command line says. Without words that is a replay from standard input to standard
 /// output; no word is understood yet.
-fn run<T: Env + Input + Print + AllocGlobal>(rt: &T) -> Result<(), Failure> {
+fn run<T: Env + Input + Print + AllocGlobal + Wait>(rt: &T) -> Result<(), Failure> {
     let mut words = env::args(rt).map_err(|_| Failure::CommandLine)?;
     if words.nth(1).is_some() {
         return Err(Failure::CommandLine);
