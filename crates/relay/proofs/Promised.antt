@@ -23,28 +23,12 @@ use Rattle.relay.specs.declared.outcome.Relayed.{Relayed}
 use Rattle.relay.specs.declared.orders.Orders.{Orders}
 use Rattle.relay.specs.declared.parts.Sent.{Sent}
 use Rattle.relay.specs.declared.parts.Took.{Took}
-use Rattle.relay.specs.Promises.{Lists, total, list_of, sent_by, messages_of, taken_by, ended_up, IsAmple, LosesNothing, KeepsOrder, SendsAll, SendsFirst, LeavesNothing, NumbersRise, NumbersCount, NamesConsumers, TakesNoMore, FirstTakesNoMore, TakesShares, FirstTakesShare}
+use Rattle.relay.specs.Promises.{Lists, total, list_of, sent_by, messages_of, taken_by, ended_up, IsAmple, Relays, LosesNothing, KeepsOrder, SendsAll, SendsFirst, LeavesNothing, NumbersRise, NumbersCount, NamesConsumers, TakesNoMore, FirstTakesNoMore, TakesShares, FirstTakesShare}
 use Rattle.relay.specs.Workers.{Worker, Producer, Closer, Did, Ran, items_of, taken_of, moves_of, Accounts, InOrder, AllSent, TookK, AtMost, AtMostFirst, FirstTook, FirstPut, HasConsumer}
 use Rattle.relay.specs.Worked.{EachSent}
 use Rattle.relay.proofs.Relaying.{EachFrom-at, all_taken, few_left, few_takes, nothing_of, delivered_is, numbers_rise, numbers_count, in_order, accounts, all_sent, first_put, each_took, first_took, none_left, at_most, at_most_first}
 use Rattle.relay.proofs.Accounts.{sender_of, senders, taker, workers, senders_long, workers_long, Ends, ran, all_items, EachFrom_append, EachFrom_front, EachFrom_back}
 use Rattle.relay.proofs.Delivering.{moves_messages, rises_from, counts_from, each_theirs, all_below, count_at, lists_items, Every_permutation}
-
--- all promises
-pub record Relays (c : Shape) (plan : Plan) (inputs : Lists) (r : Relayed) : Type 0 where
-  pub lists : length r.unsent.items ≡ length inputs
-  pub all_there : LosesNothing inputs r
-  pub in_order : KeepsOrder c inputs r
-  pub all_sent : SendsAll c plan inputs r
-  pub first_sent : SendsFirst c plan inputs r
-  pub none_left : LeavesNothing c plan inputs r
-  pub rising : NumbersRise r
-  pub counting : NumbersCount c r
-  pub consumers : NamesConsumers plan r
-  pub no_more : TakesNoMore plan r
-  pub first_no_more : FirstTakesNoMore plan r
-  pub shares : TakesShares c plan inputs r
-  pub first_share : FirstTakesShare c plan inputs r
 
 -- Lists
 

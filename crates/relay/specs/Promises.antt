@@ -93,6 +93,22 @@ FirstTakesShare c plan inputs r =
     IsAmple c inputs → (r.left.items ≡ [] → ⊥) → (m : ℕ) → plan.shut_after ≡ Some m
     → (taken_by 0 r.delivered.items ≡ m) ⊎ ((plan.take ≡ Some (taken_by 0 r.delivered.items)) × (taken_by 0 r.delivered.items < m))
 
+-- all of them at once
+pub record Relays (c : Shape) (plan : Plan) (inputs : Lists) (r : Relayed) : Type 0 where
+  pub lists : length r.unsent.items ≡ length inputs
+  pub all_there : LosesNothing inputs r
+  pub in_order : KeepsOrder c inputs r
+  pub all_sent : SendsAll c plan inputs r
+  pub first_sent : SendsFirst c plan inputs r
+  pub none_left : LeavesNothing c plan inputs r
+  pub rising : NumbersRise r
+  pub counting : NumbersCount c r
+  pub consumers : NamesConsumers plan r
+  pub no_more : TakesNoMore plan r
+  pub first_no_more : FirstTakesNoMore plan r
+  pub shares : TakesShares c plan inputs r
+  pub first_share : FirstTakesShare c plan inputs r
+
 -- Faults
 
 -- a limit is set, and so many taken and a full container are fewer than there are messages

@@ -8,7 +8,7 @@ ghost use Rattle.relay.specs.Rooms.{IsWorkRoom};
 ghost use Rattle.relay.specs.Passes.{gave};
 ghost use Rattle.relay.specs.Parts.{DidSend, DidTake, DidClose, MayUse};
 ghost use Rattle.relay.specs.Worked.{SentAs, TookAs, ClosedAs, EachSent};
-ghost use Rattle.relay.specs.Promises.{total, IsTooSmall, LosesNothing, KeepsOrder, SendsAll, SendsFirst, LeavesNothing, NumbersRise, NumbersCount, NamesConsumers, TakesNoMore, FirstTakesNoMore, TakesShares, FirstTakesShare};
+ghost use Rattle.relay.specs.Promises.{total, IsTooSmall, Relays, LosesNothing, KeepsOrder, SendsAll, SendsFirst, LeavesNothing, NumbersRise, NumbersCount, NamesConsumers, TakesNoMore, FirstTakesNoMore, TakesShares, FirstTakesShare};
 ghost use Rattle.relay.specs.declared.faults.RelayFault.TheVariants.{TooSmall, NoPass};
 
 use crate::merge::{drain, merge};
@@ -107,6 +107,7 @@ pub fn run<C: Container<Message> + Sync, G: Gate + Sync, R: Threads + Wait + Syn
     ensures first_no_more { IfOk result (FirstTakesNoMore plan) }
     ensures shares { IfOk result (TakesShares (C.shape container) plan inputs.items) }
     ensures first_share { IfOk result (FirstTakesShare (C.shape container) plan inputs.items) }
+    ensures all { IfOk result (Relays (C.shape container) plan inputs.items) }
     ensures too_small { (result ≡ Err TooSmall) ↔ IsTooSmall plan (C.shape container).capacity (total inputs.items) }
     ensures no_pass { result ≡ Err NoPass → 65535 ≤ length inputs.items + plan.consumers }
 {

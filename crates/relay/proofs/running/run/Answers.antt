@@ -1,10 +1,10 @@
 -- Each answer has the same step first: what the workers did, and the joins, make a run of the relay.
 use Rattle.std.proofs.Common.{arith, refl, sym, ◌∙◌, ap, length}
 use Rattle.bounded_model.proofs.Joining.{left_is}
-use Rattle.relay.specs.Promises.{total}
+use Rattle.relay.specs.Promises.{total, Relays}
 use Rattle.relay.proofs.Accounts.{ends_from, none_out, sent_long}
 use Rattle.relay.proofs.Ended.{sent_passes, took_passes, fits_within}
-use Rattle.relay.proofs.Promised.{few_taken, few_there, lists_of, Relays, relays}
+use Rattle.relay.proofs.Promised.{few_taken, few_there, lists_of, relays}
 use Rattle.relay.proofs.running.run.Given as given
 use Rattle.relay.proofs.running.run.Goals as goal
 
@@ -99,3 +99,6 @@ returns-clause-shares g c = (all g c).shares
 
 pub returns-clause-first_share : goal.returns-clause-first_share
 returns-clause-first_share g c = (all g c).first_share
+
+pub returns-clause-all : goal.returns-clause-all
+returns-clause-all g c = all g c
