@@ -5,6 +5,7 @@ pub mod Heads
 pub mod Laws
 pub mod Numbers
 pub mod Outcomes
+pub mod Readers
 pub mod Scripts
 pub mod Splitting
 pub mod Words

@@ -1,10 +1,13 @@
 //! Why the program failed, and how it says so.
 
-ghost use Rattle.std.specs.Prelude.{◌≡◌, ◌↔◌};
-ghost use Rattle.lockfree_tool.specs.declared.failure.Failure.TheVariants.{CommandLine, Output as OutputFailed, Script};
+ghost use Rattle.std.specs.Prelude.{◌≡◌, ◌↔◌, ℕ};
+ghost use Rattle.audit.specs.declared.faults.ReadFault.{ReadFault};
+ghost use Rattle.lockfree_tool.specs.declared.failure.Failure.TheVariants.{CommandLine, File as FileFailed, FileUnopened, Output as OutputFailed, Script, ScriptUnopened};
 ghost use Rattle.lockfree_tool.specs.declared.fault.ReplayFault.{ReplayFault};
 
 use crate::fault::ReplayFault;
+use crate::tool_fault::ToolFault;
+use audit::ReadFault;
 use thiserror::Error;
 
 /// Why the program failed. The message is what the program prints behind its name.
@@ -13,10 +16,19 @@ pub enum Failure {
     /// The words of the command line are not understood.
     #[error("bad command line")]
     CommandLine,
+    /// The script's file could not be opened.
+    #[error("script: cannot be opened")]
+    ScriptUnopened,
     /// The script was not replayed.
     #[error("script: {0}")]
     Script(ReplayFault),
-    /// The replies could not be written.
+    /// The file of this number, from 1, could not be opened.
+    #[error("file {0}: cannot be opened")]
+    FileUnopened(u64),
+    /// The file of this number, from 1, was not read.
+    #[error("file {0}: {1}")]
+    File(u64, ReadFault),
+    /// The replies or the outcome could not be written.
     #[error("output: write failed")]
     Output,
 }
@@ -25,12 +37,18 @@ impl Failure {
     /// The status that the program ends with.
     pub fn status(self) -> u8
         ensures command_line { self ≡ CommandLine → result ≡ 2 }
+        ensures script_unopened { self ≡ ScriptUnopened → result ≡ 3 }
         ensures script { (fault : ReplayFault) → self ≡ Script fault → result ≡ 3 }
+        ensures file_unopened { (number : ℕ) → self ≡ FileUnopened number → result ≡ 3 }
+        ensures file { (number : ℕ) (fault : ReadFault) → self ≡ FileFailed number fault → result ≡ 3 }
         ensures output { self ≡ OutputFailed → result ≡ 5 }
     {
         match self {
             Failure::CommandLine => 2,
+            Failure::ScriptUnopened => 3,
             Failure::Script(_) => 3,
+            Failure::FileUnopened(_) => 3,
+            Failure::File(_, _) => 3,
             Failure::Output => 5,
         }
     }
@@ -46,6 +64,20 @@ impl From<ReplayFault> for Failure {
         match fault {
             ReplayFault::Output => Failure::Output,
             fault => Failure::Script(fault),
+        }
+    }
+}
+
+impl From<ToolFault> for Failure {
+    ghost use Rattle.std.specs.Prelude.{◌≡◌};
+    ghost use Rattle.lockfree_tool.specs.Failure.{relay_failure_of};
+
+    ghost from_gives = { λ fault failure. failure ≡ relay_failure_of fault };
+
+    fn from(fault: ToolFault) -> Failure {
+        match fault {
+            ToolFault::File(number, fault) => Failure::File(number, fault),
+            ToolFault::Output => Failure::Output,
         }
     }
 }

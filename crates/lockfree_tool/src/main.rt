@@ -18,8 +18,10 @@ mod fault;
 mod grammar;
 mod header;
 mod input;
+mod inputs;
 mod lines;
 mod number;
+mod outcome;
 mod output;
 mod parse;
 mod replay;
@@ -27,6 +29,7 @@ mod reply;
 mod script;
 #[cfg(test)]
 mod tests;
+mod tool_fault;
 
 use crate::failure::Failure;
 use crate::replay::replay;

@@ -1,0 +1,9 @@
+-- What is written for a relay.
+use Rattle.std.specs.Prelude.{ℕ, Bool, true, false, List, ◌++◌}
+use Rattle.relay.specs.declared.outcome.Relayed.{Relayed}
+use Rattle.audit.specs.Texts.{audit_text, list_text}
+
+-- the audit, and then the list where it is wanted
+abbrev pub outcome_text : Bool → Relayed → List ℕ
+outcome_text true relayed = audit_text relayed ++ list_text relayed
+outcome_text false relayed = audit_text relayed

@@ -1,0 +1,27 @@
+//! Why files were not relayed.
+
+ghost use Rattle.std.specs.Prelude.{◌≡◌};
+ghost use Rattle.lockfree_tool.specs.declared.tool_fault.ToolFault.TheVariants.{Output};
+
+use audit::{AuditFault, ReadFault};
+use thiserror::Error;
+
+/// Why files were not relayed, or the outcome not written. The message is what the program prints
+/// behind its name.
+#[derive(Clone, Copy, Debug, PartialEq, Eq, Error)]
+pub enum ToolFault {
+    /// The file of this number, from 1, was not read.
+    #[error("file {0}: {1}")]
+    File(u64, ReadFault),
+    /// A write failed.
+    #[error("output: write failed")]
+    Output,
+}
+
+impl From<AuditFault> for ToolFault {
+    ghost from_gives = { λ _ fault. fault ≡ Output };
+
+    fn from(_: AuditFault) -> ToolFault {
+        ToolFault::Output
+    }
+}
