@@ -1,6 +1,7 @@
 pub mod Answering
 pub mod Ascii
 pub mod Cuts
+pub mod Fronts
 pub mod Heads
 pub mod Laws
 pub mod Numbers

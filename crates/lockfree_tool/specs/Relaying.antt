@@ -1,5 +1,6 @@
 -- What is written for a relay.
-use Rattle.std.specs.Prelude.{ℕ, Bool, true, false, List, ◌++◌}
+use Rattle.std.specs.Prelude.{◌≡◌, ℕ, Bool, true, false, List, ◌++◌, Option}
+use Rattle.std.specs.Io.KnownBytes.{Appends}
 use Rattle.relay.specs.declared.outcome.Relayed.{Relayed}
 use Rattle.audit.specs.Texts.{audit_text, list_text}
 
@@ -7,3 +8,10 @@ use Rattle.audit.specs.Texts.{audit_text, list_text}
 abbrev pub outcome_text : Bool → Relayed → List ℕ
 outcome_text true relayed = audit_text relayed ++ list_text relayed
 outcome_text false relayed = audit_text relayed
+
+-- known bytes grow by a front of this text
+pub record GrowsByFront (text : List ℕ) (old new : Option (List ℕ)) : Type 0 where
+  pub front : List ℕ
+  pub rest : List ℕ
+  pub whole : text ≡ front ++ rest
+  pub bytes : Appends old new front

@@ -3,8 +3,7 @@
 ghost use Rattle.std.specs.Prelude.{◌≡◌, OnOk, IfErr};
 ghost use Rattle.std.specs.Io.KnownBytes.{Appends};
 ghost use Rattle.lockfree_tool.specs.declared.tool_fault.ToolFault.TheVariants.{Output};
-ghost use Rattle.lockfree_tool.specs.Outcome.{AppendsFront};
-ghost use Rattle.lockfree_tool.specs.Relaying.{outcome_text};
+ghost use Rattle.lockfree_tool.specs.Relaying.{GrowsByFront, outcome_text};
 
 use crate::tool_fault::ToolFault;
 use audit::{write_audit, write_list};
@@ -21,7 +20,7 @@ pub fn write_outcome<W: Write>(
 ) -> Result<(), ToolFault>
     ensures all { OnOk result (Appends (W.contents writer.old) (W.contents writer.new) (outcome_text list relayed.now)) }
     ensures fault { IfErr result (λ fault. fault ≡ Output) }
-    ensures front { AppendsFront (W.contents writer.old) (W.contents writer.new) (outcome_text list relayed.now) }
+    ensures front { GrowsByFront (outcome_text list relayed.now) (W.contents writer.old) (W.contents writer.new) }
 {
     write_audit(relayed, writer)?;
     if list {
