@@ -1,13 +1,5 @@
 pub mod Answering
-pub mod Ascii
-pub mod Cuts
 pub mod Fronts
-pub mod Heads
-pub mod Laws
-pub mod Numbers
 pub mod Outcomes
 pub mod Readers
-pub mod Scripts
-pub mod Splitting
-pub mod Words
 pub mod Writing

@@ -1,10 +1,18 @@
 -- How the program fails after a fault of a replay or of a relay.
+use Rattle.script.specs.declared.fault.ScriptFault.{ScriptFault}
+use Rattle.script.specs.declared.fault.ScriptFault.TheVariants as script
 use Rattle.lockfree_tool.specs.declared.failure.Failure.{Failure}
 use Rattle.lockfree_tool.specs.declared.failure.Failure.TheVariants.{File as FileFailed, Script, Output as OutputFailed}
 use Rattle.lockfree_tool.specs.declared.fault.ReplayFault.{ReplayFault}
 use Rattle.lockfree_tool.specs.declared.fault.ReplayFault.TheVariants.{NoMemory, Device, NoFinalNewline, TooLong, BadLine, Output}
 use Rattle.lockfree_tool.specs.declared.tool_fault.ToolFault.{ToolFault}
 use Rattle.lockfree_tool.specs.declared.tool_fault.ToolFault.TheVariants as tool
+
+-- the fault of a replay whose text has this fault
+abbrev pub replay_fault_of : ScriptFault → ReplayFault
+replay_fault_of script.NoMemory = NoMemory
+replay_fault_of script.NoFinalNewline = NoFinalNewline
+replay_fault_of (script.BadLine number) = BadLine number
 
 abbrev pub failure_of : ReplayFault → Failure
 failure_of Output = OutputFailed

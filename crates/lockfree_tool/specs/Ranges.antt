@@ -1,9 +1,9 @@
 -- The ranges of what the words ask for.
 use Rattle.std.specs.Prelude.{◌≡◌, ℕ, ◌≤◌, Option, IfSome, length}
 use Rattle.lockfree_tool.specs.declared.command_line.TheConstants.{MAX_CAPACITY, MAX_CONSUMERS, MAX_COUNT, MAX_FILES}
-use Rattle.lockfree_tool.specs.declared.arguments.Chosen.{Chosen}
-use Rattle.lockfree_tool.specs.declared.arguments.Chosen.TheVariants.{Replay, Relay}
-use Rattle.lockfree_tool.specs.declared.arguments.RelayArgs.{RelayArgs}
+use Rattle.lockfree_tool.specs.declared.words.Chosen.{Chosen}
+use Rattle.lockfree_tool.specs.declared.words.Chosen.TheVariants.{Replay, Relay}
+use Rattle.lockfree_tool.specs.declared.words.RelayArgs.{RelayArgs}
 
 -- how a relay is run: each value lies in its range
 pub record IsInRange (args : RelayArgs) : Type 0 where

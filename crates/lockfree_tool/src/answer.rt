@@ -3,14 +3,14 @@
 ghost use Rattle.std.specs.Prelude.{◌≡◌, ◌++◌, ◌∷◌, [], IfOk, IfErr, OnOk, filter_map, map, string_bytes};
 ghost use Rattle.std.specs.List.{list_any};
 ghost use Rattle.lockfree_tool.specs.declared.fault.ReplayFault.TheVariants.{NoMemory};
-ghost use Rattle.lockfree_tool.specs.Replies.{command_in, is_finish, output_of, reply_text, end_text};
-ghost use Rattle.lockfree_tool.specs.Script.{FinishesLast, text_of};
-ghost use Rattle.lockfree_tool.specs.View.{head_view};
+ghost use Rattle.lockfree_tool.specs.Replies.{command_in, is_finish, output_of, end_text};
+ghost use Rattle.script.specs.ReplyTexts.{reply_text};
+ghost use Rattle.script.specs.Script.{FinishesLast, text_of};
+ghost use Rattle.script.specs.View.{head_view};
 
 use crate::fault::ReplayFault;
-use crate::reply::ReplyText;
-use crate::script::{Line, Script, Value};
 use bounded_model::{Command, PlainList, Reply};
+use script::{Act, Line, ReplyText, Script, Value};
 use std::alloc::{AllocError, Global};
 use std::collections::VecDeque;
 use std::fmt::Write;
@@ -29,7 +29,8 @@ fn calls_of(
     let mut is_finished = false;
     while let Some(line) = lines.pop_front() {
         match line {
-            Line::Call(_, command) => calls.push(command)?,
+            Line::By(_, Act::Call(command)) => calls.push(command)?,
+            Line::By(..) => {}
             Line::Finish => is_finished = true,
         }
     }

@@ -9,44 +9,24 @@
 #![tactic(auto)]
 
 mod answer;
-mod arguments;
-#[cfg(test)]
-mod arguments_tests;
 mod command_line;
 mod failure;
 mod fault;
-mod grammar;
-mod header;
 mod input;
 mod inputs;
-mod lines;
-mod number;
 mod outcome;
 mod output;
-mod parse;
+mod program;
 mod replay;
-mod reply;
-mod script;
 #[cfg(test)]
 mod tests;
 mod tool_fault;
+mod words;
+#[cfg(test)]
+mod words_tests;
 
-use crate::failure::Failure;
-use crate::replay::replay;
+use crate::program::run;
 use std::process::ExitCode;
-use std::rt::Env;
-use std::{env, io};
-
-/// Does what the command line says. Without words that is a replay from standard input to standard
-/// output; no word is understood yet.
-fn run<T: Env + Input + Print + AllocGlobal>(rt: &T) -> Result<(), Failure> {
-    let mut words = env::args(rt).map_err(|_| Failure::CommandLine)?;
-    if words.nth(1).is_some() {
-        return Err(Failure::CommandLine);
-    }
-    replay(rt, rt.alloc(), &mut rt.reader(), &mut io::writer(rt))?;
-    Ok(())
-}
 
 fn main(rt: HostRuntime) -> ExitCode {
     match run(&rt) {

@@ -3,16 +3,17 @@
 ghost use Rattle.std.specs.Prelude.{◌≡◌, ◌≢◌, ◌≤◌, length, IfErr, IfOk, OnOk, IfSome, List, ℕ, string_bytes};
 ghost use Rattle.std.specs.Io.KnownBytes.{Appends};
 ghost use Rattle.lockfree_tool.specs.declared.fault.ReplayFault.TheVariants.{Output};
-ghost use Rattle.lockfree_tool.specs.declared.script.Line.{Line};
-ghost use Rattle.lockfree_tool.specs.Outcome.{AppendsFront, IsAccepted, IsFaultOf, IsOutputFor, IsOutside};
+ghost use Rattle.script.specs.declared.line.Line.{Line};
+ghost use Rattle.lockfree_tool.specs.Outcome.{AppendsFront, IsFaultOf, IsOutputFor, IsOutside};
+ghost use Rattle.script.specs.Faults.{IsAccepted};
 ghost use Rattle.lockfree_tool.specs.Replies.{output_of};
-ghost use Rattle.lockfree_tool.specs.Script.{Head, IsScript};
+ghost use Rattle.script.specs.Script.{Head, IsScript};
 
 use crate::answer::answer;
 use crate::fault::ReplayFault;
-use crate::input::{MAX_SCRIPT_LEN, read_text};
+use crate::input::read_text;
 use crate::output::write_all;
-use crate::parse::parse;
+use script::{MAX_SCRIPT_LEN, parse};
 use std::alloc::Global;
 use std::io::{Read, Write};
 

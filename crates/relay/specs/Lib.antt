@@ -1,4 +1,4 @@
 pub mod Messages
 pub mod KeepsMessages
 pub mod Workers
-pub mod Jobs
+pub mod Parts

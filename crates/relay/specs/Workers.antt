@@ -1,5 +1,5 @@
 -- What each worker of a relay did, by its own events, and what follows of its messages.
-use Rattle.std.specs.Prelude.{◌≡◌, ℕ, ◌<◌, ◌≤◌, ◌==◌, Bool, false, List, [], ◌∷◌, ◌++◌, length, filter, drop, map, flat_map, IsPermutation, ◌⊎◌, Some}
+use Rattle.std.specs.Prelude.{◌≡◌, ℕ, ◌+◌, ◌<◌, ◌≤◌, ◌==◌, Bool, false, List, [], ◌∷◌, ◌++◌, length, filter, drop, map, flat_map, IsPermutation, ◌⊎◌, Some}
 use Rattle.std.specs.List.{AllByRecursion as Every}
 use Rattle.bounded_model.specs.declared.history.Event.{Event}
 use Rattle.bounded_model.specs.declared.views.PassView.{PassView}
@@ -82,9 +82,9 @@ Did sender c plan h a w = DidIn sender c plan h a (own a h) w
 abbrev pub DidBy : {T : Type 0} → (T → ℕ) → Shape → Orders → PassView T → Worker T → Type 0
 DidBy sender c plan v w = DidIn sender c plan v.seen v.number (own v.number v.seen) w
 
--- what a consumer's list says
+-- what consumers' lists say; the consumers' passes follow the producers'
 abbrev pub moves_of : ℕ → List Taken → List (Moved Message)
-moves_of by taken = map (λ t. record { value = t.message; number = t.number; by = by }) taken
+moves_of producers taken = map (λ t. record { value = t.message; number = t.number; by = producers + t.consumer }) taken
 
 abbrev pub items_of : {T : Type 0} → Worker T → List T
 items_of (Producer items unsent end) = items

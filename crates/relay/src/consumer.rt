@@ -30,7 +30,7 @@ pub(crate) fn consume<C: Pool, G: Gate, W: Wait>(
     requires empty { room.items ≡ [] }
     ensures of { C.is_pass container.now result.0 }
     ensures number { (C.pass result.0).number ≡ orders.now.producers + consumer }
-    ensures did { DidBy (λ m. m.sender) (C.shape container.now) orders.now (C.pass result.0) (Consumer (moves_of (orders.now.producers + consumer) result.1.items) result.2) }
+    ensures did { DidBy (λ m. m.sender) (C.shape container.now) orders.now (C.pass result.0) (Consumer (moves_of orders.now.producers result.1.items) result.2) }
 {
     let who = orders.producers + u64::from(consumer);
     let last = told_first(orders.shut_after, u64::from(consumer));

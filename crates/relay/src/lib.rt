@@ -11,10 +11,10 @@
 mod consumer;
 mod ends;
 mod gates;
-mod jobs;
 mod messages;
 mod orders;
 mod outcome;
+mod parts;
 mod pool;
 mod producer;
 #[cfg(test)]

@@ -21,8 +21,7 @@ use Rattle.step_core.specs.Seats.{pass_of}
 use Rattle.treiber_stack.specs.declared.operation.Operation.{Operation}
 use Rattle.treiber_stack.specs.Host.{first_line, Did}
 use Rattle.treiber_stack.specs.KeepsMarks.{is_same, not_same}
-use Rattle.treiber_stack.specs.Operations.{Going, Ended, IsAt, IsSame, Told, begun_in}
-use Rattle.treiber_stack.specs.Closing.{GoesOn}
+use Rattle.treiber_stack.specs.Operations.{Going, IsLine, Goes, Ends, IsAt, IsSame, Told, GoesOn, begun_in}
 use Rattle.treiber_stack.specs.Stack.{IsPassOf}
 use Rattle.treiber_stack.specs.declared.stack.Stack.{Stack}
 use Rattle.treiber_stack.specs.declared.stack.Pass.{Pass}
@@ -32,10 +31,10 @@ module _ {T : Type 0} {n limit : ℕ} {o : Operation T} {v v' : View T (Line T)}
   Z1_leads : (w : ℕ) (g : Going n limit o v begun Z1) (d : Did n limit o 1 read_top w [] v v') → d.out.line ≡ at_Z1 (fields_of w)
   Z1_leads w g d = ap (λ (x : Outcome T). x.line) (out_at g d) ∙ ap (λ (x : Tagged). at_Z1 x) (sym d.finds)
 
-  pub Z1_ends : (w : ℕ) → Going n limit o v begun Z1 → Did n limit o 1 read_top w [] v v' → mark_of w ≡ true → Ended n limit v' begun (AnswerClose false)
+  pub Z1_ends : (w : ℕ) → Going n limit o v begun Z1 → Did n limit o 1 read_top w [] v v' → mark_of w ≡ true → Ends n limit v v' begun Z1 (AnswerClose false)
   Z1_ends w g d e = ends_so g d (AnswerClose false) (Z1_leads w g d ∙ ap (λ (b : Bool). cond b (ends (AnswerClose false)) (Z2 (fields_of w))) e)
 
-  pub Z1_goes : (w : ℕ) → Going n limit o v begun Z1 → Did n limit o 1 read_top w [] v v' → mark_of w ≡ false → Going n limit o v' begun (Z2 (fields_of w))
+  pub Z1_goes : (w : ℕ) → Going n limit o v begun Z1 → Did n limit o 1 read_top w [] v v' → mark_of w ≡ false → Goes n limit o v v' begun Z1 (Z2 (fields_of w))
   Z1_goes w g d e = goes_on g d o (Z2 (fields_of w)) (Z1_leads w g d ∙ ap (λ (b : Bool). cond b (ends (AnswerClose false)) (Z2 (fields_of w))) e) refl
 
   Z2_leads : (w found : ℕ) (g : Going n limit o v begun (Z2 (fields_of w))) (d : Did n limit o 1 (mark w) found [] v v') (b : Bool) → same d.memory.top (fields_of w) ≡ b → d.out.line ≡ cond b (ends (AnswerClose true)) Z1
@@ -47,19 +46,19 @@ module _ {T : Type 0} {n limit : ℕ} {o : Operation T} {v v' : View T (Line T)}
       by_cases true = refl
       by_cases false = refl
 
-  pub Z2_ends : (w : ℕ) → Going n limit o v begun (Z2 (fields_of w)) → Did n limit o 1 (mark w) w [] v v' → Ended n limit v' begun (AnswerClose true)
+  pub Z2_ends : (w : ℕ) → Going n limit o v begun (Z2 (fields_of w)) → Did n limit o 1 (mark w) w [] v v' → Ends n limit v v' begun (Z2 (fields_of w)) (AnswerClose true)
   Z2_ends w g d = ends_so g d (AnswerClose true) (Z2_leads w w g d true (is_same d.memory.top (fields_of w) (sym d.finds)))
 
-  pub Z2_goes : (w found : ℕ) → found ≢ w → Going n limit o v begun (Z2 (fields_of w)) → Did n limit o 1 (mark w) found [] v v' → Going n limit o v' begun Z1
+  pub Z2_goes : (w found : ℕ) → found ≢ w → Going n limit o v begun (Z2 (fields_of w)) → Did n limit o 1 (mark w) found [] v v' → Goes n limit o v v' begun (Z2 (fields_of w)) Z1
   Z2_goes w found ne g d = goes_on g d o Z1 (Z2_leads w found g d false (not_same d.memory.top (fields_of w) (λ e. ne ((same_fields found w).1 (d.finds ∙ e))))) refl
 
   Y1_leads : (w : ℕ) (g : Going n limit o v begun Y1) (d : Did n limit o 1 read_top w [] v v') → d.out.line ≡ at_Y1 (fields_of w)
   Y1_leads w g d = ap (λ (x : Outcome T). x.line) (out_at g d) ∙ ap (λ (x : Tagged). at_Y1 x) (sym d.finds)
 
-  pub Y1_ends : (w : ℕ) → Going n limit o v begun Y1 → Did n limit o 1 read_top w [] v v' → second_of w ≡ true → Ended n limit v' begun (AnswerShut false)
+  pub Y1_ends : (w : ℕ) → Going n limit o v begun Y1 → Did n limit o 1 read_top w [] v v' → second_of w ≡ true → Ends n limit v v' begun Y1 (AnswerShut false)
   Y1_ends w g d e = ends_so g d (AnswerShut false) (Y1_leads w g d ∙ ap (λ (b : Bool). cond b (ends (AnswerShut false)) (Y2 (fields_of w))) e)
 
-  pub Y1_goes : (w : ℕ) → Going n limit o v begun Y1 → Did n limit o 1 read_top w [] v v' → second_of w ≡ false → Going n limit o v' begun (Y2 (fields_of w))
+  pub Y1_goes : (w : ℕ) → Going n limit o v begun Y1 → Did n limit o 1 read_top w [] v v' → second_of w ≡ false → Goes n limit o v v' begun Y1 (Y2 (fields_of w))
   Y1_goes w g d e = goes_on g d o (Y2 (fields_of w)) (Y1_leads w g d ∙ ap (λ (b : Bool). cond b (ends (AnswerShut false)) (Y2 (fields_of w))) e) refl
 
   Y2_leads : (w found : ℕ) (g : Going n limit o v begun (Y2 (fields_of w))) (d : Did n limit o 1 (shut w) found [] v v') (b : Bool) → same d.memory.top (fields_of w) ≡ b → d.out.line ≡ cond b (ends (AnswerShut true)) Y1
@@ -71,38 +70,44 @@ module _ {T : Type 0} {n limit : ℕ} {o : Operation T} {v v' : View T (Line T)}
       by_cases true = refl
       by_cases false = refl
 
-  pub Y2_ends : (w : ℕ) → Going n limit o v begun (Y2 (fields_of w)) → Did n limit o 1 (shut w) w [] v v' → Ended n limit v' begun (AnswerShut true)
+  pub Y2_ends : (w : ℕ) → Going n limit o v begun (Y2 (fields_of w)) → Did n limit o 1 (shut w) w [] v v' → Ends n limit v v' begun (Y2 (fields_of w)) (AnswerShut true)
   Y2_ends w g d = ends_so g d (AnswerShut true) (Y2_leads w w g d true (is_same d.memory.top (fields_of w) (sym d.finds)))
 
-  pub Y2_goes : (w found : ℕ) → found ≢ w → Going n limit o v begun (Y2 (fields_of w)) → Did n limit o 1 (shut w) found [] v v' → Going n limit o v' begun Y1
+  pub Y2_goes : (w found : ℕ) → found ≢ w → Going n limit o v begun (Y2 (fields_of w)) → Did n limit o 1 (shut w) found [] v v' → Goes n limit o v v' begun (Y2 (fields_of w)) Y1
   Y2_goes w found ne g d = goes_on g d o Y1 (Y2_leads w found g d false (not_same d.memory.top (fields_of w) (λ e. ne ((same_fields found w).1 (d.finds ∙ e))))) refl
 
-  pub V1_ends : (w : ℕ) (b : Bool) → b ≡ eqb (index_of w) NULL → Going n limit o v begun V1 → Did n limit o 1 read_top w [] v v' → Ended n limit v' begun (AnswerLook b)
+  pub V1_ends : (w : ℕ) (b : Bool) → b ≡ eqb (index_of w) NULL → Going n limit o v begun V1 → Did n limit o 1 read_top w [] v v' → Ends n limit v v' begun V1 (AnswerLook b)
   V1_ends w b is g d = ends_so g d (AnswerLook b) (ap (λ (x : Outcome T). x.line) (out_at g d) ∙ ap (λ (x : Tagged). ends (AnswerLook (eqb x.index NULL))) (sym d.finds) ∙ ap (λ (x : Bool). ends (AnswerLook x)) (sym is))
 
-module _ {T : Type 0} {n limit : ℕ} {v : View T (Line T)} {begun : PassView T} where
-  pub close_gives : (b : Bool) → Ended n limit v begun (AnswerClose b) → CloseGives (shape n limit) begun (pass_of v) b
-  close_gives true e = adds_of e (Close begun.number ∷ []) (e.deeds.made ∙ ap (λ (k : ℕ). Close k ∷ []) e.number)
-  close_gives false e = (adds_of e [] e.deeds.made, e.tells)
+module _ {T : Type 0} {n limit : ℕ} {v v' : View T (Line T)} {begun : PassView T} {l : Line T} where
+  pub close_gives : (b : Bool) → Ends n limit v v' begun l (AnswerClose b) → CloseGives (shape n limit) begun (pass_of v') b × IsLine n limit v v' l (ends (AnswerClose b))
+  close_gives true (e, line) = (adds_of e (Close begun.number ∷ []) (e.deeds.made ∙ ap (λ (k : ℕ). Close k ∷ []) e.number), line)
+  close_gives false (e, line) = ((adds_of e [] e.deeds.made, e.tells), line)
 
-  pub shut_gives : (b : Bool) → Ended n limit v begun (AnswerShut b) → ShutGives (shape n limit) begun (pass_of v) b
-  shut_gives true e = adds_of e (Shut begun.number ∷ []) (e.deeds.made ∙ ap (λ (k : ℕ). Shut k ∷ []) e.number)
-  shut_gives false e = (adds_of e [] e.deeds.made, e.tells)
+  pub shut_gives : (b : Bool) → Ends n limit v v' begun l (AnswerShut b) → ShutGives (shape n limit) begun (pass_of v') b × IsLine n limit v v' l (ends (AnswerShut b))
+  shut_gives true (e, line) = (adds_of e (Shut begun.number ∷ []) (e.deeds.made ∙ ap (λ (k : ℕ). Shut k ∷ []) e.number), line)
+  shut_gives false (e, line) = ((adds_of e [] e.deeds.made, e.tells), line)
 
-  pub look_gives : (b : Bool) → Ended n limit v begun (AnswerLook b) → LookGives (shape n limit) begun (pass_of v) b
-  look_gives b e = (adds_of e [] e.deeds.made, e.tells)
+  pub look_gives : (b : Bool) → Ends n limit v v' begun l (AnswerLook b) → LookGives (shape n limit) begun (pass_of v') b
+  look_gives b (e, line) = (adds_of e [] e.deeds.made, e.tells)
 
 module _ {T : Type 0} (c : Stack T) (o : Operation T) (p : Pass T) (l : Line T) (slots : List (ℕ × Slot T)) (at : IsAt c o p l slots) (q : Pass T) (same_seat : IsSame p q) where
+  abbrev n : ℕ
+  n = capacity_of c.limits
+
+  abbrev limit : ℕ
+  limit = tag_limit_of c.limits
+
   -- an operation has ended
-  pub is_pass : (a : Answer T) → slots ≡ [] → Ended (capacity_of c.limits) (tag_limit_of c.limits) q.seat.me.0 (begun_in p) a → IsPassOf c q
-  is_pass a none_there e = record { table = same_seat.table ∙ at.table; view = e.view; slots = same_seat.slots ∙ at.has ∙ none_there; rests = e.rests }
+  pub is_pass : (a : Answer T) → slots ≡ [] → Ends n limit p.seat.me.0 q.seat.me.0 (begun_in p) l a → IsPassOf c q
+  is_pass a none_there (e, line) = record { table = same_seat.table ∙ at.table; view = e.view; slots = same_seat.slots ∙ at.has ∙ none_there; rests = e.rests }
 
-  -- or goes on
-  pub is_at : (l' : Line T) → Going (capacity_of c.limits) (tag_limit_of c.limits) o q.seat.me.0 (begun_in p) l' → IsAt c o q l' slots
-  is_at l' g = record { table = same_seat.table ∙ at.table; has = same_seat.slots ∙ at.has; going = subst (λ (b : PassView T). Going (capacity_of c.limits) (tag_limit_of c.limits) o q.seat.me.0 b l') (sym (begun_going g)) g }
+  -- or goes on, perhaps under another name
+  pub is_at : (o' : Operation T) (l' : Line T) → Goes n limit o' p.seat.me.0 q.seat.me.0 (begun_in p) l l' → IsAt c o' q l' slots
+  is_at o' l' (g, line) = record { table = same_seat.table ∙ at.table; has = same_seat.slots ∙ at.has; going = subst (λ (b : PassView T). Going n limit o' q.seat.me.0 b l') (sym (begun_going g)) g }
 
-  pub went_on : (l' : Line T) (list : ℕ) (kind : Kind) (found : ℕ) (zs : List (ℕ × Slot T)) → Going (capacity_of c.limits) (tag_limit_of c.limits) o q.seat.me.0 (begun_in p) l' → Told c o list kind found zs p q → GoesOn p q
-  went_on l' list kind found zs g t = record { begun = begun_going g; steps = t.counted }
+  pub went_on : (o' : Operation T) (l' : Line T) (list : ℕ) (kind : Kind) (found : ℕ) (zs : List (ℕ × Slot T)) → Goes n limit o' p.seat.me.0 q.seat.me.0 (begun_in p) l l' → Told c o list kind found zs p q → GoesOn c p q l l'
+  went_on o' l' list kind found zs (g, line) t = record { begun = begun_going g; steps = t.counted; line = line }
 
 module _ {T : Type 0} (c : Stack T) (o : Operation T) (p : Pass T) where
   pub is_started : IsPassOf c p → IsAt c o p (first_line o) []

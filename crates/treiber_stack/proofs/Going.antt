@@ -1,28 +1,29 @@
 -- How an operation goes on by what a step tells.
-use Rattle.std.proofs.Common.{◌≡◌, ℕ, ◌<◌, ◌≤◌, false, List, [], ◌++◌, refl, sym, ap, ◌∙◌, subst, arith}
+use Rattle.std.proofs.Common.{◌≡◌, ℕ, ◌<◌, ◌≤◌, false, List, [], ◌++◌, refl, sym, ap, ◌∙◌, subst, append_assoc, arith}
 use Rattle.std.proofs.lemmas.Bool.{false≢true}
 use Rattle.std.specs.Prelude.{Option as Slot, Some}
 use Rattle.bounded_model.specs.declared.history.Event.{Event}
 use Rattle.bounded_model.specs.declared.views.PassView.{PassView}
 use Rattle.bounded_model.specs.Histories.{Later, own}
 use Rattle.bounded_model.specs.Laws.{IsAtRest, Adds}
-use Rattle.bounded_model.proofs.Histories.{Later-refl, Later-trans}
+use Rattle.bounded_model.proofs.Histories.{own-between, Later-refl, Later-trans}
 use Rattle.index_list.specs.Steps.{Kind}
 use Rattle.step_core.specs.declared.stack.Answer.{Answer}
 use Rattle.step_core.specs.declared.stack.Line.{Line}
 use Rattle.step_core.specs.declared.stack.Line.TheVariants.{Idle}
 use Rattle.step_core.specs.declared.seats.View.{View}
 use Rattle.step_core.specs.declared.seats.View.TheVariants.{AtPass}
-use Rattle.step_core.specs.StackMachine.{is_idle, step}
+use Rattle.step_core.specs.StackMachine.{Outcome, is_idle, step}
 use Rattle.step_core.specs.StackLaw.{shape}
 use Rattle.step_core.specs.StackRule.{Tells}
 use Rattle.step_core.specs.StackDeeds.{Deeds}
-use Rattle.step_core.specs.Seats.{at_rest, stepped, pass_of, line_of}
+use Rattle.step_core.specs.Seats.{Saw, at_rest, stepped, pass_of, line_of}
+use Rattle.step_core.proofs.StackDoing.{meanwhile}
 use Rattle.treiber_stack.specs.declared.operation.Operation.{Operation}
 use Rattle.treiber_stack.specs.declared.operation.Operation.TheVariants.{Put as PutFirst, Take as TakeFirst, Close as CloseFirst, Shut as ShutFirst, Look as LookFirst}
-use Rattle.treiber_stack.specs.Rule.{idle, holding}
+use Rattle.treiber_stack.specs.Rule.{idle, holding, Meets}
 use Rattle.treiber_stack.specs.Host.{first_line, line_now, begun_now, quiet, view_after, Did}
-use Rattle.treiber_stack.specs.Operations.{Going, Ended, begun_view}
+use Rattle.treiber_stack.specs.Operations.{Going, Ended, IsLine, Goes, Ends, begun_view}
 
 module _ {T : Type 0} where
   busy_now : (o : Operation T) (l : Line T) → is_idle l ≡ false → line_now o (quiet l) ≡ l
@@ -37,7 +38,7 @@ module _ {T : Type 0} where
     same_view : AtPass d.pass d.from d.at ≡ AtPass g.pass g.from g.at
     same_view = sym d.is ∙ g.is
 
-    same_pass : d.pass ≡ g.pass
+    pub same_pass : d.pass ≡ g.pass
     same_pass = ap pass_of same_view
 
     same_at : d.at ≡ g.at
@@ -62,15 +63,30 @@ module _ {T : Type 0} where
     tells_after = d.tells begun.seen (subst (λ (p : PassView T). Later begun.seen p.seen) (sym same_pass) g.seen)
         (subst (λ (k : Line T). Tells n limit begun.seen d.pass.seen k) (sym same_now) (subst (λ (p : PassView T). Tells n limit begun.seen p.seen l) (sym same_pass) g.tells))
 
-    number_after : d.pass.number ≡ begun.number
+    pub number_after : d.pass.number ≡ begun.number
     number_after = ap (λ (p : PassView T). p.number) same_pass ∙ g.number
 
     steps_before : begun.steps ≤ d.pass.steps
     steps_before = subst (λ (p : PassView T). begun.steps ≤ p.steps) (sym same_pass) g.steps
 
-    -- the operation goes on at the line that the core's step leads to
-    pub goes_on : (o' : Operation T) (l' : Line T) → d.out.line ≡ l' → is_idle l' ≡ false → Going n limit o' v' begun l'
-    goes_on o' l' e busy =
+    mine : pass_of v ≡ d.pass
+    mine = ap pass_of d.is
+
+    out_is : d.out ≡ step (shape n limit) d.memory (pass_of v).number l
+    out_is = d.steps ∙ (λ k. step (shape n limit) d.memory (sym mine k).number (same_now k))
+
+    line_so : (l' : Line T) → d.out.line ≡ l' → IsLine n limit v v' l l'
+    line_so l' e = record {
+      memory = d.memory;
+      history = d.history;
+      meets = subst (Meets n limit d.memory d.history (pass_of v).number) same_now (subst (λ (p : PassView T). Meets n limit d.memory d.history p.number (line_now o d.at)) (sym mine) d.meets);
+      saw = subst (λ (p : PassView T). Saw d.history p) (sym mine) d.saw;
+      seen = ap (λ (x : View T (Line T)). (pass_of x).seen) d.becomes ∙ ap (λ (x : Outcome T). x.events ++ d.history) out_is;
+      leads = ap (λ (x : Outcome T). x.line) (sym out_is) ∙ e;
+    }
+
+    goes_so : (o' : Operation T) (l' : Line T) → d.out.line ≡ l' → is_idle l' ≡ false → Going n limit o' v' begun l'
+    goes_so o' l' e busy =
         let q : PassView T = stepped newer d.pass in
         let before = steps_before in
         record {
@@ -87,9 +103,8 @@ module _ {T : Type 0} where
           tells = subst (λ (k : Line T). Tells n limit begun.seen newer k) e tells_after;
         }
 
-    -- or has ended with this answer
-    pub ends_so : (a : Answer T) → d.out.line ≡ Idle (Some a) → Ended n limit v' begun a
-    ends_so a e =
+    answers : (a : Answer T) → d.out.line ≡ Idle (Some a) → Ended n limit v' begun a
+    answers a e =
         let q : PassView T = stepped newer d.pass in
         let before = steps_before in
         let is : v' ≡ at_rest idle q = d.becomes ∙ (λ k. view_after q (same_begun k) (e k)) in
@@ -103,6 +118,33 @@ module _ {T : Type 0} where
           seen = subst (λ (x : PassView T). Later begun.seen x.seen) same later;
           deeds = subst (λ (x : PassView T). Deeds (shape n limit) x.number (Idle (Some a)) begun.seen x.seen) same (subst (λ (k : Line T). Deeds (shape n limit) d.pass.number k begun.seen newer) e deeds_after);
           tells = subst (λ (x : PassView T). Tells n limit begun.seen x.seen (Idle (Some a))) same (subst (λ (k : Line T). Tells n limit begun.seen newer k) e tells_after);
+        }
+
+    -- the operation goes on at the line that the core's step leads to
+    pub goes_on : (o' : Operation T) (l' : Line T) → d.out.line ≡ l' → is_idle l' ≡ false → Goes n limit o' v v' begun l l'
+    goes_on o' l' e busy = (goes_so o' l' e busy, line_so l' e)
+
+    -- or has ended with this answer
+    pub ends_so : (a : Answer T) → d.out.line ≡ Idle (Some a) → Ends n limit v v' begun l a
+    ends_so a e = (answers a e, line_so (Idle (Some a)) e)
+
+    -- what the pass had done by the time of the step
+    pub deeds_then : Deeds (shape n limit) d.pass.number l begun.seen d.history
+    deeds_then = meanwhile (shape n limit) d.pass.number begun.seen d.pass.seen d.history l
+        (record { rest = d.saw.seen.more; is = d.saw.seen.is; none_own = own-between d.pass.number d.saw.seen.more d.pass.seen (sym (ap (own d.pass.number) d.saw.seen.is) ∙ d.saw.own_events) })
+        (subst (λ (p : PassView T). Deeds (shape n limit) p.number l begun.seen p.seen) (sym same_pass) g.deeds)
+
+    -- and all that it has done since its operation was begun
+    pub adds_by : (events : List (Event T)) → own d.pass.number (d.out.events ++ deeds_then.between) ≡ events → Adds begun (pass_of v') events
+    adds_by events made =
+        let before = steps_before in
+        let now : pass_of v' ≡ stepped newer d.pass = ap pass_of d.becomes in
+        record {
+          number = ap (λ (p : PassView T). p.number) now ∙ number_after;
+          steps = subst (λ (p : PassView T). begun.steps < p.steps) (sym now) (omega arith);
+          between = d.out.events ++ deeds_then.between;
+          seen = ap (λ (p : PassView T). p.seen) now ∙ ap (λ (h : List (Event T)). d.out.events ++ h) deeds_then.is ∙ sym (append_assoc d.out.events deeds_then.between begun.seen);
+          own_events = ap (λ (k : ℕ). own k (d.out.events ++ deeds_then.between)) (sym number_after) ∙ made;
         }
 
   -- a pass between its operations may begin any

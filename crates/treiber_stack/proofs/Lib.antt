@@ -7,3 +7,4 @@ pub mod Closes
 pub mod Nodes
 pub mod Givings
 pub mod Takings
+pub mod Puttings

@@ -29,10 +29,9 @@ use Rattle.treiber_stack.specs.Rule.{line_in}
 use Rattle.treiber_stack.specs.KeepsMarks.{is_same, not_same}
 use Rattle.treiber_stack.specs.KeepsStep.{now_held}
 use Rattle.tagged_index.specs.Limits.{capacity_of, tag_limit_of}
-use Rattle.treiber_stack.specs.Closing.{GoesOn}
 use Rattle.treiber_stack.specs.declared.stack.Stack.{Stack}
 use Rattle.treiber_stack.specs.declared.stack.Pass.{Pass}
-use Rattle.treiber_stack.specs.Operations.{Going, Ended, IsAt, begun_in}
+use Rattle.treiber_stack.specs.Operations.{Going, IsLine, Goes, Ends, IsAt, GoesOn, begun_in}
 use Rattle.treiber_stack.proofs.Going.{goes_on, ends_so, out_at, adds_of, begun_going}
 
 is_true : (b : Bool) → (b ≡ false → ⊥) → b ≡ true
@@ -43,10 +42,10 @@ is_false : (b : Bool) → (b ≡ true → ⊥) → b ≡ false
 is_false false h = refl
 is_false true h = absurd (h refl)
 
-leb_yes : (a b : ℕ) → a ≤ b → leb a b ≡ true
+pub leb_yes : (a b : ℕ) → a ≤ b → leb a b ≡ true
 leb_yes a b h = is_true (leb a b) (λ e. grind (arith, nat_tests))
 
-leb_not : (a b : ℕ) → b < a → leb a b ≡ false
+pub leb_not : (a b : ℕ) → b < a → leb a b ≡ false
 leb_not a b h = is_false (leb a b) (λ e. grind (arith, nat_tests))
 
 module _ {T : Type 0} where
@@ -93,29 +92,29 @@ module _ {T : Type 0} {n limit : ℕ} {o : Operation T} {v v' : View T (Line T)}
     leads_node : second_of w ≡ false → index_of w ≢ NULL → d.out.line ≡ spent
     leads_node e ne = leads_unshut e ∙ ap (λ (b : Bool). cond b nothing spent) (ne_eqb (index_of w) NULL ne)
 
-    pub S1_shut : second_of w ≡ true → Ended n limit v' begun (AnswerTake (Err TakeShut))
+    pub S1_shut : second_of w ≡ true → Ends n limit v v' begun (S1 One) (AnswerTake (Err TakeShut))
     S1_shut e = ends_so g d (AnswerTake (Err TakeShut)) (leads ∙ ap (λ (b : Bool). cond b (ends (AnswerTake (Err TakeShut))) unshut) e)
 
-    pub S1_none : (b : Bool) → second_of w ≡ false → index_of w ≡ NULL → mark_of w ≡ b → Ended n limit v' begun (AnswerTake (Err (cond b TakeClosed TakeEmpty)))
+    pub S1_none : (b : Bool) → second_of w ≡ false → index_of w ≡ NULL → mark_of w ≡ b → Ends n limit v v' begun (S1 One) (AnswerTake (Err (cond b TakeClosed TakeEmpty)))
     S1_none b e z m = ends_so g d (AnswerTake (Err (cond b TakeClosed TakeEmpty)))
         (leads_unshut e ∙ ap (λ (x : Bool). cond x nothing spent) (eq-eqb (index_of w) NULL z) ∙ ap (λ (x : Bool). ends (AnswerTake (Err (cond x TakeClosed TakeEmpty)))) m)
 
-    spends : second_of w ≡ false → index_of w ≢ NULL → limit ≤ tag_of w → Ended n limit v' begun (AnswerTake (Err (TakeSpent TopWord (tag_of w))))
+    spends : second_of w ≡ false → index_of w ≢ NULL → limit ≤ tag_of w → Ends n limit v v' begun (S1 One) (AnswerTake (Err (TakeSpent TopWord (tag_of w))))
     spends e ne h = ends_so g d (AnswerTake (Err (TakeSpent TopWord (tag_of w))))
         (leads_node e ne ∙ ap (λ (b : Bool). cond b (ends (AnswerTake (Err (TakeSpent TopWord (tag_of w))))) (S2 (fields_of w))) (leb_yes limit (tag_of w) h))
 
-    pub S1_spent : (t : ℕ) → t ≡ tag_of w → second_of w ≡ false → index_of w ≢ NULL → limit ≤ tag_of w → Ended n limit v' begun (AnswerTake (Err (TakeSpent TopWord t)))
-    S1_spent t is e ne h = subst (λ (k : ℕ). Ended n limit v' begun (AnswerTake (Err (TakeSpent TopWord k)))) (sym is) (spends e ne h)
+    pub S1_spent : (t : ℕ) → t ≡ tag_of w → second_of w ≡ false → index_of w ≢ NULL → limit ≤ tag_of w → Ends n limit v v' begun (S1 One) (AnswerTake (Err (TakeSpent TopWord t)))
+    S1_spent t is e ne h = subst (λ (k : ℕ). Ends n limit v v' begun (S1 One) (AnswerTake (Err (TakeSpent TopWord k)))) (sym is) (spends e ne h)
 
-    pub S1_goes : second_of w ≡ false → index_of w ≢ NULL → tag_of w < limit → Going n limit o v' begun (S2 (fields_of w))
+    pub S1_goes : second_of w ≡ false → index_of w ≢ NULL → tag_of w < limit → Goes n limit o v v' begun (S1 One) (S2 (fields_of w))
     S1_goes e ne h = goes_on g d o (S2 (fields_of w))
         (leads_node e ne ∙ ap (λ (b : Bool). cond b (ends (AnswerTake (Err (TakeSpent TopWord (tag_of w))))) (S2 (fields_of w))) (leb_not limit (tag_of w) h)) refl
 
-  pub S2_goes : (w i k : ℕ) → i ≡ index_of w → (g : Going n limit o v begun (S2 (fields_of w))) (d : Did n limit o 1 (read_link i) k [] v v') → Going n limit o v' begun (S3 (fields_of w) k)
+  pub S2_goes : (w i k : ℕ) → i ≡ index_of w → (g : Going n limit o v begun (S2 (fields_of w))) (d : Did n limit o 1 (read_link i) k [] v v') → Goes n limit o v v' begun (S2 (fields_of w)) (S3 (fields_of w) k)
   S2_goes w i k is g d = goes_on g d o (S3 (fields_of w) k) (ap (λ (x : Outcome T). x.line) (out_at g d) ∙ ap (λ (j : ℕ). S3 (fields_of w) (d.memory.link j)) (sym is) ∙ ap (λ (j : ℕ). S3 (fields_of w) j) d.finds.0) refl
 
   pub S3_won : (w k : ℕ) (x : Slot T) (value : T) → x ≡ Some value → (g : Going n limit o v begun (S3 (fields_of w) k)) (d : Did n limit o 1 (take w k) w ((index_of w, x) ∷ []) v v')
-      → Going n limit o v' begun (G1 (record { chain = index_of w ∷ []; answer = AnswerTake (Ok (value, tag_of w)) }))
+      → Goes n limit o v v' begun (S3 (fields_of w) k) (G1 (record { chain = index_of w ∷ []; answer = AnswerTake (Ok (value, tag_of w)) }))
   S3_won w k x value is g d =
       let m = d.moves refl in
       let same_x : x ≡ m.0 = same_slot (index_of w) x m.0 m.1 in
@@ -126,35 +125,35 @@ module _ {T : Type 0} {n limit : ℕ} {o : Operation T} {v v' : View T (Line T)}
       ∙ ap (λ (y : Option (Slot T)). (wins_value d.memory d.pass.number (fields_of w) k y).line) here)
       refl
 
-  pub S3_lost : (w k found : ℕ) → found ≢ w → (g : Going n limit o v begun (S3 (fields_of w) k)) (d : Did n limit o 1 (take w k) found [] v v') → Going n limit o v' begun (S1 One)
+  pub S3_lost : (w k found : ℕ) → found ≢ w → (g : Going n limit o v begun (S3 (fields_of w) k)) (d : Did n limit o 1 (take w k) found [] v v') → Goes n limit o v v' begun (S3 (fields_of w) k) (S1 One)
   S3_lost w k found ne g d = goes_on g d o (S1 One)
       (ap (λ (y : Outcome T). y.line) (out_at g d)
       ∙ ap (λ (b : Bool). (cond b (wins_value d.memory d.pass.number (fields_of w) k (d.memory.home (index_of w))) (core_goes_on d.memory (S1 One))).line)
       (not_same d.memory.top (fields_of w) (λ e. ne ((same_fields found w).1 (d.finds ∙ e)))))
       refl
 
-  pub G1_goes : (w : ℕ) (t : Giving T) (g : Going n limit o v begun (G1 t)) (d : Did n limit o 0 read_top w [] v v') → Going n limit o v' begun (G2 t (fields_of w))
+  pub G1_goes : (w : ℕ) (t : Giving T) (g : Going n limit o v begun (G1 t)) (d : Did n limit o 0 read_top w [] v v') → Goes n limit o v v' begun (G1 t) (G2 t (fields_of w))
   G1_goes w t g d = goes_on g d o (G2 t (fields_of w)) (ap (λ (x : Outcome T). x.line) (out_at g d) ∙ ap (λ (x : Tagged). G2 t x) (sym d.finds)) refl
 
-  pub G2_goes : (w i k found : ℕ) (t : Giving T) (g : Going n limit o v begun (G2 t (fields_of w))) (d : Did n limit o 0 (write_link i k) found [] v v') → Going n limit o v' begun (G3 t (fields_of w))
+  pub G2_goes : (w i k found : ℕ) (t : Giving T) (g : Going n limit o v begun (G2 t (fields_of w))) (d : Did n limit o 0 (write_link i k) found [] v v') → Goes n limit o v v' begun (G2 t (fields_of w)) (G3 t (fields_of w))
   G2_goes w i k found t g d = goes_on g d o (G3 t (fields_of w)) (ap (λ (x : Outcome T). x.line) (out_at g d)) refl
 
-  pub G3_won : (w i : ℕ) (t : Giving T) (zs : List (ℕ × Slot T)) (g : Going n limit o v begun (G3 t (fields_of w))) (d : Did n limit o 0 (give_chain w i) w zs v v') → Ended n limit v' begun t.answer
+  pub G3_won : (w i : ℕ) (t : Giving T) (zs : List (ℕ × Slot T)) (g : Going n limit o v begun (G3 t (fields_of w))) (d : Did n limit o 0 (give_chain w i) w zs v v') → Ends n limit v v' begun (G3 t (fields_of w)) t.answer
   G3_won w i t zs g d = ends_so g d t.answer
       (ap (λ (y : Outcome T). y.line) (out_at g d)
       ∙ ap (λ (b : Bool). (cond b (wins (after_give d.memory (fields_of w) t.chain) (ends t.answer) (Free d.pass.number (length t.chain))) (core_goes_on d.memory (G1 t))).line) (is_same d.memory.free (fields_of w) (sym d.finds)))
 
-  pub G3_lost : (w i found : ℕ) (t : Giving T) → found ≢ w → (g : Going n limit o v begun (G3 t (fields_of w))) (d : Did n limit o 0 (give_chain w i) found [] v v') → Going n limit o v' begun (G1 t)
+  pub G3_lost : (w i found : ℕ) (t : Giving T) → found ≢ w → (g : Going n limit o v begun (G3 t (fields_of w))) (d : Did n limit o 0 (give_chain w i) found [] v v') → Goes n limit o v v' begun (G3 t (fields_of w)) (G1 t)
   G3_lost w i found t ne g d = goes_on g d o (G1 t)
       (ap (λ (y : Outcome T). y.line) (out_at g d)
       ∙ ap (λ (b : Bool). (cond b (wins (after_give d.memory (fields_of w) t.chain) (ends t.answer) (Free d.pass.number (length t.chain))) (core_goes_on d.memory (G1 t))).line)
       (not_same d.memory.free (fields_of w) (λ e. ne ((same_fields found w).1 (d.finds ∙ e)))))
       refl
 
-module _ {T : Type 0} {n limit : ℕ} {v : View T (Line T)} {begun : PassView T} where
-  pub take_gives : (r : Result (T × ℕ) TakeRefused) → Ended n limit v begun (AnswerTake r) → TakeGives (shape n limit) begun (pass_of v) r
-  take_gives (Ok r) e = adds_of e (Free begun.number 1 ∷ Take begun.number r.0 r.1 ∷ []) (e.deeds.made ∙ ap (λ (k : ℕ). Free k 1 ∷ Take k r.0 r.1 ∷ []) e.number)
-  take_gives (Err why) e = (adds_of e [] e.deeds.made, e.tells)
+module _ {T : Type 0} {n limit : ℕ} {v v' : View T (Line T)} {begun : PassView T} {l : Line T} where
+  pub take_gives : (r : Result (T × ℕ) TakeRefused) → Ends n limit v v' begun l (AnswerTake r) → TakeGives (shape n limit) begun (pass_of v') r × IsLine n limit v v' l (ends (AnswerTake r))
+  take_gives (Ok r) (e, line) = (adds_of e (Free begun.number 1 ∷ Take begun.number r.0 r.1 ∷ []) (e.deeds.made ∙ ap (λ (k : ℕ). Free k 1 ∷ Take k r.0 r.1 ∷ []) e.number), line)
+  take_gives (Err why) (e, line) = ((adds_of e [] e.deeds.made, e.tells), line)
 
 module _ {T : Type 0} where
   pub front_slot : (zs us vs : List (ℕ × Slot T)) (i j : ℕ) (x y : Slot T) → zs ≡ (i, x) ∷ us → zs ≡ (j, y) ∷ vs → x ≡ y
@@ -162,16 +161,18 @@ module _ {T : Type 0} where
   front_slot zs us vs i j x y e f = sym (ap (λ (ws : List (ℕ × Slot T)). slot_of ws x) e) ∙ ap (λ (ws : List (ℕ × Slot T)). slot_of ws x) f
 
   pub S3_won_as : {n limit : ℕ} {o : Operation T} {v v' : View T (Line T)} {begun : PassView T} (w k i number : ℕ) (x : Slot T) (value : T) → i ≡ index_of w → number ≡ tag_of w → x ≡ Some value → (g : Going n limit o v begun (S3 (fields_of w) k)) (d : Did n limit o 1 (take w k) w ((index_of w, x) ∷ []) v v')
-      → Going n limit o v' begun (G1 (record { chain = i ∷ []; answer = AnswerTake (Ok (value, number)) }))
+      → Goes n limit o v v' begun (S3 (fields_of w) k) (G1 (record { chain = i ∷ []; answer = AnswerTake (Ok (value, number)) }))
   S3_won_as {n} {limit} {o} {v} {v'} {begun} w k i number x value e f is g d =
-      subst (λ (j : ℕ). Going n limit o v' begun (G1 (record { chain = j ∷ []; answer = AnswerTake (Ok (value, number)) }))) (sym e)
-      (subst (λ (t : ℕ). Going n limit o v' begun (G1 (record { chain = index_of w ∷ []; answer = AnswerTake (Ok (value, t)) }))) (sym f) (S3_won w k x value is g d))
+      subst (λ (j : ℕ). Goes n limit o v v' begun (S3 (fields_of w) k) (G1 (record { chain = j ∷ []; answer = AnswerTake (Ok (value, number)) }))) (sym e)
+      (subst (λ (t : ℕ). Goes n limit o v v' begun (S3 (fields_of w) k) (G1 (record { chain = index_of w ∷ []; answer = AnswerTake (Ok (value, t)) }))) (sym f) (S3_won w k x value is g d))
 
   -- a step that was made in q, and then moves of slots alone
-  pub moved_on : (c : Stack T) (o : Operation T) (p q r : Pass T) (l : Line T) (slots : List (ℕ × Slot T)) → r.seat.table_id ≡ q.seat.table_id → q.seat.table_id ≡ p.seat.table_id → p.seat.table_id ≡ c.table.shared.table_id
-      → r.seat.me.0 ≡ q.seat.me.0 → r.seat.me.1 ≡ slots → steps_in q.seat.me.0 ≡ steps_in p.seat.me.0 + 1 → Going (capacity_of c.limits) (tag_limit_of c.limits) o q.seat.me.0 (begun_in p) l → IsAt c o r l slots × GoesOn p r
-  moved_on c o p q r l slots t t' t'' same has counted g =
-      let going : Going (capacity_of c.limits) (tag_limit_of c.limits) o r.seat.me.0 (begun_in p) l = subst (λ (v : View T (Line T)). Going (capacity_of c.limits) (tag_limit_of c.limits) o v (begun_in p) l) (sym same) g in (
-        record { table = t ∙ t' ∙ t''; has = has; going = subst (λ (b : PassView T). Going (capacity_of c.limits) (tag_limit_of c.limits) o r.seat.me.0 b l) (sym (begun_going going)) going },
-        record { begun = begun_going going; steps = ap steps_in same ∙ counted },
+  pub moved_on : (c : Stack T) (o : Operation T) (p q r : Pass T) (l l' : Line T) (slots : List (ℕ × Slot T)) → r.seat.table_id ≡ q.seat.table_id → q.seat.table_id ≡ p.seat.table_id → p.seat.table_id ≡ c.table.shared.table_id
+      → r.seat.me.0 ≡ q.seat.me.0 → r.seat.me.1 ≡ slots → steps_in q.seat.me.0 ≡ steps_in p.seat.me.0 + 1 → Goes (capacity_of c.limits) (tag_limit_of c.limits) o p.seat.me.0 q.seat.me.0 (begun_in p) l l' → IsAt c o r l' slots × GoesOn c p r l l'
+  moved_on c o p q r l l' slots t t' t'' same has counted g =
+      let n : ℕ = capacity_of c.limits in
+      let limit : ℕ = tag_limit_of c.limits in
+      let both : Goes n limit o p.seat.me.0 r.seat.me.0 (begun_in p) l l' = subst (λ (v : View T (Line T)). Goes n limit o p.seat.me.0 v (begun_in p) l l') (sym same) g in (
+        record { table = t ∙ t' ∙ t''; has = has; going = subst (λ (b : PassView T). Going n limit o r.seat.me.0 b l') (sym (begun_going both.0)) both.0 },
+        record { begun = begun_going both.0; steps = ap steps_in same ∙ counted; line = both.1 },
       )

@@ -1,13 +1,14 @@
 -- Closes and shuts made by steps.
-use Rattle.std.specs.Prelude.{◌≡◌, ℕ, ◌+◌, Bool, [], Option as Slot, Some, None}
+use Rattle.std.specs.Prelude.{ℕ, Bool, [], Option as Slot, Some, None}
 use Rattle.tagged_index.specs.Fields.{fields_of}
 use Rattle.bounded_model.specs.declared.answers.Stepped.{Stepped}
 use Rattle.bounded_model.specs.declared.answers.Stepped.TheVariants.{Again, Done}
 use Rattle.bounded_model.specs.Laws.{CloseGives, ShutGives}
+use Rattle.step_core.specs.declared.stack.Answer.TheVariants.{Close as AnswerClose, Shut as AnswerShut}
 use Rattle.step_core.specs.declared.stack.Line.{Line}
 use Rattle.step_core.specs.declared.stack.Line.TheVariants.{Z1, Z2, Y1, Y2}
-use Rattle.treiber_stack.specs.Host.{steps_in}
-use Rattle.treiber_stack.specs.Operations.{IsAt, begun_in}
+use Rattle.step_core.specs.StackMachine.{ends}
+use Rattle.treiber_stack.specs.Operations.{IsAt, IsLineOf, GoesOn, begun_in}
 use Rattle.treiber_stack.specs.Stack.{shape_of, pass_in, IsPassOf}
 use Rattle.treiber_stack.specs.declared.operation.Operation.TheVariants.{Close as CloseFirst, Shut as ShutFirst}
 use Rattle.treiber_stack.specs.declared.closing.CloseOp.{CloseOp}
@@ -31,16 +32,11 @@ module _ {T : Type 0} where
   abbrev pub IsShutting : Stack T → ShutOp T → Type 0
   IsShutting c op = IsAt c ShutFirst op.pass (shut_line op.seen) []
 
-  -- an operation that goes on has made one step more, and was begun as before
-  pub record GoesOn (p q : Pass T) : Type 0 where
-    pub begun : begun_in q ≡ begun_in p
-    pub steps : steps_in q.seat.me.0 ≡ steps_in p.seat.me.0 + 1
+  -- what a step gives, by the pass and what it had read
+  abbrev pub CloseStep : Stack T → Pass T → Slot ℕ → Stepped (CloseOp T) (Pass T) Bool → Type 0
+  CloseStep c p seen (Again next) = IsClosing c next × GoesOn c p next.pass (close_line seen) (close_line next.seen)
+  CloseStep c p seen (Done q b) = IsPassOf c q × CloseGives (shape_of c) (begun_in p) (pass_in q) b × IsLineOf c p q (close_line seen) (ends (AnswerClose b))
 
-  -- what a step gives
-  abbrev pub CloseStep : Stack T → CloseOp T → Stepped (CloseOp T) (Pass T) Bool → Type 0
-  CloseStep c op (Again next) = IsClosing c next × GoesOn op.pass next.pass
-  CloseStep c op (Done q b) = IsPassOf c q × CloseGives (shape_of c) (begun_in op.pass) (pass_in q) b
-
-  abbrev pub ShutStep : Stack T → ShutOp T → Stepped (ShutOp T) (Pass T) Bool → Type 0
-  ShutStep c op (Again next) = IsShutting c next × GoesOn op.pass next.pass
-  ShutStep c op (Done q b) = IsPassOf c q × ShutGives (shape_of c) (begun_in op.pass) (pass_in q) b
+  abbrev pub ShutStep : Stack T → Pass T → Slot ℕ → Stepped (ShutOp T) (Pass T) Bool → Type 0
+  ShutStep c p seen (Again next) = IsShutting c next × GoesOn c p next.pass (shut_line seen) (shut_line next.seen)
+  ShutStep c p seen (Done q b) = IsPassOf c q × ShutGives (shape_of c) (begun_in p) (pass_in q) b × IsLineOf c p q (shut_line seen) (ends (AnswerShut b))

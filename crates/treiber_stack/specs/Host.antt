@@ -20,7 +20,7 @@ use Rattle.step_core.specs.StackLaw.{shape, state}
 use Rattle.step_core.specs.StackRule.{Tells}
 use Rattle.step_core.specs.StackDeeds.{Deeds}
 use Rattle.step_core.specs.Seats.{Saw, stepped}
-use Rattle.treiber_stack.specs.Rule.{idle, line_in, holding}
+use Rattle.treiber_stack.specs.Rule.{idle, line_in, holding, Meets}
 use Rattle.treiber_stack.specs.declared.operation.Operation.{Operation}
 use Rattle.treiber_stack.specs.declared.operation.Operation.TheVariants.{Put as PutFirst, Take as TakeFirst, Close as CloseFirst, Shut as ShutFirst, Look as LookFirst}
 
@@ -172,6 +172,7 @@ pub record Did {T : Type 0} (n limit : ℕ) (o : Operation T) (list : ℕ) (kind
   pub history : List (Event T)
   pub out : Outcome T
   pub steps : out ≡ step (shape n limit) memory pass.number (line_now o at)
+  pub meets : Meets n limit memory history pass.number (line_now o at)
   pub finds : Finds list kind found memory
   pub moves : Moves list kind found zs memory
   pub saw : Saw history pass

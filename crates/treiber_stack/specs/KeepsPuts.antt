@@ -81,7 +81,7 @@ module _ {T : Type 0} where
       (none_or_some (times j chain))
 
   -- a pass that may put is at that line
-  puts_line : (o : Operation T) (l : Line T) (w : Tagged) (put : Putting T) → puts_of (line_now o l) ≡ some (w, put) → l ≡ P3 put w
+  pub puts_line : (o : Operation T) (l : Line T) (w : Tagged) (put : Putting T) → puts_of (line_now o l) ≡ some (w, put) → l ≡ P3 put w
   puts_line (PutFirst v) (Idle a) w put e = absurd (some-ne-none (w, put) (sym e))
   puts_line TakeFirst (Idle a) w put e = absurd (some-ne-none (w, put) (sym e))
   puts_line CloseFirst (Idle a) w put e = absurd (some-ne-none (w, put) (sym e))

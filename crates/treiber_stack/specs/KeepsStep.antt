@@ -196,6 +196,7 @@ module _ {T : Type 0} (n limit : ℕ) (o : Operation T) (id at : ℕ) (p from : 
       history = r.history;
       out = out;
       steps = refl;
+      meets = record { lists = r.lists; who = who s.views; lines = set lines id now; seat = id; is = of_pass; here = ready_here; good = ready };
       finds = finds;
       moves = moves;
       saw = saw;

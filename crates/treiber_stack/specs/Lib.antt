@@ -15,3 +15,4 @@ pub mod KeepsHost
 pub mod Operations
 pub mod Closing
 pub mod Taking
+pub mod Putting

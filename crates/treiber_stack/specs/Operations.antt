@@ -1,6 +1,7 @@
 -- A pass in an operation, and a pass whose operation has answered.
-use Rattle.std.specs.Prelude.{◌≡◌, ◌≢◌, ℕ, ◌+◌, ◌<◌, ◌≤◌, List, [], ◌∷◌, Option as Slot, Some}
+use Rattle.std.specs.Prelude.{◌≡◌, ◌≢◌, ℕ, ◌+◌, ◌<◌, ◌≤◌, List, [], ◌∷◌, ◌++◌, Option as Slot, Some}
 use Rattle.tagged_index.specs.Limits.{capacity_of, tag_limit_of}
+use Rattle.bounded_model.specs.declared.history.Event.{Event}
 use Rattle.bounded_model.specs.declared.views.PassView.{PassView}
 use Rattle.bounded_model.specs.Histories.{Later}
 use Rattle.bounded_model.specs.Laws.{IsAtRest}
@@ -12,8 +13,9 @@ use Rattle.step_core.specs.declared.seats.View.TheVariants.{AtPass}
 use Rattle.step_core.specs.StackLaw.{shape}
 use Rattle.step_core.specs.StackRule.{Tells}
 use Rattle.step_core.specs.StackDeeds.{Deeds}
-use Rattle.step_core.specs.Seats.{at_rest, pass_of}
-use Rattle.treiber_stack.specs.Rule.{idle}
+use Rattle.step_core.specs.StackMachine.{Memory, step}
+use Rattle.step_core.specs.Seats.{Saw, at_rest, pass_of}
+use Rattle.treiber_stack.specs.Rule.{idle, Meets}
 use Rattle.tagged_index.specs.Fields.{index_of}
 use Rattle.index_list.specs.Steps.{Kind, take, give_chain}
 use Rattle.treiber_stack.specs.Host.{line_now, begun_now, steps_in, Did}
@@ -47,6 +49,23 @@ module _ {T : Type 0} where
     pub deeds : Deeds (shape n limit) (pass_of v).number (Idle (Some a)) begun.seen (pass_of v).seen
     pub tells : Tells n limit begun.seen (pass_of v).seen (Idle (Some a))
 
+  -- A step of a pass, whose view was v and is v', was the core's step of the line l, from a memory and a history that meet the core's rule, and led to l'.
+  -- The pass has now seen that history with the step's events on top
+  pub record IsLine (n limit : ℕ) (v v' : View T (Line T)) (l l' : Line T) : Type 0 where
+    pub memory : Memory T
+    pub history : List (Event T)
+    pub meets : Meets n limit memory history (pass_of v).number l
+    pub saw : Saw history (pass_of v)
+    pub seen : (pass_of v').seen ≡ (step (shape n limit) memory (pass_of v).number l).events ++ history
+    pub leads : (step (shape n limit) memory (pass_of v).number l).line ≡ l'
+
+  -- an operation that was at l goes on at l', or answers
+  abbrev pub Goes : (n limit : ℕ) (o : Operation T) (v v' : View T (Line T)) (begun : PassView T) (l l' : Line T) → Type 0
+  Goes n limit o v v' begun l l' = Going n limit o v' begun l' × IsLine n limit v v' l l'
+
+  abbrev pub Ends : (n limit : ℕ) (v v' : View T (Line T)) (begun : PassView T) (l : Line T) (a : Answer T) → Type 0
+  Ends n limit v v' begun l a = Ended n limit v' begun a × IsLine n limit v v' l (Idle (Some a))
+
   -- the pass as it was when its operation was begun
   abbrev pub begun_view : View T (Line T) → PassView T
   begun_view (AtPass p from l) = begun_now p from l
@@ -54,6 +73,16 @@ module _ {T : Type 0} where
 
   abbrev pub begun_in : Pass T → PassView T
   begun_in p = begun_view p.seat.me.0
+
+  -- a step of a pass of this stack was the core's
+  abbrev pub IsLineOf : Stack T → Pass T → Pass T → Line T → Line T → Type 0
+  IsLineOf c p q l l' = IsLine (capacity_of c.limits) (tag_limit_of c.limits) p.seat.me.0 q.seat.me.0 l l'
+
+  -- an operation that goes on has made one step more, and was begun as before
+  pub record GoesOn (c : Stack T) (p q : Pass T) (l l' : Line T) : Type 0 where
+    pub begun : begun_in q ≡ begun_in p
+    pub steps : steps_in q.seat.me.0 ≡ steps_in p.seat.me.0 + 1
+    pub line : IsLineOf c p q l l'
 
   -- a pass of this stack in an operation, at a line and with these slots in hand
   pub record IsAt (c : Stack T) (o : Operation T) (p : Pass T) (l : Line T) (slots : List (ℕ × Slot T)) : Type 0 where
@@ -84,7 +113,7 @@ module _ {T : Type 0} where
     pub told : Told c o list (take w k) w ((index_of w, slot) ∷ []) p q
 
   -- a won give of the one node in hand
-  pub record Gives (c : Stack T) (o : Operation T) (w i : ℕ) (p q : Pass T) : Type 0 where
+  pub record Gives (c : Stack T) (o : Operation T) (list w i : ℕ) (p q : Pass T) : Type 0 where
     pub slots : List (ℕ × Slot T)
     pub none_left : q.seat.me.1 ≡ []
-    pub told : Told c o 0 (give_chain w i) w slots p q
+    pub told : Told c o list (give_chain w i) w slots p q

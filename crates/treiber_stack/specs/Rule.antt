@@ -64,6 +64,16 @@ module _ {T : Type 0} where
     -- a link is an index or null, with no tag
     pub plain : (i : ℕ) → slice_index s.words (link_at i) ≤ NULL
 
+  -- a memory and a history that meet the core's rule, while the pass of this number is at this line
+  pub record Meets (n limit : ℕ) (m : Memory T) (h : List (Event T)) (number : ℕ) (l : Line T) : Type 0 where
+    pub lists : Lists
+    pub who : ℕ → Option ℕ
+    pub lines : List (Line T)
+    pub seat : ℕ
+    pub is : who seat ≡ some number
+    pub here : get_elem? lines seat ≡ some l
+    pub good : Good T n limit m lists who lines h
+
   -- how seats are cut in two and made one
   abbrev pub left_part : View T (Line T) → View T (Line T)
   left_part v = left_of idle v

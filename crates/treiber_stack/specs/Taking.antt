@@ -12,8 +12,8 @@ use Rattle.step_core.specs.declared.stack.Giving.{Giving}
 use Rattle.step_core.specs.declared.stack.Taking.TheVariants.{One}
 use Rattle.step_core.specs.declared.stack.Line.{Line}
 use Rattle.step_core.specs.declared.stack.Line.TheVariants.{S1, S2, S3, G1, G2, G3}
-use Rattle.treiber_stack.specs.Operations.{IsAt, begun_in}
-use Rattle.treiber_stack.specs.Closing.{GoesOn}
+use Rattle.step_core.specs.StackMachine.{ends}
+use Rattle.treiber_stack.specs.Operations.{IsAt, IsLineOf, GoesOn, begun_in}
 use Rattle.treiber_stack.specs.Stack.{shape_of, pass_in, IsPassOf}
 use Rattle.treiber_stack.specs.declared.operation.Operation.TheVariants.{Take as TakeFirst}
 use Rattle.treiber_stack.specs.declared.taking.Taken.{Taken}
@@ -62,6 +62,7 @@ module _ {T : Type 0} where
   abbrev pub IsTaking : Stack T → TakeOp T → Type 0
   IsTaking c op = IsTakingAt c op.pass op.at
 
-  abbrev pub TakeStep : Stack T → Pass T → Stepped (TakeOp T) (Pass T) (Result (T × ℕ) TakeRefused) → Type 0
-  TakeStep c p (Again next) = IsTaking c next × GoesOn p next.pass
-  TakeStep c p (Done q r) = IsPassOf c q × TakeGives (shape_of c) (begun_in p) (pass_in q) r
+  -- what a step gives
+  abbrev pub TakeStep : Stack T → Pass T → TakeAt T → Stepped (TakeOp T) (Pass T) (Result (T × ℕ) TakeRefused) → Type 0
+  TakeStep c p at (Again next) = IsTaking c next × GoesOn c p next.pass (take_line at) (take_line next.at)
+  TakeStep c p at (Done q r) = IsPassOf c q × TakeGives (shape_of c) (begun_in p) (pass_in q) r × IsLineOf c p q (take_line at) (ends (AnswerTake r))

@@ -2,7 +2,10 @@
 ghost use Rattle.std.specs.Prelude.{◌≡◌};
 ghost use Rattle.bounded_model.specs.Laws.{LookGives};
 ghost use Rattle.treiber_stack.specs.Closing.{IsClosing, IsShutting, CloseStep, ShutStep};
-ghost use Rattle.treiber_stack.specs.Operations.{begun_in};
+ghost use Rattle.step_core.specs.StackMachine.{ends};
+ghost use Rattle.step_core.specs.declared.stack.Answer.TheVariants.{Look as Looked};
+ghost use Rattle.step_core.specs.declared.stack.Line.TheVariants.{V1};
+ghost use Rattle.treiber_stack.specs.Operations.{begun_in, IsLineOf};
 ghost use Rattle.treiber_stack.specs.Stack.{shape_of, IsPassOf, pass_in};
 
 use crate::layout::TOP;
@@ -58,6 +61,7 @@ impl<T> Stack<T> {
         requires { IsPassOf self.now by }
         ensures of { IsPassOf self.now result.0 }
         ensures gives { LookGives (shape_of self.now) (pass_in by) (pass_in result.0) result.1 }
+        ensures line { IsLineOf self.now by result.0 V1 (ends (Looked result.1)) }
     {
         let mut pass = by;
         let top = self.load(&mut pass, TOP, &Operation::Look);
@@ -71,7 +75,7 @@ impl<T> CloseOp<T> {
     #[inline]
     pub fn step(self, stack: &Stack<T>) -> Stepped<CloseOp<T>, Pass<T>, bool>
         requires { IsClosing stack.now self }
-        ensures { CloseStep stack.now self result }
+        ensures { CloseStep stack.now self.pass self.seen result }
     {
         let CloseOp { pass, seen } = self;
         let mut pass = pass;
@@ -102,7 +106,7 @@ impl<T> ShutOp<T> {
     #[inline]
     pub fn step(self, stack: &Stack<T>) -> Stepped<ShutOp<T>, Pass<T>, bool>
         requires { IsShutting stack.now self }
-        ensures { ShutStep stack.now self result }
+        ensures { ShutStep stack.now self.pass self.seen result }
     {
         let ShutOp { pass, seen } = self;
         let mut pass = pass;

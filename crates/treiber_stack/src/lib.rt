@@ -11,11 +11,13 @@
 //! by step, or by a whole call, which retries while others interfere.
 #![tactic(auto)]
 
-mod calls;
 mod closing;
+mod container;
 mod host;
 mod layout;
+mod making;
 mod operation;
+mod putting;
 mod rest;
 mod rule;
 mod stack;
@@ -23,9 +25,9 @@ mod steps;
 mod taking;
 #[cfg(test)]
 mod tests;
-mod whole;
 
 pub use closing::{CloseOp, ShutOp};
+pub use putting::PutOp;
 pub use rest::Rest;
 pub use stack::{Pass, Root, Stack};
 pub use taking::TakeOp;

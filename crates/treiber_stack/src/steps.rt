@@ -1,5 +1,5 @@
 //! The stack's atomic steps: those of `index_list` on its two lists, each by a pass at its line.
-ghost use Rattle.std.specs.Prelude.{◌≡◌, ◌≢◌, ℕ, ◌<◌, ◌≤◌, [], ◌∷◌, List, None, IsTrue, IsFalse};
+ghost use Rattle.std.specs.Prelude.{◌≡◌, ◌≢◌, ℕ, ◌<◌, ◌≤◌, [], ◌∷◌, List, None, Some, IsTrue, IsFalse};
 ghost use Rattle.tagged_index.specs.Limits.{capacity_of, tag_limit_of};
 ghost use Rattle.tagged_index.specs.Fields.{index_of, tag_of};
 ghost use Rattle.tagged_index.specs.declared.word.TheConstants.{NULL, MAX_TAG};
@@ -7,7 +7,7 @@ ghost use Rattle.index_list.specs.Lists.{Holds};
 ghost use Rattle.index_list.specs.Steps.{read_top, read_link, write_link, take, give_chain, mark, shut};
 ghost use Rattle.step_core.specs.StackMachine.{held};
 ghost use Rattle.treiber_stack.specs.Rule.{line_in};
-ghost use Rattle.treiber_stack.specs.Host.{may_step, Did};
+ghost use Rattle.treiber_stack.specs.Host.{may_step, Bears, Did};
 ghost use Rattle.treiber_stack.specs.Operations.{IsSame, Told, Lost, Takes, Gives};
 
 use crate::layout::{FREE, TOP};
@@ -128,13 +128,41 @@ impl<T> Stack<T> {
         requires may { may_step operation.now 0 (give_chain seen index) by.old.seat.me.0 }
         requires held { (held (line_in by.old.seat.me.0) ≡ index ∷ []) × (by.old.seat.me.1 ≡ (index, None) ∷ []) × (index < NULL) }
         ensures table { by.new.seat.table_id ≡ by.old.seat.table_id }
-        ensures won { IsTrue result → Gives self.now operation.now seen index by.old by.new }
+        ensures won { IsTrue result → Gives self.now operation.now 0 seen index by.old by.new }
         ensures lost { IsFalse result → (by.new.seat.me.1 ≡ by.old.seat.me.1) × Lost self.now operation.now 0 (give_chain seen index) seen by.old by.new }
     {
         try_give_chain::<Option<T>, View<T, Line<T>>, Limits, Stacked<T>, 2>(
             &self.table.shared,
             &mut by.seat,
             FREE,
+            seen,
+            index,
+            operation,
+        )
+    }
+
+    /// Puts the one node in hand onto the stack, its slot with the value of the put, and answers
+    /// whether it won.
+    #[inline]
+    pub(crate) fn put_node(
+        &self,
+        by: &mut Pass<T>,
+        seen: Tagged,
+        index: u32,
+        operation: &Operation<T>,
+    ) -> bool
+        requires table { by.old.seat.table_id ≡ self.now.table.shared.table_id }
+        requires may { may_step operation.now 1 (give_chain seen index) by.old.seat.me.0 }
+        requires held { (held (line_in by.old.seat.me.0) ≡ index ∷ []) × (index < NULL) × (tag_of seen < MAX_TAG) }
+        requires value { (x : T) × (by.old.seat.me.1 ≡ (index, Some x) ∷ []) × Bears (line_in by.old.seat.me.0) index (Some x) }
+        ensures table { by.new.seat.table_id ≡ by.old.seat.table_id }
+        ensures won { IsTrue result → Gives self.now operation.now 1 seen index by.old by.new }
+        ensures lost { IsFalse result → (by.new.seat.me.1 ≡ by.old.seat.me.1) × Lost self.now operation.now 1 (give_chain seen index) seen by.old by.new }
+    {
+        try_give_chain::<Option<T>, View<T, Line<T>>, Limits, Stacked<T>, 2>(
+            &self.table.shared,
+            &mut by.seat,
+            TOP,
             seen,
             index,
             operation,

@@ -64,7 +64,7 @@ impl<T> Stack<T> {
     #[inline]
     fn take_load(&self, by: Pass<T>) -> Stepped<TakeOp<T>, Pass<T>, Result<(T, u64), TakeRefused>>
         requires { IsTakingAt self.now by Load }
-        ensures { TakeStep self.now by result }
+        ensures { TakeStep self.now by Load result }
     {
         let mut pass = by;
         let top = self.load(&mut pass, TOP, &Operation::Take);
@@ -93,7 +93,7 @@ impl<T> Stack<T> {
         top: Tagged,
     ) -> Stepped<TakeOp<T>, Pass<T>, Result<(T, u64), TakeRefused>>
         requires { IsTakingAt self.now by (Link top) }
-        ensures { TakeStep self.now by result }
+        ensures { TakeStep self.now by (Link top) result }
     {
         let mut pass = by;
         let next = self.load_next(&mut pass, TOP, top.index(), &Operation::Take);
@@ -112,7 +112,7 @@ impl<T> Stack<T> {
         next: u32,
     ) -> Stepped<TakeOp<T>, Pass<T>, Result<(T, u64), TakeRefused>>
         requires { IsTakingAt self.now by (Exchange top next) }
-        ensures { TakeStep self.now by result }
+        ensures { TakeStep self.now by (Exchange top next) result }
     {
         let mut pass = by;
         if self.take_node(&mut pass, TOP, top, next, &Operation::Take) {
@@ -145,7 +145,7 @@ impl<T> Stack<T> {
         taken: Taken<T>,
     ) -> Stepped<TakeOp<T>, Pass<T>, Result<(T, u64), TakeRefused>>
         requires { IsTakingAt self.now by (LoadFree taken) }
-        ensures { TakeStep self.now by result }
+        ensures { TakeStep self.now by (LoadFree taken) result }
     {
         let mut pass = by;
         let free = self.load(&mut pass, FREE, &Operation::Take);
@@ -163,7 +163,7 @@ impl<T> Stack<T> {
         free: Tagged,
     ) -> Stepped<TakeOp<T>, Pass<T>, Result<(T, u64), TakeRefused>>
         requires { IsTakingAt self.now by (LinkBack taken free) }
-        ensures { TakeStep self.now by result }
+        ensures { TakeStep self.now by (LinkBack taken free) result }
     {
         let mut pass = by;
         self.link_to(&mut pass, FREE, taken.index, free.index(), &Operation::Take);
@@ -181,7 +181,7 @@ impl<T> Stack<T> {
         free: Tagged,
     ) -> Stepped<TakeOp<T>, Pass<T>, Result<(T, u64), TakeRefused>>
         requires { IsTakingAt self.now by (GiveBack taken free) }
-        ensures { TakeStep self.now by result }
+        ensures { TakeStep self.now by (GiveBack taken free) result }
     {
         let mut pass = by;
         if self.give_node(&mut pass, free, taken.index, &Operation::Take) {
@@ -208,7 +208,7 @@ impl<T> TakeOp<T> {
         stack: &Stack<T>,
     ) -> Stepped<TakeOp<T>, Pass<T>, Result<(T, u64), TakeRefused>>
         requires { IsTaking stack.now self }
-        ensures { TakeStep stack.now self.pass result }
+        ensures { TakeStep stack.now self.pass self.at result }
     {
         let TakeOp { pass, at } = self;
         match at {

@@ -1,5 +1,5 @@
 use crate::Stack;
-use bounded_model::{Leaving, Stepped, TakeRefused};
+use bounded_model::{Container, Leaving, Stepped, TakeRefused};
 use std::test::Fail;
 use tagged_index::Limits;
 

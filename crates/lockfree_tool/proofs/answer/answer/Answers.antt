@@ -1,8 +1,8 @@
 use Rattle.std.proofs.Common.{◌++◌, map, string_bytes, ap, ◌∙◌}
 use Rattle.bounded_model.specs.Plain.{empty_list}
-use Rattle.lockfree_tool.specs.Replies.{reply_text}
-use Rattle.lockfree_tool.specs.Script.{text_of}
-use Rattle.lockfree_tool.specs.View.{head_view}
+use Rattle.script.specs.ReplyTexts.{reply_text}
+use Rattle.script.specs.Script.{text_of}
+use Rattle.script.specs.View.{head_view}
 use Rattle.lockfree_tool.proofs.Answering.{run_is_written}
 use Rattle.lockfree_tool.proofs.answer.answer.Goals as goal
 

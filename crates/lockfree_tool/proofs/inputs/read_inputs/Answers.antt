@@ -28,7 +28,7 @@ loop-reader-preserved g c =
           let short = ap length steps in
           omega arith;
       read = subst (λ l. AreRead g.R.Read.remaining 0 (at.yielded ++ reader ∷ []) l) (sym more.1)
-      (next-more g.R.Read.remaining at.yielded at.inputs.items reader more.0 at.invariant.read more.2);
+          (next-more g.R.Read.remaining at.yielded at.inputs.items reader more.0 at.invariant.read more.2);
     }
 
 pub returns-in-Err-clause-fault : goal.returns-in-Err-clause-fault

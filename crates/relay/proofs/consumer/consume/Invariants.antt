@@ -12,5 +12,5 @@ invariant-loop g l =
       number : (g.C.Pool.pass l.pass).number ≡ l.orders.producers + l.consumer;
       room : l.orders.messages < vec_capacity l.taken;
       within : Within l.orders (l.orders.producers + l.consumer) (vec_len l.taken);
-      consuming : Consuming (g.C.Pool.pass l.pass) (moves_of (l.orders.producers + l.consumer) l.taken.items);
+      consuming : Consuming (g.C.Pool.pass l.pass) (moves_of l.orders.producers l.taken.items);
     }

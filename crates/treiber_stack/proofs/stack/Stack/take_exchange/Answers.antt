@@ -37,8 +37,8 @@ returns g c =
     let lost = c.if-take_node.ensures.lost refl in
     let e = S3_lost w k lost.1.found lost.1.other at.going lost.1.told.did in
     let same : IsSame c.args.by c.take_node.new.by = record { table = c.if-take_node.ensures.table; slots = lost.0 } in (
-      record { line = is_at stack First c.args.by (S3 (fields_of w) k) [] at c.take_node.new.by same (S1 One) e; node = tt },
-      went_on stack First c.args.by (S3 (fields_of w) k) [] at c.take_node.new.by same (S1 One) 1 (take w k) lost.1.found [] e lost.1.told,
+      record { line = is_at stack First c.args.by (S3 (fields_of w) k) [] at c.take_node.new.by same First (S1 One) e; node = tt },
+      went_on stack First c.args.by (S3 (fields_of w) k) [] at c.take_node.new.by same First (S1 One) 1 (take w k) lost.1.found [] e lost.1.told,
     )
 
 pub move_out-value-requires : goal.move_out-value-requires
@@ -65,6 +65,6 @@ returns-then-take_node g c =
     let e = S3_won_as w c.args.next i number won.slot value c.index-index.ensures.field c.tag-number.ensures.field is at.going won.told.did in
     let left = ap rest won.has ∙ at.has in
     let has = ap (λ m. m.1) moved.out ∙ ap (λ (zs : List (ℕ × Slot _)). (i, None) ∷ zs) left in
-    let both = moved_on stack First c.args.by c.take_node.new.by (record { seat = c.move_out-value.new.seat }) (G1 (giving (record { value = value; number = number; index = i }))) ((i, None) ∷ [])
+    let both = moved_on stack First c.args.by c.take_node.new.by (record { seat = c.move_out-value.new.seat }) (S3 (fields_of w) c.args.next) (G1 (giving (record { value = value; number = number; index = i }))) ((i, None) ∷ [])
     moved.seat.0 c.if-take_node.ensures.table at.table (ap (λ m. m.0) moved.out) has won.told.counted e in
     (record { line = both.0; node = subst (λ (k : ℕ). k < capacity_of stack.limits) (sym c.index-index.ensures.field) c.requires.node.0 }, both.1)

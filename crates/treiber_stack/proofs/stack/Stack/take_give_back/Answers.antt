@@ -30,8 +30,8 @@ returns g c =
     let lost = c.if-give_node.ensures.lost refl in
     let e = G3_lost c.args.free t.index lost.1.found (giving t) lost.1.other at.going lost.1.told.did in
     let same : IsSame c.args.by c.give_node.new.by = record { table = c.if-give_node.ensures.table; slots = lost.0 } in (
-      record { line = is_at stack First c.args.by (G3 (giving t) (fields_of c.args.free)) ((t.index, None) ∷ []) at c.give_node.new.by same (G1 (giving t)) e; node = c.requires.node },
-      went_on stack First c.args.by (G3 (giving t) (fields_of c.args.free)) ((t.index, None) ∷ []) at c.give_node.new.by same (G1 (giving t)) 0 (give_chain c.args.free t.index) lost.1.found [] e lost.1.told,
+      record { line = is_at stack First c.args.by (G3 (giving t) (fields_of c.args.free)) ((t.index, None) ∷ []) at c.give_node.new.by same First (G1 (giving t)) e; node = c.requires.node },
+      went_on stack First c.args.by (G3 (giving t) (fields_of c.args.free)) ((t.index, None) ∷ []) at c.give_node.new.by same First (G1 (giving t)) 0 (give_chain c.args.free t.index) lost.1.found [] e lost.1.told,
     )
 
 pub returns-then-give_node : goal.returns-then-give_node
@@ -40,4 +40,5 @@ returns-then-give_node g c =
     let t = c.args.taken in
     let won = c.if-give_node.ensures.won refl in
     let e = G3_won c.args.free t.index (giving t) won.slots at.going won.told.did in
-    (record { table = c.if-give_node.ensures.table ∙ at.table; view = e.view; slots = won.none_left; rests = e.rests }, take_gives (Ok (t.value, t.number)) e)
+    let h = take_gives (Ok (t.value, t.number)) e in
+    (record { table = c.if-give_node.ensures.table ∙ at.table; view = e.0.view; slots = won.none_left; rests = e.0.rests }, h.0, h.1)

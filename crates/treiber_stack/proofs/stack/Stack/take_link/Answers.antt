@@ -24,6 +24,6 @@ returns g c =
     let w : ℕ = c.args.top in
     let k : ℕ = c.load_next-next.result in
     let e = S2_goes w c.index.result k c.index.ensures.field at.going c.load_next-next.ensures.told.did in (
-      record { line = is_at stack First c.args.by (S2 (fields_of w)) [] at c.load_next-next.new.by c.load_next-next.ensures.same (S3 (fields_of w) k) e; node = (c.requires.node.0, c.requires.node.1, c.load_next-next.ensures.index) },
-      went_on stack First c.args.by (S2 (fields_of w)) [] at c.load_next-next.new.by c.load_next-next.ensures.same (S3 (fields_of w) k) 1 (read_link c.index.result) k [] e c.load_next-next.ensures.told,
+      record { line = is_at stack First c.args.by (S2 (fields_of w)) [] at c.load_next-next.new.by c.load_next-next.ensures.same First (S3 (fields_of w) k) e; node = (c.requires.node.0, c.requires.node.1, c.load_next-next.ensures.index) },
+      went_on stack First c.args.by (S2 (fields_of w)) [] at c.load_next-next.new.by c.load_next-next.ensures.same First (S3 (fields_of w) k) 1 (read_link c.index.result) k [] e c.load_next-next.ensures.told,
     )

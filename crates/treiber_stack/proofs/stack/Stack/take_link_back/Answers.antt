@@ -29,6 +29,6 @@ returns g c =
     let t = c.args.taken in
     let w : ℕ = c.args.free in
     let e = G2_goes w t.index c.index.result c.index.result (giving t) at.going c.link_to.ensures.told.did in (
-      record { line = is_at stack First c.args.by (G2 (giving t) (fields_of w)) ((t.index, None) ∷ []) at c.link_to.new.by c.link_to.ensures.same (G3 (giving t) (fields_of w)) e; node = c.requires.node },
-      went_on stack First c.args.by (G2 (giving t) (fields_of w)) ((t.index, None) ∷ []) at c.link_to.new.by c.link_to.ensures.same (G3 (giving t) (fields_of w)) 0 (write_link t.index c.index.result) c.index.result [] e c.link_to.ensures.told,
+      record { line = is_at stack First c.args.by (G2 (giving t) (fields_of w)) ((t.index, None) ∷ []) at c.link_to.new.by c.link_to.ensures.same First (G3 (giving t) (fields_of w)) e; node = c.requires.node },
+      went_on stack First c.args.by (G2 (giving t) (fields_of w)) ((t.index, None) ∷ []) at c.link_to.new.by c.link_to.ensures.same First (G3 (giving t) (fields_of w)) 0 (write_link t.index c.index.result) c.index.result [] e c.link_to.ensures.told,
     )

@@ -28,7 +28,8 @@ returns-then-has_second g c =
     let q = c.load-top.new.by in
     let same = c.load-top.ensures.same in
     let e = S1_shut w at.going did (sym c.if-has_second.ensures) in
-    (is_pass stack First c.args.by (S1 One) [] at q same (AnswerTake (Err TakeShut)) refl e, take_gives (Err TakeShut) e)
+    let h = take_gives (Err TakeShut) e in
+    (is_pass stack First c.args.by (S1 One) [] at q same (AnswerTake (Err TakeShut)) refl e, h.0, h.1)
 
 pub returns-then-is_marked : goal.returns-then-is_marked
 returns-then-is_marked g c =
@@ -39,7 +40,8 @@ returns-then-is_marked g c =
     let q = c.load-top.new.by in
     let same = c.load-top.ensures.same in
     let e = S1_none w at.going did true (sym c.if-has_second.ensures) (sym c.index.ensures.field ∙ c.if-index-eq-NULL.true) (sym c.if-is_marked.ensures) in
-    (is_pass stack First c.args.by (S1 One) [] at q same (AnswerTake (Err TakeClosed)) refl e, take_gives (Err TakeClosed) e)
+    let h = take_gives (Err TakeClosed) e in
+    (is_pass stack First c.args.by (S1 One) [] at q same (AnswerTake (Err TakeClosed)) refl e, h.0, h.1)
 
 pub returns-then-index-eq-NULL : goal.returns-then-index-eq-NULL
 returns-then-index-eq-NULL g c =
@@ -50,7 +52,8 @@ returns-then-index-eq-NULL g c =
     let q = c.load-top.new.by in
     let same = c.load-top.ensures.same in
     let e = S1_none w at.going did false (sym c.if-has_second.ensures) (sym c.index.ensures.field ∙ c.if-index-eq-NULL.true) (sym c.if-is_marked.ensures) in
-    (is_pass stack First c.args.by (S1 One) [] at q same (AnswerTake (Err TakeEmpty)) refl e, take_gives (Err TakeEmpty) e)
+    let h = take_gives (Err TakeEmpty) e in
+    (is_pass stack First c.args.by (S1 One) [] at q same (AnswerTake (Err TakeEmpty)) refl e, h.0, h.1)
 
 pub returns-then-tag-tag_limit : goal.returns-then-tag-tag_limit
 returns-then-tag-tag_limit g c =
@@ -65,7 +68,8 @@ returns-then-tag-tag_limit g c =
     let limit = c.tag_limit.ensures in
     let t : ℕ = c.tag-then-tag-tag_limit.result in
     let e = S1_spent w at.going did t c.tag-then-tag-tag_limit.ensures.field (sym c.if-has_second.ensures) (λ z. c.if-index-eq-NULL.false (c.index.ensures.field ∙ z)) (omega arith) in
-    (is_pass stack First c.args.by (S1 One) [] at q same (AnswerTake (Err (TakeSpent TopWord t))) refl e, take_gives (Err (TakeSpent TopWord t)) e)
+    let h = take_gives (Err (TakeSpent TopWord t)) e in
+    (is_pass stack First c.args.by (S1 One) [] at q same (AnswerTake (Err (TakeSpent TopWord t))) refl e, h.0, h.1)
 
 pub returns : goal.returns
 returns g c =
@@ -81,6 +85,6 @@ returns g c =
     let below : tag_of w < tag_limit_of stack.limits = omega arith in
     let node : index_of w ≢ NULL = λ z. c.if-index-eq-NULL.false (c.index.ensures.field ∙ z) in
     let e = S1_goes w at.going did (sym c.if-has_second.ensures) node below in (
-      record { line = is_at stack First c.args.by (S1 One) [] at q same (S2 (fields_of w)) e; node = (c.load-top.ensures.node node, below) },
-      went_on stack First c.args.by (S1 One) [] at q same (S2 (fields_of w)) 1 read_top w [] e c.load-top.ensures.told,
+      record { line = is_at stack First c.args.by (S1 One) [] at q same First (S2 (fields_of w)) e; node = (c.load-top.ensures.node node, below) },
+      went_on stack First c.args.by (S1 One) [] at q same First (S2 (fields_of w)) 1 read_top w [] e c.load-top.ensures.told,
     )

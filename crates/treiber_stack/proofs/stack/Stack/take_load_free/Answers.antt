@@ -21,6 +21,6 @@ returns g c =
     let t = c.args.taken in
     let w : ℕ = c.load-free.result in
     let e = G1_goes w (giving t) at.going c.load-free.ensures.told.did in (
-      record { line = is_at stack First c.args.by (G1 (giving t)) ((t.index, None) ∷ []) at c.load-free.new.by c.load-free.ensures.same (G2 (giving t) (fields_of w)) e; node = c.requires.node },
-      went_on stack First c.args.by (G1 (giving t)) ((t.index, None) ∷ []) at c.load-free.new.by c.load-free.ensures.same (G2 (giving t) (fields_of w)) 0 read_top w [] e c.load-free.ensures.told,
+      record { line = is_at stack First c.args.by (G1 (giving t)) ((t.index, None) ∷ []) at c.load-free.new.by c.load-free.ensures.same First (G2 (giving t) (fields_of w)) e; node = c.requires.node },
+      went_on stack First c.args.by (G1 (giving t)) ((t.index, None) ∷ []) at c.load-free.new.by c.load-free.ensures.same First (G2 (giving t) (fields_of w)) 0 read_top w [] e c.load-free.ensures.told,
     )

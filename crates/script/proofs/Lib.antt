@@ -1,0 +1,11 @@
+pub mod Acts
+pub mod Ascii
+pub mod Cuts
+pub mod Heads
+pub mod Laws
+pub mod Lists
+pub mod Numbers
+pub mod Scripts
+pub mod Spaced
+pub mod Splitting
+pub mod Words

@@ -1,0 +1,225 @@
+-- What each step of a put leads to.
+use Rattle.std.proofs.Common.{◌≡◌, ◌≢◌, ℕ, ◌<◌, ◌≤◌, Bool, true, false, cond, eqb, leb, List, [], ◌∷◌, ◌++◌, length, refl, sym, ap, ◌∙◌, subst, eq-eqb, ne_eqb, arith}
+use Rattle.std.specs.Prelude.{Option as Slot, Some, None, Result, Ok, Err}
+use mathlib.Core.Option.{none, some}
+use Rattle.tagged_index.specs.Fields.{fields_of, index_of, tag_of, mark_of}
+use Rattle.tagged_index.specs.declared.word.TheConstants.{NULL}
+use Rattle.tagged_index.proofs.Words.{same_fields}
+use Rattle.bounded_model.specs.declared.answers.Word.TheVariants.{Free as FreeWord, Top as TopWord}
+use Rattle.bounded_model.specs.declared.answers.PutRefused.{PutRefused}
+use Rattle.bounded_model.specs.declared.answers.PutRefused.TheVariants.{Full, Closed, Spent}
+use Rattle.bounded_model.specs.declared.history.Event.{Event}
+use Rattle.bounded_model.specs.declared.history.Event.TheVariants.{Hold, Put}
+use Rattle.bounded_model.specs.declared.views.PassView.{PassView}
+use Rattle.bounded_model.specs.Histories.{own}
+use Rattle.bounded_model.specs.Laws.{PutGives, Adds, BacksOut, gave_back}
+use Rattle.bounded_model.proofs.Histories.{own-mine}
+use Rattle.index_list.specs.Steps.{read_top, read_link, write_link, take, give_chain}
+use Rattle.step_core.specs.Words.{Tagged, same}
+use Rattle.step_core.specs.declared.stack.Answer.{Answer}
+use Rattle.step_core.specs.declared.stack.Answer.TheVariants.{Put as AnswerPut}
+use Rattle.step_core.specs.declared.stack.Line.{Line}
+use Rattle.step_core.specs.declared.stack.Line.TheVariants.{F1, F2, F3, P1, P2, P3, D1, G1}
+use Rattle.step_core.specs.declared.seats.View.{View}
+use Rattle.step_core.specs.StackMachine.{Outcome, ends, gives, at_F1, at_F3, at_P1, at_D1, goes_on as core_goes_on, wins, after_hold, after_put}
+use Rattle.step_core.specs.StackLaw.{shape}
+use Rattle.step_core.specs.StackDeeds.{handed_back}
+use Rattle.step_core.specs.Seats.{pass_of}
+use Rattle.step_core.proofs.Chains.{home_here}
+use Rattle.treiber_stack.specs.declared.operation.Operation.{Operation}
+use Rattle.treiber_stack.specs.declared.operation.Operation.TheVariants.{Put as PutFirst}
+use Rattle.treiber_stack.specs.Host.{puts_of, Bears, Did}
+use Rattle.treiber_stack.specs.Rule.{line_in}
+use Rattle.treiber_stack.specs.KeepsMarks.{is_same, not_same}
+use Rattle.treiber_stack.specs.KeepsPuts.{puts_line}
+use Rattle.treiber_stack.specs.Operations.{Going, Ended, IsLine, Goes, Ends}
+use Rattle.treiber_stack.specs.Putting.{wanting, bearing, of_range, put_answer, Returns}
+use Rattle.treiber_stack.proofs.Going.{goes_on, ends_so, out_at, adds_of, adds_by, deeds_then, number_after}
+use Rattle.treiber_stack.proofs.Takings.{leb_yes, leb_not, same_slot, front_slot}
+
+module _ {T : Type 0} where
+  value_or : Slot T → T → T
+  value_or None d = d
+  value_or (Some y) d = y
+
+  -- the one slot in hand has one value
+  pub same_value : (i : ℕ) (y x : T) (zs : List (ℕ × Slot T)) → zs ≡ (i, Some y) ∷ [] → zs ≡ (i, Some x) ∷ [] → y ≡ x
+  unfolding value_or
+  same_value i y x zs e f = ap (λ (s : Slot T). value_or s x) (front_slot zs [] [] i i (Some y) (Some x) e f)
+
+  named : Operation T → T → T
+  named (PutFirst y) d = y
+  named o d = d
+
+  -- the value that a put's first step was named with
+  pub same_name : (y z : T) → ◌≡◌ {A = Operation T} (PutFirst y) (PutFirst z) → z ≡ y
+  unfolding named
+  same_name y z e = sym (ap (λ (o : Operation T). named o y) e)
+
+  -- the slot of a free node is empty
+  pub F3_slot : {n limit : ℕ} {o : Operation T} {v v' : View T (Line T)} (w k : ℕ) (s : Slot T) → Did n limit o 0 (take w k) w ((index_of w, s) ∷ []) v v' → s ≡ None
+  F3_slot w k s d = let m = d.moves refl in same_slot (index_of w) s m.0 m.1 ∙ m.3
+
+module _ {T : Type 0} {n limit : ℕ} {o : Operation T} {v v' : View T (Line T)} {begun : PassView T} where
+  module _ (o' : Operation T) (y : T) (w : ℕ) (g : Going n limit o v begun (F1 (wanting y))) (d : Did n limit o 0 read_top w [] v v') where
+    abbrev spent_free : Line T
+    spent_free = cond (leb limit (tag_of w)) (ends (AnswerPut (Err (Spent (y ∷ []) FreeWord (tag_of w))))) (F2 (wanting y) (fields_of w))
+
+    F1_leads : d.out.line ≡ cond (eqb (index_of w) NULL) (D1 (y ∷ [])) spent_free
+    F1_leads = ap (λ (x : Outcome T). x.line) (out_at g d) ∙ ap (λ (x : Tagged). at_F1 limit (wanting y) x) (sym d.finds)
+
+    F1_node : index_of w ≢ NULL → d.out.line ≡ spent_free
+    F1_node ne = F1_leads ∙ ap (λ (b : Bool). cond b (D1 (y ∷ [])) spent_free) (ne_eqb (index_of w) NULL ne)
+
+    pub F1_none : index_of w ≡ NULL → Goes n limit o' v v' begun (F1 (wanting y)) (D1 (y ∷ []))
+    F1_none e = goes_on g d o' (D1 (y ∷ [])) (F1_leads ∙ ap (λ (b : Bool). cond b (D1 (y ∷ [])) spent_free) (eq-eqb (index_of w) NULL e)) refl
+
+    F1_spends : index_of w ≢ NULL → limit ≤ tag_of w → Ends n limit v v' begun (F1 (wanting y)) (AnswerPut (Err (Spent (y ∷ []) FreeWord (tag_of w))))
+    F1_spends ne h = ends_so g d (AnswerPut (Err (Spent (y ∷ []) FreeWord (tag_of w))))
+        (F1_node ne ∙ ap (λ (b : Bool). cond b (ends (AnswerPut (Err (Spent (y ∷ []) FreeWord (tag_of w))))) (F2 (wanting y) (fields_of w))) (leb_yes limit (tag_of w) h))
+
+    pub F1_spent : (t : ℕ) → t ≡ tag_of w → index_of w ≢ NULL → limit ≤ tag_of w → Ends n limit v v' begun (F1 (wanting y)) (AnswerPut (Err (Spent (y ∷ []) FreeWord t)))
+    F1_spent t is ne h = subst (λ (k : ℕ). Ends n limit v v' begun (F1 (wanting y)) (AnswerPut (Err (Spent (y ∷ []) FreeWord k)))) (sym is) (F1_spends ne h)
+
+    pub F1_goes : index_of w ≢ NULL → tag_of w < limit → Goes n limit o' v v' begun (F1 (wanting y)) (F2 (wanting y) (fields_of w))
+    F1_goes ne h = goes_on g d o' (F2 (wanting y) (fields_of w))
+        (F1_node ne ∙ ap (λ (b : Bool). cond b (ends (AnswerPut (Err (Spent (y ∷ []) FreeWord (tag_of w))))) (F2 (wanting y) (fields_of w))) (leb_not limit (tag_of w) h)) refl
+
+  pub F2_goes : (y : T) (w i k : ℕ) → i ≡ index_of w → (g : Going n limit o v begun (F2 (wanting y) (fields_of w))) (d : Did n limit o 0 (read_link i) k [] v v') → Goes n limit o v v' begun (F2 (wanting y) (fields_of w)) (F3 (wanting y) (fields_of w) k)
+  F2_goes y w i k is g d = goes_on g d o (F3 (wanting y) (fields_of w) k)
+      (ap (λ (x : Outcome T). x.line) (out_at g d) ∙ ap (λ (j : ℕ). F3 (wanting y) (fields_of w) (d.memory.link j)) (sym is) ∙ ap (λ (j : ℕ). F3 (wanting y) (fields_of w) j) d.finds.0) refl
+
+  F3_leads : (y : T) (w k found : ℕ) (zs : List (ℕ × Slot T)) (g : Going n limit o v begun (F3 (wanting y) (fields_of w) k)) (d : Did n limit o 0 (take w k) found zs v v') (b : Bool) → same d.memory.free (fields_of w) ≡ b
+      → d.out.line ≡ cond b (P1 (bearing y (index_of w))) (F1 (wanting y))
+  F3_leads y w k found zs g d b e = ap (λ (x : Outcome T). x.line) (out_at g d)
+      ∙ ap (λ (x : Bool). (cond x (wins (after_hold d.memory (fields_of w) k) (at_F3 (wanting y) (fields_of w)) (Hold d.pass.number)) (core_goes_on d.memory (F1 (wanting y)))).line) e
+      ∙ by_cases b
+    where
+      by_cases : (b : Bool) → (cond b (wins (after_hold d.memory (fields_of w) k) (at_F3 (wanting y) (fields_of w)) (Hold d.pass.number)) (core_goes_on d.memory (F1 (wanting y)))).line ≡ cond b (P1 (bearing y (index_of w))) (F1 (wanting y))
+      by_cases true = refl
+      by_cases false = refl
+
+  pub F3_won : (y : T) (w k i : ℕ) (zs : List (ℕ × Slot T)) → i ≡ index_of w → (g : Going n limit o v begun (F3 (wanting y) (fields_of w) k)) (d : Did n limit o 0 (take w k) w zs v v') → Goes n limit o v v' begun (F3 (wanting y) (fields_of w) k) (P1 (bearing y i))
+  F3_won y w k i zs is g d = goes_on g d o (P1 (bearing y i)) (F3_leads y w k w zs g d true (is_same d.memory.free (fields_of w) (sym d.finds)) ∙ ap (λ (j : ℕ). P1 (bearing y j)) (sym is)) refl
+
+  pub F3_lost : (o' : Operation T) (y : T) (w k found : ℕ) → found ≢ w → (g : Going n limit o v begun (F3 (wanting y) (fields_of w) k)) (d : Did n limit o 0 (take w k) found [] v v') → Goes n limit o' v v' begun (F3 (wanting y) (fields_of w) k) (F1 (wanting y))
+  F3_lost o' y w k found ne g d = goes_on g d o' (F1 (wanting y)) (F3_leads y w k found [] g d false (not_same d.memory.free (fields_of w) (λ e. ne ((same_fields found w).1 (d.finds ∙ e))))) refl
+
+  module _ (x : T) (i w : ℕ) (g : Going n limit o v begun (P1 (bearing x i))) (d : Did n limit o 1 read_top w [] v v') where
+    abbrev back : PutRefused (List T) → Line T
+    back why = gives (i ∷ []) (AnswerPut (Err why))
+
+    abbrev spent_top : Line T
+    spent_top = cond (leb limit (tag_of w)) (back (Spent (x ∷ []) TopWord (tag_of w))) (P2 (bearing x i) (fields_of w))
+
+    P1_leads : d.out.line ≡ cond (mark_of w) (back (Closed (x ∷ []))) spent_top
+    P1_leads = ap (λ (y : Outcome T). y.line) (out_at g d) ∙ ap (λ (y : Tagged). at_P1 limit (bearing x i) y) (sym d.finds)
+
+    P1_open : mark_of w ≡ false → d.out.line ≡ spent_top
+    P1_open e = P1_leads ∙ ap (λ (b : Bool). cond b (back (Closed (x ∷ []))) spent_top) e
+
+    P1_closes : mark_of w ≡ true → Goes n limit o v v' begun (P1 (bearing x i)) (back (Closed (x ∷ [])))
+    P1_closes e = goes_on g d o (back (Closed (x ∷ []))) (P1_leads ∙ ap (λ (b : Bool). cond b (back (Closed (x ∷ []))) spent_top) e) refl
+
+    pub P1_closed : (y : T) → y ≡ x → mark_of w ≡ true → Goes n limit o v v' begun (P1 (bearing x i)) (back (Closed (y ∷ [])))
+    P1_closed y is e = subst (λ (z : T). Goes n limit o v v' begun (P1 (bearing x i)) (back (Closed (z ∷ [])))) (sym is) (P1_closes e)
+
+    P1_spends : mark_of w ≡ false → limit ≤ tag_of w → Goes n limit o v v' begun (P1 (bearing x i)) (back (Spent (x ∷ []) TopWord (tag_of w)))
+    P1_spends e h = goes_on g d o (back (Spent (x ∷ []) TopWord (tag_of w)))
+        (P1_open e ∙ ap (λ (b : Bool). cond b (back (Spent (x ∷ []) TopWord (tag_of w))) (P2 (bearing x i) (fields_of w))) (leb_yes limit (tag_of w) h)) refl
+
+    pub P1_spent : (y : T) → y ≡ x → (t : ℕ) → t ≡ tag_of w → mark_of w ≡ false → limit ≤ tag_of w → Goes n limit o v v' begun (P1 (bearing x i)) (back (Spent (y ∷ []) TopWord t))
+    P1_spent y is t tag e h = subst (λ (z : T). Goes n limit o v v' begun (P1 (bearing x i)) (back (Spent (z ∷ []) TopWord t))) (sym is)
+        (subst (λ (k : ℕ). Goes n limit o v v' begun (P1 (bearing x i)) (back (Spent (x ∷ []) TopWord k))) (sym tag) (P1_spends e h))
+
+    pub P1_goes : mark_of w ≡ false → tag_of w < limit → Goes n limit o v v' begun (P1 (bearing x i)) (P2 (bearing x i) (fields_of w))
+    P1_goes e h = goes_on g d o (P2 (bearing x i) (fields_of w))
+        (P1_open e ∙ ap (λ (b : Bool). cond b (back (Spent (x ∷ []) TopWord (tag_of w))) (P2 (bearing x i) (fields_of w))) (leb_not limit (tag_of w) h)) refl
+
+  pub P2_goes : (x : T) (i w k found : ℕ) (g : Going n limit o v begun (P2 (bearing x i) (fields_of w))) (d : Did n limit o 1 (write_link i k) found [] v v') → Goes n limit o v v' begun (P2 (bearing x i) (fields_of w)) (P3 (bearing x i) (fields_of w))
+  P2_goes x i w k found g d = goes_on g d o (P3 (bearing x i) (fields_of w)) (ap (λ (y : Outcome T). y.line) (out_at g d)) refl
+
+  module _ (x : T) (i w found : ℕ) (zs : List (ℕ × Slot T)) (g : Going n limit o v begun (P3 (bearing x i) (fields_of w))) (d : Did n limit o 1 (give_chain w i) found zs v v') where
+    abbrev tried : Bool → Outcome T
+    tried b = cond b (wins (after_put d.memory (fields_of w) (bearing x i)) (ends (AnswerPut (Ok (tag_of w, [])))) (Put d.pass.number (x ∷ []) (tag_of w))) (core_goes_on d.memory (P1 (bearing x i)))
+
+    P3_out : (b : Bool) → same d.memory.top (fields_of w) ≡ b → d.out ≡ tried b
+    P3_out b e = out_at g d ∙ ap tried e
+
+    won_top : found ≡ w → same d.memory.top (fields_of w) ≡ true
+    won_top e = is_same d.memory.top (fields_of w) (sym d.finds ∙ ap fields_of e)
+
+    P3_answers : found ≡ w → Ends n limit v v' begun (P3 (bearing x i) (fields_of w)) (AnswerPut (Ok (tag_of w, [])))
+    P3_answers e = ends_so g d (AnswerPut (Ok (tag_of w, []))) (ap (λ (y : Outcome T). y.line) (P3_out true (won_top e)))
+
+    -- its own events are the take of the node and the put
+    P3_adds : found ≡ w → Adds begun (pass_of v') (Put begun.number (x ∷ []) (tag_of w) ∷ Hold begun.number ∷ [])
+    P3_adds e =
+        let p : ℕ = d.pass.number in
+        let before : List (Event T) = (deeds_then g d).between in
+        adds_by g d (Put begun.number (x ∷ []) (tag_of w) ∷ Hold begun.number ∷ [])
+        (ap (λ (y : Outcome T). own p (y.events ++ before)) (P3_out true (won_top e))
+        ∙ own-mine p (Put p (x ∷ []) (tag_of w)) before refl
+        ∙ ap (λ (h : List (Event T)). Put p (x ∷ []) (tag_of w) ∷ h) (deeds_then g d).made
+        ∙ ap (λ (k : ℕ). Put k (x ∷ []) (tag_of w) ∷ Hold k ∷ []) (number_after g d))
+
+    P3_gives : found ≡ w → Ended n limit v' begun (AnswerPut (Ok (tag_of w, []))) × PutGives (shape n limit) begun x (pass_of v') (Ok (tag_of w)) × IsLine n limit v v' (P3 (bearing x i) (fields_of w)) (ends (AnswerPut (Ok (tag_of w, []))))
+    P3_gives e = let a = P3_answers e in (a.0, P3_adds e, a.1)
+
+    pub P3_won : found ≡ w → (t : ℕ) → t ≡ tag_of w → Ended n limit v' begun (AnswerPut (Ok (t, []))) × PutGives (shape n limit) begun x (pass_of v') (Ok t) × IsLine n limit v v' (P3 (bearing x i) (fields_of w)) (ends (AnswerPut (Ok (t, []))))
+    P3_won e t is = subst (λ (k : ℕ). Ended n limit v' begun (AnswerPut (Ok (k, []))) × PutGives (shape n limit) begun x (pass_of v') (Ok k) × IsLine n limit v v' (P3 (bearing x i) (fields_of w)) (ends (AnswerPut (Ok (k, []))))) (sym is) (P3_gives e)
+
+    pub P3_lost : found ≢ w → Goes n limit o v v' begun (P3 (bearing x i) (fields_of w)) (P1 (bearing x i))
+    P3_lost ne = goes_on g d o (P1 (bearing x i)) (ap (λ (y : Outcome T). y.line) (P3_out false (not_same d.memory.top (fields_of w) (λ e. ne ((same_fields found w).1 (d.finds ∙ e)))))) refl
+
+  module _ (y : T) (w : ℕ) (g : Going n limit o v begun (D1 (y ∷ []))) (d : Did n limit o 1 read_top w [] v v') where
+    abbrev refused : PutRefused (List T) → Line T
+    refused why = ends (AnswerPut (Err why))
+
+    abbrev full_or_spent : Line T
+    full_or_spent = cond (leb limit (tag_of w)) (refused (Spent (y ∷ []) TopWord (tag_of w))) (refused (Full (y ∷ [])))
+
+    D1_leads : d.out.line ≡ cond (mark_of w) (refused (Closed (y ∷ []))) full_or_spent
+    D1_leads = ap (λ (x : Outcome T). x.line) (out_at g d) ∙ ap (λ (x : Tagged). at_D1 limit (y ∷ []) x) (sym d.finds)
+
+    D1_open : mark_of w ≡ false → d.out.line ≡ full_or_spent
+    D1_open e = D1_leads ∙ ap (λ (b : Bool). cond b (refused (Closed (y ∷ []))) full_or_spent) e
+
+    pub D1_closed : mark_of w ≡ true → Ends n limit v v' begun (D1 (y ∷ [])) (AnswerPut (Err (Closed (y ∷ []))))
+    D1_closed e = ends_so g d (AnswerPut (Err (Closed (y ∷ [])))) (D1_leads ∙ ap (λ (b : Bool). cond b (refused (Closed (y ∷ []))) full_or_spent) e)
+
+    D1_spends : mark_of w ≡ false → limit ≤ tag_of w → Ends n limit v v' begun (D1 (y ∷ [])) (AnswerPut (Err (Spent (y ∷ []) TopWord (tag_of w))))
+    D1_spends e h = ends_so g d (AnswerPut (Err (Spent (y ∷ []) TopWord (tag_of w))))
+        (D1_open e ∙ ap (λ (b : Bool). cond b (refused (Spent (y ∷ []) TopWord (tag_of w))) (refused (Full (y ∷ [])))) (leb_yes limit (tag_of w) h))
+
+    pub D1_spent : (t : ℕ) → t ≡ tag_of w → mark_of w ≡ false → limit ≤ tag_of w → Ends n limit v v' begun (D1 (y ∷ [])) (AnswerPut (Err (Spent (y ∷ []) TopWord t)))
+    D1_spent t is e h = subst (λ (k : ℕ). Ends n limit v v' begun (D1 (y ∷ [])) (AnswerPut (Err (Spent (y ∷ []) TopWord k)))) (sym is) (D1_spends e h)
+
+    D1_adds : Adds begun (pass_of v') []
+    D1_adds = adds_by g d [] (ap (λ (x : Outcome T). own d.pass.number (x.events ++ (deeds_then g d).between)) (out_at g d) ∙ (deeds_then g d).made)
+
+    -- no node was free, and the pass has done nothing
+    pub D1_full : mark_of w ≡ false → tag_of w < limit → Ended n limit v' begun (AnswerPut (Err (Full (y ∷ [])))) × Adds begun (pass_of v') [] × IsLine n limit v v' (D1 (y ∷ [])) (refused (Full (y ∷ [])))
+    D1_full e h =
+        let a = ends_so g d (AnswerPut (Err (Full (y ∷ [])))) (D1_open e ∙ ap (λ (b : Bool). cond b (refused (Spent (y ∷ []) TopWord (tag_of w))) (refused (Full (y ∷ [])))) (leb_not limit (tag_of w) h)) in
+        (a.0, D1_adds, a.1)
+
+module _ {T : Type 0} {n limit : ℕ} {begun : PassView T} where
+  -- the node's slot may go onto the stack with the value of the put
+  pub bears_going : {o : Operation T} {v : View T (Line T)} (x : T) (i : ℕ) (w : Tagged) → Going n limit o v begun (P3 (bearing x i) w) → Bears (line_in v) i (Some x)
+  bears_going {o} {v} x i w g =
+      let is : line_in v ≡ P3 (bearing x i) w = ap line_in g.is ∙ puts_line o g.at w (bearing x i) (ap puts_of g.now) in
+      subst (λ (k : Line T). Bears k i (Some x)) (sym is) (home_here (λ _. none) i (some (Some x)))
+
+  backs : {v : View T (Line T)} (why : PutRefused (List T)) → length (handed_back why) ≡ 1 → Ended n limit v begun (AnswerPut (Err why)) → BacksOut begun (pass_of v) 1
+  backs why one e =
+      let made = e.deeds.made in
+      let most = made.at_most in
+      record { held = made.nodes; at_most = omega arith; adds = adds_of e (gave_back begun.number made.nodes) (made.is ∙ ap (λ (k : ℕ). gave_back k made.nodes) e.number) }
+
+module _ {T : Type 0} {n limit : ℕ} {v v' : View T (Line T)} {begun : PassView T} {l : Line T} where
+  -- a refusal hands the value back, and the pass has given back what it took
+  pub refused_gives : (x : T) (why : PutRefused T) → Returns x why → Ends n limit v v' begun l (put_answer (Err why)) → PutGives (shape n limit) begun x (pass_of v') (Err why) × IsLine n limit v v' l (ends (put_answer (Err why)))
+  refused_gives x (Full y) is e = absurd is
+  refused_gives x (Closed y) is (e, line) = ((is, backs (Closed (y ∷ [])) refl e, e.tells), line)
+  refused_gives x (Spent y word t) is (e, line) = ((is, backs (Spent (y ∷ []) word t) refl e, e.tells), line)
