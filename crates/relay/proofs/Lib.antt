@@ -1,3 +1,10 @@
+pub mod Zips
+pub mod Closing
+pub mod Crossing
 pub mod Working
+pub mod Joins
+pub mod Splitting
+pub mod Starting
+pub mod Accounts
 pub mod Merging
 pub mod Relaying

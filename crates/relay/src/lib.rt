@@ -10,16 +10,24 @@
 
 mod consumer;
 mod ends;
+mod faults;
 mod gates;
+mod merge;
 mod messages;
 mod orders;
 mod outcome;
 mod parts;
+mod passes;
 mod pool;
 mod producer;
+mod rooms;
+mod run;
+mod sizes;
 #[cfg(test)]
 mod tests;
+mod threads;
 
+pub use faults::RelayFault;
 pub use gates::{FreeGate, Gate};
 pub use messages::{Message, numbered};
 pub use outcome::{Plan, Relayed, Taken};

@@ -20,7 +20,7 @@ use Rattle.step_core.specs.StackDeeds.{Deeds}
 use Rattle.step_core.specs.Seats.{Saw, at_rest, stepped, pass_of, line_of}
 use Rattle.step_core.proofs.StackDoing.{meanwhile}
 use Rattle.treiber_stack.specs.declared.operation.Operation.{Operation}
-use Rattle.treiber_stack.specs.declared.operation.Operation.TheVariants.{Put as PutFirst, Take as TakeFirst, Close as CloseFirst, Shut as ShutFirst, Look as LookFirst}
+use Rattle.treiber_stack.specs.declared.operation.Operation.TheVariants.{Put as PutFirst, Take as TakeFirst, Close as CloseFirst, Shut as ShutFirst, Look as LookFirst, Fold as FoldFirst}
 use Rattle.treiber_stack.specs.Rule.{idle, holding, Meets}
 use Rattle.treiber_stack.specs.Host.{first_line, line_now, begun_now, quiet, view_after, Did}
 use Rattle.treiber_stack.specs.Operations.{Going, Ended, IsLine, Goes, Ends, begun_view}
@@ -169,6 +169,7 @@ module _ {T : Type 0} where
       first_deeds CloseFirst = record { between = []; is = refl; made = refl; all = tt }
       first_deeds ShutFirst = record { between = []; is = refl; made = refl; all = tt }
       first_deeds LookFirst = record { between = []; is = refl; made = refl; all = tt }
+      first_deeds (FoldFirst front) = record { between = []; is = refl; made = refl; all = tt }
 
       first_tells : (o : Operation T) → Tells n limit (pass_of v).seen (pass_of v).seen (first_line o)
       first_tells (PutFirst x) = tt
@@ -176,6 +177,7 @@ module _ {T : Type 0} where
       first_tells CloseFirst = tt
       first_tells ShutFirst = tt
       first_tells LookFirst = tt
+      first_tells (FoldFirst front) = tt
 
   -- the core's step from the line that the operation was at
   pub out_at : {n limit : ℕ} {o : Operation T} {list : ℕ} {kind : Kind} {found : ℕ} {zs : List (ℕ × Slot T)} {v v' : View T (Line T)} {begun : PassView T} {l : Line T} (g : Going n limit o v begun l) (d : Did n limit o list kind found zs v v')

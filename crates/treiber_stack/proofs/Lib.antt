@@ -8,3 +8,9 @@ pub mod Nodes
 pub mod Givings
 pub mod Takings
 pub mod Puttings
+pub mod Slots
+pub mod Folds
+pub mod Walking
+pub mod Turning
+pub mod Chained
+pub mod Refusing

@@ -7,12 +7,17 @@ use Rattle.bounded_model.specs.declared.history.Event.{Event}
 use Rattle.bounded_model.specs.declared.views.PassView.{PassView}
 use Rattle.bounded_model.specs.Machine.{Legal}
 use Rattle.bounded_model.specs.Histories.{Later}
-use Rattle.index_list.specs.Steps.{Kind, read_top, read_link, write_link, take, give, give_chain, take_all, mark, shut}
+use Rattle.index_list.specs.declared.front.Front.{Front}
+use Rattle.index_list.specs.declared.front.Front.TheVariants.{First, Last}
+use Rattle.index_list.specs.Lists.{Leads}
+use Rattle.index_list.specs.Steps.{Kind, read_top, read_link, write_link, take, give, give_chain, take_all, mark, shut, numbers, Each}
 use Rattle.step_core.specs.Words.{Tagged}
 use Rattle.step_core.specs.declared.stack.Putting.{Putting}
-use Rattle.step_core.specs.declared.stack.Taking.TheVariants.{One}
+use Rattle.step_core.specs.declared.stack.Direction.{Direction}
+use Rattle.step_core.specs.declared.stack.Direction.TheVariants.{Down, Up}
+use Rattle.step_core.specs.declared.stack.Taking.TheVariants.{One, Whole}
 use Rattle.step_core.specs.declared.stack.Line.{Line}
-use Rattle.step_core.specs.declared.stack.Line.TheVariants.{Idle, F1, F2, F3, F4, P1, P2, P3, D1, S1, S2, S3, A2, A3, A4, G1, G2, G3, Z1, Z2, Y1, Y2, V1}
+use Rattle.step_core.specs.declared.stack.Line.TheVariants.{Idle, F1, F2, F3, F4, P1, P2, P3, D1, S1, S2, S3, A1, A2, A3, A4, G1, G2, G3, Z1, Z2, Y1, Y2, V1}
 use Rattle.step_core.specs.declared.seats.View.{View}
 use Rattle.step_core.specs.declared.seats.View.TheVariants.{AtRoot, AtPass, AtMeeting, Left}
 use Rattle.step_core.specs.StackMachine.{Memory, Outcome, first, second, last, held, placed, filled, step}
@@ -22,7 +27,12 @@ use Rattle.step_core.specs.StackDeeds.{Deeds}
 use Rattle.step_core.specs.Seats.{Saw, stepped}
 use Rattle.treiber_stack.specs.Rule.{idle, line_in, holding, Meets}
 use Rattle.treiber_stack.specs.declared.operation.Operation.{Operation}
-use Rattle.treiber_stack.specs.declared.operation.Operation.TheVariants.{Put as PutFirst, Take as TakeFirst, Close as CloseFirst, Shut as ShutFirst, Look as LookFirst}
+use Rattle.treiber_stack.specs.declared.operation.Operation.TheVariants.{Put as PutFirst, Take as TakeFirst, Close as CloseFirst, Shut as ShutFirst, Look as LookFirst, Fold as FoldFirst}
+
+-- a fold that begins with the first node goes down, one that begins with the last goes up
+abbrev pub direction : Front → Direction
+direction First = Down
+direction Last = Up
 
 module _ {T : Type 0} where
   -- the first step of an operation
@@ -32,6 +42,7 @@ module _ {T : Type 0} where
   first_line CloseFirst = Z1
   first_line ShutFirst = Y1
   first_line LookFirst = V1
+  first_line (FoldFirst front) = S1 (Whole (direction front))
 
   -- the line of a pass's next step: a pass between its operations begins one
   abbrev pub line_now : Operation T → Line T → Line T
@@ -83,6 +94,10 @@ module _ {T : Type 0} where
   takes_of (S3 w k) = some (1, (w, k))
   takes_of l = none
 
+  abbrev pub takes_all_of : Line T → Option Tagged
+  takes_all_of (A1 d w) = some w
+  takes_all_of l = none
+
   abbrev pub gives_of : Line T → Option (Tagged × List ℕ)
   gives_of (G3 giving w) = some (w, giving.chain)
   gives_of l = none
@@ -111,7 +126,7 @@ module _ {T : Type 0} where
   Makes list (take w k) l = (takes_of l ≡ some (list, (fields_of w, k))) × (k ≤ NULL)
   Makes list (give w i) l = ⊥
   Makes list (give_chain w i) l = MakesGive list w i l
-  Makes list (take_all w) l = ⊥
+  Makes list (take_all w) l = (list ≡ 1) × (takes_all_of l ≡ some (fields_of w))
   Makes list (mark w) l = (list ≡ 1) × (marks_of l ≡ some (fields_of w))
   Makes list (shut w) l = (list ≡ 1) × (shuts_of l ≡ some (fields_of w))
 
@@ -155,9 +170,10 @@ module _ {T : Type 0} where
   Rests zero x = x ≡ None
   Rests (suc list) x = (v : T) × (x ≡ Some v)
 
-  -- which slots moved: a won take brings the node's
+  -- which slots moved: a won take brings the node's, and one of the whole list those of the nodes that its links lead through
   abbrev pub Moves : ℕ → Kind → ℕ → List (ℕ × Slot T) → Memory T → Type 0
   Moves list (take w k) found zs m = found ≡ w → (x : Slot T) × (zs ≡ (index_of w, x) ∷ []) × (m.home (index_of w) ≡ some x) × Rests list x
+  Moves list (take_all w) found zs m = found ≡ w → Leads m.link (index_of w) (numbers zs) NULL × Each (λ i x. m.home i ≡ some x) zs
   Moves list kind found zs m = Unit {0}
 
 -- What a step tells: it was the core's step of the line that the pass was at, from a memory and a

@@ -80,7 +80,7 @@ module _ {T : Type 0} (n limit : ℕ) (s : State (Slot T) (View T (Line T))) (r 
     home = λ _ i h. (None, at_home_is s.homes i None (r.good.filled.empty i (holds_times r.lists.frees i h)));
   }
 
-  stack_stands : Stands layout_stack held_in 1 s r.lists.stack
+  pub stack_stands : Stands layout_stack held_in 1 s r.lists.stack
   stack_stands = record {
     leads = leads_on (λ i. word s (link_at i)) (index_of (word s 16)) r.lists.stack NULL r.good.linked.top_stands (λ x h. listed_below x (let t = holds_times r.lists.stack x h in omega arith));
     distinct = distinct_times r.lists.stack (λ i. let o = once_there i in omega arith);

@@ -1,8 +1,8 @@
--- What is left of the laws of a host: places, and the kinds of step that a stack's lists never see.
+-- What is left of the laws of a host: places, and the kind of step that a stack's lists never see.
 use Rattle.std.proofs.Common.{◌≢◌, ℕ, ◌<◌, length, arith}
 use Rattle.std.specs.Prelude.{Option as Slot}
 use Rattle.atomic_table.specs.Table.{State}
-use Rattle.index_list.specs.Steps.{give, take_all}
+use Rattle.index_list.specs.Steps.{give}
 use Rattle.step_core.specs.declared.stack.Line.{Line}
 use Rattle.step_core.specs.declared.seats.View.{View}
 use Rattle.step_core.specs.declared.seats.View.TheVariants.{AtRoot, AtPass, AtMeeting, Left}
@@ -23,9 +23,3 @@ module _ {T : Type 0} where
   no_give o l w i (AtRoot r heard) may = may
   no_give o l w i (AtMeeting p q) may = may
   no_give o l w i Left may = may
-
-  pub no_take_all : (o : Operation T) (l w : ℕ) (v : View T (Line T)) → may_step o l (take_all w) v → ⊥
-  no_take_all o l w (AtPass p from line) may = may
-  no_take_all o l w (AtRoot r heard) may = may
-  no_take_all o l w (AtMeeting p q) may = may
-  no_take_all o l w Left may = may

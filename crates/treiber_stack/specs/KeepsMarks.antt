@@ -12,20 +12,20 @@ use Rattle.bounded_model.specs.Machine.{Shape}
 use Rattle.index_list.specs.Lists.{word}
 use Rattle.index_list.specs.Steps.{Kind, read_top, read_link, write_link, take, give, give_chain, take_all, mark, shut, Expects, top_after_mark, top_after_shut, looked, changed, Before, Goes}
 use Rattle.step_core.specs.Words.{Tagged, same}
-use Rattle.step_core.specs.declared.stack.Taking.TheVariants.{One}
+use Rattle.step_core.specs.declared.stack.Taking.TheVariants.{One, Whole}
 use Rattle.step_core.specs.declared.stack.Answer.TheVariants.{Put as AnswerPut, Close as AnswerClose, Shut as AnswerShut}
 use Rattle.step_core.specs.declared.stack.Putting.{Putting}
 use Rattle.step_core.specs.declared.stack.Line.{Line}
-use Rattle.step_core.specs.declared.stack.Line.TheVariants.{F1, F3, P1, P3, S1, S3, G1, G3, Z1, Z2, Y1, Y2}
+use Rattle.step_core.specs.declared.stack.Line.TheVariants.{F1, F3, P1, P3, S1, S3, A1, G1, G3, Z1, Z2, Y1, Y2}
 use Rattle.step_core.specs.declared.seats.View.{View}
 use Rattle.step_core.specs.declared.seats.View.TheVariants.{AtRoot, AtPass, AtMeeting, Left}
-use Rattle.step_core.specs.StackMachine.{Memory, step, goes_on, wins, wins_value, ends, at_F3, after_hold, after_give, after_put, after_close, after_shut, placed, unplaced}
+use Rattle.step_core.specs.StackMachine.{Memory, step, goes_on, wins, wins_value, wins_chain, chain_from, ends, at_F3, after_hold, after_give, after_put, after_close, after_shut, placed, unplaced}
 use Rattle.step_core.specs.StackLaw.{shape}
 use Rattle.step_core.proofs.Tests.{same-is, same-self}
 use Rattle.treiber_stack.specs.declared.operation.Operation.{Operation}
 use Rattle.treiber_stack.specs.Layout.{top_at, link_at}
 use Rattle.treiber_stack.specs.Rule.{memory_of, Rule}
-use Rattle.treiber_stack.specs.Host.{line_now, takes_of, gives_of, puts_of, marks_of, shuts_of, MakesGive, Makes, may_step, steps_in, top_in, Moves, Finds, Did}
+use Rattle.treiber_stack.specs.Host.{line_now, takes_of, gives_of, puts_of, takes_all_of, marks_of, shuts_of, MakesGive, Makes, may_step, steps_in, top_in, Moves, Finds, Did}
 use Rattle.treiber_stack.specs.KeepsMemory.{top_set}
 use Rattle.treiber_stack.specs.KeepsReads.{finds_top}
 use Rattle.treiber_stack.specs.KeepsStep.{goes}
@@ -75,6 +75,11 @@ module _ {T : Type 0} (c : Shape) (m : Memory T) (p : ℕ) where
       (not_same m.top x (λ q. miss (ap (λ (t : ℕ × (Tagged × ℕ)). top_in t.0 m) (sym is) ∙ q ∙ ap (λ (t : ℕ × (Tagged × ℕ)). t.1.0) is))))
   take_lost l list k w e miss = absurd (some-ne-none (list, (w, k)) (sym e))
 
+  all_lost : (l : Line T) (w : Tagged) → takes_all_of l ≡ some w → (m.top ≡ w → ⊥) → m ≡ (step c m p l).memory
+  all_lost (A1 d x) w e miss =
+      sym (ap (λ (b : Bool). (cond b (wins_chain m p d x (chain_from c.capacity m.link x.index)) (goes_on m (S1 (Whole d)))).memory) (not_same m.top x (λ q. miss (q ∙ some-injective x w e))))
+  all_lost l w e miss = absurd (some-ne-none w (sym e))
+
   give_lost : (l : Line T) (w : Tagged) (chain : List ℕ) → gives_of l ≡ some (w, chain) → (m.free ≡ w → ⊥) → m ≡ (step c m p l).memory
   give_lost (G3 giving x) w chain e miss =
       let is = some-injective (x, giving.chain) (w, chain) e in
@@ -99,7 +104,7 @@ module _ {T : Type 0} (c : Shape) (m : Memory T) (p : ℕ) where
   lost_memory l list w (mark x) makes is miss = mark_lost l (fields_of x) makes.1 (λ e. miss (ap (λ (k : ℕ). top_in k m) makes.0 ∙ e ∙ ap fields_of (sym is)))
   lost_memory l list w (shut x) makes is miss = shut_lost l (fields_of x) makes.1 (λ e. miss (ap (λ (k : ℕ). top_in k m) makes.0 ∙ e ∙ ap fields_of (sym is)))
   lost_memory l list w (give x i) makes is miss = absurd makes
-  lost_memory l list w (take_all x) makes is miss = absurd makes
+  lost_memory l list w (take_all x) makes is miss = all_lost l (fields_of x) makes.1 (λ e. miss (ap (λ (k : ℕ). top_in k m) makes.0 ∙ e ∙ ap fields_of (sym is)))
   lost_memory l list w read_top makes is miss = absurd is
   lost_memory l list w (read_link i) makes is miss = absurd is
   lost_memory l list w (write_link i x) makes is miss = absurd is
@@ -122,7 +127,7 @@ module _ {T : Type 0} where
   moves_lost list w found (mark x) m is miss = tt
   moves_lost list w found (shut x) m is miss = tt
   moves_lost list w found (give x i) m is miss = tt
-  moves_lost list w found (take_all x) m is miss = tt
+  moves_lost list w found (take_all x) m is miss = λ hit. absurd (miss (hit ∙ sym is))
   moves_lost list w found read_top m is miss = tt
   moves_lost list w found (read_link i) m is miss = tt
   moves_lost list w found (write_link i x) m is miss = tt

@@ -11,8 +11,10 @@ pub mod KeepsMarks
 pub mod KeepsTakes
 pub mod KeepsPuts
 pub mod KeepsGives
+pub mod KeepsTakeAll
 pub mod KeepsHost
 pub mod Operations
 pub mod Closing
 pub mod Taking
 pub mod Putting
+pub mod Folding

@@ -1,5 +1,5 @@
 -- A pass in an operation, and a pass whose operation has answered.
-use Rattle.std.specs.Prelude.{◌≡◌, ◌≢◌, ℕ, ◌+◌, ◌<◌, ◌≤◌, List, [], ◌∷◌, ◌++◌, Option as Slot, Some}
+use Rattle.std.specs.Prelude.{◌≡◌, ◌≢◌, ℕ, ◌+◌, ◌<◌, ◌≤◌, List, [], ◌∷◌, ◌++◌, Option as Slot, Some, None}
 use Rattle.tagged_index.specs.Limits.{capacity_of, tag_limit_of}
 use Rattle.bounded_model.specs.declared.history.Event.{Event}
 use Rattle.bounded_model.specs.declared.views.PassView.{PassView}
@@ -17,7 +17,8 @@ use Rattle.step_core.specs.StackMachine.{Memory, step}
 use Rattle.step_core.specs.Seats.{Saw, at_rest, pass_of}
 use Rattle.treiber_stack.specs.Rule.{idle, Meets}
 use Rattle.tagged_index.specs.Fields.{index_of}
-use Rattle.index_list.specs.Steps.{Kind, take, give_chain}
+use Rattle.index_list.specs.declared.front.Front.{Front}
+use Rattle.index_list.specs.Steps.{Kind, take, take_all, give_chain, arranged}
 use Rattle.treiber_stack.specs.Host.{line_now, begun_now, steps_in, Did}
 use Rattle.treiber_stack.specs.declared.operation.Operation.{Operation}
 use Rattle.treiber_stack.specs.declared.stack.Stack.{Stack}
@@ -112,7 +113,18 @@ module _ {T : Type 0} where
     pub has : q.seat.me.1 ≡ (index_of w, slot) ∷ p.seat.me.1
     pub told : Told c o list (take w k) w ((index_of w, slot) ∷ []) p q
 
-  -- a won give of the one node in hand
+  -- a won take of all nodes: their slots are before those that the pass had
+  pub record TakesAll (c : Stack T) (o : Operation T) (front : Front) (w : ℕ) (p q : Pass T) : Type 0 where
+    pub slots : List (ℕ × Slot T)
+    pub has : q.seat.me.1 ≡ arranged front slots ++ p.seat.me.1
+    pub told : Told c o 1 (take_all w) w slots p q
+
+  -- the emptied slots of a chain
+  abbrev pub vacant : List ℕ → List (ℕ × Slot T)
+  vacant [] = []
+  vacant (i ∷ is) = (i, None) ∷ vacant is
+
+  -- a won give of all nodes in hand
   pub record Gives (c : Stack T) (o : Operation T) (list w i : ℕ) (p q : Pass T) : Type 0 where
     pub slots : List (ℕ × Slot T)
     pub none_left : q.seat.me.1 ≡ []

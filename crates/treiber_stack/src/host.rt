@@ -15,6 +15,7 @@ impl<T> ListHost<Option<T>, View<T, Line<T>>, Limits, 2> for Stacked<T> {
     ghost use Rattle.treiber_stack.specs.KeepsMarks as marking;
     ghost use Rattle.treiber_stack.specs.KeepsTakes as taking;
     ghost use Rattle.treiber_stack.specs.KeepsGives as giving;
+    ghost use Rattle.treiber_stack.specs.KeepsTakeAll as whole;
     ghost use Rattle.treiber_stack.specs.KeepsHost as host;
 
     type Line = Operation<T>;
@@ -69,7 +70,7 @@ impl<T> ListHost<Option<T>, View<T, Line<T>>, Limits, 2> for Stacked<T> {
 
     ghost gives_chain = { λ line key l id v s w i others h may mine low met hit. giving.gives_chain_law (capacity_of key) (tag_limit_of key) line l id v s w i h may low met hit };
 
-    ghost takes_all = { λ line key l id v s w xs h may. absurd (host.no_take_all line l w v may) };
+    ghost takes_all = { λ line key l id v s w xs h may some below met hit stands. whole.takes_all_law (capacity_of key) (tag_limit_of key) line l id v s w xs h may met hit stands };
 
     ghost marks = { λ line key. marking.marks_law (capacity_of key) (tag_limit_of key) line };
 

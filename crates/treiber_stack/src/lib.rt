@@ -13,6 +13,7 @@
 
 mod closing;
 mod container;
+mod folding;
 mod host;
 mod layout;
 mod making;
@@ -25,8 +26,11 @@ mod steps;
 mod taking;
 #[cfg(test)]
 mod tests;
+#[cfg(test)]
+mod tests_folds;
 
 pub use closing::{CloseOp, ShutOp};
+pub use folding::Folded;
 pub use putting::PutOp;
 pub use rest::Rest;
 pub use stack::{Pass, Root, Stack};

@@ -1,5 +1,7 @@
 //! Which operation a pass begins.
 
+use index_list::Front;
+
 /// The operation that a pass makes its first step of. Later steps need no name: the pass's line
 /// says where it is.
 #[derive(Drop)]
@@ -9,4 +11,6 @@ pub(crate) enum Operation<T> {
     Close,
     Shut,
     Look,
+    /// A fold of all values, from the top down or from the last up.
+    Fold(Front),
 }

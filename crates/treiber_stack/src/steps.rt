@@ -4,17 +4,20 @@ ghost use Rattle.tagged_index.specs.Limits.{capacity_of, tag_limit_of};
 ghost use Rattle.tagged_index.specs.Fields.{index_of, tag_of};
 ghost use Rattle.tagged_index.specs.declared.word.TheConstants.{NULL, MAX_TAG};
 ghost use Rattle.index_list.specs.Lists.{Holds};
-ghost use Rattle.index_list.specs.Steps.{read_top, read_link, write_link, take, give_chain, mark, shut};
+ghost use Rattle.index_list.specs.Steps.{read_top, read_link, write_link, take, take_all, give_chain, mark, shut};
 ghost use Rattle.step_core.specs.StackMachine.{held};
 ghost use Rattle.treiber_stack.specs.Rule.{line_in};
 ghost use Rattle.treiber_stack.specs.Host.{may_step, Bears, Did};
-ghost use Rattle.treiber_stack.specs.Operations.{IsSame, Told, Lost, Takes, Gives};
+ghost use Rattle.treiber_stack.specs.Operations.{IsSame, Told, Lost, Takes, TakesAll, Gives, vacant};
 
 use crate::layout::{FREE, TOP};
 use crate::operation::Operation;
 use crate::rule::Stacked;
 use crate::stack::{Pass, Stack};
-use index_list::{load_link, load_top, store_link, try_give_chain, try_mark, try_shut, try_take};
+use index_list::{
+    Front, load_link, load_top, store_link, try_give_chain, try_mark, try_shut, try_take,
+    try_take_all,
+};
 use step_core::seats::View;
 use step_core::stack::Line;
 use tagged_index::{Limits, Tagged};
@@ -165,6 +168,60 @@ impl<T> Stack<T> {
             TOP,
             seen,
             index,
+            operation,
+        )
+    }
+
+    /// Takes all nodes of the stack with their slots, that of the first or that of the last in
+    /// front, and answers whether it won.
+    #[inline]
+    pub(crate) fn take_nodes(
+        &self,
+        by: &mut Pass<T>,
+        seen: Tagged,
+        front: Front,
+        operation: &Operation<T>,
+    ) -> bool
+        requires table { by.old.seat.table_id ≡ self.now.table.shared.table_id }
+        requires may { may_step operation.now 1 (take_all seen) by.old.seat.me.0 }
+        requires word { (index_of seen < NULL) × (tag_of seen < MAX_TAG) }
+        ensures table { by.new.seat.table_id ≡ by.old.seat.table_id }
+        ensures won { IsTrue result → TakesAll self.now operation.now front seen by.old by.new }
+        ensures lost { IsFalse result → (by.new.seat.me.1 ≡ by.old.seat.me.1) × Lost self.now operation.now 1 (take_all seen) seen by.old by.new }
+    {
+        try_take_all::<Option<T>, View<T, Line<T>>, Limits, Stacked<T>, 2>(
+            &self.table.shared,
+            &mut by.seat,
+            TOP,
+            seen,
+            front,
+            operation,
+        )
+    }
+
+    /// Gives all nodes in hand to the free list, their slots empty, and answers whether it won.
+    #[inline]
+    pub(crate) fn give_nodes(
+        &self,
+        by: &mut Pass<T>,
+        seen: Tagged,
+        first: u32,
+        operation: &Operation<T>,
+    ) -> bool
+        requires table { by.old.seat.table_id ≡ self.now.table.shared.table_id }
+        requires may { may_step operation.now 0 (give_chain seen first) by.old.seat.me.0 }
+        requires held { (others : List ℕ) × (held (line_in by.old.seat.me.0) ≡ first ∷ others) }
+        requires slots { (by.old.seat.me.1 ≡ vacant (held (line_in by.old.seat.me.0))) × (first < NULL) }
+        ensures table { by.new.seat.table_id ≡ by.old.seat.table_id }
+        ensures won { IsTrue result → Gives self.now operation.now 0 seen first by.old by.new }
+        ensures lost { IsFalse result → (by.new.seat.me.1 ≡ by.old.seat.me.1) × Lost self.now operation.now 0 (give_chain seen first) seen by.old by.new }
+    {
+        try_give_chain::<Option<T>, View<T, Line<T>>, Limits, Stacked<T>, 2>(
+            &self.table.shared,
+            &mut by.seat,
+            FREE,
+            seen,
+            first,
             operation,
         )
     }

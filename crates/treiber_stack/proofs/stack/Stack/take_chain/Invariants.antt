@@ -1,0 +1,15 @@
+use Rattle.std.proofs.Common.{◌≡◌, []}
+use Rattle.step_core.specs.declared.stack.Taking.TheVariants.{Whole}
+use Rattle.step_core.specs.declared.stack.Line.TheVariants.{S1}
+use Rattle.treiber_stack.specs.Host.{direction}
+use Rattle.treiber_stack.specs.Operations.{IsAt, begun_in}
+use Rattle.treiber_stack.specs.Stack.{pass_in}
+use Rattle.treiber_stack.specs.declared.operation.Operation.TheVariants.{Fold as FoldFirst}
+use Rattle.treiber_stack.proofs.stack.Stack.take_chain.Given as goal
+
+abbrev pub invariant-loop : goal.invariant-loop
+invariant-loop g l =
+    (goal.iterator-loop g).can_next l.iterator'
+    × (goal.iterator-loop g).is_finite l.iterator'
+    × IsAt l.fn.self (FoldFirst l.fn.front) l.pass (S1 (Whole (direction l.fn.front))) []
+    × (begun_in l.pass ≡ pass_in l.fn.by)
