@@ -1,3 +1,4 @@
+pub mod AllDelivered
 pub mod Answering
 pub mod Fronts
 pub mod Outcomes

@@ -2,7 +2,7 @@
 use Rattle.script.specs.declared.fault.ScriptFault.{ScriptFault}
 use Rattle.script.specs.declared.fault.ScriptFault.TheVariants as script
 use Rattle.lockfree_tool.specs.declared.failure.Failure.{Failure}
-use Rattle.lockfree_tool.specs.declared.failure.Failure.TheVariants.{File as FileFailed, Script, Output as OutputFailed}
+use Rattle.lockfree_tool.specs.declared.failure.Failure.TheVariants.{File as FileFailed, Relay as RelayFailed, Script, Output as OutputFailed}
 use Rattle.lockfree_tool.specs.declared.fault.ReplayFault.{ReplayFault}
 use Rattle.lockfree_tool.specs.declared.fault.ReplayFault.TheVariants.{NoMemory, Device, NoFinalNewline, TooLong, BadLine, Output}
 use Rattle.lockfree_tool.specs.declared.tool_fault.ToolFault.{ToolFault}
@@ -24,4 +24,5 @@ failure_of (BadLine number) = Script (BadLine number)
 
 abbrev pub relay_failure_of : ToolFault → Failure
 relay_failure_of (tool.File number fault) = FileFailed number fault
+relay_failure_of (tool.Relay fault) = RelayFailed fault
 relay_failure_of tool.Output = OutputFailed

@@ -2,12 +2,14 @@
 
 ghost use Rattle.std.specs.Prelude.{◌≡◌, ◌↔◌, ℕ};
 ghost use Rattle.audit.specs.declared.faults.ReadFault.{ReadFault};
-ghost use Rattle.lockfree_tool.specs.declared.failure.Failure.TheVariants.{CommandLine, File as FileFailed, FileUnopened, Output as OutputFailed, Script, ScriptUnopened};
+ghost use Rattle.relay.specs.declared.faults.RelayFault.{RelayFault};
+ghost use Rattle.lockfree_tool.specs.declared.failure.Failure.TheVariants.{CommandLine, File as FileFailed, FileUnopened, Output as OutputFailed, Relay as RelayFailed, Script, ScriptUnopened};
 ghost use Rattle.lockfree_tool.specs.declared.fault.ReplayFault.{ReplayFault};
 
 use crate::fault::ReplayFault;
 use crate::tool_fault::ToolFault;
 use audit::ReadFault;
+use relay::RelayFault;
 use thiserror::Error;
 
 /// Why the program failed. The message is what the program prints behind its name.
@@ -28,6 +30,9 @@ pub enum Failure {
     /// The file of this number, from 1, was not read.
     #[error("file {0}: {1}")]
     File(u64, ReadFault),
+    /// The files were read, and their relay failed.
+    #[error("relay: {0}")]
+    Relay(RelayFault),
     /// The replies or the outcome could not be written.
     #[error("output: write failed")]
     Output,
@@ -41,6 +46,7 @@ impl Failure {
         ensures script { (fault : ReplayFault) → self ≡ Script fault → result ≡ 3 }
         ensures file_unopened { (number : ℕ) → self ≡ FileUnopened number → result ≡ 3 }
         ensures file { (number : ℕ) (fault : ReadFault) → self ≡ FileFailed number fault → result ≡ 3 }
+        ensures relay { (fault : RelayFault) → self ≡ RelayFailed fault → result ≡ 4 }
         ensures output { self ≡ OutputFailed → result ≡ 5 }
     {
         match self {
@@ -49,6 +55,7 @@ impl Failure {
             Failure::Script(_) => 3,
             Failure::FileUnopened(_) => 3,
             Failure::File(_, _) => 3,
+            Failure::Relay(_) => 4,
             Failure::Output => 5,
         }
     }
@@ -77,6 +84,7 @@ impl From<ToolFault> for Failure {
     fn from(fault: ToolFault) -> Failure {
         match fault {
             ToolFault::File(number, fault) => Failure::File(number, fault),
+            ToolFault::Relay(fault) => Failure::Relay(fault),
             ToolFault::Output => Failure::Output,
         }
     }
