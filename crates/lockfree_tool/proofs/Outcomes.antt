@@ -1,6 +1,6 @@
 -- What is known after a script was read from a reader whose bytes are known.
 use Rattle.std.proofs.Common.{◌≡◌, ◌≢◌, ℕ, ◌⊎◌, List, Option, Some, None, Result, Ok, Err, sym, ap, subst, ◌∙◌, inl, inr}
-use Rattle.std.specs.Prelude.{IfOk, IfSome}
+use Rattle.std.specs.Prelude.{IfErr, IfOk, IfSome, OnOk}
 use Rattle.lockfree_tool.specs.declared.fault.ReplayFault.{ReplayFault}
 use Rattle.lockfree_tool.specs.declared.fault.ReplayFault.TheVariants.{Output}
 use Rattle.script.specs.declared.fault.ScriptFault.{ScriptFault}
@@ -10,8 +10,8 @@ use Rattle.script.specs.Faults.{IsAccepted, IsTextFault}
 use Rattle.script.specs.Script.{Head, IsScript}
 use Rattle.script.proofs.Laws.{same_script}
 use Rattle.lockfree_tool.specs.Failure.{replay_fault_of}
-use Rattle.lockfree_tool.specs.Outcome.{IsFaultOf, IsOutputFor, IsOutside}
-use Rattle.lockfree_tool.specs.Replies.{output_of}
+use Rattle.std.specs.Io.KnownBytes.{Appends}
+use Rattle.lockfree_tool.specs.Outcome.{AppendsFront, IsFaultOf, IsOutputFor, IsOutputOf, IsOutside, Wrote, WroteFront}
 
 -- the text that was read is all of the known bytes
 known_text : (known : Option (List ℕ)) (read text : List ℕ) (P : List ℕ → Type 0) → IfSome known (λ bytes. read ≡ bytes) → text ≡ read → P text → IfSome known P
@@ -37,16 +37,33 @@ read_unwritten NoMemory e = absurd cc
 read_unwritten NoFinalNewline e = absurd cc
 read_unwritten (BadLine number) e = absurd cc
 
-output_is : (text output : List ℕ) (head : Head) (lines : List Line) → IsScript text head lines → output ≡ output_of head lines → IsOutputFor text output
+output_is : (text output : List ℕ) (head : Head) (lines : List Line) → IsScript text head lines → IsOutputOf head lines output → IsOutputFor text output
 output_is text output head lines is said = record {
   accepted = (head, lines, is);
   output_is = λ other more also.
       let same = same_script text head other lines more is also in
-      said ∙ ap (λ (h : Head). output_of h lines) same.0 ∙ ap (output_of other) same.1;
+      subst (λ (ls : List Line). IsOutputOf other ls output) same.1 (subst (λ (h : Head). IsOutputOf h lines output) same.0 said);
 }
 
-pub read_output : (known : Option (List ℕ)) (read text output : List ℕ) (head : Head) (lines : List Line) → IfSome known (λ bytes. read ≡ bytes) → text ≡ read → IsScript text head lines → output ≡ output_of head lines → IfSome known (λ bytes. IsOutputFor bytes output)
+pub read_output : (known : Option (List ℕ)) (read text output : List ℕ) (head : Head) (lines : List Line) → IfSome known (λ bytes. read ≡ bytes) → text ≡ read → IsScript text head lines → IsOutputOf head lines output → IfSome known (λ bytes. IsOutputFor bytes output)
 read_output known read text output head lines all same is said = known_text known read text (λ bytes. IsOutputFor bytes output) all same (output_is text output head lines is said)
+
+-- what was written for a text
+wrote : (known old new : Option (List ℕ)) (output bytes : List ℕ) → IfSome known (λ text. IsOutputFor text output) → bytes ≡ output → Appends old new bytes → IfSome known (λ text. Wrote text old new)
+wrote None old new output bytes is same out = tt
+wrote (Some text) old new output bytes is same out = record { output = output; is = is; went_out = subst (λ (bs : List ℕ). Appends old new bs) same out }
+
+wrote_front : (known old new : Option (List ℕ)) (output bytes : List ℕ) → IfSome known (λ text. IsOutputFor text output) → bytes ≡ output → AppendsFront old new bytes → IfSome known (λ text. WroteFront text old new)
+wrote_front None old new output bytes is same out = tt
+wrote_front (Some text) old new output bytes is same out = record { output = output; is = is; went_out = subst (λ (bs : List ℕ). AppendsFront old new bs) same out }
+
+pub wrote_ok : {A E : Type 0} (r : Result A E) (known old new : Option (List ℕ)) (output bytes : List ℕ) → IfSome known (λ text. IsOutputFor text output) → bytes ≡ output → OnOk r (Appends old new bytes) → OnOk r (IfSome known (λ text. Wrote text old new))
+wrote_ok (Ok x) known old new output bytes is same out = wrote known old new output bytes is same out
+wrote_ok (Err e) known old new output bytes is same out = tt
+
+pub wrote_err : {A : Type 0} (r : Result A ReplayFault) (known old new : Option (List ℕ)) (output bytes : List ℕ) → IfSome known (λ text. IsOutputFor text output) → bytes ≡ output → AppendsFront old new bytes → IfErr r (λ fault. fault ≡ Output → IfSome known (λ text. WroteFront text old new))
+wrote_err (Ok x) known old new output bytes is same out = tt
+wrote_err (Err e) known old new output bytes is same out = λ at. wrote_front known old new output bytes is same out
 
 -- a value of which more is known
 pub if_ok : {A E : Type 0} (r : Result A E) (P Q : A → Type 0) → IfOk r P → ((x : A) → P x → Q x) → IfOk r Q

@@ -1,4 +1,5 @@
 pub mod AnswerTexts
+pub mod Answering
 pub mod Faults
 pub mod Reading
 pub mod ReplyTexts

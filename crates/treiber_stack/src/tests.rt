@@ -353,3 +353,15 @@ fn what_is_left_is_dropped_half_read(rt: HostRuntime) -> Result<(), Fail> {
     assert_eq!(rt; Arc::strong_count(&value), 1);
     Ok(())
 }
+
+#[test]
+fn want_of_memory_refuses_a_stack(rt: HostRuntime) -> Result<(), Fail> {
+    let limits = Limits::of(40, 100).ok_or("limits")?;
+    let Ok((stack, root)) = Stack::<u32>::new(rt.alloc(), limits) else {
+        return Ok(());
+    };
+    assert_eq!(rt; stack.capacity(), 40);
+    drop(root);
+    drop(stack);
+    Ok(())
+}

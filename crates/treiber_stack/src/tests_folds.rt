@@ -16,14 +16,15 @@ fn last_three(seen: Three, value: char) -> Three {
 fn folds_take_all_values_in_either_order(rt: HostRuntime) -> Result<(), Fail> {
     let limits = Limits::of(3, 15).ok_or("limits")?;
     let (stack, mut root) = Stack::<char>::new(rt.alloc(), limits)?;
-    let Some(mut pass) = stack.split(&mut root) else {
+    let Some(pass) = stack.split(&mut root) else {
         panic!(rt; "no pass")
     };
-    for value in ['x', 'y', 'z'] {
-        let (back, answer) = stack.put(&rt, pass, value);
-        assert!(rt; answer.is_ok());
-        pass = back;
-    }
+    let (pass, answer) = stack.put(&rt, pass, 'x');
+    assert!(rt; answer.is_ok());
+    let (pass, answer) = stack.put(&rt, pass, 'y');
+    assert!(rt; answer.is_ok());
+    let (pass, answer) = stack.put(&rt, pass, 'z');
+    assert!(rt; answer.is_ok());
     let (pass, seen, answer) = stack.fold_all_atomic(&rt, pass, NONE, last_three);
     assert_eq!(rt;
         answer,
@@ -33,12 +34,12 @@ fn folds_take_all_values_in_either_order(rt: HostRuntime) -> Result<(), Fail> {
         })
     );
     assert_eq!(rt; seen, (Some('z'), Some('y'), Some('x')));
-    let mut pass = pass;
-    for value in ['u', 'v', 'w'] {
-        let (back, answer) = stack.put(&rt, pass, value);
-        assert!(rt; answer.is_ok());
-        pass = back;
-    }
+    let (pass, answer) = stack.put(&rt, pass, 'u');
+    assert!(rt; answer.is_ok());
+    let (pass, answer) = stack.put(&rt, pass, 'v');
+    assert!(rt; answer.is_ok());
+    let (pass, answer) = stack.put(&rt, pass, 'w');
+    assert!(rt; answer.is_ok());
     let (pass, seen, answer) = stack.fold_all_atomic_reversed(&rt, pass, NONE, last_three);
     assert_eq!(rt;
         answer,
