@@ -13,10 +13,12 @@ use Rattle.bounded_model.specs.Machine.{Shape, state}
 use Rattle.bounded_model.specs.Plain.{Plain, empty_list, shape_of, put_answer, take_answer, after_put, after_take, list_after, list_after_all}
 use Rattle.bounded_model.specs.Replies.{reply, replies, history_after, history_after_all}
 use Rattle.bounded_model.specs.Shows.{Shows, Runs}
-use Rattle.lockfree_tool.specs.declared.script.Line.{Line}
-use Rattle.lockfree_tool.specs.declared.script.Line.TheVariants.{Call, Finish}
-use Rattle.lockfree_tool.specs.Replies.{command_in, is_finish, replies_to, reply_text, end_text, output_of, shape_for}
-use Rattle.lockfree_tool.specs.Script.{Head, FinishesLast, text_of}
+use Rattle.script.specs.declared.line.Act.TheVariants.{Call, Begin, Step, Range, Fold, ReversedFold, Meet, Drop}
+use Rattle.script.specs.declared.line.Line.{Line}
+use Rattle.script.specs.declared.line.Line.TheVariants.{By, Finish}
+use Rattle.script.specs.ReplyTexts.{reply_text}
+use Rattle.lockfree_tool.specs.Replies.{command_in, is_finish, replies_to, end_text, output_of, shape_for}
+use Rattle.script.specs.Script.{Head, FinishesLast, text_of}
 
 abbrev Values : Type 0
 Values = List ℕ
@@ -47,7 +49,14 @@ shape_after_all p (m ∷ ms) = shape_after_all (list_after p m) ms ∙ shape_aft
 calls_then_end : (c : Shape) (h : List (Event Values)) (lines : List Line) → FinishesLast lines → replies_to c h lines ≡ map reply_text (replies c 0 h (filter_map command_in lines)) ++ end_text (list_any is_finish lines) (state c (history_after_all c 0 h (filter_map command_in lines))).values
 unfolding replies_to
 calls_then_end c h [] last = refl
-calls_then_end c h (Call pass command ∷ lines) last = ap (λ (ts : List Values). reply_text (reply c (state c h) command) ∷ ts) (calls_then_end c (history_after c 0 h command) lines last.1)
+calls_then_end c h (By pass (Call command) ∷ lines) last = ap (λ (ts : List Values). reply_text (reply c (state c h) command) ∷ ts) (calls_then_end c (history_after c 0 h command) lines last.1)
+calls_then_end c h (By pass (Begin command) ∷ lines) last = calls_then_end c h lines last.1
+calls_then_end c h (By pass (Step count) ∷ lines) last = calls_then_end c h lines last.1
+calls_then_end c h (By pass (Range values) ∷ lines) last = calls_then_end c h lines last.1
+calls_then_end c h (By pass Fold ∷ lines) last = calls_then_end c h lines last.1
+calls_then_end c h (By pass ReversedFold ∷ lines) last = calls_then_end c h lines last.1
+calls_then_end c h (By pass (Meet other) ∷ lines) last = calls_then_end c h lines last.1
+calls_then_end c h (By pass Drop ∷ lines) last = calls_then_end c h lines last.1
 calls_then_end c h (Finish ∷ lines) last =
     let end : lines ≡ [] = last.0 refl in
     subst (λ (ls : List Line). replies_to c h (Finish ∷ ls) ≡ map reply_text (replies c 0 h (filter_map command_in (Finish ∷ ls))) ++ end_text (list_any is_finish (Finish ∷ ls)) (state c (history_after_all c 0 h (filter_map command_in (Finish ∷ ls)))).values) (sym end) refl

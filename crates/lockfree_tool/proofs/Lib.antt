@@ -1,11 +1,6 @@
+pub mod AllDelivered
 pub mod Answering
-pub mod Ascii
-pub mod Cuts
-pub mod Heads
-pub mod Laws
-pub mod Numbers
+pub mod Fronts
 pub mod Outcomes
-pub mod Scripts
-pub mod Splitting
-pub mod Words
+pub mod Readers
 pub mod Writing

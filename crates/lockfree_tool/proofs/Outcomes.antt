@@ -1,63 +1,69 @@
 -- What is known after a script was read from a reader whose bytes are known.
 use Rattle.std.proofs.Common.{◌≡◌, ◌≢◌, ℕ, ◌⊎◌, List, Option, Some, None, Result, Ok, Err, sym, ap, subst, ◌∙◌, inl, inr}
-use Rattle.std.specs.Prelude.{IfOk, IfSome}
+use Rattle.std.specs.Prelude.{IfErr, IfOk, IfSome, OnOk}
 use Rattle.lockfree_tool.specs.declared.fault.ReplayFault.{ReplayFault}
-use Rattle.lockfree_tool.specs.declared.fault.ReplayFault.TheVariants.{NoMemory, Output}
-use Rattle.lockfree_tool.specs.declared.script.Line.{Line}
-use Rattle.lockfree_tool.specs.Outcome.{IsAccepted, IsFaultOf, IsOutputFor, IsOutside}
-use Rattle.lockfree_tool.specs.Reading.{script_of}
-use Rattle.lockfree_tool.specs.Replies.{output_of}
-use Rattle.lockfree_tool.specs.Script.{Head, FinishesLast}
-use Rattle.lockfree_tool.proofs.Laws.{script_found, script_again, script_fault, script_faultless}
+use Rattle.lockfree_tool.specs.declared.fault.ReplayFault.TheVariants.{Output}
+use Rattle.script.specs.declared.fault.ScriptFault.{ScriptFault}
+use Rattle.script.specs.declared.fault.ScriptFault.TheVariants.{NoMemory, NoFinalNewline, BadLine}
+use Rattle.script.specs.declared.line.Line.{Line}
+use Rattle.script.specs.Faults.{IsAccepted, IsTextFault}
+use Rattle.script.specs.Script.{Head, IsScript}
+use Rattle.script.proofs.Laws.{same_script}
+use Rattle.lockfree_tool.specs.Failure.{replay_fault_of}
+use Rattle.std.specs.Io.KnownBytes.{Appends}
+use Rattle.lockfree_tool.specs.Outcome.{AppendsFront, IsFaultOf, IsOutputFor, IsOutputOf, IsOutside, Wrote, WroteFront}
 
 -- the text that was read is all of the known bytes
 known_text : (known : Option (List ℕ)) (read text : List ℕ) (P : List ℕ → Type 0) → IfSome known (λ bytes. read ≡ bytes) → text ≡ read → P text → IfSome known P
 known_text None read text P all same holds = tt
 known_text (Some bytes) read text P all same holds = subst P (same ∙ all) holds
 
--- a fault of reading: want of memory, or the text's
-abbrev IsReadFault : List ℕ → ReplayFault → Type 0
-IsReadFault text fault = (fault ≡ NoMemory) ⊎ (script_of text ≡ Err fault)
+fault_is : (text : List ℕ) (fault : ScriptFault) → IsTextFault fault text → IsFaultOf (replay_fault_of fault) text
+fault_is text NoMemory is = tt
+fault_is text NoFinalNewline is = is
+fault_is text (BadLine number) is = is
 
-fault_is : (text : List ℕ) (fault : ReplayFault) → IsReadFault text fault → IsFaultOf fault text
-fault_is text fault (inl is) = subst (λ (f : ReplayFault). IsFaultOf f text) (sym is) tt
-fault_is text fault (inr is) = script_fault text fault is
+outside_is : (text : List ℕ) (fault : ScriptFault) → (IsAccepted text → fault ≡ NoMemory) → IsAccepted text → IsOutside (replay_fault_of fault)
+outside_is text fault only accepted = inl (ap replay_fault_of (only accepted))
 
-outside_is : (text : List ℕ) (fault : ReplayFault) → IsReadFault text fault → IsAccepted text → IsOutside fault
-outside_is text fault (inl is) accepted = inl is
-outside_is text fault (inr is) accepted = absurd (script_faultless text fault is accepted)
+pub read_fault : (known : Option (List ℕ)) (read text : List ℕ) (fault : ScriptFault) → IfSome known (λ bytes. read ≡ bytes) → text ≡ read → IsTextFault fault text → IfSome known (λ bytes. IsFaultOf (replay_fault_of fault) bytes)
+read_fault known read text fault all same is = known_text known read text (IsFaultOf (replay_fault_of fault)) all same (fault_is text fault is)
 
-pub read_fault : (known : Option (List ℕ)) (read text : List ℕ) (fault : ReplayFault) → IfSome known (λ bytes. read ≡ bytes) → text ≡ read → IsReadFault text fault → IfSome known (λ bytes. IsFaultOf fault bytes)
-read_fault known read text fault all same is = known_text known read text (IsFaultOf fault) all same (fault_is text fault is)
+pub read_only : (known : Option (List ℕ)) (read text : List ℕ) (fault : ScriptFault) → IfSome known (λ bytes. read ≡ bytes) → text ≡ read → (IsAccepted text → fault ≡ NoMemory) → IfSome known (λ bytes. IsAccepted bytes → IsOutside (replay_fault_of fault))
+read_only known read text fault all same only = known_text known read text (λ bytes. IsAccepted bytes → IsOutside (replay_fault_of fault)) all same (outside_is text fault only)
 
-pub read_only : (known : Option (List ℕ)) (read text : List ℕ) (fault : ReplayFault) → IfSome known (λ bytes. read ≡ bytes) → text ≡ read → IsReadFault text fault → IfSome known (λ bytes. IsAccepted bytes → IsOutside fault)
-read_only known read text fault all same is = known_text known read text (λ bytes. IsAccepted bytes → IsOutside fault) all same (outside_is text fault is)
+pub read_unwritten : (fault : ScriptFault) → replay_fault_of fault ≢ Output
+read_unwritten NoMemory e = absurd cc
+read_unwritten NoFinalNewline e = absurd cc
+read_unwritten (BadLine number) e = absurd cc
 
-pub read_unwritten : (text : List ℕ) (fault : ReplayFault) → IsReadFault text fault → fault ≢ Output
-read_unwritten text fault (inl is) e = let no : NoMemory ≡ Output = sym is ∙ e in absurd cc
-read_unwritten text fault (inr is) e =
-    let there : script_of text ≡ Err Output = is ∙ ap (λ (f : ReplayFault). Err f) e in
-    script_faultless text Output there (script_fault text Output there)
-
-pub read_finishes : (text : List ℕ) (whole : Head × List Line) → script_of text ≡ Ok whole → FinishesLast whole.1
-read_finishes text whole e = (script_found text whole e).finish_last
-
-abbrev read_whole : Head × List Line → Result (Head × List Line) ReplayFault
-read_whole whole = Ok whole
-
-same_whole : (p q : Head × List Line) → read_whole p ≡ read_whole q → p ≡ q
-same_whole p q e = cc
-
-output_is : (text output : List ℕ) (whole : Head × List Line) → script_of text ≡ Ok whole → output ≡ output_of whole.0 whole.1 → IsOutputFor text output
-output_is text output whole e is = record {
-  accepted = (whole.0, whole.1, script_found text whole e);
-  output_is = λ head lines script.
-      let other : Head × List Line = (head, lines) in
-      is ∙ ap (λ (w : Head × List Line). output_of w.0 w.1) (same_whole whole other (sym e ∙ script_again text head lines script));
+output_is : (text output : List ℕ) (head : Head) (lines : List Line) → IsScript text head lines → IsOutputOf head lines output → IsOutputFor text output
+output_is text output head lines is said = record {
+  accepted = (head, lines, is);
+  output_is = λ other more also.
+      let same = same_script text head other lines more is also in
+      subst (λ (ls : List Line). IsOutputOf other ls output) same.1 (subst (λ (h : Head). IsOutputOf h lines output) same.0 said);
 }
 
-pub read_output : (known : Option (List ℕ)) (read text output : List ℕ) (whole : Head × List Line) → IfSome known (λ bytes. read ≡ bytes) → text ≡ read → script_of text ≡ Ok whole → output ≡ output_of whole.0 whole.1 → IfSome known (λ bytes. IsOutputFor bytes output)
-read_output known read text output whole all same e is = known_text known read text (λ bytes. IsOutputFor bytes output) all same (output_is text output whole e is)
+pub read_output : (known : Option (List ℕ)) (read text output : List ℕ) (head : Head) (lines : List Line) → IfSome known (λ bytes. read ≡ bytes) → text ≡ read → IsScript text head lines → IsOutputOf head lines output → IfSome known (λ bytes. IsOutputFor bytes output)
+read_output known read text output head lines all same is said = known_text known read text (λ bytes. IsOutputFor bytes output) all same (output_is text output head lines is said)
+
+-- what was written for a text
+wrote : (known old new : Option (List ℕ)) (output bytes : List ℕ) → IfSome known (λ text. IsOutputFor text output) → bytes ≡ output → Appends old new bytes → IfSome known (λ text. Wrote text old new)
+wrote None old new output bytes is same out = tt
+wrote (Some text) old new output bytes is same out = record { output = output; is = is; went_out = subst (λ (bs : List ℕ). Appends old new bs) same out }
+
+wrote_front : (known old new : Option (List ℕ)) (output bytes : List ℕ) → IfSome known (λ text. IsOutputFor text output) → bytes ≡ output → AppendsFront old new bytes → IfSome known (λ text. WroteFront text old new)
+wrote_front None old new output bytes is same out = tt
+wrote_front (Some text) old new output bytes is same out = record { output = output; is = is; went_out = subst (λ (bs : List ℕ). AppendsFront old new bs) same out }
+
+pub wrote_ok : {A E : Type 0} (r : Result A E) (known old new : Option (List ℕ)) (output bytes : List ℕ) → IfSome known (λ text. IsOutputFor text output) → bytes ≡ output → OnOk r (Appends old new bytes) → OnOk r (IfSome known (λ text. Wrote text old new))
+wrote_ok (Ok x) known old new output bytes is same out = wrote known old new output bytes is same out
+wrote_ok (Err e) known old new output bytes is same out = tt
+
+pub wrote_err : {A : Type 0} (r : Result A ReplayFault) (known old new : Option (List ℕ)) (output bytes : List ℕ) → IfSome known (λ text. IsOutputFor text output) → bytes ≡ output → AppendsFront old new bytes → IfErr r (λ fault. fault ≡ Output → IfSome known (λ text. WroteFront text old new))
+wrote_err (Ok x) known old new output bytes is same out = tt
+wrote_err (Err e) known old new output bytes is same out = λ at. wrote_front known old new output bytes is same out
 
 -- a value of which more is known
 pub if_ok : {A E : Type 0} (r : Result A E) (P Q : A → Type 0) → IfOk r P → ((x : A) → P x → Q x) → IfOk r Q

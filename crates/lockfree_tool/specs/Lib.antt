@@ -1,7 +1,6 @@
 pub mod Failure
+pub mod Inputs
 pub mod Outcome
 pub mod Ranges
-pub mod Reading
+pub mod Relaying
 pub mod Replies
-pub mod Script
-pub mod View

@@ -15,62 +15,23 @@ use Rattle.bounded_model.specs.declared.history.Event.{Event}
 use Rattle.bounded_model.specs.declared.plain_list.TheConstants.{COUNT_LIMIT}
 use Rattle.bounded_model.specs.Machine.{Shape, state}
 use Rattle.bounded_model.specs.Replies.{reply, history_after}
-use Rattle.lockfree_tool.specs.declared.script.Line.{Line}
-use Rattle.lockfree_tool.specs.declared.script.Line.TheVariants.{Call, Finish}
-use Rattle.lockfree_tool.specs.Script.{Head, text_of}
-
--- ---- how a reply is written
-
-abbrev pub word_text : Word → List ℕ
-word_text word.Cells = codes "cells"
-word_text word.Nodes = codes "nodes"
-word_text (word.Next node) = codes "next " ++ decimal node
-word_text word.Free = codes "free"
-word_text word.Top = codes "top"
-word_text word.Count = codes "count"
-
-abbrev pub put_text : Result ℕ (PutRefused (List ℕ)) → List ℕ
-put_text (Ok number) = codes "put " ++ decimal number
-put_text (Err (put.Full value)) = codes "full " ++ value
-put_text (Err (put.Closed value)) = codes "closed " ++ value
-put_text (Err (put.Spent value word tag)) = codes "spent " ++ word_text word ++ codes " " ++ decimal tag ++ codes " " ++ value
-
-abbrev pub take_text : Result (List ℕ × ℕ) TakeRefused → List ℕ
-take_text (Ok (value, number)) = codes "take " ++ decimal number ++ codes " " ++ value
-take_text (Err take.Empty) = codes "empty"
-take_text (Err take.Closed) = codes "closed"
-take_text (Err (take.Spent word tag)) = codes "spent " ++ word_text word ++ codes " " ++ decimal tag
-take_text (Err take.Shut) = codes "shut"
-
-abbrev pub bool_text : Bool → List ℕ
-bool_text true = codes "true"
-bool_text false = codes "false"
-
-abbrev pub look_text : Bool → List ℕ
-look_text true = codes "look empty"
-look_text false = codes "look some"
-
-abbrev pub reply_text : Reply (List ℕ) → List ℕ
-reply_text (Put answer) = put_text answer
-reply_text (Take answer) = take_text answer
-reply_text (Close closed) = codes "close " ++ bool_text closed
-reply_text (Shut shut) = codes "shut " ++ bool_text shut
-reply_text (Look is_empty) = look_text is_empty
-
--- the values left, a space before each
-abbrev pub rest_text : List (List ℕ) → List ℕ
-rest_text values = codes "rest" ++ flat_map (λ value. codes " " ++ value) values
+use Rattle.script.specs.declared.line.Act.TheVariants.{Call, Begin, Step, Range, Fold, ReversedFold, Meet, Drop}
+use Rattle.script.specs.declared.line.Line.{Line}
+use Rattle.script.specs.declared.line.Line.TheVariants.{By, Finish}
+use Rattle.script.specs.ReplyTexts.{reply_text, rest_text}
+use Rattle.script.specs.Script.{Head, text_of}
 
 -- ---- what is written for a script
 
 abbrev pub shape_for : Head → Shape
 shape_for head = record { order = head.order; capacity = head.capacity; limit = COUNT_LIMIT }
 
--- one reply for each line, from the end of a history of the bounded machine; to a sequential list all passes
+-- one reply for each call, as a queue's script has no other lines, from the end of a history of the bounded machine; to a sequential list all passes
 -- are one, pass 0
 unfoldable pub replies_to : Shape → List (Event (List ℕ)) → List Line → List (List ℕ)
 replies_to c h [] = []
-replies_to c h (Call pass command ∷ lines) = reply_text (reply c (state c h) command) ∷ replies_to c (history_after c 0 h command) lines
+replies_to c h (By pass (Call command) ∷ lines) = reply_text (reply c (state c h) command) ∷ replies_to c (history_after c 0 h command) lines
+replies_to c h (By pass act ∷ lines) = replies_to c h lines
 replies_to c h (Finish ∷ lines) = rest_text (state c h).values ∷ replies_to c h lines
 
 abbrev pub output_of : Head → List Line → List ℕ
@@ -80,11 +41,12 @@ output_of head lines = text_of (replies_to (shape_for head) [] lines)
 
 -- the call that a line is
 abbrev pub command_in : Line → Option (Command (List ℕ))
-command_in (Call pass command) = Some command
+command_in (By pass (Call command)) = Some command
+command_in (By pass act) = None
 command_in Finish = None
 
 abbrev pub is_finish : Line → Bool
-is_finish (Call pass command) = false
+is_finish (By pass act) = false
 is_finish Finish = true
 
 -- the line of the values left, where the script ends with `finish`

@@ -1,19 +1,20 @@
-//! What is written for a script, by a sequential list.
+//! What is written for a script.
 
-ghost use Rattle.std.specs.Prelude.{◌≡◌, ◌++◌, ◌∷◌, [], IfOk, IfErr, OnOk, filter_map, map, string_bytes};
-ghost use Rattle.std.specs.List.{list_any};
-ghost use Rattle.lockfree_tool.specs.declared.fault.ReplayFault.TheVariants.{NoMemory};
-ghost use Rattle.lockfree_tool.specs.Replies.{command_in, is_finish, output_of, reply_text, end_text};
-ghost use Rattle.lockfree_tool.specs.Script.{FinishesLast, text_of};
-ghost use Rattle.lockfree_tool.specs.View.{head_view};
+ghost use Rattle.std.specs.Prelude.{◌≡◌, ◌++◌, ◌∷◌, [], IfOk, IsTrue, OnOk, filter_map, map, string_bytes};
+ghost use Rattle.std.specs.List.{list_any, AllByRecursion};
+ghost use Rattle.lockfree_tool.specs.Outcome.{IsOutputOf};
+ghost use Rattle.lockfree_tool.specs.Replies.{command_in, is_finish, output_of, end_text};
+ghost use Rattle.script.specs.ReplyTexts.{reply_text};
+ghost use Rattle.script.specs.Script.{FinishesLast, IsLine, is_allowed, text_of};
+ghost use Rattle.script.specs.View.{head_view};
 
-use crate::fault::ReplayFault;
-use crate::reply::ReplyText;
-use crate::script::{Line, Script, Value};
-use bounded_model::{Command, PlainList, Reply};
+use bounded_model::{Command, MakeRefused, Order, PlainList, Reply};
+use player::play_stack;
+use script::{Act, Line, ReplyText, Script, Value};
 use std::alloc::{AllocError, Global};
 use std::collections::VecDeque;
 use std::fmt::Write;
+use std::sync::Wait;
 
 /// The calls of these lines, and whether a line ends the script. To a sequential list all passes
 /// are one.
@@ -29,7 +30,8 @@ fn calls_of(
     let mut is_finished = false;
     while let Some(line) = lines.pop_front() {
         match line {
-            Line::Call(_, command) => calls.push(command)?,
+            Line::By(_, Act::Call(command)) => calls.push(command)?,
+            Line::By(..) => {}
             Line::Finish => is_finished = true,
         }
     }
@@ -68,13 +70,11 @@ fn push_end(
     output.push_str("\n")
 }
 
-/// What is written for a script. All memory is taken here, so that no writer is touched before the
-/// whole output stands.
-pub fn answer(alloc: Global, script: Script<'_>) -> Result<String, ReplayFault>
+/// What is written for a script of a sequential list.
+fn answer_list(alloc: Global, script: Script<'_>) -> Result<String, MakeRefused>
     requires { FinishesLast script.lines.items }
-    ensures output { IfOk result (λ output. string_bytes output
+    ensures { IfOk result (λ output. string_bytes output
         ≡ output_of (head_view script.entry.header) script.entry.lines.items) }
-    ensures no_memory { IfErr result (λ fault. fault ≡ NoMemory) }
 {
     let Script { header, lines } = script;
     let (calls, is_finished) = calls_of(alloc, lines)?;
@@ -84,4 +84,18 @@ pub fn answer(alloc: Global, script: Script<'_>) -> Result<String, ReplayFault>
     push_replies(&mut output, &replies)?;
     push_end(&mut output, is_finished, list.into_values())?;
     Ok(output)
+}
+
+/// What is written for a script: a stack's is played on a stack, and a queue's on a sequential list.
+/// All memory is taken here, so that no writer is touched before the whole output stands.
+pub fn answer<S: Wait>(rt: &S, alloc: Global, script: Script<'_>) -> Result<String, MakeRefused>
+    requires each { AllByRecursion IsLine script.lines.items }
+    requires allowed { AllByRecursion (λ line. IsTrue (is_allowed script.header.order line)) script.lines.items }
+    requires finish_last { FinishesLast script.lines.items }
+    ensures { IfOk result (λ output. IsOutputOf (head_view script.entry.header) script.entry.lines.items (string_bytes output)) }
+{
+    match script.header.order {
+        Order::Fifo => answer_list(alloc, script),
+        Order::Lifo => play_stack(rt, alloc, script),
+    }
 }

@@ -4,6 +4,7 @@ ghost use Rattle.std.specs.Prelude.{◌≡◌};
 ghost use Rattle.lockfree_tool.specs.declared.fault.ReplayFault.TheVariants.{NoMemory};
 
 use bounded_model::MakeRefused;
+use script::ScriptFault;
 use std::alloc::{AllocError, AllocFailed};
 use thiserror::Error;
 
@@ -51,5 +52,20 @@ impl From<MakeRefused> for ReplayFault {
 
     fn from(_: MakeRefused) -> ReplayFault {
         ReplayFault::NoMemory
+    }
+}
+
+impl From<ScriptFault> for ReplayFault {
+    ghost use Rattle.std.specs.Prelude.{◌≡◌};
+    ghost use Rattle.lockfree_tool.specs.Failure.{replay_fault_of};
+
+    ghost from_gives = { λ found fault. fault ≡ replay_fault_of found };
+
+    fn from(fault: ScriptFault) -> ReplayFault {
+        match fault {
+            ScriptFault::NoMemory => ReplayFault::NoMemory,
+            ScriptFault::NoFinalNewline => ReplayFault::NoFinalNewline,
+            ScriptFault::BadLine(number) => ReplayFault::BadLine(number),
+        }
     }
 }

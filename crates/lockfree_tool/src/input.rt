@@ -4,11 +4,9 @@ ghost use Rattle.std.specs.Prelude.{◌≡◌, ◌≤◌, ◌⊎◌, IfOk, IfErr
 ghost use Rattle.lockfree_tool.specs.declared.fault.ReplayFault.TheVariants.{NoMemory, Device, TooLong};
 
 use crate::fault::ReplayFault;
+use script::MAX_SCRIPT_LEN;
 use std::alloc::Global;
 use std::io::{ErrorKind, Read};
-
-/// The most bytes that a script has.
-pub const MAX_SCRIPT_LEN: usize = 1 << 20;
 
 /// The most reads that a script takes, interrupted ones and the one that meets its end included.
 pub const MAX_READS: u32 = 1 << 21;

@@ -1,23 +1,25 @@
 //! Scripts replayed.
 
-ghost use Rattle.std.specs.Prelude.{◌≡◌, ◌≢◌, ◌≤◌, length, IfErr, IfOk, OnOk, IfSome, List, ℕ, string_bytes};
-ghost use Rattle.std.specs.Io.KnownBytes.{Appends};
+ghost use Rattle.std.specs.Prelude.{◌≡◌, ◌≢◌, ◌≤◌, length, IfErr, IfOk, OnOk, IfSome, string_bytes};
 ghost use Rattle.lockfree_tool.specs.declared.fault.ReplayFault.TheVariants.{Output};
-ghost use Rattle.lockfree_tool.specs.declared.script.Line.{Line};
-ghost use Rattle.lockfree_tool.specs.Outcome.{AppendsFront, IsAccepted, IsFaultOf, IsOutputFor, IsOutside};
-ghost use Rattle.lockfree_tool.specs.Replies.{output_of};
-ghost use Rattle.lockfree_tool.specs.Script.{Head, IsScript};
+ghost use Rattle.lockfree_tool.specs.Outcome.{IsFaultOf, IsOutputFor, IsOutside, Wrote, WroteFront};
+ghost use Rattle.script.specs.Faults.{IsAccepted};
 
 use crate::answer::answer;
 use crate::fault::ReplayFault;
-use crate::input::{MAX_SCRIPT_LEN, read_text};
+use crate::input::read_text;
 use crate::output::write_all;
-use crate::parse::parse;
+use script::{MAX_SCRIPT_LEN, parse};
 use std::alloc::Global;
 use std::io::{Read, Write};
+use std::sync::Wait;
 
 /// What is to be written for the script that the reader gives, all of it.
-fn output_for<R: Read>(alloc: Global, reader: &mut R) -> Result<String, ReplayFault>
+fn output_for<S: Wait, R: Read>(
+    rt: &S,
+    alloc: Global,
+    reader: &mut R,
+) -> Result<String, ReplayFault>
     ensures output { IfOk result (λ output. IfSome (R.remaining reader.old)
         (λ text. IsOutputFor text (string_bytes output))) }
     ensures fault { IfErr result (λ fault. IfSome (R.remaining reader.old) (λ text. IsFaultOf fault text)) }
@@ -28,7 +30,7 @@ fn output_for<R: Read>(alloc: Global, reader: &mut R) -> Result<String, ReplayFa
 {
     let text = read_text(alloc, reader)?;
     let script = parse(alloc, &text)?;
-    answer(alloc, script)
+    Ok(answer(rt, alloc, script)?)
 }
 
 /// Reads a script to its end, checks it whole, runs it on a container, and writes a reply for each
@@ -38,10 +40,8 @@ fn output_for<R: Read>(alloc: Global, reader: &mut R) -> Result<String, ReplayFa
 /// then `BadLine` with the number of the first line that a script cannot have there, then
 /// `NoMemory` of the container and its replies. The writer is touched after all of that;
 /// `Output` comes where a write fails.
-///
-/// `_rt` is for containers that wait. A sequential list needs nothing of it.
-pub fn replay<S, R: Read, W: Write>(
-    _rt: &S,
+pub fn replay<S: Wait, R: Read, W: Write>(
+    rt: &S,
     alloc: Global,
     reader: &mut R,
     writer: &mut W,
@@ -49,21 +49,19 @@ pub fn replay<S, R: Read, W: Write>(
     // What is accepted is a script.
     ensures accepted { OnOk result (IfSome (R.remaining reader.old) IsAccepted) }
     ensures short { OnOk result (IfSome (R.remaining reader.old) (λ text. length text ≤ MAX_SCRIPT_LEN)) }
-    // What is written is the bounded machine's replies to it, and nothing else.
-    ensures replies { OnOk result (IfSome (R.remaining reader.old) (λ text. (head : Head) (lines : List Line)
-        → IsScript text head lines
-        → Appends (W.contents writer.old) (W.contents writer.new) (output_of head lines))) }
+    // What is written is a line for each line of it after the first, and nothing else.
+    ensures replies { OnOk result (IfSome (R.remaining reader.old)
+        (λ text. Wrote text (W.contents writer.old) (W.contents writer.new))) }
     // A fault of the text is in the text, and a script has none.
     ensures fault { IfErr result (λ fault. IfSome (R.remaining reader.old) (λ text. IsFaultOf fault text)) }
     ensures only { IfErr result (λ fault. IfSome (R.remaining reader.old)
         (λ text. IsAccepted text → IsOutside fault)) }
     // Nothing is written before the script was read and checked whole, nor after want of memory.
     ensures untouched { IfErr result (λ fault. fault ≢ Output → writer.new ≡ writer.old) }
-    // After a failed write a front of the replies went out.
+    // After a failed write a front of that went out.
     ensures front { IfErr result (λ fault. fault ≡ Output → IfSome (R.remaining reader.old)
-        (λ text. (head : Head) (lines : List Line) → IsScript text head lines
-        → AppendsFront (W.contents writer.old) (W.contents writer.new) (output_of head lines))) }
+        (λ text. WroteFront text (W.contents writer.old) (W.contents writer.new))) }
 {
-    let output = output_for(alloc, reader)?;
+    let output = output_for(rt, alloc, reader)?;
     write_all(writer, output.as_bytes())
 }

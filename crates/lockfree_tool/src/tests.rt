@@ -5,6 +5,7 @@ use std::alloc::AllocError;
 use std::io;
 use std::io::{ErrorKind, Read, Write};
 use std::process::Abort;
+use std::sync::Wait;
 use std::test::Fail;
 
 /// A reader that gives one byte a read, and a fault at one of its reads.
@@ -101,7 +102,7 @@ impl Read for InterruptedReader {
     }
 }
 
-fn assert_replies(rt: &(impl Abort + AllocGlobal), script: &str, replies: &str) {
+fn assert_replies(rt: &(impl Abort + Wait + AllocGlobal), script: &str, replies: &str) {
     let mut reader = script.as_bytes();
     let mut written = Vec::new(rt.alloc());
     let result = replay(rt, rt.alloc(), &mut reader, &mut written);
@@ -109,7 +110,7 @@ fn assert_replies(rt: &(impl Abort + AllocGlobal), script: &str, replies: &str) 
     assert_eq!(rt; written.as_slice(), replies.as_bytes(), "{script}");
 }
 
-fn assert_refused(rt: &(impl Abort + AllocGlobal), script: &[u8], fault: ReplayFault) {
+fn assert_refused(rt: &(impl Abort + Wait + AllocGlobal), script: &[u8], fault: ReplayFault) {
     let mut reader = script;
     let mut written = Vec::<u8>::new(rt.alloc());
     let result = replay(rt, rt.alloc(), &mut reader, &mut written);
@@ -146,92 +147,32 @@ fn whole_calls(rt: HostRuntime) {
         ),
         ("queue 1 2\n", ""),
         ("stack 1 2\na look\n", "look empty\n"),
+        (
+            "stack 1 7\na begin put x\na step 5\na put y\na step 9\na drop\n",
+            "begun\nagain 5\nbusy\nput 0 steps 6\nnothing begun\n",
+        ),
     ];
     for (script, replies) in cases {
         assert_replies(&rt, script, replies);
     }
 }
 
+// The grammar's own tests are those of its crate.
 #[test]
 fn bad_scripts(rt: HostRuntime) {
-    let first_lines = [
-        "",
-        "\n",
-        "queue 0 7\n",
-        "queue 1 1\n",
-        "queue 1048574 7\n",
-        "queue 1 4398046511104\n",
-        "queue 65533 140737488355327\n",
-        "queue 01 7\n",
-        "queue 1 07\n",
-        "queue +1 7\n",
-        "queue  1 7\n",
-        " queue 1 7\n",
-        "queue 1 7 \n",
-        "queue 1\n",
-        "queue 1 7 7\n",
-        "queue 18446744073709551617 7\n",
-        "heap 1 7\n",
-        "Queue 1 7\n",
-        "queue 1 7\r\n",
-        "finish\n",
-    ];
-    for script in first_lines {
-        assert_refused(&rt, script.as_bytes(), ReplayFault::BadLine(1));
-    }
-    let second_lines = [
-        "queue 1 7\n\n",
-        "queue 1 7\na  put x\n",
-        "queue 1 7\na put  x\n",
-        "queue 1 7\na put x \n",
-        "queue 1 7\n a put x\n",
-        "queue 1 7\na put\n",
-        "queue 1 7\na put \n",
-        "queue 1 7\na put x-y\n",
-        "queue 1 7\na put \u{e9}\n",
-        "queue 1 7\nA take\n",
-        "queue 1 7\nab take\n",
-        "queue 1 7\na\n",
-        "queue 1 7\n1 take\n",
-        "queue 1 7\na takes\n",
-        "queue 1 7\na take\r\n",
-        "queue 1 7\na Take\n",
-        "queue 1 7\nfinish\na take\n",
-        "queue 1 7\nfinish \n",
-        "queue 1 7\nfinish\nfinish\n",
-        "queue 1 7\na begin put x\n",
-        "queue 1 7\na step 1\n",
-        "queue 1 7\na meet b\n",
-        "queue 1 7\na drop\n",
-        "stack 1 7\na fold\n",
-        "stack 1 7\na range x\n",
-        "queue 1 7\n\na take\n",
-    ];
-    for script in second_lines {
-        assert_refused(&rt, script.as_bytes(), ReplayFault::BadLine(2));
-    }
-    assert_refused(&rt, b"queue 1 7\n\xff take\n", ReplayFault::BadLine(2));
-    assert_refused(&rt, b"queue 1 7\na take\na tak\n", ReplayFault::BadLine(3));
-    for script in ["queue 1 7", "queue 1 7\na take", "heap\na"] {
-        assert_refused(&rt, script.as_bytes(), ReplayFault::NoFinalNewline);
-    }
-}
-
-#[test]
-fn values_have_up_to_64_bytes(rt: HostRuntime) -> Result<(), Fail> {
-    let mut script = "queue 1 7\na put ".as_bytes().to_vec(rt.alloc())?;
-    for _ in 0..64 {
-        script.push(b'Z')?;
-    }
-    script.push(b'\n')?;
-    let mut written = Vec::new(rt.alloc());
-    let result = replay(&rt, rt.alloc(), &mut script.as_slice(), &mut written);
-    assert_eq!(rt; result, Ok(()));
-    assert_eq!(rt; written.as_slice(), b"put 0\n".as_slice());
-    script.pop();
-    script.extend_from_slice(b"9\n")?;
-    assert_refused(&rt, &script, ReplayFault::BadLine(2));
-    Ok(())
+    assert_refused(&rt, b"queue 0 7\n", ReplayFault::BadLine(1));
+    assert_refused(&rt, b"", ReplayFault::BadLine(1));
+    assert_refused(&rt, b"queue 1 7", ReplayFault::NoFinalNewline);
+    assert_refused(
+        &rt,
+        b"queue 1 7\na put x\na step 1\n",
+        ReplayFault::BadLine(3),
+    );
+    assert_refused(
+        &rt,
+        b"stack 1 7\na put x\na begin look\n",
+        ReplayFault::BadLine(3),
+    );
 }
 
 /// A script of so many lines that look at an empty queue and so many that close it.

@@ -1,3 +1,13 @@
+pub mod Zips
+pub mod Closing
+pub mod Crossing
 pub mod Working
+pub mod Joins
+pub mod Splitting
+pub mod Starting
+pub mod Accounts
+pub mod Delivering
+pub mod Ended
+pub mod Promised
 pub mod Merging
 pub mod Relaying

@@ -24,7 +24,7 @@ module _ {T A : Type 0} (f : Event T → List A) where
   gain : (v w : PassView T) (es : List (Event T)) → Adds v w es → gather f (mine w) ≡ gather f (mine v) ++ gather f es
   gain v w es a = did-adds f a
 
-  keep : (v w : PassView T) (es : List (Event T)) → Adds v w es → gather f es ≡ [] → gather f (mine w) ≡ gather f (mine v)
+  pub keep : (v w : PassView T) (es : List (Event T)) → Adds v w es → gather f es ≡ [] → gather f (mine w) ≡ gather f (mine v)
   keep v w es a none = gain v w es a ∙ (ap (λ l. gather f (mine v) ++ l) none ∙ append-nil (gather f (mine v)))
 
 -- n messages were put, and this rest is to come

@@ -1,18 +1,16 @@
 -- When a worker's part is ready, and when it is done.
-use Rattle.std.specs.Prelude.{◌≡◌, ℕ, ◌+◌, ◌<◌, Bool, false, [], vec_capacity}
+use Rattle.std.specs.Prelude.{◌≡◌, ◌+◌, ◌<◌, ◌^◌, Bool, [], vec_capacity}
 use Rattle.std.specs.List.{AllByRecursion as Every}
 use Rattle.bounded_model.specs.declared.views.PassView.{PassView}
 use Rattle.bounded_model.specs.Machine.{Shape}
 use Rattle.bounded_model.specs.Histories.{own}
 use Rattle.relay.specs.declared.messages.Message.{Message}
 use Rattle.relay.specs.declared.orders.Orders.{Orders}
-use Rattle.relay.specs.declared.ends.ProducerEnd.{ProducerEnd}
-use Rattle.relay.specs.declared.ends.ProducerEnd.TheVariants.{SentAll, ClosedIt, MetClosed, MetSpent}
 use Rattle.relay.specs.declared.parts.Sender.{Sender}
 use Rattle.relay.specs.declared.parts.Sent.{Sent}
 use Rattle.relay.specs.declared.parts.Taker.{Taker}
 use Rattle.relay.specs.declared.parts.Took.{Took}
-use Rattle.relay.specs.Workers.{Producer, Consumer, DidBy, moves_of}
+use Rattle.relay.specs.Workers.{Producer, Consumer, ClosesLast, DidBy, NotMet, moves_of}
 
 module _ {P : Type 0} (is_pass : P → Type 0) (view : P → PassView Message) where
   -- a producer with a new pass of its own number, and with messages of its own
@@ -27,6 +25,7 @@ module _ {P : Type 0} (is_pass : P → Type 0) (view : P → PassView Message) w
     pub of : is_pass job.pass
     pub number : (view job.pass).number ≡ orders.producers + job.consumer
     pub new : own (view job.pass).number (view job.pass).seen ≡ []
+    pub few : orders.producers < 2 ^ 63
     pub room : orders.messages < vec_capacity job.room
     pub empty : job.room.items ≡ []
 
@@ -42,12 +41,12 @@ module _ {P : Type 0} (is_pass : P → Type 0) (view : P → PassView Message) w
     pub number : (view done.pass).number ≡ orders.producers + job.consumer
     pub did : DidBy (λ m. m.sender) c orders (view done.pass) (Consumer (moves_of orders.producers done.taken.items) done.end)
 
--- the closing pass was not used where this producer met the close
-abbrev pub NotMet : Bool → ProducerEnd → Type 0
-NotMet used MetClosed = used ≡ false
-NotMet used SentAll = Unit {0}
-NotMet used ClosedIt = Unit {0}
-NotMet used MetSpent = Unit {0}
+  -- the same pass, with which the container was closed where it was used, and otherwise nothing done
+  pub record DidClose (pass : P) (done : P) (used : Bool) : Type 0 where
+    pub of : is_pass done
+    pub number : (view done).number ≡ (view pass).number
+    pub did : ClosesLast (own (view done).number (view done).seen) used
 
+-- the closing pass was not used where this producer met the close
 abbrev pub MayUse : {P : Type 0} → Bool → Sent P → Type 0
 MayUse used done = NotMet used done.end

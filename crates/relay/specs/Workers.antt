@@ -96,12 +96,15 @@ taken_of (Producer items unsent end) = []
 taken_of (Consumer taken end) = taken
 taken_of (Closer used) = []
 
--- the closer wasn't used where this worker met the close
+-- the closer wasn't used where a producer met the close
+abbrev pub NotMet : Bool → ProducerEnd → Type 0
+NotMet used MetClosed = used ≡ false
+NotMet used SentAll = Unit {0}
+NotMet used ClosedIt = Unit {0}
+NotMet used MetSpent = Unit {0}
+
 abbrev pub Unused : {T : Type 0} → Bool → Worker T → Type 0
-Unused used (Producer items unsent MetClosed) = used ≡ false
-Unused used (Producer items unsent SentAll) = Unit {0}
-Unused used (Producer items unsent ClosedIt) = Unit {0}
-Unused used (Producer items unsent MetSpent) = Unit {0}
+Unused used (Producer items unsent end) = NotMet used end
 Unused used (Consumer taken end) = Unit {0}
 Unused used (Closer u) = u ≡ used
 

@@ -1,6 +1,6 @@
 //! The parts of a relay's workers, and what comes of them.
 
-ghost use Rattle.std.specs.Prelude.{◌≡◌, ◌<◌, ◌^◌, true, false};
+ghost use Rattle.std.specs.Prelude.{◌≡◌, true, false};
 ghost use Rattle.relay.specs.Parts.{IsSender, IsTaker, DidSend, DidTake, MayUse};
 
 use crate::consumer::consume;
@@ -91,7 +91,6 @@ pub(crate) fn receive<C: Pool, G: Gate, W: Wait>(
     gate: &G,
     taker: Taker<C::Pass>,
 ) -> Took<C::Pass>
-    requires few { site.now.orders.producers < 2 ^ 63 }
     requires ready { IsTaker (C.is_pass site.now.container) C.pass site.now.orders taker }
     ensures { DidTake (C.is_pass site.now.container) C.pass (C.shape site.now.container) site.now.orders taker result }
 {

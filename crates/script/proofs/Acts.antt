@@ -16,7 +16,8 @@ use Rattle.script.specs.declared.line.Line.{Line}
 use Rattle.script.specs.declared.line.Line.TheVariants.{By, Finish}
 use Rattle.script.specs.Reading.{pass_of, command_of, in_step_range, steps_of, call_in, act_alone, act_with, act_of_words, act_of, line_of}
 use Rattle.script.specs.Words.{number_of, values_of, word_and_rest}
-use Rattle.script.specs.Script.{IsCommand, IsAct, IsLine, IsValue, command_text, act_text, line_text, spaced}
+use Rattle.script.specs.Script.{IsCommand, IsAct, IsLine, IsValue, command_text, act_text, line_text}
+use Rattle.script.specs.Words.{spaced}
 use Rattle.script.proofs.Cuts.{Lacks-cons, cut_again, cut_found}
 use Rattle.script.proofs.Numbers.{number_again, number_found}
 use Rattle.script.proofs.Spaced.{values_again, values_found}

@@ -19,7 +19,8 @@ use Rattle.script.specs.declared.line.Act.TheVariants.{Call, Begin, Step, Range,
 use Rattle.script.specs.declared.line.Line.{Line}
 use Rattle.script.specs.declared.line.Line.TheVariants.{By, Finish}
 use Rattle.script.specs.Reading.{line_of, head_of, line_before}
-use Rattle.script.specs.Script.{Head, IsHead, IsValue, IsCommand, IsAct, IsLine, order_text, head_text, command_text, spaced, act_text, line_text}
+use Rattle.script.specs.Script.{Head, IsHead, IsValue, IsCommand, IsAct, IsLine, order_text, head_text, command_text, act_text, line_text}
+use Rattle.script.specs.Words.{spaced}
 use Rattle.script.proofs.Acts.{line_found}
 use Rattle.script.proofs.Heads.{limits_text, head_text_is, head_found}
 

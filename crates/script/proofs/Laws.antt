@@ -1,6 +1,6 @@
 -- What is read as a script is one, every script is read, and a fault is the text's.
 use Rattle.std.proofs.Common.{◌≡◌, ℕ, suc, ◌+◌, ◌≤◌, Bool, true, false, cond, leb, ◌&&◌, List, [], ◌∷◌, ◌++◌, Option, Some, None, Result, Ok, Err, refl, sym, ap, subst, ◌∙◌, arith, inl, inr, append_assoc}
-use Rattle.std.specs.Prelude.{IsTrue, codes, map, option_and_then}
+use Rattle.std.specs.Prelude.{IfOk, IfErr, IsTrue, codes, map, option_and_then}
 use Rattle.std.specs.Char.{is_ascii_alphanumeric, is_ascii_lowercase}
 use Rattle.std.specs.Fmt.{decimal}
 use Rattle.std.specs.List.{list_all, onto_first, AllByRecursion}
@@ -12,17 +12,20 @@ use Rattle.bounded_model.specs.declared.commands.Command.TheVariants.{Put, Take,
 use Rattle.bounded_model.specs.declared.history.Order.{Order}
 use Rattle.bounded_model.specs.declared.history.Order.TheVariants.{Fifo, Lifo}
 use Rattle.script.specs.declared.fault.ScriptFault.{ScriptFault}
-use Rattle.script.specs.declared.fault.ScriptFault.TheVariants.{NoFinalNewline, BadLine}
+use Rattle.script.specs.declared.fault.ScriptFault.TheVariants.{NoMemory, NoFinalNewline, BadLine}
+use Rattle.script.specs.declared.reading.Script.{Script as ReadScript}
 use Rattle.script.specs.declared.line.Act.{Act}
 use Rattle.script.specs.declared.line.Act.TheVariants.{Call, Begin, Step, Range, Fold, ReversedFold, Meet, Drop}
 use Rattle.script.specs.declared.line.Line.{Line}
 use Rattle.script.specs.declared.line.Line.TheVariants.{By, Finish}
-use Rattle.script.specs.Reading.{is_ended, split_lines, line_of, is_in_place, placed, line_before, with_line, lines_from, numbered, head_of, with_lines, with_head, script_in, script_of}
-use Rattle.script.specs.Script.{Head, IsHead, IsValue, IsCommand, IsAct, IsLine, IsScript, FinishesLast, order_text, head_text, command_text, spaced, act_text, line_text, text_of, is_allowed}
+use Rattle.script.specs.Reading.{Gives, is_ended, split_lines, line_of, is_in_place, placed, line_before, with_line, lines_from, numbered, head_of, with_lines, with_head, script_in, script_of}
+use Rattle.script.specs.Script.{Head, IsHead, IsValue, IsCommand, IsAct, IsLine, IsScript, FinishesLast, order_text, head_text, command_text, act_text, line_text, text_of, is_allowed}
+use Rattle.script.specs.Words.{spaced}
 use Rattle.script.specs.Faults.{IsUnended, Stands, IsWrongAt, IsBadBehind, IsFirstBad, IsAccepted, IsTextFault}
 use Rattle.script.proofs.Cuts.{Lacks, Lacks-cons, Lacks-rest}
 use Rattle.script.proofs.Heads.{Lacks-decimal, limits_text, head_text_is, head_again, head_found}
 use Rattle.script.proofs.Splitting.{split_written}
+use Rattle.script.specs.View.{head_view, script_view}
 use Rattle.script.proofs.Acts.{line_again, line_found}
 
 -- ---- no line of a script has a newline in it
@@ -346,3 +349,30 @@ pub script_faultless : (text : List ℕ) (fault : ScriptFault) → script_of tex
 script_faultless text fault e accepted =
     let there = script_again text accepted.0 accepted.1 accepted.2 in
     let no : refused fault ≡ read_whole (accepted.0, accepted.1) = sym e ∙ there in absurd cc
+
+-- ---- what was read, or why nothing was
+
+abbrev Answered : Type 0
+Answered = Result ReadScript ScriptFault
+
+pub answered_script : (text : List ℕ) (r : Answered) → Gives NoMemory script_view r (script_of text) → IfOk r (λ script. IsScript text (head_view script.header) script.lines.items)
+answered_script text (Ok script) e = script_found text (script_view script) e
+answered_script text (Err fault) e = tt
+
+pub answered_fault : (text : List ℕ) (r : Answered) → Gives NoMemory script_view r (script_of text) → IfErr r (λ fault. IsTextFault fault text)
+answered_fault text (Ok script) e = tt
+answered_fault text (Err fault) (inl is) = subst (λ (f : ScriptFault). IsTextFault f text) (sym is) tt
+answered_fault text (Err fault) (inr e) = script_fault text fault e
+
+pub answered_only : (text : List ℕ) (r : Answered) → Gives NoMemory script_view r (script_of text) → IfErr r (λ fault. IsAccepted text → fault ≡ NoMemory)
+answered_only text (Ok script) e = tt
+answered_only text (Err fault) (inl is) = λ accepted. is
+answered_only text (Err fault) (inr e) = λ accepted. absurd (script_faultless text fault e accepted)
+
+-- a text is one script at most
+pub same_script : (text : List ℕ) (head other : Head) (lines more : List Line) → IsScript text head lines → IsScript text other more → (head ≡ other) × (lines ≡ more)
+same_script text head other lines more is also =
+    let first : Whole = (head, lines) in
+    let second : Whole = (other, more) in
+    let same : first ≡ second = same_whole first second (sym (script_again text head lines is) ∙ script_again text other more also) in
+    (ap (λ (w : Whole). w.0) same, ap (λ (w : Whole). w.1) same)

@@ -3,6 +3,7 @@ pub mod Ascii
 pub mod Cuts
 pub mod Heads
 pub mod Laws
+pub mod Lists
 pub mod Numbers
 pub mod Scripts
 pub mod Spaced

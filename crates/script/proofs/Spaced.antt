@@ -9,7 +9,8 @@ use Rattle.std.proofs.lemmas.List.{append-nil}
 use Rattle.std.proofs.lemmas.Option.{cond_some}
 use Rattle.script.specs.declared.value.TheConstants.{MAX_VALUE_LEN}
 use Rattle.script.specs.Words.{cut_at, is_value, value_of, words, values_of}
-use Rattle.script.specs.Script.{IsValue, spaced}
+use Rattle.script.specs.Script.{IsValue}
+use Rattle.script.specs.Words.{spaced}
 use Rattle.script.proofs.Cuts.{no_cut-head, Lacks, Lacks-cons, Lacks-rest, cut_found}
 
 -- ---- one value

@@ -1,5 +1,8 @@
+pub mod AnswerTexts
+pub mod Answering
 pub mod Faults
 pub mod Reading
+pub mod ReplyTexts
 pub mod Script
 pub mod View
 pub mod Words

@@ -14,6 +14,7 @@ use Rattle.script.specs.declared.line.Act.TheVariants.{Call, Begin, Step, Range,
 use Rattle.script.specs.declared.line.Line.{Line}
 use Rattle.script.specs.declared.line.Line.TheVariants.{By, Finish}
 use Rattle.script.specs.declared.value.TheConstants.{MAX_VALUE_LEN}
+use Rattle.script.specs.Words.{spaced}
 
 -- ---- what each line says, and how it is written
 
@@ -55,10 +56,6 @@ command_text Take = codes "take"
 command_text Close = codes "close"
 command_text Shut = codes "shut"
 command_text Look = codes "look"
-
--- a space before each of these words
-abbrev pub spaced : List (List ℕ) → List ℕ
-spaced words = flat_map (λ word. codes " " ++ word) words
 
 -- a count of steps is 1 to 65,535
 abbrev pub IsAct : Act → Type 0

@@ -1,6 +1,6 @@
 -- What the words of a script are read as.
-use Rattle.std.specs.Prelude.{ℕ, ◌^◌, Bool, ◌&&◌, List, [], ◌∷◌, length, nat_lt, nat_le, ◌==◌, if◌then◌else◌, Option, Some, None, option_map}
-use Rattle.std.specs.List.{list_all, slice_split}
+use Rattle.std.specs.Prelude.{ℕ, ◌^◌, Bool, ◌&&◌, List, [], ◌∷◌, length, nat_lt, nat_le, ◌==◌, if◌then◌else◌, Option, Some, None, option_map, filter_map, codes, ◌++◌}
+use Rattle.std.specs.List.{list_all, slice_split, flat_map}
 use Rattle.std.specs.Char.{is_ascii_alphanumeric}
 use Rattle.std.specs.Str.{bytes_eq}
 use Rattle.std.specs.Str.Parse.{digits_value}
@@ -28,6 +28,14 @@ values_of text = if list_all is_value (words text) then Some (words text) else N
 abbrev pub words_in : Option (Bor (List ℕ)) → List (List ℕ)
 words_in None = []
 words_in (Some text) = words text.now
+
+-- the values that are left in these places
+abbrev pub values_in : List (Option (List ℕ)) → List (List ℕ)
+values_in places = filter_map (λ place. place) places
+
+-- a space before each of these words
+abbrev pub spaced : List (List ℕ) → List ℕ
+spaced words = flat_map (λ word. codes " " ++ word) words
 
 -- the number below 2^64 that a word spells, in the digits that it is written with
 unfoldable pub number_of : List ℕ → Option ℕ

@@ -5,6 +5,7 @@
 //! lacks, or the first line that a script cannot have there.
 #![tactic(auto)]
 
+mod answer;
 mod fault;
 mod grammar;
 mod header;
@@ -12,10 +13,17 @@ mod line;
 mod lines;
 mod number;
 mod reading;
+mod reply;
+#[cfg(test)]
+mod tests;
 mod value;
+mod value_list;
 
+pub use answer::{Answer, RangeReply};
 pub use fault::ScriptFault;
 pub use header::Header;
 pub use line::{Act, Line, PassName};
 pub use reading::{MAX_SCRIPT_LEN, Script, parse};
+pub use reply::ReplyText;
 pub use value::{MAX_VALUE_LEN, Value, Values};
+pub use value_list::ValueList;

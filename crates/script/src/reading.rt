@@ -1,16 +1,18 @@
 //! A script from its text.
 
-ghost use Rattle.std.specs.Prelude.{◌≡◌, ◌≤◌, length, option_map, true};
+ghost use Rattle.std.specs.Prelude.{◌≡◌, ◌≤◌, length, option_map, true, IfOk, IfErr};
 ghost use Rattle.script.specs.declared.fault.ScriptFault.TheVariants.{NoMemory};
+ghost use Rattle.script.specs.Faults.{IsAccepted, IsTextFault};
 ghost use Rattle.script.specs.Reading.{Gives, head_of, is_ended, is_in_place, line_before, lines_from, script_of, numbered, split_lines};
+ghost use Rattle.script.specs.Script.{IsScript};
 ghost use Rattle.script.specs.View.{head_view, script_view};
 
 use crate::fault::ScriptFault;
 use crate::grammar::line_of;
 use crate::header::{Header, header_of};
+use crate::line::Line;
 use crate::lines::{is_ended, line_and_rest};
 use bounded_model::Order;
-use crate::line::Line;
 use std::alloc::Global;
 use std::collections::VecDeque;
 
@@ -60,11 +62,7 @@ fn line_before<'a>(order: Order, text: &'a [u8], after: &[u8]) -> Option<Line<'a
 }
 
 /// The lines of this text, which begins with line 2 of a script.
-fn lines_of(
-    alloc: Global,
-    order: Order,
-    text: &[u8],
-) -> Result<VecDeque<Line<'_>>, ScriptFault>
+fn lines_of(alloc: Global, order: Order, text: &[u8]) -> Result<VecDeque<Line<'_>>, ScriptFault>
     requires ended { is_ended text.now ≡ true }
     requires short { length text.now ≤ MAX_SCRIPT_LEN }
     ensures { Gives NoMemory (λ lines. lines.items) result (numbered (lines_from order (split_lines text.now))) }
@@ -82,11 +80,9 @@ fn lines_of(
     Ok(lines)
 }
 
-/// The script that has this text, or the first thing that is wrong with the text: no newline at the
-/// end, or the first line that a script cannot have there. `NoMemory` where there was no room for
-/// the lines.
+/// The script that has this text, or the first thing that is wrong with the text.
 #[tactic(auto, unfolding(crate::specs::Reading::script_of))]
-pub fn parse(alloc: Global, text: &[u8]) -> Result<Script<'_>, ScriptFault>
+fn read_script(alloc: Global, text: &[u8]) -> Result<Script<'_>, ScriptFault>
     requires { length text.now ≤ MAX_SCRIPT_LEN }
     ensures { Gives NoMemory script_view result (script_of text.now) }
 {
@@ -101,4 +97,19 @@ pub fn parse(alloc: Global, text: &[u8]) -> Result<Script<'_>, ScriptFault>
     };
     let lines = lines_of(alloc, header.order, rest)?;
     Ok(Script { header, lines })
+}
+
+/// The script that has this text.
+///
+/// `NoMemory` where there was no room for the lines, then `NoFinalNewline` where the last line has
+/// no newline, then `BadLine` with the number of the first line that a script cannot have there.
+pub fn parse(alloc: Global, text: &[u8]) -> Result<Script<'_>, ScriptFault>
+    requires { length text.now ≤ MAX_SCRIPT_LEN }
+    // What is read is the text's script.
+    ensures script { IfOk result (λ script. IsScript text.now (head_view script.header) script.lines.items) }
+    // A fault of the text is in the text, and a script has none.
+    ensures fault { IfErr result (λ fault. IsTextFault fault text.now) }
+    ensures only { IfErr result (λ fault. IsAccepted text.now → fault ≡ NoMemory) }
+{
+    read_script(alloc, text)
 }

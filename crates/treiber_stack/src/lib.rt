@@ -29,6 +29,8 @@ mod taking;
 mod tests;
 #[cfg(test)]
 mod tests_folds;
+#[cfg(test)]
+mod tests_threads;
 
 pub use closing::{CloseOp, ShutOp};
 pub use folding::Folded;

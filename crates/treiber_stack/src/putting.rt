@@ -1,4 +1,5 @@
-//! Putting one value, by steps.
+//! Putting one value, by steps. Only the first step has to name its operation. The later ones, which
+//! no longer have the value at hand, are named `Look`, and that is not read.
 ghost use Rattle.std.specs.Prelude.{◌≡◌, [], ◌∷◌, Some, None};
 ghost use Rattle.treiber_stack.specs.Operations.{begun_in};
 ghost use Rattle.treiber_stack.specs.Putting.{IsPutting, IsPuttingAt, PutStep};

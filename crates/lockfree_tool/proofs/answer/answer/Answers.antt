@@ -1,18 +1,28 @@
-use Rattle.std.proofs.Common.{◌++◌, map, string_bytes, ap, ◌∙◌}
-use Rattle.bounded_model.specs.Plain.{empty_list}
-use Rattle.lockfree_tool.specs.Replies.{reply_text}
-use Rattle.lockfree_tool.specs.Script.{text_of}
-use Rattle.lockfree_tool.specs.View.{head_view}
-use Rattle.lockfree_tool.proofs.Answering.{run_is_written}
+use Rattle.std.proofs.Common.{◌≡◌, List, string_bytes, sym, subst}
+use Rattle.std.specs.List.{AllByRecursion}
+use Rattle.std.specs.Prelude.{IsTrue}
+use Rattle.bounded_model.specs.declared.history.Order.{Order}
+use Rattle.bounded_model.specs.declared.history.Order.TheVariants.{Fifo, Lifo}
+use Rattle.script.specs.Script.{is_allowed}
+use Rattle.script.specs.View.{head_view}
+use Rattle.lockfree_tool.specs.Outcome.{IsOutputIn, IsOutputOf}
+use Rattle.lockfree_tool.proofs.Outcomes.{if_ok}
 use Rattle.lockfree_tool.proofs.answer.answer.Goals as goal
 
-pub returns-clause-output : goal.returns-clause-output
-returns-clause-output c =
-    let script = c.args.script in
-    run_is_written (head_view script.header) script.lines.items c.in_ok-list.list c.run.new.self c.in_ok-calls.calls.items c.in_ok-replies.replies.items
-    c.in_ok-calls.is_finished c.into_values.result.items (string_bytes c.new-output.result) (string_bytes c.push_replies.new.output) (string_bytes c.push_end.new.output)
-    c.requires (c.in_ok-list.ensures.list ∙ ap (empty_list script.header.order) c.capacity.ensures) c.in_ok-list.ensures.history
-    c.in_ok-calls.ensures.calls c.in_ok-calls.ensures.end c.in_ok-replies.ensures.list c.in_ok-replies.ensures.machine c.into_values.ensures
-    c.new-output.ensures.bytes
-    (c.in_ok-push_replies.ensures ∙ ap (λ rs. string_bytes c.new-output.result ++ text_of (map reply_text rs)) c.deref.ensures.value)
-    c.in_ok-push_end.ensures
+pub play_stack-requires-clause-allowed : goal.play_stack-requires-clause-allowed
+play_stack-requires-clause-allowed g c =
+    subst (λ (order : Order). AllByRecursion (λ line. IsTrue (is_allowed order line)) c.args.script.lines.items) c.in-Lifo.is c.requires.allowed
+
+pub returns-in-Fifo : goal.returns-in-Fifo
+returns-in-Fifo g c =
+    let head = head_view c.args.script.header in
+    let lines = c.args.script.lines.items in
+    if_ok c.answer_list.result (λ output. IsOutputIn Fifo head lines (string_bytes output)) (λ output. IsOutputOf head lines (string_bytes output)) c.answer_list.ensures
+    (λ output is. subst (λ (order : Order). IsOutputIn order head lines (string_bytes output)) (sym c.in-Fifo.is) is)
+
+pub returns-in-Lifo : goal.returns-in-Lifo
+returns-in-Lifo g c =
+    let head = head_view c.args.script.header in
+    let lines = c.args.script.lines.items in
+    if_ok c.play_stack.result (λ output. IsOutputIn Lifo head lines (string_bytes output)) (λ output. IsOutputOf head lines (string_bytes output)) c.play_stack.ensures
+    (λ output is. subst (λ (order : Order). IsOutputIn order head lines (string_bytes output)) (sym c.in-Lifo.is) is)

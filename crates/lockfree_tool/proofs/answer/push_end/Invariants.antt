@@ -2,7 +2,7 @@ use Rattle.std.proofs.Common.{◌≡◌, ◌++◌, string_bytes}
 use Rattle.std.specs.List.{flat_map}
 use Rattle.std.specs.Prelude.{codes}
 use Rattle.std.specs.VecDeque.{deque_len}
-use Rattle.lockfree_tool.specs.Replies.{rest_text}
+use Rattle.script.specs.ReplyTexts.{rest_text}
 use Rattle.lockfree_tool.proofs.answer.push_end.Given as goal
 
 -- what was written, and what is still to be written

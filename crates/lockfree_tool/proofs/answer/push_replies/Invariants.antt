@@ -1,6 +1,6 @@
 use Rattle.std.proofs.Common.{◌≡◌, ◌++◌, map, drop, string_bytes}
-use Rattle.lockfree_tool.specs.Replies.{reply_text}
-use Rattle.lockfree_tool.specs.Script.{text_of}
+use Rattle.script.specs.ReplyTexts.{reply_text}
+use Rattle.script.specs.Script.{text_of}
 use Rattle.lockfree_tool.proofs.answer.push_replies.Given as goal
 
 -- what was written, and what is still to be written

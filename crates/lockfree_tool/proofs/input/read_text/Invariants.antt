@@ -1,6 +1,6 @@
 use Rattle.std.proofs.Common.{◌≤◌, vec_len}
 use Rattle.std.specs.Io.KnownBytes.{Consumes}
-use Rattle.lockfree_tool.specs.declared.input.TheConstants.{MAX_SCRIPT_LEN}
+use Rattle.script.specs.declared.reading.TheConstants.{MAX_SCRIPT_LEN}
 use Rattle.lockfree_tool.proofs.input.read_text.Given as goal
 
 -- what was read so far

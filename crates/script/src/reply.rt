@@ -1,15 +1,15 @@
-//! The text of a reply.
+//! The text of a call's reply.
 
 ghost use Rattle.std.specs.Prelude.{◌≡◌, ◌++◌, OnOk, IfOk, Some};
-ghost use Rattle.lockfree_tool.specs.Replies.{bool_text, look_text, put_text, take_text, reply_text, rest_text, word_text};
+ghost use Rattle.script.specs.ReplyTexts.{bool_text, look_text, put_text, refused_text, take_text, reply_text, word_text};
 
-use crate::script::Value;
+use crate::value::Value;
 use bounded_model::{PutRefused, Reply, TakeRefused, Word};
 use std::fmt;
 
 /// A word as replies name it.
 #[derive(Clone, Copy)]
-struct WordName(Word);
+pub struct WordName(pub Word);
 
 impl fmt::Display for WordName {
     ghost output = { λ word. Some (word_text word.0) };
@@ -34,6 +34,26 @@ impl<'a> fmt::Display for Value<'a> {
     }
 }
 
+/// Why nothing was taken, as a reply says it.
+#[derive(Drop)]
+pub struct TakeRefusedText<'r>(pub &'r TakeRefused);
+
+impl<'r> fmt::Display for TakeRefusedText<'r> {
+    ghost output = { λ text. Some (refused_text text.0.now) };
+
+    fn fmt<W: fmt::Write>(&self, f: &mut fmt::Formatter<W>) -> fmt::Result {
+        match self.0 {
+            TakeRefused::Empty => write!(f, "empty"),
+            TakeRefused::Closed => write!(f, "closed"),
+            TakeRefused::Spent(word, tag) => {
+                let word = WordName(*word);
+                write!(f, "spent {word} {tag}")
+            }
+            TakeRefused::Shut => write!(f, "shut"),
+        }
+    }
+}
+
 /// A reply as its line says it.
 #[derive(Drop)]
 pub struct ReplyText<'r, 'a>(pub &'r Reply<Value<'a>>);
@@ -51,13 +71,10 @@ impl<'r, 'a> fmt::Display for ReplyText<'r, 'a> {
                 write!(f, "spent {word} {tag} {value}")
             }
             Reply::Take(Ok((value, number))) => write!(f, "take {number} {value}"),
-            Reply::Take(Err(TakeRefused::Empty)) => write!(f, "empty"),
-            Reply::Take(Err(TakeRefused::Closed)) => write!(f, "closed"),
-            Reply::Take(Err(TakeRefused::Spent(word, tag))) => {
-                let word = WordName(*word);
-                write!(f, "spent {word} {tag}")
+            Reply::Take(Err(refused)) => {
+                let refused = TakeRefusedText(refused);
+                write!(f, "{refused}")
             }
-            Reply::Take(Err(TakeRefused::Shut)) => write!(f, "shut"),
             Reply::Close(closed) => write!(f, "close {closed}"),
             Reply::Shut(shut) => write!(f, "shut {shut}"),
             Reply::Look(true) => write!(f, "look empty"),

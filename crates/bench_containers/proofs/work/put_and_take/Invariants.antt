@@ -1,0 +1,5 @@
+use Rattle.std.proofs.Common.{◌≤◌}
+use Rattle.bench_containers.proofs.work.put_and_take.Given as goal
+
+abbrev pub invariant-loop-item : goal.invariant-loop-item
+invariant-loop-item g l = g.C.Container.is_pass l.fn.container l.pass × (l.taken ≤ l.item)

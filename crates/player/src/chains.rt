@@ -1,0 +1,75 @@
+//! Ranges and folds: calls that put or take many values at once.
+
+ghost use Rattle.std.specs.Prelude.{IfOk};
+ghost use Rattle.script.specs.Answering.{IsRangeReply};
+ghost use Rattle.treiber_stack.specs.Stack.{IsPassOf};
+
+use bounded_model::TakeRefused;
+use script::{RangeReply, Value, ValueList, Values};
+use std::alloc::{AllocError, Global};
+use std::sync::Wait;
+use treiber_stack::{Folded, Pass, Stack};
+
+/// Puts values by one exchange. Answers the values that were not put too.
+pub fn put_range<'a, R: Wait>(
+    _stack: &Stack<Value<'a>>,
+    _rt: &R,
+    alloc: Global,
+    by: Pass<Value<'a>>,
+    values: Values<'a>,
+) -> Result<(Pass<Value<'a>>, RangeReply, ValueList<'a>), AllocError>
+    requires { IsPassOf _stack.now by }
+    ensures pass { IfOk result (λ done. IsPassOf _stack.now done.0) }
+    ensures reply { IfOk result (λ done. IsRangeReply values.entry done.1 done.2) }
+{
+    let places = values.to_places(alloc)?;
+    Ok((by, RangeReply::Full, ValueList::left_in(places)))
+}
+
+/// Takes all values by one exchange, and answers them from the top down.
+pub fn fold<'a, R: Wait>(
+    stack: &Stack<Value<'a>>,
+    rt: &R,
+    alloc: Global,
+    by: Pass<Value<'a>>,
+) -> Result<(Pass<Value<'a>>, Result<(u64, ValueList<'a>), TakeRefused>), AllocError>
+    requires { IsPassOf stack.now by }
+    ensures { IfOk result (λ done. IsPassOf stack.now done.0) }
+{
+    let (pass, values, answer) = stack.fold_all_atomic(rt, by, Ok(ValueList::new(alloc)), pushed);
+    Ok((pass, numbered(values?, answer)))
+}
+
+/// The same, from the bottom up.
+pub fn reversed_fold<'a, R: Wait>(
+    stack: &Stack<Value<'a>>,
+    rt: &R,
+    alloc: Global,
+    by: Pass<Value<'a>>,
+) -> Result<(Pass<Value<'a>>, Result<(u64, ValueList<'a>), TakeRefused>), AllocError>
+    requires { IsPassOf stack.now by }
+    ensures { IfOk result (λ done. IsPassOf stack.now done.0) }
+{
+    let (pass, values, answer) =
+        stack.fold_all_atomic_reversed(rt, by, Ok(ValueList::new(alloc)), pushed);
+    Ok((pass, numbered(values?, answer)))
+}
+
+/// The values with one more at the end, unless there was no memory for one of them.
+fn pushed<'a>(
+    values: Result<ValueList<'a>, AllocError>,
+    value: Value<'a>,
+) -> Result<ValueList<'a>, AllocError> {
+    let mut values = values?;
+    values.push(value)?;
+    Ok(values)
+}
+
+/// A fold's number with its values, or why it took none.
+fn numbered<'a>(
+    values: ValueList<'a>,
+    answer: Result<Folded, TakeRefused>,
+) -> Result<(u64, ValueList<'a>), TakeRefused> {
+    let folded = answer?;
+    Ok((folded.number, values))
+}

@@ -1,0 +1,28 @@
+-- Room that was taken before it is needed.
+use Rattle.std.specs.Prelude.{◌≡◌, ℕ, ◌≤◌, [], Vec, All, vec_len, vec_capacity}
+use Rattle.std.specs.declared.alloc.Global.{Global}
+use Rattle.relay.specs.declared.rooms.WorkRoom.{WorkRoom}
+use Rattle.relay.specs.declared.rooms.OutcomeRoom.{OutcomeRoom}
+
+-- an empty list that takes n elements and no memory
+pub record IsRoomFor {A : Type 0} (n : ℕ) (v : Vec A Global) : Type 0 where
+  pub room : n ≤ vec_capacity v
+  pub empty : v.items ≡ []
+
+-- room for so many workers, and for each consumer for `most` messages
+pub record IsWorkRoom {C Root Pass Rest : Type 0} (producers consumers most : ℕ) (r : WorkRoom C Root Pass Rest) : Type 0 where
+  pub senders : IsRoomFor producers r.senders
+  pub takers : IsRoomFor consumers r.takers
+  pub consumers_are : vec_len r.taken ≡ consumers
+  pub taken : All (IsRoomFor most) r.taken.items
+  pub sender_threads : IsRoomFor producers r.threads.senders
+  pub taker_threads : IsRoomFor consumers r.threads.takers
+  pub sent : IsRoomFor producers r.threads.sent
+  pub took : IsRoomFor consumers r.threads.took
+
+-- room for what comes of so many messages
+pub record IsOutcomeRoom (producers consumers messages : ℕ) (r : OutcomeRoom) : Type 0 where
+  pub delivered : IsRoomFor messages r.delivered
+  pub left : IsRoomFor messages r.left
+  pub unsent : IsRoomFor producers r.unsent
+  pub taken : IsRoomFor consumers r.taken
