@@ -12,7 +12,9 @@ use Rattle.bounded_model.specs.declared.views.PassView.{PassView}
 use Rattle.bounded_model.specs.Laws.{BacksOut, gave_back}
 use Rattle.index_list.specs.Steps.{read_top, read_link, take}
 use Rattle.step_core.specs.StackDeeds.{handed_back}
+use Rattle.step_core.proofs.Sums.{total_one}
 use Rattle.step_core.specs.StackLaw.{shape}
+use Rattle.step_core.specs.StackMachine.{held}
 use Rattle.step_core.specs.Seats.{pass_of}
 use Rattle.step_core.specs.declared.stack.Answer.TheVariants.{Put as AnswerPut}
 use Rattle.step_core.specs.declared.stack.Putting.{Putting}
@@ -33,6 +35,7 @@ use Rattle.treiber_stack.proofs.Going.{begun_going, adds_of}
 use Rattle.treiber_stack.proofs.Closes.{is_at, is_pass}
 use Rattle.treiber_stack.proofs.Takings.{may_going}
 use Rattle.treiber_stack.proofs.Puttings.{F3_slot}
+use Rattle.treiber_stack.proofs.Folds.{meets_then}
 use Rattle.treiber_stack.proofs.Ranges.{F1_refused, F1_stops, F1_ends, F1_worn, F1_on, F2_on, F3_first, F3_more, F3_again, D1_closed, D1_worn, D1_full}
 
 module _ {T : Type 0} {n limit : ℕ} {v : View T (Line T)} {begun : PassView T} where
@@ -72,44 +75,53 @@ module _ {T : Type 0} (c : Stack T) (o : Operation T) (vs : List T) where
         (is_at c o p (F1 (wants (j ∷ js))) (loaded (j ∷ js) (length (j ∷ js)) vs) at q same AnyLater (P1 (wants (j ∷ js))) g, begun_going g.0)
 
     module _ (chain : List ℕ) (at : IsAt c o p (F1 (wants chain)) (loaded chain (length chain) vs)) (node : index_of w ≢ NULL) (below : tag_of w < limit) where
-      on : Goes n limit AnyLater p.seat.me.0 q.seat.me.0 (begun_in p) (F1 (wants chain)) (F2 (wants chain) (fields_of w))
-      on = F1_on AnyLater (wants chain) w at.going told.did node below
+      on : Goes n limit o p.seat.me.0 q.seat.me.0 (begun_in p) (F1 (wants chain)) (F2 (wants chain) (fields_of w))
+      on = F1_on o (wants chain) w at.going told.did node below
 
-      pub may_read_free : (i : ℕ) → i ≡ index_of w → may_step AnyLater 0 (read_link i) q.seat.me.0
+      pub may_read_free : (i : ℕ) → i ≡ index_of w → may_step o 0 (read_link i) q.seat.me.0
       may_read_free i is = may_going 0 (read_link i) on.0 (ap some (sym is))
 
-      module _ (i k : ℕ) (is : i ≡ index_of w) (small : k ≤ NULL) (r : Pass T) (same' : IsSame q r) (told' : Told c AnyLater 0 (read_link i) k [] q r) where
-        on' : Goes n limit AnyLater q.seat.me.0 r.seat.me.0 (begun_in p) (F2 (wants chain) (fields_of w)) (F3 (wants chain) (fields_of w) k)
-        on' = F2_on AnyLater (wants chain) w i k is on.0 told'.did
+      module _ (i k : ℕ) (is : i ≡ index_of w) (small : k ≤ NULL) (r : Pass T) (same' : IsSame q r) (told' : Told c o 0 (read_link i) k [] q r) where
+        on' : Goes n limit o q.seat.me.0 r.seat.me.0 (begun_in p) (F2 (wants chain) (fields_of w)) (F3 (wants chain) (fields_of w) k)
+        on' = F2_on o (wants chain) w i k is on.0 told'.did
 
-        pub may_take_free : may_step AnyLater 0 (take w k) r.seat.me.0
+        pub may_take_free : may_step o 0 (take w k) r.seat.me.0
         may_take_free = may_going 0 (take w k) on'.0 (refl, small)
+
+        -- no pass holds more nodes than there are
+        in_hand : length chain ≤ n
+        in_hand =
+            let m = meets_then on.0 told'.did in
+            let one = total_one (λ (l : Line T). length (held l)) m.lines m.seat (F2 (wants chain) (fields_of w)) m.here in
+            let out = m.good.told.out in
+            let room = m.good.told.room in
+            omega (arith, one, out, room)
 
         has : r.seat.me.1 ≡ loaded chain (length chain) vs
         has = same'.slots ∙ same.slots ∙ at.has
 
         module _ (s : Pass T) (table : s.seat.table_id ≡ r.seat.table_id) where
-          taken : (l : Line T) → Takes c AnyLater 0 w k r s → Going n limit AnyLater s.seat.me.0 (begun_in p) l → IsAt c AnyLater s l ((index_of w, None) ∷ loaded chain (length chain) vs) × (begun_in s ≡ begun_in p)
+          taken : (l : Line T) → Takes c o 0 w k r s → Going n limit o s.seat.me.0 (begun_in p) l → IsAt c o s l ((index_of w, None) ∷ loaded chain (length chain) vs) × (begun_in s ≡ begun_in p)
           taken l won g =
               let empty : won.slot ≡ None = F3_slot w k won.slot won.told.did in (
                 record {
                   table = table ∙ same'.table ∙ same.table ∙ at.table;
                   has = won.has ∙ (λ t. (index_of w, empty t) ∷ has t);
-                  going = subst (λ (b : PassView T). Going n limit AnyLater s.seat.me.0 b l) (sym (begun_going g)) g;
+                  going = subst (λ (b : PassView T). Going n limit o s.seat.me.0 b l) (sym (begun_going g)) g;
                 },
                 begun_going g,
               )
 
-          pub takes_free : (j : ℕ) → j ≡ index_of w → index_of w < n → Takes c AnyLater 0 w k r s → IsAt c AnyLater s (linking chain vs j) ((j, None) ∷ loaded chain (length chain) vs) × (j < n) × (begun_in s ≡ begun_in p)
+          pub takes_free : (j : ℕ) → j ≡ index_of w → index_of w < n → Takes c o 0 w k r s → IsAt c o s (linking chain vs j) ((j, None) ∷ loaded chain (length chain) vs) × (j < n) × (length chain ≤ n) × (begun_in s ≡ begun_in p)
           takes_free j e low won =
               let t = taken (linking chain vs (index_of w)) won (goes chain on'.0) in
-              subst (λ (x : ℕ). IsAt c AnyLater s (linking chain vs x) ((x, None) ∷ loaded chain (length chain) vs) × (x < n) × (begun_in s ≡ begun_in p)) (sym e) (t.0, low, t.1)
+              subst (λ (x : ℕ). IsAt c o s (linking chain vs x) ((x, None) ∷ loaded chain (length chain) vs) × (x < n) × (length chain ≤ n) × (begun_in s ≡ begun_in p)) (sym e) (t.0, low, in_hand, t.1)
             where
-              goes : (chain' : List ℕ) → Going n limit AnyLater r.seat.me.0 (begun_in p) (F3 (wants chain') (fields_of w) k) → Going n limit AnyLater s.seat.me.0 (begun_in p) (linking chain' vs (index_of w))
-              goes [] g = (F3_first AnyLater (wants []) w k w ((index_of w, won.slot) ∷ []) g won.told.did refl refl).0
-              goes (x ∷ xs) g = (F3_more AnyLater (wants (x ∷ xs)) w k w ((index_of w, won.slot) ∷ []) g won.told.did refl (omega arith)).0
+              goes : (chain' : List ℕ) → Going n limit o r.seat.me.0 (begun_in p) (F3 (wants chain') (fields_of w) k) → Going n limit o s.seat.me.0 (begun_in p) (linking chain' vs (index_of w))
+              goes [] g = (F3_first o (wants []) w k w ((index_of w, won.slot) ∷ []) g won.told.did refl refl).0
+              goes (x ∷ xs) g = (F3_more o (wants (x ∷ xs)) w k w ((index_of w, won.slot) ∷ []) g won.told.did refl (omega arith)).0
 
-          pub tries_free_again : (s.seat.me.1 ≡ r.seat.me.1) → Lost c AnyLater 0 (take w k) w r s → IsAt c o s (F1 (wants chain)) (loaded chain (length chain) vs) × (begun_in s ≡ begun_in p)
+          pub tries_free_again : (s.seat.me.1 ≡ r.seat.me.1) → Lost c o 0 (take w k) w r s → IsAt c o s (F1 (wants chain)) (loaded chain (length chain) vs) × (begun_in s ≡ begun_in p)
           tries_free_again slots lost =
               let g = F3_again o (wants chain) w k lost.found [] on'.0 lost.told.did lost.other in (
                 record {

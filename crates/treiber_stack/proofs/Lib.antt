@@ -19,3 +19,5 @@ pub mod Collecting
 pub mod Loading
 pub mod Placing
 pub mod Restoring
+pub mod Filling
+pub mod RangeGives

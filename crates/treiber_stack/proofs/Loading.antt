@@ -34,10 +34,16 @@ module _ {T : Type 0} where
   )
 
   -- the next value of a range
+  next_at : (vs : List T) (k : ℕ) → k < length vs → (v : T) × (take (suc k) vs ≡ take k vs ++ v ∷ []) × (drop k vs ≡ v ∷ drop (suc k) vs)
+  next_at [] k h = absurd (omega arith)
+  next_at (v ∷ vs) zero h = (v, refl, refl)
+  next_at (v ∷ vs) (suc k) h = let r = next_at vs k (omega arith) in (r.0, ap (λ (us : List T). v ∷ us) r.1, r.2)
+
   pub next_value : (vs : List T) (k : ℕ) → k < length vs → (v : T) × (take (k + 1) vs ≡ take k vs ++ v ∷ []) × (drop k vs ≡ v ∷ drop (k + 1) vs)
-  next_value [] k h = absurd (omega arith)
-  next_value (v ∷ vs) zero h = (v, refl, refl)
-  next_value (v ∷ vs) (suc k) h = let r = next_value vs k (omega arith) in (r.0, ap (λ (us : List T). v ∷ us) r.1, r.2)
+  next_value vs k h =
+      let e : suc k ≡ k + 1 = omega arith in
+      let r = next_at vs k h in
+      (r.0, subst (λ (m : ℕ). take m vs ≡ take k vs ++ r.0 ∷ []) e r.1, subst (λ (m : ℕ). drop k vs ≡ r.0 ∷ drop m vs) e r.2)
 
   -- a node that was taken has the next value
   pub loaded_more : (i : ℕ) (chain : List ℕ) (k : ℕ) (vs : List T) (v : T) → take (k + 1) vs ≡ take k vs ++ v ∷ [] → (i, Some v) ∷ loaded chain k vs ≡ loaded (i ∷ chain) (k + 1) vs

@@ -86,12 +86,12 @@ module _ {T : Type 0} (c : Stack T) (vs : List T) (nodes : Held) (p : Pass T) (h
     pub place_closed : mark_of w ≡ true → IsRefused c q vs nodes Closed × (begun_in q ≡ begun_in p)
     place_closed e =
         let g = P1_closes AnyLater put w h.at.going told.did e in
-        (record { chain = h.chain; has = h.has; some_node = h.some_node; at = is_at c AnyLater p (P1 put) (loaded h.chain k vs) h.at q same AnyLater (G1 (record { chain = h.chain; answer = AnswerPut (Err (PutClosed vs)) })) g }, begun_going g.0)
+        (record { chain = h.chain; has = h.has; some_node = h.some_node; at = is_at c AnyLater p (P1 put) (loaded h.chain k vs) h.at q same AnyLater (G1 (record { chain = h.chain; answer = AnswerPut (Err (PutClosed vs)) })) g; kind = tt }, begun_going g.0)
 
     pub place_worn : (t : ℕ) → t ≡ tag_of w → mark_of w ≡ false → limit ≤ tag_of w → IsRefused c q vs nodes (Spent TopWord t) × (begun_in q ≡ begun_in p)
     place_worn t is e high =
         let g = P1_worn AnyLater put w h.at.going told.did t is e high in
-        (record { chain = h.chain; has = h.has; some_node = h.some_node; at = is_at c AnyLater p (P1 put) (loaded h.chain k vs) h.at q same AnyLater (G1 (record { chain = h.chain; answer = AnswerPut (Err (PutSpent vs TopWord t)) })) g }, begun_going g.0)
+        (record { chain = h.chain; has = h.has; some_node = h.some_node; at = is_at c AnyLater p (P1 put) (loaded h.chain k vs) h.at q same AnyLater (G1 (record { chain = h.chain; answer = AnswerPut (Err (PutSpent vs TopWord t)) })) g; kind = tt }, begun_going g.0)
 
     module _ (open_top : mark_of w ≡ false) (below : tag_of w < limit) where
       on : Goes n limit AnyLater p.seat.me.0 q.seat.me.0 (begun_in p) (P1 put) (P2 put (fields_of w))

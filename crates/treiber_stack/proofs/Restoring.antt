@@ -11,7 +11,7 @@ use Rattle.tagged_index.specs.declared.word.TheConstants.{NULL}
 use Rattle.bounded_model.specs.declared.answers.PutRefused.{PutRefused}
 use Rattle.bounded_model.specs.declared.views.PassView.{PassView}
 use Rattle.bounded_model.proofs.Adding.{Sometime-wider}
-use Rattle.bounded_model.proofs.Histories.{Later-refl, Later-trans}
+use Rattle.bounded_model.proofs.Histories.{is_nil, Later-refl, Later-trans}
 use Rattle.step_core.specs.Words.{times, IsChain}
 use Rattle.step_core.specs.StackDeeds.{Deeds}
 use Rattle.step_core.specs.StackLaw.{shape}
@@ -35,6 +35,7 @@ use Rattle.treiber_stack.specs.Ranging.{loaded, places_from, of_range, HasNodes,
 use Rattle.treiber_stack.specs.Rule.{line_in, memory_of, Rule}
 use Rattle.treiber_stack.specs.Stack.{shape_of}
 use Rattle.treiber_stack.specs.declared.operation.Operation.{Operation}
+use Rattle.treiber_stack.specs.declared.operation.Listed.TheVariants.{End, More'}
 use Rattle.treiber_stack.specs.declared.operation.Operation.TheVariants.{Put as PutFirst, Take as TakeFirst, Close as CloseFirst, Shut as ShutFirst, Look as LookFirst, Fold as FoldFirst, Range as RangeFirst}
 use Rattle.treiber_stack.specs.declared.ranging.Held.{Held}
 use Rattle.treiber_stack.specs.declared.ranging.RangeRefused.{RangeRefused}
@@ -54,7 +55,7 @@ chain_link link (x ∷ []) i j others c = c.1.0
 chain_link link (x ∷ y ∷ xs) i j others c = chain_link link (y ∷ xs) i j others c.1
 
 module _ {T : Type 0} (n limit slots id i : ℕ) (me : Me (Slot T) (View T (Line T))) where
-  pub again_allowed : Allows (Rule n limit) slots id me (link_at i) (λ k. k)
+  again_allowed : Allows (Rule n limit) slots id me (link_at i) (λ k. k)
       (λ found me'. Looks (shape n limit) me.0 me'.0 × (me'.1 ≡ me.1) × ((giving : Giving T) (before others : List ℕ) (next : ℕ) → line_in me.0 ≡ G1 giving → giving.chain ≡ before ++ i ∷ next ∷ others → index_of found ≡ next))
   again_allowed s r long mine fits =
       let a = looks_allowed n limit slots id (link_at i) me s r long mine fits in
@@ -64,10 +65,19 @@ module _ {T : Type 0} (n limit slots id i : ℕ) (me : Me (Slot T) (View T (Line
         a.1,
         a.2,
         a.3,
-        (a.4.0, a.4.1, λ giving before others next e parts.
-            let gives : Gives m.link giving.chain = subst (IsFine limit m r.lists) e fine in
-            plain_index (m.link i) (r.plain i) ∙ chain_link m.link before i next others (subst (λ (xs : List ℕ). IsChain m.link xs) parts gives.chained)),
+        (
+          a.4.0,
+          a.4.1,
+          λ giving before others next e parts.
+              let gives : Gives m.link giving.chain = subst (IsFine limit m r.lists) e fine in
+              plain_index (m.link i) (r.plain i) ∙ chain_link m.link before i next others (subst (λ (xs : List ℕ). IsChain m.link xs) parts gives.chained),
+        ),
       )
+
+  pub again_at : (at : ℕ) → at ≡ link_at i → Allows (Rule n limit) slots id me at (λ k. k)
+      (λ found me'. Looks (shape n limit) me.0 me'.0 × (me'.1 ≡ me.1) × ((giving : Giving T) (before others : List ℕ) (next : ℕ) → line_in me.0 ≡ G1 giving → giving.chain ≡ before ++ i ∷ next ∷ others → index_of found ≡ next))
+  again_at at e = subst (λ (x : ℕ). Allows (Rule n limit) slots id me x (λ k. k)
+      (λ found me'. Looks (shape n limit) me.0 me'.0 × (me'.1 ≡ me.1) × ((giving : Giving T) (before others : List ℕ) (next : ℕ) → line_in me.0 ≡ G1 giving → giving.chain ≡ before ++ i ∷ next ∷ others → index_of found ≡ next))) (sym e) again_allowed
 
 module _ {T : Type 0} where
   no_first : (o : Operation T) (giving : Giving T) → first_line o ≡ G1 giving → ⊥
@@ -77,7 +87,8 @@ module _ {T : Type 0} where
   no_first ShutFirst giving e = cc
   no_first LookFirst giving e = cc
   no_first (FoldFirst front) giving e = cc
-  no_first (RangeFirst x others) giving e = cc
+  no_first (RangeFirst End) giving e = cc
+  no_first (RangeFirst (More' x marker others)) giving e = cc
 
   begun_same : (o : Operation T) (l : Line T) (giving : Giving T) (p q b : PassView T) → line_now o l ≡ G1 giving → begun_now q b l ≡ begun_now p b l
   begun_same o (Idle a) giving p q b e = absurd (no_first o giving e)
@@ -116,13 +127,20 @@ module _ {T : Type 0} where
       }
 
 -- places as values come back
-pub none_at : {T : Type 0} (p : ℕ) (ys : List (Slot T)) → get_or (replicate (p + 1) None ++ ys) p None ≡ None
-none_at zero ys = refl
-none_at (suc p) ys = none_at p ys
+module _ {T : Type 0} where
+  none_suc : (p : ℕ) (d : Slot T) (ys : List (Slot T)) → get_or (replicate (suc p) None ++ ys) p d ≡ None
+  none_suc zero d ys = refl
+  none_suc (suc p) d ys = none_suc p d ys
 
-pub set_at : {T : Type 0} (p : ℕ) (x : Slot T) (ys : List (Slot T)) → set (replicate (p + 1) None ++ ys) p x ≡ replicate p None ++ x ∷ ys
-set_at zero x ys = refl
-set_at (suc p) x ys = ap (λ (zs : List (Slot _)). None ∷ zs) (set_at p x ys)
+  pub none_at : (m p : ℕ) → suc p ≡ m → (d : Slot T) (ys : List (Slot T)) → get_or (replicate m None ++ ys) p d ≡ None
+  none_at m p e d ys = subst (λ (x : ℕ). get_or (replicate x None ++ ys) p d ≡ None) e (none_suc p d ys)
+
+  set_suc : (p : ℕ) (x : Slot T) (ys : List (Slot T)) → set (replicate (suc p) None ++ ys) p x ≡ replicate p None ++ x ∷ ys
+  set_suc zero x ys = refl
+  set_suc (suc p) x ys = ap (λ (zs : List (Slot T)). None ∷ zs) (set_suc p x ys)
+
+  pub set_at : (m p : ℕ) → suc p ≡ m → (x : Slot T) (ys : List (Slot T)) → set (replicate m None ++ ys) p x ≡ replicate p None ++ x ∷ ys
+  set_at m p e x ys = subst (λ (y : ℕ). set (replicate y None ++ ys) p x ≡ replicate p None ++ x ∷ ys) e (set_suc p x ys)
 
 parts_of : (xs : List ℕ) (k : ℕ) → length xs ≡ suc k → (more : List ℕ) × (xs ≡ first xs ∷ more)
 parts_of [] k e = absurd (omega arith)
@@ -160,10 +178,10 @@ module _ {T : Type 0} (c : Stack T) (vs : List T) (nodes : Held) (why : RangeRef
     fewer : length more ≡ place
     fewer = let m = many in let l : length r.left ≡ suc (length more) = ap length left_is in omega arith
 
-    low_place : place < length vs
+    pub low_place : place < length vs
     low_place = let f = r.has.few in omega (arith, f, is)
 
-    pub value : T
+    abbrev pub value : T
     value = (next_value vs place low_place).0
 
     slots_are : p.seat.me.1 ≡ (index, Some value) ∷ (full more (reverse (take place vs)) ++ vacant r.done)
@@ -172,7 +190,16 @@ module _ {T : Type 0} (c : Stack T) (vs : List T) (nodes : Held) (why : RangeRef
         ∙ ap (λ (us : List T). full (index ∷ more) us ++ vacant r.done) (taken place value (next_value vs place low_place).1)
       where
         taken : (k : ℕ) (v : T) → take (k + 1) vs ≡ take k vs ++ v ∷ [] → reverse (take (suc k) vs) ≡ v ∷ reverse (take k vs)
-        taken k v e = ap (λ (us : List T). reverse us) e ∙ reverse-append (take k vs) (v ∷ [])
+        taken k v e =
+            let one : k + 1 ≡ suc k = omega arith in
+            ap (λ (us : List T). reverse us) (subst (λ (m : ℕ). take m vs ≡ take k vs ++ v ∷ []) one e) ∙ reverse-append (take k vs) (v ∷ [])
+
+    -- a value that is back in its place
+    pub places_back : (m : ℕ) → suc place ≡ m → set (places_from m vs) place (Some value) ≡ places_from place vs
+    places_back m e =
+        let one : place + 1 ≡ m = omega arith in
+        set_at m place e (Some value) (map Some (drop m vs))
+        ∙ ap (λ (us : List T). replicate place None ++ map Some us) (sym ((next_value vs place low_place).2 ∙ ap (λ (x : ℕ). value ∷ drop x vs) one))
 
     pub restore_full : p.seat.me.1 ≡ (index, Some value) ∷ rest p.seat.me.1
     restore_full = slots_are ∙ ap (λ (zs : List (ℕ × Slot T)). (index, Some value) ∷ rest zs) (sym slots_are)
@@ -243,3 +270,23 @@ module _ {T : Type 0} (c : Stack T) (vs : List T) (nodes : Held) (why : RangeRef
           pred_is : (k : ℕ) → 0 < k → k ≡ suc (pred_of k)
           pred_is zero h = absurd (omega arith)
           pred_is (suc k) h = refl
+
+  -- all values are back
+  pub restore_done : (p : Pass T) (moved index : ℕ) → IsRestoring c p vs nodes why moved index → moved ≡ nodes.count → 0 < nodes.count → IsRestored c p vs nodes why
+  restore_done p moved index r all some_node =
+      let a = r.has.counted in
+      let b : length r.chain ≡ length (r.done ++ r.left) = ap length r.parts in
+      let d = r.counted in
+      let none = is_nil r.left (omega (arith, a, b, d, all, length-append r.done r.left)) in
+      let whole : r.chain ≡ r.done = r.parts ∙ ap (λ (xs : List ℕ). r.done ++ xs) none ∙ append-nil r.done in
+      record {
+        giving = back r.chain;
+        answer = refl;
+        back = record {
+          at = record { table = r.at.table; has = r.at.has ∙ (λ t. full (none t) (reverse (take (length (none t)) vs)) ++ vacant (sym whole t)); going = r.at.going };
+          low = r.has.low;
+          some_node = omega arith;
+          begins = r.has.begins;
+          ends = r.has.ends;
+        };
+      }

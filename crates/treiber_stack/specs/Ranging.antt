@@ -62,6 +62,13 @@ PutsRange c v old new w (Err why) = (0 < length old) × (new ≡ old) × NotPut 
 
 -- Where a pass stands in one
 
+-- a refusal of a range that has nodes
+abbrev pub Backs : RangeRefused → Type 0
+Backs Nothing = ⊥
+Backs Full = ⊥
+Backs Closed = Unit {0}
+Backs (Spent word t) = Unit {0}
+
 module _ {T : Type 0} where
   -- the places once the first k values have left
   abbrev pub places_from : ℕ → List T → List (Slot T)
@@ -93,9 +100,9 @@ module _ {T : Type 0} where
   Stops c v q [] vs (NodeSpent t) = IsPassOf c q × NotPut (shape_of c) v (length vs) (pass_in q) (Spent FreeWord t)
   Stops c v q (j ∷ js) vs why = IsAt c AnyLater q (P1 (record { values = vs; chain = j ∷ js })) (loaded (j ∷ js) (length (j ∷ js)) vs) × (begun_in q ≡ v)
 
-  abbrev pub TakesFree : Stack T → PassView T → Putting T → Pass T → Result ℕ NoNode → Type 0
-  TakesFree c v put q (Ok i) = IsAt c AnyLater q (linking put.chain put.values i) ((i, None) ∷ loaded put.chain (length put.chain) put.values) × (i < capacity_of c.limits) × (begun_in q ≡ v)
-  TakesFree c v put q (Err why) = Stops c v q put.chain put.values why
+  abbrev pub TakesFree : Stack T → Operation T → PassView T → Putting T → Pass T → Result ℕ NoNode → Type 0
+  TakesFree c o v put q (Ok i) = IsAt c o q (linking put.chain put.values i) ((i, None) ∷ loaded put.chain (length put.chain) put.values) × (i < capacity_of c.limits) × (length put.chain ≤ capacity_of c.limits) × (begun_in q ≡ v)
+  TakesFree c o v put q (Err why) = Stops c v q put.chain put.values why
 
   -- the first step of a range put is its next, and every place has its value
   pub record IsStart (c : Stack T) (o : Operation T) (p : Pass T) (vs : List T) (places : List (Slot T)) : Type 0 where
@@ -128,6 +135,7 @@ module _ {T : Type 0} where
     pub has : HasNodes c vs held.count chain held.chain
     pub some_node : 0 < held.count
     pub at : IsAt c AnyLater p (G1 (record { chain = chain; answer = AnswerPut (Err (of_range why vs)) })) (loaded chain held.count vs)
+    pub kind : Backs why
 
   pub record Placed (c : Stack T) (v : PassView T) (vs : List T) (k : ℕ) (q : Pass T) (number : ℕ) : Type 0 where
     pub of : IsPassOf c q

@@ -30,6 +30,8 @@ mod tests;
 #[cfg(test)]
 mod tests_folds;
 #[cfg(test)]
+mod tests_ranges;
+#[cfg(test)]
 mod tests_threads;
 
 pub use closing::{CloseOp, ShutOp};

@@ -6,10 +6,10 @@ use index_list::Front;
 use std::snapshot::Snapshot;
 
 /// The operation that a pass makes its first step of. Later steps need no name: the pass's line
-/// says where it is.
+/// says where it is. Of a put it shows the values, for proofs alone.
 #[derive(Drop)]
 pub(crate) enum Operation<T> {
-    Put(T),
+    Put(Snapshot<T>),
     Take,
     Close,
     Shut,
@@ -17,7 +17,7 @@ pub(crate) enum Operation<T> {
     /// A fold of all values, from the top down or from the last up.
     Fold(Front),
     /// A put of these values by one exchange.
-    Range(Snapshot<T>, Snapshot<Listed<T>>),
+    Range(Listed<T>),
 }
 
 /// Which values stand in the places of a range. It has none of them, and is for proofs alone: a

@@ -118,15 +118,8 @@ impl<T> Stack<T> {
         requires values { (vs : List T) × (values.old ≡ map Some vs) × (0 < length vs) }
         ensures { (vs : List T) → values.old ≡ map Some vs → 0 < length vs → Collects self.now (pass_in by) vs values.new result.0 result.1 }
     {
-        let operation = match Listed::of(values) {
-            Listed::End => unreachable!(),
-            Listed::More(first, others) => Operation::Range(first, others),
-        };
-        let collected = self.collect_as(rt, by, values, &operation);
-        let Operation::Range(_, _) = operation else {
-            unreachable!()
-        };
-        collected
+        let operation = Operation::Range(Listed::of(values));
+        self.collect_as(rt, by, values, &operation)
     }
 
     fn collect_as<R: Wait>(
@@ -152,7 +145,7 @@ impl<T> Stack<T> {
                     if count == 0 {
                         last = index;
                     } else {
-                        self.link_to(&mut pass, FREE, index, first, &Operation::Look);
+                        self.link_to(&mut pass, FREE, index, first, operation);
                     }
                     first = index;
                     count += 1;
@@ -179,20 +172,22 @@ impl<T> Stack<T> {
         operation: &Operation<T>,
     ) -> (Pass<T>, Result<u32, NoNode>)
         requires { (put : Putting T) × IsCollecting self.now operation.now by put }
-        ensures { (put : Putting T) → IsCollecting self.now operation.now by put → TakesFree self.now (begun_in by) put result.0 result.1 }
+        ensures { (put : Putting T) → IsCollecting self.now operation.now by put → TakesFree self.now operation.now (begun_in by) put result.0 result.1 }
     {
         let mut pass = by;
         for _ in rt.forever() {
             let free = self.load(&mut pass, FREE, operation);
-            if free.index() == NULL {
+            let index = free.index();
+            let tag = free.tag();
+            if index == NULL {
                 return (pass, Err(NoNode::NoneFree));
             }
-            if free.tag() >= self.limits.tag_limit() {
-                return (pass, Err(NoNode::Spent(free.tag())));
+            if tag >= self.limits.tag_limit() {
+                return (pass, Err(NoNode::Spent(tag)));
             }
-            let next = self.load_next(&mut pass, FREE, free.index(), &Operation::Look);
-            if self.take_node(&mut pass, FREE, free, next, &Operation::Look) {
-                return (pass, Ok(free.index()));
+            let next = self.load_next(&mut pass, FREE, index, operation);
+            if self.take_node(&mut pass, FREE, free, next, operation) {
+                return (pass, Ok(index));
             }
         }
         unreachable!()
@@ -232,8 +227,9 @@ impl<T> Stack<T> {
                 if top.is_marked() {
                     return (pass, RangeRefused::Closed);
                 }
-                if top.tag() >= self.limits.tag_limit() {
-                    return (pass, RangeRefused::Spent(Word::Top, top.tag()));
+                let tag = top.tag();
+                if tag >= self.limits.tag_limit() {
+                    return (pass, RangeRefused::Spent(Word::Top, tag));
                 }
                 (pass, RangeRefused::Full)
             }
@@ -257,12 +253,19 @@ impl<T> Stack<T> {
             if top.is_marked() {
                 return (pass, Err(RangeRefused::Closed));
             }
-            if top.tag() >= self.limits.tag_limit() {
-                return (pass, Err(RangeRefused::Spent(Word::Top, top.tag())));
+            let tag = top.tag();
+            if tag >= self.limits.tag_limit() {
+                return (pass, Err(RangeRefused::Spent(Word::Top, tag)));
             }
-            self.link_to(&mut pass, TOP, held.chain.last, top.index(), &Operation::Look);
+            self.link_to(
+                &mut pass,
+                TOP,
+                held.chain.last,
+                top.index(),
+                &Operation::Look,
+            );
             if self.put_nodes(&mut pass, top, held.chain.first, &Operation::Look) {
-                return (pass, Ok(top.tag()));
+                return (pass, Ok(tag));
             }
         }
         unreachable!()

@@ -1,56 +1,111 @@
-use Rattle.std.proofs.Common.{rules, ◌≡◌, ℕ, ◌+◌, ◌<◌, List, [], ◌∷◌, map, length, Some, None, IsSome, ◌-◌, ◌*◌, ◌≤◌, ◌/◌, ◌%◌, Bool, true, false, nat_eq, nat_lt, ◌++◌, slice_index_or, slice_set, bit_and, bit_or, Fits, w8, w32, w64, Bor, MutBor}
-use Rattle.std.specs.List.{AllByRecursion as Every}
-use Rattle.tagged_index.specs.Limits.{capacity_of}
-use Rattle.tagged_index.specs.declared.word.TheConstants.{NULL}
-use Rattle.atomic_table.specs.Table.{rest}
+use Rattle.std.proofs.Common.{◌≡◌, ◌≢◌, ℕ, ◌<◌, ◌≤◌, refl, sym, ◌∙◌, subst, arith}
 use Rattle.bounded_model.specs.declared.views.PassView.{PassView}
-use Rattle.step_core.specs.Seats.{Looks}
-use Rattle.step_core.specs.declared.stack.Putting.{Putting}
-use Rattle.treiber_stack.specs.Operations.{IsSame, begun_in}
-use Rattle.treiber_stack.specs.Stack.{shape_of, IsPassOf, pass_in}
-use Rattle.treiber_stack.specs.Ranging.{NotPut, PutsRange, Stops, places_from, IsCollecting, TakesFree, IsStart, Collects, IsHolding, Places, IsRefused, Restores, ReadsAgain}
+use Rattle.index_list.specs.Steps.{read_top}
+use Rattle.tagged_index.specs.Fields.{index_of, tag_of}
+use Rattle.tagged_index.specs.Limits.{capacity_of, tag_limit_of}
+use Rattle.tagged_index.specs.declared.word.TheConstants.{NULL}
+use Rattle.treiber_stack.specs.Operations.{begun_in}
+use Rattle.treiber_stack.specs.Ranging.{Stops, TakesFree}
+use Rattle.treiber_stack.specs.declared.ranging.NoNode.TheVariants.{NoneFree, Spent as NodeSpent}
+use Rattle.treiber_stack.proofs.Takings.{may_going}
+use Rattle.treiber_stack.proofs.Collecting.{null_stops, worn_stops, may_read_free, may_take_free, takes_free, tries_free_again}
 use Rattle.treiber_stack.proofs.stack.Stack.take_free.Goals as goal
 
--- src/ranging.rt:185:9
 pub loop-init : goal.loop-init
-loop-init g c = ?
+loop-init g c = (tt, tt, λ put at. (at, refl))
 
--- src/ranging.rt:186:17
-pub load-free-requires-clause-table : goal.load-free-requires-clause-table
-load-free-requires-clause-table g c = ?
+pub load-free-requires : goal.load-free-requires
+load-free-requires g c =
+    let at = (c.loop.invariant.2 c.requires.0 c.requires.1).0 in
+    record { table = (at.table, omega arith); may = may_going 0 read_top at.going refl }
 
--- src/ranging.rt:186:17
-pub load-free-requires-clause-may : goal.load-free-requires-clause-may
-load-free-requires-clause-may g c = ?
-
--- src/ranging.rt:188:17
 pub returns-then-index-eq-NULL : goal.returns-then-index-eq-NULL
-returns-then-index-eq-NULL g c = ?
+returns-then-index-eq-NULL g c put first =
+    let i = c.loop.invariant.2 put first in
+    let l = c.load-free in
+    subst (λ (v : PassView _). Stops c.args.self.now v l.new.by put.chain put.values NoneFree) i.1
+    (null_stops c.args.self.now c.args.operation.now put.values c.loop.pass l.result l.new.by l.ensures.same l.ensures.told put.chain i.0 (sym c.index-index.ensures.field ∙ c.if-index-eq-NULL.true))
 
--- src/ranging.rt:191:17
 pub returns-then-tag-tag_limit : goal.returns-then-tag-tag_limit
-returns-then-tag-tag_limit g c = ?
+returns-then-tag-tag_limit g c put first =
+    let i = c.loop.invariant.2 put first in
+    let l = c.load-free in
+    let high = c.if-tag-tag_limit.true in
+    let tag = c.tag-tag.ensures.field in
+    let limit = c.tag_limit.ensures in
+    subst (λ (v : PassView _). Stops c.args.self.now v l.new.by put.chain put.values (NodeSpent c.tag-tag.result)) i.1
+    (worn_stops c.args.self.now c.args.operation.now put.values c.loop.pass l.result l.new.by l.ensures.same l.ensures.told put.chain c.tag-tag.result c.tag-tag.ensures.field i.0 (λ z. c.if-index-eq-NULL.false (c.index-index.ensures.field ∙ z)) (omega arith))
 
--- src/ranging.rt:193:17
-pub load_next-next-requires-clause-table : goal.load_next-next-requires-clause-table
-load_next-next-requires-clause-table g c = ?
+pub load_next-next-requires : goal.load_next-next-requires
+load_next-next-requires g c =
+    let put = c.requires.0 in
+    let i = c.loop.invariant.2 put c.requires.1 in
+    let l = c.load-free in
+    let w : ℕ = l.result in
+    let node = λ (z : index_of w ≡ NULL). c.if-index-eq-NULL.false (c.index-index.ensures.field ∙ z) in
+    let low = c.if-tag-tag_limit.false in
+    let tag = c.tag-tag.ensures.field in
+    let limit = c.tag_limit.ensures in
+    let below : tag_of w < tag_limit_of c.args.self.now.limits = omega arith in
+    record {
+      table = (l.ensures.same.table ∙ i.0.table, omega arith, subst (λ (k : ℕ). k < capacity_of c.args.self.now.limits) (sym c.index-index.ensures.field) (l.ensures.node node));
+      may = may_read_free c.args.self.now c.args.operation.now put.values c.loop.pass w l.new.by l.ensures.same l.ensures.told put.chain i.0 node below c.index-index.result c.index-index.ensures.field;
+    }
 
--- src/ranging.rt:193:17
-pub load_next-next-requires-clause-may : goal.load_next-next-requires-clause-may
-load_next-next-requires-clause-may g c = ?
+pub take_node-requires : goal.take_node-requires
+take_node-requires g c =
+    let put = c.requires.0 in
+    let i = c.loop.invariant.2 put c.requires.1 in
+    let l = c.load-free in
+    let s = c.load_next-next in
+    let w : ℕ = l.result in
+    let node = λ (z : index_of w ≡ NULL). c.if-index-eq-NULL.false (c.index-index.ensures.field ∙ z) in
+    let low = c.if-tag-tag_limit.false in
+    let tag = c.tag-tag.ensures.field in
+    let limit = c.tag_limit.ensures in
+    let below : tag_of w < tag_limit_of c.args.self.now.limits = omega arith in
+    let there = l.ensures.node node in
+    let most = c.args.self.now.limits.capacity_in_range in
+    let highest = c.args.self.now.limits.tag_limit_in_range in
+    record {
+      table = (s.ensures.same.table ∙ l.ensures.same.table ∙ i.0.table, omega arith);
+      may = may_take_free c.args.self.now c.args.operation.now put.values c.loop.pass w l.new.by l.ensures.same l.ensures.told put.chain i.0 node below c.index-index.result s.result c.index-index.ensures.field s.ensures.index s.new.by s.ensures.same s.ensures.told;
+      word = (omega arith, omega arith, s.ensures.index);
+    }
 
--- src/ranging.rt:194:16
-pub take_node-requires-clause-table : goal.take_node-requires-clause-table
-take_node-requires-clause-table g c = ?
-
--- src/ranging.rt:194:16
-pub take_node-requires-clause-may : goal.take_node-requires-clause-may
-take_node-requires-clause-may g c = ?
-
--- src/ranging.rt:195:17
 pub returns-then-take_node : goal.returns-then-take_node
-returns-then-take_node g c = ?
+returns-then-take_node g c put first =
+    let i = c.loop.invariant.2 put first in
+    let l = c.load-free in
+    let s = c.load_next-next in
+    let t = c.take_node in
+    let w : ℕ = l.result in
+    let node = λ (z : index_of w ≡ NULL). c.if-index-eq-NULL.false (c.index-index.ensures.field ∙ z) in
+    let low = c.if-tag-tag_limit.false in
+    let tag = c.tag-tag.ensures.field in
+    let limit = c.tag_limit.ensures in
+    let below : tag_of w < tag_limit_of c.args.self.now.limits = omega arith in
+    let all = takes_free c.args.self.now c.args.operation.now put.values c.loop.pass w l.new.by l.ensures.same l.ensures.told put.chain i.0 node below c.index-index.result s.result c.index-index.ensures.field s.ensures.index s.new.by s.ensures.same s.ensures.told
+    t.new.by c.if-take_node.ensures.table c.index-index.result c.index-index.ensures.field (l.ensures.node node) (c.if-take_node.ensures.won refl) in
+    (all.0, all.1, all.2, all.3 ∙ i.1)
 
--- src/ranging.rt:185:9
 pub loop-preserved : goal.loop-preserved
-loop-preserved g c = ?
+loop-preserved g c = (
+  tt,
+  tt,
+  λ put first.
+      let i = c.loop.invariant.2 put first in
+      let l = c.load-free in
+      let s = c.load_next-next in
+      let t = c.take_node in
+      let w : ℕ = l.result in
+      let node = λ (z : index_of w ≡ NULL). c.if-index-eq-NULL.false (c.index-index.ensures.field ∙ z) in
+      let low = c.if-tag-tag_limit.false in
+      let tag = c.tag-tag.ensures.field in
+      let limit = c.tag_limit.ensures in
+      let below : tag_of w < tag_limit_of c.args.self.now.limits = omega arith in
+      let lost = c.if-take_node.ensures.lost refl in
+      let all = tries_free_again c.args.self.now c.args.operation.now put.values c.loop.pass w l.new.by l.ensures.same l.ensures.told put.chain i.0 node below c.index-index.result s.result c.index-index.ensures.field s.ensures.index s.new.by s.ensures.same s.ensures.told
+      t.new.by c.if-take_node.ensures.table lost.0 lost.1 in
+      (all.0, all.1 ∙ i.1),
+)
