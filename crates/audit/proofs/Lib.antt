@@ -1,4 +1,5 @@
+pub mod Delivered
 pub mod LinesSoFar
 pub mod OneReading
-pub mod Writing
 pub mod Texts
+pub mod Writing

@@ -1,8 +1,9 @@
-pub mod Senders
 pub mod Checks
-pub mod MessageFile
-pub mod Reading
-pub mod Lines
-pub mod Output
 pub mod Counting
+pub mod Delivered
+pub mod Lines
+pub mod MessageFile
+pub mod Output
+pub mod Reading
+pub mod Senders
 pub mod Texts

@@ -1,4 +1,6 @@
 pub mod Failure
+pub mod Inputs
 pub mod Outcome
 pub mod Ranges
+pub mod Relaying
 pub mod Replies

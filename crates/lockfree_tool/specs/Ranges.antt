@@ -1,9 +1,11 @@
--- The ranges of what the words ask for.
+-- What the words ask for, and its ranges.
 use Rattle.std.specs.Prelude.{◌≡◌, ℕ, ◌≤◌, Option, IfSome, length}
-use Rattle.lockfree_tool.specs.declared.command_line.TheConstants.{MAX_CAPACITY, MAX_CONSUMERS, MAX_COUNT, MAX_FILES}
-use Rattle.lockfree_tool.specs.declared.arguments.Chosen.{Chosen}
-use Rattle.lockfree_tool.specs.declared.arguments.Chosen.TheVariants.{Replay, Relay}
-use Rattle.lockfree_tool.specs.declared.arguments.RelayArgs.{RelayArgs}
+use Rattle.relay.specs.declared.outcome.Plan.{Plan}
+use Rattle.tagged_index.specs.declared.limit.TheConstants.{MAX_CAPACITY}
+use Rattle.lockfree_tool.specs.declared.command_line.TheConstants.{MAX_CONSUMERS, MAX_COUNT, MAX_FILES}
+use Rattle.lockfree_tool.specs.declared.words.Chosen.{Chosen}
+use Rattle.lockfree_tool.specs.declared.words.Chosen.TheVariants.{Replay, Relay}
+use Rattle.lockfree_tool.specs.declared.words.RelayArgs.{RelayArgs}
 
 -- how a relay is run: each value lies in its range
 pub record IsInRange (args : RelayArgs) : Type 0 where
@@ -19,3 +21,7 @@ pub record IsInRange (args : RelayArgs) : Type 0 where
 abbrev pub AreInRange : Chosen → Type 0
 AreInRange (Replay file) = Unit {0}
 AreInRange (Relay args files) = IsInRange args × (1 ≤ length files.items) × (length files.items ≤ MAX_FILES)
+
+-- what a relay's workers are told
+abbrev pub plan_of : RelayArgs → Plan
+plan_of args = record { consumers = args.consumers; take = args.take; close_after = args.close_after; shut_after = args.shut_after }

@@ -2,9 +2,7 @@
 
 use clap::{Arg, ArgAction, Command, value_parser};
 use std::alloc::{AllocError, Global};
-
-/// The largest capacity of a relay's container.
-pub const MAX_CAPACITY: u32 = 1_048_573;
+use tagged_index::MAX_CAPACITY;
 
 /// The most consumers of a relay.
 pub const MAX_CONSUMERS: u32 = 16;

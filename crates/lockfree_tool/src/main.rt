@@ -1,44 +1,37 @@
-//! The program `lockfree`: it replays a script of calls on standard input, and writes a reply for
-//! each line after the first to standard output.
+//! The program `lockfree`: it replays a script of calls on a container, or relays the lines of files
+//! through one, as the words of its command line ask.
 //!
-//! What is accepted is exactly a text of the grammar (`specs/Script.antt`), a refused text's fault
-//! is its first bad line or its missing last newline, and what is written is a reply to each line,
-//! after the script was read and checked whole (`replay`): for a queue exactly those of the bounded
-//! machine, for a stack what the calls of a real stack answer. Where a text or a
-//! memory fault comes, nothing is written. The status and the line on standard error follow from
-//! the fault (`Failure`).
+//! What is accepted as a script is exactly a text of the grammar; a refused text's fault is its first
+//! bad line or its missing last newline, and what is written is a reply to each line, after the
+//! script was read and checked whole (`replay`): for a queue exactly those of the bounded machine, for
+//! a stack what the calls of a real stack answer. What a relay writes is the outcome of a relay of the
+//! messages that were read (`relay_main`). After a fault of a text, of a file or of memory nothing was
+//! written. The words are read into their ranges (`read_words`). The status and the line on standard
+//! error follow from the fault (`Failure`).
 #![tactic(auto)]
 
 mod answer;
-mod arguments;
-#[cfg(test)]
-mod arguments_tests;
 mod command_line;
 mod failure;
 mod fault;
 mod input;
+mod inputs;
+mod outcome;
 mod output;
+mod program;
+mod relay_main;
+#[cfg(test)]
+mod relay_main_tests;
 mod replay;
 #[cfg(test)]
 mod tests;
+mod tool_fault;
+mod words;
+#[cfg(test)]
+mod words_tests;
 
-use crate::failure::Failure;
-use crate::replay::replay;
+use crate::program::run;
 use std::process::ExitCode;
-use std::rt::Env;
-use std::sync::Wait;
-use std::{env, io};
-
-/// Does what the command line says. Without words that is a replay from standard input to standard
-/// output; no word is understood yet.
-fn run<T: Env + Input + Print + AllocGlobal + Wait>(rt: &T) -> Result<(), Failure> {
-    let mut words = env::args(rt).map_err(|_| Failure::CommandLine)?;
-    if words.nth(1).is_some() {
-        return Err(Failure::CommandLine);
-    }
-    replay(rt, rt.alloc(), &mut rt.reader(), &mut io::writer(rt))?;
-    Ok(())
-}
 
 fn main(rt: HostRuntime) -> ExitCode {
     match run(&rt) {

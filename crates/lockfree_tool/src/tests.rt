@@ -163,8 +163,16 @@ fn bad_scripts(rt: HostRuntime) {
     assert_refused(&rt, b"queue 0 7\n", ReplayFault::BadLine(1));
     assert_refused(&rt, b"", ReplayFault::BadLine(1));
     assert_refused(&rt, b"queue 1 7", ReplayFault::NoFinalNewline);
-    assert_refused(&rt, b"queue 1 7\na put x\na step 1\n", ReplayFault::BadLine(3));
-    assert_refused(&rt, b"stack 1 7\na put x\na begin look\n", ReplayFault::BadLine(3));
+    assert_refused(
+        &rt,
+        b"queue 1 7\na put x\na step 1\n",
+        ReplayFault::BadLine(3),
+    );
+    assert_refused(
+        &rt,
+        b"stack 1 7\na put x\na begin look\n",
+        ReplayFault::BadLine(3),
+    );
 }
 
 /// A script of so many lines that look at an empty queue and so many that close it.

@@ -1,13 +1,13 @@
 -- The whole history of a relay whose passes are all joined, and what each worker did in it.
-use Rattle.std.proofs.Common.{◌≡◌, ℕ, suc, ◌+◌, ◌<◌, ◌≤◌, List, [], ◌∷◌, ◌++◌, refl, Bool, sym, ◌∙◌, ap, subst, arith, map, length, length-append, flat_map, All, Vec}
+use Rattle.std.proofs.Common.{◌≡◌, ℕ, suc, ◌+◌, ◌<◌, List, [], ◌∷◌, ◌++◌, refl, Bool, sym, ◌∙◌, ap, subst, arith, map, length, length-append, flat_map, All}
 use Rattle.std.specs.List.{AllByRecursion as Every}
-use Rattle.std.specs.declared.alloc.Global.{Global}
 use Rattle.std.proofs.lemmas.List.{length-map}
+use Rattle.std.proofs.lemmas.List.Elements.{recursion_from_All}
 use Rattle.std.proofs.lemmas.Grind.{flat_map-append}
 use Rattle.bounded_model.specs.declared.history.Event.{Event}
 use Rattle.bounded_model.specs.declared.views.PassView.{PassView}
 use Rattle.bounded_model.specs.declared.views.RootView.{RootView}
-use Rattle.bounded_model.specs.Machine.{Shape, Legal}
+use Rattle.bounded_model.specs.Machine.{Shape}
 use Rattle.bounded_model.specs.Histories.{own, pass_of, Later}
 use Rattle.bounded_model.specs.Gathers.{EachFrom}
 use Rattle.bounded_model.specs.Laws.{IsSound, NoneOut, Joins}
@@ -23,7 +23,8 @@ use Rattle.relay.specs.Promises.{Lists, total}
 use Rattle.relay.specs.Passes.{gave, JoinsAll}
 use Rattle.relay.specs.Parts.{MayUse}
 use Rattle.relay.specs.Workers.{Worker, Producer, Consumer, Closer, DidIn, Did, DidBy, Once, Unused, Ran, items_of, moves_of}
-use Rattle.relay.specs.Worked.{SentAs, TookAs, ClosedAs, EachSent}
+use Rattle.relay.proofs.Joins.{JoinsAll_append, JoinsAll_more}
+use Rattle.relay.specs.Worked.{TookAs, ClosedAs, EachSent}
 
 abbrev pub sender_of : Message → ℕ
 sender_of m = m.sender
@@ -114,7 +115,7 @@ module _ {P : Type 0} (is_pass : P → Type 0) (view : P → PassView Message) (
   senders_long a (l ∷ ls) [] h = absurd h
   senders_long a (l ∷ ls) (s ∷ ss) h = ap suc (senders_long (suc a) ls ss h.1)
 
-  sent_long : (a : ℕ) (inputs : Lists) (sent : List (Sent P)) → EachSent is_pass view c orders a inputs sent → length sent ≡ length inputs
+  pub sent_long : (a : ℕ) (inputs : Lists) (sent : List (Sent P)) → EachSent is_pass view c orders a inputs sent → length sent ≡ length inputs
   sent_long a [] [] h = refl
   sent_long a [] (s ∷ ss) h = absurd h
   sent_long a (l ∷ ls) [] h = absurd h
@@ -175,9 +176,16 @@ module _ {P : Type 0} (is_pass : P → Type 0) (view : P → PassView Message) (
     -- no pass is out
     pub none_out : NoneOut r
     none_out =
-        omega (arith, given, joined_account (gave (length inputs + length took + 1)) r (views sent took closer) e.joined, sent_long 0 inputs sent e.senders_are,
-        length-append (map (λ (s : Sent P). view s.pass) sent ++ map (λ (t : Took P). view t.pass) took) (view closer ∷ []), length-append (map (λ (s : Sent P). view s.pass) sent) (map (λ (t : Took P). view t.pass) took),
-        length-map sent (λ (s : Sent P). view s.pass), length-map took (λ (t : Took P). view t.pass))
+        omega (
+          arith,
+          given,
+          joined_account (gave (length inputs + length took + 1)) r (views sent took closer) e.joined,
+          sent_long 0 inputs sent e.senders_are,
+          length-append (map (λ (s : Sent P). view s.pass) sent ++ map (λ (t : Took P). view t.pass) took) (view closer ∷ []),
+          length-append (map (λ (s : Sent P). view s.pass) sent) (map (λ (t : Took P). view t.pass) took),
+          length-map sent (λ (s : Sent P). view s.pass),
+          length-map took (λ (t : Took P). view t.pass),
+        )
 
     everyone : Every (HasJoined r) (views sent took closer)
     everyone = all_joined (gave (length inputs + length took + 1)) r (views sent took closer) e.joined
@@ -200,8 +208,13 @@ module _ {P : Type 0} (is_pass : P → Type 0) (view : P → PassView Message) (
 
     pub all_items : length (flat_map items_of (workers inputs sent took used)) ≡ total inputs
     all_items =
-        ap length (flat_map-append items_of (senders inputs sent ++ map taker took) (Closer used ∷ [])) ∙ (length-append (flat_map items_of (senders inputs sent ++ map taker took)) [] ∙ omega (arith,
-        ap length (flat_map-append items_of (senders inputs sent) (map taker took)), length-append (flat_map items_of (senders inputs sent)) (flat_map items_of (map taker took)), ap length (takers_items took), senders_items 0 inputs sent e.senders_are))
+        ap length (flat_map-append items_of (senders inputs sent ++ map taker took) (Closer used ∷ [])) ∙ (length-append (flat_map items_of (senders inputs sent ++ map taker took)) [] ∙ omega (
+          arith,
+          ap length (flat_map-append items_of (senders inputs sent) (map taker took)),
+          length-append (flat_map items_of (senders inputs sent)) (flat_map items_of (map taker took)),
+          ap length (takers_items took),
+          senders_items 0 inputs sent e.senders_are,
+        ))
 
     -- it was a run as the promises want it
     pub ran : Ran sender_of c orders r.seen (workers inputs sent took used) used
@@ -212,3 +225,24 @@ module _ {P : Type 0} (is_pass : P → Type 0) (view : P → PassView Message) (
       unused = unused_all;
       messages = e.messages ∙ sym all_items;
     }
+
+module _ {P : Type 0} (is_pass : P → Type 0) (view : P → PassView Message) (c : Shape) (orders : Orders) (inputs : Lists) (sent : List (Sent P)) (took : List (Took P)) (closer : P) (used : Bool) where
+  -- from what each step of the relay says
+  pub ends_from : (p q : ℕ) (r₀ r₁ r₂ r : RootView Message) → length inputs ≡ p → length took ≡ q → EachSent is_pass view c orders 0 inputs sent → EachFrom (TookAs is_pass view c orders) 0 took
+      → ClosedAs is_pass view (p + q) closer used → All (MayUse used) sent → r₀ ≡ gave (p + q + 1) → JoinsAll r₀ (map (λ s. view s.pass) sent) r₁ → JoinsAll r₁ (map (λ t. view t.pass) took) r₂
+      → Joins r₂ (view closer) r → IsSound c r → orders.producers ≡ p → orders.messages ≡ total inputs → Ends is_pass view c orders inputs sent took closer used r
+  ends_from p q r₀ r₁ r₂ r is_p is_q senders' takers' closer' may given one two three sound producers messages =
+      let both : p + q ≡ length inputs + length took = omega (arith, is_p, is_q) in
+      let ss = map (λ (s : Sent P). view s.pass) sent in
+      let ts = map (λ (t : Took P). view t.pass) took in
+      record {
+        senders_are = senders';
+        takers_are = takers';
+        closer_is = subst (λ n. ClosedAs is_pass view n closer used) both closer';
+        may = recursion_from_All (MayUse used) sent may;
+        joined = subst (λ n. JoinsAll (gave (n + 1)) (views is_pass view c orders sent took closer) r) both
+        (subst (λ s. JoinsAll s (views is_pass view c orders sent took closer) r) given (JoinsAll_more r₀ r₂ r (ss ++ ts) (view closer) (JoinsAll_append r₀ r₁ r₂ ss ts one two) three));
+        sound = sound;
+        producers = producers ∙ sym is_p;
+        messages = messages;
+      }

@@ -6,5 +6,8 @@ pub mod Joins
 pub mod Splitting
 pub mod Starting
 pub mod Accounts
+pub mod Delivering
+pub mod Ended
+pub mod Promised
 pub mod Merging
 pub mod Relaying

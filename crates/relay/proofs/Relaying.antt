@@ -21,6 +21,7 @@ use Rattle.relay.specs.declared.ends.ProducerEnd.TheVariants.{SentAll, ClosedIt,
 use Rattle.relay.specs.declared.ends.ConsumerEnd.TheVariants.{TookEnough, ShutIt, FoundClosed, FoundShut, FoundSpent, NoRoom}
 use Rattle.relay.specs.declared.orders.Orders.{Orders}
 use Rattle.relay.specs.Workers.{Worker, Producer, Consumer, Closer, Did, Unused, Once, Ran, items_of, taken_of, from, Accounts, InOrder, AllSent, TookK, AtMost, AtMostFirst, FirstTook, FirstPut, HasConsumer}
+use Rattle.relay.proofs.Working.{is_nil}
 use Rattle.relay.proofs.Merging.{sorted_is}
 
 pub EachFrom-weaker : {T : Type 0} (P Q : ℕ → Worker T → Type 0) → ((a : ℕ) (w : Worker T) → P a w → Q a w) → (a : ℕ) (ws : List (Worker T)) → EachFrom P a ws → EachFrom Q a ws
@@ -32,7 +33,7 @@ EachFrom-both P Q a [] h k = tt
 EachFrom-both P Q a (w ∷ ws) h k = ((h.0, k.0), EachFrom-both P Q (suc a) ws h.1 k.1)
 
 -- the worker of a number
-EachFrom-at : {T : Type 0} (P : ℕ → Worker T → Type 0) (a : ℕ) (ws : List (Worker T)) → EachFrom P a ws → (k : ℕ) → a ≤ k → k < a + length ws → (w : Worker T) × P k w
+pub EachFrom-at : {T : Type 0} (P : ℕ → Worker T → Type 0) (a : ℕ) (ws : List (Worker T)) → EachFrom P a ws → (k : ℕ) → a ≤ k → k < a + length ws → (w : Worker T) × P k w
 EachFrom-at P a [] h k low high = absurd (omega arith)
 EachFrom-at P a (w ∷ ws) h k low high =
     elim (here a k low) [ inl e ↦ (w, subst (λ j. P j w) e h.0) | inr l ↦ EachFrom-at P (suc a) ws h.1 k l (omega arith) ]
@@ -234,8 +235,24 @@ module _ {T : Type 0} (sender : T → ℕ) (c : Shape) (plan : Orders) (h : List
   values_long [] = refl
   values_long (t ∷ ts) = ap suc (values_long ts)
 
+  -- what the consumers took is what was taken
+  pub all_taken : IsPermutation (flat_map taken_of ws) (gather took_of h)
+  all_taken = gathers took_of taken_of D h ws did_takes ran.did ran.known
+
+  -- no more is left than there are messages
+  pub few_left : length (state c h).values ≤ length (flat_map items_of ws)
+  few_left =
+      let same = length_permutation _ _ (each_all put_of ws h ran.known) in
+      let few = puts_within 0 ws ran.did in
+      let all = length_permutation _ _ (all_there c h ran.legal) in
+      omega (arith, length-append (values_of (gather took_of h)) (state c h).values)
+
+  -- a sender whose pass put nothing has nothing anywhere
+  pub nothing_of : (s : ℕ) → gather put_of (own s h) ≡ [] → from sender s (values_of (gather took_of h)) ++ from sender s (state c h).values ≡ []
+  nothing_of s none = is_nil _ (omega (arith, length_permutation _ _ (all_there_of (λ x. sender x == s) c h ran.legal), ap length (puts_from s ∙ none)))
+
   -- no more was taken than there are messages
-  few_takes : length (gather took_of h) ≤ length (flat_map items_of ws)
+  pub few_takes : length (gather took_of h) ≤ length (flat_map items_of ws)
   few_takes =
       let same = length_permutation _ _ (each_all put_of ws h ran.known) in
       let few = puts_within 0 ws ran.did in

@@ -1,10 +1,9 @@
 -- From new passes to workers that are ready, and from what they did to what all of them did.
-use Rattle.std.proofs.Common.{◌≡◌, ℕ, suc, ◌+◌, ◌<◌, ◌≤◌, ◌^◌, List, [], ◌∷◌, refl, sym, ◌∙◌, ap, subst, arith, All, Vec, vec_capacity, Bool, length}
+use Rattle.std.proofs.Common.{◌≡◌, ℕ, suc, ◌+◌, ◌<◌, ◌^◌, List, [], ◌∷◌, refl, sym, ◌∙◌, ap, subst, arith, All, Vec, Bool, length}
 use Rattle.std.specs.List.{AllZip, AllByRecursion as Every}
 use Rattle.std.specs.declared.alloc.Global.{Global}
 use Rattle.std.proofs.lemmas.List.Elements.{All-from_recursion, recursion_from_All}
 use Rattle.bounded_model.specs.declared.views.PassView.{PassView}
-use Rattle.bounded_model.specs.declared.views.RootView.{RootView}
 use Rattle.bounded_model.specs.Machine.{Shape}
 use Rattle.bounded_model.specs.Histories.{own}
 use Rattle.bounded_model.specs.Gathers.{EachFrom}
@@ -20,7 +19,7 @@ use Rattle.relay.specs.Rooms.{IsRoomFor}
 use Rattle.relay.specs.Passes.{new_pass, IsNewSender, IsNewTaker}
 use Rattle.relay.specs.Parts.{IsSender, IsTaker, DidSend, DidTake, DidClose}
 use Rattle.relay.specs.Workers.{Producer, DidBy}
-use Rattle.relay.specs.Worked.{SentAs, TookAs, ClosedAs, EachSent}
+use Rattle.relay.specs.Worked.{TookAs, ClosedAs, EachSent}
 
 from_one : (sender seq : ℕ) (ms : List Message) → GoOnFrom sender seq ms → Every (λ m. m.sender ≡ sender) ms
 from_one sender seq [] h = tt

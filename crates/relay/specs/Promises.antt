@@ -93,7 +93,7 @@ FirstTakesShare c plan inputs r =
     IsAmple c inputs → (r.left.items ≡ [] → ⊥) → (m : ℕ) → plan.shut_after ≡ Some m
     → (taken_by 0 r.delivered.items ≡ m) ⊎ ((plan.take ≡ Some (taken_by 0 r.delivered.items)) × (taken_by 0 r.delivered.items < m))
 
--- all of them
+-- all of them at once
 pub record Relays (c : Shape) (plan : Plan) (inputs : Lists) (r : Relayed) : Type 0 where
   pub lists : length r.unsent.items ≡ length inputs
   pub all_there : LosesNothing inputs r

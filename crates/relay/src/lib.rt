@@ -1,11 +1,14 @@
 //! A relay: producer threads put the messages of their inputs into a bounded container, consumer
 //! threads take them out, and nothing is lost, doubled, or put out of a sender's order.
 //!
-//! This crate stands on the laws of a container alone, and names none. So far it has what a relay
-//! is given and gives: [`Message`], [`Plan`], [`Relayed`], the [`Gate`] that a test may close, and
-//! [`numbered`], which tells whether inputs are numbered as a relay wants them; what a producer and
-//! a consumer do, proved over any container; and the proof that whatever such workers do, in
-//! whatever order, every message is delivered, left, or unsent. The threads are still to come.
+//! [`run`] promises, from the laws of a container alone: every message of every input is delivered,
+//! left in the container, or unsent, each once; over a queue each sender's messages keep their order;
+//! numbers rise, over a queue 0, 1, 2, ..; nothing is unsent or left that the plan did not ask for; no
+//! consumer takes more than its share, and each takes just that where something is left. A relay that
+//! is too small for its messages is refused before anything starts.
+//!
+//! [`numbered`] tells whether inputs are numbered as a relay wants them, and a [`Gate`] lets a test
+//! hold threads where it wants them.
 #![tactic(auto)]
 
 mod consumer;
@@ -21,7 +24,7 @@ mod passes;
 mod pool;
 mod producer;
 mod rooms;
-mod run;
+mod running;
 mod sizes;
 #[cfg(test)]
 mod tests;
@@ -31,3 +34,4 @@ pub use faults::RelayFault;
 pub use gates::{FreeGate, Gate};
 pub use messages::{Message, numbered};
 pub use outcome::{Plan, Relayed, Taken};
+pub use running::run;

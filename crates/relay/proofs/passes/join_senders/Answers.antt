@@ -1,4 +1,4 @@
-use Rattle.std.proofs.Common.{arith, refl}
+use Rattle.std.proofs.Common.{arith}
 use Rattle.std.proofs.lemmas.List.Elements.{All-rest}
 use Rattle.relay.proofs.Joins.{Joining_more}
 use Rattle.relay.proofs.passes.join_senders.Goals as goal

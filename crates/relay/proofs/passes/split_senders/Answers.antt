@@ -1,5 +1,5 @@
-use Rattle.std.proofs.Common.{arith, refl, ap, sym, ◌∙◌, ◌+◌, length}
-use Rattle.relay.specs.Passes.{gave, new_pass, IsNewSender}
+use Rattle.std.proofs.Common.{arith, refl, ap, sym, ◌∙◌}
+use Rattle.relay.specs.Passes.{new_pass, IsNewSender}
 use Rattle.relay.proofs.Zips.{So_more}
 use Rattle.relay.proofs.Joins.{EachFrom_more}
 use Rattle.relay.proofs.Splitting.{gave_more, pass_of_split}

@@ -6,7 +6,7 @@ use Rattle.relay.specs.Passes.{IsNewTaker}
 use Rattle.relay.specs.Rooms.{IsRoomFor}
 use Rattle.relay.proofs.Starting.{senders_ready, takers_ready, each_sent, each_took, closed_as, zip_long}
 use Rattle.relay.proofs.Splitting.{pass_of_split}
-use Rattle.relay.proofs.run.work.Goals as goal
+use Rattle.relay.proofs.running.work.Goals as goal
 
 pub run_workers-requires-clause-senders : goal.run_workers-requires-clause-senders
 run_workers-requires-clause-senders g c κs within =

@@ -1,12 +1,14 @@
 //! What the words of the command line ask for.
 
-ghost use Rattle.std.specs.Prelude.{◌↔◌, ◌≤◌, IsTrue, IfOk, IfSome};
-ghost use Rattle.lockfree_tool.specs.Ranges.{AreInRange, IsInRange};
+ghost use Rattle.std.specs.Prelude.{◌≡◌, ◌↔◌, ◌≤◌, IsTrue, IfOk, IfSome};
+ghost use Rattle.lockfree_tool.specs.Ranges.{AreInRange, IsInRange, plan_of};
 
-use crate::command_line::{MAX_CAPACITY, MAX_CONSUMERS, MAX_COUNT, MAX_FILES, command_line};
+use crate::command_line::{MAX_CONSUMERS, MAX_COUNT, MAX_FILES, command_line};
 use clap::ArgMatches;
 use clap::error::ErrorKind;
+use relay::Plan;
 use std::alloc::{AllocError, AllocFailed, Global};
+use tagged_index::MAX_CAPACITY;
 use thiserror::Error;
 
 /// Which container a relay runs over.
@@ -126,6 +128,18 @@ fn args_of(found: &ArgMatches<'_>) -> Option<RelayArgs>
 }
 
 impl RelayArgs {
+    /// What the relay's workers are told.
+    pub fn plan(&self) -> Plan
+        ensures { result ≡ plan_of self.now }
+    {
+        Plan {
+            consumers: self.consumers,
+            take: self.take,
+            close_after: self.close_after,
+            shut_after: self.shut_after,
+        }
+    }
+
     // Whether each value lies in its range.
     fn is_in_range(&self) -> bool
         ensures { IsTrue result ↔ IsInRange self.now }

@@ -1,0 +1,147 @@
+//! A relay from its beginning to its end.
+
+ghost use Rattle.std.specs.Prelude.{◌≡◌, ◌↔◌, ◌<◌, ◌≤◌, ◌+◌, ◌^◌, All, [], length, vec_len, vec_capacity, IfOk, Err};
+ghost use Rattle.bounded_model.specs.Gathers.{EachFrom};
+ghost use Rattle.bounded_model.specs.Laws.{fresh};
+ghost use Rattle.relay.specs.Messages.{AreInputsFrom};
+ghost use Rattle.relay.specs.Rooms.{IsWorkRoom};
+ghost use Rattle.relay.specs.Passes.{gave};
+ghost use Rattle.relay.specs.Parts.{DidSend, DidTake, DidClose, MayUse};
+ghost use Rattle.relay.specs.Worked.{SentAs, TookAs, ClosedAs, EachSent};
+ghost use Rattle.relay.specs.Promises.{total, IsTooSmall, Relays, LosesNothing, KeepsOrder, SendsAll, SendsFirst, LeavesNothing, NumbersRise, NumbersCount, NamesConsumers, TakesNoMore, FirstTakesNoMore, TakesShares, FirstTakesShare};
+ghost use Rattle.relay.specs.declared.faults.RelayFault.TheVariants.{TooSmall, NoPass};
+
+use crate::merge::{drain, merge};
+use crate::orders::Orders;
+use crate::parts::Site;
+use crate::passes::{join_senders, join_takers, split_senders, split_takers};
+use crate::rooms::{WorkRoom, make_room};
+use crate::sizes::{count, is_too_small};
+use crate::threads::{Ended, run_workers};
+use crate::{Gate, Message, Plan, RelayFault, Relayed};
+use bounded_model::Container;
+use std::alloc::Global;
+use std::sync::Wait;
+use std::thread::Threads;
+
+// Gives each worker a pass, and has them work.
+fn work<C: Container<Message> + Sync, G: Gate + Sync, R: Threads + Wait + Sync>(
+    rt: &R,
+    site: &Site<C>,
+    root: &mut C::Root,
+    gate: &G,
+    inputs: Vec<Vec<Message>>,
+    room: WorkRoom<C>,
+) -> Result<Ended<C::Pass>, RelayFault>
+    requires root { C.is_root site.now.container root.old }
+    requires fresh { C.root root.old ≡ fresh }
+    requires numbered { AreInputsFrom 0 inputs.items }
+    requires producers { site.now.orders.producers ≡ vec_len inputs }
+    requires few { vec_len room.taken < 2 ^ 32 }
+    requires room { IsWorkRoom (vec_len inputs) (vec_len room.taken) (site.now.orders.messages + 1) room }
+    ensures root { C.is_root site.now.container root.new }
+    ensures given { IfOk result (λ e. C.root root.new ≡ gave (vec_len inputs + vec_len room.taken + 1)) }
+    ensures senders { IfOk result (λ e. EachSent (C.is_pass site.now.container) C.pass (C.shape site.now.container) site.now.orders 0 inputs.items e.sent.items) }
+    ensures takers { IfOk result (λ e. EachFrom (TookAs (C.is_pass site.now.container) C.pass (C.shape site.now.container) site.now.orders) 0 e.took.items) }
+    ensures consumers { IfOk result (λ e. vec_len e.took ≡ vec_len room.taken) }
+    ensures closer { IfOk result (λ e. ClosedAs (C.is_pass site.now.container) C.pass (vec_len inputs + vec_len room.taken) e.closer e.used) }
+    ensures used { IfOk result (λ e. All (MayUse e.used) e.sent.items) }
+    ensures never { (result ≡ Err TooSmall) → ⊥ }
+    ensures no_pass { result ≡ Err NoPass → 65535 ≤ vec_len inputs + vec_len room.taken }
+{
+    let WorkRoom {
+        senders,
+        takers,
+        taken,
+        threads,
+    } = room;
+    let Some(senders) = split_senders(&site.container, root, inputs, senders) else {
+        return Err(RelayFault::NoPass);
+    };
+    let Some(takers) = split_takers(&site.container, root, taken, takers) else {
+        return Err(RelayFault::NoPass);
+    };
+    let Some(closer) = site.container.split(root) else {
+        return Err(RelayFault::NoPass);
+    };
+    match run_workers(rt, site, gate, senders, takers, closer, threads) {
+        Some(ended) => Ok(ended),
+        None => Err(RelayFault::NoThread),
+    }
+}
+
+/// Relays all messages: one thread for each input puts its messages in their order, and each consumer
+/// takes messages in a thread of its own. Answers where each message ended up.
+///
+/// The promises hold if it returns. A container whose tags may rise to no more than twice the number
+/// of messages can refuse a put or a take for good; only then may messages stay unsent or left that
+/// the plan did not ask to stay.
+///
+/// `TooSmall` comes exactly where some message could never be put, and is looked for first; then
+/// `NoMemory`, where there is no room for the outcome; `NoPass`, only where more than 65,535 passes
+/// would be needed; `NoThread`, where a worker's thread could not be started. A fault consumes the
+/// container and the inputs, and no worker runs on.
+pub fn run<C: Container<Message> + Sync, G: Gate + Sync, R: Threads + Wait + Sync>(
+    rt: &R,
+    alloc: Global,
+    container: C,
+    root: C::Root,
+    inputs: Vec<Vec<Message>>,
+    plan: Plan,
+    gate: &G,
+) -> Result<Relayed, RelayFault>
+    requires root { C.is_root container root }
+    requires fresh { C.root root ≡ fresh }
+    requires consumers { 1 ≤ plan.consumers }
+    requires numbered { AreInputsFrom 0 inputs.items }
+    ensures lists { IfOk result (λ r. length r.unsent.items ≡ length inputs.items) }
+    ensures all_there { IfOk result (LosesNothing inputs.items) }
+    ensures in_order { IfOk result (KeepsOrder (C.shape container) inputs.items) }
+    ensures all_sent { IfOk result (SendsAll (C.shape container) plan inputs.items) }
+    ensures first_sent { IfOk result (SendsFirst (C.shape container) plan inputs.items) }
+    ensures none_left { IfOk result (LeavesNothing (C.shape container) plan inputs.items) }
+    ensures rising { IfOk result NumbersRise }
+    ensures counting { IfOk result (NumbersCount (C.shape container)) }
+    ensures consumers { IfOk result (NamesConsumers plan) }
+    ensures no_more { IfOk result (TakesNoMore plan) }
+    ensures first_no_more { IfOk result (FirstTakesNoMore plan) }
+    ensures shares { IfOk result (TakesShares (C.shape container) plan inputs.items) }
+    ensures first_share { IfOk result (FirstTakesShare (C.shape container) plan inputs.items) }
+    ensures all { IfOk result (Relays (C.shape container) plan inputs.items) }
+    ensures too_small { (result ≡ Err TooSmall) ↔ IsTooSmall plan (C.shape container).capacity (total inputs.items) }
+    ensures no_pass { result ≡ Err NoPass → 65535 ≤ length inputs.items + plan.consumers }
+{
+    let messages = count(&inputs);
+    if is_too_small(&plan, container.capacity(), messages) {
+        return Err(RelayFault::TooSmall);
+    }
+    let Ok(room) = make_room(alloc, inputs.len(), plan.consumers, messages) else {
+        return Err(RelayFault::NoMemory);
+    };
+    let (work_room, outcome) = room;
+    let orders = Orders {
+        producers: inputs.len() as u64,
+        messages: messages as u64,
+        take: plan.take,
+        close_after: plan.close_after,
+        shut_after: plan.shut_after,
+    };
+    let site = Site { container, orders };
+    let mut root = root;
+    let Ended {
+        sent,
+        took,
+        closer,
+        used: _,
+    } = work(rt, &site, &mut root, gate, inputs, work_room)?;
+    let unsent = join_senders(&site.container, &mut root, sent, outcome.unsent);
+    let lists = join_takers(&site.container, &mut root, took, outcome.taken);
+    site.container.join(&mut root, closer);
+    let delivered = merge(lists, outcome.delivered);
+    let left = drain(site.container.finish(root), outcome.left);
+    Ok(Relayed {
+        delivered,
+        left,
+        unsent,
+    })
+}
