@@ -23,6 +23,7 @@ use Rattle.relay.specs.Promises.{Lists, total}
 use Rattle.relay.specs.Passes.{gave, JoinsAll}
 use Rattle.relay.specs.Parts.{MayUse}
 use Rattle.relay.specs.Workers.{Worker, Producer, Consumer, Closer, DidIn, Did, DidBy, Once, Unused, Ran, items_of, moves_of}
+use Rattle.relay.proofs.Lists.{EachFrom_append, Every_front, Every_back}
 use Rattle.relay.proofs.Joins.{JoinsAll_append, JoinsAll_more}
 use Rattle.relay.specs.Worked.{TookAs, ClosedAs, EachSent}
 
@@ -71,28 +72,6 @@ did_at c plan r a v w sound number joined d =
     let later = later_did c plan v.seen r.seen v.number (own v.number v.seen) w joined.seen d in
     subst (λ n. DidIn sender_of c plan r.seen n (own n r.seen) w) number
     (subst (λ es. DidIn sender_of c plan r.seen v.number es w) (sym (own-joined c sound joined)) later)
-
--- Lists of workers
-
-pub EachFrom_append : {A : Type 0} (F : ℕ → A → Type 0) (a b : ℕ) (xs ys : List A) → a + length xs ≡ b → EachFrom F a xs → EachFrom F b ys → EachFrom F a (xs ++ ys)
-EachFrom_append F a b [] ys e h k = let same : b ≡ a = omega (arith, e) in subst (λ n. EachFrom F n ys) same k
-EachFrom_append F a b (x ∷ xs) ys e h k = (h.0, EachFrom_append F (suc a) b xs ys (omega (arith, e)) h.1 k)
-
-pub EachFrom_front : {A : Type 0} (F : ℕ → A → Type 0) (a : ℕ) (xs ys : List A) → EachFrom F a (xs ++ ys) → EachFrom F a xs
-EachFrom_front F a [] ys h = tt
-EachFrom_front F a (x ∷ xs) ys h = (h.0, EachFrom_front F (suc a) xs ys h.1)
-
-pub EachFrom_back : {A : Type 0} (F : ℕ → A → Type 0) (a b : ℕ) (xs ys : List A) → a + length xs ≡ b → EachFrom F a (xs ++ ys) → EachFrom F b ys
-EachFrom_back F a b [] ys e h = let same : a ≡ b = omega (arith, e) in subst (λ n. EachFrom F n ys) same h
-EachFrom_back F a b (x ∷ xs) ys e h = EachFrom_back F (suc a) b xs ys (omega (arith, e)) h.1
-
-Every_front : {A : Type 0} (F : A → Type 0) (xs ys : List A) → Every F (xs ++ ys) → Every F xs
-Every_front F [] ys h = tt
-Every_front F (x ∷ xs) ys h = (h.0, Every_front F xs ys h.1)
-
-Every_back : {A : Type 0} (F : A → Type 0) (xs ys : List A) → Every F (xs ++ ys) → Every F ys
-Every_back F [] ys h = h
-Every_back F (x ∷ xs) ys h = Every_back F xs ys h.1
 
 module _ {P : Type 0} (is_pass : P → Type 0) (view : P → PassView Message) (c : Shape) (orders : Orders) where
   abbrev pub senders : Lists → List (Sent P) → List (Worker Message)
@@ -241,7 +220,7 @@ module _ {P : Type 0} (is_pass : P → Type 0) (view : P → PassView Message) (
         closer_is = subst (λ n. ClosedAs is_pass view n closer used) both closer';
         may = recursion_from_All (MayUse used) sent may;
         joined = subst (λ n. JoinsAll (gave (n + 1)) (views is_pass view c orders sent took closer) r) both
-        (subst (λ s. JoinsAll s (views is_pass view c orders sent took closer) r) given (JoinsAll_more r₀ r₂ r (ss ++ ts) (view closer) (JoinsAll_append r₀ r₁ r₂ ss ts one two) three));
+            (subst (λ s. JoinsAll s (views is_pass view c orders sent took closer) r) given (JoinsAll_more r₀ r₂ r (ss ++ ts) (view closer) (JoinsAll_append r₀ r₁ r₂ ss ts one two) three));
         sound = sound;
         producers = producers ∙ sym is_p;
         messages = messages;

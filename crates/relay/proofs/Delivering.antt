@@ -1,12 +1,10 @@
 -- What the consumers' lists say of the history, and of each consumer.
-use Rattle.std.proofs.Common.{◌≡◌, ℕ, zero, suc, ◌+◌, ◌<◌, ◌≤◌, ◌≢◌, List, [], ◌∷◌, ◌++◌, refl, true, false, cond, sym, ◌∙◌, ap, subst, arith, length, flat_map, inl, inr, Vec, IsPermutation}
+use Rattle.std.proofs.Common.{◌≡◌, ℕ, suc, ◌+◌, ◌<◌, ◌≤◌, ◌≢◌, List, [], ◌∷◌, ◌++◌, refl, true, false, cond, sym, ◌∙◌, ap, subst, arith, length, flat_map, inl, inr, Vec}
 use Rattle.std.specs.Prelude.{◌==◌, ◌⊎◌}
 use Rattle.std.specs.List.{AllZip, AllByRecursion as Every}
 use Rattle.std.specs.declared.alloc.Global.{Global}
 use Rattle.std.proofs.lemmas.Bool.Decides.{nat_tests}
-use Rattle.std.proofs.lemmas.List.Elements.{All-from_recursion, recursion_from_All}
 use Rattle.std.proofs.lemmas.List.Sums.{sum_by-cons, sum_by-append}
-use Rattle.std.proofs.lemmas.List.Sorted.{All-permutation}
 use Rattle.bounded_model.specs.declared.history.Event.{Event}
 use Rattle.bounded_model.specs.declared.history.Event.TheVariants.{Hold, Put, Take, TakeAll, Free, Close, Shut}
 use Rattle.bounded_model.specs.declared.views.PassView.{PassView}
@@ -21,13 +19,7 @@ use Rattle.relay.specs.declared.parts.Took.{Took}
 use Rattle.relay.specs.Promises.{messages_of, taken_by}
 use Rattle.relay.specs.Workers.{moves_of}
 use Rattle.relay.specs.Worked.{TookAs}
-
-pub Every_append : {A : Type 0} (F : A → Type 0) (xs ys : List A) → Every F xs → Every F ys → Every F (xs ++ ys)
-Every_append F [] ys h k = k
-Every_append F (x ∷ xs) ys h k = (h.0, Every_append F xs ys h.1 k)
-
-pub Every_permutation : {A : Type 0} (F : A → Type 0) (xs ys : List A) → IsPermutation xs ys → Every F xs → Every F ys
-Every_permutation F xs ys p h = recursion_from_All F ys (All-permutation F xs ys p (All-from_recursion F xs h))
+use Rattle.relay.proofs.Lists.{same_or_not, Every_append}
 
 -- Numbers and messages of the moves
 
@@ -65,12 +57,6 @@ taken_from a (TakeAll p vs n) is = each vs
 taken_from a (Free p k) is = tt
 taken_from a (Close p) is = tt
 taken_from a (Shut p) is = tt
-
-same_or_not : (a b : ℕ) → (a ≡ b) ⊎ (a ≢ b)
-same_or_not zero zero = inl refl
-same_or_not zero (suc b) = inr (λ e. absurd (omega arith))
-same_or_not (suc a) zero = inr (λ e. absurd (omega arith))
-same_or_not (suc a) (suc b) = elim (same_or_not a b) [ inl e ↦ inl (ap suc e) | inr f ↦ inr (λ e. f (omega arith)) ]
 
 own_takes : (a : ℕ) (h : List (Event Message)) → Every (λ m. m.by ≡ a) (gather took_of (own a h))
 own_takes a [] = tt

@@ -1,10 +1,9 @@
 -- A loop over workers that joins the pass of each.
-use Rattle.std.proofs.Common.{◌≡◌, ℕ, suc, List, [], ◌∷◌, ◌++◌, refl, sym, ◌∙◌, ap, subst, append-nil, map, length, arith, ◌+◌}
+use Rattle.std.proofs.Common.{◌≡◌, List, [], ◌∷◌, ◌++◌, refl, sym, ◌∙◌, ap, subst, append-nil, map}
 use Rattle.std.specs.List.{AllZip}
 use Rattle.bounded_model.specs.declared.views.PassView.{PassView}
 use Rattle.bounded_model.specs.declared.views.RootView.{RootView}
 use Rattle.bounded_model.specs.Laws.{Joins}
-use Rattle.bounded_model.specs.Gathers.{EachFrom}
 use Rattle.relay.specs.declared.messages.Message.{Message}
 use Rattle.relay.specs.Passes.{JoinsAll}
 use Rattle.relay.proofs.Zips.{zip_more, again}
@@ -20,10 +19,6 @@ JoinsAll_append r s t (v ∷ vs) ws e j = (e.0, e.1, JoinsAll_append e.0 s t vs 
 map_more : {A B : Type 0} (f : A → B) (xs : List A) (x : A) → map f (xs ++ x ∷ []) ≡ map f xs ++ f x ∷ []
 map_more f [] x = refl
 map_more f (y ∷ xs) x = ap (λ l. f y ∷ l) (map_more f xs x)
-
-pub EachFrom_more : {A : Type 0} (P : ℕ → A → Type 0) (a b : ℕ) (xs : List A) (x : A) → a + length xs ≡ b → EachFrom P a xs → P b x → EachFrom P a (xs ++ x ∷ [])
-EachFrom_more P a b [] x e h p = let here : b ≡ a = omega (arith, e) in (subst (λ k. P k x) here p, tt)
-EachFrom_more P a b (y ∷ xs) x e h p = (h.0, EachFrom_more P (suc a) b xs x (omega (arith, e)) h.1 p)
 
 module _ {A B : Type 0} (R : A → B → Type 0) (view : A → PassView Message) (start : RootView Message) where
   -- of these workers some are joined, which gave this, and the rest are to come

@@ -1,3 +1,4 @@
+pub mod Lists
 pub mod Zips
 pub mod Closing
 pub mod Crossing

@@ -1,13 +1,14 @@
 -- A list that is put together from parts and sorted by number is the rising list of the same elements.
-use Rattle.std.proofs.Common.{◌≡◌, ℕ, ◌<◌, ◌≤◌, List, [], ◌∷◌, refl, true, false, arith, ap, sym, subst, inl, inr, zero, suc, ◌≢◌, IsPermutation, cond, sum_by}
+use Rattle.std.proofs.Common.{◌≡◌, ℕ, ◌<◌, ◌≤◌, List, [], ◌∷◌, refl, true, false, arith, ap, sym, subst, inl, inr, suc, ◌≢◌, IsPermutation, cond, sum_by}
 use Rattle.std.specs.Prelude.{◌==◌, ◌⊎◌}
 use Rattle.std.specs.List.Sorted.{IsNonDecreasingBy}
 use Rattle.std.proofs.lemmas.Bool.Decides.{nat_tests}
 use Rattle.std.proofs.lemmas.List.Sums.{sum_by-cons}
-use Rattle.std.proofs.lemmas.List.Elements.{All-from_recursion, recursion_from_All}
-use Rattle.std.proofs.lemmas.List.Sorted.{IsPermutation-sym, sum_by-IsPermutation, All-permutation}
+use Rattle.std.proofs.lemmas.List.Elements.{recursion_from_All}
+use Rattle.std.proofs.lemmas.List.Sorted.{IsPermutation-sym, sum_by-IsPermutation}
 use Rattle.std.specs.List.{AllByRecursion as Every}
 use Rattle.bounded_model.specs.Gathers.{Rises}
+use Rattle.relay.proofs.Lists.{same_or_not, Every_permutation}
 
 module _ {A : Type 0} (n : A → ℕ) where
   -- an element of the list, by recursion
@@ -28,9 +29,6 @@ module _ {A : Type 0} (n : A → ℕ) where
   In-itself [] = tt
   In-itself (x ∷ xs) = (inl refl, In-weaker x xs xs (In-itself xs))
 
-  moved : (P : A → Type 0) (xs ys : List A) → IsPermutation xs ys → Every P xs → Every P ys
-  moved P xs ys p h = recursion_from_All P ys (All-permutation P xs ys p (All-from_recursion P xs h))
-
   -- how many have the number k
   abbrev one : ℕ → A → ℕ
   one k x = cond (n x == k) 1 0
@@ -40,12 +38,6 @@ module _ {A : Type 0} (n : A → ℕ) where
 
   one_no : (k : ℕ) (x : A) → n x ≢ k → one k x ≡ 0
   one_no k x e = let b : (n x == k) ≡ false = grind (arith, nat_tests) in rw b
-
-  same_or_not : (a b : ℕ) → (a ≡ b) ⊎ (a ≢ b)
-  same_or_not zero zero = inl refl
-  same_or_not zero (suc b) = inr (λ e. absurd (omega arith))
-  same_or_not (suc a) zero = inr (λ e. absurd (omega arith))
-  same_or_not (suc a) (suc b) = elim (same_or_not a b) [ inl e ↦ inl (ap suc e) | inr f ↦ inr (λ e. f (omega arith)) ]
 
   none_above : (k : ℕ) (xs : List A) → Every (λ y. k < n y) xs → sum_by (one k) xs ≡ 0
   none_above k [] h = refl
@@ -112,7 +104,7 @@ module _ {A : Type 0} (n : A → ℕ) where
   pub sorted_is : (parts sorted rising : List A) → IsPermutation parts rising → IsPermutation parts sorted → IsNonDecreasingBy n sorted → Rises n rising → sorted ≡ rising
   sorted_is parts sorted rising p q up r =
       let few : (k : ℕ) → sum_by (one k) sorted ≤ 1 = λ k. omega (arith, sum_by-IsPermutation (one k) parts rising p, sum_by-IsPermutation (one k) parts sorted q, once_each k rising r) in
-      let back = moved (λ z. In z parts) parts sorted q (In-itself parts) in
-      let left : Every (λ z. In z rising) sorted = moved (λ z. In z rising) parts sorted q (moved (λ z. In z rising) rising parts (IsPermutation-sym _ _ p) (In-itself rising)) in
-      let right : Every (λ z. In z sorted) rising = moved (λ z. In z sorted) parts rising p (moved (λ z. In z sorted) sorted parts (IsPermutation-sym _ _ q) (In-itself sorted)) in
+      let back = Every_permutation (λ z. In z parts) parts sorted q (In-itself parts) in
+      let left : Every (λ z. In z rising) sorted = Every_permutation (λ z. In z rising) parts sorted q (Every_permutation (λ z. In z rising) rising parts (IsPermutation-sym _ _ p) (In-itself rising)) in
+      let right : Every (λ z. In z sorted) rising = Every_permutation (λ z. In z sorted) parts rising p (Every_permutation (λ z. In z sorted) sorted parts (IsPermutation-sym _ _ q) (In-itself sorted)) in
       same_rising sorted rising (strictly sorted few up) r left right

@@ -26,9 +26,10 @@ use Rattle.relay.specs.declared.parts.Took.{Took}
 use Rattle.relay.specs.Promises.{Lists, total, list_of, sent_by, messages_of, taken_by, ended_up, IsAmple, Relays, LosesNothing, KeepsOrder, SendsAll, SendsFirst, LeavesNothing, NumbersRise, NumbersCount, NamesConsumers, TakesNoMore, FirstTakesNoMore, TakesShares, FirstTakesShare}
 use Rattle.relay.specs.Workers.{Worker, Producer, Closer, Did, Ran, items_of, taken_of, moves_of, Accounts, InOrder, AllSent, TookK, AtMost, AtMostFirst, FirstTook, FirstPut, HasConsumer}
 use Rattle.relay.specs.Worked.{EachSent}
-use Rattle.relay.proofs.Relaying.{EachFrom-at, all_taken, few_left, few_takes, nothing_of, delivered_is, numbers_rise, numbers_count, in_order, accounts, all_sent, first_put, each_took, first_took, none_left, at_most, at_most_first}
-use Rattle.relay.proofs.Accounts.{sender_of, senders, taker, workers, senders_long, workers_long, Ends, ran, all_items, EachFrom_append, EachFrom_front, EachFrom_back}
-use Rattle.relay.proofs.Delivering.{moves_messages, rises_from, counts_from, each_theirs, all_below, count_at, lists_items, Every_permutation}
+use Rattle.relay.proofs.Lists.{EachFrom_at, EachFrom_append, EachFrom_front, EachFrom_back, Every_permutation}
+use Rattle.relay.proofs.Relaying.{all_taken, few_left, few_takes, nothing_of, delivered_is, numbers_rise, numbers_count, in_order, accounts, all_sent, first_put, each_took, first_took, none_left, at_most, at_most_first}
+use Rattle.relay.proofs.Accounts.{sender_of, senders, taker, workers, senders_long, workers_long, Ends, ran, all_items}
+use Rattle.relay.proofs.Delivering.{moves_messages, rises_from, counts_from, each_theirs, all_below, count_at, lists_items}
 
 -- Lists
 
@@ -171,21 +172,21 @@ module _ {P : Type 0} (is_pass : P → Type 0) (view : P → PassView Message) (
         let last = EachFrom_back D 0 (length inputs + length took) (senders is_pass view c orders inputs sent ++ map (taker is_pass view c orders) took) (Closer used ∷ []) (omega (arith, both, mid, long)) run'.did in
         let back = EachFrom_append G (length inputs) (length inputs + length took) (map (taker is_pass view c orders) took) (Closer used ∷ []) (omega (arith, mid)) (silent r.seen (length inputs) took (middle D run'.did)) (last.0.puts, tt) in
         elim (before_or_past s (length inputs + length took + 1)) [
-          | inl m ↦ (EachFrom-at G (length inputs) (map (taker is_pass view c orders) took ++ Closer used ∷ []) back s l (omega (arith, m, length-append (map (taker is_pass view c orders) took) (Closer used ∷ []), mid))).1
+          | inl m ↦ (EachFrom_at G (length inputs) (map (taker is_pass view c orders) took ++ Closer used ∷ []) back s l (omega (arith, m, length-append (map (taker is_pass view c orders) took) (Closer used ∷ []), mid))).1
           | inr m ↦ ap (gather put_of) (own_past (length inputs + length took + 1) s r.seen (subst (λ n. Every (λ (v : Event Message). pass_of v < n) r.seen) (workers_long is_pass view c orders inputs sent took closer used r e) run'.known) m)
         ]
 
     module _ (lists : List (Vec Taken Global)) (plan : Plan) (out : Relayed)
-      (zip : AllZip (λ t l. l ≡ t.taken) took lists)
-      (same : IsPermutation (flat_map (λ l. l.items) lists) out.delivered.items)
-      (sorted : IsNonDecreasingBy (λ t. t.number) out.delivered.items)
-      (rest : AllZip (λ s l. l.items ≡ s.unsent.items) sent out.unsent.items)
-      (left : out.left.items ≡ (state c r.seen).values)
-      (take_is : orders.take ≡ plan.take)
-      (close_is : orders.close_after ≡ plan.close_after)
-      (shut_is : orders.shut_after ≡ plan.shut_after)
-      (some : 1 ≤ plan.consumers)
-      (consumers : length took ≡ plan.consumers) where
+        (zip : AllZip (λ t l. l ≡ t.taken) took lists)
+        (same : IsPermutation (flat_map (λ l. l.items) lists) out.delivered.items)
+        (sorted : IsNonDecreasingBy (λ t. t.number) out.delivered.items)
+        (rest : AllZip (λ s l. l.items ≡ s.unsent.items) sent out.unsent.items)
+        (left : out.left.items ≡ (state c r.seen).values)
+        (take_is : orders.take ≡ plan.take)
+        (close_is : orders.close_after ≡ plan.close_after)
+        (shut_is : orders.shut_after ≡ plan.shut_after)
+        (some : 1 ≤ plan.consumers)
+        (consumers : length took ≡ plan.consumers) where
       from_took : IsPermutation (flat_map (λ t. t.taken.items) took) out.delivered.items
       from_took = subst (λ l. IsPermutation l out.delivered.items) (lists_items took lists zip) same
 
@@ -207,18 +208,18 @@ module _ {P : Type 0} (is_pass : P → Type 0) (view : P → PassView Message) (
       all_there_is : LosesNothing inputs out
       all_there_is s = elim (before_or_past s (length inputs)) [
         | inl l ↦
-          let G = Accounts sender_of (values_of (gather took_of r.seen)) (state c r.seen).values in
-          let at = at_sender G 0 inputs sent out.unsent.items (front G (accounts sender_of c orders r.seen ws used run')) e.senders_are rest s s l (omega arith) in
-          rw (sym values_are, left) at.1
+            let G = Accounts sender_of (values_of (gather took_of r.seen)) (state c r.seen).values in
+            let at = at_sender G 0 inputs sent out.unsent.items (front G (accounts sender_of c orders r.seen ws used run')) e.senders_are rest s s l (omega arith) in
+            rw (sym values_are, left) at.1
         | inr l ↦ rw (list_of_past s inputs l, nothing_past s l) (IsPermutation-refl [])
       ]
 
       in_order_is : KeepsOrder c inputs out
       in_order_is fifo s = elim (before_or_past s (length inputs)) [
         | inl l ↦
-          let G = InOrder sender_of (values_of (gather took_of r.seen)) (state c r.seen).values in
-          let at = at_sender G 0 inputs sent out.unsent.items (front G (in_order sender_of c orders r.seen ws used run' fifo)) e.senders_are rest s s l (omega arith) in
-          rw (sym values_are, left) at.1
+            let G = InOrder sender_of (values_of (gather took_of r.seen)) (state c r.seen).values in
+            let at = at_sender G 0 inputs sent out.unsent.items (front G (in_order sender_of c orders r.seen ws used run' fifo)) e.senders_are rest s s l (omega arith) in
+            rw (sym values_are, left) at.1
         | inr l ↦ nothing_past s l ∙ sym (list_of_past s inputs l)
       ]
 

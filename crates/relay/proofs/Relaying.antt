@@ -1,6 +1,6 @@
 -- What the relay promises follows from what its workers did.
-use Rattle.std.proofs.Common.{◌≡◌, ℕ, ◌+◌, ◌*◌, ◌<◌, ◌≤◌, List, [], ◌∷◌, ◌++◌, refl, Bool, true, false, arith, ap, sym, ◌∙◌, subst, append-nil, inl, inr, zero, suc, ◌≢◌, length, flat_map, IsPermutation, drop, Option, Some, None, length-append}
-use Rattle.std.specs.Prelude.{◌==◌, ◌⊎◌}
+use Rattle.std.proofs.Common.{◌≡◌, ℕ, ◌*◌, ◌<◌, ◌≤◌, List, [], ◌∷◌, ◌++◌, refl, Bool, true, false, arith, ap, sym, ◌∙◌, subst, append-nil, inl, inr, zero, suc, ◌≢◌, length, flat_map, IsPermutation, drop, Some, None, length-append}
+use Rattle.std.specs.Prelude.{◌==◌}
 use Rattle.std.specs.List.{AllByRecursion as Every}
 use Rattle.std.specs.List.Sorted.{IsNonDecreasingBy}
 use Rattle.std.proofs.lemmas.Bool.Decides.{nat_tests}
@@ -21,42 +21,9 @@ use Rattle.relay.specs.declared.ends.ProducerEnd.TheVariants.{SentAll, ClosedIt,
 use Rattle.relay.specs.declared.ends.ConsumerEnd.TheVariants.{TookEnough, ShutIt, FoundClosed, FoundShut, FoundSpent, NoRoom}
 use Rattle.relay.specs.declared.orders.Orders.{Orders}
 use Rattle.relay.specs.Workers.{Worker, Producer, Consumer, Closer, Did, Unused, Once, Ran, items_of, taken_of, from, Accounts, InOrder, AllSent, TookK, AtMost, AtMostFirst, FirstTook, FirstPut, HasConsumer}
+use Rattle.relay.proofs.Lists.{same_or_not, EachFrom_weaker, EachFrom_both, EachFrom_at, Every_front, Every_back, none_some, some_same}
 use Rattle.relay.proofs.Working.{is_nil}
 use Rattle.relay.proofs.Merging.{sorted_is}
-
-pub EachFrom-weaker : {T : Type 0} (P Q : ℕ → Worker T → Type 0) → ((a : ℕ) (w : Worker T) → P a w → Q a w) → (a : ℕ) (ws : List (Worker T)) → EachFrom P a ws → EachFrom Q a ws
-EachFrom-weaker P Q f a [] h = tt
-EachFrom-weaker P Q f a (w ∷ ws) h = (f a w h.0, EachFrom-weaker P Q f (suc a) ws h.1)
-
-EachFrom-both : {T : Type 0} (P Q : ℕ → Worker T → Type 0) (a : ℕ) (ws : List (Worker T)) → EachFrom P a ws → EachFrom Q a ws → EachFrom (λ a w. P a w × Q a w) a ws
-EachFrom-both P Q a [] h k = tt
-EachFrom-both P Q a (w ∷ ws) h k = ((h.0, k.0), EachFrom-both P Q (suc a) ws h.1 k.1)
-
--- the worker of a number
-pub EachFrom-at : {T : Type 0} (P : ℕ → Worker T → Type 0) (a : ℕ) (ws : List (Worker T)) → EachFrom P a ws → (k : ℕ) → a ≤ k → k < a + length ws → (w : Worker T) × P k w
-EachFrom-at P a [] h k low high = absurd (omega arith)
-EachFrom-at P a (w ∷ ws) h k low high =
-    elim (here a k low) [ inl e ↦ (w, subst (λ j. P j w) e h.0) | inr l ↦ EachFrom-at P (suc a) ws h.1 k l (omega arith) ]
-  where
-    here : (a k : ℕ) → a ≤ k → (a ≡ k) ⊎ (suc a ≤ k)
-    here zero zero l = inl refl
-    here zero (suc k) l = inr (omega arith)
-    here (suc a) zero l = absurd (omega arith)
-    here (suc a) (suc k) l = elim (here a k (omega arith)) [ inl e ↦ inl (ap suc e) | inr m ↦ inr (omega arith) ]
-
-Every-front : {A : Type 0} (P : A → Type 0) (xs ys : List A) → Every P (xs ++ ys) → Every P xs
-Every-front P [] ys h = tt
-Every-front P (x ∷ xs) ys h = (h.0, Every-front P xs ys h.1)
-
-Every-back : {A : Type 0} (P : A → Type 0) (xs ys : List A) → Every P (xs ++ ys) → Every P ys
-Every-back P [] ys h = h
-Every-back P (x ∷ xs) ys h = Every-back P xs ys h.1
-
-none_some : {A : Type 0} (o : Option A) (x : A) → o ≡ None → o ≡ Some x → ⊥
-none_some o x a b = cc
-
-some_same : {A : Type 0} (o : Option A) (x y : A) → o ≡ Some x → o ≡ Some y → x ≡ y
-some_same o x y a b = cc
 
 module _ {T A : Type 0} (f : Event T → List A) where
   -- what each did, worker by worker
@@ -80,11 +47,11 @@ module _ {T A : Type 0} (f : Event T → List A) where
 
   gathers : (g : Worker T → List A) (P : ℕ → Worker T → Type 0) (h : List (Event T)) (ws : List (Worker T)) → ((a : ℕ) (w : Worker T) → P a w → gather f (own a h) ≡ g w)
       → EachFrom P 0 ws → Every (λ e. pass_of e < length ws) h → IsPermutation (flat_map g ws) (gather f h)
-  gathers g P h ws is each known = by_passes f g h ws (EachFrom-weaker P (λ a w. gather f (own a h) ≡ g w) is 0 ws each) known
+  gathers g P h ws is each known = by_passes f g h ws (EachFrom_weaker P (λ a w. gather f (own a h) ≡ g w) is 0 ws each) known
 
   no_worker : (P : ℕ → Worker T → Type 0) (h : List (Event T)) (ws : List (Worker T)) → ((a : ℕ) (w : Worker T) → P a w → gather f (own a h) ≡ [])
       → EachFrom P 0 ws → Every (λ e. pass_of e < length ws) h → gather f h ≡ []
-  no_worker P h ws none each known = nobody f h ws (EachFrom-weaker P (λ a w. gather f (own a h) ≡ []) none 0 ws each) known
+  no_worker P h ws none each known = nobody f h ws (EachFrom_weaker P (λ a w. gather f (own a h) ≡ []) none 0 ws each) known
 
 -- what was so once
 module _ {T : Type 0} (c : Shape) (h : List (Event T)) where
@@ -111,21 +78,15 @@ module _ {T : Type 0} (sender : T → ℕ) where
       let other : sender x ≢ s = λ q. o (sym h.0 ∙ q) in
       let b : (sender x == s) ≡ false = grind (arith, nat_tests) in rw b (from_none s a xs o h.1)
 
-  same_or_not : (a b : ℕ) → (a ≡ b) ⊎ (a ≢ b)
-  same_or_not zero zero = inl refl
-  same_or_not zero (suc b) = inr (λ e. absurd (omega arith))
-  same_or_not (suc a) zero = inr (λ e. absurd (omega arith))
-  same_or_not (suc a) (suc b) = elim (same_or_not a b) [ inl e ↦ inl (ap suc e) | inr f ↦ inr (λ e. f (omega arith)) ]
-
   -- what one sender's messages among the puts are
   pub from_puts : (s n : ℕ) (h : List (Event T)) → Every (λ e. pass_of e < n) h → ((a : ℕ) → a < n → Every (λ x. sender x ≡ a) (gather put_of (own a h))) → from sender s (gather put_of h) ≡ gather put_of (own s h)
   from_puts s n [] known each = refl
   from_puts s n (e ∷ h) known each =
       let mine : Every (λ x. sender x ≡ pass_of e) (gather put_of (own (pass_of e) h) ++ put_of e) = (rw (own-mine (pass_of e) e h refl) at (each (pass_of e) known.0)) in
-      let here = Every-back (λ x. sender x ≡ pass_of e) (gather put_of (own (pass_of e) h)) (put_of e) mine in
+      let here = Every_back (λ x. sender x ≡ pass_of e) (gather put_of (own (pass_of e) h)) (put_of e) mine in
       let before : (a : ℕ) → a < n → Every (λ x. sender x ≡ a) (gather put_of (own a h)) =
       λ a l. elim (same_or_not (pass_of e) a) [
-        | inl is ↦ Every-front (λ x. sender x ≡ a) (gather put_of (own a h)) (put_of e) (rw (own-mine a e h is) at (each a l))
+        | inl is ↦ Every_front (λ x. sender x ≡ a) (gather put_of (own a h)) (put_of e) (rw (own-mine a e h is) at (each a l))
         | inr other ↦ rw (own-other a e h other) at (each a l)
       ] in
       let rest = from_puts s n h known.1 before in
@@ -147,7 +108,7 @@ module _ {T : Type 0} (sender : T → ℕ) (c : Shape) (plan : Orders) (h : List
   did_takes a (Closer u) d = d.takes
 
   did_puts : (a : ℕ) (w : Worker T) → Did sender c plan h a w → Every (λ x. sender x ≡ a) (gather put_of (own a h))
-  did_puts a (Producer items unsent end) d = Every-front (λ x. sender x ≡ a) (gather put_of (own a h)) unsent (subst (Every (λ x. sender x ≡ a)) (sym d.puts) d.from)
+  did_puts a (Producer items unsent end) d = Every_front (λ x. sender x ≡ a) (gather put_of (own a h)) unsent (subst (Every (λ x. sender x ≡ a)) (sym d.puts) d.from)
   did_puts a (Consumer taken end) d = subst (Every (λ x. sender x ≡ a)) (sym d.puts) tt
   did_puts a (Closer u) d = subst (Every (λ x. sender x ≡ a)) (sym d.puts) tt
 
@@ -174,7 +135,7 @@ module _ {T : Type 0} (sender : T → ℕ) (c : Shape) (plan : Orders) (h : List
   few_holds = let same = length_permutation _ _ (each_all hold_of ws h ran.known) in let few = holds_in 0 ws ran.did in omega arith
 
   puts_from : (s : ℕ) → from sender s (gather put_of h) ≡ gather put_of (own s h)
-  puts_from s = from_puts sender s (length ws) h ran.known (λ a l. let at = EachFrom-at D 0 ws ran.did a (omega arith) (omega arith) in did_puts a at.0 at.1)
+  puts_from s = from_puts sender s (length ws) h ran.known (λ a l. let at = EachFrom_at D 0 ws ran.did a (omega arith) (omega arith) in did_puts a at.0 at.1)
 
   -- the lists that the consumers took, put together and sorted by number, are what was taken in the order of time
   pub delivered_is : (delivered : List (Moved T)) → IsPermutation (flat_map taken_of ws) delivered → IsNonDecreasingBy (λ t. t.number) delivered → delivered ≡ gather took_of h
@@ -196,7 +157,7 @@ module _ {T : Type 0} (sender : T → ℕ) (c : Shape) (plan : Orders) (h : List
   in_order_at o s (Closer u) d = tt
 
   pub in_order : c.order ≡ Fifo → EachFrom (InOrder sender (values_of (gather took_of h)) (state c h).values) 0 ws
-  in_order o = EachFrom-weaker D _ (in_order_at o) 0 ws ran.did
+  in_order o = EachFrom_weaker D _ (in_order_at o) 0 ws ran.did
 
   -- in either order the same messages
   accounts_at : (s : ℕ) (w : Worker T) → D s w → Accounts sender (values_of (gather took_of h)) (state c h).values s w
@@ -207,14 +168,14 @@ module _ {T : Type 0} (sender : T → ℕ) (c : Shape) (plan : Orders) (h : List
   accounts_at s (Closer u) d = tt
 
   pub accounts : EachFrom (Accounts sender (values_of (gather took_of h)) (state c h).values) 0 ws
-  accounts = EachFrom-weaker D _ accounts_at 0 ws ran.did
+  accounts = EachFrom_weaker D _ accounts_at 0 ws ran.did
 
   -- a part is no longer than the whole
   own_fewer : {A : Type 0} (f : Event T → List A) (a : ℕ) (k : List (Event T)) → length (gather f (own a k)) ≤ length (gather f k)
   own_fewer f a [] = omega arith
   own_fewer f a (e ∷ k) =
       let l = length-append (gather f k) (f e) in
-      elim (same_or_not sender (pass_of e) a) [
+      elim (same_or_not (pass_of e) a) [
         | inl is ↦ rw (own-mine a e k is) (omega (arith, own_fewer f a k, length-append (gather f (own a k)) (f e)))
         | inr other ↦ rw (own-other a e k other) (omega (arith, own_fewer f a k))
       ]
@@ -278,7 +239,7 @@ module _ {T : Type 0} (sender : T → ℕ) (c : Shape) (plan : Orders) (h : List
     did_closes zero' u a (Closer v) d = d.0.closes (d.1 ∙ u)
 
     no_closes : gather close_of (own 0 h) ≡ [] → used ≡ false → gather close_of h ≡ []
-    no_closes z u = no_worker close_of (λ a w. D a w × Unused used w) h ws (did_closes z u) (EachFrom-both D _ 0 ws ran.did ran.unused) ran.known
+    no_closes z u = no_worker close_of (λ a w. D a w × Unused used w) h ws (did_closes z u) (EachFrom_both D _ 0 ws ran.did ran.unused) ran.known
 
     closes_zero : plan.close_after ≡ None → (a : ℕ) (w : Worker T) → D a w × Unused used w → a ≡ 0 → used ≡ false → gather close_of (own 0 h) ≡ []
     closes_zero n a (Producer items unsent SentAll) d e u = subst (λ k. gather close_of (own k h) ≡ []) e d.0.ends.1
@@ -293,14 +254,14 @@ module _ {T : Type 0} (sender : T → ℕ) (c : Shape) (plan : Orders) (h : List
     sent_at n some s (Producer items unsent SentAll) d = d.0.ends.0
     sent_at n some s (Producer items unsent ClosedIt) d = absurd (none_some plan.close_after _ n d.0.ends.1)
     sent_at n some s (Producer items unsent MetClosed) d =
-        let first = EachFrom-at (λ a w. D a w × Unused used w) 0 ws (EachFrom-both D _ 0 ws ran.did ran.unused) 0 (omega arith) (omega arith) in
+        let first = EachFrom_at (λ a w. D a w × Unused used w) 0 ws (EachFrom_both D _ 0 ws ran.did ran.unused) 0 (omega arith) (omega arith) in
         absurd (once_closed c h (no_closes (closes_zero n 0 first.0 first.1 refl d.1) d.1) d.0.ends.1)
     sent_at n some s (Producer items unsent MetSpent) d = absurd (not_spent (once_spent c h d.0.ends.1))
     sent_at n some s (Consumer taken end) d = tt
     sent_at n some s (Closer u) d = tt
 
     pub all_sent : plan.close_after ≡ None → 0 < length ws → EachFrom AllSent 0 ws
-    all_sent n some = EachFrom-weaker _ _ (sent_at n some) 0 ws (EachFrom-both D _ 0 ws ran.did ran.unused)
+    all_sent n some = EachFrom_weaker _ _ (sent_at n some) 0 ws (EachFrom_both D _ 0 ws ran.did ran.unused)
 
     -- with a close after m, producer 0 put its first m
     drop_front : {A : Type 0} (xs ys : List A) → drop (length xs) (xs ++ ys) ≡ ys
@@ -325,7 +286,7 @@ module _ {T : Type 0} (sender : T → ℕ) (c : Shape) (plan : Orders) (h : List
     first_at m n s (Closer u) d = tt
 
     pub first_put : (m : ℕ) → plan.close_after ≡ Some m → EachFrom (FirstPut m) 0 ws
-    first_put m n = EachFrom-weaker _ _ (first_at m n) 0 ws (EachFrom-both D _ 0 ws ran.did ran.unused)
+    first_put m n = EachFrom_weaker _ _ (first_at m n) 0 ws (EachFrom_both D _ 0 ws ran.did ran.unused)
 
     -- who shut, where consumer 0 did not
     did_shuts : gather shut_of (own plan.producers h) ≡ [] → (a : ℕ) (w : Worker T) → D a w → gather shut_of (own a h) ≡ []
@@ -366,7 +327,7 @@ module _ {T : Type 0} (sender : T → ℕ) (c : Shape) (plan : Orders) (h : List
     took_at n left k t s (Closer u) d = tt
 
     pub each_took : plan.shut_after ≡ None → (IsEmpty c h → ⊥) → (k : ℕ) → plan.take ≡ Some k → EachFrom (TookK k) 0 ws
-    each_took n left k t = EachFrom-weaker D _ (took_at n left k t) 0 ws ran.did
+    each_took n left k t = EachFrom_weaker D _ (took_at n left k t) 0 ws ran.did
 
     -- and where consumer 0 was to shut after m, it took m, or its share where that is less
     first_took_at : (m : ℕ) → plan.shut_after ≡ Some m → (IsEmpty c h → ⊥) → (s : ℕ) (w : Worker T) → D s w → FirstTook plan m s w
@@ -380,7 +341,7 @@ module _ {T : Type 0} (sender : T → ℕ) (c : Shape) (plan : Orders) (h : List
     first_took_at m n left s (Closer u) d = tt
 
     pub first_took : (m : ℕ) → plan.shut_after ≡ Some m → (IsEmpty c h → ⊥) → EachFrom (FirstTook plan m) 0 ws
-    first_took m n left = EachFrom-weaker D _ (first_took_at m n left) 0 ws ran.did
+    first_took m n left = EachFrom_weaker D _ (first_took_at m n left) 0 ws ran.did
 
     -- nothing is left where neither a share nor a shut was asked for
     left_at : plan.take ≡ None → plan.shut_after ≡ None → (a : ℕ) (vs : List (Worker T)) → HasConsumer vs → EachFrom D a vs → IsEmpty c h
@@ -404,7 +365,7 @@ module _ {T : Type 0} (sender : T → ℕ) (c : Shape) (plan : Orders) (h : List
   most_at k t s (Closer u) d = tt
 
   pub at_most : (k : ℕ) → plan.take ≡ Some k → EachFrom (AtMost k) 0 ws
-  at_most k t = EachFrom-weaker D _ (most_at k t) 0 ws ran.did
+  at_most k t = EachFrom_weaker D _ (most_at k t) 0 ws ran.did
 
   -- and consumer 0 no more than what it was to shut after
   most_first_at : (m : ℕ) → plan.shut_after ≡ Some m → (s : ℕ) (w : Worker T) → D s w → AtMostFirst plan m s w
@@ -413,4 +374,4 @@ module _ {T : Type 0} (sender : T → ℕ) (c : Shape) (plan : Orders) (h : List
   most_first_at m n s (Closer u) d = tt
 
   pub at_most_first : (m : ℕ) → plan.shut_after ≡ Some m → EachFrom (AtMostFirst plan m) 0 ws
-  at_most_first m n = EachFrom-weaker D _ (most_first_at m n) 0 ws ran.did
+  at_most_first m n = EachFrom_weaker D _ (most_first_at m n) 0 ws ran.did

@@ -1,7 +1,7 @@
 use Rattle.std.proofs.Common.{arith, refl, ap, sym, ◌∙◌, ◌+◌}
 use Rattle.relay.specs.Passes.{new_pass, IsNewTaker}
 use Rattle.relay.proofs.Zips.{So_more}
-use Rattle.relay.proofs.Joins.{EachFrom_more}
+use Rattle.relay.proofs.Lists.{EachFrom_more}
 use Rattle.relay.proofs.Splitting.{gave_more_from, pass_of_split}
 use Rattle.relay.proofs.passes.split_takers.Goals as goal
 
