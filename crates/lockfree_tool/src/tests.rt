@@ -252,14 +252,19 @@ fn writes_that_fail(rt: HostRuntime) {
     }
 }
 
+/// A script that asks for all the memory that a replay takes.
+const HUNGRY: &str = "stack 2 7\na put x\nb put y\na begin take\nb fold\nb put w\nfinish\n";
+
+const FED: &str = "put 0\nput 1\nbegun\nfold 2 y x\nput 3\nrest w\n";
+
 // Holds whichever allocation is refused: `rt try --test --fail-alloc N` for each N that this test
 // reaches.
 #[test]
 fn want_of_memory_writes_nothing(rt: HostRuntime) {
-    let mut reader = SCRIPT.as_bytes();
+    let mut reader = HUNGRY.as_bytes();
     let mut writer = OneByteWriter::new(u32::MAX, None);
     match replay(&rt, rt.alloc(), &mut reader, &mut writer) {
-        Ok(()) => assert_eq!(rt; writer.written(), REPLIES.as_bytes()),
+        Ok(()) => assert_eq!(rt; writer.written(), FED.as_bytes()),
         Err(fault) => {
             assert_eq!(rt; fault, ReplayFault::NoMemory);
             assert_eq!(rt; writer.written().len(), 0);
