@@ -1,7 +1,8 @@
-use Rattle.std.proofs.Common.{ap, ◌∙◌}
-use Rattle.script.specs.Words.{values_in}
-use Rattle.script.proofs.Lists.{values_all}
+use Rattle.player.proofs.Keeping.{all_some, range_answered}
 use Rattle.player.proofs.chains.put_range.Goals as goal
 
+pub put_range-requires-clause-values : goal.put_range-requires-clause-values
+put_range-requires-clause-values g c = ?
+
 pub returns-clause-reply : goal.returns-clause-reply
-returns-clause-reply g c = c.left_in.ensures ∙ ap values_in c.in_ok-places.ensures ∙ values_all c.args.values
+returns-clause-reply g c = ?
