@@ -9,6 +9,54 @@ pub fn words_in(alloc: Global, line: &str) -> Result<Vec<&str>, AllocError> {
     line.split(' ').collect(alloc)
 }
 
+// The relay that this line asks for: how it is run, and of how many files.
+fn relay_in(alloc: Global, line: &str) -> Result<Option<(RelayArgs, usize)>, AllocError> {
+    let words = words_in(alloc, line)?;
+    match read_words(alloc, &words) {
+        Ok(chosen) => Ok(relay_of(chosen)),
+        Err(_refused) => Ok(None),
+    }
+}
+
+fn relay_of(chosen: Chosen) -> Option<(RelayArgs, usize)> {
+    match chosen {
+        Chosen::Relay(args, files) => Some((args, files.len())),
+        Chosen::Replay(_name) => None,
+    }
+}
+
+// The replay that this line asks for, and the name of its file.
+fn replay_in(alloc: Global, line: &str) -> Result<Option<Option<String>>, AllocError> {
+    let words = words_in(alloc, line)?;
+    match read_words(alloc, &words) {
+        Ok(chosen) => Ok(replay_of(chosen)),
+        Err(_refused) => Ok(None),
+    }
+}
+
+fn replay_of(chosen: Chosen) -> Option<Option<String>> {
+    match chosen {
+        Chosen::Replay(name) => Some(name),
+        Chosen::Relay(_args, _files) => None,
+    }
+}
+
+// The help that this line asks for.
+fn help_in(alloc: Global, line: &str) -> Result<Option<String>, AllocError> {
+    let words = words_in(alloc, line)?;
+    match read_words(alloc, &words) {
+        Ok(_chosen) => Ok(None),
+        Err(refused) => help_of(alloc, refused),
+    }
+}
+
+fn help_of(alloc: Global, refused: WordsRefused) -> Result<Option<String>, AllocError> {
+    match refused {
+        WordsRefused::Help(help) => Ok(Some(help.to_string(alloc)?)),
+        WordsRefused::Bad => Ok(None),
+    }
+}
+
 const PLAIN: RelayArgs = RelayArgs {
     kind: Kind::Stack,
     capacity: 4,
@@ -73,27 +121,18 @@ fn words_of_relays(rt: HostRuntime) -> Result<(), Fail> {
         ),
     ];
     for (line, args, files) in cases {
-        let words = words_in(rt.alloc(), line)?;
-        match read_words(rt.alloc(), &words) {
-            Ok(Chosen::Relay(read, names)) => {
-                assert_eq!(rt; read, args, "{line}");
-                assert_eq!(rt; names.len(), files, "{line}");
-            }
-            _ => assert!(rt; false, "{line}"),
-        }
+        assert_eq!(rt; relay_in(rt.alloc(), line)?, Some((args, files)), "{line}");
     }
     Ok(())
 }
 
 #[test]
 fn words_of_replays(rt: HostRuntime) -> Result<(), Fail> {
-    let words = words_in(rt.alloc(), "lockfree")?;
-    assert!(rt; matches!(read_words(rt.alloc(), &words), Ok(Chosen::Replay(None))));
-    let words = words_in(rt.alloc(), "lockfree replay s.txt")?;
-    match read_words(rt.alloc(), &words) {
-        Ok(Chosen::Replay(Some(name))) => assert_eq!(rt; name.as_str(), "s.txt"),
-        _ => assert!(rt; false),
-    }
+    assert!(rt; matches!(replay_in(rt.alloc(), "lockfree")?, Some(None)));
+    let Some(Some(name)) = replay_in(rt.alloc(), "lockfree replay s.txt")? else {
+        panic!(rt; "no name")
+    };
+    assert_eq!(rt; name.as_str(), "s.txt");
     Ok(())
 }
 
@@ -175,14 +214,10 @@ fn shows_help(rt: HostRuntime) -> Result<(), Fail> {
         ("lockfree relay --help", "--capacity <N>"),
         ("lockfree replay --help", "Usage: lockfree replay <FILE>"),
     ] {
-        let words = words_in(rt.alloc(), line)?;
-        match read_words(rt.alloc(), &words) {
-            Err(WordsRefused::Help(help)) => {
-                let text = help.to_string(rt.alloc())?;
-                assert!(rt; text.as_str().contains(wanted), "{line}");
-            }
-            _ => assert!(rt; false, "{line}"),
-        }
+        let Some(text) = help_in(rt.alloc(), line)? else {
+            panic!(rt; "{line}")
+        };
+        assert!(rt; text.as_str().contains(wanted), "{line}");
     }
     Ok(())
 }

@@ -67,8 +67,12 @@ pub fn reversed_fold<'a, R: Wait>(
     requires { IsPassOf stack.now by }
     ensures { IfOk result (λ done. IsPassOf stack.now done.0) }
 {
-    let (pass, values, answer) =
-        stack.fold_all_atomic_reversed(rt, by, Ok(ValueList::new(alloc)), pushed);
+    let (pass, values, answer) = stack.fold_all_atomic_reversed(
+        rt,
+        by,
+        Ok(ValueList::new(alloc)),
+        pushed,
+    );
     Ok((pass, numbered(values?, answer)))
 }
 

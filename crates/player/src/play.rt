@@ -49,11 +49,7 @@ fn play_end(alloc: Global, player: Player<'_>, output: &mut String) -> Result<()
 
 /// What is written for a stack's script: a line for each of its lines. `NoMemory` where there was no
 /// room for the stack, for the values of a range or a fold, or for the lines.
-pub fn play_stack<R: Wait>(
-    rt: &R,
-    alloc: Global,
-    script: Script<'_>,
-) -> Result<String, MakeRefused>
+pub fn play_stack<R: Wait>(rt: &R, alloc: Global, script: Script<'_>) -> Result<String, MakeRefused>
     requires each { AllByRecursion IsLine script.lines.items }
     requires allowed { AllByRecursion (λ line. IsTrue (is_allowed Lifo line)) script.lines.items }
     requires finish_last { FinishesLast script.lines.items }

@@ -320,10 +320,7 @@ impl<'a> Player<'a> {
 }
 
 /// The values that are left, in their order.
-fn values_left<'a>(
-    alloc: Global,
-    rest: Rest<Value<'a>>,
-) -> Result<ValueList<'a>, AllocError>
+fn values_left<'a>(alloc: Global, rest: Rest<Value<'a>>) -> Result<ValueList<'a>, AllocError>
     ensures { IfOk result (λ values. values ≡ left_in rest.entry) }
 {
     let mut rest = rest;

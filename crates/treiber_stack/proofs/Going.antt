@@ -20,7 +20,8 @@ use Rattle.step_core.specs.StackDeeds.{Deeds}
 use Rattle.step_core.specs.Seats.{Saw, at_rest, stepped, pass_of, line_of}
 use Rattle.step_core.proofs.StackDoing.{meanwhile}
 use Rattle.treiber_stack.specs.declared.operation.Operation.{Operation}
-use Rattle.treiber_stack.specs.declared.operation.Operation.TheVariants.{Put as PutFirst, Take as TakeFirst, Close as CloseFirst, Shut as ShutFirst, Look as LookFirst, Fold as FoldFirst}
+use Rattle.treiber_stack.specs.declared.operation.Listed.TheVariants.{End, More'}
+use Rattle.treiber_stack.specs.declared.operation.Operation.TheVariants.{Put as PutFirst, Take as TakeFirst, Close as CloseFirst, Shut as ShutFirst, Look as LookFirst, Fold as FoldFirst, Range as RangeFirst}
 use Rattle.treiber_stack.specs.Rule.{idle, holding, Meets}
 use Rattle.treiber_stack.specs.Host.{first_line, line_now, begun_now, quiet, view_after, Did}
 use Rattle.treiber_stack.specs.Operations.{Going, Ended, IsLine, Goes, Ends, begun_view}
@@ -147,6 +148,26 @@ module _ {T : Type 0} where
           own_events = ap (λ (k : ℕ). own k (d.out.events ++ deeds_then.between)) (sym number_after) ∙ made;
         }
 
+  line_named : (o o' : Operation T) → first_line o' ≡ first_line o → (l : Line T) → line_now o' l ≡ line_now o l
+  line_named o o' e (Idle a) = e
+  line_named o o' e l = refl
+
+  -- of two names with one first line either will do
+  pub renamed : {n limit : ℕ} {v : View T (Line T)} {begun : PassView T} {l : Line T} (o o' : Operation T) → first_line o' ≡ first_line o → Going n limit o v begun l → Going n limit o' v begun l
+  renamed o o' e g = record {
+    pass = g.pass;
+    from = g.from;
+    at = g.at;
+    is = g.is;
+    now = line_named o o' e g.at ∙ g.now;
+    begun_is = g.begun_is;
+    number = g.number;
+    steps = g.steps;
+    seen = g.seen;
+    deeds = g.deeds;
+    tells = g.tells;
+  }
+
   -- a pass between its operations may begin any
   pub starts : (n limit : ℕ) (o : Operation T) (v : View T (Line T)) → v ≡ at_rest idle (pass_of v) → Going n limit o v (pass_of v) (first_line o)
   starts n limit o v is = record {
@@ -170,6 +191,8 @@ module _ {T : Type 0} where
       first_deeds ShutFirst = record { between = []; is = refl; made = refl; all = tt }
       first_deeds LookFirst = record { between = []; is = refl; made = refl; all = tt }
       first_deeds (FoldFirst front) = record { between = []; is = refl; made = refl; all = tt }
+      first_deeds (RangeFirst End) = record { between = []; is = refl; made = refl; all = tt }
+      first_deeds (RangeFirst (More' x marker others)) = record { between = []; is = refl; made = refl; all = tt }
 
       first_tells : (o : Operation T) → Tells n limit (pass_of v).seen (pass_of v).seen (first_line o)
       first_tells (PutFirst x) = tt
@@ -178,6 +201,8 @@ module _ {T : Type 0} where
       first_tells ShutFirst = tt
       first_tells LookFirst = tt
       first_tells (FoldFirst front) = tt
+      first_tells (RangeFirst End) = tt
+      first_tells (RangeFirst (More' x marker others)) = tt
 
   -- the core's step from the line that the operation was at
   pub out_at : {n limit : ℕ} {o : Operation T} {list : ℕ} {kind : Kind} {found : ℕ} {zs : List (ℕ × Slot T)} {v v' : View T (Line T)} {begun : PassView T} {l : Line T} (g : Going n limit o v begun l) (d : Did n limit o list kind found zs v v')

@@ -14,3 +14,10 @@ pub mod Walking
 pub mod Turning
 pub mod Chained
 pub mod Refusing
+pub mod Ranges
+pub mod Collecting
+pub mod Loading
+pub mod Placing
+pub mod Restoring
+pub mod Filling
+pub mod RangeGives

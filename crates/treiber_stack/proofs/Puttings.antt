@@ -28,13 +28,16 @@ use Rattle.step_core.specs.Seats.{pass_of}
 use Rattle.step_core.proofs.Chains.{home_here}
 use Rattle.treiber_stack.specs.declared.operation.Operation.{Operation}
 use Rattle.treiber_stack.specs.declared.operation.Operation.TheVariants.{Put as PutFirst}
+use Rattle.std.specs.declared.snapshot.Snapshot.{Snapshot}
+use Rattle.treiber_stack.specs.declared.stack.Stack.{Stack}
+use Rattle.treiber_stack.specs.declared.stack.Pass.{Pass}
 use Rattle.treiber_stack.specs.Host.{puts_of, Bears, Did}
 use Rattle.treiber_stack.specs.Rule.{line_in}
 use Rattle.treiber_stack.specs.KeepsMarks.{is_same, not_same}
 use Rattle.treiber_stack.specs.KeepsPuts.{puts_line}
-use Rattle.treiber_stack.specs.Operations.{Going, Ended, IsLine, Goes, Ends}
-use Rattle.treiber_stack.specs.Putting.{wanting, bearing, of_range, put_answer, Returns}
-use Rattle.treiber_stack.proofs.Going.{goes_on, ends_so, out_at, adds_of, adds_by, deeds_then, number_after}
+use Rattle.treiber_stack.specs.Operations.{IsAt, Going, Ended, IsLine, Goes, Ends}
+use Rattle.treiber_stack.specs.Putting.{shown, wanting, bearing, of_range, put_answer, Returns}
+use Rattle.treiber_stack.proofs.Going.{renamed, goes_on, ends_so, out_at, adds_of, adds_by, deeds_then, number_after}
 use Rattle.treiber_stack.proofs.Takings.{leb_yes, leb_not, same_slot, front_slot}
 
 module _ {T : Type 0} where
@@ -47,14 +50,9 @@ module _ {T : Type 0} where
   unfolding value_or
   same_value i y x zs e f = ap (λ (s : Slot T). value_or s x) (front_slot zs [] [] i i (Some y) (Some x) e f)
 
-  named : Operation T → T → T
-  named (PutFirst y) d = y
-  named o d = d
-
-  -- the value that a put's first step was named with
-  pub same_name : (y z : T) → ◌≡◌ {A = Operation T} (PutFirst y) (PutFirst z) → z ≡ y
-  unfolding named
-  same_name y z e = sym (ap (λ (o : Operation T). named o y) e)
+  -- a put whose name shows its value
+  pub named_first : (c : Stack T) (p : Pass T) (y : T) (s : Snapshot T) → s.value ≡ y → {l : Line T} {slots : List (ℕ × Slot T)} → IsAt c (PutFirst (shown y)) p l slots → IsAt c (PutFirst s) p l slots
+  named_first c p y s e at = record { table = at.table; has = at.has; going = renamed (PutFirst (shown y)) (PutFirst s) (ap (λ (x : T). F1 (record { values = x ∷ []; chain = [] })) e) at.going }
 
   -- the slot of a free node is empty
   pub F3_slot : {n limit : ℕ} {o : Operation T} {v v' : View T (Line T)} (w k : ℕ) (s : Slot T) → Did n limit o 0 (take w k) w ((index_of w, s) ∷ []) v v' → s ≡ None

@@ -25,9 +25,11 @@ use Rattle.step_core.specs.StackLaw.{shape, state}
 use Rattle.step_core.specs.StackRule.{Tells}
 use Rattle.step_core.specs.StackDeeds.{Deeds}
 use Rattle.step_core.specs.Seats.{Saw, stepped}
+use Rattle.treiber_stack.specs.Places.{values_of}
+use Rattle.treiber_stack.specs.declared.operation.Listed.TheVariants.{End, More'}
 use Rattle.treiber_stack.specs.Rule.{idle, line_in, holding, Meets}
 use Rattle.treiber_stack.specs.declared.operation.Operation.{Operation}
-use Rattle.treiber_stack.specs.declared.operation.Operation.TheVariants.{Put as PutFirst, Take as TakeFirst, Close as CloseFirst, Shut as ShutFirst, Look as LookFirst, Fold as FoldFirst}
+use Rattle.treiber_stack.specs.declared.operation.Operation.TheVariants.{Put as PutFirst, Take as TakeFirst, Close as CloseFirst, Shut as ShutFirst, Look as LookFirst, Fold as FoldFirst, Range as RangeFirst}
 
 -- a fold that begins with the first node goes down, one that begins with the last goes up
 abbrev pub direction : Front → Direction
@@ -37,12 +39,14 @@ direction Last = Up
 module _ {T : Type 0} where
   -- the first step of an operation
   abbrev pub first_line : Operation T → Line T
-  first_line (PutFirst v) = F1 (record { values = v ∷ []; chain = [] })
+  first_line (PutFirst v) = F1 (record { values = v.value ∷ []; chain = [] })
   first_line TakeFirst = S1 One
   first_line CloseFirst = Z1
   first_line ShutFirst = Y1
   first_line LookFirst = V1
   first_line (FoldFirst front) = S1 (Whole (direction front))
+  first_line (RangeFirst End) = V1
+  first_line (RangeFirst (More' v marker others)) = F1 (record { values = v.value ∷ values_of others; chain = [] })
 
   -- the line of a pass's next step: a pass between its operations begins one
   abbrev pub line_now : Operation T → Line T → Line T

@@ -31,7 +31,8 @@ use Rattle.step_core.specs.StackRule.{IsFine}
 use Rattle.step_core.proofs.Lists.{times_else}
 use Rattle.step_core.proofs.Chains.{chain_leads, home_here, home_else, filled_else}
 use Rattle.treiber_stack.specs.declared.operation.Operation.{Operation}
-use Rattle.treiber_stack.specs.declared.operation.Operation.TheVariants.{Put as PutFirst, Take as TakeFirst, Close as CloseFirst, Shut as ShutFirst, Look as LookFirst, Fold as FoldFirst}
+use Rattle.treiber_stack.specs.declared.operation.Listed.TheVariants.{End, More'}
+use Rattle.treiber_stack.specs.declared.operation.Operation.TheVariants.{Put as PutFirst, Take as TakeFirst, Close as CloseFirst, Shut as ShutFirst, Look as LookFirst, Fold as FoldFirst, Range as RangeFirst}
 use Rattle.treiber_stack.specs.Layout.{top_at, link_at, layout_stack}
 use Rattle.treiber_stack.specs.Rule.{at_home, line_in, memory_of, Rule}
 use Rattle.treiber_stack.specs.Host.{line_now, puts_of, Bears, MakesGive, rests_in, steps_in, Did}
@@ -88,6 +89,8 @@ module _ {T : Type 0} where
   puts_line ShutFirst (Idle a) w put e = absurd (some-ne-none (w, put) (sym e))
   puts_line LookFirst (Idle a) w put e = absurd (some-ne-none (w, put) (sym e))
   puts_line (FoldFirst front) (Idle a) w put e = absurd (some-ne-none (w, put) (sym e))
+  puts_line (RangeFirst End) (Idle a) w put e = absurd (some-ne-none (w, put) (sym e))
+  puts_line (RangeFirst (More' v marker others)) (Idle a) w put e = absurd (some-ne-none (w, put) (sym e))
   puts_line o (P3 mine x) w put e = ap (λ (t : Tagged × Putting T). P3 t.1 t.0) (some-injective (x, mine) (w, put) e)
   puts_line o l w put e = absurd (some-ne-none (w, put) (sym e))
 

@@ -28,7 +28,8 @@ use Rattle.step_core.proofs.StackTells.{tells_kept, step_apart}
 use Rattle.step_core.proofs.StackDoing.{Ahead, meanwhile, step_does}
 use Rattle.step_core.proofs.StackDone.{reads_good}
 use Rattle.treiber_stack.specs.declared.operation.Operation.{Operation}
-use Rattle.treiber_stack.specs.declared.operation.Operation.TheVariants.{Put as PutFirst, Take as TakeFirst, Close as CloseFirst, Shut as ShutFirst, Look as LookFirst, Fold as FoldFirst}
+use Rattle.treiber_stack.specs.declared.operation.Listed.TheVariants.{End, More'}
+use Rattle.treiber_stack.specs.declared.operation.Operation.TheVariants.{Put as PutFirst, Take as TakeFirst, Close as CloseFirst, Shut as ShutFirst, Look as LookFirst, Fold as FoldFirst, Range as RangeFirst}
 use Rattle.treiber_stack.specs.Layout.{link_at}
 use Rattle.treiber_stack.specs.Rule.{idle, line_in, number_at, who, holding, memory_of, Rule}
 use Rattle.treiber_stack.specs.Host.{first_line, line_now, begun_now, quiet, view_after, steps_in, Finds, Moves, Did}
@@ -61,6 +62,8 @@ module _ {T : Type 0} where
   first_holds ShutFirst = refl
   first_holds LookFirst = refl
   first_holds (FoldFirst front) = refl
+  first_holds (RangeFirst End) = refl
+  first_holds (RangeFirst (More' v marker others)) = refl
 
   first_puts : (o : Operation T) → putting (first_line o) ≡ []
   first_puts (PutFirst v) = refl
@@ -69,6 +72,8 @@ module _ {T : Type 0} where
   first_puts ShutFirst = refl
   first_puts LookFirst = refl
   first_puts (FoldFirst front) = refl
+  first_puts (RangeFirst End) = refl
+  first_puts (RangeFirst (More' v marker others)) = refl
 
   first_fine : (limit : ℕ) (m : Memory T) (g : Lists) (o : Operation T) → IsFine limit m g (first_line o)
   first_fine limit m g (PutFirst v) = record { chained = tt; wants = omega arith }
@@ -77,6 +82,8 @@ module _ {T : Type 0} where
   first_fine limit m g ShutFirst = tt
   first_fine limit m g LookFirst = tt
   first_fine limit m g (FoldFirst front) = tt
+  first_fine limit m g (RangeFirst End) = tt
+  first_fine limit m g (RangeFirst (More' v marker others)) = record { chained = tt; wants = omega arith }
 
   module _ {n limit : ℕ} {m : Memory T} {g : Lists} {of : ℕ → Option ℕ} {lines : List (Line T)} {h : List (Event T)} where
     -- a pass with nothing in hand goes to another such line

@@ -1,6 +1,7 @@
 pub mod Layout
 pub mod Rule
 pub mod Stack
+pub mod Places
 pub mod Host
 pub mod KeepsRule
 pub mod Left
@@ -18,3 +19,4 @@ pub mod Closing
 pub mod Taking
 pub mod Putting
 pub mod Folding
+pub mod Ranging

@@ -1,5 +1,6 @@
 -- A put made by steps.
 use Rattle.std.specs.Prelude.{◌≡◌, ℕ, ◌<◌, ◌≤◌, List, [], ◌∷◌, Option as Slot, Some, None, Result, Ok, Err}
+use Rattle.std.specs.declared.snapshot.Snapshot.{Snapshot}
 use Rattle.tagged_index.specs.Fields.{fields_of, index_of, tag_of}
 use Rattle.tagged_index.specs.Limits.{capacity_of, tag_limit_of}
 use Rattle.tagged_index.specs.declared.word.TheConstants.{NULL}
@@ -61,9 +62,13 @@ module _ {T : Type 0} where
   put_line x (LinkBack r w) = G2 (refusing r) (fields_of w)
   put_line x (GiveBack r w) = G3 (refusing r) (fields_of w)
 
+  -- a value as the operation's name shows it
+  abbrev pub shown : T → Snapshot T
+  shown y = record { marker = record {}; value = y }
+
   -- the operation's name, which only its first step needs
   abbrev pub put_name : PutAt T → Operation T
-  put_name (LoadFree y) = PutFirst y
+  put_name (LoadFree y) = PutFirst (shown y)
   put_name at = AnyLater
 
   -- the slots in hand: that of the node, with the value until it is refused

@@ -205,7 +205,7 @@ impl<T> Stack<T> {
 
     // Moves the value out of the front slot in hand, which goes behind the others.
     #[inline]
-    fn take_out(&self, by: &mut Pass<T>, index: u32) -> T
+    pub(crate) fn take_out(&self, by: &mut Pass<T>, index: u32) -> T
         requires table { by.old.seat.table_id ≡ self.now.table.shared.table_id }
         requires full { (x : T) × (by.old.seat.me.1 ≡ (index, Some x) ∷ rest by.old.seat.me.1) }
         ensures table { by.new.seat.table_id ≡ by.old.seat.table_id }
@@ -256,7 +256,7 @@ impl<T> Stack<T> {
     }
 
     // Gives the chain in hand to the free list.
-    fn give_back<R: Wait>(
+    pub(crate) fn give_back<R: Wait>(
         &self,
         rt: &R,
         by: Pass<T>,

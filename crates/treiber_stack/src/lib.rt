@@ -19,6 +19,7 @@ mod layout;
 mod making;
 mod operation;
 mod putting;
+mod ranging;
 mod rest;
 mod rule;
 mod stack;
@@ -29,11 +30,14 @@ mod tests;
 #[cfg(test)]
 mod tests_folds;
 #[cfg(test)]
+mod tests_ranges;
+#[cfg(test)]
 mod tests_threads;
 
 pub use closing::{CloseOp, ShutOp};
 pub use folding::Folded;
 pub use putting::PutOp;
+pub use ranging::{RangeRefused, Ranged};
 pub use rest::Rest;
 pub use stack::{Pass, Root, Stack};
 pub use taking::TakeOp;

@@ -12,6 +12,7 @@ use crate::rule::Stacked;
 use crate::stack::{Pass, Stack};
 use bounded_model::{PutRefused, Stepped, Word};
 use index_list::{move_out, put_in};
+use std::snapshot::Snapshot;
 use step_core::seats::View;
 use step_core::stack::Line;
 use tagged_index::{Limits, NULL, Tagged};
@@ -81,11 +82,8 @@ impl<T> Stack<T> {
         ensures { (x : T) → IsPuttingAt self.now x by (LoadFree value) → PutStep self.now x by (LoadFree value) result }
     {
         let mut pass = by;
-        let operation = Operation::Put(value);
+        let operation = Operation::Put(Snapshot::of(&value));
         let free = self.load(&mut pass, FREE, &operation);
-        let Operation::Put(value) = operation else {
-            unreachable!()
-        };
         if free.index() == NULL {
             return Stepped::Again(PutOp {
                 pass,

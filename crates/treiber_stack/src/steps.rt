@@ -4,7 +4,7 @@ ghost use Rattle.tagged_index.specs.Limits.{capacity_of, tag_limit_of};
 ghost use Rattle.tagged_index.specs.Fields.{index_of, tag_of};
 ghost use Rattle.tagged_index.specs.declared.word.TheConstants.{NULL, MAX_TAG};
 ghost use Rattle.index_list.specs.Lists.{Holds};
-ghost use Rattle.index_list.specs.Steps.{read_top, read_link, write_link, take, take_all, give_chain, mark, shut};
+ghost use Rattle.index_list.specs.Steps.{read_top, read_link, write_link, take, take_all, give_chain, mark, shut, numbers, Each};
 ghost use Rattle.step_core.specs.StackMachine.{held};
 ghost use Rattle.treiber_stack.specs.Rule.{line_in};
 ghost use Rattle.treiber_stack.specs.Host.{may_step, Bears, Did};
@@ -220,6 +220,35 @@ impl<T> Stack<T> {
             &self.table.shared,
             &mut by.seat,
             FREE,
+            seen,
+            first,
+            operation,
+        )
+    }
+
+    /// Puts all nodes in hand onto the stack, their slots with the values of the put, and answers
+    /// whether it won.
+    #[inline]
+    pub(crate) fn put_nodes(
+        &self,
+        by: &mut Pass<T>,
+        seen: Tagged,
+        first: u32,
+        operation: &Operation<T>,
+    ) -> bool
+        requires table { by.old.seat.table_id ≡ self.now.table.shared.table_id }
+        requires may { may_step operation.now 1 (give_chain seen first) by.old.seat.me.0 }
+        requires held { (others : List ℕ) × (held (line_in by.old.seat.me.0) ≡ first ∷ others) }
+        requires word { (first < NULL) × (tag_of seen < MAX_TAG) }
+        requires slots { (numbers by.old.seat.me.1 ≡ held (line_in by.old.seat.me.0)) × Each (Bears (line_in by.old.seat.me.0)) by.old.seat.me.1 }
+        ensures table { by.new.seat.table_id ≡ by.old.seat.table_id }
+        ensures won { IsTrue result → Gives self.now operation.now 1 seen first by.old by.new }
+        ensures lost { IsFalse result → (by.new.seat.me.1 ≡ by.old.seat.me.1) × Lost self.now operation.now 1 (give_chain seen first) seen by.old by.new }
+    {
+        try_give_chain::<Option<T>, View<T, Line<T>>, Limits, Stacked<T>, 2>(
+            &self.table.shared,
+            &mut by.seat,
+            TOP,
             seen,
             first,
             operation,

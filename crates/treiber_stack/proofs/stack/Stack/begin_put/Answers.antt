@@ -1,8 +1,9 @@
 use Rattle.std.proofs.Common.{refl}
 use Rattle.treiber_stack.specs.declared.operation.Operation.TheVariants.{Put as First}
+use Rattle.treiber_stack.specs.Putting.{shown}
 use Rattle.treiber_stack.proofs.Closes.{is_started}
 use Rattle.treiber_stack.proofs.Going.{begun_at_rest}
 use Rattle.treiber_stack.proofs.stack.Stack.begin_put.Goals as goal
 
 pub returns : goal.returns
-returns g c = (record { line = is_started c.args.self.now (First c.args.value) c.args.by c.requires; keeps = refl; node = tt }, begun_at_rest c.args.by.seat.me.0 c.requires.view)
+returns g c = (record { line = is_started c.args.self.now (First (shown c.args.value)) c.args.by c.requires; keeps = refl; node = tt }, begun_at_rest c.args.by.seat.me.0 c.requires.view)

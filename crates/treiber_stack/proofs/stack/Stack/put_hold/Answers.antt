@@ -9,7 +9,7 @@ use Rattle.step_core.specs.declared.stack.Line.TheVariants.{F1, F3, P1}
 use Rattle.treiber_stack.specs.declared.operation.Operation.TheVariants.{Put as First, Look as Later}
 use Rattle.treiber_stack.specs.declared.putting.PutAt.TheVariants.{Hold, Load}
 use Rattle.treiber_stack.specs.Operations.{IsSame}
-use Rattle.treiber_stack.specs.Putting.{wanting, bearing, PutStep}
+use Rattle.treiber_stack.specs.Putting.{shown, wanting, bearing, PutStep}
 use Rattle.treiber_stack.proofs.Closes.{is_at, went_on}
 use Rattle.treiber_stack.proofs.Takings.{may_going, moved_on}
 use Rattle.treiber_stack.proofs.Puttings.{F3_slot, F3_won, F3_lost}
@@ -63,8 +63,8 @@ returns g c x a =
     let y = c.args.value in
     let q = c.take_node.new.by in
     let lost = c.if-take_node.ensures.lost refl in
-    let e = F3_lost (First y) y w k lost.1.found lost.1.other a.line.going lost.1.told.did in
+    let e = F3_lost (First (shown y)) y w k lost.1.found lost.1.other a.line.going lost.1.told.did in
     let same : IsSame c.args.by q = record { table = c.if-take_node.ensures.table; slots = lost.0 } in (
-      record { line = is_at stack Later c.args.by (F3 (wanting y) (fields_of w) k) [] a.line q same (First y) (F1 (wanting y)) e; keeps = a.keeps; node = tt },
-      went_on stack Later c.args.by (F3 (wanting y) (fields_of w) k) [] a.line q same (First y) (F1 (wanting y)) 0 (take w k) lost.1.found [] e lost.1.told,
+      record { line = is_at stack Later c.args.by (F3 (wanting y) (fields_of w) k) [] a.line q same (First (shown y)) (F1 (wanting y)) e; keeps = a.keeps; node = tt },
+      went_on stack Later c.args.by (F3 (wanting y) (fields_of w) k) [] a.line q same (First (shown y)) (F1 (wanting y)) 0 (take w k) lost.1.found [] e lost.1.told,
     )

@@ -13,12 +13,12 @@ use Rattle.treiber_stack.specs.declared.putting.PutAt.TheVariants.{LoadFree, Lin
 use Rattle.treiber_stack.specs.Putting.{wanting, put_answer, PutStep}
 use Rattle.treiber_stack.proofs.Closes.{is_pass, is_at, went_on}
 use Rattle.treiber_stack.proofs.Takings.{may_going}
-use Rattle.treiber_stack.proofs.Puttings.{same_name, F1_none, F1_spent, F1_goes, refused_gives}
+use Rattle.treiber_stack.proofs.Puttings.{named_first, F1_none, F1_spent, F1_goes, refused_gives}
 use Rattle.treiber_stack.proofs.stack.Stack.put_load_free.Goals as goal
 
 pub load-free-requires : goal.load-free-requires
 load-free-requires g c =
-    let at = c.requires.1.line in
+    let at = named_first c.args.self.now c.args.by c.args.value c.of.result c.of.ensures c.requires.1.line in
     record { table = (at.table, omega arith); may = may_going 0 read_top at.going refl }
 
 pub returns-then-index-eq-NULL : goal.returns-then-index-eq-NULL
@@ -26,13 +26,13 @@ returns-then-index-eq-NULL g c x a =
     let stack = c.args.self.now in
     let p = c.args.by in
     let y = c.args.value in
+    let b = named_first stack p y c.of.result c.of.ensures a.line in
     let w : ℕ = c.load-free.result in
     let q = c.load-free.new.by in
     let same = c.load-free.ensures.same in
-    let e = F1_none Later y w a.line.going c.load-free.ensures.told.did (sym c.index.ensures.field ∙ c.if-index-eq-NULL.true) in
-    subst (λ z. PutStep stack x p (LoadFree y) (Again (record { pass = q; at = Refuse z }))) (sym (same_name y c.in-Put.value c.in-Put.is)) (
-      record { line = is_at stack (First y) p (F1 (wanting y)) [] a.line q same Later (D1 (wanting y).values) e; keeps = a.keeps; node = tt },
-      went_on stack (First y) p (F1 (wanting y)) [] a.line q same Later (D1 (wanting y).values) 0 read_top w [] e c.load-free.ensures.told,
+    let e = F1_none Later y w b.going c.load-free.ensures.told.did (sym c.index.ensures.field ∙ c.if-index-eq-NULL.true) in (
+      record { line = is_at stack (First c.of.result) p (F1 (wanting y)) [] b q same Later (D1 (wanting y).values) e; keeps = a.keeps; node = tt },
+      went_on stack (First c.of.result) p (F1 (wanting y)) [] b q same Later (D1 (wanting y).values) 0 read_top w [] e c.load-free.ensures.told,
     )
 
 pub returns-then-tag-tag_limit : goal.returns-then-tag-tag_limit
@@ -40,22 +40,23 @@ returns-then-tag-tag_limit g c x a =
     let stack = c.args.self.now in
     let p = c.args.by in
     let y = c.args.value in
+    let b = named_first stack p y c.of.result c.of.ensures a.line in
     let w : ℕ = c.load-free.result in
     let q = c.load-free.new.by in
     let t : ℕ = c.tag-then-tag-tag_limit.result in
     let high = c.if-tag-tag_limit.true in
     let tag = c.tag.ensures.field in
     let limit = c.tag_limit.ensures in
-    let e = F1_spent Later y w a.line.going c.load-free.ensures.told.did t c.tag-then-tag-tag_limit.ensures.field (λ z. c.if-index-eq-NULL.false (c.index.ensures.field ∙ z)) (omega arith) in
+    let e = F1_spent Later y w b.going c.load-free.ensures.told.did t c.tag-then-tag-tag_limit.ensures.field (λ z. c.if-index-eq-NULL.false (c.index.ensures.field ∙ z)) (omega arith) in
     let h = refused_gives x (Spent y FreeWord t) a.keeps e in
-    subst (λ z. PutStep stack x p (LoadFree y) (Done q (Err (Spent z FreeWord t)))) (sym (same_name y c.in-Put.value c.in-Put.is))
-    (is_pass stack (First y) p (F1 (wanting y)) [] a.line q c.load-free.ensures.same (put_answer (Err (Spent y FreeWord t))) refl e, h.0, h.1)
+    (is_pass stack (First c.of.result) p (F1 (wanting y)) [] b q c.load-free.ensures.same (put_answer (Err (Spent y FreeWord t))) refl e, h.0, h.1)
 
 pub returns : goal.returns
 returns g c x a =
     let stack = c.args.self.now in
     let p = c.args.by in
     let y = c.args.value in
+    let b = named_first stack p y c.of.result c.of.ensures a.line in
     let w : ℕ = c.load-free.result in
     let q = c.load-free.new.by in
     let same = c.load-free.ensures.same in
@@ -64,8 +65,7 @@ returns g c x a =
     let limit = c.tag_limit.ensures in
     let below : tag_of w < tag_limit_of stack.limits = omega arith in
     let node = λ (z : index_of w ≡ NULL). c.if-index-eq-NULL.false (c.index.ensures.field ∙ z) in
-    let e = F1_goes Later y w a.line.going c.load-free.ensures.told.did node below in
-    subst (λ z. PutStep stack x p (LoadFree y) (Again (record { pass = q; at = Link z w }))) (sym (same_name y c.in-Put.value c.in-Put.is)) (
-      record { line = is_at stack (First y) p (F1 (wanting y)) [] a.line q same Later (F2 (wanting y) (fields_of w)) e; keeps = a.keeps; node = (c.load-free.ensures.node node, below) },
-      went_on stack (First y) p (F1 (wanting y)) [] a.line q same Later (F2 (wanting y) (fields_of w)) 0 read_top w [] e c.load-free.ensures.told,
+    let e = F1_goes Later y w b.going c.load-free.ensures.told.did node below in (
+      record { line = is_at stack (First c.of.result) p (F1 (wanting y)) [] b q same Later (F2 (wanting y) (fields_of w)) e; keeps = a.keeps; node = (c.load-free.ensures.node node, below) },
+      went_on stack (First c.of.result) p (F1 (wanting y)) [] b q same Later (F2 (wanting y) (fields_of w)) 0 read_top w [] e c.load-free.ensures.told,
     )

@@ -1,0 +1,17 @@
+use Rattle.std.proofs.Common.{◌≡◌, ℕ, List, ◌∷◌, ◌++◌}
+use Rattle.tagged_index.specs.Fields.{index_of}
+use Rattle.tagged_index.specs.Limits.{capacity_of, tag_limit_of}
+use Rattle.step_core.specs.StackLaw.{shape}
+use Rattle.step_core.specs.Seats.{Looks}
+use Rattle.step_core.specs.declared.stack.Giving.{Giving}
+use Rattle.step_core.specs.declared.stack.Line.TheVariants.{G1}
+use Rattle.treiber_stack.specs.Rule.{line_in}
+use Rattle.treiber_stack.proofs.stack.Stack.read_again.Given as goal
+
+abbrev pub ghosts-load_as : goal.ghosts-load_as
+ghosts-load_as g a = record {
+  told = λ _ me found me'.
+      Looks (shape (capacity_of a.table.now.key) (tag_limit_of a.table.now.key)) me.0 me'.0
+      × (me'.1 ≡ me.1)
+      × ((giving : Giving g.row.T.Denot) (before others : List ℕ) (next : ℕ) → line_in me.0 ≡ G1 giving → giving.chain ≡ before ++ a.about ∷ next ∷ others → index_of found ≡ next);
+}
