@@ -1,5 +1,5 @@
 -- The values that a range keeps.
-use Rattle.std.proofs.Common.{◌≡◌, ℕ, ◌≤◌, List, [], ◌∷◌, ◌++◌, length, map, drop, replicate, Option, Some, None, Result, Ok, Err, refl, sym, ap, subst, ◌∙◌, arith}
+use Rattle.std.proofs.Common.{◌≡◌, ℕ, suc, ◌≤◌, List, [], ◌∷◌, ◌++◌, length, map, drop, replicate, Option, Some, None, Result, Ok, Err, refl, sym, ap, subst, ◌∙◌, arith}
 use Rattle.std.specs.Prelude.{IsSome}
 use Rattle.std.specs.List.{AllByRecursion}
 use Rattle.bounded_model.specs.Machine.{Shape}
@@ -19,7 +19,7 @@ placed values = map (λ value. Some value) values
 
 pub all_some : (values : List (List ℕ)) → AllByRecursion (λ place. IsSome place) (placed values)
 all_some [] = tt
-all_some (value ∷ values) = (tt, all_some values)
+all_some (value ∷ values) = (refl, all_some values)
 
 none_placed : (values : List (List ℕ)) → placed values ≡ [] → values ≡ []
 none_placed [] e = refl
@@ -27,7 +27,7 @@ none_placed (value ∷ values) e = absurd cc
 
 length-placed : (values : List (List ℕ)) → length (placed values) ≡ length values
 length-placed [] = refl
-length-placed (value ∷ values) = ap (λ (n : ℕ). 1 + n) (length-placed values)
+length-placed (value ∷ values) = ap suc (length-placed values)
 
 -- after a refusal each value is in its place
 all_kept : (values : List (List ℕ)) (new : List (Option (List ℕ))) → new ≡ placed values → values_in new ≡ values
