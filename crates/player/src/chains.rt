@@ -1,29 +1,46 @@
 //! Ranges and folds: calls that put or take many values at once.
 
-ghost use Rattle.std.specs.Prelude.{IfOk};
+ghost use Rattle.std.specs.Prelude.{◌≡◌, IfOk};
 ghost use Rattle.script.specs.Answering.{IsRangeReply};
+ghost use Rattle.player.specs.Ranges.{range_reply};
 ghost use Rattle.treiber_stack.specs.Stack.{IsPassOf};
 
 use bounded_model::TakeRefused;
 use script::{RangeReply, Value, ValueList, Values};
 use std::alloc::{AllocError, Global};
 use std::sync::Wait;
-use treiber_stack::{Folded, Pass, Stack};
+use treiber_stack::{Folded, Pass, RangeRefused, Ranged, Stack};
 
-/// Puts values by one exchange. Answers the values that were not put too.
+/// Puts as many of the values as there is room for by one exchange. Answers the values that were not
+/// put, too.
 pub fn put_range<'a, R: Wait>(
-    _stack: &Stack<Value<'a>>,
-    _rt: &R,
+    stack: &Stack<Value<'a>>,
+    rt: &R,
     alloc: Global,
     by: Pass<Value<'a>>,
     values: Values<'a>,
 ) -> Result<(Pass<Value<'a>>, RangeReply, ValueList<'a>), AllocError>
-    requires { IsPassOf _stack.now by }
-    ensures pass { IfOk result (λ done. IsPassOf _stack.now done.0) }
+    requires { IsPassOf stack.now by }
+    ensures pass { IfOk result (λ done. IsPassOf stack.now done.0) }
     ensures reply { IfOk result (λ done. IsRangeReply values.entry done.1 done.2) }
 {
-    let places = values.to_places(alloc)?;
-    Ok((by, RangeReply::Full, ValueList::left_in(places)))
+    let mut places = values.to_places(alloc)?;
+    let (pass, answer) = stack.put_range(rt, by, &mut places);
+    let reply = reply_of(answer);
+    Ok((pass, reply, ValueList::left_in(places)))
+}
+
+/// What a range's answer is called in a script.
+fn reply_of(answer: Result<Ranged, RangeRefused>) -> RangeReply
+    ensures { result ≡ range_reply answer }
+{
+    match answer {
+        Ok(ranged) => RangeReply::Put(ranged.number, ranged.count),
+        Err(RangeRefused::Nothing) => RangeReply::Nothing,
+        Err(RangeRefused::Full) => RangeReply::Full,
+        Err(RangeRefused::Closed) => RangeReply::Closed,
+        Err(RangeRefused::Spent(word, tag)) => RangeReply::Spent(word, tag),
+    }
 }
 
 /// Takes all values by one exchange, and answers them from the top down.
