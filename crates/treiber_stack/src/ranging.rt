@@ -136,7 +136,7 @@ impl<T> Stack<T> {
         let mut first = NULL;
         let mut last = NULL;
         let mut count = 0;
-        for at in 0..1 {
+        for at in 0..values.len() {
             let (back, node) = self.take_free(rt, pass, operation);
             pass = back;
             match node {
