@@ -2,7 +2,7 @@
 
 use crate::relay_main::relay_main;
 use crate::tool_fault::ToolFault;
-use crate::words::{Chosen, read_words};
+use crate::words::{Chosen, Kind, RelayArgs, read_words};
 use crate::words_tests::words_in;
 use audit::ReadFault;
 use relay::RelayFault;
@@ -52,6 +52,38 @@ impl Write for ShortWriter {
         self.bytes.extend_from_slice(&buf[..count])?;
         self.room -= count;
         Ok(count)
+    }
+
+    fn flush(&mut self) -> io::Result<()> {
+        Ok(())
+    }
+}
+
+/// Has room for 128 bytes, and takes no memory.
+#[derive(Drop)]
+struct FixedWriter {
+    bytes: [u8; 128],
+    len: usize,
+}
+
+impl FixedWriter {
+    fn written(&self) -> &[u8] {
+        if self.len <= 128 {
+            &self.bytes[..self.len]
+        } else {
+            &[]
+        }
+    }
+}
+
+impl Write for FixedWriter {
+    fn write(&mut self, buf: &[u8]) -> io::Result<usize> {
+        if self.len >= 128 || buf.is_empty() {
+            return Ok(0);
+        }
+        self.bytes[self.len] = buf[0];
+        self.len += 1;
+        Ok(1)
     }
 
     fn flush(&mut self) -> io::Result<()> {
@@ -254,6 +286,41 @@ fn writers_that_fail(rt: HostRuntime) -> Result<(), Fail> {
             &ALL_OF_ABC.as_bytes()[..room],
             "at {room}"
         );
+    }
+    Ok(())
+}
+
+// Holds whichever allocation is refused: `rt try --test --fail-alloc N` for each N that this test
+// reaches.
+#[test]
+fn want_of_memory_writes_no_outcome(rt: HostRuntime) -> Result<(), AllocError> {
+    let mut readers = Vec::new(rt.alloc());
+    readers.push(ABC.as_bytes())?;
+    let mut writer = FixedWriter {
+        bytes: [0; 128],
+        len: 0,
+    };
+    let args = RelayArgs {
+        kind: Kind::Stack,
+        capacity: 2,
+        consumers: 2,
+        take: None,
+        close_after: None,
+        shut_after: None,
+        list: false,
+    };
+    match relay_main(&rt, rt.alloc(), &args, readers, &mut writer) {
+        Ok(()) => assert_eq!(rt; writer.written(), ALL_OF_ABC.as_bytes()),
+        Err(fault) => {
+            let wanted = [
+                ToolFault::File(1, ReadFault::NoMemory),
+                ToolFault::Relay(RelayFault::NoMemory),
+                ToolFault::Relay(RelayFault::NoPass),
+                ToolFault::Relay(RelayFault::NoThread),
+            ];
+            assert!(rt; wanted.contains(&fault), "{fault:?}");
+            assert_eq!(rt; writer.written().len(), 0);
+        }
     }
     Ok(())
 }
