@@ -253,9 +253,9 @@ fn writes_that_fail(rt: HostRuntime) {
 }
 
 /// A script that asks for all the memory that a replay takes.
-const HUNGRY: &str = "stack 2 7\na put x\nb put y\na begin take\nb fold\nb put w\nfinish\n";
+const HUNGRY: &str = "stack 2 7\na put x\nb range y z\na begin take\nb fold\nb put w\nfinish\n";
 
-const FED: &str = "put 0\nput 1\nbegun\nfold 2 y x\nput 3\nrest w\n";
+const FED: &str = "put 0\nrange 1 1 kept z\nbegun\nfold 2 y x\nput 3\nrest w\n";
 
 // Holds whichever allocation is refused: `rt try --test --fail-alloc N` for each N that this test
 // reaches.
