@@ -16,20 +16,21 @@ use Rattle.index_list.specs.Lists as index_list
 use Rattle.index_list.specs.Lists.{word, Holds}
 use Rattle.index_list.specs.Steps.{give_chain, Each, numbers, filled, top_after_give, changed, Before, Goes}
 use Rattle.index_list.proofs.Acts.{length-filled, filled-else}
-use Rattle.step_core.specs.Words.{Tagged, times, total}
-use Rattle.step_core.specs.Words as core
-use Rattle.step_core.specs.declared.stack.Answer.TheVariants.{Put as AnswerPut}
-use Rattle.step_core.specs.declared.stack.Putting.{Putting}
-use Rattle.step_core.specs.declared.stack.Line.{Line}
-use Rattle.step_core.specs.declared.stack.Line.TheVariants.{Idle, P1, P3}
-use Rattle.step_core.specs.declared.seats.View.{View}
-use Rattle.step_core.specs.declared.seats.View.TheVariants.{AtPass}
-use Rattle.step_core.specs.StackMachine.{Memory, held, first, last, step, goes_on, wins, ends, after_put, placed, unplaced}
-use Rattle.step_core.specs.StackMachine as machine
-use Rattle.step_core.specs.StackLaw.{shape}
-use Rattle.step_core.specs.StackRule.{IsFine}
-use Rattle.step_core.proofs.Lists.{times_else}
-use Rattle.step_core.proofs.Chains.{chain_leads, home_here, home_else, filled_else}
+use Rattle.machine.specs.Words.{Tagged, times, total}
+use Rattle.machine.specs.Words as core
+use Rattle.stack_machine.specs.declared.lines.Answer.TheVariants.{Put as AnswerPut}
+use Rattle.stack_machine.specs.declared.lines.Putting.{Putting}
+use Rattle.stack_machine.specs.declared.lines.Line.{Line}
+use Rattle.stack_machine.specs.declared.lines.Line.TheVariants.{Idle, P1, P3}
+use Rattle.machine.specs.declared.seats.View.{View}
+use Rattle.machine.specs.declared.seats.View.TheVariants.{AtPass}
+use Rattle.stack_machine.specs.Machine.{Memory, held, step, goes_on, wins, ends, after_put, placed, unplaced}
+use Rattle.machine.specs.Chains.{first, last}
+use Rattle.stack_machine.specs.Machine as machine
+use Rattle.stack_machine.specs.Answers.{shape}
+use Rattle.stack_machine.specs.Rule.{IsFine}
+use Rattle.machine.proofs.Lists.{times_else}
+use Rattle.machine.proofs.Chains.{chain_leads, home_here, home_else, filled_else}
 use Rattle.treiber_stack.specs.declared.operation.Operation.{Operation}
 use Rattle.treiber_stack.specs.declared.operation.Listed.TheVariants.{End, More'}
 use Rattle.treiber_stack.specs.declared.operation.Operation.TheVariants.{Put as PutFirst, Take as TakeFirst, Close as CloseFirst, Shut as ShutFirst, Look as LookFirst, Fold as FoldFirst, Range as RangeFirst}
