@@ -68,7 +68,7 @@ module _ {T : Type 0} where
   filled_there home home' [] vs j long there = absurd (omega arith)
   filled_there home home' (i ∷ is) [] j long there = absurd (omega arith)
   filled_there home home' (i ∷ is) (v ∷ vs) j long there = ⊎_elim
-      (λ e. subst (λ (k : ℕ). machine.with_home (chains.filled home is vs) i (some (Some v)) k ≡ machine.with_home (chains.filled home' is vs) i (some (Some v)) k) (sym e)
+      (λ e. subst (λ (k : ℕ). chains.with_home (chains.filled home is vs) i (some (Some v)) k ≡ chains.with_home (chains.filled home' is vs) i (some (Some v)) k) (sym e)
       (home_here (chains.filled home is vs) i (some (Some v)) ∙ sym (home_here (chains.filled home' is vs) i (some (Some v)))))
       (λ ne. home_else (chains.filled home is vs) i (some (Some v)) j ne ∙ filled_there home home' is vs j (omega arith) (let t = times_else j i is ne in omega arith) ∙ sym (home_else (chains.filled home' is vs) i (some (Some v)) j ne))
       (same_or_not j i)

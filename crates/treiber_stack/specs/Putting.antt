@@ -124,3 +124,8 @@ module _ {T : Type 0} where
   abbrev pub PutStep : Stack T → T → Pass T → PutAt T → Stepped (PutOp T) (Pass T) (Result ℕ (PutRefused T)) → Type 0
   PutStep c x p at (Again next) = IsPutting c x next × GoesOn c p next.pass (put_line x at) (put_line x next.at)
   PutStep c x p at (Done q r) = IsPassOf c q × PutGives (shape_of c) (begun_in p) x (pass_in q) r × IsLineOf c p q (put_line x at) (ends (put_answer r))
+
+  -- what several steps give
+  abbrev pub PutRun : Stack T → T → Pass T → Stepped (PutOp T) (Pass T) (Result ℕ (PutRefused T)) → Type 0
+  PutRun c x p (Again next) = IsPutting c x next × (begun_in next.pass ≡ begun_in p)
+  PutRun c x p (Done q r) = IsPassOf c q × PutGives (shape_of c) (begun_in p) x (pass_in q) r

@@ -1,5 +1,5 @@
 -- A take made by steps.
-use Rattle.std.specs.Prelude.{ℕ, ◌<◌, ◌≤◌, List, [], ◌∷◌, Option as Slot, None, Result, Ok}
+use Rattle.std.specs.Prelude.{◌≡◌, ℕ, ◌<◌, ◌≤◌, List, [], ◌∷◌, Option as Slot, None, Result, Ok}
 use Rattle.tagged_index.specs.Fields.{fields_of, index_of, tag_of}
 use Rattle.tagged_index.specs.Limits.{capacity_of, tag_limit_of}
 use Rattle.tagged_index.specs.declared.word.TheConstants.{NULL}
@@ -66,3 +66,8 @@ module _ {T : Type 0} where
   abbrev pub TakeStep : Stack T → Pass T → TakeAt T → Stepped (TakeOp T) (Pass T) (Result (T × ℕ) TakeRefused) → Type 0
   TakeStep c p at (Again next) = IsTaking c next × GoesOn c p next.pass (take_line at) (take_line next.at)
   TakeStep c p at (Done q r) = IsPassOf c q × TakeGives (shape_of c) (begun_in p) (pass_in q) r × IsLineOf c p q (take_line at) (ends (AnswerTake r))
+
+  -- what several steps give
+  abbrev pub TakeRun : Stack T → Pass T → Stepped (TakeOp T) (Pass T) (Result (T × ℕ) TakeRefused) → Type 0
+  TakeRun c p (Again next) = IsTaking c next × (begun_in next.pass ≡ begun_in p)
+  TakeRun c p (Done q r) = IsPassOf c q × TakeGives (shape_of c) (begun_in p) (pass_in q) r

@@ -18,6 +18,7 @@ mod host;
 mod layout;
 mod making;
 mod operation;
+mod pause;
 mod putting;
 mod ranging;
 mod rest;

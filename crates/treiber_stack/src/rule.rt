@@ -14,7 +14,7 @@ pub(crate) struct Stacked<T> {
 
 impl<T> TableRule<Option<T>, View<T, Line<T>>, Limits> for Stacked<T> {
     ghost use Rattle.tagged_index.specs.Limits.{capacity_of, tag_limit_of};
-    ghost use Rattle.machine.specs.Seats.{first_view, both_of};
+    ghost use Rattle.machine.specs.Seats.{first_view};
     ghost use Rattle.treiber_stack.specs.Rule.{Rule};
 
     ghost holds = { λ limits. Rule (capacity_of limits) (tag_limit_of limits) };
@@ -37,6 +37,7 @@ impl<T> Split<View<T, Line<T>>> for Cuts {
 pub(crate) struct Makes;
 
 impl<T> Join<View<T, Line<T>>> for Makes {
+    ghost use Rattle.machine.specs.Seats.{both_of};
     ghost use Rattle.machine.specs.declared.seats.View.TheVariants.{Left};
 
     ghost both = { both_of };
