@@ -3,8 +3,8 @@ ghost use Rattle.tagged_index.specs.declared.limit.Limits.{Limits};
 ghost use Rattle.running.specs.Machine.{Names, Machine as TheMachine};
 
 use atomic_table::TableRule;
-use std::marker::PhantomData;
 use machine::View;
+use std::marker::PhantomData;
 use tagged_index::Limits;
 
 /// A container for values `T`, whose passes are at lines `L` of operations `O`.

@@ -19,9 +19,9 @@ use crate::rule::Stacked;
 use crate::stack::{Pass, Stack};
 use bounded_model::{TakeRefused, Word};
 use index_list::{Front, move_out};
-use std::sync::Wait;
 use machine::View;
 use stack_machine::Line;
+use std::sync::Wait;
 use tagged_index::{Limits, NULL, Tagged};
 
 /// A fold that took all values.

@@ -14,10 +14,10 @@ use crate::stack::{Root, Stack};
 use atomic_table::{Seat, Table};
 use bounded_model::MakeRefused;
 use index_list::load_as;
-use std::alloc::{AllocError, Global};
-use std::marker::Brand;
 use machine::View;
 use stack_machine::Line;
+use std::alloc::{AllocError, Global};
+use std::marker::Brand;
 use tagged_index::Limits;
 
 // The words of a new stack.

@@ -19,10 +19,10 @@ use crate::rule::Stacked;
 use crate::stack::{Pass, Stack};
 use bounded_model::Word;
 use index_list::{load_as, put_in};
-use std::marker::Brand;
-use std::sync::Wait;
 use machine::View;
 use stack_machine::Line;
+use std::marker::Brand;
+use std::sync::Wait;
 use tagged_index::{Limits, NULL, Tagged};
 use thiserror::Error;
 

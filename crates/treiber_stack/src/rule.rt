@@ -1,8 +1,8 @@
 //! The table's rule, and how seats are cut in two and made one.
 use atomic_table::{Join, Play, Split, TableRule};
-use std::marker::PhantomData;
 use machine::View;
 use stack_machine::Line;
+use std::marker::PhantomData;
 use tagged_index::Limits;
 
 pub(crate) type StackView<T> = View<T, Line<T>>;
