@@ -75,7 +75,7 @@ module _ {T : Type 0} {n limit : ℕ} {m : Memory T} {g : Lists} {who : ℕ → 
   unshut_now e = sym x.told.shut ∙ e
 
   pub free_spent_now : limit ≤ m.free.tag → Justifies (shape n limit) history (PutSpent FreeWord m.free.tag)
-  free_spent_now h = ((tt, omega (arith, x.told.free_limit), sym x.told.free_tag), omega (arith, x.told.free_tag))
+  free_spent_now h = ((tt, (omega (arith, x.told.free_limit), sym x.told.free_tag)), omega (arith, x.told.free_tag))
 
   pub top_spent_now : limit ≤ m.top.tag → Justifies (shape n limit) history (PutSpent TopWord m.top.tag)
-  top_spent_now h = ((tt, omega (arith, x.told.top_limit), sym x.told.top_tag), omega (arith, x.told.top_tag, x.told.spare, turns_legal n limit history x.told.legal))
+  top_spent_now h = ((tt, (omega (arith, x.told.top_limit), sym x.told.top_tag)), omega (arith, x.told.top_tag, x.told.spare, turns_legal n limit history x.told.legal))
