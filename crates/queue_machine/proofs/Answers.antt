@@ -13,9 +13,9 @@ use Rattle.bounded_model.specs.Histories.{Later}
 use Rattle.bounded_model.specs.Justified.{IsClosed, IsUnshut, IsShut, IsFull, IsAtLimit, IsWorn}
 use Rattle.bounded_model.proofs.Histories.{is_nil}
 use Rattle.bounded_model.proofs.Staying.{closed_stays}
-use Rattle.step_core.specs.Words.{Tagged, times, Stands}
-use Rattle.step_core.proofs.Sums.{total_one}
-use Rattle.step_core.proofs.StackAnswers.{none_there}
+use Rattle.machine.specs.Words.{Tagged, times, Stands}
+use Rattle.machine.proofs.Sums.{total_one}
+use Rattle.machine.proofs.OneList.{none_there}
 use Rattle.queue_machine.specs.declared.lines.Placing.{Placing}
 use Rattle.queue_machine.specs.declared.lines.Line.{Line}
 use Rattle.queue_machine.specs.declared.lines.Line.TheVariants.{LoadNodes}

@@ -4,12 +4,11 @@ use Rattle.std.proofs.Common.{◌≡◌, ◌≢◌, ℕ, ◌+◌, ◌<◌, ◌�
 use Rattle.std.proofs.lemmas.Bool.Decides.{eqb_tells}
 use Rattle.std.proofs.lemmas.List.{length-append}
 use Rattle.tagged_index.specs.declared.word.TheConstants.{NULL}
-use Rattle.step_core.specs.Words.{Tagged, times, Leads}
-use Rattle.step_core.specs.OneList.{Later}
-use Rattle.step_core.specs.StackMachine.{last}
-use Rattle.step_core.proofs.Lists.{times_here, times_append}
-use Rattle.step_core.proofs.OneList.{front_of}
-use Rattle.step_core.proofs.StackAnswers.{none_there}
+use Rattle.machine.specs.Words.{Tagged, times, Leads}
+use Rattle.machine.specs.OneList.{Later}
+use Rattle.machine.specs.Chains.{last}
+use Rattle.machine.proofs.Lists.{times_here, times_append}
+use Rattle.machine.proofs.OneList.{front_of, none_there}
 use Rattle.queue_machine.specs.Machine.{store_word}
 use Rattle.queue_machine.specs.Rule.{Lists, Past, Was, Follows, Lags, Ends, IsChained}
 

@@ -4,8 +4,8 @@ use Rattle.std.proofs.lemmas.Bool.{false≢true}
 use Rattle.std.proofs.lemmas.List.{length-append, map-append}
 use Rattle.tagged_index.specs.declared.word.TheConstants.{NULL}
 use Rattle.bounded_model.specs.Machine.{without_first}
-use Rattle.step_core.specs.Words.{Tagged, raised, marked, with_second, store, times, Leads, Stands}
-use Rattle.step_core.proofs.Lists.{times_here, times_append, not_there, store_else, leads_frame, leads_append}
+use Rattle.machine.specs.Words.{Tagged, raised, marked, with_second, store, times, Leads, Stands}
+use Rattle.machine.proofs.Lists.{times_here, times_append, not_there, store_else, leads_frame, leads_append}
 use Rattle.queue_machine.specs.Machine.{store_word}
 use Rattle.queue_machine.specs.Rule.{Lists, IsChained}
 use Rattle.queue_machine.proofs.Chain.{word_here, word_else, word_each, leads_cut, chain_length, tail_in}

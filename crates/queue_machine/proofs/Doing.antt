@@ -11,9 +11,9 @@ use Rattle.bounded_model.specs.declared.history.Event.{Event}
 use Rattle.bounded_model.specs.declared.history.Event.TheVariants.{Hold, Put, Take, Free, Close, Shut}
 use Rattle.bounded_model.specs.Histories.{own, pass_of}
 use Rattle.bounded_model.proofs.Histories.{own-append, own-mine}
-use Rattle.step_core.specs.Words.{Tagged, same, raised}
-use Rattle.step_core.proofs.StackDoing.{Ahead}
-use Rattle.step_core.proofs.Tests.{cases}
+use Rattle.machine.specs.Words.{Tagged, same, raised}
+use Rattle.machine.proofs.Ahead.{Ahead}
+use Rattle.machine.proofs.Tests.{cases}
 use Rattle.queue_machine.specs.declared.lines.Seeking.{Seeking}
 use Rattle.queue_machine.specs.declared.lines.Seeking.TheVariants.{ToLink, ToRefuse, ToClose}
 use Rattle.queue_machine.specs.declared.lines.Call.{Call}

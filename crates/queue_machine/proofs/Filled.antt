@@ -2,11 +2,10 @@
 use Rattle.std.proofs.Common.{◌≡◌, ℕ, ◌<◌, List, [], ◌∷◌, ◌++◌, sym, ap, ◌∙◌, subst, ⊎_elim, Option as Slot, Some, None, arith}
 use Rattle.std.proofs.lemmas.Bool.Decides.{eqb_tells}
 use mathlib.Core.Option.{Option, none, some}
-use Rattle.step_core.specs.Words.{times}
-use Rattle.step_core.specs.StackMachine.{with_home}
-use Rattle.step_core.specs.StackLaw.{HasValues}
-use Rattle.step_core.proofs.Lists.{times_else, not_there}
-use Rattle.step_core.proofs.Chains.{home_here, home_else, values_frame}
+use Rattle.machine.specs.Words.{times}
+use Rattle.machine.specs.Chains.{with_home, HasValues}
+use Rattle.machine.proofs.Lists.{times_else, not_there}
+use Rattle.machine.proofs.Chains.{home_here, home_else, values_frame}
 use Rattle.queue_machine.specs.Machine.{Memory}
 use Rattle.queue_machine.specs.Rule.{Lists, Filled}
 

@@ -3,13 +3,12 @@ use Rattle.std.proofs.Common.{◌≡◌, ◌≢◌, ℕ, ◌+◌, ◌<◌, ◌�
 use mathlib.Core.Option.{some}
 use lib.ListN.{get_elem?}
 use Rattle.tagged_index.specs.declared.word.TheConstants.{NULL}
-use Rattle.step_core.specs.Words.{Tagged, times, Stands}
-use Rattle.step_core.specs.OneList.{Later}
-use Rattle.step_core.proofs.Tests.{at_most_one}
-use Rattle.step_core.proofs.Sums.{total_set, total_one, total_two, at_set}
-use Rattle.step_core.proofs.Lists.{times_here}
-use Rattle.step_core.proofs.OneList.{read_top_later, read_link_later}
-use Rattle.step_core.proofs.StackKinds.{not_below}
+use Rattle.machine.specs.Words.{Tagged, times, Stands}
+use Rattle.machine.specs.OneList.{Later}
+use Rattle.machine.proofs.Tests.{at_most_one, not_below}
+use Rattle.machine.proofs.Sums.{total_set, total_one, total_two, at_set}
+use Rattle.machine.proofs.Lists.{times_here}
+use Rattle.machine.proofs.OneList.{read_top_later, read_link_later}
 use Rattle.queue_machine.specs.declared.lines.Linking.{Linking}
 use Rattle.queue_machine.specs.declared.lines.Seeking.{Seeking}
 use Rattle.queue_machine.specs.declared.lines.Seeking.TheVariants.{ToLink, ToRefuse, ToClose}

@@ -3,8 +3,8 @@ use Rattle.std.proofs.Common.{◌≡◌, ◌≢◌, ℕ, ◌+◌, ◌<◌, List,
 use mathlib.Core.Option.{some}
 use lib.ListN.{get_elem?}
 use Rattle.tagged_index.specs.declared.word.TheConstants.{NULL}
-use Rattle.step_core.specs.Words.{Tagged, raised, marked, with_second, store, times, Stands}
-use Rattle.step_core.proofs.Lists.{times_here, times_append, store_else, leads_frame, leads_from}
+use Rattle.machine.specs.Words.{Tagged, raised, marked, with_second, store, times, Stands}
+use Rattle.machine.proofs.Lists.{times_here, times_append, store_else, leads_frame, leads_from}
 use Rattle.queue_machine.specs.declared.lines.Line.{Line}
 use Rattle.queue_machine.specs.Machine.{Memory, held_cells, held_nodes, store_word, after_hold, after_free, after_node_take, after_node_give, after_clink, after_nlink, after_cell, after_next, after_link_of, after_swing, after_close, after_take, after_shut, next_of}
 use Rattle.queue_machine.specs.Rule.{Lists, Was, Lags, Ends, IsFine, IsChained, Linked}

@@ -4,9 +4,9 @@ use Rattle.std.proofs.lemmas.Bool.{false≢true}
 use mathlib.Core.Option.{some}
 use lib.ListN.{get_elem?}
 use Rattle.tagged_index.specs.declared.word.TheConstants.{NULL}
-use Rattle.step_core.specs.Words.{Tagged, raised, marked}
-use Rattle.step_core.specs.StackMachine.{last}
-use Rattle.step_core.proofs.Sums.{total_set}
+use Rattle.machine.specs.Words.{Tagged, raised, marked}
+use Rattle.machine.specs.Chains.{last}
+use Rattle.machine.proofs.Sums.{total_set}
 use Rattle.queue_machine.specs.declared.lines.Line.{Line}
 use Rattle.queue_machine.specs.Machine.{Memory, store_word, null_word, after_hold, after_node_take, after_next, after_link_of, after_close}
 use Rattle.queue_machine.specs.Rule.{Lists, IsFresh, wanting, Numbered}

@@ -3,8 +3,8 @@
 use Rattle.std.proofs.Common.{◌≡◌, ℕ, ◌+◌, ◌<◌, ◌≤◌, List, [], ◌∷◌, length, sym, ap, ◌∙◌, arith}
 use mathlib.Core.Option.{Option}
 use Rattle.bounded_model.specs.declared.history.Event.{Event}
-use Rattle.step_core.specs.Words.{Tagged}
-use Rattle.step_core.specs.StackMachine.{last}
+use Rattle.machine.specs.Words.{Tagged}
+use Rattle.machine.specs.Chains.{last}
 use Rattle.queue_machine.specs.declared.lines.Line.{Line}
 use Rattle.queue_machine.specs.Machine.{Memory, next_of}
 use Rattle.queue_machine.specs.Answers.{state}

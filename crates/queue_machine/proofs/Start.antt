@@ -5,14 +5,12 @@ use Rattle.std.proofs.lemmas.Bool.{false≢true}
 use mathlib.Core.Option.{Option, some, some-injective}
 use Rattle.tagged_index.specs.declared.word.TheConstants.{NULL}
 use Rattle.bounded_model.specs.declared.history.Event.{Event}
-use Rattle.step_core.specs.Words.{Stands, Tagged, start_link, start_word, times, total}
-use Rattle.step_core.specs.StackMachine.{last}
-use Rattle.step_core.proofs.Tests.{at_most_one}
-use Rattle.step_core.proofs.Sums.{total_same}
-use Rattle.step_core.proofs.Lists.{times_here, not_there, leads_frame, leads_from}
-use Rattle.step_core.proofs.ListRun.{from, from_stands, from_all, from_length}
-use Rattle.step_core.proofs.StackKinds.{not_below}
-use Rattle.step_core.proofs.StackRun.{same_at}
+use Rattle.machine.specs.Words.{Stands, Tagged, start_link, start_word, times, total}
+use Rattle.machine.specs.Chains.{last}
+use Rattle.machine.proofs.Tests.{at_most_one, not_below}
+use Rattle.machine.proofs.Sums.{total_same, same_at}
+use Rattle.machine.proofs.Lists.{times_here, not_there, leads_frame, leads_from}
+use Rattle.machine.proofs.Starts.{from, from_stands, from_all, from_length}
 use Rattle.queue_machine.specs.declared.lines.Line.{Line}
 use Rattle.queue_machine.specs.declared.lines.Line.TheVariants.{Idle}
 use Rattle.queue_machine.specs.Machine.{Memory, held_cells, held_nodes, start_nlink, start}

@@ -9,10 +9,10 @@ use Rattle.bounded_model.specs.declared.answers.PutRefused.TheVariants.{Spent as
 use Rattle.bounded_model.specs.declared.answers.TakeRefused.TheVariants.{Empty as TakeEmpty, Closed as TakeClosed, Shut as TakeShut}
 use Rattle.bounded_model.specs.declared.history.Event.{Event}
 use Rattle.bounded_model.specs.declared.history.Event.TheVariants.{Hold, Put, Free, Close, Shut}
-use Rattle.step_core.specs.Words.{Tagged, same, raised}
-use Rattle.step_core.proofs.Tests.{cases, same-is}
-use Rattle.step_core.proofs.Lists.{times_here, store_here}
-use Rattle.step_core.proofs.OneList.{read_top}
+use Rattle.machine.specs.Words.{Tagged, same, raised}
+use Rattle.machine.proofs.Tests.{cases, same-is}
+use Rattle.machine.proofs.Lists.{times_here, store_here}
+use Rattle.machine.proofs.OneList.{read_top}
 use Rattle.queue_machine.specs.declared.lines.Placing.{Placing}
 use Rattle.queue_machine.specs.declared.lines.Linking.{Linking}
 use Rattle.queue_machine.specs.declared.lines.Seeking.{Seeking}

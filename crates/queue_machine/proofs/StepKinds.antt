@@ -9,13 +9,12 @@ use Rattle.tagged_index.specs.declared.word.TheConstants.{NULL}
 use Rattle.bounded_model.specs.declared.history.Event.{Event}
 use Rattle.bounded_model.specs.declared.history.Event.TheVariants.{Hold, Put, Take, Free, Close, Shut}
 use Rattle.bounded_model.specs.Machine.{without_first}
-use Rattle.step_core.specs.Words.{Tagged, times}
-use Rattle.step_core.specs.OneList.{ReadTop, ReadLink}
-use Rattle.step_core.specs.StackMachine.{last}
-use Rattle.step_core.specs.StackLaw.{HasValues}
-use Rattle.step_core.proofs.Lists.{times_here}
-use Rattle.step_core.proofs.OneList.{ready}
-use Rattle.step_core.proofs.StackFilled.{first_value}
+use Rattle.machine.specs.Words.{Tagged, times}
+use Rattle.machine.specs.OneList.{ReadTop, ReadLink}
+use Rattle.machine.specs.Chains.{last, HasValues}
+use Rattle.machine.proofs.Lists.{times_here}
+use Rattle.machine.proofs.OneList.{ready}
+use Rattle.machine.proofs.Chains.{first_value}
 use Rattle.queue_machine.specs.declared.lines.Line.{Line}
 use Rattle.queue_machine.specs.Machine.{Memory, held_cells, held_nodes, store_word, null_word, after_hold, after_free, after_node_take, after_node_give, after_clink, after_nlink, after_cell, after_next, after_link_of, after_swing, after_close, after_take, after_shut, next_of}
 use Rattle.queue_machine.specs.Answers.{state}

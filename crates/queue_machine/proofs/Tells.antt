@@ -6,7 +6,7 @@ use mathlib.Core.Option.{Option, none, some}
 use lib.ListN.{get_elem?}
 use Rattle.tagged_index.specs.declared.word.TheConstants.{NULL}
 use Rattle.bounded_model.specs.declared.answers.Word.TheVariants.{Cells as CellsWord, Nodes as NodesWord, Next as NextWord}
-use Rattle.bounded_model.specs.declared.answers.PutRefused.TheVariants.{Spent as PutSpent}
+use Rattle.bounded_model.specs.declared.answers.PutRefused.TheVariants.{Full as PutFull, Closed as PutClosed, Spent as PutSpent}
 use Rattle.bounded_model.specs.declared.answers.TakeRefused.TheVariants.{Empty as TakeEmpty, Closed as TakeClosed, Shut as TakeShut}
 use Rattle.bounded_model.specs.declared.history.Event.{Event}
 use Rattle.bounded_model.specs.declared.history.Event.TheVariants.{Hold, Put, Take, Free, Close, Shut}
@@ -16,8 +16,8 @@ use Rattle.bounded_model.specs.Justified.{Sometime, Justifies, IsOpen, Looked}
 use Rattle.bounded_model.proofs.Histories.{Later-refl, Later-cons, Later-trans, own-other}
 use Rattle.bounded_model.proofs.Adding.{Sometime-now, Sometime-wider}
 use Rattle.bounded_model.proofs.Staying.{open_before, unshut_before, closed_stays}
-use Rattle.step_core.specs.Words.{Tagged, same, raised}
-use Rattle.step_core.proofs.Tests.{cases, same-is}
+use Rattle.machine.specs.Words.{Tagged, same, raised}
+use Rattle.machine.proofs.Tests.{cases, same-is}
 use Rattle.queue_machine.specs.declared.lines.Placing.{Placing}
 use Rattle.queue_machine.specs.declared.lines.Linking.{Linking}
 use Rattle.queue_machine.specs.declared.lines.Seeking.{Seeking}
@@ -36,7 +36,9 @@ module _ {T : Type 0} where
   -- an answer that was right stays so when its pass has seen more
   pub right_wider : (n limit : ℕ) (begun seen newer : List (Event T)) (a : Answer T) → Later seen newer → IsRight n limit begun seen a → IsRight n limit begun newer a
   right_wider n limit begun seen newer (AnswerPut (Ok done)) l r = tt
-  right_wider n limit begun seen newer (AnswerPut (Err why)) l r = Sometime-wider (Later-refl begun) l r
+  right_wider n limit begun seen newer (AnswerPut (Err (PutFull v))) l r = Sometime-wider (Later-refl begun) l r
+  right_wider n limit begun seen newer (AnswerPut (Err (PutClosed v))) l r = Sometime-wider (Later-refl begun) l r
+  right_wider n limit begun seen newer (AnswerPut (Err (PutSpent v word t))) l r = Sometime-wider (Later-refl begun) l r
   right_wider n limit begun seen newer (AnswerTake (Ok done)) l r = tt
   right_wider n limit begun seen newer (AnswerTake (Err why)) l r = Sometime-wider (Later-refl begun) l r
   right_wider n limit begun seen newer (AnswerClose true) l r = tt

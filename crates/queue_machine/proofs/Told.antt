@@ -9,8 +9,8 @@ use Rattle.bounded_model.specs.declared.history.Event.{Event}
 use Rattle.bounded_model.specs.declared.history.Event.TheVariants.{Hold, Put, Take, Free, Close, Shut}
 use Rattle.bounded_model.specs.Machine.{with_hand, without_first}
 use Rattle.bounded_model.proofs.Hands.{with_hand-same, with_hand-other}
-use Rattle.step_core.specs.Words.{Tagged, raised, marked}
-use Rattle.step_core.proofs.Sums.{total_set, total_one, at_set}
+use Rattle.machine.specs.Words.{Tagged, raised, marked}
+use Rattle.machine.proofs.Sums.{total_set, total_one, at_set}
 use Rattle.queue_machine.specs.declared.lines.Line.{Line}
 use Rattle.queue_machine.specs.Machine.{Memory, held_cells, store_word, after_hold, after_free, after_link_of, after_close, after_take, after_shut}
 use Rattle.queue_machine.specs.Answers.{state}

@@ -4,7 +4,7 @@ use Rattle.bounded_model.specs.declared.history.Order.TheVariants.{Fifo}
 use Rattle.bounded_model.specs.declared.history.Event.{Event}
 use Rattle.bounded_model.specs.Machine as bounded
 use Rattle.bounded_model.specs.Justified as right
-use Rattle.step_core.specs.StackLaw.{refusal}
+use Rattle.bounded_model.specs.declared.answers.PutRefused.TheVariants.{Full, Closed, Spent}
 use Rattle.queue_machine.specs.declared.lines.Answer.{Answer}
 use Rattle.queue_machine.specs.declared.lines.Answer.TheVariants.{Put as AnswerPut, Take as AnswerTake, Close as AnswerClose, Shut as AnswerShut, Look as AnswerLook}
 
@@ -20,7 +20,9 @@ state n limit history = bounded.state (shape n limit) history
 -- where that is one that changes nothing
 abbrev pub IsRight : {T : Type 0} → ℕ → ℕ → List (Event T) → List (Event T) → Answer T → Type 0
 IsRight n limit begun seen (AnswerPut (Ok done)) = Unit {0}
-IsRight n limit begun seen (AnswerPut (Err why)) = right.Sometime begun seen (λ h. right.Justifies (shape n limit) h (refusal why))
+IsRight n limit begun seen (AnswerPut (Err (Full v))) = right.Sometime begun seen (λ h. right.Justifies (shape n limit) h right.PutFull)
+IsRight n limit begun seen (AnswerPut (Err (Closed v))) = right.Sometime begun seen (λ h. right.Justifies (shape n limit) h right.PutClosed)
+IsRight n limit begun seen (AnswerPut (Err (Spent v word t))) = right.Sometime begun seen (λ h. right.Justifies (shape n limit) h (right.PutSpent word t))
 IsRight n limit begun seen (AnswerTake (Ok done)) = Unit {0}
 IsRight n limit begun seen (AnswerTake (Err why)) = right.Sometime begun seen (λ h. right.Justifies (shape n limit) h (right.take_answer why))
 IsRight n limit begun seen (AnswerClose true) = Unit {0}

@@ -9,8 +9,8 @@ use Rattle.bounded_model.specs.declared.answers.TakeRefused.TheVariants.{Empty a
 use Rattle.bounded_model.specs.declared.history.Event.{Event}
 use Rattle.bounded_model.specs.declared.history.Event.TheVariants.{Hold, Put, Take, Free, Close, Shut}
 use Rattle.bounded_model.specs.Machine.{Shape}
-use Rattle.step_core.specs.Words.{Tagged, kept, raised, marked, with_second, same, store, start_word, start_link}
-use Rattle.step_core.specs.StackMachine.{with_home}
+use Rattle.machine.specs.Words.{Tagged, kept, raised, marked, with_second, same, store, start_word, start_link}
+use Rattle.machine.specs.Chains.{with_home}
 use Rattle.queue_machine.specs.declared.lines.Placing.{Placing}
 use Rattle.queue_machine.specs.declared.lines.Linking.{Linking}
 use Rattle.queue_machine.specs.declared.lines.Seeking.{Seeking}

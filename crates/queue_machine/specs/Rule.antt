@@ -7,10 +7,9 @@ use Rattle.tagged_index.specs.declared.word.TheConstants.{NULL}
 use Rattle.bounded_model.specs.declared.history.Event.{Event}
 use Rattle.bounded_model.specs.Machine as bounded
 use Rattle.bounded_model.specs.Justified.{Sometime, IsFull, IsEmpty, IsClosed}
-use Rattle.step_core.specs.Words.{Tagged, times, total, Stands}
-use Rattle.step_core.specs.OneList.{ReadTop, ReadLink}
-use Rattle.step_core.specs.StackMachine.{last}
-use Rattle.step_core.specs.StackLaw.{HasValues}
+use Rattle.machine.specs.Words.{Tagged, times, total, Stands}
+use Rattle.machine.specs.OneList.{ReadTop, ReadLink}
+use Rattle.machine.specs.Chains.{last, HasValues}
 use Rattle.queue_machine.specs.declared.lines.Linking.{Linking}
 use Rattle.queue_machine.specs.declared.lines.Seeking.{Seeking}
 use Rattle.queue_machine.specs.declared.lines.Seeking.TheVariants.{ToLink, ToRefuse, ToClose}
