@@ -7,12 +7,12 @@ use Rattle.bounded_model.specs.declared.answers.Stepped.{Stepped}
 use Rattle.bounded_model.specs.declared.answers.Stepped.TheVariants.{Again, Done}
 use Rattle.bounded_model.specs.declared.answers.TakeRefused.{TakeRefused}
 use Rattle.bounded_model.specs.Laws.{TakeGives}
-use Rattle.step_core.specs.declared.stack.Answer.TheVariants.{Take as AnswerTake}
-use Rattle.step_core.specs.declared.stack.Giving.{Giving}
-use Rattle.step_core.specs.declared.stack.Taking.TheVariants.{One}
-use Rattle.step_core.specs.declared.stack.Line.{Line}
-use Rattle.step_core.specs.declared.stack.Line.TheVariants.{S1, S2, S3, G1, G2, G3}
-use Rattle.step_core.specs.StackMachine.{ends}
+use Rattle.stack_machine.specs.declared.lines.Answer.TheVariants.{Take as AnswerTake}
+use Rattle.stack_machine.specs.declared.lines.Giving.{Giving}
+use Rattle.stack_machine.specs.declared.lines.Taking.TheVariants.{One}
+use Rattle.stack_machine.specs.declared.lines.Line.{Line}
+use Rattle.stack_machine.specs.declared.lines.Line.TheVariants.{S1, S2, S3, G1, G2, G3}
+use Rattle.stack_machine.specs.Machine.{ends}
 use Rattle.treiber_stack.specs.Operations.{IsAt, IsLineOf, GoesOn, begun_in}
 use Rattle.treiber_stack.specs.Stack.{shape_of, pass_in, IsPassOf}
 use Rattle.treiber_stack.specs.declared.operation.Operation.TheVariants.{Take as TakeFirst}

@@ -12,9 +12,9 @@ use crate::rule::Stacked;
 use crate::stack::{Pass, Stack};
 use bounded_model::{PutRefused, Stepped, Word};
 use index_list::{move_out, put_in};
+use machine::View;
+use stack_machine::Line;
 use std::snapshot::Snapshot;
-use step_core::seats::View;
-use step_core::stack::Line;
 use tagged_index::{Limits, NULL, Tagged};
 
 /// A put that was begun.

@@ -11,8 +11,8 @@ use crate::rule::Stacked;
 use crate::stack::{Pass, Stack};
 use bounded_model::{Stepped, TakeRefused, Word};
 use index_list::move_out;
-use step_core::seats::View;
-use step_core::stack::Line;
+use machine::View;
+use stack_machine::Line;
 use tagged_index::{Limits, NULL, Tagged};
 
 /// A take that was begun.
