@@ -72,10 +72,11 @@ fn run<R: Env + Print + Clock + AllocGlobal + Threads + Wait + Sync>(
 fn main(rt: HostRuntime) -> ExitCode {
     match run(&rt) {
         Ok(()) => ExitCode::SUCCESS,
-        Err(BenchFault::Words(error)) if matches!(error.kind(), ErrorKind::DisplayHelp) => {
+        Err(BenchFault::Words(error)) => {
+            let is_help = matches!(error.kind(), ErrorKind::DisplayHelp);
             match error.print(&rt) {
-                Ok(()) => ExitCode::SUCCESS,
-                Err(_) => ExitCode::FAILURE,
+                Ok(()) if is_help => ExitCode::SUCCESS,
+                _ => ExitCode::FAILURE,
             }
         }
         Err(fault) => {
