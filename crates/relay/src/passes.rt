@@ -75,6 +75,17 @@ pub(crate) fn split_takers<C: Container<Message>>(
     Some(takers)
 }
 
+// The messages as a list. The memory of a list without messages is given back.
+fn list_of(unsent: VecDeque<Message>) -> Vec<Message>
+    ensures { result.items ≡ unsent.items }
+{
+    let mut list = Vec::from(unsent);
+    if list.is_empty() {
+        list.shrink_to_fit();
+    }
+    list
+}
+
 /// Takes the producers' passes back; answers what each did not put.
 pub(crate) fn join_senders<C: Container<Message>>(
     container: &C,
@@ -97,7 +108,7 @@ pub(crate) fn join_senders<C: Container<Message>>(
             end: _,
         } = one;
         container.join(root, pass);
-        lists.push_reserved(Vec::from(unsent));
+        lists.push_reserved(list_of(unsent));
     }
     lists
 }

@@ -1,4 +1,5 @@
 //! A stack as a container. A whole call makes an operation's steps until it answers.
+use crate::pause::Pause;
 use crate::rest::Rest;
 use crate::rule::{Cuts, Makes};
 use crate::stack::{Pass, Root, Stack};
@@ -56,9 +57,15 @@ impl<T: Drop + Send> Container<T> for Stack<T> {
 
     fn put<R: Wait>(&self, rt: &R, by: Pass<T>, value: T) -> (Pass<T>, Result<u64, PutRefused<T>>) {
         let mut op = self.begin_put(by, value);
+        let mut pause = Pause::new();
         for _ in rt.forever() {
-            match op.step(self) {
-                Stepped::Again(next) => op = next,
+            match op.run(self) {
+                Stepped::Again(next) => {
+                    if next.is_retry() {
+                        pause.wait();
+                    }
+                    op = next;
+                }
                 Stepped::Done(pass, answer) => return (pass, answer),
             }
         }
@@ -67,9 +74,15 @@ impl<T: Drop + Send> Container<T> for Stack<T> {
 
     fn take<R: Wait>(&self, rt: &R, by: Pass<T>) -> (Pass<T>, Result<(T, u64), TakeRefused>) {
         let mut op = self.begin_take(by);
+        let mut pause = Pause::new();
         for _ in rt.forever() {
-            match op.step(self) {
-                Stepped::Again(next) => op = next,
+            match op.run(self) {
+                Stepped::Again(next) => {
+                    if next.is_retry() {
+                        pause.wait();
+                    }
+                    op = next;
+                }
                 Stepped::Done(pass, answer) => return (pass, answer),
             }
         }

@@ -13,5 +13,5 @@ loop-one-preserved g c =
       root = c.join.ensures.root;
       passes = All-rest (λ w. C.is_pass c.args.container.now w.pass) c.in-Some.one _ _ steps.0 old.passes;
       room = omega (arith, steps.1, pushed.len, pushed.capacity, old.room);
-      joining = rw pushed.items (Joining_more _ _ _ _ c.in-Some.one _ _ _ _ _ (rw steps.0 at old.joining) c.from.ensures.0 c.join.ensures.gives);
+      joining = rw pushed.items (Joining_more _ _ _ _ c.in-Some.one _ _ _ _ _ (rw steps.0 at old.joining) c.list_of.ensures c.join.ensures.gives);
     }

@@ -1,0 +1,15 @@
+//! The layer between a pure machine and a table of atomic words, written once for all containers: what
+//! access each line of the machine makes, how a step of it is made on the table, and what that tells
+//! the pass. A container shows its machine (`Machine`), where its lists lie (`ListMachine`), and makes
+//! its operations of the step functions here.
+#![tactic(auto)]
+
+mod lists;
+mod rule;
+mod seats;
+mod steps;
+
+pub use lists::{ListMachine, take_first};
+pub use rule::{Machine, Running};
+pub use seats::{join, look, split};
+pub use steps::{give_step, load_step, load_tagged_step, store_step, swap_step, take_step};
