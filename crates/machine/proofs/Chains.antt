@@ -136,3 +136,15 @@ module _ {T : Type 0} where
   values_length home (i ∷ is) (v ∷ vs) x = ap suc (values_length home is vs x.1)
   values_length home [] (v ∷ vs) x = absurd x
   values_length home (i ∷ is) [] x = absurd x
+
+-- the value of the first slot, and the others without it
+pub record First {T : Type 0} (home : ℕ → Option (Slot T)) (i : ℕ) (rest : List ℕ) (values : List T) : Type 0 where
+  pub value : T
+  pub left : List T
+  pub here : home i ≡ some (Some value)
+  pub is : values ≡ value ∷ left
+  pub stored : HasValues home rest left
+
+pub first_value : {T : Type 0} (home : ℕ → Option (Slot T)) (i : ℕ) (rest : List ℕ) (values : List T) → HasValues home (i ∷ rest) values → First home i rest values
+first_value home i rest [] h = absurd h
+first_value home i rest (v ∷ vs) h = record { value = v; left = vs; here = h.0; is = refl; stored = h.1 }

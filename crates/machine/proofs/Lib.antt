@@ -8,3 +8,4 @@ pub mod Hands
 pub mod Seating
 pub mod SeatedEnds
 pub mod SeatedCalls
+pub mod Ahead

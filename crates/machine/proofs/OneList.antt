@@ -1,6 +1,6 @@
 -- One list: what a load of its top tells, what the winner of an exchange knows, and what others go
 -- on to rely on. None of it knows a machine.
-use Rattle.std.proofs.Common.{◌≡◌, ℕ, ◌<◌, ◌≢◌, List, [], ◌∷◌, sym, ap, ◌∙◌, arith}
+use Rattle.std.proofs.Common.{◌≡◌, ℕ, ◌<◌, ◌≢◌, List, [], ◌∷◌, refl, sym, ap, ◌∙◌, arith}
 use Rattle.tagged_index.specs.declared.word.TheConstants.{NULL}
 use Rattle.machine.specs.Words.{Tagged, times, Leads, Stands}
 use Rattle.machine.specs.OneList.{ReadTop, ReadLink, Later}
@@ -53,3 +53,8 @@ ready limit top link list w k s won r at =
     let t : w.tag ≡ top.tag = ap (λ (x : Tagged). x.tag) (sym won) in
     let f = front link w.index list NULL (r.there t) (leads_from link top.index w.index list NULL (ap (λ (y : Tagged). y.index) won) s) in
     record { rest = f.rest; is = f.is; stands = leads_from link (link w.index) k f.rest NULL (at t) f.leads }
+
+-- a list whose first index is null is empty
+pub none_there : (link : ℕ → ℕ) (x : ℕ) (list : List ℕ) → x ≡ NULL → times NULL list ≡ 0 → Stands link x list → list ≡ []
+none_there link x [] e never s = refl
+none_there link x (i ∷ is) e never s = absurd (omega (arith, ap (λ (k : ℕ). times NULL (k ∷ is)) (sym s.0 ∙ e), times_here NULL is))

@@ -4,6 +4,7 @@ use Rattle.bounded_model.specs.declared.history.Event.{Event}
 use Rattle.bounded_model.specs.declared.views.RootView.{RootView}
 use Rattle.bounded_model.specs.Machine.{Shape, state, Legal}
 use Rattle.bounded_model.specs.Laws.{IsSound, Leaves}
+use Rattle.bounded_model.proofs.Histories.{known_from_own}
 use Rattle.bounded_model.proofs.Whole.{whole}
 use Rattle.machine.specs.Seats.{Rooted}
 
@@ -12,6 +13,8 @@ leaves c h r heard legal f sound = record {
   history = h;
   legal = legal;
   begins = f.seen;
+  joined = f.joined;
+  given = known_from_own r.given h f.unknown;
   whole = λ nobody. whole c h r f.seen sound nobody f.joined f.unknown;
   values = refl;
 }

@@ -1,6 +1,7 @@
 -- Tests of the machines, and what each outcome tells.
 use Rattle.std.proofs.Common.{◌≡◌, ◌≤◌, ℕ, ◌&&◌, ◌||◌, Bool, true, false, cond, eqb, ltb, refl, sym, eqb-true, eq-eqb, arith}
 use Rattle.std.proofs.lemmas.Bool.{false≢true}
+use Rattle.std.proofs.lemmas.Bool.Decides.{nat_tests}
 use Rattle.machine.specs.Words.{Tagged, same_mark, same}
 
 -- a choice has what both of its values have
@@ -44,3 +45,6 @@ same-self a = rw (eq-eqb a.index a.index refl, same_mark-self a.mark, same_mark-
 
 pub at_most_one : (i n : ℕ) → cond (ltb i n) 1 0 ≤ 1
 at_most_one i n = grind arith
+
+pub not_below : (i n : ℕ) → n ≤ i → cond (ltb i n) 1 0 ≤ 0
+not_below i n h = cases (λ x. x ≤ 0) (ltb i n) 1 0 (λ b. absurd (grind (arith, nat_tests))) (λ b. omega arith)

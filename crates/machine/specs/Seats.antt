@@ -1,6 +1,6 @@
 -- What the seats of a container know together: each pass's events are known to one seat, and no pass
 -- is known to two.
-use Rattle.std.specs.Prelude.{◌≡◌, ◌≢◌, ℕ, ◌+◌, ◌<◌, ◌≤◌, ◌⊎◌, List, [], ◌∷◌}
+use Rattle.std.specs.Prelude.{◌≡◌, ◌≢◌, ℕ, ◌+◌, ◌<◌, ◌≤◌, ◌⊎◌, List, [], ◌∷◌, map}
 use Rattle.std.specs.List.{AllByRecursion as Every}
 use mathlib.Core.Option.{some}
 use lib.ListN.{get_elem?}
@@ -8,15 +8,14 @@ use Rattle.bounded_model.specs.declared.history.Event.{Event}
 use Rattle.bounded_model.specs.declared.views.PassView.{PassView}
 use Rattle.bounded_model.specs.declared.views.RootView.{RootView}
 use Rattle.bounded_model.specs.Machine.{Shape, state, Legal}
-use Rattle.bounded_model.specs.Histories.{own, Later}
+use Rattle.bounded_model.specs.Histories.{Among, own, Later}
 use Rattle.bounded_model.specs.Laws.{Apart, IsSound, Adds, Meets, fresh}
 use Rattle.machine.specs.declared.seats.View.{View}
 use Rattle.machine.specs.declared.seats.View.TheVariants.{AtRoot, AtPass, AtMeeting, Left}
 
 -- number x stands in an account
 abbrev pub IsJoined : {A : Type 0} → ℕ → List (ℕ × A) → Type 0
-IsJoined x [] = ⊥
-IsJoined x (a ∷ rest) = (x ≡ a.0) ⊎ IsJoined x rest
+IsJoined x account = Among x (map (λ a. a.0) account)
 
 -- the numbers that a seat answers for: the root for those of joined passes and those not given yet, a
 -- pass for its own, two that meet for both

@@ -7,7 +7,7 @@ use Rattle.bounded_model.specs.declared.answers.Word.TheVariants.{Free as FreeWo
 use Rattle.bounded_model.specs.declared.history.Event.{Event}
 use Rattle.bounded_model.specs.declared.history.Event.TheVariants.{Hold, Put, Take, TakeAll, Free, Close, Shut}
 use Rattle.bounded_model.specs.Machine.{Legal, without_first}
-use Rattle.bounded_model.specs.Justified.{IsEmpty, IsOpen, IsClosed, IsUnshut, IsShut, IsFull, IsAtLimit, IsWorn}
+use Rattle.bounded_model.specs.Justified.{IsEmpty, IsOpen, IsClosed, IsUnshut, IsShut, IsFull, Justifies, PutSpent}
 use Rattle.machine.specs.Words.{times, Stands}
 use Rattle.stack_machine.specs.declared.lines.Line.{Line}
 use Rattle.stack_machine.specs.Machine.{Memory}
@@ -75,8 +75,8 @@ module _ {T : Type 0} {n limit : ℕ} {m : Memory T} {g : Lists} {who : ℕ → 
   pub unshut_now : m.top.second ≡ false → IsUnshut (shape n limit) history
   unshut_now e = sym x.told.shut ∙ e
 
-  pub free_spent_now : limit ≤ m.free.tag → IsAtLimit (shape n limit) history FreeWord m.free.tag × IsWorn (shape n limit) history
-  free_spent_now h = ((omega (arith, x.told.free_limit), sym x.told.free_tag), omega (arith, x.told.free_tag))
+  pub free_spent_now : limit ≤ m.free.tag → Justifies (shape n limit) history (PutSpent FreeWord m.free.tag)
+  free_spent_now h = ((tt, (omega (arith, x.told.free_limit), sym x.told.free_tag)), omega (arith, x.told.free_tag))
 
-  pub top_spent_now : limit ≤ m.top.tag → IsAtLimit (shape n limit) history TopWord m.top.tag × IsWorn (shape n limit) history
-  top_spent_now h = ((omega (arith, x.told.top_limit), sym x.told.top_tag), omega (arith, x.told.top_tag, x.told.spare, turns_legal n limit history x.told.legal))
+  pub top_spent_now : limit ≤ m.top.tag → Justifies (shape n limit) history (PutSpent TopWord m.top.tag)
+  top_spent_now h = ((tt, (omega (arith, x.told.top_limit), sym x.told.top_tag)), omega (arith, x.told.top_tag, x.told.spare, turns_legal n limit history x.told.legal))

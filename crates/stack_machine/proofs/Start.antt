@@ -56,6 +56,6 @@ module _ {T : Type 0} where
       let nodes = all_nodes q l m.top x e refl in
       record {
         full = λ null. full_now x null;
-        spent = λ least. let at = free_spent_now x least in at.0.1 ∙ at.0.0;
+        spent = λ least. let at = free_spent_now x least in at.0.1.1 ∙ at.0.1.0;
         valued = ap (λ (is : List ℕ). length (values_in m.home is)) nodes ∙ ap length (all_values x) ∙ sym x.told.listed ∙ sym (ap length nodes);
       }

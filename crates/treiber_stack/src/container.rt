@@ -3,11 +3,8 @@ use crate::pause::Pause;
 use crate::rest::Rest;
 use crate::rule::{Cuts, Makes};
 use crate::stack::{Pass, Root, Stack};
-use bounded_model::{Container, Order, PutRefused, Stepped, TakeRefused};
+use bounded_model::{Container, MAX_PASSES, Order, PutRefused, Stepped, TakeRefused};
 use std::sync::Wait;
-
-/// The most passes that may be out at once.
-const MAX_PASSES: u32 = 65_535;
 
 impl<T: Drop + Send> Container<T> for Stack<T> {
     ghost use Rattle.std.proofs.Common.{refl};
