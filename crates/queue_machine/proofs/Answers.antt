@@ -10,7 +10,7 @@ use Rattle.bounded_model.specs.declared.history.Event.TheVariants.{Hold, Put, Ta
 use Rattle.bounded_model.specs.Machine.{Shape, Legal}
 use Rattle.bounded_model.specs.Machine as bounded
 use Rattle.bounded_model.specs.Histories.{Later}
-use Rattle.bounded_model.specs.Justified.{IsClosed, IsUnshut, IsShut, IsFull, IsAtLimit, IsWorn}
+use Rattle.bounded_model.specs.Justified.{IsClosed, IsUnshut, IsShut, IsFull, Justifies, PutSpent}
 use Rattle.bounded_model.proofs.Histories.{is_nil}
 use Rattle.bounded_model.proofs.Staying.{closed_stays}
 use Rattle.machine.specs.Words.{Tagged, times, Stands}
@@ -68,12 +68,12 @@ module _ {T : Type 0} {n limit : ℕ} {m : Memory T} {g : Lists} {who : ℕ → 
       let no : g.cells ≡ [] = none_there m.clink m.cells.index g.cells e (omega (arith, no_null x.linked)) x.linked.cells_stand in
       omega (arith, x.told.room, x.told.listed, ap length no)
 
-  pub cells_spent_now : limit ≤ m.cells.tag → IsAtLimit (shape n limit) history CellsWord m.cells.tag × IsWorn (shape n limit) history
-  cells_spent_now h = ((omega (arith, x.numbered.cells_limit), sym x.told.cells_tag), omega (arith, x.told.cells_tag))
+  pub cells_spent_now : limit ≤ m.cells.tag → Justifies (shape n limit) history (PutSpent CellsWord m.cells.tag)
+  cells_spent_now h = ((tt, (omega (arith, x.numbered.cells_limit), sym x.told.cells_tag)), omega (arith, x.told.cells_tag))
 
   -- a link's tag near the limit means many nodes taken, and as many cells
-  pub next_spent_now : (j : ℕ) → HasRoom limit m g j → limit ≤ (m.next j).tag + 1 → IsAtLimit (shape n limit) history (NextWord j) (m.next j).tag × IsWorn (shape n limit) history
-  next_spent_now j room h = (omega arith, omega (arith, room, h, x.numbered.nodes_tag, x.told.cells_tag))
+  pub next_spent_now : (j : ℕ) → HasRoom limit m g j → limit ≤ (m.next j).tag + 1 → Justifies (shape n limit) history (PutSpent (NextWord j) (m.next j).tag)
+  next_spent_now j room h = ((tt, omega arith), omega (arith, room, h, x.numbered.nodes_tag, x.told.cells_tag))
 
   -- a pass that has a cell and wants a node finds one, whose top's tag is below the limit
   pub node_there : (q : ℕ) (put : Placing T) → get_elem? lines q ≡ some (LoadNodes put) → m.nodes.index ≢ NULL

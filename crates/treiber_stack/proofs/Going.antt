@@ -21,7 +21,7 @@ use Rattle.machine.specs.Seats.{Saw, at_rest, stepped, pass_of, line_of}
 use Rattle.stack_machine.proofs.Doing.{meanwhile}
 use Rattle.treiber_stack.specs.declared.operation.Operation.{Operation}
 use Rattle.treiber_stack.specs.declared.operation.Listed.TheVariants.{End, More'}
-use Rattle.treiber_stack.specs.declared.operation.Operation.TheVariants.{Put as PutFirst, Take as TakeFirst, Close as CloseFirst, Shut as ShutFirst, Look as LookFirst, Fold as FoldFirst, Range as RangeFirst}
+use Rattle.treiber_stack.specs.declared.operation.Operation.TheVariants.{Put as PutFirst, Take as TakeFirst, Close as CloseFirst, Shut as ShutFirst, Look as LookFirst, Fold as FoldFirst, Range as RangeFirst, Underway}
 use Rattle.treiber_stack.specs.Rule.{idle, holding, Meets}
 use Rattle.treiber_stack.specs.Host.{first_line, line_now, begun_now, quiet, view_after, Did}
 use Rattle.treiber_stack.specs.Operations.{Going, Ended, IsLine, Goes, Ends, begun_view}
@@ -190,6 +190,7 @@ module _ {T : Type 0} where
       first_deeds CloseFirst = record { between = []; is = refl; made = refl; all = tt }
       first_deeds ShutFirst = record { between = []; is = refl; made = refl; all = tt }
       first_deeds LookFirst = record { between = []; is = refl; made = refl; all = tt }
+      first_deeds Underway = record { between = []; is = refl; made = refl; all = tt }
       first_deeds (FoldFirst front) = record { between = []; is = refl; made = refl; all = tt }
       first_deeds (RangeFirst End) = record { between = []; is = refl; made = refl; all = tt }
       first_deeds (RangeFirst (More' x marker others)) = record { between = []; is = refl; made = refl; all = tt }
@@ -200,6 +201,7 @@ module _ {T : Type 0} where
       first_tells CloseFirst = tt
       first_tells ShutFirst = tt
       first_tells LookFirst = tt
+      first_tells Underway = tt
       first_tells (FoldFirst front) = tt
       first_tells (RangeFirst End) = tt
       first_tells (RangeFirst (More' x marker others)) = tt

@@ -6,7 +6,7 @@ use Rattle.bounded_model.specs.declared.answers.Stepped.TheVariants.{Again, Done
 use Rattle.bounded_model.specs.Laws.{CloseGives, ShutGives}
 use Rattle.stack_machine.specs.declared.lines.Answer.TheVariants.{Close as AnswerClose, Shut as AnswerShut}
 use Rattle.stack_machine.specs.declared.lines.Line.{Line}
-use Rattle.stack_machine.specs.declared.lines.Line.TheVariants.{Z1, Z2, Y1, Y2}
+use Rattle.stack_machine.specs.declared.lines.Line.TheVariants.{LoadTopToClose, MarkTop, LoadTopToShut, ShutTop}
 use Rattle.stack_machine.specs.Machine.{ends}
 use Rattle.treiber_stack.specs.Operations.{IsAt, IsLineOf, GoesOn, begun_in}
 use Rattle.treiber_stack.specs.Stack.{shape_of, pass_in, IsPassOf}
@@ -17,14 +17,14 @@ use Rattle.treiber_stack.specs.declared.stack.Stack.{Stack}
 use Rattle.treiber_stack.specs.declared.stack.Pass.{Pass}
 
 module _ {T : Type 0} where
-  -- `Z1` until the top has been read, then `Z2`; and `Y1`, `Y2`
+  -- `LoadTopToClose` until the top has been read, then `MarkTop`; and `LoadTopToShut`, `ShutTop`
   abbrev pub close_line : Slot ℕ → Line T
-  close_line None = Z1
-  close_line (Some w) = Z2 (fields_of w)
+  close_line None = LoadTopToClose
+  close_line (Some w) = MarkTop (fields_of w)
 
   abbrev pub shut_line : Slot ℕ → Line T
-  shut_line None = Y1
-  shut_line (Some w) = Y2 (fields_of w)
+  shut_line None = LoadTopToShut
+  shut_line (Some w) = ShutTop (fields_of w)
 
   abbrev pub IsClosing : Stack T → CloseOp T → Type 0
   IsClosing c op = IsAt c CloseFirst op.pass (close_line op.seen) []

@@ -4,7 +4,7 @@ ghost use Rattle.bounded_model.specs.Laws.{LookGives};
 ghost use Rattle.treiber_stack.specs.Closing.{IsClosing, IsShutting, CloseStep, ShutStep, CloseRun, ShutRun};
 ghost use Rattle.stack_machine.specs.Machine.{ends};
 ghost use Rattle.stack_machine.specs.declared.lines.Answer.TheVariants.{Look as Looked};
-ghost use Rattle.stack_machine.specs.declared.lines.Line.TheVariants.{V1};
+ghost use Rattle.stack_machine.specs.declared.lines.Line.TheVariants.{LoadTopToLook};
 ghost use Rattle.treiber_stack.specs.Operations.{begun_in, IsLineOf};
 ghost use Rattle.treiber_stack.specs.Stack.{shape_of, IsPassOf, pass_in};
 
@@ -61,7 +61,7 @@ impl<T> Stack<T> {
         requires { IsPassOf self.now by }
         ensures of { IsPassOf self.now result.0 }
         ensures gives { LookGives (shape_of self.now) (pass_in by) (pass_in result.0) result.1 }
-        ensures line { IsLineOf self.now by result.0 V1 (ends (Looked result.1)) }
+        ensures line { IsLineOf self.now by result.0 LoadTopToLook (ends (Looked result.1)) }
     {
         let mut pass = by;
         let top = self.load(&mut pass, TOP, &Operation::Look);

@@ -109,7 +109,7 @@ impl<T> Stack<T> {
                     count,
                 } = walked;
                 let number = top.tag();
-                let pass = self.give_back(rt, pass, chain, &Operation::Fold(Front::First));
+                let pass = self.give_back(rt, pass, chain, &Operation::Underway);
                 (pass, state, Ok(Folded { number, count }))
             }
         }
@@ -167,7 +167,7 @@ impl<T> Stack<T> {
             if let Some(why) = self.refused(top) {
                 return (pass, Err(why));
             }
-            if self.take_nodes(&mut pass, top, front, &Operation::Fold(Front::First)) {
+            if self.take_nodes(&mut pass, top, front, &Operation::Underway) {
                 return (pass, Ok(top));
             }
             pause.wait();
@@ -195,8 +195,8 @@ impl<T> Stack<T> {
         let mut above = NULL;
         let mut index = top.index();
         for _ in 0..self.limits.capacity() {
-            let below = self.load_next(&mut pass, TOP, index, &Operation::Fold(Front::First));
-            self.link_to(&mut pass, TOP, index, above, &Operation::Fold(Front::First));
+            let below = self.load_next(&mut pass, TOP, index, &Operation::Underway);
+            self.link_to(&mut pass, TOP, index, above, &Operation::Underway);
             if below == NULL {
                 return (pass, index);
             }
@@ -244,7 +244,7 @@ impl<T> Stack<T> {
         for before in 0..self.limits.capacity() {
             let value = self.take_out(&mut pass, index);
             folded = f(folded, value);
-            let next = self.load_next(&mut pass, TOP, index, &Operation::Fold(Front::First));
+            let next = self.load_next(&mut pass, TOP, index, &Operation::Underway);
             if next == NULL {
                 return Walked {
                     pass,

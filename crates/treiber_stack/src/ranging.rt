@@ -101,7 +101,7 @@ impl<T> Stack<T> {
             ),
             Err(why) => {
                 let pass = self.restore(pass, held, values);
-                let pass = self.give_back(rt, pass, held.chain, &Operation::Look);
+                let pass = self.give_back(rt, pass, held.chain, &Operation::Underway);
                 (pass, Err(why))
             }
         }
@@ -226,7 +226,7 @@ impl<T> Stack<T> {
         match why {
             NoNode::Spent(tag) => (pass, RangeRefused::Spent(Word::Free, tag)),
             NoNode::NoneFree => {
-                let top = self.load(&mut pass, TOP, &Operation::Look);
+                let top = self.load(&mut pass, TOP, &Operation::Underway);
                 if top.is_marked() {
                     return (pass, RangeRefused::Closed);
                 }
@@ -253,7 +253,7 @@ impl<T> Stack<T> {
         let mut pass = by;
         let mut pause = Pause::new();
         for _ in rt.forever() {
-            let top = self.load(&mut pass, TOP, &Operation::Look);
+            let top = self.load(&mut pass, TOP, &Operation::Underway);
             if top.is_marked() {
                 return (pass, Err(RangeRefused::Closed));
             }
@@ -266,9 +266,9 @@ impl<T> Stack<T> {
                 TOP,
                 held.chain.last,
                 top.index(),
-                &Operation::Look,
+                &Operation::Underway,
             );
-            if self.put_nodes(&mut pass, top, held.chain.first, &Operation::Look) {
+            if self.put_nodes(&mut pass, top, held.chain.first, &Operation::Underway) {
                 return (pass, Ok(tag));
             }
             pause.wait();
