@@ -22,8 +22,6 @@ mod program;
 mod relay_main;
 #[cfg(test)]
 mod relay_main_tests;
-#[cfg(test)]
-mod relay_tests;
 mod replay;
 #[cfg(test)]
 mod tests;

@@ -15,6 +15,7 @@ ghost use Rattle.treiber_stack.specs.Folding.{FoldsAll, AllowsTake, RefusesTake,
 
 use crate::layout::{FREE, TOP};
 use crate::operation::Operation;
+use crate::pause::Pause;
 use crate::rule::Stacked;
 use crate::stack::{Pass, Stack};
 use bounded_model::{TakeRefused, Word};
@@ -160,6 +161,7 @@ impl<T> Stack<T> {
         ensures { TakesChain self.now front by result.0 result.1 }
     {
         let mut pass = by;
+        let mut pause = Pause::new();
         for _ in rt.forever() {
             let top = self.load_whole(&mut pass, front);
             if let Some(why) = self.refused(top) {
@@ -168,6 +170,7 @@ impl<T> Stack<T> {
             if self.take_nodes(&mut pass, top, front, &Operation::Underway) {
                 return (pass, Ok(top));
             }
+            pause.wait();
         }
         unreachable!()
     }
@@ -267,12 +270,14 @@ impl<T> Stack<T> {
         ensures { GaveBack self.now operation.now by chain result }
     {
         let mut pass = by;
+        let mut pause = Pause::new();
         for _ in rt.forever() {
             let free = self.load(&mut pass, FREE, operation);
             self.link_to(&mut pass, FREE, chain.last, free.index(), operation);
             if self.give_nodes(&mut pass, free, chain.first, operation) {
                 return pass;
             }
+            pause.wait();
         }
         unreachable!()
     }

@@ -1,8 +1,9 @@
+-- What is left may go to another thread.
 use denote.Param.Send.{IsSend, sendable}
 use Rattle.std.proofs.Crossing.{Vec-send}
 use Rattle.relay.specs.contracts.messages.Message as message
 use Rattle.treiber_stack.proofs.Crossing.{rest_send}
-use Rattle.lockfree_tool.proofs.relay_tests.relay_over.Goals as goal
+use Rattle.relay_tests.proofs.kinds.through_a_stack.Goals as goal
 
 message_send : IsSend message.the_row
 message_send = search (sendable, Vec-send) depth 20

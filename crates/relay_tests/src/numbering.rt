@@ -1,6 +1,6 @@
-//! What no clause says: that a call succeeds.
+//! Which inputs are numbered.
 
-use crate::{FreeGate, Gate, Message, numbered};
+use relay::{FreeGate, Gate, Message, numbered};
 use std::alloc::AllocError;
 
 #[test]
