@@ -1,4 +1,5 @@
 pub mod Messages
+pub mod Merge
 pub mod KeepsMessages
 pub mod Workers
 pub mod Parts
