@@ -58,12 +58,12 @@ fn take_greatest(lists: &mut Vec<Vec<Taken>>) -> Option<Taken>
     taken
 }
 
-// The list; where it fills less than half of its memory, the rest is given back.
+// The list; memory that has become free is given back, an eighth of it at a time.
 fn shrunk(list: Vec<Taken>) -> Vec<Taken>
     ensures { result.items ≡ list.items }
 {
     let mut list = list;
-    if list.len() < list.capacity() / 2 {
+    if list.len() < list.capacity() / 8 * 7 {
         list.shrink_to_fit();
     }
     list
