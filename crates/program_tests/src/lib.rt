@@ -1,0 +1,11 @@
+//! Tests of the program's crates from outside: what no clause says.
+#![tactic(auto)]
+
+#[cfg(test)]
+mod relay_main_tests;
+#[cfg(test)]
+mod relay_tests;
+#[cfg(test)]
+mod replay_tests;
+#[cfg(test)]
+mod words_tests;
