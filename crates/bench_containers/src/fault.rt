@@ -7,8 +7,13 @@ use thiserror::Error;
 
 #[derive(Debug, Drop, Error)]
 pub enum BenchFault {
-    #[error("wanted: no words, or CONTAINER CAPACITY PRODUCERS CONSUMERS ITEMS")]
-    Words,
+    /// The words ask for help, or are not understood: this error's text says which.
+    #[error("{0}")]
+    Words(clap::Error),
+    #[error("a value is out of its range")]
+    Range,
+    #[error("there is no queue yet")]
+    NoQueue,
     #[error("no memory")]
     NoMemory,
     #[error("no pass")]
@@ -17,6 +22,12 @@ pub enum BenchFault {
     NoThread,
     #[error("no clock, or output failed")]
     System(#[from] io::Error),
+}
+
+impl From<clap::Error> for BenchFault {
+    fn from(error: clap::Error) -> BenchFault {
+        BenchFault::Words(error)
+    }
 }
 
 impl From<AllocError> for BenchFault {

@@ -1,7 +1,9 @@
 //! What one run of the benchmark is given.
 
-ghost use Rattle.std.specs.Prelude.{◌≡◌, ◌<◌, ◌⊎◌, ◌*◌, IfSome, max};
+ghost use Rattle.std.specs.Prelude.{◌≡◌, ◌<◌, ◌⊎◌, ◌*◌, IfOk, IfSome, max};
 
+use crate::fault::BenchFault;
+use clap::ArgMatches;
 use tagged_index::Limits;
 
 /// The largest tag: no run meets a limit.
@@ -11,6 +13,22 @@ const TAG_LIMIT: u64 = (1 << 42) - 1;
 #[derive(Clone, Copy)]
 pub enum Kind {
     Stack,
+}
+
+impl Kind {
+    /// The container of this name.
+    pub fn of(name: &str) -> Result<Kind, BenchFault> {
+        match name {
+            "stack" => Ok(Kind::Stack),
+            _ => Err(BenchFault::NoQueue),
+        }
+    }
+
+    pub fn name(self) -> &'static str {
+        match self {
+            Kind::Stack => "stack",
+        }
+    }
 }
 
 /// How many items go through which container, and by how many threads.
@@ -27,11 +45,13 @@ pub struct Load {
 }
 
 impl Load {
-    /// A short run.
-    pub fn short() -> Option<Load> {
-        let limits = Limits::of(8, TAG_LIMIT)?;
-        Some(Load {
-            kind: Kind::Stack,
+    /// A short run, with more items than room.
+    pub fn short(kind: Kind) -> Result<Load, BenchFault>
+        ensures { IfOk result (λ l. l.producers ≡ 0 ⊎ 0 < l.consumers) }
+    {
+        let limits = Limits::of(8, TAG_LIMIT).ok_or(BenchFault::Range)?;
+        Ok(Load {
+            kind,
             limits,
             producers: 2,
             consumers: 2,
@@ -39,22 +59,22 @@ impl Load {
         })
     }
 
-    /// The container, its capacity, producers, consumers, and the items of each producer. `None`
-    /// where a word is missing, is one too many, or is not in its range.
-    pub fn of(words: &[String]) -> Option<Load>
+    /// What these words ask for. `NoQueue` for a queue, `Range` where a value is not in its range.
+    pub fn of(found: &ArgMatches<'_>) -> Result<Load, BenchFault>
+        ensures { IfOk result (λ l. l.producers ≡ 0 ⊎ 0 < l.consumers) }
+    {
+        let kind = Kind::of(found.get_str("kind").unwrap_or("stack"))?;
+        Load::sized(kind, found).ok_or(BenchFault::Range)
+    }
+
+    // A run through this container. `None` where a value is not in its range.
+    fn sized(kind: Kind, found: &ArgMatches<'_>) -> Option<Load>
         ensures { IfSome result (λ l. l.producers ≡ 0 ⊎ 0 < l.consumers) }
     {
-        let [container, capacity, producers, consumers, items] = words else {
-            return None;
-        };
-        let kind = match container.as_str() {
-            "stack" => Kind::Stack,
-            _ => return None,
-        };
-        let limits = Limits::of(capacity.parse().ok()?, TAG_LIMIT)?;
-        let producers = producers.parse().ok()?;
-        let consumers = consumers.parse().ok()?;
-        let items = items.parse().ok()?;
+        let limits = Limits::of(found.get_one("capacity")?, TAG_LIMIT)?;
+        let producers = found.get_one("producers")?;
+        let consumers = found.get_one("consumers")?;
+        let items = found.get_one("items")?;
         if producers > 0 && consumers == 0 {
             return None;
         }

@@ -1,58 +1,84 @@
-//! Measures how long an item takes through a container, from its put to its take.
-//!
-//! `bench_containers CONTAINER CAPACITY PRODUCERS CONSUMERS ITEMS` prints nanoseconds per item:
-//! each producer puts ITEMS items, and the consumers take them all. With 0 producers one thread puts
-//! and takes in turn. Without words it makes a short run and prints no time.
+//! Measures how long an item takes through a container, from its put to its take, and how many
+//! come out in a second: each producer puts its items, and the consumers take them all. With no
+//! producer one thread puts and takes in turn. `--help` tells the words; without words it makes a
+//! short run and prints no time.
 #![tactic(auto)]
 
+mod command_line;
 mod fault;
 mod load;
-mod run;
+mod measure;
+mod pool;
+mod threads;
 mod work;
 
+use crate::command_line::command_line;
 use crate::fault::BenchFault;
-use crate::load::Load;
-use crate::run::run;
+use crate::load::{Kind, Load};
+use crate::measure::measure;
+use clap::error::ErrorKind;
 use std::env;
 use std::process::ExitCode;
 use std::rt::Env;
 use std::sync::Wait;
 use std::thread::Threads;
-use std::time::{Clock, Instant};
+use std::time::Clock;
 
-// A run of this load, and how many nanoseconds it took for each item.
-fn measured<R: Clock + AllocGlobal + Threads + Wait + Sync>(
+// A short run, whose output is always the same.
+fn try_out<R: Print + Clock + AllocGlobal + Threads + Wait + Sync>(
     rt: &R,
-    load: &Load,
-) -> Result<u128, BenchFault> {
-    let start = Instant::now(rt)?;
-    let taken = run(rt, rt.alloc(), load)?;
-    let spent = start.elapsed(rt)?.as_nanos();
-    Ok(spent / u128::from(taken.max(1)))
-}
-
-fn report<R: Env + Print + Clock + AllocGlobal + Threads + Wait + Sync>(
-    rt: &R,
+    kind: Kind,
 ) -> Result<(), BenchFault> {
-    let mut words = Vec::new(rt.alloc());
-    for word in env::args(rt)?.skip(1) {
-        words.push(word)?;
-    }
-    if words.is_empty() {
-        let load = Load::short().ok_or(BenchFault::Words)?;
-        let taken = run(rt, rt.alloc(), &load)?;
-        println!(rt; "stack: {taken} of {} items taken", load.total())?;
-        return Ok(());
-    }
-    let load = Load::of(words.as_slice()).ok_or(BenchFault::Words)?;
-    let nanoseconds = measured(rt, &load)?;
-    println!(rt; "{nanoseconds} ns per item")?;
+    let load = Load::short(kind)?;
+    let measured = measure(rt, rt.alloc(), &load)?;
+    println!(rt;
+        "{}: {} of {} items taken",
+        kind.name(),
+        measured.taken,
+        load.total()
+    )?;
     Ok(())
 }
 
+// A run of this load, and its figures.
+fn report<R: Print + Clock + AllocGlobal + Threads + Wait + Sync>(
+    rt: &R,
+    load: &Load,
+) -> Result<(), BenchFault> {
+    let measured = measure(rt, rt.alloc(), load)?;
+    let tenths = measured.tenths_per_item();
+    println!(rt; "items taken: {}", measured.taken)?;
+    println!(rt; "items per second: {}", measured.items_per_second())?;
+    println!(rt; "nanoseconds per item: {}.{}", tenths / 10, tenths % 10)?;
+    Ok(())
+}
+
+// Does what the words of the command line ask for.
+fn run<R: Env + Print + Clock + AllocGlobal + Threads + Wait + Sync>(
+    rt: &R,
+) -> Result<(), BenchFault> {
+    let words: Vec<String> = env::args(rt)?.collect(rt.alloc())?;
+    if words.len() < 2 {
+        return try_out(rt, Kind::Stack);
+    }
+    let mut texts = Vec::new(rt.alloc());
+    for word in &words {
+        texts.push(word.as_str())?;
+    }
+    let found = command_line(rt.alloc())?.try_get_matches_from(texts.as_slice())?;
+    report(rt, &Load::of(&found)?)
+}
+
 fn main(rt: HostRuntime) -> ExitCode {
-    match report(&rt) {
+    match run(&rt) {
         Ok(()) => ExitCode::SUCCESS,
+        Err(BenchFault::Words(error)) => {
+            let is_help = matches!(error.kind(), ErrorKind::DisplayHelp);
+            match error.print(&rt) {
+                Ok(()) if is_help => ExitCode::SUCCESS,
+                _ => ExitCode::FAILURE,
+            }
+        }
         Err(fault) => {
             // Nothing is left to do where standard error fails too.
             let _ = eprintln!(rt; "bench_containers: {fault}");

@@ -2,17 +2,13 @@
 
 ghost use Rattle.std.specs.Prelude.{◌≤◌};
 
-use bounded_model::{Container, PutRefused, TakeRefused};
+use crate::pool::Pool;
+use bounded_model::{PutRefused, TakeRefused};
 use std::sync::Wait;
 use std::thread;
 
 // Tries until the item is in; `false` where none can be put any more.
-fn put_one<C: Container<u64>, R: Wait>(
-    rt: &R,
-    container: &C,
-    by: C::Pass,
-    item: u64,
-) -> (C::Pass, bool)
+fn put_one<C: Pool, R: Wait>(rt: &R, container: &C, by: C::Pass, item: u64) -> (C::Pass, bool)
     requires { C.is_pass container.now by }
     ensures { C.is_pass container.now result.0 }
 {
@@ -34,7 +30,7 @@ fn put_one<C: Container<u64>, R: Wait>(
 }
 
 /// Puts items numbered from 0; answers how many are in.
-pub fn put_all<C: Container<u64>, R: Wait>(rt: &R, container: &C, by: C::Pass, items: u32) -> u64
+pub fn put_all<C: Pool, R: Wait>(rt: &R, container: &C, by: C::Pass, items: u32) -> u64
     requires { C.is_pass container.now by }
     ensures { result ≤ items }
 {
@@ -52,7 +48,7 @@ pub fn put_all<C: Container<u64>, R: Wait>(rt: &R, container: &C, by: C::Pass, i
 }
 
 /// Takes items until no more will come; answers how many there were.
-pub fn take_all<C: Container<u64>, R: Wait>(rt: &R, container: &C, by: C::Pass) -> u64
+pub fn take_all<C: Pool, R: Wait>(rt: &R, container: &C, by: C::Pass) -> u64
     requires { C.is_pass container.now by }
 {
     let mut pass = by;
@@ -70,12 +66,7 @@ pub fn take_all<C: Container<u64>, R: Wait>(rt: &R, container: &C, by: C::Pass) 
 }
 
 /// Puts an item and takes one, in turn; answers how many were taken.
-pub fn put_and_take<C: Container<u64>, R: Wait>(
-    rt: &R,
-    container: &C,
-    by: C::Pass,
-    items: u32,
-) -> u64
+pub fn put_and_take<C: Pool, R: Wait>(rt: &R, container: &C, by: C::Pass, items: u32) -> u64
     requires { C.is_pass container.now by }
 {
     let mut pass = by;

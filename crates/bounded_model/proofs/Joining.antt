@@ -6,14 +6,10 @@ use Rattle.bounded_model.specs.declared.history.Event.{Event}
 use Rattle.bounded_model.specs.declared.views.PassView.{PassView}
 use Rattle.bounded_model.specs.declared.views.RootView.{RootView}
 use Rattle.bounded_model.specs.Machine.{Shape, state}
-use Rattle.bounded_model.specs.Histories.{own, Later}
+use Rattle.bounded_model.specs.Histories.{Among, own, Later}
 use Rattle.bounded_model.specs.Gathers.{Counts, EachFrom}
 use Rattle.bounded_model.specs.Laws.{IsSound, NoneOut, Splits, Joins, Leaves}
 use Rattle.bounded_model.proofs.Histories.{Later-trans}
-
-abbrev pub Among : {A : Type 0} → A → List A → Type 0
-Among x [] = ⊥
-Among x (y ∷ ys) = (x ≡ y) ⊎ Among x ys
 
 Every-among : {A : Type 0} (P : A → Type 0) (x : A) (xs : List A) → Every P xs → Among x xs → P x
 Every-among P x [] every among = absurd among

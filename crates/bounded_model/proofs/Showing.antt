@@ -1,5 +1,5 @@
 -- Each call of the sequential list is a call of the bounded machine.
-use Rattle.std.proofs.Common.{◌≡◌, ℕ, ◌+◌, ◌-◌, ◌<◌, ◌≤◌, List, [], ◌∷◌, ◌++◌, refl, sym, ap, ◌∙◌, length, Bool, true, false, arith, Result, Ok, Err}
+use Rattle.std.proofs.Common.{◌≡◌, ℕ, ◌+◌, ◌-◌, ◌<◌, ◌≤◌, List, [], ◌∷◌, ◌++◌, refl, sym, ap, ◌∙◌, subst, length, Bool, true, false, arith, Result, Ok, Err}
 use Rattle.std.specs.Prelude.{nat_le, if◌then◌else◌, not}
 use Rattle.std.proofs.lemmas.Bool.Decides.{nat_tests}
 use Rattle.bounded_model.specs.declared.history.Order.{Order}
@@ -18,7 +18,7 @@ use Rattle.bounded_model.specs.declared.commands.Reply.TheVariants.{Put as PutRe
 use Rattle.bounded_model.specs.declared.plain_list.TheConstants.{COUNT_LIMIT}
 use Rattle.bounded_model.specs.Machine.{State, state, with_hand, put_on, MayPut, without_first, next_put, next_take}
 use Rattle.bounded_model.specs.Replies.{reply, take_reply_of, added, history_after, replies, history_after_all}
-use Rattle.bounded_model.specs.Plain.{Plain, shape_of, at_rest, put_answer, take_answer, plain_reply, with_value, without_value, after_put, after_take, list_after, plain_replies, list_after_all}
+use Rattle.bounded_model.specs.Plain.{Plain, shape_of, at_rest, plain_put, plain_take, plain_reply, with_value, without_value, after_put, after_take, list_after, plain_replies, list_after_all}
 use Rattle.bounded_model.specs.Shows.{RestsWith, Shows, Runs}
 
 -- a hand that was raised by one and lowered by one is empty again
@@ -158,8 +158,8 @@ module _ {T : Type 0} where
 
   -- no call changes what the list was made for
   shape_of-list_after : (p : Plain T) (m : Command T) → shape_of (list_after p m) ≡ shape_of p
-  shape_of-list_after p (PutCommand x) = shape_of-after_put p x (put_answer p x)
-  shape_of-list_after p TakeCommand = shape_of-after_take p (take_answer p)
+  shape_of-list_after p (PutCommand x) = shape_of-after_put p x (plain_put p x)
+  shape_of-list_after p TakeCommand = shape_of-after_take p (plain_take p)
   shape_of-list_after p CloseCommand = refl
   shape_of-list_after p ShutCommand = refl
   shape_of-list_after p LookCommand = refl
@@ -178,3 +178,24 @@ module _ {T : Type 0} where
 
   pub runs : (p : Plain T) (ms : List (Command T)) → Runs p (list_after_all p ms) ms (plain_replies p ms)
   runs p ms = record { given_is = plain_replies_given p ms; new_shows = list_after_all_shows p ms }
+
+  -- a single call is a run of one command
+  pub put_runs : (p new : Plain T) (x : T) (r : Result ℕ (PutRefused T)) → r ≡ plain_put p x → new ≡ after_put p x r → Runs p new (PutCommand x ∷ []) (PutReply r ∷ [])
+  put_runs p new x r given is =
+      subst (λ (l : Plain T). Runs p l (PutCommand x ∷ []) (PutReply r ∷ [])) (sym is)
+      (subst (λ (a : Result ℕ (PutRefused T)). Runs p (after_put p x a) (PutCommand x ∷ []) (PutReply a ∷ [])) (sym given) (runs p (PutCommand x ∷ [])))
+
+  pub take_runs : (p new : Plain T) (r : Result (T × ℕ) TakeRefused) → r ≡ plain_take p → new ≡ after_take p r → Runs p new (TakeCommand ∷ []) (TakeReply r ∷ [])
+  take_runs p new r given is =
+      subst (λ (l : Plain T). Runs p l (TakeCommand ∷ []) (TakeReply r ∷ [])) (sym is)
+      (subst (λ (a : Result (T × ℕ) TakeRefused). Runs p (after_take p a) (TakeCommand ∷ []) (TakeReply a ∷ [])) (sym given) (runs p (TakeCommand ∷ [])))
+
+  pub close_runs : (p new : Plain T) (b : Bool) → b ≡ not p.closed → new ≡ record p { closed = true } → Runs p new (CloseCommand ∷ []) (CloseReply b ∷ [])
+  close_runs p new b given is =
+      subst (λ (l : Plain T). Runs p l (CloseCommand ∷ []) (CloseReply b ∷ [])) (sym is)
+      (subst (λ (a : Bool). Runs p (record p { closed = true }) (CloseCommand ∷ []) (CloseReply a ∷ [])) (sym given) (runs p (CloseCommand ∷ [])))
+
+  pub shut_runs : (p new : Plain T) (b : Bool) → b ≡ not p.shut → new ≡ record p { shut = true } → Runs p new (ShutCommand ∷ []) (ShutReply b ∷ [])
+  shut_runs p new b given is =
+      subst (λ (l : Plain T). Runs p l (ShutCommand ∷ []) (ShutReply b ∷ [])) (sym is)
+      (subst (λ (a : Bool). Runs p (record p { shut = true }) (ShutCommand ∷ []) (ShutReply a ∷ [])) (sym given) (runs p (ShutCommand ∷ [])))

@@ -144,3 +144,45 @@ module _ {T : Type 0} (c : Shape) where
   shut_ends_takes (Free p j ∷ more) h l k = append-nil (gather took_of more) ∙ shut_ends_takes more h l.1 k
   shut_ends_takes (Close p ∷ more) h l k = append-nil (gather took_of more) ∙ shut_ends_takes more h l.1 k
   shut_ends_takes (Shut p ∷ more) h l k = append-nil (gather took_of more) ∙ shut_ends_takes more h l.1 k
+
+  -- what is open has no Close among its events, so there is at most one
+  no_close : (h : List (Event T)) → IsOpen c h → gather close_of h ≡ []
+  no_close [] k = refl
+  no_close (Hold p ∷ h) k = append-nil (gather close_of h) ∙ no_close h k
+  no_close (Put p vs n ∷ h) k = append-nil (gather close_of h) ∙ no_close h k
+  no_close (Take p v n ∷ h) k = append-nil (gather close_of h) ∙ no_close h k
+  no_close (TakeAll p vs n ∷ h) k = append-nil (gather close_of h) ∙ no_close h k
+  no_close (Free p j ∷ h) k = append-nil (gather close_of h) ∙ no_close h k
+  no_close (Close p ∷ h) k = absurd (true≢false k)
+  no_close (Shut p ∷ h) k = append-nil (gather close_of h) ∙ no_close h k
+
+  pub one_close : (h : List (Event T)) → Legal c h → length (gather close_of h) ≤ 1
+  one_close [] l = omega arith
+  one_close (Hold p ∷ h) l = rw append-nil (one_close h l.1)
+  one_close (Put p vs n ∷ h) l = rw append-nil (one_close h l.1)
+  one_close (Take p v n ∷ h) l = rw append-nil (one_close h l.1)
+  one_close (TakeAll p vs n ∷ h) l = rw append-nil (one_close h l.1)
+  one_close (Free p j ∷ h) l = rw append-nil (one_close h l.1)
+  one_close (Close p ∷ h) l = rw (no_close h l.0) (omega arith)
+  one_close (Shut p ∷ h) l = rw append-nil (one_close h l.1)
+
+  -- what is not shut has no Shut among its events, so there is at most one
+  no_shut : (h : List (Event T)) → IsUnshut c h → gather shut_of h ≡ []
+  no_shut [] k = refl
+  no_shut (Hold p ∷ h) k = append-nil (gather shut_of h) ∙ no_shut h k
+  no_shut (Put p vs n ∷ h) k = append-nil (gather shut_of h) ∙ no_shut h k
+  no_shut (Take p v n ∷ h) k = append-nil (gather shut_of h) ∙ no_shut h k
+  no_shut (TakeAll p vs n ∷ h) k = append-nil (gather shut_of h) ∙ no_shut h k
+  no_shut (Free p j ∷ h) k = append-nil (gather shut_of h) ∙ no_shut h k
+  no_shut (Close p ∷ h) k = append-nil (gather shut_of h) ∙ no_shut h k
+  no_shut (Shut p ∷ h) k = absurd (true≢false k)
+
+  pub one_shut : (h : List (Event T)) → Legal c h → length (gather shut_of h) ≤ 1
+  one_shut [] l = omega arith
+  one_shut (Hold p ∷ h) l = rw append-nil (one_shut h l.1)
+  one_shut (Put p vs n ∷ h) l = rw append-nil (one_shut h l.1)
+  one_shut (Take p v n ∷ h) l = rw append-nil (one_shut h l.1)
+  one_shut (TakeAll p vs n ∷ h) l = rw append-nil (one_shut h l.1)
+  one_shut (Free p j ∷ h) l = rw append-nil (one_shut h l.1)
+  one_shut (Close p ∷ h) l = rw append-nil (one_shut h l.1)
+  one_shut (Shut p ∷ h) l = rw (no_shut h l.0) (omega arith)

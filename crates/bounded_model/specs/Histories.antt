@@ -1,5 +1,5 @@
 -- Whose events a history holds, and when one history is an earlier part of another.
-use Rattle.std.specs.Prelude.{◌≡◌, ℕ, ◌==◌, List, ◌++◌, filter}
+use Rattle.std.specs.Prelude.{◌≡◌, ℕ, ◌==◌, ◌⊎◌, List, [], ◌∷◌, ◌++◌, filter}
 use Rattle.bounded_model.specs.declared.history.Event.{Event}
 use Rattle.bounded_model.specs.declared.history.Event.TheVariants.{Hold, Put, Take, TakeAll, Free, Close, Shut}
 
@@ -15,6 +15,11 @@ pass_of (Shut p) = p
 -- the events of pass p
 abbrev pub own : {T : Type 0} → ℕ → List (Event T) → List (Event T)
 own p h = filter (λ e. pass_of e == p) h
+
+-- x is one of these
+abbrev pub Among : {A : Type 0} → A → List A → Type 0
+Among x [] = ⊥
+Among x (y ∷ ys) = (x ≡ y) ⊎ Among x ys
 
 -- the new history begins with the old one: it is the old one with more on top
 pub record Later {T : Type 0} (old new : List (Event T)) : Type 0 where

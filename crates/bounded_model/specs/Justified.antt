@@ -1,6 +1,8 @@
 -- When an answer that changes nothing is justified: the container really was so, at some time of
 -- the call.
 use Rattle.std.specs.Prelude.{◌≡◌, ℕ, ◌+◌, ◌*◌, ◌<◌, ◌≤◌, Bool, true, false, List, [], length}
+use Rattle.bounded_model.specs.declared.history.Order.{Order}
+use Rattle.bounded_model.specs.declared.history.Order.TheVariants.{Fifo, Lifo}
 use Rattle.bounded_model.specs.declared.history.Event.{Event}
 use Rattle.bounded_model.specs.declared.answers.Word.{Word}
 use Rattle.bounded_model.specs.declared.answers.Word.TheVariants.{Cells, Nodes, Next, Free, Top, Count}
@@ -39,6 +41,19 @@ IsAtLimit c h (Next j) t = c.limit < t + 2
 IsAtLimit c h Nodes t = ⊥
 IsAtLimit c h Count t = ⊥
 
+-- the words whose tag may stop a put, by the container's order
+abbrev pub StopsPut : Order → Word → Type 0
+StopsPut Fifo Cells = Unit {0}
+StopsPut Fifo (Next j) = Unit {0}
+StopsPut Lifo Free = Unit {0}
+StopsPut Lifo Top = Unit {0}
+StopsPut order word = ⊥
+
+-- and a take or a fold: no tag stops a queue's
+abbrev pub StopsTake : Order → Word → Type 0
+StopsTake Lifo Top = Unit {0}
+StopsTake order word = ⊥
+
 -- so many cells were taken that some tag may have met the limit: a half of it
 abbrev pub IsWorn : {T : Type 0} → Shape → List (Event T) → Type 0
 IsWorn c h = c.limit ≤ 2 * (state c h).holds
@@ -60,11 +75,11 @@ pub data Answer : Type 0 where
 abbrev pub Justifies : {T : Type 0} → Shape → List (Event T) → Answer → Type 0
 Justifies c h PutFull = IsFull c h × IsOpen c h
 Justifies c h PutClosed = IsClosed c h
-Justifies c h (PutSpent word t) = IsAtLimit c h word t × IsWorn c h
+Justifies c h (PutSpent word t) = (StopsPut c.order word × IsAtLimit c h word t) × IsWorn c h
 Justifies c h TakeEmpty = IsEmpty c h × IsOpen c h × IsUnshut c h
 Justifies c h TakeClosed = IsEmpty c h × IsClosed c h × IsUnshut c h
 Justifies c h TakeShut = IsShut c h
-Justifies c h (TakeSpent word t) = IsAtLimit c h word t × IsWorn c h × IsUnshut c h
+Justifies c h (TakeSpent word t) = (StopsTake c.order word × IsAtLimit c h word t) × IsWorn c h × IsUnshut c h
 Justifies c h NotClosed = IsClosed c h
 Justifies c h NotShut = IsShut c h
 Justifies c h (Looked true) = IsEmpty c h

@@ -4,6 +4,7 @@ use Rattle.std.specs.Prelude.{◌≡◌, ◌≢◌, ℕ, suc, zero, ◌+◌, ◌
 use Rattle.std.specs.List.{AllByRecursion as Every}
 use Rattle.bounded_model.specs.declared.history.Event.{Event}
 use Rattle.bounded_model.specs.declared.history.Event.TheVariants.{Hold, Put, Take, TakeAll, Free, Close, Shut}
+use Rattle.bounded_model.specs.declared.container.TheConstants.{MAX_PASSES}
 use Rattle.bounded_model.specs.declared.answers.PutRefused.{PutRefused}
 use Rattle.bounded_model.specs.declared.answers.PutRefused.TheVariants.{Full, Closed, Spent}
 use Rattle.bounded_model.specs.declared.answers.TakeRefused.{TakeRefused}
@@ -23,12 +24,12 @@ fresh = record { seen = []; given = 0; account = [] }
 abbrev pub NoneOut : {T : Type 0} → RootView T → Type 0
 NoneOut r = length r.account ≡ r.given
 
--- 65,535 passes are out, the most that there may be; or fewer are
+-- as many passes are out as there may be, or fewer are
 abbrev pub IsFullOfPasses : {T : Type 0} → RootView T → Type 0
-IsFullOfPasses r = 65535 + length r.account ≤ r.given
+IsFullOfPasses r = MAX_PASSES + length r.account ≤ r.given
 
 abbrev pub HasRoomForPass : {T : Type 0} → RootView T → Type 0
-HasRoomForPass r = r.given < 65535 + length r.account
+HasRoomForPass r = r.given < MAX_PASSES + length r.account
 
 -- a pass between its calls: what it has seen is legal, and its hand is empty
 pub record IsAtRest {T : Type 0} (c : Shape) (v : PassView T) : Type 0 where
@@ -153,11 +154,13 @@ abbrev pub MeetGives : {T : Type 0} → PassView T → PassView T → PassView T
 MeetGives v u w true = Meets v u w
 MeetGives v u w false = w ≡ v
 
--- finish: the list of a legal history that begins with what the root has seen, and is just that
--- where no pass is out
+-- finish: the list of a legal history that begins with what the root has seen. It adds no event of
+-- a joined pass and none of a pass that was not given, and so, where no pass is out, none at all
 pub record Leaves {T : Type 0} (c : Shape) (r : RootView T) (left : List T) : Type 0 where
   pub history : List (Event T)
   pub legal : Legal c history
   pub begins : Later r.seen history
+  pub joined : Every (λ a. own a.0 history ≡ a.1) r.account
+  pub given : Every (λ e. pass_of e < r.given) history
   pub whole : NoneOut r → history ≡ r.seen
   pub values : left ≡ (state c history).values

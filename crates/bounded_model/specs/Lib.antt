@@ -3,6 +3,8 @@ pub mod Histories
 pub mod Justified
 pub mod Laws
 pub mod Consumes
+pub mod Stepping
+pub mod Bulk
 pub mod Gathers
 pub mod Replies
 pub mod Plain

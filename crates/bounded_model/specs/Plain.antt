@@ -32,11 +32,11 @@ abbrev pub at_rest : {T : Type 0} → Plain T → State T
 at_rest p = record { values = p.values; hand = λ _. 0; held = 0; closed = p.closed; shut = p.shut; holds = p.puts; puts = p.puts; takes = p.takes }
 
 -- what the machine answers at this list
-abbrev pub put_answer : {T : Type 0} → Plain T → T → Result ℕ (PutRefused T)
-put_answer p x = put_reply (shape_of p) (at_rest p) x
+abbrev pub plain_put : {T : Type 0} → Plain T → T → Result ℕ (PutRefused T)
+plain_put p x = put_reply (shape_of p) (at_rest p) x
 
-abbrev pub take_answer : {T : Type 0} → Plain T → Result (T × ℕ) TakeRefused
-take_answer p = take_reply (shape_of p) (at_rest p)
+abbrev pub plain_take : {T : Type 0} → Plain T → Result (T × ℕ) TakeRefused
+plain_take p = take_reply (shape_of p) (at_rest p)
 
 abbrev pub plain_reply : {T : Type 0} → Plain T → Command T → Reply T
 plain_reply p m = reply (shape_of p) (at_rest p) m
@@ -59,8 +59,8 @@ after_take p (Err e) = p
 
 -- the list after a call
 abbrev pub list_after : {T : Type 0} → Plain T → Command T → Plain T
-list_after p (Put x) = after_put p x (put_answer p x)
-list_after p Take = after_take p (take_answer p)
+list_after p (Put x) = after_put p x (plain_put p x)
+list_after p Take = after_take p (plain_take p)
 list_after p Close = record p { closed = true }
 list_after p Shut = record p { shut = true }
 list_after p Look = p

@@ -23,7 +23,7 @@ pub record Shows {T : Type 0} (p : Plain T) (h : List (Event T)) : Type 0 where
   pub rest : RestsWith p (state (shape_of p) h)
 
 -- the commands were answered as the machine answers them from any history that the old list shows, and the
--- new list shows that history with their events added
+-- new list shows that history with their events added, by whichever pass. A single call is a run of one
 pub record Runs {T : Type 0} (old new : Plain T) (commands : List (Command T)) (given : List (Reply T)) : Type 0 where
   pub given_is : (q : ℕ) (h : List (Event T)) → Shows old h → given ≡ replies (shape_of old) q h commands
   pub new_shows : (q : ℕ) (h : List (Event T)) → Shows old h → Shows new (history_after_all (shape_of old) q h commands)

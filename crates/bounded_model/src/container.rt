@@ -22,6 +22,9 @@ ghost use Rattle.bounded_model.specs.Laws.{
 use crate::{Order, PutRefused, TakeRefused};
 use std::sync::Wait;
 
+/// The most passes of a container that may be out at one time.
+pub const MAX_PASSES: u32 = 65_535;
+
 /// The values that are left in a container at its end: a queue's in the order of their puts, a
 /// stack's from the top down.
 pub trait Leaving<T> {
@@ -74,7 +77,7 @@ pub trait Container<T>: Drop {
     fn capacity(&self) -> u32
         ensures { result ≡ (shape self.now).capacity };
 
-    /// A new pass; `None` exactly where 65,535 passes are out, and then nothing has changed.
+    /// A new pass; `None` exactly where [`MAX_PASSES`] are out, and then nothing has changed.
     fn split(&self, parent: &mut Self::Root) -> Option<Self::Pass>
         requires { is_root self.now parent.old }
         ensures root { is_root self.now parent.new }

@@ -3,19 +3,23 @@
 #![tactic(auto)]
 
 mod answers;
+mod bulk;
 mod commands;
 mod consume;
 mod container;
 mod history;
 mod plain_list;
+mod stepwise;
 mod theorems;
 mod views;
 
 pub use answers::{MakeRefused, PutRefused, Stepped, TakeRefused, Word};
+pub use bulk::{Bulk, Folded, RangeRefused, Ranged};
 pub use commands::{Command, Reply};
 pub use consume::{consume_all, consume_one};
-pub use container::{Container, Leaving};
+pub use container::{Container, Leaving, MAX_PASSES};
 pub use history::{Event, Order};
-pub use plain_list::{COUNT_LIMIT, MAX_CAPACITY, PlainList};
+pub use plain_list::{COUNT_LIMIT, MAX_LIST_CAPACITY, PlainList};
+pub use stepwise::Stepwise;
 pub use theorems::{capacity_is_kept, closing_is_final, nothing_is_lost, queue_keeps_order};
 pub use views::{PassView, RootView};

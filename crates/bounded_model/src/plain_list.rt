@@ -1,16 +1,28 @@
 //! The sequential container.
 
-ghost use Rattle.std.specs.Prelude.{◌≡◌, ◌<◌, ◌≤◌, ◌↔◌, [], true, false, IsTrue, IfOk, OnOk, OnErr};
+ghost use Rattle.std.specs.Prelude.{◌≡◌, ◌<◌, ◌≤◌, ◌↔◌, [], ◌∷◌, true, false, IsTrue, IfOk, OnOk, OnErr};
 ghost use Rattle.bounded_model.specs.Plain.{
   empty_list,
-  put_answer,
-  take_answer,
+  plain_put,
+  plain_take,
   plain_reply,
   with_value,
   without_value,
   list_after,
   plain_replies,
   list_after_all,
+};
+ghost use Rattle.bounded_model.specs.declared.commands.Command.TheVariants.{
+  Put as PutCommand,
+  Take as TakeCommand,
+  Close as CloseCommand,
+  Shut as ShutCommand,
+};
+ghost use Rattle.bounded_model.specs.declared.commands.Reply.TheVariants.{
+  Put as PutReply,
+  Take as TakeReply,
+  Close as CloseReply,
+  Shut as ShutReply,
 };
 ghost use Rattle.bounded_model.specs.Shows.{Shows, Runs};
 
@@ -21,10 +33,12 @@ use std::marker::Model;
 use std::mem;
 
 /// The largest capacity of a list.
-pub const MAX_CAPACITY: u32 = 1 << 20;
+pub const MAX_LIST_CAPACITY: u32 = 1 << 20;
 
 /// Every number that a list answers is below this one.
 pub const COUNT_LIMIT: u64 = (1 << 42) - 1;
+
+const _: () = prove!(MAX_LIST_CAPACITY == 1_048_576 && COUNT_LIMIT == 4_398_046_511_103);
 
 /// A bounded list of values in an order: the machine that the concurrent containers are measured
 /// by, run by one caller at a time.
@@ -58,11 +72,11 @@ impl<T> Model for PlainList<T> {
 }
 
 impl<T> PlainList<T> {
-    /// An empty list for so many values, from 1 to [`MAX_CAPACITY`]. All its room is taken here, so
+    /// An empty list for so many values, from 1 to [`MAX_LIST_CAPACITY`]. All its room is taken here, so
     /// no later put wants memory.
     pub fn new(alloc: Global, capacity: u32, order: Order) -> Result<PlainList<T>, MakeRefused>
         requires some { 0 < capacity }
-        requires within { capacity ≤ MAX_CAPACITY }
+        requires within { capacity ≤ MAX_LIST_CAPACITY }
         ensures list { IfOk result (λ l. l ≡ empty_list order capacity) }
         ensures history { IfOk result (λ l. Shows l []) }
     {
@@ -81,10 +95,12 @@ impl<T> PlainList<T> {
     /// Puts a value and answers the put's number. Refused with the value as `Closed` where the list
     /// is closed, then as `Full` where it holds as many values as it has room for, then as `Spent`
     /// where the number would reach [`COUNT_LIMIT`].
+    #[tactic(auto, using(crate::proofs::Showing::put_runs))]
     pub fn put(&mut self, value: T) -> Result<u64, PutRefused<T>>
-        ensures answer { result ≡ put_answer self.old value }
+        ensures answer { result ≡ plain_put self.old value }
         ensures accepted { OnOk result (self.new ≡ with_value self.old value) }
         ensures refused { OnErr result (self.new ≡ self.old) }
+        ensures machine { Runs self.old self.new (PutCommand value ∷ []) (PutReply result ∷ []) }
     {
         if self.closed {
             return Err(PutRefused::Closed(value));
@@ -111,10 +127,12 @@ impl<T> PlainList<T> {
     /// number. Refused as `Shut` where the list is shut, then, where it is empty, as `Closed` if it
     /// is closed and as `Empty` if not, then as `Spent` where the number would reach
     /// [`COUNT_LIMIT`].
+    #[tactic(auto, using(crate::proofs::Showing::take_runs))]
     pub fn take(&mut self) -> Result<(T, u64), TakeRefused>
-        ensures answer { result ≡ take_answer self.old }
+        ensures answer { result ≡ plain_take self.old }
         ensures accepted { OnOk result (self.new ≡ without_value self.old) }
         ensures refused { OnErr result (self.new ≡ self.old) }
+        ensures machine { Runs self.old self.new (TakeCommand ∷ []) (TakeReply result ∷ []) }
     {
         if self.shut {
             return Err(TakeRefused::Shut);
@@ -139,17 +157,21 @@ impl<T> PlainList<T> {
     }
 
     /// Closes the list: every later put is refused. True where this call closed it.
+    #[tactic(auto, using(crate::proofs::Showing::close_runs))]
     pub fn close(&mut self) -> bool
         ensures answer { IsTrue result ↔ (self.old.closed ≡ false) }
         ensures list { self.new ≡ record self.old { closed = true } }
+        ensures machine { Runs self.old self.new (CloseCommand ∷ []) (CloseReply result ∷ []) }
     {
         !mem::replace(&mut self.closed, true)
     }
 
     /// Shuts the list: every later take is refused. True where this call shut it.
+    #[tactic(auto, using(crate::proofs::Showing::shut_runs))]
     pub fn shut(&mut self) -> bool
         ensures answer { IsTrue result ↔ (self.old.shut ≡ false) }
         ensures list { self.new ≡ record self.old { shut = true } }
+        ensures machine { Runs self.old self.new (ShutCommand ∷ []) (ShutReply result ∷ []) }
     {
         !mem::replace(&mut self.shut, true)
     }

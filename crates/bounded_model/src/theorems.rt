@@ -5,30 +5,53 @@ ghost use Rattle.bounded_model.specs.declared.history.Event.{Event};
 ghost use Rattle.bounded_model.specs.declared.history.Order.TheVariants.{Fifo};
 ghost use Rattle.bounded_model.specs.Machine.{Shape, state, Legal};
 ghost use Rattle.bounded_model.specs.Justified.{IsClosed, IsShut};
-ghost use Rattle.bounded_model.specs.Gathers.{gather, put_of, sent_of, took_of, values_of, Counts};
+ghost use Rattle.bounded_model.specs.Gathers.{
+  gather,
+  put_of,
+  sent_of,
+  took_of,
+  close_of,
+  shut_of,
+  values_of,
+  Counts,
+};
 
 /// A queue keeps its order: what was put is what was taken and then what is there, in order, and puts
 /// and takes are numbered 0, 1, 2, .. each. So the take numbered k gives the value of the put numbered
 /// k, and each value is taken once.
 pub fn queue_keeps_order<T>()
-    ensures values { (c : Shape) (h : List (Event T)) → c.order ≡ Fifo → Legal c h → values_of (gather sent_of h) ≡ values_of (gather took_of h) ++ (state c h).values }
-    ensures puts { (c : Shape) (h : List (Event T)) → c.order ≡ Fifo → Legal c h → Counts (λ m. m.number) 0 (gather sent_of h) }
-    ensures takes { (c : Shape) (h : List (Event T)) → c.order ≡ Fifo → Legal c h → Counts (λ m. m.number) 0 (gather took_of h) }
+    ensures values { (c : Shape) (h : List (Event T))
+        → c.order ≡ Fifo → Legal c h
+        → values_of (gather sent_of h) ≡ values_of (gather took_of h) ++ (state c h).values }
+    ensures puts { (c : Shape) (h : List (Event T))
+        → c.order ≡ Fifo → Legal c h → Counts (λ m. m.number) 0 (gather sent_of h) }
+    ensures takes { (c : Shape) (h : List (Event T))
+        → c.order ≡ Fifo → Legal c h → Counts (λ m. m.number) 0 (gather took_of h) }
 {}
 
 /// In either order nothing is lost and nothing comes twice: what was put is, up to the order, what was
 /// taken and what is there.
 pub fn nothing_is_lost<T>()
-    ensures { (c : Shape) (h : List (Event T)) → Legal c h → IsPermutation (gather put_of h) (values_of (gather took_of h) ++ (state c h).values) }
+    ensures { (c : Shape) (h : List (Event T))
+        → Legal c h
+        → IsPermutation (gather put_of h) (values_of (gather took_of h) ++ (state c h).values) }
 {}
 
-/// No put follows the close, and no take or fold follows the shut.
+/// No put follows the close, and no take or fold follows the shut. There is at most one close and at
+/// most one shut.
 pub fn closing_is_final<T>()
-    ensures puts { (c : Shape) (more h : List (Event T)) → Legal c (more ++ h) → IsClosed c h → gather put_of more ≡ [] }
-    ensures takes { (c : Shape) (more h : List (Event T)) → Legal c (more ++ h) → IsShut c h → gather took_of more ≡ [] }
+    ensures puts { (c : Shape) (more h : List (Event T))
+        → Legal c (more ++ h) → IsClosed c h → gather put_of more ≡ [] }
+    ensures takes { (c : Shape) (more h : List (Event T))
+        → Legal c (more ++ h) → IsShut c h → gather took_of more ≡ [] }
+    ensures one_close { (c : Shape) (h : List (Event T))
+        → Legal c h → length (gather close_of h) ≤ 1 }
+    ensures one_shut { (c : Shape) (h : List (Event T))
+        → Legal c h → length (gather shut_of h) ≤ 1 }
 {}
 
 /// The values that are there and the cells in hand are together never more than the capacity.
 pub fn capacity_is_kept<T>()
-    ensures { (c : Shape) (h : List (Event T)) → Legal c h → length (state c h).values + (state c h).held ≤ c.capacity }
+    ensures { (c : Shape) (h : List (Event T))
+        → Legal c h → length (state c h).values + (state c h).held ≤ c.capacity }
 {}

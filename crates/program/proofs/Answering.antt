@@ -10,7 +10,7 @@ use Rattle.bounded_model.specs.declared.commands.Command.TheVariants.{Put, Take,
 use Rattle.bounded_model.specs.declared.commands.Reply.{Reply}
 use Rattle.bounded_model.specs.declared.history.Event.{Event}
 use Rattle.bounded_model.specs.Machine.{Shape, state}
-use Rattle.bounded_model.specs.Plain.{Plain, empty_list, shape_of, put_answer, take_answer, after_put, after_take, list_after, list_after_all}
+use Rattle.bounded_model.specs.Plain.{Plain, empty_list, shape_of, plain_put, plain_take, after_put, after_take, list_after, list_after_all}
 use Rattle.bounded_model.specs.Replies.{reply, replies, history_after, history_after_all}
 use Rattle.bounded_model.specs.Shows.{Shows, Runs}
 use Rattle.script.specs.declared.line.Act.TheVariants.{Call, Begin, Step, Range, Fold, ReversedFold, Meet, Drop}
@@ -34,8 +34,8 @@ shape_take p (Ok n) = refl
 shape_take p (Err e) = refl
 
 shape_after : (p : Plain Values) (m : Command Values) → shape_of (list_after p m) ≡ shape_of p
-shape_after p (Put x) = shape_put p x (put_answer p x)
-shape_after p Take = shape_take p (take_answer p)
+shape_after p (Put x) = shape_put p x (plain_put p x)
+shape_after p Take = shape_take p (plain_take p)
 shape_after p Close = refl
 shape_after p Shut = refl
 shape_after p Look = refl

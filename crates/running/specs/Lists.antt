@@ -12,7 +12,7 @@ use Rattle.bounded_model.specs.declared.history.Event.{Event}
 use Rattle.index_list.specs.Lists.{Layout, word, Leads, Disjoint, Distinct, AllHome, Stands}
 use Rattle.index_list.specs.Steps.{Kind, read_top, read_link, write_link, take, give, give_chain, take_all, mark, shut, Expects, top_after_take, top_after_give, top_after_mark, top_after_shut}
 use Rattle.index_list.specs.Steps.{numbers, Each, IsHome, emptied, filled, ForSlot, ForSlots, looked, changed, Before, Goes}
-use Rattle.step_core.specs.declared.seats.View.{View}
+use Rattle.machine.specs.declared.seats.View.{View}
 use Rattle.running.specs.Machine.{Names, Machine, Access, rests, loads, stores, swaps, stays, brings, returns, Leaves}
 use Rattle.running.specs.Rule.{Rule, steps_in, line_in, line_now}
 use Rattle.running.specs.Going.{Did, AtAccess, now_in}

@@ -5,11 +5,11 @@
 #![tactic(auto)]
 
 mod lists;
-mod machine;
+mod rule;
 mod seats;
 mod steps;
 
 pub use lists::{ListMachine, take_first};
-pub use machine::{Machine, Running};
+pub use rule::{Machine, Running};
 pub use seats::{join, look, split};
 pub use steps::{give_step, load_step, load_tagged_step, store_step, swap_step, take_step};

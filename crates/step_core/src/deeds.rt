@@ -1,9 +1,9 @@
 //! What the passes of the pure machines have done when they answer.
 ghost use Rattle.std.specs.Prelude.{ℕ, ◌<◌, ◌≤◌, List};
 ghost use Rattle.tagged_index.specs.declared.word.TheConstants.{NULL};
-ghost use Rattle.step_core.specs.StackMachine as stack;
-ghost use Rattle.step_core.specs.StackLaw.{shape};
-ghost use Rattle.step_core.specs.StackDeeds.{AllDone};
+ghost use Rattle.step_core.specs.stack.Schedule as stack;
+ghost use Rattle.stack_machine.specs.Answers.{shape};
+ghost use Rattle.step_core.specs.stack.Law.{AllDone};
 
 /// In every schedule of a stack, the events that a pass adds from the begin of an operation to its
 /// answer are exactly those that the answer speaks of: a put takes one node for each value and puts

@@ -1,9 +1,10 @@
 //! What the pure machines keep in every schedule.
 ghost use Rattle.std.specs.Prelude.{ℕ, ◌<◌, ◌≤◌, List};
 ghost use Rattle.tagged_index.specs.declared.word.TheConstants.{NULL};
-ghost use Rattle.step_core.specs.ListMachine as list;
-ghost use Rattle.step_core.specs.StackMachine as stack;
-ghost use Rattle.step_core.specs.StackLaw as stack_law;
+ghost use Rattle.step_core.specs.list.Machine as list;
+ghost use Rattle.step_core.specs.stack.Schedule as stack;
+ghost use Rattle.step_core.specs.stack.Law as stack_law;
+ghost use Rattle.stack_machine.specs.Answers.{shape};
 
 /// In every schedule of takes from a list of `n` indexes and gives to it, its top and links stand
 /// for a list of distinct indexes, which shares none with the hands; together they are all `n`
@@ -18,5 +19,5 @@ pub fn list_core()
 /// its begin and its end.
 pub fn stack_core<T>()
     ensures { (n limit passes : ℕ) (schedule : List (ℕ × stack.Act T)) → 0 < n → n ≤ NULL →
-        stack_law.Lawful T n limit (stack.run (stack_law.shape n limit) schedule (stack.start (stack_law.shape n limit) passes)) }
+        stack_law.Lawful T n limit (stack.run (shape n limit) schedule (stack.start (shape n limit) passes)) }
 {}

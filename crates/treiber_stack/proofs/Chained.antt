@@ -18,15 +18,16 @@ use Rattle.index_list.specs.Lists.{Holds}
 use Rattle.index_list.specs.declared.front.Front.{Front}
 use Rattle.index_list.specs.declared.front.Front.TheVariants.{First, Last}
 use Rattle.index_list.specs.Steps.{read_top, write_link, give_chain, take_all, arranged}
-use Rattle.step_core.specs.Words.{times}
-use Rattle.step_core.specs.declared.stack.Answer.TheVariants.{Fold as AnswerFold}
-use Rattle.step_core.specs.declared.stack.Giving.{Giving}
-use Rattle.step_core.specs.declared.stack.Taking.TheVariants.{Whole}
-use Rattle.step_core.specs.declared.stack.Line.{Line}
-use Rattle.step_core.specs.declared.stack.Line.TheVariants.{S1, A1, G1, G2, G3}
-use Rattle.step_core.specs.StackMachine.{first, last, held, at_A1}
-use Rattle.step_core.specs.StackLaw.{shape}
-use Rattle.step_core.proofs.Chains.{first_in, last_in}
+use Rattle.machine.specs.Words.{times}
+use Rattle.stack_machine.specs.declared.lines.Answer.TheVariants.{Fold as AnswerFold}
+use Rattle.stack_machine.specs.declared.lines.Giving.{Giving}
+use Rattle.stack_machine.specs.declared.lines.Taking.TheVariants.{Whole}
+use Rattle.stack_machine.specs.declared.lines.Line.{Line}
+use Rattle.stack_machine.specs.declared.lines.Line.TheVariants.{S1, A1, G1, G2, G3}
+use Rattle.machine.specs.Chains.{first, last}
+use Rattle.stack_machine.specs.Machine.{held, at_A1}
+use Rattle.stack_machine.specs.Answers.{shape}
+use Rattle.machine.proofs.Chains.{first_in, last_in}
 use Rattle.treiber_stack.specs.Rule.{line_in}
 use Rattle.treiber_stack.specs.Host.{direction, may_step}
 use Rattle.treiber_stack.specs.KeepsMemory.{times_holds}

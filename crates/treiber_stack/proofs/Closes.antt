@@ -9,15 +9,15 @@ use Rattle.bounded_model.specs.declared.history.Event.TheVariants.{Close, Shut}
 use Rattle.bounded_model.specs.declared.views.PassView.{PassView}
 use Rattle.bounded_model.specs.Laws.{CloseGives, ShutGives, LookGives}
 use Rattle.index_list.specs.Steps.{Kind, read_top, mark, shut}
-use Rattle.step_core.specs.Words.{Tagged, same}
-use Rattle.step_core.specs.declared.stack.Answer.{Answer}
-use Rattle.step_core.specs.declared.stack.Answer.TheVariants.{Close as AnswerClose, Shut as AnswerShut, Look as AnswerLook}
-use Rattle.step_core.specs.declared.stack.Line.{Line}
-use Rattle.step_core.specs.declared.stack.Line.TheVariants.{Z1, Z2, Y1, Y2, V1}
-use Rattle.step_core.specs.declared.seats.View.{View}
-use Rattle.step_core.specs.StackMachine.{Outcome, ends, at_Z1, at_Y1, goes_on as core_goes_on, wins, after_close, after_shut}
-use Rattle.step_core.specs.StackLaw.{shape}
-use Rattle.step_core.specs.Seats.{pass_of}
+use Rattle.machine.specs.Words.{Tagged, same}
+use Rattle.stack_machine.specs.declared.lines.Answer.{Answer}
+use Rattle.stack_machine.specs.declared.lines.Answer.TheVariants.{Close as AnswerClose, Shut as AnswerShut, Look as AnswerLook}
+use Rattle.stack_machine.specs.declared.lines.Line.{Line}
+use Rattle.stack_machine.specs.declared.lines.Line.TheVariants.{Z1, Z2, Y1, Y2, V1}
+use Rattle.machine.specs.declared.seats.View.{View}
+use Rattle.stack_machine.specs.Machine.{Outcome, ends, at_Z1, at_Y1, goes_on as core_goes_on, wins, after_close, after_shut}
+use Rattle.stack_machine.specs.Answers.{shape}
+use Rattle.machine.specs.Seats.{pass_of}
 use Rattle.treiber_stack.specs.declared.operation.Operation.{Operation}
 use Rattle.treiber_stack.specs.Host.{first_line, Did}
 use Rattle.treiber_stack.specs.KeepsMarks.{is_same, not_same}

@@ -11,16 +11,16 @@ use Rattle.bounded_model.specs.declared.answers.Word.TheVariants.{Free as FreeWo
 use Rattle.bounded_model.specs.declared.views.PassView.{PassView}
 use Rattle.bounded_model.specs.Laws.{BacksOut, gave_back}
 use Rattle.index_list.specs.Steps.{read_top, read_link, take}
-use Rattle.step_core.specs.StackDeeds.{handed_back}
-use Rattle.step_core.proofs.Sums.{total_one}
-use Rattle.step_core.specs.StackLaw.{shape}
-use Rattle.step_core.specs.StackMachine.{held}
-use Rattle.step_core.specs.Seats.{pass_of}
-use Rattle.step_core.specs.declared.stack.Answer.TheVariants.{Put as AnswerPut}
-use Rattle.step_core.specs.declared.stack.Putting.{Putting}
-use Rattle.step_core.specs.declared.stack.Line.{Line}
-use Rattle.step_core.specs.declared.stack.Line.TheVariants.{F1, F2, F3, F4, P1, D1}
-use Rattle.step_core.specs.declared.seats.View.{View}
+use Rattle.stack_machine.specs.Deeds.{handed_back}
+use Rattle.machine.proofs.Sums.{total_one}
+use Rattle.stack_machine.specs.Answers.{shape}
+use Rattle.stack_machine.specs.Machine.{held}
+use Rattle.machine.specs.Seats.{pass_of}
+use Rattle.stack_machine.specs.declared.lines.Answer.TheVariants.{Put as AnswerPut}
+use Rattle.stack_machine.specs.declared.lines.Putting.{Putting}
+use Rattle.stack_machine.specs.declared.lines.Line.{Line}
+use Rattle.stack_machine.specs.declared.lines.Line.TheVariants.{F1, F2, F3, F4, P1, D1}
+use Rattle.machine.specs.declared.seats.View.{View}
 use Rattle.treiber_stack.specs.Host.{may_step}
 use Rattle.treiber_stack.specs.Operations.{IsAt, IsSame, Going, Ended, Goes, Ends, Told, Takes, Lost, begun_in}
 use Rattle.treiber_stack.specs.Ranging.{NotPut, of_range, loaded, linking, IsCollecting, Stops, TakesFree}

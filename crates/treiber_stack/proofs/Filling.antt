@@ -9,13 +9,14 @@ use Rattle.tagged_index.specs.declared.word.TheConstants.{NULL}
 use Rattle.bounded_model.specs.declared.views.PassView.{PassView}
 use Rattle.index_list.specs.Lists.{Holds}
 use Rattle.index_list.specs.Steps.{write_link}
-use Rattle.step_core.specs.Words.{times}
-use Rattle.step_core.specs.StackMachine.{first, second, last, held, next_node}
-use Rattle.step_core.specs.declared.stack.Putting.{Putting}
-use Rattle.step_core.specs.declared.stack.Line.{Line}
-use Rattle.step_core.specs.declared.stack.Line.TheVariants.{Idle, F1, F4, P1}
-use Rattle.step_core.specs.declared.seats.View.{View}
-use Rattle.step_core.proofs.Lists.{times_here, times_else}
+use Rattle.machine.specs.Words.{times}
+use Rattle.machine.specs.Chains.{first, second, last}
+use Rattle.stack_machine.specs.Machine.{held, next_node}
+use Rattle.stack_machine.specs.declared.lines.Putting.{Putting}
+use Rattle.stack_machine.specs.declared.lines.Line.{Line}
+use Rattle.stack_machine.specs.declared.lines.Line.TheVariants.{Idle, F1, F4, P1}
+use Rattle.machine.specs.declared.seats.View.{View}
+use Rattle.machine.proofs.Lists.{times_here, times_else}
 use Rattle.treiber_stack.specs.Host.{may_step}
 use Rattle.treiber_stack.specs.KeepsMemory.{same_or_not, times_holds}
 use Rattle.treiber_stack.specs.Operations.{IsAt, IsSame, Going, Goes, Told, begun_in}

@@ -19,24 +19,25 @@ use Rattle.bounded_model.proofs.Histories.{own-append, own-mine}
 use Rattle.index_list.specs.declared.front.Front.{Front}
 use Rattle.index_list.specs.declared.front.Front.TheVariants.{First, Last}
 use Rattle.index_list.specs.Steps.{Kind, read_top, read_link, write_link, take_all, give_chain, numbers}
-use Rattle.step_core.specs.Words.{Tagged, times, total, same, Stands}
-use Rattle.step_core.specs.declared.stack.Direction.{Direction}
-use Rattle.step_core.specs.declared.stack.Answer.{Answer}
-use Rattle.step_core.specs.declared.stack.Answer.TheVariants.{Fold as AnswerFold}
-use Rattle.step_core.specs.declared.stack.Giving.{Giving}
-use Rattle.step_core.specs.declared.stack.Taking.TheVariants.{Whole}
-use Rattle.step_core.specs.declared.stack.Line.{Line}
-use Rattle.step_core.specs.declared.stack.Line.TheVariants.{S1, S2, A1, A2, A3, A4, G1, G2, G3}
-use Rattle.step_core.specs.declared.seats.View.{View}
-use Rattle.step_core.specs.StackMachine.{Outcome, held, is_idle, chain_from, values_in, ends, at_S1, at_A1, at_R2, at_W1, refuses, goes_on as core_goes_on, wins, wins_chain, after_give, step}
-use Rattle.step_core.specs.StackLaw.{shape, state, HasValues}
-use Rattle.step_core.specs.StackRule.{Good, Walks, Turns}
-use Rattle.step_core.specs.Seats.{pass_of, line_of, stepped}
-use Rattle.step_core.proofs.Lists.{times_here, leads_from}
-use Rattle.step_core.proofs.OneList.{front_of}
-use Rattle.step_core.proofs.Sums.{total_one}
-use Rattle.step_core.proofs.Tests.{cases, at_most_one}
-use Rattle.step_core.proofs.StackKinds.{no_null, all_nodes, all_values}
+use Rattle.machine.specs.Words.{Tagged, times, total, same, Stands}
+use Rattle.stack_machine.specs.declared.lines.Direction.{Direction}
+use Rattle.stack_machine.specs.declared.lines.Answer.{Answer}
+use Rattle.stack_machine.specs.declared.lines.Answer.TheVariants.{Fold as AnswerFold}
+use Rattle.stack_machine.specs.declared.lines.Giving.{Giving}
+use Rattle.stack_machine.specs.declared.lines.Taking.TheVariants.{Whole}
+use Rattle.stack_machine.specs.declared.lines.Line.{Line}
+use Rattle.stack_machine.specs.declared.lines.Line.TheVariants.{S1, S2, A1, A2, A3, A4, G1, G2, G3}
+use Rattle.machine.specs.declared.seats.View.{View}
+use Rattle.stack_machine.specs.Machine.{Outcome, held, is_idle, ends, at_S1, at_A1, at_R2, at_W1, refuses, goes_on as core_goes_on, wins, wins_chain, after_give, step}
+use Rattle.machine.specs.Chains.{chain_from, values_in, HasValues}
+use Rattle.stack_machine.specs.Answers.{shape, state}
+use Rattle.stack_machine.specs.Rule.{Good, Walks, Turns}
+use Rattle.machine.specs.Seats.{pass_of, line_of, stepped}
+use Rattle.machine.proofs.Lists.{times_here, leads_from}
+use Rattle.machine.proofs.OneList.{front_of}
+use Rattle.machine.proofs.Sums.{total_one}
+use Rattle.machine.proofs.Tests.{cases, at_most_one}
+use Rattle.stack_machine.proofs.Moves.{no_null, all_nodes, all_values}
 use Rattle.treiber_stack.specs.declared.operation.Operation.{Operation}
 use Rattle.treiber_stack.specs.Rule.{idle, Meets}
 use Rattle.treiber_stack.specs.Host.{line_now, direction, Did}

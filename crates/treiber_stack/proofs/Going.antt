@@ -8,17 +8,17 @@ use Rattle.bounded_model.specs.Histories.{Later, own}
 use Rattle.bounded_model.specs.Laws.{IsAtRest, Adds}
 use Rattle.bounded_model.proofs.Histories.{own-between, Later-refl, Later-trans}
 use Rattle.index_list.specs.Steps.{Kind}
-use Rattle.step_core.specs.declared.stack.Answer.{Answer}
-use Rattle.step_core.specs.declared.stack.Line.{Line}
-use Rattle.step_core.specs.declared.stack.Line.TheVariants.{Idle}
-use Rattle.step_core.specs.declared.seats.View.{View}
-use Rattle.step_core.specs.declared.seats.View.TheVariants.{AtPass}
-use Rattle.step_core.specs.StackMachine.{Outcome, is_idle, step}
-use Rattle.step_core.specs.StackLaw.{shape}
-use Rattle.step_core.specs.StackRule.{Tells}
-use Rattle.step_core.specs.StackDeeds.{Deeds}
-use Rattle.step_core.specs.Seats.{Saw, at_rest, stepped, pass_of, line_of}
-use Rattle.step_core.proofs.StackDoing.{meanwhile}
+use Rattle.stack_machine.specs.declared.lines.Answer.{Answer}
+use Rattle.stack_machine.specs.declared.lines.Line.{Line}
+use Rattle.stack_machine.specs.declared.lines.Line.TheVariants.{Idle}
+use Rattle.machine.specs.declared.seats.View.{View}
+use Rattle.machine.specs.declared.seats.View.TheVariants.{AtPass}
+use Rattle.stack_machine.specs.Machine.{Outcome, is_idle, step}
+use Rattle.stack_machine.specs.Answers.{shape}
+use Rattle.stack_machine.specs.Rule.{Tells}
+use Rattle.stack_machine.specs.Deeds.{Deeds}
+use Rattle.machine.specs.Seats.{Saw, at_rest, stepped, pass_of, line_of}
+use Rattle.stack_machine.proofs.Doing.{meanwhile}
 use Rattle.treiber_stack.specs.declared.operation.Operation.{Operation}
 use Rattle.treiber_stack.specs.declared.operation.Listed.TheVariants.{End, More'}
 use Rattle.treiber_stack.specs.declared.operation.Operation.TheVariants.{Put as PutFirst, Take as TakeFirst, Close as CloseFirst, Shut as ShutFirst, Look as LookFirst, Fold as FoldFirst, Range as RangeFirst}

@@ -10,16 +10,17 @@ use Rattle.tagged_index.specs.declared.word.TheConstants.{NULL}
 use Rattle.bounded_model.specs.declared.views.RootView.{RootView}
 use Rattle.bounded_model.specs.Machine.{state}
 use Rattle.bounded_model.specs.Laws.{IsSound, Leaves}
-use Rattle.step_core.specs.Words.{times, Leads}
-use Rattle.step_core.specs.declared.stack.Line.{Line}
-use Rattle.step_core.specs.declared.seats.View.{View}
-use Rattle.step_core.specs.declared.seats.View.TheVariants.{AtRoot}
-use Rattle.step_core.specs.StackLaw.{shape, HasValues}
-use Rattle.step_core.specs.Seats.{Rooted, Knows}
-use Rattle.step_core.proofs.Tests.{cases}
-use Rattle.step_core.proofs.Lists.{times_here, not_there}
-use Rattle.step_core.proofs.Chains.{values_frame}
-use Rattle.step_core.proofs.SeatedEnds.{leaves}
+use Rattle.machine.specs.Words.{times, Leads}
+use Rattle.stack_machine.specs.declared.lines.Line.{Line}
+use Rattle.machine.specs.declared.seats.View.{View}
+use Rattle.machine.specs.declared.seats.View.TheVariants.{AtRoot}
+use Rattle.stack_machine.specs.Answers.{shape}
+use Rattle.machine.specs.Chains.{HasValues}
+use Rattle.machine.specs.Seats.{Rooted, Knows}
+use Rattle.machine.proofs.Tests.{cases}
+use Rattle.machine.proofs.Lists.{times_here, not_there}
+use Rattle.machine.proofs.Chains.{values_frame}
+use Rattle.machine.proofs.SeatedEnds.{leaves}
 use Rattle.treiber_stack.specs.Layout.{top_at, link_at}
 use Rattle.treiber_stack.specs.Rule.{at_home, Rule}
 use Rattle.treiber_stack.specs.Left.{count_full, on_top, values_from, left_along}

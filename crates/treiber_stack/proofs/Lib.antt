@@ -21,3 +21,4 @@ pub mod Placing
 pub mod Restoring
 pub mod Filling
 pub mod RangeGives
+pub mod Running

@@ -4,10 +4,10 @@ use Rattle.std.proofs.lemmas.List.{reverse-append, length-reverse}
 use Rattle.std.specs.Prelude.{Option as Slot, Some, None}
 use mathlib.Core.Option.{Option, none, some}
 use Rattle.index_list.specs.Steps.{Each, numbers}
-use Rattle.step_core.specs.Words.{times}
-use Rattle.step_core.specs.StackMachine.{filled, with_home}
-use Rattle.step_core.proofs.Lists.{times_here}
-use Rattle.step_core.proofs.Chains.{home_here, home_else}
+use Rattle.machine.specs.Words.{times}
+use Rattle.machine.specs.Chains.{filled, with_home}
+use Rattle.machine.proofs.Lists.{times_here}
+use Rattle.machine.proofs.Chains.{home_here, home_else}
 use Rattle.treiber_stack.specs.Folding.{full}
 use Rattle.treiber_stack.specs.Ranging.{loaded, places_from}
 

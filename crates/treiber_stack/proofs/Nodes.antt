@@ -6,13 +6,13 @@ use Rattle.atomic_table.specs.Table.{State}
 use Rattle.tagged_index.specs.Fields.{index_of}
 use Rattle.tagged_index.specs.declared.word.TheConstants.{NULL}
 use Rattle.index_list.specs.Lists.{word}
-use Rattle.step_core.specs.Words.{times, total}
-use Rattle.step_core.specs.declared.stack.Line.{Line}
-use Rattle.step_core.specs.declared.seats.View.{View}
-use Rattle.step_core.specs.StackMachine.{held}
-use Rattle.step_core.proofs.Lists.{times_here}
-use Rattle.step_core.proofs.OneList.{front_of}
-use Rattle.step_core.proofs.Tests.{cases}
+use Rattle.machine.specs.Words.{times, total}
+use Rattle.stack_machine.specs.declared.lines.Line.{Line}
+use Rattle.machine.specs.declared.seats.View.{View}
+use Rattle.stack_machine.specs.Machine.{held}
+use Rattle.machine.proofs.Lists.{times_here}
+use Rattle.machine.proofs.OneList.{front_of}
+use Rattle.machine.proofs.Tests.{cases}
 use Rattle.treiber_stack.specs.Layout.{top_at}
 use Rattle.treiber_stack.specs.Rule.{line_in, memory_of, Rule}
 

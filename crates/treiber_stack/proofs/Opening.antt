@@ -9,18 +9,18 @@ use Rattle.atomic_table.specs.Table.{opening}
 use Rattle.tagged_index.specs.Fields.{fields_of}
 use Rattle.tagged_index.specs.declared.word.TheConstants.{NULL}
 use Rattle.bounded_model.specs.declared.history.Event.{Event}
-use Rattle.step_core.specs.Words.{times, start_link, start_word, Stands}
-use Rattle.step_core.specs.declared.stack.Line.{Line}
-use Rattle.step_core.specs.StackMachine.{Memory, start}
-use Rattle.step_core.specs.StackLaw.{shape, state}
-use Rattle.step_core.specs.StackRule.{Lists, IsFine, Told, Good}
-use Rattle.step_core.specs.Seats.{first_view}
-use Rattle.step_core.proofs.Tests.{cases}
-use Rattle.step_core.proofs.Lists.{leads_frame}
-use Rattle.step_core.proofs.Chains.{values_frame}
-use Rattle.step_core.proofs.Seating.{seated_first}
-use Rattle.step_core.proofs.StackKinds.{Kept}
-use Rattle.step_core.proofs.StackRun.{start_kept}
+use Rattle.machine.specs.Words.{times, start_link, start_word, Stands}
+use Rattle.stack_machine.specs.declared.lines.Line.{Line}
+use Rattle.stack_machine.specs.Machine.{Memory, start}
+use Rattle.stack_machine.specs.Answers.{shape, state}
+use Rattle.stack_machine.specs.Rule.{Lists, IsFine, Told, Good}
+use Rattle.machine.specs.Seats.{first_view}
+use Rattle.machine.proofs.Tests.{cases}
+use Rattle.machine.proofs.Lists.{leads_frame}
+use Rattle.machine.proofs.Chains.{values_frame}
+use Rattle.machine.proofs.Seating.{seated_first}
+use Rattle.stack_machine.proofs.Moves.{Kept}
+use Rattle.stack_machine.proofs.Start.{start_kept}
 use Rattle.treiber_stack.specs.Layout.{link_at, words_for, start_at}
 use Rattle.treiber_stack.specs.Rule.{at_home, memory_of, idle, holding, Rule}
 use Rattle.treiber_stack.specs.KeepsRule.{good_seated}
@@ -82,7 +82,7 @@ module _ {T : Type 0} {n limit : ℕ} where
   opens_all ws items e some_node small long_items items_are =
       let long : length ws ≡ words_for n = ap length e ∙ long_items in
       let is : (k : ℕ) → k < words_for n → slice_index ws k ≡ start_at n k = λ k h. ap (λ (l : List ℕ). slice_index l k) e ∙ items_are k h in
-      let m : Memory T = (start (shape n limit) 1).memory in
+      let m : Memory T = start (shape n limit) in
       let homes : List (Option (Slot T)) = empties T n in
       let kept : Kept T n limit m some (idle ∷ []) [] = start_kept n limit 1 some_node small in
       let free : fields_of (slice_index ws 0) ≡ start_word 0 = ap fields_of (is 0 (omega arith)) in

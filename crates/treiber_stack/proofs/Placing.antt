@@ -14,15 +14,16 @@ use Rattle.bounded_model.specs.Justified.{Sometime}
 use Rattle.bounded_model.specs.Laws.{Adds, RangeGives, holds_of}
 use Rattle.index_list.specs.Lists.{Holds}
 use Rattle.index_list.specs.Steps.{read_top, write_link, give_chain, numbers, Each}
-use Rattle.step_core.specs.Words.{times}
-use Rattle.step_core.specs.StackDeeds.{HasNoNode}
-use Rattle.step_core.specs.StackMachine.{first, last, held, filled, placed, unplaced}
-use Rattle.step_core.specs.declared.stack.Answer.TheVariants.{Put as AnswerPut}
-use Rattle.step_core.specs.declared.stack.Putting.{Putting}
-use Rattle.step_core.specs.declared.stack.Line.{Line}
-use Rattle.step_core.specs.declared.stack.Line.TheVariants.{P1, P2, P3, G1}
-use Rattle.step_core.proofs.Chains.{first_in, last_in}
-use Rattle.step_core.proofs.StackLinked.{held_once}
+use Rattle.machine.specs.Words.{times}
+use Rattle.stack_machine.specs.Deeds.{HasNoNode}
+use Rattle.machine.specs.Chains.{first, last, filled}
+use Rattle.stack_machine.specs.Machine.{held, placed, unplaced}
+use Rattle.stack_machine.specs.declared.lines.Answer.TheVariants.{Put as AnswerPut}
+use Rattle.stack_machine.specs.declared.lines.Putting.{Putting}
+use Rattle.stack_machine.specs.declared.lines.Line.{Line}
+use Rattle.stack_machine.specs.declared.lines.Line.TheVariants.{P1, P2, P3, G1}
+use Rattle.machine.proofs.Chains.{first_in, last_in}
+use Rattle.stack_machine.proofs.Linked.{held_once}
 use Rattle.treiber_stack.specs.Host.{puts_of, Bears, may_step}
 use Rattle.treiber_stack.specs.KeepsMemory.{times_holds}
 use Rattle.treiber_stack.specs.KeepsPuts.{puts_line}

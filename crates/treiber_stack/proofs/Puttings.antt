@@ -15,17 +15,17 @@ use Rattle.bounded_model.specs.Histories.{own}
 use Rattle.bounded_model.specs.Laws.{PutGives, Adds, BacksOut, gave_back}
 use Rattle.bounded_model.proofs.Histories.{own-mine}
 use Rattle.index_list.specs.Steps.{read_top, read_link, write_link, take, give_chain}
-use Rattle.step_core.specs.Words.{Tagged, same}
-use Rattle.step_core.specs.declared.stack.Answer.{Answer}
-use Rattle.step_core.specs.declared.stack.Answer.TheVariants.{Put as AnswerPut}
-use Rattle.step_core.specs.declared.stack.Line.{Line}
-use Rattle.step_core.specs.declared.stack.Line.TheVariants.{F1, F2, F3, P1, P2, P3, D1, G1}
-use Rattle.step_core.specs.declared.seats.View.{View}
-use Rattle.step_core.specs.StackMachine.{Outcome, ends, gives, at_F1, at_F3, at_P1, at_D1, goes_on as core_goes_on, wins, after_hold, after_put}
-use Rattle.step_core.specs.StackLaw.{shape}
-use Rattle.step_core.specs.StackDeeds.{handed_back}
-use Rattle.step_core.specs.Seats.{pass_of}
-use Rattle.step_core.proofs.Chains.{home_here}
+use Rattle.machine.specs.Words.{Tagged, same}
+use Rattle.stack_machine.specs.declared.lines.Answer.{Answer}
+use Rattle.stack_machine.specs.declared.lines.Answer.TheVariants.{Put as AnswerPut}
+use Rattle.stack_machine.specs.declared.lines.Line.{Line}
+use Rattle.stack_machine.specs.declared.lines.Line.TheVariants.{F1, F2, F3, P1, P2, P3, D1, G1}
+use Rattle.machine.specs.declared.seats.View.{View}
+use Rattle.stack_machine.specs.Machine.{Outcome, ends, gives, at_F1, at_F3, at_P1, at_D1, goes_on as core_goes_on, wins, after_hold, after_put}
+use Rattle.stack_machine.specs.Answers.{shape}
+use Rattle.stack_machine.specs.Deeds.{handed_back}
+use Rattle.machine.specs.Seats.{pass_of}
+use Rattle.machine.proofs.Chains.{home_here}
 use Rattle.treiber_stack.specs.declared.operation.Operation.{Operation}
 use Rattle.treiber_stack.specs.declared.operation.Operation.TheVariants.{Put as PutFirst}
 use Rattle.std.specs.declared.snapshot.Snapshot.{Snapshot}

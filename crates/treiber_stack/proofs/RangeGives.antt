@@ -8,9 +8,9 @@ use Rattle.bounded_model.specs.declared.views.PassView.{PassView}
 use Rattle.bounded_model.specs.Machine.{Shape}
 use Rattle.bounded_model.specs.Laws.{RangeGives}
 use Rattle.bounded_model.specs.Justified.{Sometime}
-use Rattle.step_core.specs.StackDeeds.{HasNoNode}
-use Rattle.step_core.specs.declared.stack.Answer.TheVariants.{Put as AnswerPut}
-use Rattle.step_core.specs.declared.stack.Giving.{Giving}
+use Rattle.stack_machine.specs.Deeds.{HasNoNode}
+use Rattle.stack_machine.specs.declared.lines.Answer.TheVariants.{Put as AnswerPut}
+use Rattle.stack_machine.specs.declared.lines.Giving.{Giving}
 use Rattle.treiber_stack.specs.Folding.{Gave}
 use Rattle.treiber_stack.specs.Operations.{Ended, begun_in}
 use Rattle.treiber_stack.specs.Places.{somes}

@@ -15,17 +15,17 @@ use Rattle.bounded_model.specs.Histories.{own}
 use Rattle.bounded_model.specs.Laws.{Adds, holds_of}
 use Rattle.bounded_model.proofs.Histories.{own-mine}
 use Rattle.index_list.specs.Steps.{read_top, read_link, write_link, take, give_chain}
-use Rattle.step_core.specs.Words.{Tagged, times, same}
-use Rattle.step_core.specs.declared.stack.Answer.{Answer}
-use Rattle.step_core.specs.declared.stack.Answer.TheVariants.{Put as AnswerPut}
-use Rattle.step_core.specs.declared.stack.Putting.{Putting}
-use Rattle.step_core.specs.declared.stack.Line.{Line}
-use Rattle.step_core.specs.declared.stack.Line.TheVariants.{F1, F2, F3, F4, P1, P2, P3, D1, G1}
-use Rattle.step_core.specs.declared.seats.View.{View}
-use Rattle.step_core.specs.StackMachine.{Outcome, is_idle, held, ends, gives, next_node, no_node, with_node, placed, unplaced, at_F1, at_F3, at_P1, at_D1, goes_on as core_goes_on, wins, after_hold, after_put}
-use Rattle.step_core.specs.Seats.{pass_of}
-use Rattle.step_core.proofs.Tests.{cases, at_most_one}
-use Rattle.step_core.proofs.Sums.{total_one}
+use Rattle.machine.specs.Words.{Tagged, times, same}
+use Rattle.stack_machine.specs.declared.lines.Answer.{Answer}
+use Rattle.stack_machine.specs.declared.lines.Answer.TheVariants.{Put as AnswerPut}
+use Rattle.stack_machine.specs.declared.lines.Putting.{Putting}
+use Rattle.stack_machine.specs.declared.lines.Line.{Line}
+use Rattle.stack_machine.specs.declared.lines.Line.TheVariants.{F1, F2, F3, F4, P1, P2, P3, D1, G1}
+use Rattle.machine.specs.declared.seats.View.{View}
+use Rattle.stack_machine.specs.Machine.{Outcome, is_idle, held, ends, gives, next_node, no_node, with_node, placed, unplaced, at_F1, at_F3, at_P1, at_D1, goes_on as core_goes_on, wins, after_hold, after_put}
+use Rattle.machine.specs.Seats.{pass_of}
+use Rattle.machine.proofs.Tests.{cases, at_most_one}
+use Rattle.machine.proofs.Sums.{total_one}
 use Rattle.treiber_stack.specs.declared.operation.Operation.{Operation}
 use Rattle.treiber_stack.specs.Host.{Did}
 use Rattle.treiber_stack.specs.KeepsMarks.{is_same, not_same}

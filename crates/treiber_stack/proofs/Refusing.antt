@@ -5,9 +5,9 @@ use Rattle.tagged_index.specs.declared.word.TheConstants.{NULL}
 use Rattle.bounded_model.specs.declared.answers.Word.TheVariants.{Top as TopWord}
 use Rattle.bounded_model.specs.declared.answers.TakeRefused.{TakeRefused}
 use Rattle.bounded_model.specs.declared.answers.TakeRefused.TheVariants.{Empty, Closed, Spent, Shut}
-use Rattle.step_core.specs.declared.stack.Taking.{Taking}
-use Rattle.step_core.specs.declared.stack.Line.{Line}
-use Rattle.step_core.specs.StackMachine.{at_S1, refuses, takes}
+use Rattle.stack_machine.specs.declared.lines.Taking.{Taking}
+use Rattle.stack_machine.specs.declared.lines.Line.{Line}
+use Rattle.stack_machine.specs.Machine.{at_S1, refuses, takes}
 use Rattle.treiber_stack.specs.Folding.{RefusesTake}
 use Rattle.treiber_stack.proofs.Takings.{leb_yes}
 

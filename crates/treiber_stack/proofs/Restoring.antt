@@ -12,20 +12,20 @@ use Rattle.bounded_model.specs.declared.answers.PutRefused.{PutRefused}
 use Rattle.bounded_model.specs.declared.views.PassView.{PassView}
 use Rattle.bounded_model.proofs.Adding.{Sometime-wider}
 use Rattle.bounded_model.proofs.Histories.{is_nil, Later-refl, Later-trans}
-use Rattle.step_core.specs.Words.{times, IsChain}
-use Rattle.step_core.specs.StackDeeds.{Deeds}
-use Rattle.step_core.specs.StackLaw.{shape}
-use Rattle.step_core.specs.StackMachine.{first, last}
-use Rattle.step_core.specs.StackRule.{IsFine, Gives}
-use Rattle.step_core.specs.Seats.{Looks}
-use Rattle.step_core.specs.declared.stack.Answer.TheVariants.{Put as AnswerPut}
-use Rattle.step_core.specs.declared.stack.Giving.{Giving}
-use Rattle.step_core.specs.declared.stack.Line.{Line}
-use Rattle.step_core.specs.declared.stack.Line.TheVariants.{Idle, G1}
-use Rattle.step_core.specs.declared.seats.View.{View}
-use Rattle.step_core.specs.declared.seats.View.TheVariants.{AtPass}
-use Rattle.step_core.proofs.Lists.{times_here, times_append}
-use Rattle.step_core.proofs.StackDoing.{meanwhile}
+use Rattle.machine.specs.Words.{times, IsChain}
+use Rattle.stack_machine.specs.Deeds.{Deeds}
+use Rattle.stack_machine.specs.Answers.{shape}
+use Rattle.machine.specs.Chains.{first, last}
+use Rattle.stack_machine.specs.Rule.{IsFine, Gives}
+use Rattle.machine.specs.Seats.{Looks}
+use Rattle.stack_machine.specs.declared.lines.Answer.TheVariants.{Put as AnswerPut}
+use Rattle.stack_machine.specs.declared.lines.Giving.{Giving}
+use Rattle.stack_machine.specs.declared.lines.Line.{Line}
+use Rattle.stack_machine.specs.declared.lines.Line.TheVariants.{Idle, G1}
+use Rattle.machine.specs.declared.seats.View.{View}
+use Rattle.machine.specs.declared.seats.View.TheVariants.{AtPass}
+use Rattle.machine.proofs.Lists.{times_here, times_append}
+use Rattle.stack_machine.proofs.Doing.{meanwhile}
 use Rattle.treiber_stack.specs.Host.{first_line, line_now, begun_now}
 use Rattle.treiber_stack.specs.KeepsRule.{at_map}
 use Rattle.treiber_stack.specs.Layout.{link_at}

@@ -8,17 +8,17 @@ use Rattle.atomic_table.specs.Table.{State, Me, keeps, Allows, Splits, Joins}
 use Rattle.atomic_table.proofs.Lists.{set_again, set_else}
 use Rattle.bounded_model.specs.declared.history.Event.{Event}
 use Rattle.bounded_model.proofs.Histories.{Later-refl}
-use Rattle.step_core.specs.Words.{times}
-use Rattle.step_core.specs.declared.stack.Line.{Line}
-use Rattle.step_core.specs.declared.seats.View.{View}
-use Rattle.step_core.specs.declared.seats.View.TheVariants.{AtRoot, AtPass, AtMeeting, Left}
-use Rattle.step_core.specs.StackMachine.{held}
-use Rattle.step_core.specs.StackLaw.{shape}
-use Rattle.step_core.specs.StackRule.{Good}
-use Rattle.step_core.specs.Seats.{Looks, Seated, held_at, looked, both_of}
-use Rattle.step_core.proofs.Seating.{seated_step, seated_split, seated_join}
-use Rattle.step_core.proofs.SeatedCalls.{looks, looked_owns, looked_fine}
-use Rattle.step_core.proofs.StackKinds.{good_goes}
+use Rattle.machine.specs.Words.{times}
+use Rattle.stack_machine.specs.declared.lines.Line.{Line}
+use Rattle.machine.specs.declared.seats.View.{View}
+use Rattle.machine.specs.declared.seats.View.TheVariants.{AtRoot, AtPass, AtMeeting, Left}
+use Rattle.stack_machine.specs.Machine.{held}
+use Rattle.stack_machine.specs.Answers.{shape}
+use Rattle.stack_machine.specs.Rule.{Good}
+use Rattle.machine.specs.Seats.{Looks, Seated, held_at, looked, both_of}
+use Rattle.machine.proofs.Seating.{seated_step, seated_split, seated_join}
+use Rattle.machine.proofs.SeatedCalls.{looks, looked_owns, looked_fine}
+use Rattle.stack_machine.proofs.Moves.{good_goes}
 use Rattle.treiber_stack.specs.Rule.{idle, line_in, who, holding, memory_of, left_part, right_part, Rule}
 use Rattle.treiber_stack.specs.KeepsRule.{at_map, map_set, map_snoc, good_seated, good_snoc}
 

@@ -8,10 +8,9 @@ use Rattle.bounded_model.specs.Machine.{without_first}
 use Rattle.index_list.specs.Lists as index_list
 use Rattle.index_list.specs.Steps.{Each, numbers, WithSlots}
 use Rattle.index_list.specs.Results.{Brings}
-use Rattle.step_core.specs.Words.{times, Leads, Stands}
-use Rattle.step_core.specs.StackMachine.{first}
-use Rattle.step_core.specs.StackLaw.{HasValues}
-use Rattle.step_core.proofs.Lists.{times_here, times_append}
+use Rattle.machine.specs.Words.{times, Leads, Stands}
+use Rattle.machine.specs.Chains.{first, HasValues}
+use Rattle.machine.proofs.Lists.{times_here, times_append}
 use Rattle.treiber_stack.specs.Operations.{vacant}
 use Rattle.treiber_stack.specs.Folding.{full}
 

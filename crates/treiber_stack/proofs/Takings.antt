@@ -13,16 +13,16 @@ use Rattle.bounded_model.specs.declared.history.Event.TheVariants.{Take, Free}
 use Rattle.bounded_model.specs.declared.views.PassView.{PassView}
 use Rattle.bounded_model.specs.Laws.{TakeGives}
 use Rattle.index_list.specs.Steps.{Kind, read_top, read_link, write_link, take, give_chain}
-use Rattle.step_core.specs.Words.{Tagged, same}
-use Rattle.step_core.specs.declared.stack.Answer.TheVariants.{Take as AnswerTake}
-use Rattle.step_core.specs.declared.stack.Giving.{Giving}
-use Rattle.step_core.specs.declared.stack.Taking.TheVariants.{One}
-use Rattle.step_core.specs.declared.stack.Line.{Line}
-use Rattle.step_core.specs.declared.stack.Line.TheVariants.{S1, S2, S3, G1, G2, G3}
-use Rattle.step_core.specs.declared.seats.View.{View}
-use Rattle.step_core.specs.StackMachine.{Outcome, held, ends, at_S1, goes_on as core_goes_on, wins, wins_value, after_give}
-use Rattle.step_core.specs.StackLaw.{shape}
-use Rattle.step_core.specs.Seats.{pass_of}
+use Rattle.machine.specs.Words.{Tagged, same}
+use Rattle.stack_machine.specs.declared.lines.Answer.TheVariants.{Take as AnswerTake}
+use Rattle.stack_machine.specs.declared.lines.Giving.{Giving}
+use Rattle.stack_machine.specs.declared.lines.Taking.TheVariants.{One}
+use Rattle.stack_machine.specs.declared.lines.Line.{Line}
+use Rattle.stack_machine.specs.declared.lines.Line.TheVariants.{S1, S2, S3, G1, G2, G3}
+use Rattle.machine.specs.declared.seats.View.{View}
+use Rattle.stack_machine.specs.Machine.{Outcome, held, ends, at_S1, goes_on as core_goes_on, wins, wins_value, after_give}
+use Rattle.stack_machine.specs.Answers.{shape}
+use Rattle.machine.specs.Seats.{pass_of}
 use Rattle.treiber_stack.specs.declared.operation.Operation.{Operation}
 use Rattle.treiber_stack.specs.Host.{Makes, may_step, steps_in, Did}
 use Rattle.treiber_stack.specs.Rule.{line_in}

@@ -11,14 +11,14 @@ use Rattle.bounded_model.specs.Histories.{own}
 use Rattle.index_list.specs.Lists.{Holds}
 use Rattle.index_list.specs.declared.front.Front.TheVariants.{First, Last}
 use Rattle.index_list.specs.Steps.{read_link, write_link}
-use Rattle.step_core.specs.Words.{times, Stands}
-use Rattle.step_core.specs.declared.stack.Giving.{Giving}
-use Rattle.step_core.specs.declared.stack.Line.{Line}
-use Rattle.step_core.specs.declared.stack.Line.TheVariants.{A2, A3, A4}
-use Rattle.step_core.specs.declared.seats.View.{View}
-use Rattle.step_core.specs.StackMachine.{held}
-use Rattle.step_core.proofs.Lists.{times_here, times_append}
-use Rattle.step_core.proofs.Chains.{times_reverse}
+use Rattle.machine.specs.Words.{times, Stands}
+use Rattle.stack_machine.specs.declared.lines.Giving.{Giving}
+use Rattle.stack_machine.specs.declared.lines.Line.{Line}
+use Rattle.stack_machine.specs.declared.lines.Line.TheVariants.{A2, A3, A4}
+use Rattle.machine.specs.declared.seats.View.{View}
+use Rattle.stack_machine.specs.Machine.{held}
+use Rattle.machine.proofs.Lists.{times_here, times_append}
+use Rattle.machine.proofs.Chains.{times_reverse}
 use Rattle.treiber_stack.specs.Rule.{line_in}
 use Rattle.treiber_stack.specs.Host.{may_step}
 use Rattle.treiber_stack.specs.KeepsMemory.{times_holds}

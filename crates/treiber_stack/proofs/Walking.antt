@@ -12,14 +12,14 @@ use Rattle.bounded_model.specs.Consumes.{Folds}
 use Rattle.index_list.specs.declared.front.Front.{Front}
 use Rattle.index_list.specs.declared.front.Front.TheVariants.{First}
 use Rattle.index_list.specs.Steps.{read_link}
-use Rattle.step_core.specs.Words.{times, Stands}
-use Rattle.step_core.specs.declared.stack.Giving.{Giving}
-use Rattle.step_core.specs.declared.stack.Line.{Line}
-use Rattle.step_core.specs.declared.stack.Line.TheVariants.{A4, G1}
-use Rattle.step_core.specs.declared.seats.View.{View}
-use Rattle.step_core.specs.Seats.{pass_of}
-use Rattle.step_core.specs.StackMachine.{first, last}
-use Rattle.step_core.proofs.Lists.{times_here, times_append}
+use Rattle.machine.specs.Words.{times, Stands}
+use Rattle.stack_machine.specs.declared.lines.Giving.{Giving}
+use Rattle.stack_machine.specs.declared.lines.Line.{Line}
+use Rattle.stack_machine.specs.declared.lines.Line.TheVariants.{A4, G1}
+use Rattle.machine.specs.declared.seats.View.{View}
+use Rattle.machine.specs.Seats.{pass_of}
+use Rattle.machine.specs.Chains.{first, last}
+use Rattle.machine.proofs.Lists.{times_here, times_append}
 use Rattle.treiber_stack.specs.Host.{may_step}
 use Rattle.treiber_stack.specs.Operations.{IsAt, IsSame, Going, Goes, Told, begun_in, vacant}
 use Rattle.treiber_stack.specs.Stack.{pass_in}

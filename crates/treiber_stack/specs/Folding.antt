@@ -14,13 +14,14 @@ use Rattle.bounded_model.specs.Consumes.{Folds}
 use Rattle.index_list.specs.declared.front.Front.{Front}
 use Rattle.index_list.specs.declared.front.Front.TheVariants.{First, Last}
 use Rattle.index_list.specs.Steps.{arranged}
-use Rattle.step_core.specs.Words.{times}
-use Rattle.step_core.specs.declared.stack.Answer.TheVariants.{Fold as AnswerFold}
-use Rattle.step_core.specs.declared.stack.Giving.{Giving}
-use Rattle.step_core.specs.declared.stack.Taking.{Taking}
-use Rattle.step_core.specs.declared.stack.Line.{Line}
-use Rattle.step_core.specs.declared.stack.Line.TheVariants.{A2, A4, G1}
-use Rattle.step_core.specs.StackMachine.{first, last, at_S1, at_A1, refuses}
+use Rattle.machine.specs.Words.{times}
+use Rattle.stack_machine.specs.declared.lines.Answer.TheVariants.{Fold as AnswerFold}
+use Rattle.stack_machine.specs.declared.lines.Giving.{Giving}
+use Rattle.stack_machine.specs.declared.lines.Taking.{Taking}
+use Rattle.stack_machine.specs.declared.lines.Line.{Line}
+use Rattle.stack_machine.specs.declared.lines.Line.TheVariants.{A2, A4, G1}
+use Rattle.machine.specs.Chains.{first, last}
+use Rattle.stack_machine.specs.Machine.{at_S1, at_A1, refuses}
 use Rattle.treiber_stack.specs.Host.{direction}
 use Rattle.treiber_stack.specs.Operations.{IsAt, Ended, begun_in, vacant}
 use Rattle.treiber_stack.specs.Stack.{shape_of, pass_in, IsPassOf}

@@ -11,20 +11,21 @@ use Rattle.index_list.specs.declared.front.Front.{Front}
 use Rattle.index_list.specs.declared.front.Front.TheVariants.{First, Last}
 use Rattle.index_list.specs.Lists.{Leads}
 use Rattle.index_list.specs.Steps.{Kind, read_top, read_link, write_link, take, give, give_chain, take_all, mark, shut, numbers, Each}
-use Rattle.step_core.specs.Words.{Tagged}
-use Rattle.step_core.specs.declared.stack.Putting.{Putting}
-use Rattle.step_core.specs.declared.stack.Direction.{Direction}
-use Rattle.step_core.specs.declared.stack.Direction.TheVariants.{Down, Up}
-use Rattle.step_core.specs.declared.stack.Taking.TheVariants.{One, Whole}
-use Rattle.step_core.specs.declared.stack.Line.{Line}
-use Rattle.step_core.specs.declared.stack.Line.TheVariants.{Idle, F1, F2, F3, F4, P1, P2, P3, D1, S1, S2, S3, A1, A2, A3, A4, G1, G2, G3, Z1, Z2, Y1, Y2, V1}
-use Rattle.step_core.specs.declared.seats.View.{View}
-use Rattle.step_core.specs.declared.seats.View.TheVariants.{AtRoot, AtPass, AtMeeting, Left}
-use Rattle.step_core.specs.StackMachine.{Memory, Outcome, first, second, last, held, placed, filled, step}
-use Rattle.step_core.specs.StackLaw.{shape, state}
-use Rattle.step_core.specs.StackRule.{Tells}
-use Rattle.step_core.specs.StackDeeds.{Deeds}
-use Rattle.step_core.specs.Seats.{Saw, stepped}
+use Rattle.machine.specs.Words.{Tagged}
+use Rattle.stack_machine.specs.declared.lines.Putting.{Putting}
+use Rattle.stack_machine.specs.declared.lines.Direction.{Direction}
+use Rattle.stack_machine.specs.declared.lines.Direction.TheVariants.{Down, Up}
+use Rattle.stack_machine.specs.declared.lines.Taking.TheVariants.{One, Whole}
+use Rattle.stack_machine.specs.declared.lines.Line.{Line}
+use Rattle.stack_machine.specs.declared.lines.Line.TheVariants.{Idle, F1, F2, F3, F4, P1, P2, P3, D1, S1, S2, S3, A1, A2, A3, A4, G1, G2, G3, Z1, Z2, Y1, Y2, V1}
+use Rattle.machine.specs.declared.seats.View.{View}
+use Rattle.machine.specs.declared.seats.View.TheVariants.{AtRoot, AtPass, AtMeeting, Left}
+use Rattle.stack_machine.specs.Machine.{Memory, Outcome, held, placed, step}
+use Rattle.machine.specs.Chains.{first, second, last, filled}
+use Rattle.stack_machine.specs.Answers.{shape, state}
+use Rattle.stack_machine.specs.Rule.{Tells}
+use Rattle.stack_machine.specs.Deeds.{Deeds}
+use Rattle.machine.specs.Seats.{Saw, stepped}
 use Rattle.treiber_stack.specs.Places.{values_of}
 use Rattle.treiber_stack.specs.declared.operation.Listed.TheVariants.{End, More'}
 use Rattle.treiber_stack.specs.Rule.{idle, line_in, holding, Meets}

@@ -14,20 +14,21 @@ use Rattle.index_list.specs.Lists as index_list
 use Rattle.index_list.specs.Lists.{word, Holds, Disjoint, Distinct, AllHome, Stands}
 use Rattle.index_list.specs.Steps.{give_chain, filled, ForSlots, top_after_give, changed, Before, Goes}
 use Rattle.index_list.proofs.Acts.{length-filled}
-use Rattle.step_core.specs.Words.{Tagged, times, total}
-use Rattle.step_core.specs.Words as core
-use Rattle.step_core.specs.declared.stack.Line.{Line}
-use Rattle.step_core.specs.declared.stack.Line.TheVariants.{G1, G3}
-use Rattle.step_core.specs.declared.seats.View.{View}
-use Rattle.step_core.specs.declared.seats.View.TheVariants.{AtRoot, AtPass, AtMeeting, Left}
-use Rattle.step_core.specs.StackMachine.{Memory, held, first, last, step, goes_on, wins, ends, after_give, emptied}
-use Rattle.step_core.specs.StackLaw.{shape, HasValues}
-use Rattle.step_core.specs.StackRule.{Lists, IsFine, Gives}
-use Rattle.step_core.proofs.Sums.{total_one}
+use Rattle.machine.specs.Words.{Tagged, times, total}
+use Rattle.machine.specs.Words as core
+use Rattle.stack_machine.specs.declared.lines.Line.{Line}
+use Rattle.stack_machine.specs.declared.lines.Line.TheVariants.{G1, G3}
+use Rattle.machine.specs.declared.seats.View.{View}
+use Rattle.machine.specs.declared.seats.View.TheVariants.{AtRoot, AtPass, AtMeeting, Left}
+use Rattle.stack_machine.specs.Machine.{Memory, held, step, goes_on, wins, ends, after_give}
+use Rattle.machine.specs.Chains.{first, last, emptied, HasValues}
+use Rattle.stack_machine.specs.Answers.{shape}
+use Rattle.stack_machine.specs.Rule.{Lists, IsFine, Gives}
+use Rattle.machine.proofs.Sums.{total_one}
 use Rattle.std.proofs.lemmas.Bool.Decides.{nat_tests}
-use Rattle.step_core.proofs.Tests.{at_most_one, cases}
-use Rattle.step_core.proofs.Lists.{times_here}
-use Rattle.step_core.proofs.Chains.{chain_leads}
+use Rattle.machine.proofs.Tests.{at_most_one, cases}
+use Rattle.machine.proofs.Lists.{times_here}
+use Rattle.machine.proofs.Chains.{chain_leads}
 use Rattle.treiber_stack.specs.declared.operation.Operation.{Operation}
 use Rattle.treiber_stack.specs.Layout.{top_at, link_at, layout_stack}
 use Rattle.treiber_stack.specs.Rule.{at_home, line_in, memory_of, Rule}

@@ -11,17 +11,18 @@ use Rattle.bounded_model.specs.declared.history.Event.TheVariants.{Hold, Put, Fr
 use Rattle.bounded_model.specs.Machine.{Shape}
 use Rattle.index_list.specs.Lists.{word}
 use Rattle.index_list.specs.Steps.{Kind, read_top, read_link, write_link, take, give, give_chain, take_all, mark, shut, Expects, top_after_mark, top_after_shut, looked, changed, Before, Goes}
-use Rattle.step_core.specs.Words.{Tagged, same}
-use Rattle.step_core.specs.declared.stack.Taking.TheVariants.{One, Whole}
-use Rattle.step_core.specs.declared.stack.Answer.TheVariants.{Put as AnswerPut, Close as AnswerClose, Shut as AnswerShut}
-use Rattle.step_core.specs.declared.stack.Putting.{Putting}
-use Rattle.step_core.specs.declared.stack.Line.{Line}
-use Rattle.step_core.specs.declared.stack.Line.TheVariants.{F1, F3, P1, P3, S1, S3, A1, G1, G3, Z1, Z2, Y1, Y2}
-use Rattle.step_core.specs.declared.seats.View.{View}
-use Rattle.step_core.specs.declared.seats.View.TheVariants.{AtRoot, AtPass, AtMeeting, Left}
-use Rattle.step_core.specs.StackMachine.{Memory, step, goes_on, wins, wins_value, wins_chain, chain_from, ends, at_F3, after_hold, after_give, after_put, after_close, after_shut, placed, unplaced}
-use Rattle.step_core.specs.StackLaw.{shape}
-use Rattle.step_core.proofs.Tests.{same-is, same-self}
+use Rattle.machine.specs.Words.{Tagged, same}
+use Rattle.stack_machine.specs.declared.lines.Taking.TheVariants.{One, Whole}
+use Rattle.stack_machine.specs.declared.lines.Answer.TheVariants.{Put as AnswerPut, Close as AnswerClose, Shut as AnswerShut}
+use Rattle.stack_machine.specs.declared.lines.Putting.{Putting}
+use Rattle.stack_machine.specs.declared.lines.Line.{Line}
+use Rattle.stack_machine.specs.declared.lines.Line.TheVariants.{F1, F3, P1, P3, S1, S3, A1, G1, G3, Z1, Z2, Y1, Y2}
+use Rattle.machine.specs.declared.seats.View.{View}
+use Rattle.machine.specs.declared.seats.View.TheVariants.{AtRoot, AtPass, AtMeeting, Left}
+use Rattle.stack_machine.specs.Machine.{Memory, step, goes_on, wins, wins_value, wins_chain, ends, at_F3, after_hold, after_give, after_put, after_close, after_shut, placed, unplaced}
+use Rattle.machine.specs.Chains.{chain_from}
+use Rattle.stack_machine.specs.Answers.{shape}
+use Rattle.machine.proofs.Tests.{same-is, same-self}
 use Rattle.treiber_stack.specs.declared.operation.Operation.{Operation}
 use Rattle.treiber_stack.specs.Layout.{top_at, link_at}
 use Rattle.treiber_stack.specs.Rule.{memory_of, Rule}

@@ -10,10 +10,11 @@ use Rattle.tagged_index.specs.Fields.{fields_of}
 use Rattle.index_list.specs.Lists.{Holds}
 use Rattle.index_list.specs.Steps.{numbers, Each, filled}
 use Rattle.index_list.proofs.Acts.{filled-else}
-use Rattle.step_core.specs.Words.{Tagged, times, store}
-use Rattle.step_core.specs.StackMachine.{Memory, after_store, emptied}
-use Rattle.step_core.proofs.Lists.{times_here, times_else}
-use Rattle.step_core.proofs.Chains.{emptied_here, emptied_else}
+use Rattle.machine.specs.Words.{Tagged, times, store}
+use Rattle.stack_machine.specs.Machine.{Memory, after_store}
+use Rattle.machine.specs.Chains.{emptied}
+use Rattle.machine.proofs.Lists.{times_here, times_else}
+use Rattle.machine.proofs.Chains.{emptied_here, emptied_else}
 use Rattle.treiber_stack.specs.Layout.{link_at}
 use Rattle.treiber_stack.specs.Rule.{at_home, memory_of}
 

@@ -16,20 +16,22 @@ use Rattle.index_list.specs.Lists as index_list
 use Rattle.index_list.specs.Lists.{word, Holds}
 use Rattle.index_list.specs.Steps.{give_chain, Each, numbers, filled, top_after_give, changed, Before, Goes}
 use Rattle.index_list.proofs.Acts.{length-filled, filled-else}
-use Rattle.step_core.specs.Words.{Tagged, times, total}
-use Rattle.step_core.specs.Words as core
-use Rattle.step_core.specs.declared.stack.Answer.TheVariants.{Put as AnswerPut}
-use Rattle.step_core.specs.declared.stack.Putting.{Putting}
-use Rattle.step_core.specs.declared.stack.Line.{Line}
-use Rattle.step_core.specs.declared.stack.Line.TheVariants.{Idle, P1, P3}
-use Rattle.step_core.specs.declared.seats.View.{View}
-use Rattle.step_core.specs.declared.seats.View.TheVariants.{AtPass}
-use Rattle.step_core.specs.StackMachine.{Memory, held, first, last, step, goes_on, wins, ends, after_put, placed, unplaced}
-use Rattle.step_core.specs.StackMachine as machine
-use Rattle.step_core.specs.StackLaw.{shape}
-use Rattle.step_core.specs.StackRule.{IsFine}
-use Rattle.step_core.proofs.Lists.{times_else}
-use Rattle.step_core.proofs.Chains.{chain_leads, home_here, home_else, filled_else}
+use Rattle.machine.specs.Words.{Tagged, times, total}
+use Rattle.machine.specs.Words as core
+use Rattle.stack_machine.specs.declared.lines.Answer.TheVariants.{Put as AnswerPut}
+use Rattle.stack_machine.specs.declared.lines.Putting.{Putting}
+use Rattle.stack_machine.specs.declared.lines.Line.{Line}
+use Rattle.stack_machine.specs.declared.lines.Line.TheVariants.{Idle, P1, P3}
+use Rattle.machine.specs.declared.seats.View.{View}
+use Rattle.machine.specs.declared.seats.View.TheVariants.{AtPass}
+use Rattle.stack_machine.specs.Machine.{Memory, held, step, goes_on, wins, ends, after_put, placed, unplaced}
+use Rattle.machine.specs.Chains.{first, last}
+use Rattle.machine.specs.Chains as chains
+use Rattle.stack_machine.specs.Machine as machine
+use Rattle.stack_machine.specs.Answers.{shape}
+use Rattle.stack_machine.specs.Rule.{IsFine}
+use Rattle.machine.proofs.Lists.{times_else}
+use Rattle.machine.proofs.Chains.{chain_leads, home_here, home_else, filled_else}
 use Rattle.treiber_stack.specs.declared.operation.Operation.{Operation}
 use Rattle.treiber_stack.specs.declared.operation.Listed.TheVariants.{End, More'}
 use Rattle.treiber_stack.specs.declared.operation.Operation.TheVariants.{Put as PutFirst, Take as TakeFirst, Close as CloseFirst, Shut as ShutFirst, Look as LookFirst, Fold as FoldFirst, Range as RangeFirst}
@@ -62,22 +64,22 @@ module _ {S : Type 0} (f : ℕ → Option S) where
 
 module _ {T : Type 0} where
   -- what a chain's slots have after they came home does not depend on what was there
-  filled_there : (home home' : ℕ → Option (Slot T)) (chain : List ℕ) (vs : List T) (j : ℕ) → length chain ≤ length vs → 0 < times j chain → machine.filled home chain vs j ≡ machine.filled home' chain vs j
+  filled_there : (home home' : ℕ → Option (Slot T)) (chain : List ℕ) (vs : List T) (j : ℕ) → length chain ≤ length vs → 0 < times j chain → chains.filled home chain vs j ≡ chains.filled home' chain vs j
   filled_there home home' [] vs j long there = absurd (omega arith)
   filled_there home home' (i ∷ is) [] j long there = absurd (omega arith)
   filled_there home home' (i ∷ is) (v ∷ vs) j long there = ⊎_elim
-      (λ e. subst (λ (k : ℕ). machine.with_home (machine.filled home is vs) i (some (Some v)) k ≡ machine.with_home (machine.filled home' is vs) i (some (Some v)) k) (sym e)
-      (home_here (machine.filled home is vs) i (some (Some v)) ∙ sym (home_here (machine.filled home' is vs) i (some (Some v)))))
-      (λ ne. home_else (machine.filled home is vs) i (some (Some v)) j ne ∙ filled_there home home' is vs j (omega arith) (let t = times_else j i is ne in omega arith) ∙ sym (home_else (machine.filled home' is vs) i (some (Some v)) j ne))
+      (λ e. subst (λ (k : ℕ). chains.with_home (chains.filled home is vs) i (some (Some v)) k ≡ chains.with_home (chains.filled home' is vs) i (some (Some v)) k) (sym e)
+      (home_here (chains.filled home is vs) i (some (Some v)) ∙ sym (home_here (chains.filled home' is vs) i (some (Some v)))))
+      (λ ne. home_else (chains.filled home is vs) i (some (Some v)) j ne ∙ filled_there home home' is vs j (omega arith) (let t = times_else j i is ne in omega arith) ∙ sym (home_else (chains.filled home' is vs) i (some (Some v)) j ne))
       (same_or_not j i)
 
-  filled_values : (homes : List (Option (Slot T))) (zs : List (ℕ × Slot T)) (chain : List ℕ) (vs : List T) → numbers zs ≡ chain → Each (λ k x. machine.filled (λ _. none) chain vs k ≡ some x) zs → length chain ≤ length vs → ((i : ℕ) → Holds chain i → i < length homes)
-      → (j : ℕ) → at_home (get_elem? (filled homes zs) j) ≡ machine.filled (λ k. at_home (get_elem? homes k)) chain vs j
+  filled_values : (homes : List (Option (Slot T))) (zs : List (ℕ × Slot T)) (chain : List ℕ) (vs : List T) → numbers zs ≡ chain → Each (λ k x. chains.filled (λ _. none) chain vs k ≡ some x) zs → length chain ≤ length vs → ((i : ℕ) → Holds chain i → i < length homes)
+      → (j : ℕ) → at_home (get_elem? (filled homes zs) j) ≡ chains.filled (λ k. at_home (get_elem? homes k)) chain vs j
   filled_values homes zs chain vs is all long low j =
       let home : ℕ → Option (Slot T) = λ k. at_home (get_elem? homes k) in
       ⊎_elim
       (λ z. ap at_home (filled-else homes zs j (λ h. absurd (let t = holds_times chain j (subst (λ (xs : List ℕ). Holds xs j) is h) in omega arith))) ∙ sym (filled_else home chain vs j z))
-      (λ some_there. filled_as (machine.filled (λ _. none) chain vs) homes zs j all (λ i h. low i (subst (λ (xs : List ℕ). Holds xs i) is h)) (inr (subst (λ (xs : List ℕ). Holds xs j) (sym is) (times_holds chain j some_there)))
+      (λ some_there. filled_as (chains.filled (λ _. none) chain vs) homes zs j all (λ i h. low i (subst (λ (xs : List ℕ). Holds xs i) is h)) (inr (subst (λ (xs : List ℕ). Holds xs j) (sym is) (times_holds chain j some_there)))
       ∙ filled_there (λ _. none) home chain vs j long some_there)
       (none_or_some (times j chain))
 
@@ -136,7 +138,7 @@ module _ {T : Type 0} (n limit : ℕ) (o : Operation T) where
       let mine : held line ≡ put.chain = ap (λ (k : Line T). held k) is in
       let now : line_now o line ≡ P3 put (fields_of w) = ap (line_now o) is in
       let f = fine_at id p from line s (fields_of w) put met is in
-      let fits : Each (λ k x. machine.filled (λ _. none) put.chain values k ≡ some x) zs = subst (λ (k : Line T). Each (Bears k) zs) is fit in
+      let fits : Each (λ k x. chains.filled (λ _. none) put.chain values k ≡ some x) zs = subst (λ (k : Line T). Each (Bears k) zs) is fit in
       let long : length put.chain ≤ length values = omega (arith, length-reverse (placed put), length-take-le (length put.chain) put.values f.0.few) in
       let won : m.top ≡ fields_of w = ap fields_of hit in
       let words : 32 ≤ length s.words = let j = met.rule.words in omega arith in
@@ -144,7 +146,7 @@ module _ {T : Type 0} (n limit : ℕ) (o : Operation T) where
       let same_homes = met.rule.homes in
       let below : (j : ℕ) → Holds put.chain j → j < length s.homes = λ j has. let b = node_low id p from line s met put.chain mine j has in omega arith in
       goes n limit o id 16 p from line s met 1 (give_chain w i) w zs (set s.words 16 x) (filled s.homes zs)
-      (top_set s.words s.homes (filled s.homes zs) x (raised (fields_of w) (first put.chain)) (machine.filled m.home put.chain values) words
+      (top_set s.words s.homes (filled s.homes zs) x (raised (fields_of w) (first put.chain)) (chains.filled m.home put.chain values) words
       (fields_of-number (raised (fields_of w) i) (omega arith) ∙ ap (raised (fields_of w)) (sym may.2))
       (filled_values s.homes zs put.chain values (are ∙ mine) fits long below)
       ∙ put_memory (shape n limit) m p.number (fields_of w) put won

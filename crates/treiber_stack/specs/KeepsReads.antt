@@ -11,15 +11,15 @@ use Rattle.tagged_index.specs.declared.word.TheConstants.{NULL}
 use Rattle.bounded_model.specs.Machine.{Shape}
 use Rattle.index_list.specs.Lists.{word, Holds}
 use Rattle.index_list.specs.Steps.{read_top, read_link, write_link, looked, changed, Before, Goes}
-use Rattle.step_core.specs.Words.{times, total}
-use Rattle.step_core.specs.declared.stack.Line.{Line}
-use Rattle.step_core.specs.declared.stack.Line.TheVariants.{F1, F2, F4, P1, P2, D1, S1, S2, A2, A3, A4, G1, G2, Z1, Y1, V1}
-use Rattle.step_core.specs.declared.seats.View.{View}
-use Rattle.step_core.specs.declared.seats.View.TheVariants.{AtRoot, AtPass, AtMeeting, Left}
-use Rattle.step_core.specs.StackMachine.{Memory, held, step, after_store}
-use Rattle.step_core.specs.StackLaw.{shape}
-use Rattle.step_core.proofs.Sums.{total_one}
-use Rattle.step_core.proofs.Tests.{cases}
+use Rattle.machine.specs.Words.{times, total}
+use Rattle.stack_machine.specs.declared.lines.Line.{Line}
+use Rattle.stack_machine.specs.declared.lines.Line.TheVariants.{F1, F2, F4, P1, P2, D1, S1, S2, A2, A3, A4, G1, G2, Z1, Y1, V1}
+use Rattle.machine.specs.declared.seats.View.{View}
+use Rattle.machine.specs.declared.seats.View.TheVariants.{AtRoot, AtPass, AtMeeting, Left}
+use Rattle.stack_machine.specs.Machine.{Memory, held, step, after_store}
+use Rattle.stack_machine.specs.Answers.{shape}
+use Rattle.machine.proofs.Sums.{total_one}
+use Rattle.machine.proofs.Tests.{cases}
 use Rattle.treiber_stack.specs.declared.operation.Operation.{Operation}
 use Rattle.treiber_stack.specs.Layout.{top_at, link_at}
 use Rattle.treiber_stack.specs.Rule.{line_in, memory_of, Rule}

@@ -4,14 +4,14 @@ use mathlib.Core.Option.{Option, none, some, some-injective, some-ne-none}
 use lib.ListN.{get_elem?}
 use Rattle.bounded_model.specs.declared.history.Event.{Event}
 use Rattle.atomic_table.proofs.Lists.{at_snoc}
-use Rattle.step_core.specs.Words.{times, total}
-use Rattle.step_core.specs.declared.stack.Line.{Line}
-use Rattle.step_core.specs.declared.seats.View.{View}
-use Rattle.step_core.specs.declared.seats.View.TheVariants.{AtRoot, AtPass, AtMeeting, Left}
-use Rattle.step_core.specs.StackMachine.{Memory, held}
-use Rattle.step_core.specs.StackLaw.{shape, state}
-use Rattle.step_core.specs.StackRule.{Lists, IsFine, putting, Good}
-use Rattle.step_core.specs.Seats.{Owns, Seated, held_at}
+use Rattle.machine.specs.Words.{times, total}
+use Rattle.stack_machine.specs.declared.lines.Line.{Line}
+use Rattle.machine.specs.declared.seats.View.{View}
+use Rattle.machine.specs.declared.seats.View.TheVariants.{AtRoot, AtPass, AtMeeting, Left}
+use Rattle.stack_machine.specs.Machine.{Memory, held}
+use Rattle.stack_machine.specs.Answers.{shape, state}
+use Rattle.stack_machine.specs.Rule.{Lists, IsFine, putting, Good}
+use Rattle.machine.specs.Seats.{Owns, Seated, held_at}
 use Rattle.treiber_stack.specs.Rule.{idle, line_in, number_in, number_at, who, holding}
 
 module _ {A B : Type 0} (f : A → B) where

@@ -12,21 +12,21 @@ use Rattle.bounded_model.specs.Machine.{Shape}
 use Rattle.bounded_model.proofs.Histories.{Later-refl, own-between}
 use Rattle.bounded_model.specs.Histories.{own}
 use Rattle.index_list.specs.Steps.{Kind, Goes, Before}
-use Rattle.step_core.specs.Words.{times}
-use Rattle.step_core.specs.declared.stack.Line.{Line}
-use Rattle.step_core.specs.declared.stack.Line.TheVariants.{Idle}
-use Rattle.step_core.specs.declared.seats.View.{View}
-use Rattle.step_core.specs.declared.seats.View.TheVariants.{AtPass}
-use Rattle.step_core.specs.StackMachine.{Memory, Outcome, held, step}
-use Rattle.step_core.specs.StackLaw.{shape, state}
-use Rattle.step_core.specs.StackRule.{Lists, IsFine, putting, Good}
-use Rattle.step_core.specs.Seats.{Saw, Fine, Seated, stepped}
-use Rattle.step_core.proofs.Seating.{seated_step}
-use Rattle.step_core.proofs.StackKinds.{Kept, good_goes}
-use Rattle.step_core.proofs.StackStep.{step_kept}
-use Rattle.step_core.proofs.StackTells.{tells_kept, step_apart}
-use Rattle.step_core.proofs.StackDoing.{Ahead, meanwhile, step_does}
-use Rattle.step_core.proofs.StackDone.{reads_good}
+use Rattle.machine.specs.Words.{times}
+use Rattle.stack_machine.specs.declared.lines.Line.{Line}
+use Rattle.stack_machine.specs.declared.lines.Line.TheVariants.{Idle}
+use Rattle.machine.specs.declared.seats.View.{View}
+use Rattle.machine.specs.declared.seats.View.TheVariants.{AtPass}
+use Rattle.stack_machine.specs.Machine.{Memory, Outcome, held, step}
+use Rattle.stack_machine.specs.Answers.{shape, state}
+use Rattle.stack_machine.specs.Rule.{Lists, IsFine, putting, Good}
+use Rattle.machine.specs.Seats.{Saw, Fine, Seated, stepped}
+use Rattle.machine.proofs.Seating.{seated_step}
+use Rattle.stack_machine.proofs.Moves.{Kept, good_goes}
+use Rattle.stack_machine.proofs.Step.{step_kept}
+use Rattle.stack_machine.proofs.Tells.{tells_kept, step_apart}
+use Rattle.stack_machine.proofs.Doing.{Ahead, meanwhile, step_does}
+use Rattle.stack_machine.proofs.Start.{reads_good}
 use Rattle.treiber_stack.specs.declared.operation.Operation.{Operation}
 use Rattle.treiber_stack.specs.declared.operation.Listed.TheVariants.{End, More'}
 use Rattle.treiber_stack.specs.declared.operation.Operation.TheVariants.{Put as PutFirst, Take as TakeFirst, Close as CloseFirst, Shut as ShutFirst, Look as LookFirst, Fold as FoldFirst, Range as RangeFirst}

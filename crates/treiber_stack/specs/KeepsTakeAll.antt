@@ -13,15 +13,16 @@ use Rattle.index_list.specs.Lists as index_list
 use Rattle.index_list.specs.Lists.{word}
 use Rattle.index_list.specs.Steps.{take_all, numbers, Each, IsHome, emptied, ForSlots, top_after_take, changed, Before, Goes}
 use Rattle.index_list.proofs.Lists.{leads_one}
-use Rattle.step_core.specs.Words.{Tagged}
-use Rattle.step_core.specs.declared.stack.Taking.TheVariants.{Whole}
-use Rattle.step_core.specs.declared.stack.Line.{Line}
-use Rattle.step_core.specs.declared.stack.Line.TheVariants.{A1, S1}
-use Rattle.step_core.specs.declared.seats.View.{View}
-use Rattle.step_core.specs.declared.seats.View.TheVariants.{AtRoot, AtPass, AtMeeting, Left}
-use Rattle.step_core.specs.StackMachine.{Memory, chain_from, away, step, goes_on, wins_chain, after_take_all}
-use Rattle.step_core.specs.StackLaw.{shape}
-use Rattle.step_core.proofs.StackKinds.{all_nodes}
+use Rattle.machine.specs.Words.{Tagged}
+use Rattle.stack_machine.specs.declared.lines.Taking.TheVariants.{Whole}
+use Rattle.stack_machine.specs.declared.lines.Line.{Line}
+use Rattle.stack_machine.specs.declared.lines.Line.TheVariants.{A1, S1}
+use Rattle.machine.specs.declared.seats.View.{View}
+use Rattle.machine.specs.declared.seats.View.TheVariants.{AtRoot, AtPass, AtMeeting, Left}
+use Rattle.stack_machine.specs.Machine.{Memory, step, goes_on, wins_chain, after_take_all}
+use Rattle.machine.specs.Chains.{chain_from, away}
+use Rattle.stack_machine.specs.Answers.{shape}
+use Rattle.stack_machine.proofs.Moves.{all_nodes}
 use Rattle.treiber_stack.specs.declared.operation.Operation.{Operation}
 use Rattle.treiber_stack.specs.Layout.{top_at, link_at, layout_stack}
 use Rattle.treiber_stack.specs.Rule.{at_home, memory_of, Rule}

@@ -12,19 +12,20 @@ use Rattle.bounded_model.specs.declared.history.Event.TheVariants.{Hold}
 use Rattle.bounded_model.specs.Machine.{Shape}
 use Rattle.index_list.specs.Lists.{word}
 use Rattle.index_list.specs.Steps.{take, IsHome, emptied, ForSlot, top_after_take, changed, Before, Goes}
-use Rattle.step_core.specs.Words.{Tagged}
-use Rattle.step_core.specs.OneList.{ReadTop, ReadLink}
-use Rattle.step_core.specs.declared.stack.Taking.TheVariants.{One}
-use Rattle.step_core.specs.declared.stack.Line.{Line}
-use Rattle.step_core.specs.declared.stack.Line.TheVariants.{F1, F3, S1, S3}
-use Rattle.step_core.specs.declared.seats.View.{View}
-use Rattle.step_core.specs.declared.seats.View.TheVariants.{AtRoot, AtPass, AtMeeting, Left}
-use Rattle.step_core.specs.StackMachine.{Memory, step, goes_on, wins, wins_value, at_F3, after_hold, after_take, with_home}
-use Rattle.step_core.specs.StackLaw.{shape, state, HasValues}
-use Rattle.step_core.specs.StackRule.{Lists, IsFine, Good}
-use Rattle.step_core.proofs.OneList.{ready}
-use Rattle.step_core.proofs.StackFilled.{first_value}
-use Rattle.step_core.proofs.StackKinds.{hold_slot}
+use Rattle.machine.specs.Words.{Tagged}
+use Rattle.machine.specs.OneList.{ReadTop, ReadLink}
+use Rattle.stack_machine.specs.declared.lines.Taking.TheVariants.{One}
+use Rattle.stack_machine.specs.declared.lines.Line.{Line}
+use Rattle.stack_machine.specs.declared.lines.Line.TheVariants.{F1, F3, S1, S3}
+use Rattle.machine.specs.declared.seats.View.{View}
+use Rattle.machine.specs.declared.seats.View.TheVariants.{AtRoot, AtPass, AtMeeting, Left}
+use Rattle.stack_machine.specs.Machine.{Memory, step, goes_on, wins, wins_value, at_F3, after_hold, after_take}
+use Rattle.machine.specs.Chains.{with_home, HasValues}
+use Rattle.stack_machine.specs.Answers.{shape, state}
+use Rattle.stack_machine.specs.Rule.{Lists, IsFine, Good}
+use Rattle.machine.proofs.OneList.{ready}
+use Rattle.stack_machine.proofs.Filled.{first_value}
+use Rattle.stack_machine.proofs.Moves.{hold_slot}
 use Rattle.treiber_stack.specs.declared.operation.Operation.{Operation}
 use Rattle.treiber_stack.specs.Layout.{top_at, link_at}
 use Rattle.treiber_stack.specs.Rule.{at_home, memory_of, Rule}

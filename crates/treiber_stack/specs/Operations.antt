@@ -5,16 +5,16 @@ use Rattle.bounded_model.specs.declared.history.Event.{Event}
 use Rattle.bounded_model.specs.declared.views.PassView.{PassView}
 use Rattle.bounded_model.specs.Histories.{Later}
 use Rattle.bounded_model.specs.Laws.{IsAtRest}
-use Rattle.step_core.specs.declared.stack.Answer.{Answer}
-use Rattle.step_core.specs.declared.stack.Line.{Line}
-use Rattle.step_core.specs.declared.stack.Line.TheVariants.{Idle}
-use Rattle.step_core.specs.declared.seats.View.{View}
-use Rattle.step_core.specs.declared.seats.View.TheVariants.{AtPass}
-use Rattle.step_core.specs.StackLaw.{shape}
-use Rattle.step_core.specs.StackRule.{Tells}
-use Rattle.step_core.specs.StackDeeds.{Deeds}
-use Rattle.step_core.specs.StackMachine.{Memory, step}
-use Rattle.step_core.specs.Seats.{Saw, at_rest, pass_of}
+use Rattle.stack_machine.specs.declared.lines.Answer.{Answer}
+use Rattle.stack_machine.specs.declared.lines.Line.{Line}
+use Rattle.stack_machine.specs.declared.lines.Line.TheVariants.{Idle}
+use Rattle.machine.specs.declared.seats.View.{View}
+use Rattle.machine.specs.declared.seats.View.TheVariants.{AtPass}
+use Rattle.stack_machine.specs.Answers.{shape}
+use Rattle.stack_machine.specs.Rule.{Tells}
+use Rattle.stack_machine.specs.Deeds.{Deeds}
+use Rattle.stack_machine.specs.Machine.{Memory, step}
+use Rattle.machine.specs.Seats.{Saw, at_rest, pass_of}
 use Rattle.treiber_stack.specs.Rule.{idle, Meets}
 use Rattle.tagged_index.specs.Fields.{index_of}
 use Rattle.index_list.specs.declared.front.Front.{Front}

@@ -9,13 +9,13 @@ use Rattle.bounded_model.specs.declared.answers.Stepped.TheVariants.{Again, Done
 use Rattle.bounded_model.specs.declared.answers.PutRefused.{PutRefused}
 use Rattle.bounded_model.specs.declared.answers.PutRefused.TheVariants.{Full, Closed, Spent}
 use Rattle.bounded_model.specs.Laws.{PutGives}
-use Rattle.step_core.specs.declared.stack.Answer.{Answer}
-use Rattle.step_core.specs.declared.stack.Answer.TheVariants.{Put as AnswerPut}
-use Rattle.step_core.specs.declared.stack.Giving.{Giving}
-use Rattle.step_core.specs.declared.stack.Putting.{Putting}
-use Rattle.step_core.specs.declared.stack.Line.{Line}
-use Rattle.step_core.specs.declared.stack.Line.TheVariants.{F1, F2, F3, P1, P2, P3, D1, G1, G2, G3}
-use Rattle.step_core.specs.StackMachine.{ends}
+use Rattle.stack_machine.specs.declared.lines.Answer.{Answer}
+use Rattle.stack_machine.specs.declared.lines.Answer.TheVariants.{Put as AnswerPut}
+use Rattle.stack_machine.specs.declared.lines.Giving.{Giving}
+use Rattle.stack_machine.specs.declared.lines.Putting.{Putting}
+use Rattle.stack_machine.specs.declared.lines.Line.{Line}
+use Rattle.stack_machine.specs.declared.lines.Line.TheVariants.{F1, F2, F3, P1, P2, P3, D1, G1, G2, G3}
+use Rattle.stack_machine.specs.Machine.{ends}
 use Rattle.treiber_stack.specs.Operations.{IsAt, IsLineOf, GoesOn, begun_in}
 use Rattle.treiber_stack.specs.Stack.{shape_of, pass_in, IsPassOf}
 use Rattle.treiber_stack.specs.declared.operation.Operation.{Operation}
@@ -124,3 +124,8 @@ module _ {T : Type 0} where
   abbrev pub PutStep : Stack T → T → Pass T → PutAt T → Stepped (PutOp T) (Pass T) (Result ℕ (PutRefused T)) → Type 0
   PutStep c x p at (Again next) = IsPutting c x next × GoesOn c p next.pass (put_line x at) (put_line x next.at)
   PutStep c x p at (Done q r) = IsPassOf c q × PutGives (shape_of c) (begun_in p) x (pass_in q) r × IsLineOf c p q (put_line x at) (ends (put_answer r))
+
+  -- what several steps give
+  abbrev pub PutRun : Stack T → T → Pass T → Stepped (PutOp T) (Pass T) (Result ℕ (PutRefused T)) → Type 0
+  PutRun c x p (Again next) = IsPutting c x next × (begun_in next.pass ≡ begun_in p)
+  PutRun c x p (Done q r) = IsPassOf c q × PutGives (shape_of c) (begun_in p) x (pass_in q) r

@@ -11,15 +11,16 @@ use Rattle.bounded_model.specs.Machine.{Shape}
 use Rattle.bounded_model.specs.Laws.{Adds, BacksOut, RangeGives}
 use Rattle.bounded_model.specs.Justified.{Justified, Sometime}
 use Rattle.bounded_model.specs.Justified as right
-use Rattle.step_core.specs.Words.{times}
-use Rattle.step_core.specs.StackDeeds.{HasNoNode}
-use Rattle.step_core.specs.declared.stack.Answer.TheVariants.{Put as AnswerPut}
-use Rattle.step_core.specs.declared.stack.Giving.{Giving}
-use Rattle.step_core.specs.declared.stack.Putting.{Putting}
-use Rattle.step_core.specs.declared.stack.Line.{Line}
-use Rattle.step_core.specs.declared.stack.Line.TheVariants.{F1, F4, P1, D1, G1}
-use Rattle.step_core.specs.StackMachine.{first, last, next_node}
-use Rattle.step_core.specs.declared.seats.View.{View}
+use Rattle.machine.specs.Words.{times}
+use Rattle.stack_machine.specs.Deeds.{HasNoNode}
+use Rattle.stack_machine.specs.declared.lines.Answer.TheVariants.{Put as AnswerPut}
+use Rattle.stack_machine.specs.declared.lines.Giving.{Giving}
+use Rattle.stack_machine.specs.declared.lines.Putting.{Putting}
+use Rattle.stack_machine.specs.declared.lines.Line.{Line}
+use Rattle.stack_machine.specs.declared.lines.Line.TheVariants.{F1, F4, P1, D1, G1}
+use Rattle.machine.specs.Chains.{first, last}
+use Rattle.stack_machine.specs.Machine.{next_node}
+use Rattle.machine.specs.declared.seats.View.{View}
 use Rattle.treiber_stack.specs.Rule.{line_in}
 use Rattle.treiber_stack.specs.Places.{somes}
 use Rattle.treiber_stack.specs.Folding.{full, IsGivingBack}

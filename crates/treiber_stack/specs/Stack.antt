@@ -5,9 +5,9 @@ use Rattle.bounded_model.specs.declared.views.PassView.{PassView}
 use Rattle.bounded_model.specs.declared.views.RootView.{RootView}
 use Rattle.bounded_model.specs.Machine.{Shape}
 use Rattle.bounded_model.specs.Laws.{IsAtRest, IsSound}
-use Rattle.step_core.specs.declared.seats.View.TheVariants.{AtRoot}
-use Rattle.step_core.specs.StackLaw.{shape}
-use Rattle.step_core.specs.Seats.{pass_of, root_of, at_rest}
+use Rattle.machine.specs.declared.seats.View.TheVariants.{AtRoot}
+use Rattle.stack_machine.specs.Answers.{shape}
+use Rattle.machine.specs.Seats.{pass_of, root_of, at_rest}
 use Rattle.treiber_stack.specs.Rule.{idle}
 use Rattle.treiber_stack.specs.declared.stack.Stack.{Stack}
 use Rattle.treiber_stack.specs.declared.stack.Pass.{Pass}

@@ -1,5 +1,5 @@
 -- A take made by steps.
-use Rattle.std.specs.Prelude.{ℕ, ◌<◌, ◌≤◌, List, [], ◌∷◌, Option as Slot, None, Result, Ok}
+use Rattle.std.specs.Prelude.{◌≡◌, ℕ, ◌<◌, ◌≤◌, List, [], ◌∷◌, Option as Slot, None, Result, Ok}
 use Rattle.tagged_index.specs.Fields.{fields_of, index_of, tag_of}
 use Rattle.tagged_index.specs.Limits.{capacity_of, tag_limit_of}
 use Rattle.tagged_index.specs.declared.word.TheConstants.{NULL}
@@ -7,12 +7,12 @@ use Rattle.bounded_model.specs.declared.answers.Stepped.{Stepped}
 use Rattle.bounded_model.specs.declared.answers.Stepped.TheVariants.{Again, Done}
 use Rattle.bounded_model.specs.declared.answers.TakeRefused.{TakeRefused}
 use Rattle.bounded_model.specs.Laws.{TakeGives}
-use Rattle.step_core.specs.declared.stack.Answer.TheVariants.{Take as AnswerTake}
-use Rattle.step_core.specs.declared.stack.Giving.{Giving}
-use Rattle.step_core.specs.declared.stack.Taking.TheVariants.{One}
-use Rattle.step_core.specs.declared.stack.Line.{Line}
-use Rattle.step_core.specs.declared.stack.Line.TheVariants.{S1, S2, S3, G1, G2, G3}
-use Rattle.step_core.specs.StackMachine.{ends}
+use Rattle.stack_machine.specs.declared.lines.Answer.TheVariants.{Take as AnswerTake}
+use Rattle.stack_machine.specs.declared.lines.Giving.{Giving}
+use Rattle.stack_machine.specs.declared.lines.Taking.TheVariants.{One}
+use Rattle.stack_machine.specs.declared.lines.Line.{Line}
+use Rattle.stack_machine.specs.declared.lines.Line.TheVariants.{S1, S2, S3, G1, G2, G3}
+use Rattle.stack_machine.specs.Machine.{ends}
 use Rattle.treiber_stack.specs.Operations.{IsAt, IsLineOf, GoesOn, begun_in}
 use Rattle.treiber_stack.specs.Stack.{shape_of, pass_in, IsPassOf}
 use Rattle.treiber_stack.specs.declared.operation.Operation.TheVariants.{Take as TakeFirst}
@@ -66,3 +66,8 @@ module _ {T : Type 0} where
   abbrev pub TakeStep : Stack T → Pass T → TakeAt T → Stepped (TakeOp T) (Pass T) (Result (T × ℕ) TakeRefused) → Type 0
   TakeStep c p at (Again next) = IsTaking c next × GoesOn c p next.pass (take_line at) (take_line next.at)
   TakeStep c p at (Done q r) = IsPassOf c q × TakeGives (shape_of c) (begun_in p) (pass_in q) r × IsLineOf c p q (take_line at) (ends (AnswerTake r))
+
+  -- what several steps give
+  abbrev pub TakeRun : Stack T → Pass T → Stepped (TakeOp T) (Pass T) (Result (T × ℕ) TakeRefused) → Type 0
+  TakeRun c p (Again next) = IsTaking c next × (begun_in next.pass ≡ begun_in p)
+  TakeRun c p (Done q r) = IsPassOf c q × TakeGives (shape_of c) (begun_in p) (pass_in q) r

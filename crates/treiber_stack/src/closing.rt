@@ -2,9 +2,9 @@
 ghost use Rattle.std.specs.Prelude.{◌≡◌};
 ghost use Rattle.bounded_model.specs.Laws.{LookGives};
 ghost use Rattle.treiber_stack.specs.Closing.{IsClosing, IsShutting, CloseStep, ShutStep};
-ghost use Rattle.step_core.specs.StackMachine.{ends};
-ghost use Rattle.step_core.specs.declared.stack.Answer.TheVariants.{Look as Looked};
-ghost use Rattle.step_core.specs.declared.stack.Line.TheVariants.{V1};
+ghost use Rattle.stack_machine.specs.Machine.{ends};
+ghost use Rattle.stack_machine.specs.declared.lines.Answer.TheVariants.{Look as Looked};
+ghost use Rattle.stack_machine.specs.declared.lines.Line.TheVariants.{V1};
 ghost use Rattle.treiber_stack.specs.Operations.{begun_in, IsLineOf};
 ghost use Rattle.treiber_stack.specs.Stack.{shape_of, IsPassOf, pass_in};
 

@@ -1,12 +1,10 @@
 //! A stack as a container. A whole call makes an operation's steps until it answers.
+use crate::pause::Pause;
 use crate::rest::Rest;
 use crate::rule::{Cuts, Makes};
 use crate::stack::{Pass, Root, Stack};
-use bounded_model::{Container, Order, PutRefused, Stepped, TakeRefused};
+use bounded_model::{Container, MAX_PASSES, Order, PutRefused, Stepped, TakeRefused};
 use std::sync::Wait;
-
-/// The most passes that may be out at once.
-const MAX_PASSES: u32 = 65_535;
 
 impl<T: Drop + Send> Container<T> for Stack<T> {
     ghost use Rattle.std.proofs.Common.{refl};
@@ -56,9 +54,15 @@ impl<T: Drop + Send> Container<T> for Stack<T> {
 
     fn put<R: Wait>(&self, rt: &R, by: Pass<T>, value: T) -> (Pass<T>, Result<u64, PutRefused<T>>) {
         let mut op = self.begin_put(by, value);
+        let mut pause = Pause::new();
         for _ in rt.forever() {
-            match op.step(self) {
-                Stepped::Again(next) => op = next,
+            match op.run(self) {
+                Stepped::Again(next) => {
+                    if next.is_retry() {
+                        pause.wait();
+                    }
+                    op = next;
+                }
                 Stepped::Done(pass, answer) => return (pass, answer),
             }
         }
@@ -67,9 +71,15 @@ impl<T: Drop + Send> Container<T> for Stack<T> {
 
     fn take<R: Wait>(&self, rt: &R, by: Pass<T>) -> (Pass<T>, Result<(T, u64), TakeRefused>) {
         let mut op = self.begin_take(by);
+        let mut pause = Pause::new();
         for _ in rt.forever() {
-            match op.step(self) {
-                Stepped::Again(next) => op = next,
+            match op.run(self) {
+                Stepped::Again(next) => {
+                    if next.is_retry() {
+                        pause.wait();
+                    }
+                    op = next;
+                }
                 Stepped::Done(pass, answer) => return (pass, answer),
             }
         }

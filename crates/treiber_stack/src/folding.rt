@@ -19,9 +19,9 @@ use crate::rule::Stacked;
 use crate::stack::{Pass, Stack};
 use bounded_model::{TakeRefused, Word};
 use index_list::{Front, move_out};
+use machine::View;
+use stack_machine::Line;
 use std::sync::Wait;
-use step_core::seats::View;
-use step_core::stack::Line;
 use tagged_index::{Limits, NULL, Tagged};
 
 /// A fold that took all values.

@@ -3,8 +3,8 @@ use crate::layout;
 use crate::operation::Operation;
 use crate::rule::Stacked;
 use index_list::ListHost;
-use step_core::seats::View;
-use step_core::stack::Line;
+use machine::View;
+use stack_machine::Line;
 use tagged_index::Limits;
 
 impl<T> ListHost<Option<T>, View<T, Line<T>>, Limits, 2> for Stacked<T> {

@@ -2,7 +2,7 @@
 //! tagged words, a free list of nodes, closing and shutting. No call takes memory but `Stack::new`.
 //!
 //! Promised: between any two atomic steps the words, the slots and what the passes know meet the
-//! rule of `step_core`'s stack. Each step of an operation is one line of that machine, from a memory
+//! rule of `stack_machine`. Each step of an operation is one line of that machine, from a memory
 //! and a history that meet the rule; the events that it adds and its answer are that line's. So what
 //! a pass has seen is always a legal history of one sequential stack, which only grows, and a
 //! refusal was right at some time of its call.
@@ -18,6 +18,7 @@ mod host;
 mod layout;
 mod making;
 mod operation;
+mod pause;
 mod putting;
 mod ranging;
 mod rest;

@@ -3,8 +3,8 @@ ghost use Rattle.std.specs.Prelude.{◌≡◌, ℕ, ◌<◌, ◌≤◌, length, 
 ghost use Rattle.tagged_index.specs.Limits.{capacity_of, tag_limit_of};
 ghost use Rattle.tagged_index.specs.declared.word.TheConstants.{NULL};
 ghost use Rattle.bounded_model.specs.Laws.{fresh};
-ghost use Rattle.step_core.specs.StackLaw.{shape};
-ghost use Rattle.step_core.specs.Seats.{Looks};
+ghost use Rattle.stack_machine.specs.Answers.{shape};
+ghost use Rattle.machine.specs.Seats.{Looks};
 ghost use Rattle.treiber_stack.specs.Layout.{words_for, start_at};
 ghost use Rattle.treiber_stack.specs.Stack.{shape_of, IsRootOf, root_in};
 
@@ -14,10 +14,10 @@ use crate::stack::{Root, Stack};
 use atomic_table::{Seat, Table};
 use bounded_model::MakeRefused;
 use index_list::load_as;
+use machine::View;
+use stack_machine::Line;
 use std::alloc::{AllocError, Global};
 use std::marker::Brand;
-use step_core::seats::View;
-use step_core::stack::Line;
 use tagged_index::Limits;
 
 // The words of a new stack.

@@ -2,7 +2,7 @@
 //! no longer have the value at hand, are named `Look`, and that is not read.
 ghost use Rattle.std.specs.Prelude.{◌≡◌, [], ◌∷◌, Some, None};
 ghost use Rattle.treiber_stack.specs.Operations.{begun_in};
-ghost use Rattle.treiber_stack.specs.Putting.{IsPutting, IsPuttingAt, PutStep};
+ghost use Rattle.treiber_stack.specs.Putting.{IsPutting, IsPuttingAt, PutStep, PutRun};
 ghost use Rattle.treiber_stack.specs.Stack.{IsPassOf, pass_in};
 ghost use Rattle.treiber_stack.specs.declared.putting.PutAt.TheVariants.{LoadFree, Link, Hold, Load, LinkTo, Exchange, Refuse, LoadBack, LinkBack, GiveBack};
 
@@ -12,9 +12,9 @@ use crate::rule::Stacked;
 use crate::stack::{Pass, Stack};
 use bounded_model::{PutRefused, Stepped, Word};
 use index_list::{move_out, put_in};
+use machine::View;
+use stack_machine::Line;
 use std::snapshot::Snapshot;
-use step_core::seats::View;
-use step_core::stack::Line;
 use tagged_index::{Limits, NULL, Tagged};
 
 /// A put that was begun.
@@ -318,6 +318,114 @@ impl<T> Stack<T> {
             at: PutAt::LoadBack(refusal),
         })
     }
+
+    // The steps of a put from its start, until it answers, is refused or loses an exchange.
+    #[inline]
+    fn put_run(
+        &self,
+        by: Pass<T>,
+        value: T,
+    ) -> Stepped<PutOp<T>, Pass<T>, Result<u64, PutRefused<T>>>
+        requires { (x : T) × IsPuttingAt self.now x by (LoadFree value) }
+        ensures { (x : T) → IsPuttingAt self.now x by (LoadFree value) → PutRun self.now x by result }
+    {
+        match self.put_load_free(by, value) {
+            Stepped::Done(pass, answer) => Stepped::Done(pass, answer),
+            Stepped::Again(PutOp { pass, at }) => match at {
+                PutAt::Link(value, free) => self.put_run_link(pass, value, free),
+                at => Stepped::Again(PutOp { pass, at }),
+            },
+        }
+    }
+
+    #[inline]
+    fn put_run_link(
+        &self,
+        by: Pass<T>,
+        value: T,
+        free: Tagged,
+    ) -> Stepped<PutOp<T>, Pass<T>, Result<u64, PutRefused<T>>>
+        requires { (x : T) × IsPuttingAt self.now x by (Link value free) }
+        ensures { (x : T) → IsPuttingAt self.now x by (Link value free) → PutRun self.now x by result }
+    {
+        match self.put_link(by, value, free) {
+            Stepped::Done(pass, answer) => Stepped::Done(pass, answer),
+            Stepped::Again(PutOp { pass, at }) => match at {
+                PutAt::Hold(value, free, next) => self.put_run_hold(pass, value, free, next),
+                at => Stepped::Again(PutOp { pass, at }),
+            },
+        }
+    }
+
+    #[inline]
+    fn put_run_hold(
+        &self,
+        by: Pass<T>,
+        value: T,
+        free: Tagged,
+        next: u32,
+    ) -> Stepped<PutOp<T>, Pass<T>, Result<u64, PutRefused<T>>>
+        requires { (x : T) × IsPuttingAt self.now x by (Hold value free next) }
+        ensures { (x : T) → IsPuttingAt self.now x by (Hold value free next) → PutRun self.now x by result }
+    {
+        match self.put_hold(by, value, free, next) {
+            Stepped::Done(pass, answer) => Stepped::Done(pass, answer),
+            Stepped::Again(PutOp { pass, at }) => match at {
+                PutAt::Load(index) => self.put_run_load(pass, index),
+                at => Stepped::Again(PutOp { pass, at }),
+            },
+        }
+    }
+
+    #[inline]
+    fn put_run_load(
+        &self,
+        by: Pass<T>,
+        index: u32,
+    ) -> Stepped<PutOp<T>, Pass<T>, Result<u64, PutRefused<T>>>
+        requires { (x : T) × IsPuttingAt self.now x by (Load index) }
+        ensures { (x : T) → IsPuttingAt self.now x by (Load index) → PutRun self.now x by result }
+    {
+        match self.put_load(by, index) {
+            Stepped::Done(pass, answer) => Stepped::Done(pass, answer),
+            Stepped::Again(PutOp { pass, at }) => match at {
+                PutAt::LinkTo(index, top) => self.put_run_link_to(pass, index, top),
+                at => Stepped::Again(PutOp { pass, at }),
+            },
+        }
+    }
+
+    #[inline]
+    fn put_run_link_to(
+        &self,
+        by: Pass<T>,
+        index: u32,
+        top: Tagged,
+    ) -> Stepped<PutOp<T>, Pass<T>, Result<u64, PutRefused<T>>>
+        requires { (x : T) × IsPuttingAt self.now x by (LinkTo index top) }
+        ensures { (x : T) → IsPuttingAt self.now x by (LinkTo index top) → PutRun self.now x by result }
+    {
+        match self.put_link_to(by, index, top) {
+            Stepped::Done(pass, answer) => Stepped::Done(pass, answer),
+            Stepped::Again(PutOp { pass, at }) => match at {
+                PutAt::Exchange(index, top) => self.put_run_exchange(pass, index, top),
+                at => Stepped::Again(PutOp { pass, at }),
+            },
+        }
+    }
+
+    #[inline]
+    fn put_run_exchange(
+        &self,
+        by: Pass<T>,
+        index: u32,
+        top: Tagged,
+    ) -> Stepped<PutOp<T>, Pass<T>, Result<u64, PutRefused<T>>>
+        requires { (x : T) × IsPuttingAt self.now x by (Exchange index top) }
+        ensures { (x : T) → IsPuttingAt self.now x by (Exchange index top) → PutRun self.now x by result }
+    {
+        self.put_exchange(by, index, top)
+    }
 }
 
 impl<T> PutOp<T> {
@@ -342,6 +450,29 @@ impl<T> PutOp<T> {
             PutAt::LoadBack(refusal) => stack.put_load_back(pass, refusal),
             PutAt::LinkBack(refusal, free) => stack.put_link_back(pass, refusal, free),
             PutAt::GiveBack(refusal, free) => stack.put_give_back(pass, refusal, free),
+        }
+    }
+
+    /// Whether it is to try an exchange once more.
+    #[inline]
+    pub(crate) fn is_retry(&self) -> bool {
+        matches!(&self.at, PutAt::LoadFree(_) | PutAt::Load(_))
+    }
+
+    /// Makes steps until the put answers, is refused or loses an exchange.
+    #[inline]
+    pub(crate) fn run(
+        self,
+        stack: &Stack<T>,
+    ) -> Stepped<PutOp<T>, Pass<T>, Result<u64, PutRefused<T>>>
+        requires { (x : T) × IsPutting stack.now x self }
+        ensures { (x : T) → IsPutting stack.now x self → PutRun stack.now x self.pass result }
+    {
+        let PutOp { pass, at } = self;
+        match at {
+            PutAt::LoadFree(value) => stack.put_run(pass, value),
+            PutAt::Load(index) => stack.put_run_load(pass, index),
+            at => PutOp { pass, at }.step(stack),
         }
     }
 }

@@ -1,8 +1,8 @@
 //! The table's rule, and how seats are cut in two and made one.
 use atomic_table::{Join, Play, Split, TableRule};
+use machine::View;
+use stack_machine::Line;
 use std::marker::PhantomData;
-use step_core::seats::View;
-use step_core::stack::Line;
 use tagged_index::Limits;
 
 pub(crate) type StackView<T> = View<T, Line<T>>;
@@ -14,7 +14,7 @@ pub(crate) struct Stacked<T> {
 
 impl<T> TableRule<Option<T>, View<T, Line<T>>, Limits> for Stacked<T> {
     ghost use Rattle.tagged_index.specs.Limits.{capacity_of, tag_limit_of};
-    ghost use Rattle.step_core.specs.Seats.{first_view};
+    ghost use Rattle.machine.specs.Seats.{first_view};
     ghost use Rattle.treiber_stack.specs.Rule.{Rule};
 
     ghost holds = { λ limits. Rule (capacity_of limits) (tag_limit_of limits) };
@@ -37,8 +37,8 @@ impl<T> Split<View<T, Line<T>>> for Cuts {
 pub(crate) struct Makes;
 
 impl<T> Join<View<T, Line<T>>> for Makes {
-    ghost use Rattle.step_core.specs.Seats.{both_of};
-    ghost use Rattle.step_core.specs.declared.seats.View.TheVariants.{Left};
+    ghost use Rattle.machine.specs.Seats.{both_of};
+    ghost use Rattle.machine.specs.declared.seats.View.TheVariants.{Left};
 
     ghost both = { both_of };
 

@@ -5,9 +5,9 @@ ghost use Rattle.treiber_stack.specs.Layout.{words_for};
 
 use crate::rule::Stacked;
 use atomic_table::{Seat, Table};
+use machine::View;
+use stack_machine::Line;
 use std::alloc::Global;
-use step_core::seats::View;
-use step_core::stack::Line;
 use tagged_index::Limits;
 
 /// A bounded stack that many threads share.

@@ -5,7 +5,7 @@ ghost use Rattle.tagged_index.specs.Fields.{index_of, tag_of};
 ghost use Rattle.tagged_index.specs.declared.word.TheConstants.{NULL, MAX_TAG};
 ghost use Rattle.index_list.specs.Lists.{Holds};
 ghost use Rattle.index_list.specs.Steps.{read_top, read_link, write_link, take, take_all, give_chain, mark, shut, numbers, Each};
-ghost use Rattle.step_core.specs.StackMachine.{held};
+ghost use Rattle.stack_machine.specs.Machine.{held};
 ghost use Rattle.treiber_stack.specs.Rule.{line_in};
 ghost use Rattle.treiber_stack.specs.Host.{may_step, Bears, Did};
 ghost use Rattle.treiber_stack.specs.Operations.{IsSame, Told, Lost, Takes, TakesAll, Gives, vacant};
@@ -18,8 +18,8 @@ use index_list::{
     Front, load_link, load_top, store_link, try_give_chain, try_mark, try_shut, try_take,
     try_take_all,
 };
-use step_core::seats::View;
-use step_core::stack::Line;
+use machine::View;
+use stack_machine::Line;
 use tagged_index::{Limits, Tagged};
 
 impl<T> Stack<T> {

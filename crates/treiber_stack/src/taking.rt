@@ -2,7 +2,7 @@
 ghost use Rattle.std.specs.Prelude.{◌≡◌};
 ghost use Rattle.treiber_stack.specs.Operations.{begun_in};
 ghost use Rattle.treiber_stack.specs.Stack.{IsPassOf, pass_in};
-ghost use Rattle.treiber_stack.specs.Taking.{IsTaking, IsTakingAt, TakeStep};
+ghost use Rattle.treiber_stack.specs.Taking.{IsTaking, IsTakingAt, TakeStep, TakeRun};
 ghost use Rattle.treiber_stack.specs.declared.taking.TakeAt.TheVariants.{Load, Link, Exchange, LoadFree, LinkBack, GiveBack};
 
 use crate::layout::{FREE, TOP};
@@ -11,8 +11,8 @@ use crate::rule::Stacked;
 use crate::stack::{Pass, Stack};
 use bounded_model::{Stepped, TakeRefused, Word};
 use index_list::move_out;
-use step_core::seats::View;
-use step_core::stack::Line;
+use machine::View;
+use stack_machine::Line;
 use tagged_index::{Limits, NULL, Tagged};
 
 /// A take that was begun.
@@ -197,6 +197,108 @@ impl<T> Stack<T> {
             at: TakeAt::LoadFree(taken),
         })
     }
+
+    // The steps of a take from its start, until it answers or loses an exchange.
+    #[inline]
+    fn take_run(&self, by: Pass<T>) -> Stepped<TakeOp<T>, Pass<T>, Result<(T, u64), TakeRefused>>
+        requires { IsTakingAt self.now by Load }
+        ensures { TakeRun self.now by result }
+    {
+        match self.take_load(by) {
+            Stepped::Done(pass, answer) => Stepped::Done(pass, answer),
+            Stepped::Again(TakeOp { pass, at }) => match at {
+                TakeAt::Link(top) => self.take_run_link(pass, top),
+                at => Stepped::Again(TakeOp { pass, at }),
+            },
+        }
+    }
+
+    #[inline]
+    fn take_run_link(
+        &self,
+        by: Pass<T>,
+        top: Tagged,
+    ) -> Stepped<TakeOp<T>, Pass<T>, Result<(T, u64), TakeRefused>>
+        requires { IsTakingAt self.now by (Link top) }
+        ensures { TakeRun self.now by result }
+    {
+        match self.take_link(by, top) {
+            Stepped::Done(pass, answer) => Stepped::Done(pass, answer),
+            Stepped::Again(TakeOp { pass, at }) => match at {
+                TakeAt::Exchange(top, next) => self.take_run_exchange(pass, top, next),
+                at => Stepped::Again(TakeOp { pass, at }),
+            },
+        }
+    }
+
+    #[inline]
+    fn take_run_exchange(
+        &self,
+        by: Pass<T>,
+        top: Tagged,
+        next: u32,
+    ) -> Stepped<TakeOp<T>, Pass<T>, Result<(T, u64), TakeRefused>>
+        requires { IsTakingAt self.now by (Exchange top next) }
+        ensures { TakeRun self.now by result }
+    {
+        match self.take_exchange(by, top, next) {
+            Stepped::Done(pass, answer) => Stepped::Done(pass, answer),
+            Stepped::Again(TakeOp { pass, at }) => match at {
+                TakeAt::LoadFree(taken) => self.take_run_back(pass, taken),
+                at => Stepped::Again(TakeOp { pass, at }),
+            },
+        }
+    }
+
+    #[inline]
+    fn take_run_back(
+        &self,
+        by: Pass<T>,
+        taken: Taken<T>,
+    ) -> Stepped<TakeOp<T>, Pass<T>, Result<(T, u64), TakeRefused>>
+        requires { IsTakingAt self.now by (LoadFree taken) }
+        ensures { TakeRun self.now by result }
+    {
+        match self.take_load_free(by, taken) {
+            Stepped::Done(pass, answer) => Stepped::Done(pass, answer),
+            Stepped::Again(TakeOp { pass, at }) => match at {
+                TakeAt::LinkBack(taken, free) => self.take_run_link_back(pass, taken, free),
+                at => Stepped::Again(TakeOp { pass, at }),
+            },
+        }
+    }
+
+    #[inline]
+    fn take_run_link_back(
+        &self,
+        by: Pass<T>,
+        taken: Taken<T>,
+        free: Tagged,
+    ) -> Stepped<TakeOp<T>, Pass<T>, Result<(T, u64), TakeRefused>>
+        requires { IsTakingAt self.now by (LinkBack taken free) }
+        ensures { TakeRun self.now by result }
+    {
+        match self.take_link_back(by, taken, free) {
+            Stepped::Done(pass, answer) => Stepped::Done(pass, answer),
+            Stepped::Again(TakeOp { pass, at }) => match at {
+                TakeAt::GiveBack(taken, free) => self.take_run_give_back(pass, taken, free),
+                at => Stepped::Again(TakeOp { pass, at }),
+            },
+        }
+    }
+
+    #[inline]
+    fn take_run_give_back(
+        &self,
+        by: Pass<T>,
+        taken: Taken<T>,
+        free: Tagged,
+    ) -> Stepped<TakeOp<T>, Pass<T>, Result<(T, u64), TakeRefused>>
+        requires { IsTakingAt self.now by (GiveBack taken free) }
+        ensures { TakeRun self.now by result }
+    {
+        self.take_give_back(by, taken, free)
+    }
 }
 
 impl<T> TakeOp<T> {
@@ -218,6 +320,29 @@ impl<T> TakeOp<T> {
             TakeAt::LoadFree(taken) => stack.take_load_free(pass, taken),
             TakeAt::LinkBack(taken, free) => stack.take_link_back(pass, taken, free),
             TakeAt::GiveBack(taken, free) => stack.take_give_back(pass, taken, free),
+        }
+    }
+
+    /// Whether it is to try an exchange once more.
+    #[inline]
+    pub(crate) fn is_retry(&self) -> bool {
+        matches!(&self.at, TakeAt::Load | TakeAt::LoadFree(_))
+    }
+
+    /// Makes steps until the take answers or loses an exchange.
+    #[inline]
+    pub(crate) fn run(
+        self,
+        stack: &Stack<T>,
+    ) -> Stepped<TakeOp<T>, Pass<T>, Result<(T, u64), TakeRefused>>
+        requires { IsTaking stack.now self }
+        ensures { TakeRun stack.now self.pass result }
+    {
+        let TakeOp { pass, at } = self;
+        match at {
+            TakeAt::Load => stack.take_run(pass),
+            TakeAt::LoadFree(taken) => stack.take_run_back(pass, taken),
+            at => TakeOp { pass, at }.step(stack),
         }
     }
 }

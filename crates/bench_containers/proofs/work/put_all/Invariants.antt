@@ -2,4 +2,4 @@ use Rattle.std.proofs.Common.{◌≤◌}
 use Rattle.bench_containers.proofs.work.put_all.Given as goal
 
 abbrev pub invariant-loop-item : goal.invariant-loop-item
-invariant-loop-item g l = g.C.Container.is_pass l.fn.container l.pass × (l.put ≤ l.item)
+invariant-loop-item g l = g.C.Pool.is_pass l.fn.container l.pass × (l.put ≤ l.item)

@@ -1,4 +1,4 @@
-use Rattle.step_core.proofs.ListRun.{list_lawful}
+use Rattle.step_core.proofs.list.Run.{list_lawful}
 use Rattle.step_core.proofs.laws.list_core.Goals as goal
 
 pub returns : goal.returns

@@ -1,4 +1,4 @@
-use Rattle.step_core.proofs.StackRun.{stack_lawful}
+use Rattle.step_core.proofs.stack.Run.{stack_lawful}
 use Rattle.step_core.proofs.laws.stack_core.Goals as goal
 
 pub returns : goal.returns

@@ -3,8 +3,8 @@ use Rattle.std.specs.Prelude.{Option as Slot, Some, None}
 use Rattle.tagged_index.specs.Fields.{fields_of}
 use Rattle.bounded_model.specs.declared.answers.Stepped.TheVariants.{Again, Done}
 use Rattle.index_list.specs.Steps.{read_top, shut}
-use Rattle.step_core.specs.declared.stack.Answer.TheVariants.{Shut as Answer}
-use Rattle.step_core.specs.declared.stack.Line.TheVariants.{Y1, Y2}
+use Rattle.stack_machine.specs.declared.lines.Answer.TheVariants.{Shut as Answer}
+use Rattle.stack_machine.specs.declared.lines.Line.TheVariants.{Y1, Y2}
 use Rattle.treiber_stack.specs.declared.operation.Operation.TheVariants.{Shut as First}
 use Rattle.treiber_stack.specs.Operations.{IsAt}
 use Rattle.treiber_stack.specs.Closing.{shut_line, ShutStep}

@@ -1,8 +1,8 @@
 use Rattle.std.proofs.Common.{◌≡◌, ℕ, ◌+◌, ◌-◌, ◌<◌, length, arith, rules, ap, ◌∙◌}
 use Rattle.tagged_index.specs.Limits.{capacity_of, tag_limit_of}
 use Rattle.bounded_model.specs.declared.views.RootView.{RootView}
-use Rattle.step_core.specs.Seats.{held_at, root_of}
-use Rattle.step_core.proofs.SeatedCalls.{join_view, was_out}
+use Rattle.machine.specs.Seats.{held_at, root_of}
+use Rattle.machine.proofs.SeatedCalls.{join_view, was_out}
 use Rattle.treiber_stack.specs.Rule.{idle, holding}
 use Rattle.treiber_stack.specs.Stack.{shape_of, root_in, pass_in}
 use Rattle.treiber_stack.proofs.Seats.{joins}

@@ -1,8 +1,8 @@
 use Rattle.std.proofs.Common.{rules, ap, sym, subst, ◌∙◌}
 use Rattle.bounded_model.specs.Laws.{IsAtRest}
 use Rattle.tagged_index.specs.Limits.{capacity_of, tag_limit_of}
-use Rattle.step_core.specs.Seats.{held_at}
-use Rattle.step_core.proofs.SeatedCalls.{meet_view}
+use Rattle.machine.specs.Seats.{held_at}
+use Rattle.machine.proofs.SeatedCalls.{meet_view}
 use Rattle.treiber_stack.specs.Rule.{idle, holding}
 use Rattle.treiber_stack.specs.Stack.{shape_of}
 use Rattle.treiber_stack.proofs.Seats.{joins, splits}

@@ -2,8 +2,8 @@ use Rattle.std.proofs.Common.{◌≡◌, ◌+◌, length, arith, rules, ap, ◌�
 use Rattle.tagged_index.specs.Limits.{capacity_of, tag_limit_of}
 use Rattle.bounded_model.specs.declared.views.RootView.{RootView}
 use Rattle.bounded_model.specs.Laws.{HasRoomForPass}
-use Rattle.step_core.specs.Seats.{root_of}
-use Rattle.step_core.proofs.SeatedCalls.{split_view}
+use Rattle.machine.specs.Seats.{root_of}
+use Rattle.machine.proofs.SeatedCalls.{split_view}
 use Rattle.treiber_stack.specs.Rule.{idle}
 use Rattle.treiber_stack.specs.Stack.{shape_of, root_in}
 use Rattle.treiber_stack.proofs.Seats.{splits}

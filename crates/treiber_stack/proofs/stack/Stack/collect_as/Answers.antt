@@ -4,8 +4,8 @@ use Rattle.std.specs.Prelude.{Option as Slot, Some, None, Ok, Err}
 use Rattle.atomic_table.specs.Table.{rest}
 use Rattle.bounded_model.proofs.Histories.{is_nil}
 use Rattle.bounded_model.specs.declared.views.PassView.{PassView}
-use Rattle.step_core.specs.declared.stack.Putting.{Putting}
-use Rattle.step_core.specs.declared.stack.Line.TheVariants.{P1}
+use Rattle.stack_machine.specs.declared.lines.Putting.{Putting}
+use Rattle.stack_machine.specs.declared.lines.Line.TheVariants.{P1}
 use Rattle.treiber_stack.specs.Operations.{IsAt, begun_in}
 use Rattle.treiber_stack.specs.Ranging.{IsStart, NotPut, Stops, TakesFree, HasNodes, IsHolding, places_from, loaded}
 use Rattle.treiber_stack.specs.Stack.{pass_in, shape_of}

@@ -1,6 +1,6 @@
 use Rattle.std.proofs.Common.{◌≡◌}
 use Rattle.bounded_model.specs.Histories.{own}
-use Rattle.step_core.specs.declared.stack.Giving.{Giving}
+use Rattle.stack_machine.specs.declared.lines.Giving.{Giving}
 use Rattle.treiber_stack.specs.Operations.{begun_in}
 use Rattle.treiber_stack.specs.Stack.{pass_in}
 use Rattle.treiber_stack.specs.Folding.{IsGivingBack}

@@ -1,7 +1,7 @@
 use Rattle.std.proofs.Common.{◌≡◌}
 use Rattle.tagged_index.specs.Limits.{capacity_of, tag_limit_of}
-use Rattle.step_core.specs.StackLaw.{shape}
-use Rattle.step_core.specs.Seats.{Looks}
+use Rattle.stack_machine.specs.Answers.{shape}
+use Rattle.machine.specs.Seats.{Looks}
 use Rattle.treiber_stack.proofs.stack.Stack.look_round.Given as goal
 
 abbrev pub ghosts-load_as : goal.ghosts-load_as

@@ -2,7 +2,7 @@ use Rattle.std.proofs.Common.{ℕ, ◌∙◌, arith, [], ◌∷◌, refl}
 use Rattle.std.specs.Prelude.{Some}
 use Rattle.tagged_index.specs.Fields.{fields_of}
 use Rattle.index_list.specs.Steps.{give_chain}
-use Rattle.step_core.specs.declared.stack.Line.TheVariants.{P1, P3}
+use Rattle.stack_machine.specs.declared.lines.Line.TheVariants.{P1, P3}
 use Rattle.treiber_stack.specs.declared.operation.Operation.TheVariants.{Look as Later}
 use Rattle.treiber_stack.specs.Operations.{IsSame}
 use Rattle.treiber_stack.specs.Putting.{bearing}

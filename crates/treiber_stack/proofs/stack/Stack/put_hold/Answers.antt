@@ -5,7 +5,7 @@ use Rattle.tagged_index.specs.Fields.{fields_of}
 use Rattle.atomic_table.specs.Table.{rest}
 use Rattle.bounded_model.specs.declared.answers.Stepped.TheVariants.{Again}
 use Rattle.index_list.specs.Steps.{take}
-use Rattle.step_core.specs.declared.stack.Line.TheVariants.{F1, F3, P1}
+use Rattle.stack_machine.specs.declared.lines.Line.TheVariants.{F1, F3, P1}
 use Rattle.treiber_stack.specs.declared.operation.Operation.TheVariants.{Put as First, Look as Later}
 use Rattle.treiber_stack.specs.declared.putting.PutAt.TheVariants.{Hold, Load}
 use Rattle.treiber_stack.specs.Operations.{IsSame}

@@ -5,7 +5,7 @@ use Rattle.std.proofs.Common.{inl}
 use Rattle.index_list.specs.Lists.{Holds}
 use Rattle.tagged_index.specs.Fields.{fields_of}
 use Rattle.index_list.specs.Steps.{write_link}
-use Rattle.step_core.specs.declared.stack.Line.TheVariants.{G2, G3}
+use Rattle.stack_machine.specs.declared.lines.Line.TheVariants.{G2, G3}
 use Rattle.treiber_stack.specs.declared.operation.Operation.TheVariants.{Look as Later}
 use Rattle.treiber_stack.specs.Putting.{refusing}
 use Rattle.treiber_stack.proofs.Closes.{is_at, went_on}

@@ -4,7 +4,7 @@ use mathlib.Core.Option.{some}
 use Rattle.index_list.specs.Lists.{Holds}
 use Rattle.tagged_index.specs.Fields.{fields_of}
 use Rattle.index_list.specs.Steps.{write_link}
-use Rattle.step_core.specs.declared.stack.Line.TheVariants.{P2, P3}
+use Rattle.stack_machine.specs.declared.lines.Line.TheVariants.{P2, P3}
 use Rattle.treiber_stack.specs.declared.operation.Operation.TheVariants.{Look as Later}
 use Rattle.treiber_stack.specs.Putting.{bearing}
 use Rattle.treiber_stack.proofs.Closes.{is_at, went_on}

@@ -5,7 +5,7 @@ use Rattle.tagged_index.specs.Fields.{fields_of, tag_of}
 use Rattle.bounded_model.specs.declared.answers.Word.TheVariants.{Top as TopWord}
 use Rattle.bounded_model.specs.declared.answers.PutRefused.TheVariants.{Closed, Spent}
 use Rattle.index_list.specs.Steps.{read_top}
-use Rattle.step_core.specs.declared.stack.Line.TheVariants.{P1, P2, G1}
+use Rattle.stack_machine.specs.declared.lines.Line.TheVariants.{P1, P2, G1}
 use Rattle.treiber_stack.specs.declared.operation.Operation.TheVariants.{Look as Later}
 use Rattle.treiber_stack.specs.Putting.{bearing, refusing}
 use Rattle.treiber_stack.proofs.Closes.{is_at, went_on}

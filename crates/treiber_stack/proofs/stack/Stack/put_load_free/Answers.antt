@@ -7,7 +7,7 @@ use Rattle.bounded_model.specs.declared.answers.Stepped.TheVariants.{Again, Done
 use Rattle.bounded_model.specs.declared.answers.Word.TheVariants.{Free as FreeWord}
 use Rattle.bounded_model.specs.declared.answers.PutRefused.TheVariants.{Spent}
 use Rattle.index_list.specs.Steps.{read_top}
-use Rattle.step_core.specs.declared.stack.Line.TheVariants.{F1, F2, D1}
+use Rattle.stack_machine.specs.declared.lines.Line.TheVariants.{F1, F2, D1}
 use Rattle.treiber_stack.specs.declared.operation.Operation.TheVariants.{Put as First, Look as Later}
 use Rattle.treiber_stack.specs.declared.putting.PutAt.TheVariants.{LoadFree, Link, Refuse}
 use Rattle.treiber_stack.specs.Putting.{wanting, put_answer, PutStep}

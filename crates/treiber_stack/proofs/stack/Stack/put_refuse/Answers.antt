@@ -5,7 +5,7 @@ use Rattle.tagged_index.specs.Fields.{tag_of}
 use Rattle.bounded_model.specs.declared.answers.Word.TheVariants.{Top as TopWord}
 use Rattle.bounded_model.specs.declared.answers.PutRefused.TheVariants.{Full, Closed, Spent}
 use Rattle.index_list.specs.Steps.{read_top}
-use Rattle.step_core.specs.declared.stack.Line.TheVariants.{D1}
+use Rattle.stack_machine.specs.declared.lines.Line.TheVariants.{D1}
 use Rattle.treiber_stack.specs.declared.operation.Operation.TheVariants.{Look as Later}
 use Rattle.treiber_stack.specs.Putting.{put_answer}
 use Rattle.treiber_stack.proofs.Closes.{is_pass}

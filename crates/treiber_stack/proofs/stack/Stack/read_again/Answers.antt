@@ -1,9 +1,9 @@
-use Rattle.std.proofs.Common.{◌≡◌, sym, ap, ◌∙◌, subst, arith}
+use Rattle.std.proofs.Common.{ap, ◌∙◌, subst}
 use Rattle.tagged_index.specs.Fields.{index_of}
 use Rattle.tagged_index.specs.Limits.{capacity_of, tag_limit_of}
 use Rattle.tagged_index.specs.declared.limit.Limits.{Limits}
-use Rattle.step_core.specs.StackLaw.{shape}
-use Rattle.step_core.specs.Seats.{Looks}
+use Rattle.stack_machine.specs.Answers.{shape}
+use Rattle.machine.specs.Seats.{Looks}
 use Rattle.treiber_stack.proofs.Restoring.{again_at}
 use Rattle.treiber_stack.proofs.stack.Stack.read_again.Goals as goal
 

@@ -1,10 +1,10 @@
 use Rattle.std.proofs.Common.{◌≡◌, ℕ, List, ◌∷◌, ◌++◌}
 use Rattle.tagged_index.specs.Fields.{index_of}
 use Rattle.tagged_index.specs.Limits.{capacity_of, tag_limit_of}
-use Rattle.step_core.specs.StackLaw.{shape}
-use Rattle.step_core.specs.Seats.{Looks}
-use Rattle.step_core.specs.declared.stack.Giving.{Giving}
-use Rattle.step_core.specs.declared.stack.Line.TheVariants.{G1}
+use Rattle.stack_machine.specs.Answers.{shape}
+use Rattle.machine.specs.Seats.{Looks}
+use Rattle.stack_machine.specs.declared.lines.Giving.{Giving}
+use Rattle.stack_machine.specs.declared.lines.Line.TheVariants.{G1}
 use Rattle.treiber_stack.specs.Rule.{line_in}
 use Rattle.treiber_stack.proofs.stack.Stack.read_again.Given as goal
 

@@ -1,8 +1,4 @@
-use Rattle.std.proofs.Common.{◌≡◌, ◌≢◌, ℕ, ◌≤◌, Bool, true, false, cond, leb, eqb, refl, sym, ap, ◌∙◌, subst, eq-eqb, ne_eqb, arith}
-use Rattle.std.specs.Prelude.{Some}
-use Rattle.tagged_index.specs.Limits.{tag_limit_of}
-use Rattle.tagged_index.specs.Fields.{index_of, tag_of, second_of}
-use Rattle.tagged_index.specs.declared.word.TheConstants.{NULL}
+use Rattle.std.proofs.Common.{true, false, sym, ◌∙◌, arith}
 use Rattle.treiber_stack.proofs.Refusing.{refuses_shut, refuses_none, refuses_spent}
 use Rattle.treiber_stack.proofs.stack.Stack.refused.Goals as goal
 

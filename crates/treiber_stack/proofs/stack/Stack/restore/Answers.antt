@@ -1,5 +1,5 @@
-use Rattle.std.proofs.Common.{◌≡◌, ℕ, suc, ◌+◌, ◌-◌, ◌<◌, ◌≤◌, List, ◌++◌, map, drop, replicate, set, get_or, refl, sym, ap, ◌∙◌, subst, arith}
-use Rattle.std.specs.Prelude.{Option as Slot, Some, None}
+use Rattle.std.proofs.Common.{◌≡◌, ℕ, suc, ◌+◌, ◌-◌, List, map, drop, set, get_or, refl, sym, ap, ◌∙◌, subst, arith}
+use Rattle.std.specs.Prelude.{Option as Slot, Some}
 use Rattle.treiber_stack.specs.Operations.{begun_in}
 use Rattle.treiber_stack.specs.Ranging.{IsRestoring, places_from}
 use Rattle.treiber_stack.specs.declared.stack.Pass.{Pass}

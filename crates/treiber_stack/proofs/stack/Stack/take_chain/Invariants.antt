@@ -1,6 +1,6 @@
 use Rattle.std.proofs.Common.{◌≡◌, []}
-use Rattle.step_core.specs.declared.stack.Taking.TheVariants.{Whole}
-use Rattle.step_core.specs.declared.stack.Line.TheVariants.{S1}
+use Rattle.stack_machine.specs.declared.lines.Taking.TheVariants.{Whole}
+use Rattle.stack_machine.specs.declared.lines.Line.TheVariants.{S1}
 use Rattle.treiber_stack.specs.Host.{direction}
 use Rattle.treiber_stack.specs.Operations.{IsAt, begun_in}
 use Rattle.treiber_stack.specs.Stack.{pass_in}

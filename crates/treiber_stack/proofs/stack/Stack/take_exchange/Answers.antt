@@ -5,8 +5,8 @@ use Rattle.treiber_stack.specs.Operations.{IsSame}
 use Rattle.atomic_table.specs.Table.{rest}
 use Rattle.tagged_index.specs.Fields.{fields_of, index_of}
 use Rattle.index_list.specs.Steps.{take}
-use Rattle.step_core.specs.declared.stack.Taking.TheVariants.{One}
-use Rattle.step_core.specs.declared.stack.Line.TheVariants.{S1, S3, G1}
+use Rattle.stack_machine.specs.declared.lines.Taking.TheVariants.{One}
+use Rattle.stack_machine.specs.declared.lines.Line.TheVariants.{S1, S3, G1}
 use Rattle.treiber_stack.specs.declared.operation.Operation.TheVariants.{Take as First}
 use Rattle.treiber_stack.specs.Taking.{giving}
 use Rattle.treiber_stack.proofs.Closes.{is_at, went_on}

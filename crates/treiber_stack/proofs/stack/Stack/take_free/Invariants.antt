@@ -1,5 +1,5 @@
 use Rattle.std.proofs.Common.{◌≡◌}
-use Rattle.step_core.specs.declared.stack.Putting.{Putting}
+use Rattle.stack_machine.specs.declared.lines.Putting.{Putting}
 use Rattle.treiber_stack.specs.Operations.{begun_in}
 use Rattle.treiber_stack.specs.Ranging.{IsCollecting}
 use Rattle.treiber_stack.proofs.stack.Stack.take_free.Given as goal

@@ -3,7 +3,7 @@ use Rattle.tagged_index.specs.Limits.{capacity_of}
 use mathlib.Core.Option.{some}
 use Rattle.tagged_index.specs.Fields.{fields_of}
 use Rattle.index_list.specs.Steps.{read_link}
-use Rattle.step_core.specs.declared.stack.Line.TheVariants.{S2, S3}
+use Rattle.stack_machine.specs.declared.lines.Line.TheVariants.{S2, S3}
 use Rattle.treiber_stack.specs.declared.operation.Operation.TheVariants.{Take as First}
 use Rattle.treiber_stack.proofs.Closes.{is_at, went_on}
 use Rattle.treiber_stack.proofs.Takings.{may_going, S2_goes}

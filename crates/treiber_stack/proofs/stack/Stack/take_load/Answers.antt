@@ -6,9 +6,9 @@ use Rattle.tagged_index.specs.declared.word.TheConstants.{NULL}
 use Rattle.bounded_model.specs.declared.answers.Word.TheVariants.{Top as TopWord}
 use Rattle.bounded_model.specs.declared.answers.TakeRefused.TheVariants.{Empty as TakeEmpty, Closed as TakeClosed, Spent as TakeSpent, Shut as TakeShut}
 use Rattle.index_list.specs.Steps.{read_top}
-use Rattle.step_core.specs.declared.stack.Answer.TheVariants.{Take as AnswerTake}
-use Rattle.step_core.specs.declared.stack.Taking.TheVariants.{One}
-use Rattle.step_core.specs.declared.stack.Line.TheVariants.{S1, S2}
+use Rattle.stack_machine.specs.declared.lines.Answer.TheVariants.{Take as AnswerTake}
+use Rattle.stack_machine.specs.declared.lines.Taking.TheVariants.{One}
+use Rattle.stack_machine.specs.declared.lines.Line.TheVariants.{S1, S2}
 use Rattle.treiber_stack.specs.declared.operation.Operation.TheVariants.{Take as First}
 use Rattle.treiber_stack.proofs.Closes.{is_pass, is_at, went_on}
 use Rattle.treiber_stack.proofs.Takings.{may_going, S1_shut, S1_none, S1_spent, S1_goes, take_gives}

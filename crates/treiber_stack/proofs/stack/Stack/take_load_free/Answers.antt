@@ -2,7 +2,7 @@ use Rattle.std.proofs.Common.{ℕ, arith, [], ◌∷◌, refl}
 use Rattle.std.specs.Prelude.{None}
 use Rattle.tagged_index.specs.Fields.{fields_of}
 use Rattle.index_list.specs.Steps.{read_top}
-use Rattle.step_core.specs.declared.stack.Line.TheVariants.{G1, G2}
+use Rattle.stack_machine.specs.declared.lines.Line.TheVariants.{G1, G2}
 use Rattle.treiber_stack.specs.declared.operation.Operation.TheVariants.{Take as First}
 use Rattle.treiber_stack.specs.Taking.{giving}
 use Rattle.treiber_stack.proofs.Closes.{is_at, went_on}

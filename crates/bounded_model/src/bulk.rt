@@ -1,0 +1,98 @@
+//! Containers that put or take many values by one exchange.
+
+ghost use Rattle.std.specs.Prelude.{◌≡◌, reverse, IsSome};
+ghost use Rattle.std.specs.List.{AllByRecursion as Every};
+ghost use Rattle.bounded_model.specs.Consumes.{Folds};
+ghost use Rattle.bounded_model.specs.Bulk.{PutsRange, FoldsAll};
+
+use crate::{Stepwise, TakeRefused, Word};
+use std::sync::Wait;
+use thiserror::Error;
+
+/// A range put that put some values.
+#[derive(Clone, Copy, Debug, PartialEq, Eq)]
+pub struct Ranged {
+    /// The put's number.
+    pub number: u64,
+    /// How many values were put, from the front; 1 at least.
+    pub count: u32,
+}
+
+/// Why a range was not put. Every value is still in its place.
+#[derive(Clone, Copy, Debug, Error, PartialEq, Eq)]
+pub enum RangeRefused {
+    /// The range is empty.
+    #[error("nothing to put")]
+    Nothing,
+    /// Every cell holds a value or is in a pass's hand.
+    #[error("full")]
+    Full,
+    /// The container is closed.
+    #[error("closed")]
+    Closed,
+    /// The tag of this word has reached the limit: the word, and the tag that was read.
+    #[error("spent")]
+    Spent(Word, u64),
+}
+
+/// A fold that took all values.
+#[derive(Clone, Copy, Debug, PartialEq, Eq)]
+pub struct Folded {
+    /// The number of the exchange that took them.
+    pub number: u64,
+    /// How many values there were.
+    pub count: u32,
+}
+
+/// A container that puts several values, and takes all values, by one exchange each.
+pub trait Bulk<T>: Stepwise<T> {
+    /// Puts as many values as cells can be had, from the front, by one exchange; their places are
+    /// then `None`. A refusal leaves every place as it was: `Nothing` for an empty range, else as
+    /// that of a put.
+    fn put_range<R: Wait>(
+        &self,
+        rt: &R,
+        by: Self::Pass,
+        values: &mut [Option<T>],
+    ) -> (Self::Pass, Result<Ranged, RangeRefused>)
+        requires pass { Self.is_pass self.now by }
+        requires values { Every (λ place. IsSome place) values.old }
+        ensures of { Self.is_pass self.now result.0 }
+        ensures gives { PutsRange
+            (record { shape = Self.shape self.now; from = Self.pass by; to = Self.pass result.0 })
+            values.old values.new result.1 };
+
+    /// Takes all values by one exchange, and folds them in the order in which takes would give
+    /// them. Answers the last state; after a refusal, which is as that of a take, it is the one
+    /// that was handed in.
+    fn fold_all_atomic<R: Wait, S, F: Fn(S, T) -> S + Drop>(
+        &self,
+        rt: &R,
+        by: Self::Pass,
+        state: S,
+        f: F,
+    ) -> (Self::Pass, S, Result<Folded, TakeRefused>)
+        requires pass { Self.is_pass self.now by }
+        requires call { F.IsAlwaysCallable f }
+        ensures of { Self.is_pass self.now result.0 }
+        ensures gives { FoldsAll
+            (record { shape = Self.shape self.now; from = Self.pass by; to = Self.pass result.0 })
+            (λ values. Folds (λ s x t. F.post f s x t) state values result.1)
+            (result.1 ≡ state) result.2 };
+
+    /// The same in the opposite order.
+    fn fold_all_atomic_reversed<R: Wait, S, F: Fn(S, T) -> S + Drop>(
+        &self,
+        rt: &R,
+        by: Self::Pass,
+        state: S,
+        f: F,
+    ) -> (Self::Pass, S, Result<Folded, TakeRefused>)
+        requires pass { Self.is_pass self.now by }
+        requires call { F.IsAlwaysCallable f }
+        ensures of { Self.is_pass self.now result.0 }
+        ensures gives { FoldsAll
+            (record { shape = Self.shape self.now; from = Self.pass by; to = Self.pass result.0 })
+            (λ values. Folds (λ s x t. F.post f s x t) state (reverse values) result.1)
+            (result.1 ≡ state) result.2 };
+}

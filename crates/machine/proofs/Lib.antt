@@ -1,0 +1,11 @@
+pub mod Tests
+pub mod Sums
+pub mod Lists
+pub mod OneList
+pub mod Chains
+pub mod Starts
+pub mod Hands
+pub mod Seating
+pub mod SeatedEnds
+pub mod SeatedCalls
+pub mod Ahead

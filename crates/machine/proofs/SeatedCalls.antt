@@ -1,0 +1,147 @@
+-- What split, meet and join do to views, and what a load tells that belongs to no line.
+use Rattle.std.proofs.Common.{◌≡◌, ℕ, ◌+◌, ◌<◌, List, [], ◌∷◌, length, refl, sym, ap, ◌∙◌, subst, arith}
+use Rattle.std.specs.List.{AllByRecursion as Every}
+use Rattle.bounded_model.specs.declared.history.Event.{Event}
+use Rattle.bounded_model.specs.declared.views.PassView.{PassView}
+use Rattle.bounded_model.specs.declared.views.RootView.{RootView}
+use Rattle.bounded_model.specs.Machine.{Shape, state, Legal}
+use Rattle.bounded_model.specs.Histories.{pass_of as event_pass, own}
+use Rattle.bounded_model.specs.Laws.{IsSound, IsAtRest, HasRoomForPass, Splits, Joins, Meets, Adds}
+use Rattle.bounded_model.proofs.Histories.{Later-refl, Later-start, own-between, own-unknown, known_from_own}
+use Rattle.machine.specs.declared.seats.View.{View}
+use Rattle.machine.specs.declared.seats.View.TheVariants.{AtRoot, AtPass, AtMeeting, Left}
+use Rattle.machine.specs.Seats.{Owns, Saw, Rooted, Knows, Fine, Looks, held_at, at_rest, new_pass, gives_one, takes_back, stepped, looked, left_of, right_of, both_of, pass_of, root_of}
+use Rattle.machine.proofs.Hands.{same_hand}
+use Rattle.machine.proofs.Seating.{below_more}
+use Rattle.bounded_model.proofs.Whole.{few}
+
+module _ {T : Type 0} where
+  -- a step that adds no event of the pass
+  pub adds_none : (h : List (Event T)) (p : PassView T) → Saw h p → Adds p (stepped h p) []
+  adds_none h p f = record { number = refl; steps = omega arith; between = f.seen.more; seen = f.seen.is; own_events = own-between p.number f.seen.more p.seen (sym (ap (own p.number) f.seen.is) ∙ f.own_events) }
+
+  saw_stepped : (h : List (Event T)) (p : PassView T) → Saw h p → Saw h (stepped h p)
+  saw_stepped h p f = record { seen = Later-refl h; own_events = refl }
+
+  known_more : (n : ℕ) (h : List (Event T)) → Every (λ e. event_pass e < n) h → Every (λ e. event_pass e < n + 1) h
+  known_more n [] known = tt
+  known_more n (e ∷ h) known = (let b : event_pass e < n = known.0 in omega arith, known_more n h known.1)
+
+  -- what the whole root knows, at the end of a legal history
+  rooted_sound : (c : Shape) (h : List (Event T)) (r : RootView T) (heard : List (Event T)) → Legal c h → Rooted h r heard → IsSound c (record r { seen = h })
+  rooted_sound c h r heard legal f = record { legal = legal; joined = f.joined; apart = f.apart; given = f.given; known = known_from_own r.given h f.unknown }
+
+module _ {T L : Type 0} where
+  -- a load makes a seat answer for no more, and keeps what it knows; with `seated_step` it keeps what all know
+  pub looked_owns : (h : List (Event T)) (v : View T L) (x : ℕ) → Owns (looked h v) x → Owns v x
+  looked_owns h (AtRoot r heard) x o = o
+  looked_owns h (AtPass p begun l) x o = o
+  looked_owns h (AtMeeting p q) x o = o
+  looked_owns h Left x o = o
+
+  looked_knows : (h : List (Event T)) (v : View T L) → Knows h v → Knows h (looked h v)
+  looked_knows h (AtRoot r heard) f = record { seen = Later-refl h; heard_seen = Later-start h; joined = f.joined; apart = f.apart; given = f.given; unknown = f.unknown }
+  looked_knows h (AtPass p begun l) f = saw_stepped h p f
+  looked_knows h (AtMeeting p q) f = (saw_stepped h p f.0, f.1, f.2)
+  looked_knows h Left f = tt
+
+  looked_holds : (held : L → ℕ) (h : List (Event T)) (v : View T L) → held_at held v ≡ held_at held (looked h v)
+  looked_holds held h (AtRoot r heard) = refl
+  looked_holds held h (AtPass p begun l) = refl
+  looked_holds held h (AtMeeting p q) = refl
+  looked_holds held h Left = refl
+
+  pub looked_fine : (c : Shape) (held : L → ℕ) (h : List (Event T)) (v : View T L) → Fine c held h v → Fine c held h (looked h v)
+  looked_fine c held h v f = record { knows = looked_knows h v f.knows; hands = λ x o. f.hands x (looked_owns h v x o) ∙ looked_holds held h v }
+
+  -- and tells this
+  pub looks : (c : Shape) (h : List (Event T)) (v : View T L) → Legal c h → Knows h v → Looks c v (looked h v)
+  looks c h (AtRoot r heard) legal f = (record r { seen = h }, refl, refl, refl, f.seen, f.heard_seen, rooted_sound c h r heard legal f)
+  looks c h (AtPass p begun l) legal f = (stepped h p, refl, adds_none h p f, legal)
+  looks c h (AtMeeting p q) legal f = (stepped h p, refl, record { number = refl; steps = omega arith; first = f.0.seen; second = f.1.seen; own_events = f.0.own_events; others = f.1.own_events }, legal)
+  looks c h Left legal f = tt
+
+  -- a view that is known to be a root's or a pass's, in terms of what is read off it
+  pub at_root : (v : View T L) (r : RootView T) → v ≡ AtRoot r [] → v ≡ AtRoot (root_of v) []
+  at_root v r e = e ∙ ap (λ (x : RootView T). AtRoot x []) (sym (ap root_of e))
+
+  pub at_pass : (idle : L) (v : View T L) (p : PassView T) → v ≡ at_rest idle p → v ≡ at_rest idle (pass_of v)
+  at_pass idle v p e = e ∙ ap (λ (x : PassView T). at_rest idle x) (sym (ap pass_of e))
+
+  -- the calls, from the views before and after
+  pub record SplitView (c : Shape) (idle : L) (v left right : View T L) : Type 0 where
+    pub root : left ≡ AtRoot (root_of left) []
+    pub pass : right ≡ at_rest idle (pass_of right)
+    pub sound : IsSound c (root_of left)
+    pub rests : IsAtRest c (pass_of right)
+    pub gives : Splits (root_of v) (root_of left) (pass_of right)
+
+  pub split_view : (c : Shape) (idle : L) (v left right : View T L) → v ≡ AtRoot (root_of v) [] → IsSound c (root_of v) → HasRoomForPass (root_of v) → left ≡ left_of idle v → right ≡ right_of idle v → SplitView c idle v left right
+  split_view c idle v left right is sound room l r =
+      let root : RootView T = root_of v in
+      let l' : left ≡ AtRoot (gives_one root) [] = l ∙ ap (left_of idle) is in
+      let r' : right ≡ at_rest idle (new_pass root) = r ∙ ap (right_of idle) is in
+      let s : gives_one root ≡ root_of left = sym (ap root_of l') in
+      let p : new_pass root ≡ pass_of right = sym (ap pass_of r') in
+      let none : own root.given root.seen ≡ [] = own-unknown root.given root.seen sound.known root.given (omega arith) in
+      let whole : IsSound c (gives_one root) = record { legal = sound.legal; joined = sound.joined; apart = sound.apart; given = below_more root.given root.account sound.given; known = known_more root.given root.seen sound.known } in
+      let new : IsAtRest c (new_pass root) = record { legal = sound.legal; hand = same_hand c root.given root.seen [] none } in
+      record {
+        root = at_root left (gives_one root) l';
+        pass = at_pass idle right (new_pass root) r';
+        sound = subst (IsSound c) s whole;
+        rests = subst (IsAtRest c) p new;
+        gives = record { room = room; root = sym s; pass = sym p };
+      }
+
+  pub record JoinView (c : Shape) (v w after : View T L) : Type 0 where
+    pub root : after ≡ AtRoot (root_of after) []
+    pub sound : IsSound c (root_of after)
+    pub gives : Joins (root_of v) (pass_of w) (root_of after)
+
+  pub join_view : (c : Shape) (idle : L) (v w between after : View T L) → v ≡ AtRoot (root_of v) [] → w ≡ at_rest idle (pass_of w) → between ≡ both_of v w → Looks c between after → JoinView c v w after
+  join_view c idle v w between after a b e tells =
+      let r : RootView T = root_of v in
+      let p : PassView T = pass_of w in
+      let is : between ≡ AtRoot (takes_back r p) p.seen = e ∙ (λ k. both_of (a k) (b k)) in
+      let t = subst (λ (x : View T L). Looks c x after) is tells in
+      let s : RootView T = t.0 in
+      let same : s ≡ root_of after = sym (ap root_of t.1) in
+      let gives : Joins r p s = record { given = t.2; account = t.3; root_seen = t.4; seen = t.5 } in
+      record { root = at_root after s t.1; sound = subst (IsSound c) same t.6; gives = subst (Joins r p) same gives }
+
+  pub record MeetView (c : Shape) (idle : L) (v w left right : View T L) : Type 0 where
+    pub first : left ≡ at_rest idle (pass_of left)
+    pub second : right ≡ at_rest idle (pass_of right)
+    pub rests : IsAtRest c (pass_of v) → IsAtRest c (pass_of left)
+    pub same : pass_of right ≡ pass_of w
+    pub gives : Meets (pass_of v) (pass_of w) (pass_of left)
+
+  pub meet_view : (c : Shape) (idle : L) (v w between after left right : View T L) → v ≡ at_rest idle (pass_of v) → w ≡ at_rest idle (pass_of w) → between ≡ both_of v w → Looks c between after → left ≡ left_of idle after → right ≡ right_of idle after
+      → MeetView c idle v w left right
+  meet_view c idle v w between after left right a b e tells l r =
+      let p : PassView T = pass_of v in
+      let q : PassView T = pass_of w in
+      let is : between ≡ AtMeeting p q = e ∙ (λ k. both_of (a k) (b k)) in
+      let t = subst (λ (x : View T L). Looks c x after) is tells in
+      let p' : PassView T = t.0 in
+      let l' : left ≡ at_rest idle p' = l ∙ ap (left_of idle) t.1 in
+      let r' : right ≡ at_rest idle q = r ∙ ap (right_of idle) t.1 in
+      let s : p' ≡ pass_of left = sym (ap pass_of l') in
+      let meets : Meets p q p' = t.2 in
+      record {
+        first = at_pass idle left p' l';
+        second = at_pass idle right q r';
+        rests = λ rest. subst (IsAtRest c) s (record { legal = t.3; hand = ap (state c p'.seen).hand meets.number ∙ same_hand c p.number p'.seen p.seen meets.own_events ∙ rest.hand });
+        same = ap pass_of r';
+        gives = subst (Meets p q) s meets;
+      }
+
+-- a pass that is joined was out
+module _ {T : Type 0} where
+  pub was_out : (c : Shape) (r s : RootView T) (p : PassView T) (out : ℕ) → Joins r p s → IsSound c s → r.given ≡ out + length r.account → 0 < out
+  was_out c r s p out j sound counted =
+      let most = few s.given s.account sound.apart sound.given in
+      let given : s.given ≡ r.given = j.given in
+      let account : length s.account ≡ length r.account + 1 = ap length j.account ∙ omega arith in
+      omega arith

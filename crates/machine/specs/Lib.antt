@@ -1,0 +1,4 @@
+pub mod Words
+pub mod OneList
+pub mod Chains
+pub mod Seats

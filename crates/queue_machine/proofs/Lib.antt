@@ -1,0 +1,15 @@
+pub mod Chain
+pub mod Chained
+pub mod Linked
+pub mod Moves
+pub mod Numbered
+pub mod Filled
+pub mod Told
+pub mod StepKinds
+pub mod Step
+pub mod Answers
+pub mod Tells
+pub mod Doing
+pub mod Raises
+pub mod Seats
+pub mod Start

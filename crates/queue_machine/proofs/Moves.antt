@@ -1,0 +1,315 @@
+-- Each kind of step of the queue keeps both free lists, the chain, the hands, and what passes have read.
+use Rattle.std.proofs.Common.{◌≡◌, ◌≢◌, ℕ, ◌+◌, ◌<◌, List, [], ◌∷◌, ◌++◌, set, refl, sym, ap, ◌∙◌, subst, arith}
+use mathlib.Core.Option.{some}
+use lib.ListN.{get_elem?}
+use Rattle.tagged_index.specs.declared.word.TheConstants.{NULL}
+use Rattle.machine.specs.Words.{Tagged, raised, marked, with_second, store, times, Stands}
+use Rattle.machine.proofs.Lists.{times_here, times_append, store_else, leads_frame, leads_from}
+use Rattle.queue_machine.specs.declared.lines.Line.{Line}
+use Rattle.queue_machine.specs.Machine.{Memory, held_cells, held_nodes, store_word, after_hold, after_free, after_node_take, after_node_give, after_clink, after_nlink, after_cell, after_next, after_link_of, after_swing, after_close, after_take, after_shut, next_of}
+use Rattle.queue_machine.specs.Rule.{Lists, Was, Lags, Ends, IsFine, IsChained, Linked}
+use Rattle.queue_machine.proofs.Chain.{word_else, word_each, past_refl, past_higher, was_refl, was_higher, pool_same, chain_same, tail_in, at_end, behind}
+use Rattle.queue_machine.proofs.Chained.{store_cell_chained, store_next_chained, link_chained, close_chained, swing_chained, Taken, shut_chained}
+use Rattle.queue_machine.proofs.Linked.{cell_once, node_once, no_null, held_below, moves_kept}
+
+-- a store into a held index changes no other link
+stored_apart : (link : ℕ → ℕ) (i x : ℕ) (held : List ℕ) → 0 < times i held → (j : ℕ) → times j held ≡ 0 → store link i x j ≡ link j
+stored_apart link i x held mine j out = store_else link i x j (λ q. absurd (let a : times j held ≡ times i held = ap (λ (k : ℕ). times k held) q in omega arith))
+
+word_apart : (next : ℕ → Tagged) (i : ℕ) (x : Tagged) (held : List ℕ) → 0 < times i held → (j : ℕ) → times j held ≡ 0 → store_word next i x j ≡ next j
+word_apart next i x held mine j out = word_else next i x j (λ q. absurd (let a : times j held ≡ times i held = ap (λ (k : ℕ). times k held) q in omega arith))
+
+-- a store into a null link leaves the links that name nodes
+node_apart : (next : ℕ → Tagged) (i : ℕ) (x : Tagged) → (next i).index ≡ NULL → (j : ℕ) → (next j).index ≢ NULL → store_word next i x j ≡ next j
+node_apart next i x null j node = word_else next i x j (λ q. node (ap (λ (k : ℕ). (next k).index) q ∙ null))
+
+-- and those of nodes outside the chain
+chain_apart : (next : ℕ → Tagged) (i : ℕ) (x : Tagged) (chain : List ℕ) → 0 < times i chain → (j : ℕ) → times j chain ≡ 0 → store_word next i x j ≡ next j
+chain_apart next i x chain there j out = word_apart next i x chain there j out
+
+tag_of : (a b : Tagged) → a ≡ b → a.tag ≡ b.tag
+tag_of a b e = ap (λ (x : Tagged). x.tag) e
+
+index_of : (a b : Tagged) → a ≡ b → a.index ≡ b.index
+index_of a b e = ap (λ (x : Tagged). x.index) e
+
+module _ {T : Type 0} {n limit : ℕ} {m : Memory T} {g : Lists} {lines : List (Line T)} (p : ℕ) (l l' : Line T) (s : Linked T n limit m g lines) (e : get_elem? lines p ≡ some l) where
+  -- a step that changes no word
+  pub goes_linked : held_cells l' ≡ held_cells l → held_nodes l' ≡ held_nodes l → IsFine limit m g l' → Linked T n limit m g (set lines p l')
+  goes_linked same_cells same_nodes f = moves_kept p l l' s e
+      (record {
+        cells = pool_same m.cells m.clink g.cells (held_cells l);
+        nodes = pool_same m.nodes m.nlink g.nodes (held_nodes l);
+        chain = chain_same m.head m.tail m.next m.cell g.chain (held_nodes l);
+        cells_moved = λ i. omega (arith, ap (times i) same_cells);
+        nodes_moved = λ j. omega (arith, ap (times j) same_nodes);
+      })
+      s.cells_stand s.nodes_stand s.chained s.named f
+
+  -- stores into what the pass holds: the link of a cell, the link of a node, its cell, its word
+  pub clink_linked : (i x : ℕ) → 0 < times i (held_cells l) → held_cells l' ≡ held_cells l → held_nodes l' ≡ held_nodes l → IsFine limit (after_clink m i x) g l' → Linked T n limit (after_clink m i x) g (set lines p l')
+  clink_linked i x mine same_cells same_nodes f = moves_kept p l l' s e
+      (record {
+        cells = record { tag = omega arith; stays = λ h j there. there; links = stored_apart m.clink i x (held_cells l) mine };
+        nodes = pool_same m.nodes m.nlink g.nodes (held_nodes l);
+        chain = chain_same m.head m.tail m.next m.cell g.chain (held_nodes l);
+        cells_moved = λ i. omega (arith, ap (times i) same_cells);
+        nodes_moved = λ j. omega (arith, ap (times j) same_nodes);
+      })
+      (leads_frame m.clink (store m.clink i x) g.cells m.cells.index NULL (λ j there. stored_apart m.clink i x (held_cells l) mine j (omega (arith, cell_once p j l s e))) s.cells_stand)
+      s.nodes_stand s.chained s.named f
+
+  pub nlink_linked : (i x : ℕ) → 0 < times i (held_nodes l) → held_cells l' ≡ held_cells l → held_nodes l' ≡ held_nodes l → IsFine limit (after_nlink m i x) g l' → Linked T n limit (after_nlink m i x) g (set lines p l')
+  nlink_linked i x mine same_cells same_nodes f = moves_kept p l l' s e
+      (record {
+        cells = pool_same m.cells m.clink g.cells (held_cells l);
+        nodes = record { tag = omega arith; stays = λ h j there. there; links = stored_apart m.nlink i x (held_nodes l) mine };
+        chain = chain_same m.head m.tail m.next m.cell g.chain (held_nodes l);
+        cells_moved = λ i. omega (arith, ap (times i) same_cells);
+        nodes_moved = λ j. omega (arith, ap (times j) same_nodes);
+      })
+      s.cells_stand
+      (leads_frame m.nlink (store m.nlink i x) g.nodes m.nodes.index NULL (λ j there. stored_apart m.nlink i x (held_nodes l) mine j (omega (arith, node_once p j l s e))) s.nodes_stand)
+      s.chained s.named f
+
+  pub cell_linked : (i x : ℕ) → 0 < times i (held_nodes l) → held_cells l' ≡ held_cells l → held_nodes l' ≡ held_nodes l → IsFine limit (after_cell m i x) g l' → Linked T n limit (after_cell m i x) g (set lines p l')
+  cell_linked i x mine same_cells same_nodes f = moves_kept p l l' s e
+      (record {
+        cells = pool_same m.cells m.clink g.cells (held_cells l);
+        nodes = pool_same m.nodes m.nlink g.nodes (held_nodes l);
+        chain = record { heads = past_refl m.head; tails = past_refl m.tail; words = λ j. was_refl (m.next j); links = λ j h node. refl; others = λ j h h'. refl; cells = stored_apart m.cell i x (held_nodes l) mine; still = λ h. refl };
+        cells_moved = λ i. omega (arith, ap (times i) same_cells);
+        nodes_moved = λ j. omega (arith, ap (times j) same_nodes);
+      })
+      s.cells_stand s.nodes_stand (store_cell_chained s.chained i x (omega (arith, node_once p i l s e))) s.named f
+
+  pub next_linked : (i : ℕ) (x : Tagged) → 0 < times i (held_nodes l) → (m.next i).tag < x.tag → x.index ≡ NULL → held_cells l' ≡ held_cells l → held_nodes l' ≡ held_nodes l → IsFine limit (after_next m i x) g l' → Linked T n limit (after_next m i x) g (set lines p l')
+  next_linked i x mine higher null same_cells same_nodes f = moves_kept p l l' s e
+      (record {
+        cells = pool_same m.cells m.clink g.cells (held_cells l);
+        nodes = pool_same m.nodes m.nlink g.nodes (held_nodes l);
+        chain = record {
+          heads = past_refl m.head;
+          tails = past_refl m.tail;
+          words = word_each (λ j w. Was w (m.next j)) m.next i x (was_higher x (m.next i) higher) (λ j ne. was_refl (m.next j));
+          links = λ j h node. word_apart m.next i x (held_nodes l) mine j h;
+          others = λ j h h'. word_apart m.next i x (held_nodes l) mine j h;
+          cells = λ j h. refl;
+          still = λ h. refl;
+        };
+        cells_moved = λ i. omega (arith, ap (times i) same_cells);
+        nodes_moved = λ j. omega (arith, ap (times j) same_nodes);
+      })
+      s.cells_stand s.nodes_stand (store_next_chained s.chained i x (omega (arith, node_once p i l s e)) (λ h. null))
+      (word_each (λ j w. w.index ≢ NULL → w.index < n + 1) m.next i x (λ node. absurd (node null)) (λ j ne. s.named j)) f
+
+  -- the free lists: a cell is taken and given back, and so is a node
+  pub hold_linked : (w : Tagged) (k : ℕ) (rest : List ℕ) → m.cells ≡ w → g.cells ≡ w.index ∷ rest → Stands m.clink k rest → held_cells l' ≡ w.index ∷ held_cells l → held_nodes l' ≡ held_nodes l
+      → IsFine limit (after_hold m w k) (record g { cells = rest }) l' → Linked T n limit (after_hold m w k) (record g { cells = rest }) (set lines p l')
+  hold_linked w k rest won is stands mine same_nodes f =
+      let t = tag_of m.cells w won in
+      moves_kept p l l' s e
+      (record {
+        cells = record { tag = omega arith; stays = λ h. absurd (omega arith); links = λ j h. refl };
+        nodes = pool_same m.nodes m.nlink g.nodes (held_nodes l);
+        chain = chain_same m.head m.tail m.next m.cell g.chain (held_nodes l);
+        cells_moved = λ i. omega (arith, ap (times i) is, ap (times i) mine);
+        nodes_moved = λ j. omega (arith, ap (times j) same_nodes);
+      })
+      stands s.nodes_stand (record { stands = s.chained.stands; split = s.chained.split; short = s.chained.short; place = s.chained.place; stored = s.chained.stored; tidy = s.chained.tidy }) s.named f
+
+  pub free_linked : (w : Tagged) (c : ℕ) → m.cells ≡ w → m.clink c ≡ w.index → held_cells l ≡ c ∷ [] → held_cells l' ≡ [] → held_nodes l' ≡ held_nodes l
+      → IsFine limit (after_free m w c) (record g { cells = c ∷ g.cells }) l' → Linked T n limit (after_free m w c) (record g { cells = c ∷ g.cells }) (set lines p l')
+  free_linked w c won own mine none_left same_nodes f =
+      let t = tag_of m.cells w won in
+      moves_kept p l l' s e
+      (record {
+        cells = record { tag = omega arith; stays = λ h j there. omega arith; links = λ j h. refl };
+        nodes = pool_same m.nodes m.nlink g.nodes (held_nodes l);
+        chain = chain_same m.head m.tail m.next m.cell g.chain (held_nodes l);
+        cells_moved = λ i. omega (arith, ap (times i) mine, ap (times i) none_left);
+        nodes_moved = λ j. omega (arith, ap (times j) same_nodes);
+      })
+      (refl, leads_from m.clink m.cells.index (m.clink c) g.cells NULL (index_of m.cells w won ∙ sym own) s.cells_stand) s.nodes_stand
+      (record { stands = s.chained.stands; split = s.chained.split; short = s.chained.short; place = s.chained.place; stored = s.chained.stored; tidy = s.chained.tidy }) s.named f
+
+  pub node_take_linked : (w : Tagged) (k : ℕ) (rest : List ℕ) → m.nodes ≡ w → g.nodes ≡ w.index ∷ rest → Stands m.nlink k rest → held_cells l' ≡ held_cells l → held_nodes l' ≡ w.index ∷ held_nodes l
+      → IsFine limit (after_node_take m w k) (record g { nodes = rest }) l' → Linked T n limit (after_node_take m w k) (record g { nodes = rest }) (set lines p l')
+  node_take_linked w k rest won is stands same_cells mine f =
+      let t = tag_of m.nodes w won in
+      moves_kept p l l' s e
+      (record {
+        cells = pool_same m.cells m.clink g.cells (held_cells l);
+        nodes = record { tag = omega arith; stays = λ h. absurd (omega arith); links = λ j h. refl };
+        chain = chain_same m.head m.tail m.next m.cell g.chain (held_nodes l);
+        cells_moved = λ i. omega (arith, ap (times i) same_cells);
+        nodes_moved = λ j. omega (arith, ap (times j) is, ap (times j) mine);
+      })
+      s.cells_stand stands (record { stands = s.chained.stands; split = s.chained.split; short = s.chained.short; place = s.chained.place; stored = s.chained.stored; tidy = s.chained.tidy }) s.named f
+
+  pub node_give_linked : (w : Tagged) (j : ℕ) → m.nodes ≡ w → m.nlink j ≡ w.index → held_cells l' ≡ held_cells l → held_nodes l ≡ j ∷ [] → held_nodes l' ≡ []
+      → IsFine limit (after_node_give m w j) (record g { nodes = j ∷ g.nodes }) l' → Linked T n limit (after_node_give m w j) (record g { nodes = j ∷ g.nodes }) (set lines p l')
+  node_give_linked w j won own same_cells mine none_left f =
+      let t = tag_of m.nodes w won in
+      moves_kept p l l' s e
+      (record {
+        cells = pool_same m.cells m.clink g.cells (held_cells l);
+        nodes = record { tag = omega arith; stays = λ h i there. omega arith; links = λ i h. refl };
+        chain = chain_same m.head m.tail m.next m.cell g.chain (held_nodes l);
+        cells_moved = λ i. omega (arith, ap (times i) same_cells);
+        nodes_moved = λ i. omega (arith, ap (times i) mine, ap (times i) none_left);
+      })
+      s.cells_stand (refl, leads_from m.nlink m.nodes.index (m.nlink j) g.nodes NULL (index_of m.nodes w won ∙ sym own) s.nodes_stand)
+      (record { stands = s.chained.stands; split = s.chained.split; short = s.chained.short; place = s.chained.place; stored = s.chained.stored; tidy = s.chained.tidy }) s.named f
+
+  -- What the winner of an exchange of the last link knows: the tail names the last node, and no node stands behind it
+  pub record AtEnd (w : Tagged) : Type 0 where
+    pub tag : w.tag ≡ m.tail.tag
+    pub index : w.index ≡ m.tail.index
+    pub null : next_of m m.tail.index ≡ NULL
+    pub last : g.after ≡ []
+
+  pub at_the_end : (w x : Tagged) → Ends m.tail m.next w x → m.next w.index ≡ x → AtEnd w
+  at_the_end w x ends won =
+      let at = ends.last (tag_of x (m.next w.index) (sym won)) in
+      let null : next_of m m.tail.index ≡ NULL = ap (next_of m) (sym at.1) ∙ index_of (m.next w.index) x won ∙ ends.null in
+      record { tag = at.0; index = at.1; null = null; last = at_end s.chained (omega (arith, no_null s)) null }
+
+  -- a node is linked behind the last one
+  pub link_linked : (w x : Tagged) (j c : ℕ) (v : T) → Ends m.tail m.next w x → m.next w.index ≡ x → held_cells l ≡ c ∷ [] → held_nodes l ≡ j ∷ [] → m.cell j ≡ c → next_of m j ≡ NULL → held_cells l' ≡ [] → held_nodes l' ≡ []
+      → IsFine limit (after_link_of m w x j c v) (record g { chain = g.chain ++ (j ∷ []); after = j ∷ []; queued = g.queued ++ (c ∷ []) }) l'
+      → Linked T n limit (after_link_of m w x j c v) (record g { chain = g.chain ++ (j ∷ []); after = j ∷ []; queued = g.queued ++ (c ∷ []) }) (set lines p l')
+  link_linked w x j c v ends won mine_cell mine_node in_cell null no_cell no_node f =
+      let at = at_the_end w x ends won in
+      let there : 0 < times w.index g.chain = subst (λ (i : ℕ). 0 < times i g.chain) (sym at.index) (tail_in s.chained) in
+      let wnull : next_of m w.index ≡ NULL = ap (next_of m) at.index ∙ at.null in
+      let y = raised x j in
+      let ch = link_chained s.chained x j (ap m.next (sym at.index) ∙ won) ends.unmarked at.last (omega (arith, node_once p j l s e, ap (times j) mine_node, times_here j [])) (omega (arith, node_once p m.tail.index l s e)) null in
+      let ch' : IsChained m.head m.tail (store_word m.next w.index y) m.cell (record g { chain = g.chain ++ (j ∷ []); after = j ∷ []; queued = g.queued ++ (m.cell j ∷ []) }) =
+      subst (λ (i : ℕ). IsChained m.head m.tail (store_word m.next i y) m.cell (record g { chain = g.chain ++ (j ∷ []); after = j ∷ []; queued = g.queued ++ (m.cell j ∷ []) })) (sym at.index)
+      (record { stands = ch.stands; split = ch.split; short = ch.short; place = ch.place; stored = ch.stored; tidy = ch.tidy }) in
+      moves_kept p l l' s e
+      (record {
+        cells = pool_same m.cells m.clink g.cells (held_cells l);
+        nodes = pool_same m.nodes m.nlink g.nodes (held_nodes l);
+        chain = record {
+          heads = past_refl m.head;
+          tails = past_refl m.tail;
+          words = word_each (λ i u. Was u (m.next i)) m.next w.index y (was_higher y (m.next w.index) (omega (arith, tag_of (m.next w.index) x won))) (λ i ne. was_refl (m.next i));
+          links = λ i h node. node_apart m.next w.index y wnull i node;
+          others = λ i h out. chain_apart m.next w.index y g.chain there i out;
+          cells = λ i h. refl;
+          still = λ h. refl;
+        };
+        cells_moved = λ i. omega (arith, ap (times i) mine_cell, ap (times i) no_cell, times_append i g.queued (c ∷ []));
+        nodes_moved = λ i. omega (arith, ap (times i) mine_node, ap (times i) no_node, times_append i g.chain (j ∷ []));
+      })
+      s.cells_stand s.nodes_stand
+      (subst (λ (k : ℕ). IsChained m.head m.tail (store_word m.next w.index y) m.cell (record g { chain = g.chain ++ (j ∷ []); after = j ∷ []; queued = g.queued ++ (k ∷ []) })) in_cell ch')
+      (word_each (λ i u. u.index ≢ NULL → u.index < n + 1) m.next w.index y (λ node. held_below p j l s e (omega (arith, ap (times j) mine_node, times_here j []))) (λ i ne. s.named i))
+      f
+
+  -- the last link gets the mark
+  pub close_linked : (w x : Tagged) → Ends m.tail m.next w x → m.next w.index ≡ x → held_cells l' ≡ held_cells l → held_nodes l' ≡ held_nodes l → IsFine limit (after_close m w x) g l' → Linked T n limit (after_close m w x) g (set lines p l')
+  close_linked w x ends won same_cells same_nodes f =
+      let at = at_the_end w x ends won in
+      let there : 0 < times w.index g.chain = subst (λ (i : ℕ). 0 < times i g.chain) (sym at.index) (tail_in s.chained) in
+      let wnull : next_of m w.index ≡ NULL = ap (next_of m) at.index ∙ at.null in
+      let y = marked (raised x NULL) in
+      moves_kept p l l' s e
+      (record {
+        cells = pool_same m.cells m.clink g.cells (held_cells l);
+        nodes = pool_same m.nodes m.nlink g.nodes (held_nodes l);
+        chain = record {
+          heads = past_refl m.head;
+          tails = past_refl m.tail;
+          words = word_each (λ i u. Was u (m.next i)) m.next w.index y (was_higher y (m.next w.index) (omega (arith, tag_of (m.next w.index) x won))) (λ i ne. was_refl (m.next i));
+          links = λ i h node. node_apart m.next w.index y wnull i node;
+          others = λ i h out. chain_apart m.next w.index y g.chain there i out;
+          cells = λ i h. refl;
+          still = λ h. refl;
+        };
+        cells_moved = λ i. omega (arith, ap (times i) same_cells);
+        nodes_moved = λ j. omega (arith, ap (times j) same_nodes);
+      })
+      s.cells_stand s.nodes_stand (close_chained s.chained x w.index won ends.null)
+      (word_each (λ i u. u.index ≢ NULL → u.index < n + 1) m.next w.index y (λ node. absurd (node refl)) (λ i ne. s.named i)) f
+
+  -- the tail is moved on
+  pub swing_linked : (w x : Tagged) → Lags m.tail m.next w x → m.tail ≡ w → held_cells l' ≡ held_cells l → held_nodes l' ≡ held_nodes l
+      → IsFine limit (after_swing m w x.index) (record g { before = g.before ++ (m.tail.index ∷ []); after = [] }) l'
+      → Linked T n limit (after_swing m w x.index) (record g { before = g.before ++ (m.tail.index ∷ []); after = [] }) (set lines p l')
+  swing_linked w x lags won same_cells same_nodes f =
+      let t = tag_of m.tail w won in
+      let is : next_of m m.tail.index ≡ x.index = ap (next_of m) (index_of m.tail w won) ∙ index_of (m.next w.index) x (lags.follows (sym t)) in
+      let ne : next_of m m.tail.index ≢ NULL = λ z. lags.node (sym is ∙ z) in
+      let ch = swing_chained s.chained x.index (behind s.chained ne ∙ ap (λ (i : ℕ). i ∷ []) is) in
+      moves_kept p l l' s e
+      (record {
+        cells = pool_same m.cells m.clink g.cells (held_cells l);
+        nodes = pool_same m.nodes m.nlink g.nodes (held_nodes l);
+        chain = record {
+          heads = past_refl m.head;
+          tails = past_higher (raised w x.index) m.tail (omega arith);
+          words = λ j. was_refl (m.next j);
+          links = λ j h node. refl;
+          others = λ j h out. refl;
+          cells = λ j h. refl;
+          still = λ h. absurd (ne h);
+        };
+        cells_moved = λ i. omega (arith, ap (times i) same_cells);
+        nodes_moved = λ j. omega (arith, ap (times j) same_nodes);
+      })
+      s.cells_stand s.nodes_stand
+      (subst (λ (u : Tagged). IsChained m.head (raised u x.index) m.next m.cell (record g { before = g.before ++ (m.tail.index ∷ []); after = [] })) won
+      (record { stands = ch.stands; split = ch.split; short = ch.short; place = ch.place; stored = ch.stored; tidy = ch.tidy }))
+      s.named f
+
+  -- the first node becomes the dummy, and the pass has the old one and the first node's cell
+  pub take_linked : (h x : Tagged) (c : ℕ) → m.head ≡ h → (t : Taken s.chained x) → m.cell x.index ≡ c → held_cells l ≡ [] → held_nodes l ≡ [] → held_cells l' ≡ c ∷ [] → held_nodes l' ≡ h.index ∷ []
+      → IsFine limit (after_take m h x c) (record g { chain = t.chain; before = t.before; queued = t.queued }) l'
+      → Linked T n limit (after_take m h x c) (record g { chain = t.chain; before = t.before; queued = t.queued }) (set lines p l')
+  take_linked h x c won t in_cell no_cell no_node mine_cell mine_node f =
+      let tag = tag_of m.head h won in
+      let ch = t.chained in
+      moves_kept p l l' s e
+      (record {
+        cells = pool_same m.cells m.clink g.cells (held_cells l);
+        nodes = pool_same m.nodes m.nlink g.nodes (held_nodes l);
+        chain = record {
+          heads = past_higher (raised h x.index) m.head (omega arith);
+          tails = past_refl m.tail;
+          words = λ j. was_refl (m.next j);
+          links = λ j h node. refl;
+          others = λ j h out. refl;
+          cells = λ j h. refl;
+          still = λ h. refl;
+        };
+        cells_moved = λ i. omega (arith, ap (times i) no_cell, ap (times i) mine_cell, ap (times i) t.queued_is, ap (λ (k : ℕ). times i (k ∷ [])) in_cell);
+        nodes_moved = λ j. omega (arith, ap (times j) no_node, ap (times j) mine_node, ap (times j) t.chain_is, ap (λ (u : Tagged). times j (u.index ∷ [])) won);
+      })
+      s.cells_stand s.nodes_stand
+      (subst (λ (u : Tagged). IsChained (raised u x.index) m.tail m.next m.cell (record g { chain = t.chain; before = t.before; queued = t.queued })) won
+      (record { stands = ch.stands; split = ch.split; short = ch.short; place = ch.place; stored = ch.stored; tidy = ch.tidy }))
+      s.named f
+
+  -- the head gets the second mark
+  pub shut_linked : (h : Tagged) → m.head ≡ h → held_cells l' ≡ held_cells l → held_nodes l' ≡ held_nodes l → IsFine limit (after_shut m h) g l' → Linked T n limit (after_shut m h) g (set lines p l')
+  shut_linked h won same_cells same_nodes f =
+      moves_kept p l l' s e
+      (record {
+        cells = pool_same m.cells m.clink g.cells (held_cells l);
+        nodes = pool_same m.nodes m.nlink g.nodes (held_nodes l);
+        chain = record {
+          heads = record { tag = omega (arith, tag_of m.head h won); index = λ t. index_of m.head h won };
+          tails = past_refl m.tail;
+          words = λ j. was_refl (m.next j);
+          links = λ j h node. refl;
+          others = λ j h out. refl;
+          cells = λ j h. refl;
+          still = λ h. refl;
+        };
+        cells_moved = λ i. omega (arith, ap (times i) same_cells);
+        nodes_moved = λ j. omega (arith, ap (times j) same_nodes);
+      })
+      s.cells_stand s.nodes_stand (subst (λ (u : Tagged). IsChained (with_second u) m.tail m.next m.cell g) won (shut_chained s.chained)) s.named f

@@ -1,0 +1,32 @@
+-- The bounded queue that the machine's history is one of, and which answers of its passes are right.
+use Rattle.std.specs.Prelude.{ℕ, true, false, List, Ok, Err}
+use Rattle.bounded_model.specs.declared.history.Order.TheVariants.{Fifo}
+use Rattle.bounded_model.specs.declared.history.Event.{Event}
+use Rattle.bounded_model.specs.Machine as bounded
+use Rattle.bounded_model.specs.Justified as right
+use Rattle.bounded_model.specs.declared.answers.PutRefused.TheVariants.{Full, Closed, Spent}
+use Rattle.queue_machine.specs.declared.lines.Answer.{Answer}
+use Rattle.queue_machine.specs.declared.lines.Answer.TheVariants.{Put as AnswerPut, Take as AnswerTake, Close as AnswerClose, Shut as AnswerShut, Look as AnswerLook}
+
+-- a queue of n cells
+abbrev pub shape : ℕ → ℕ → bounded.Shape
+shape n limit = record { order = Fifo; capacity = n; limit = limit }
+
+-- the bounded machine at the end of a history
+abbrev pub state : {T : Type 0} → ℕ → ℕ → List (Event T) → bounded.State T
+state n limit history = bounded.state (shape n limit) history
+
+-- some history between those seen at the begin and at the end of an operation justifies its answer,
+-- where that is one that changes nothing
+abbrev pub IsRight : {T : Type 0} → ℕ → ℕ → List (Event T) → List (Event T) → Answer T → Type 0
+IsRight n limit begun seen (AnswerPut (Ok done)) = Unit {0}
+IsRight n limit begun seen (AnswerPut (Err (Full v))) = right.Sometime begun seen (λ h. right.Justifies (shape n limit) h right.PutFull)
+IsRight n limit begun seen (AnswerPut (Err (Closed v))) = right.Sometime begun seen (λ h. right.Justifies (shape n limit) h right.PutClosed)
+IsRight n limit begun seen (AnswerPut (Err (Spent v word t))) = right.Sometime begun seen (λ h. right.Justifies (shape n limit) h (right.PutSpent word t))
+IsRight n limit begun seen (AnswerTake (Ok done)) = Unit {0}
+IsRight n limit begun seen (AnswerTake (Err why)) = right.Sometime begun seen (λ h. right.Justifies (shape n limit) h (right.take_answer why))
+IsRight n limit begun seen (AnswerClose true) = Unit {0}
+IsRight n limit begun seen (AnswerClose false) = right.Sometime begun seen (λ h. right.Justifies (shape n limit) h right.NotClosed)
+IsRight n limit begun seen (AnswerShut true) = Unit {0}
+IsRight n limit begun seen (AnswerShut false) = right.Sometime begun seen (λ h. right.Justifies (shape n limit) h right.NotShut)
+IsRight n limit begun seen (AnswerLook empty) = right.Sometime begun seen (λ h. right.Justifies (shape n limit) h (right.Looked empty))

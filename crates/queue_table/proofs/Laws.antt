@@ -1,0 +1,195 @@
+-- The queue's machine on its table, with all its laws.
+use Rattle.std.proofs.Common.{◌≡◌, ℕ, ◌+◌, ◌⊎◌, ⊎_elim, true, false, List, [], ◌∷◌, ◌++◌, length, set, refl, sym, ap, ◌∙◌, subst, arith}
+use Rattle.std.proofs.lemmas.Bool.{false≢true}
+use Rattle.std.specs.Prelude.{None}
+use mathlib.Core.Option.{Option, some}
+use lib.ListN.{get_elem?}
+use Rattle.atomic_table.proofs.Lists.{at_snoc}
+use Rattle.bounded_model.specs.declared.history.Event.{Event}
+use Rattle.bounded_model.specs.declared.views.PassView.{PassView}
+use Rattle.bounded_model.specs.Histories.{own}
+use Rattle.bounded_model.proofs.Histories.{own-between}
+use Rattle.machine.specs.Words.{times, total}
+use Rattle.machine.specs.Seats.{Saw}
+use Rattle.machine.proofs.Ahead.{Ahead}
+use Rattle.queue_machine.specs.declared.lines.Line.{Line}
+use Rattle.queue_machine.specs.declared.lines.Seeking.TheVariants.{ToLink, ToRefuse, ToClose}
+use Rattle.queue_machine.specs.declared.lines.Line.TheVariants.{Idle, LoadNodes, LoadNodeLink, TakeNode, StoreCell, LoadNext, PrepareNext, LoadTail, LoadTailNext, CheckTail, SwingTail, LinkNext, LoadNodesToGive, LinkToNodes, GiveNode, LoadCellsToGive, LinkToCells, GiveCell}
+use Rattle.queue_machine.specs.Machine.{Memory, is_idle, held_cells, held_nodes, step}
+use Rattle.queue_machine.specs.Answers.{shape, state}
+use Rattle.queue_machine.specs.Rule.{Lists, IsFine, bare, wanting, putting, Tells, Good, Kept}
+use Rattle.queue_machine.specs.Deeds.{Deeds}
+use Rattle.queue_machine.proofs.StepKinds.{Alike, steady, good_goes}
+use Rattle.queue_machine.proofs.Step.{step_kept}
+use Rattle.queue_machine.proofs.Tells.{tells_kept, step_apart}
+use Rattle.queue_machine.proofs.Doing.{begins, meanwhile, step_does}
+use Rattle.running.specs.Machine.{Laws, Machine}
+use Rattle.queue_table.specs.declared.operation.Operation.{Operation}
+use Rattle.queue_table.specs.declared.operation.Operation.TheVariants.{Put as PutFirst, Take as TakeFirst, Close as CloseFirst, Shut as ShutFirst, Look as LookFirst}
+use Rattle.queue_table.specs.Lines.{names, call_of, first_line}
+use Rattle.queue_table.specs.Core.{core}
+use Rattle.queue_table.proofs.Does.{does}
+
+module _ {T : Type 0} where
+  -- a line that holds nothing and is of no put that has its cell
+  record Empty (l : Line T) : Type 0 where
+    cells : held_cells l ≡ []
+    nodes : held_nodes l ≡ []
+    none_bare : bare l ≡ 0
+    none_wanting : wanting l ≡ 0
+    none_putting : putting l ≡ 0
+
+  alike : (l l' : Line T) → Empty l → Empty l' → Alike l l'
+  alike l l' e e' = record {
+    cells = e'.cells ∙ sym e.cells;
+    nodes = e'.nodes ∙ sym e.nodes;
+    bare_same = e'.none_bare ∙ sym e.none_bare;
+    wanting_less = omega (arith, e'.none_wanting);
+    putting_less = omega (arith, e'.none_putting);
+  }
+
+  first_empty : (o : Operation T) → Empty (first_line o)
+  first_empty (PutFirst v) = record { cells = refl; nodes = refl; none_bare = refl; none_wanting = refl; none_putting = refl }
+  first_empty TakeFirst = record { cells = refl; nodes = refl; none_bare = refl; none_wanting = refl; none_putting = refl }
+  first_empty CloseFirst = record { cells = refl; nodes = refl; none_bare = refl; none_wanting = refl; none_putting = refl }
+  first_empty ShutFirst = record { cells = refl; nodes = refl; none_bare = refl; none_wanting = refl; none_putting = refl }
+  first_empty LookFirst = record { cells = refl; nodes = refl; none_bare = refl; none_wanting = refl; none_putting = refl }
+
+  idle_empty : (l : Line T) → is_idle l ≡ true → Empty l
+  idle_empty (Idle a) e = record { cells = refl; nodes = refl; none_bare = refl; none_wanting = refl; none_putting = refl }
+  idle_empty l e = absurd (false≢true e)
+
+  first_fine : (limit : ℕ) (m : Memory T) (g : Lists) (o : Operation T) → IsFine limit m g (first_line o)
+  first_fine limit m g (PutFirst v) = tt
+  first_fine limit m g TakeFirst = tt
+  first_fine limit m g CloseFirst = tt
+  first_fine limit m g ShutFirst = tt
+  first_fine limit m g LookFirst = tt
+
+  starts : (o : Operation T) → is_idle (first_line o) ≡ false
+  starts (PutFirst v) = refl
+  starts TakeFirst = refl
+  starts CloseFirst = refl
+  starts ShutFirst = refl
+  starts LookFirst = refl
+
+  first_tells : (n limit : ℕ) (h : List (Event T)) (o : Operation T) → Tells n limit h h (first_line o)
+  first_tells n limit h (PutFirst v) = tt
+  first_tells n limit h TakeFirst = tt
+  first_tells n limit h CloseFirst = tt
+  first_tells n limit h ShutFirst = tt
+  first_tells n limit h LookFirst = tt
+
+total_snoc : {A : Type 0} (f : A → ℕ) (xs : List A) (x : A) → total f (xs ++ x ∷ []) ≡ total f xs + f x
+total_snoc f [] x = omega arith
+total_snoc f (y ∷ ys) x = let r = total_snoc f ys x in omega arith
+
+-- the rule goes by the sums over lines and by each line
+reseated : {T : Type 0} (n limit : ℕ) (m : Memory T) (g : Lists) (of of' : ℕ → Option ℕ) (lines lines' : List (Line T)) (h : List (Event T)) → Good T n limit m g of lines h → (lines' ≡ lines) ⊎ (lines' ≡ lines ++ Idle None ∷ [])
+    → ((q p : ℕ) (l : Line T) → get_elem? lines' q ≡ some l → of' q ≡ some p → (state n limit h).hand p ≡ length (held_cells l)) → ((q r p : ℕ) → of' q ≡ some p → of' r ≡ some p → q ≡ r) → Good T n limit m g of' lines' h
+reseated {T} n limit m g of of' lines lines' h x which hands alone = record {
+  linked = record {
+    small = x.linked.small;
+    cells_stand = x.linked.cells_stand;
+    nodes_stand = x.linked.nodes_stand;
+    chained = x.linked.chained;
+    named = x.linked.named;
+    cells_once = λ i. ap (λ (k : ℕ). times i g.cells + times i g.queued + k) (sums (λ l. times i (held_cells l)) refl) ∙ x.linked.cells_once i;
+    nodes_once = λ j. ap (λ (k : ℕ). times j g.nodes + times j g.chain + k) (sums (λ l. times j (held_nodes l)) refl) ∙ x.linked.nodes_once j;
+    fine = λ q l at. ⊎_elim
+        (λ e. x.linked.fine q l (ap (λ (ls : List (Line T)). get_elem? ls q) (sym e) ∙ at))
+        (λ e. ⊎_elim (λ t. x.linked.fine q l t) (λ t. subst (IsFine limit m g) t tt) (at_snoc lines (Idle None) l q (ap (λ (ls : List (Line T)). get_elem? ls q) (sym e) ∙ at)))
+        which;
+  };
+  filled = x.filled;
+  numbered = record {
+    cells_limit = x.numbered.cells_limit;
+    nodes_tag = let s = x.numbered.nodes_tag in let t = sums wanting refl in omega arith;
+    next_limit = x.numbered.next_limit;
+    next_small = x.numbered.next_small;
+    fresh = x.numbered.fresh;
+  };
+  told = record {
+    legal = x.told.legal;
+    room = x.told.room;
+    spare = let s = x.told.spare in let t = sums bare refl in omega arith;
+    out = x.told.out ∙ sym (sums (λ l. length (held_cells l)) refl);
+    listed = x.told.listed;
+    hands = hands;
+    alone = alone;
+    closed_marked = x.told.closed_marked;
+    marked_closed = x.told.marked_closed;
+    shut = x.told.shut;
+    cells_tag = x.told.cells_tag;
+    head_tag = x.told.head_tag;
+    balance = x.told.balance;
+    ahead = let s = x.told.ahead in let t = sums putting refl in omega arith;
+  };
+}
+  where
+    sums : (f : Line T → ℕ) → f (Idle None) ≡ 0 → total f lines' ≡ total f lines
+    sums f none_held = ⊎_elim (λ e. ap (total f) e) (λ e. ap (total f) e ∙ total_snoc f lines (Idle None) ∙ omega arith) which
+
+module _ {T : Type 0} where
+  -- a line that holds no cell holds no node either
+  quiets : (l : Line T) → length (held_cells l) ≡ 0 → Alike l (Idle None)
+  quiets (LoadNodes put) e = absurd (omega (arith, e))
+  quiets (LoadNodeLink put w) e = absurd (omega (arith, e))
+  quiets (TakeNode put w k) e = absurd (omega (arith, e))
+  quiets (StoreCell link) e = absurd (omega (arith, e))
+  quiets (LoadNext link) e = absurd (omega (arith, e))
+  quiets (PrepareNext link x) e = absurd (omega (arith, e))
+  quiets (LoadTail (ToLink link)) e = absurd (omega (arith, e))
+  quiets (LoadTail (ToRefuse v)) e = steady refl
+  quiets (LoadTail ToClose) e = steady refl
+  quiets (LoadTailNext (ToLink link) w) e = absurd (omega (arith, e))
+  quiets (LoadTailNext (ToRefuse v) w) e = steady refl
+  quiets (LoadTailNext ToClose w) e = steady refl
+  quiets (CheckTail (ToLink link) w x) e = absurd (omega (arith, e))
+  quiets (CheckTail (ToRefuse v) w x) e = steady refl
+  quiets (CheckTail ToClose w x) e = steady refl
+  quiets (SwingTail (ToLink link) w x) e = absurd (omega (arith, e))
+  quiets (SwingTail (ToRefuse v) w x) e = steady refl
+  quiets (SwingTail ToClose w x) e = steady refl
+  quiets (LinkNext link w x) e = absurd (omega (arith, e))
+  quiets (LoadNodesToGive give) e = absurd (omega (arith, e))
+  quiets (LinkToNodes give w) e = absurd (omega (arith, e))
+  quiets (GiveNode give w) e = absurd (omega (arith, e))
+  quiets (LoadCellsToGive give) e = absurd (omega (arith, e))
+  quiets (LinkToCells give w) e = absurd (omega (arith, e))
+  quiets (GiveCell give w) e = absurd (omega (arith, e))
+  quiets l e = steady refl
+
+module _ {T : Type 0} (n limit : ℕ) where
+  -- a pass with nothing in hand goes to another such line
+  goes_empty : (m : Memory T) (of : ℕ → Option ℕ) (lines : List (Line T)) (h : List (Event T)) (q : ℕ) (l l' : Line T) → Kept T n limit m of lines h → get_elem? lines q ≡ some l → Empty l → Empty l' → ((g : Lists) → IsFine limit m g l') → Kept T n limit m of (set lines q l') h
+  goes_empty m of lines h q l l' k e none_held none_after fine = record { lists = k.lists; good = good_goes q l l' k.good e (alike l l' none_held none_after) (fine k.lists) }
+
+  deeds : (o : Operation T) (m : Memory T) (of : ℕ → Option ℕ) (lines : List (Line T)) (h : List (Event T)) (q : ℕ) (l : Line T) (k : Kept T n limit m of lines h) (e : get_elem? lines q ≡ some l) (p : PassView T) (b : List (Event T)) → Saw h p → Deeds p.number (call_of o) l b p.seen
+      → Deeds p.number (call_of o) (step (shape n limit) m p.number l).line b ((step (shape n limit) m p.number l).events ++ h)
+  deeds o m of lines h q l k e p b saw d =
+      let ahead : Ahead p.number p.seen h = record { rest = saw.seen.more; is = saw.seen.is; none_own = own-between p.number saw.seen.more p.seen (sym (ap (own p.number) saw.seen.is) ∙ saw.own_events) } in
+      step_does k.good q p.number (call_of o) b l e (meanwhile p.number (call_of o) b p.seen h l ahead d)
+
+  pub laws : Laws {T = T} names (core T n limit)
+  laws = record {
+    rests = refl;
+    starts = starts;
+    empty = λ l e. ap length (idle_empty l e).cells;
+    empty_first = λ o. ap length (first_empty o).cells;
+    begins = λ m of lines h q l o k e idle. goes_empty m of lines h q l (first_line o) k e (idle_empty l idle) (first_empty o) (λ g. first_fine limit m g o);
+    quiets = λ m of lines h q l k e none_held. record { lists = k.lists; good = good_goes q l (Idle None) k.good e (quiets l none_held) tt };
+    reseats = λ m of of' lines lines' h k which hands alone. record { lists = k.lists; good = reseated n limit m k.lists of of' lines lines' h k.good which hands alone };
+    kept = λ m of lines h q p l k e is. step_kept n limit m of lines h q p is k l e;
+    legal = λ m of lines h k. k.good.told.legal;
+    hands = λ m of lines h q p l k e is. k.good.told.hands q p l e is;
+    apart = λ m p q h l ne. step_apart (shape n limit) m p q ne h l;
+    deeds = λ o m of lines h q l p b k e saw d. deeds o m of lines h q l k e p b saw d;
+    tells = λ m of lines h q l p b k e before saw t. tells_kept k.good q p.number b p.seen before saw.seen l e t;
+    first_deeds = λ p h o. begins p h (call_of o);
+    first_tells = first_tells n limit;
+    does = λ words homes of lines h q p l sane k e is. does n limit words homes sane p of lines h q k is l e;
+  }
+
+abbrev pub queue : (T : Type 0) (n limit : ℕ) → Machine T (Line T) (Operation T) names
+queue T n limit = record { core = core T n limit; laws = laws n limit }

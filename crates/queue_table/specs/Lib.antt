@@ -1,0 +1,4 @@
+pub mod Layout
+pub mod Lines
+pub mod Memories
+pub mod Core

@@ -1,0 +1,58 @@
+//! Where the words of a queue lie. The tops of the two free lists, the head and the tail are 16 words
+//! apart, so that each has cache lines of its own; then four words follow for each index: the link of
+//! the free cell, that of the free node, and the node's link in the chain and its cell.
+ghost use Rattle.std.specs.Prelude.{◌≡◌, ◌≤◌};
+ghost use Rattle.tagged_index.specs.declared.word.TheConstants.{NULL};
+ghost use Rattle.queue_table.specs.Layout.{clink_at, nlink_at, next_at, cell_at};
+
+/// The top of the free cells.
+pub const CELLS: usize = 0;
+
+/// The top of the free nodes.
+pub const NODES: usize = 16;
+
+/// It names the dummy, behind which the first node stands.
+pub const HEAD: usize = 32;
+
+/// It names the last node, or the one before.
+pub const TAIL: usize = 48;
+
+const FIRST_LINK: usize = 64;
+
+const WORDS_OF_AN_INDEX: usize = 4;
+
+/// The word that is the link of a free cell.
+#[inline]
+pub fn cell_link(index: u32) -> usize
+    requires { index ≤ NULL }
+    ensures { result ≡ clink_at index }
+{
+    FIRST_LINK + WORDS_OF_AN_INDEX * index as usize
+}
+
+/// The word that is the link of a free node.
+#[inline]
+pub fn node_link(index: u32) -> usize
+    requires { index ≤ NULL }
+    ensures { result ≡ nlink_at index }
+{
+    FIRST_LINK + WORDS_OF_AN_INDEX * index as usize + 1
+}
+
+/// The word that links a node to the next one in the chain.
+#[inline]
+pub fn next(index: u32) -> usize
+    requires { index ≤ NULL }
+    ensures { result ≡ next_at index }
+{
+    FIRST_LINK + WORDS_OF_AN_INDEX * index as usize + 2
+}
+
+/// The word that says in which cell a node's value is.
+#[inline]
+pub fn cell(index: u32) -> usize
+    requires { index ≤ NULL }
+    ensures { result ≡ cell_at index }
+{
+    FIRST_LINK + WORDS_OF_AN_INDEX * index as usize + 3
+}

@@ -1,0 +1,9 @@
+pub mod Linked
+pub mod Filled
+pub mod Told
+pub mod Moves
+pub mod Step
+pub mod Answers
+pub mod Tells
+pub mod Doing
+pub mod Start

@@ -1,0 +1,38 @@
+-- When an answer of the stack that changes nothing is right.
+use Rattle.std.specs.Prelude.{ℕ, true, false, List, Ok, Err}
+use Rattle.bounded_model.specs.declared.history.Order.TheVariants.{Lifo}
+use Rattle.bounded_model.specs.declared.history.Event.{Event}
+use Rattle.bounded_model.specs.declared.answers.PutRefused.{PutRefused}
+use Rattle.bounded_model.specs.declared.answers.PutRefused.TheVariants.{Full, Closed, Spent}
+use Rattle.bounded_model.specs.Machine as bounded
+use Rattle.bounded_model.specs.Justified as right
+use Rattle.stack_machine.specs.declared.lines.Answer.{Answer}
+use Rattle.stack_machine.specs.declared.lines.Answer.TheVariants.{Put as AnswerPut, Take as AnswerTake, Fold as AnswerFold, Close as AnswerClose, Shut as AnswerShut, Look as AnswerLook}
+
+-- a stack of n nodes
+abbrev pub shape : ℕ → ℕ → bounded.Shape
+shape n limit = record { order = Lifo; capacity = n; limit = limit }
+
+-- the bounded machine at the end of a history
+abbrev pub state : {T : Type 0} → ℕ → ℕ → List (Event T) → bounded.State T
+state n limit history = bounded.state (shape n limit) history
+
+abbrev pub refusal : {X : Type 0} → PutRefused X → right.Answer
+refusal (Full values) = right.PutFull
+refusal (Closed values) = right.PutClosed
+refusal (Spent values word t) = right.PutSpent word t
+
+-- some history between those seen at the begin and at the end of an operation justifies its answer,
+-- where that is one that changes nothing
+abbrev pub IsRight : {T : Type 0} → ℕ → ℕ → List (Event T) → List (Event T) → Answer T → Type 0
+IsRight n limit begun seen (AnswerPut (Ok done)) = Unit {0}
+IsRight n limit begun seen (AnswerPut (Err why)) = right.Sometime begun seen (λ h. right.Justifies (shape n limit) h (refusal why))
+IsRight n limit begun seen (AnswerTake (Ok done)) = Unit {0}
+IsRight n limit begun seen (AnswerTake (Err why)) = right.Sometime begun seen (λ h. right.Justifies (shape n limit) h (right.take_answer why))
+IsRight n limit begun seen (AnswerFold (Ok done)) = Unit {0}
+IsRight n limit begun seen (AnswerFold (Err why)) = right.Sometime begun seen (λ h. right.Justifies (shape n limit) h (right.take_answer why))
+IsRight n limit begun seen (AnswerClose true) = Unit {0}
+IsRight n limit begun seen (AnswerClose false) = right.Sometime begun seen (λ h. right.Justifies (shape n limit) h right.NotClosed)
+IsRight n limit begun seen (AnswerShut true) = Unit {0}
+IsRight n limit begun seen (AnswerShut false) = right.Sometime begun seen (λ h. right.Justifies (shape n limit) h right.NotShut)
+IsRight n limit begun seen (AnswerLook empty) = right.Sometime begun seen (λ h. right.Justifies (shape n limit) h (right.Looked empty))

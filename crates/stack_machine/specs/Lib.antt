@@ -1,0 +1,4 @@
+pub mod Machine
+pub mod Answers
+pub mod Rule
+pub mod Deeds

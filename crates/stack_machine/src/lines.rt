@@ -1,0 +1,120 @@
+//! What a pass of the stack is at between two of its atomic steps: Treiber's stack (IBM RJ 5118,
+//! 1986) over an array of nodes, with tagged words, a free list, closing, shutting, range puts and
+//! folds. No value of these types is made at run time: they stand in definitions, proofs and views.
+
+use bounded_model::{PutRefused, TakeRefused};
+use std::collections::LinkedList;
+use tagged_index::Fields;
+
+/// A put of one value or of a range, which is the same operation: the first value is put lowest.
+pub struct Putting<T> {
+    /// All values of the operation, the lowest first.
+    pub values: LinkedList<T>,
+    /// The nodes in hand, the one taken last first. Each node is for one value, from the front of
+    /// `values`, and is linked to the node taken before it.
+    pub chain: LinkedList<u32>,
+}
+
+/// In which order a fold goes through the values that it took.
+pub enum Direction {
+    /// From the top to the bottom.
+    Down,
+    /// From the bottom to the top: the chain is turned round first.
+    Up,
+}
+
+/// What a take wants.
+pub enum Taking {
+    /// The value on top.
+    One,
+    /// All values at once, to be folded.
+    Whole(Direction),
+}
+
+/// What an operation answers.
+pub enum Answer<T> {
+    /// The number, and the values that found no node and were not put. A refusal hands all values
+    /// back.
+    Put(Result<(u64, LinkedList<T>), PutRefused<LinkedList<T>>>),
+    /// The value and the number.
+    Take(Result<(T, u64), TakeRefused>),
+    /// The values in the order folded, and the number.
+    Fold(Result<(LinkedList<T>, u64), TakeRefused>),
+    /// Whether this operation closed the stack.
+    Close(bool),
+    /// Whether this operation shut the stack.
+    Shut(bool),
+    /// Whether the stack was empty.
+    Look(bool),
+}
+
+/// What is to be done with a chain of nodes whose values have been moved out: it is given to the
+/// free list, and then the operation answers.
+pub struct Giving<T> {
+    /// The nodes in hand, each linked to the next.
+    pub chain: LinkedList<u32>,
+    pub answer: Answer<T>,
+}
+
+/// The next atomic step of a pass, with what it has read and what it holds. A word that was read
+/// last stands behind the others: first a top, then a link.
+pub enum Line<T> {
+    /// No operation. The answer is that of the last one.
+    Idle(Option<Answer<T>>),
+    /// Load `FREE`.
+    F1(Putting<T>),
+    /// Load the link of the free node.
+    F2(Putting<T>, Fields),
+    /// Exchange `FREE` for the next free node.
+    F3(Putting<T>, Fields, u32),
+    /// Link the node taken last to the one taken before it.
+    F4(Putting<T>),
+    /// Load `TOP`.
+    P1(Putting<T>),
+    /// Link the chain's last node to the top.
+    P2(Putting<T>, Fields),
+    /// Exchange `TOP` for the chain's first node.
+    P3(Putting<T>, Fields),
+    /// No node is free: load `TOP`, to say why nothing can be put.
+    D1(LinkedList<T>),
+    /// Load `TOP`.
+    S1(Taking),
+    /// Load the link of the top node.
+    S2(Fields),
+    /// Exchange `TOP` for the node below it.
+    S3(Fields, u32),
+    /// Exchange `TOP` for null: the whole chain is in hand.
+    A1(Direction, Fields),
+    /// Load the link of a node of the chain, whose upper neighbour is the first index.
+    A2(Giving<T>, u32, u32),
+    /// Link this node to its upper neighbour.
+    A3(Giving<T>, u32, u32, u32),
+    /// Move the value out of this node of the chain, and load its link.
+    A4(Giving<T>, u32),
+    /// Load `FREE`.
+    G1(Giving<T>),
+    /// Link the chain's last node to the free one.
+    G2(Giving<T>, Fields),
+    /// Exchange `FREE` for the chain's first node.
+    G3(Giving<T>, Fields),
+    /// Load `TOP`.
+    Z1,
+    /// Set its mark.
+    Z2(Fields),
+    /// Load `TOP`.
+    Y1,
+    /// Set its second mark.
+    Y2(Fields),
+    /// Load `TOP`, to see whether it is null.
+    V1,
+}
+
+/// An operation to be begun.
+pub enum Call<T> {
+    /// Put a value, and these further ones above it.
+    Put(T, LinkedList<T>),
+    Take(Taking),
+    Close,
+    Shut,
+    Look,
+}

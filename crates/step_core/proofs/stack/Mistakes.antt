@@ -1,0 +1,196 @@
+-- Machines that are nearly the stack's, and for each a schedule in which it breaks the law.
+use Rattle.std.proofs.Common.{◌≡◌, ℕ, ◌+◌, ◌==◌, if◌then◌else◌, true, false, List, [], ◌∷◌, ◌++◌, replicate, length, refl, sym, ap, ◌∙◌, subst, append-nil, arith, Some, None, Ok, Option as Slot}
+use Rattle.std.proofs.lemmas.Bool.{false≢true}
+use mathlib.Core.Option.{Option, none, some}
+use lib.ListN.{get_elem?}
+use Rattle.tagged_index.specs.declared.word.TheConstants.{NULL}
+use Rattle.bounded_model.specs.declared.history.Event.{Event}
+use Rattle.bounded_model.specs.declared.history.Event.TheVariants.{Hold, Put, Take, Free, Close, Shut}
+use Rattle.bounded_model.specs.Machine.{Legal}
+use Rattle.bounded_model.specs.Histories.{own}
+use Rattle.bounded_model.specs.Laws.{holds_of}
+use Rattle.machine.specs.Words.{Tagged, kept, same, times, total, Stands}
+use Rattle.stack_machine.specs.declared.lines.Direction.TheVariants.{Down}
+use Rattle.stack_machine.specs.declared.lines.Taking.TheVariants.{One, Whole}
+use Rattle.stack_machine.specs.declared.lines.Answer.TheVariants.{Put as AnswerPut, Close as AnswerClose, Shut as AnswerShut}
+use Rattle.stack_machine.specs.declared.lines.Line.{Line}
+use Rattle.stack_machine.specs.declared.lines.Line.TheVariants.{F1, F3, P1, P3, S1, S3, A4, Z1, Z2, Y1, Y2}
+use Rattle.stack_machine.specs.declared.lines.Call.TheVariants.{Put as CallPut, Take as CallTake, Close as CallClose, Shut as CallShut}
+use Rattle.step_core.specs.stack.Schedule.{Pass, State, Act, Begin, Step, begun, stepped, start}
+use Rattle.stack_machine.specs.Machine.{Memory, Outcome, step, held, is_idle, starts, goes_on, wins, wins_value, after_hold, after_put, after_store, at_F3, at_P1, at_S1, ends, placed, with_node}
+use Rattle.machine.specs.Chains.{with_home, HasValues}
+use Rattle.stack_machine.specs.Answers.{shape}
+use Rattle.step_core.specs.stack.Law.{Lawful, AllDone}
+use Rattle.stack_machine.specs.Deeds.{PutAtOnce}
+use Rattle.stack_machine.proofs.Answers.{none_there}
+
+-- how a machine makes a step, in place of the stack's
+abbrev Steps : Type 0
+Steps = Memory ℕ → ℕ → Line ℕ → Outcome ℕ
+
+abbrev does : Steps → State ℕ → ℕ → Act ℕ → Option (Pass ℕ) → State ℕ
+does makes s p a none = s
+does makes s p (Begin call) (some v) = if is_idle v.line then begun s p v (starts call) else s
+does makes s p Step (some v) = if is_idle v.line then s else stepped s p v (makes s.memory p v.line)
+
+abbrev runs : Steps → List (ℕ × Act ℕ) → State ℕ → State ℕ
+runs makes [] s = s
+runs makes (a ∷ more) s = runs makes more (does makes s a.0 a.1 (get_elem? s.passes a.0))
+
+-- the machine starts with so many nodes and passes
+abbrev first_state : ℕ → ℕ → State ℕ
+first_state n passes = start (shape n 15) passes
+
+-- so many steps of a pass
+abbrev steps : ℕ → ℕ → List (ℕ × Act ℕ)
+steps p k = replicate k (p, Step)
+
+abbrev puts : ℕ → ℕ → List (ℕ × Act ℕ)
+puts p v = (p, Begin (CallPut v [])) ∷ []
+
+abbrev takes : ℕ → List (ℕ × Act ℕ)
+takes p = (p, Begin (CallTake One)) ∷ []
+
+-- A node is taken from the free list and its top keeps the tag: pass 0 has read node 0 and its link, node 1; node 1 goes to
+-- pass 2, node 0 goes out and comes back, and pass 0's exchange wins. So node 1 is free while pass 2 holds it, and pass 1
+-- takes it a second time
+abbrev holds_with_old_tag : Steps
+holds_with_old_tag m p (F3 put w k) = if same m.free w then wins (record (after_hold m w k) { free = kept w k }) (at_F3 put w) (Hold p) else goes_on m (F1 put)
+holds_with_old_tag m p l = step (shape 3 15) m p l
+
+abbrev held_twice : State ℕ
+held_twice = runs holds_with_old_tag
+    (puts 0 10 ++ steps 0 2 ++ puts 1 11 ++ steps 1 6 ++ puts 2 12 ++ steps 2 3 ++ takes 1 ++ steps 1 6 ++ steps 0 1 ++ puts 1 13 ++ steps 1 3)
+    (first_state 3 3)
+
+two_hands : total (λ (v : Pass ℕ). times 1 (held v.line)) held_twice.passes ≡ 2
+two_hands = refl
+
+held_twice-unlawful : ¬ Lawful ℕ 3 15 held_twice
+held_twice-unlawful law = once (times 1 law.frees) (times 1 law.stack) (law.once 1)
+  where
+    once : (a b : ℕ) → a + b + 2 ≡ 1 → ⊥
+    once a b e = absurd (omega arith)
+
+-- A value is taken and the top keeps its tag: the take's number comes again
+abbrev keeps : Memory ℕ → Tagged → ℕ → Outcome ℕ → Outcome ℕ
+keeps m w k o = record o { memory = record m { top = kept w k; home = with_home m.home w.index none } }
+
+abbrev takes_with_old_tag : Steps
+takes_with_old_tag m p (S3 w k) = if same m.top w then keeps m w k (wins_value m p w k (m.home w.index)) else goes_on m (S1 One)
+takes_with_old_tag m p l = step (shape 2 15) m p l
+
+abbrev number_again : State ℕ
+number_again = runs takes_with_old_tag (puts 0 10 ++ steps 0 6 ++ takes 0 ++ steps 0 6 ++ puts 0 11 ++ steps 0 6) (first_state 2 1)
+
+number_again-unlawful : ¬ Lawful ℕ 2 15 number_again
+number_again-unlawful law = numbered law.legal
+  where
+    numbered : Legal {T = ℕ} (shape 2 15) (Put 0 (11 ∷ []) 1 ∷ Hold 0 ∷ Free 0 1 ∷ Take 0 10 1 ∷ Put 0 (10 ∷ []) 0 ∷ Hold 0 ∷ []) → ⊥
+    numbered legal = absurd (omega (arith, legal.0.3))
+
+-- A put that lost its exchange tries again with the new top and its old link: the other pass's value is cut off
+abbrev puts_on_stale_top : Steps
+puts_on_stale_top m p (P3 put w) = if same m.top w then step (shape 2 15) m p (P3 put w) else goes_on m (P3 put m.top)
+puts_on_stale_top m p l = step (shape 2 15) m p l
+
+abbrev cut_off : State ℕ
+cut_off = runs puts_on_stale_top (puts 0 10 ++ steps 0 5 ++ puts 1 11 ++ steps 1 6 ++ steps 0 2) (first_state 2 2)
+
+empty : (v : ℕ) → ◌≡◌ {A = Option (Slot ℕ)} (some None) (some (Some v)) → ⊥
+empty v e = cc
+
+cut_off-unlawful : ¬ Lawful ℕ 2 15 cut_off
+cut_off-unlawful law = two law.stack law.top_stands law.stored
+  where
+    two : (list : List ℕ) → Stands cut_off.memory.link cut_off.memory.top.index list → HasValues cut_off.memory.home list (10 ∷ 11 ∷ []) → ⊥
+    two [] s v = v
+    two (i ∷ []) s v = v.1
+    two (i ∷ j ∷ js) s v =
+        let below : NULL ≡ j = ap cut_off.memory.link s.0 ∙ s.1.0 in
+        empty 11 (ap cut_off.memory.home below ∙ v.1.0)
+
+-- A fold that answers without giving its nodes back: the node is nowhere
+abbrev forgets_nodes : Steps
+forgets_nodes m p (A4 give i) = if m.link i == NULL then goes_on m (ends give.answer) else goes_on m (A4 give (m.link i))
+forgets_nodes m p l = step (shape 1 15) m p l
+
+abbrev forgotten : State ℕ
+forgotten = runs forgets_nodes (puts 0 10 ++ steps 0 6 ++ ((0, Begin (CallTake (Whole Down))) ∷ []) ++ steps 0 3) (first_state 1 1)
+
+forgotten-unlawful : ¬ Lawful ℕ 1 15 forgotten
+forgotten-unlawful law =
+    let no_null : times NULL law.frees + times NULL law.stack + 0 ≡ 0 = law.once NULL in
+    let no_frees : law.frees ≡ [] = none_there forgotten.memory.link NULL law.frees refl (omega arith) law.free_stands in
+    let no_stack : law.stack ≡ [] = none_there forgotten.memory.link NULL law.stack refl (omega arith) law.top_stands in
+    let somewhere : times 0 law.frees + times 0 law.stack + 0 ≡ 1 = law.once 0 in
+    absurd (omega (arith, somewhere, ap (times 0) no_frees, ap (times 0) no_stack))
+
+-- A range that goes in by one exchange for each value: another pass's value gets between its values
+abbrev further : List ℕ → Tagged → Line ℕ
+further [] w = ends (AnswerPut (Ok (w.tag, [])))
+further (v ∷ []) w = ends (AnswerPut (Ok (w.tag, [])))
+further (v ∷ vs) w = F1 (record { values = vs; chain = [] })
+
+abbrev puts_one_by_one : Steps
+puts_one_by_one m p (F3 put w k) = if same m.free w then wins (after_hold m w k) (P1 (with_node put w.index)) (Hold p) else goes_on m (F1 put)
+puts_one_by_one m p (P3 put w) = if same m.top w then wins (after_put m w put) (further put.values w) (Put p (placed put) w.tag) else goes_on m (P1 put)
+puts_one_by_one m p l = step (shape 3 15) m p l
+
+abbrev between : State ℕ
+between = runs puts_one_by_one (((0, Begin (CallPut 10 (11 ∷ []))) ∷ []) ++ steps 0 6 ++ puts 1 20 ++ steps 1 6 ++ steps 0 6) (first_state 3 2)
+
+abbrev between_events : List (Event ℕ)
+between_events = Put 0 (11 ∷ []) 2 ∷ Hold 0 ∷ Put 1 (20 ∷ []) 1 ∷ Hold 1 ∷ Put 0 (10 ∷ []) 0 ∷ Hold 0 ∷ []
+
+range_ended : get_elem? between.passes 0 ≡ some (record { line = ends (AnswerPut (Ok (2, []))); begun = []; seen = between_events })
+range_ended = refl
+
+between-not_done : ¬ AllDone (shape 3 15) between
+between-not_done done =
+    let did = done 0 (record { line = ends (AnswerPut (Ok (2, []))); begun = []; seen = between_events }) (AnswerPut (Ok (2, []))) range_ended refl in
+    at_once (subst (PutAtOnce 0 2) (ap (own 0) (sym (did.is ∙ append-nil did.between))) did.made)
+  where
+    -- the pass's own events are two puts
+    at_once : PutAtOnce {T = ℕ} 0 2 (Put 0 (11 ∷ []) 2 ∷ Hold 0 ∷ Put 0 (10 ∷ []) 0 ∷ Hold 0 ∷ []) → ⊥
+    at_once made = one made.values made.is
+      where
+        one : (vs : List ℕ) → ◌≡◌ {A = List (Event ℕ)} (Put 0 (11 ∷ []) 2 ∷ Hold 0 ∷ Put 0 (10 ∷ []) 0 ∷ Hold 0 ∷ []) (Put 0 vs 2 ∷ holds_of 0 (length vs)) → ⊥
+        one [] e = cc
+        one (v ∷ []) e = cc
+        one (v ∷ x ∷ vs) e = cc
+
+-- Closing sets a flag of its own, a word that lies beside the links, and a put that found it clear goes in after the close
+abbrev flag : Memory ℕ → ℕ
+flag m = m.link NULL
+
+abbrev closes_by_flag : Steps
+closes_by_flag m p (P1 put) = goes_on m (at_P1 15 put (record m.top { mark = flag m == 1 }))
+closes_by_flag m p Z1 = if flag m == 1 then goes_on m (ends (AnswerClose false)) else goes_on m (Z2 m.top)
+closes_by_flag m p (Z2 w) = if flag m == 1 then goes_on m (ends (AnswerClose false)) else wins (after_store m NULL 1) (ends (AnswerClose true)) (Close p)
+closes_by_flag m p l = step (shape 1 15) m p l
+
+abbrev put_after_close : State ℕ
+put_after_close = runs closes_by_flag (puts 0 10 ++ steps 0 4 ++ ((1, Begin CallClose) ∷ []) ++ steps 1 2 ++ steps 0 2) (first_state 1 2)
+
+put_after_close-unlawful : ¬ Lawful ℕ 1 15 put_after_close
+put_after_close-unlawful law = closed law.legal
+  where
+    closed : Legal {T = ℕ} (shape 1 15) (Put 0 (10 ∷ []) 0 ∷ Close 1 ∷ Hold 0 ∷ []) → ⊥
+    closed legal = false≢true (sym legal.0.0)
+
+-- Shutting sets it, and a take that found it clear takes after the shut
+abbrev shuts_by_flag : Steps
+shuts_by_flag m p (S1 taking) = goes_on m (at_S1 15 taking (record m.top { second = flag m == 1 }))
+shuts_by_flag m p Y1 = if flag m == 1 then goes_on m (ends (AnswerShut false)) else goes_on m (Y2 m.top)
+shuts_by_flag m p (Y2 w) = if flag m == 1 then goes_on m (ends (AnswerShut false)) else wins (after_store m NULL 1) (ends (AnswerShut true)) (Shut p)
+shuts_by_flag m p l = step (shape 1 15) m p l
+
+abbrev take_after_shut : State ℕ
+take_after_shut = runs shuts_by_flag (puts 0 10 ++ steps 0 6 ++ takes 0 ++ steps 0 2 ++ ((1, Begin CallShut) ∷ []) ++ steps 1 2 ++ steps 0 1) (first_state 1 2)
+
+take_after_shut-unlawful : ¬ Lawful ℕ 1 15 take_after_shut
+take_after_shut-unlawful law = shut law.legal
+  where
+    shut : Legal {T = ℕ} (shape 1 15) (Take 0 10 1 ∷ Shut 1 ∷ Put 0 (10 ∷ []) 0 ∷ Hold 0 ∷ []) → ⊥
+    shut legal = false≢true (sym legal.0.0)

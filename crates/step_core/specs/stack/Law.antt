@@ -1,0 +1,48 @@
+-- What the stack's machine keeps in every schedule.
+use Rattle.std.specs.Prelude.{◌≡◌, ℕ, ◌+◌, ◌<◌, ◌≤◌, ltb, if◌then◌else◌, List, length, Some, None}
+use mathlib.Core.Option.{some}
+use lib.ListN.{get_elem?}
+use Rattle.bounded_model.specs.declared.history.Event.{Event}
+use Rattle.bounded_model.specs.Machine.{Shape, Legal}
+use Rattle.bounded_model.specs.Histories.{Later, own}
+use Rattle.machine.specs.Words.{times, total, Stands}
+use Rattle.stack_machine.specs.declared.lines.Answer.{Answer}
+use Rattle.stack_machine.specs.declared.lines.Line.TheVariants.{Idle}
+use Rattle.step_core.specs.stack.Schedule.{Pass, State}
+use Rattle.machine.specs.Chains.{HasValues}
+use Rattle.stack_machine.specs.Answers.{shape, state, IsRight}
+use Rattle.stack_machine.specs.Deeds.{HasDone}
+use Rattle.stack_machine.specs.Machine.{held}
+
+-- what pass p has seen is an earlier part of the history that has all events of its own
+pub record Knows {T : Type 0} (p : ℕ) (v : Pass T) (history : List (Event T)) : Type 0 where
+  pub before : Later v.begun v.seen
+  pub now : Later v.seen history
+  pub own_events : own p history ≡ own p v.seen
+
+-- The history is one of a bounded stack, with room for n values. The words and slots stand for it: the
+-- top for its values, the first mark for closed, the second for shut, the tags for its numbers. Each
+-- node below n is once on the free list, on the stack or in one hand, and no other node is anywhere.
+-- And what each pass has seen and answered is right
+pub record Lawful (T : Type 0) (n limit : ℕ) (s : State T) : Type 0 where
+  pub legal : Legal (shape n limit) s.history
+  pub frees : List ℕ
+  pub stack : List ℕ
+  pub free_stands : Stands s.memory.link s.memory.free.index frees
+  pub top_stands : Stands s.memory.link s.memory.top.index stack
+  pub once : (i : ℕ) → times i frees + times i stack + total (λ v. times i (held v.line)) s.passes ≡ if ltb i n then 1 else 0
+  pub empty : (i : ℕ) → 0 < times i frees → s.memory.home i ≡ some None
+  pub stored : HasValues s.memory.home stack (state n limit s.history).values
+  pub closed : s.memory.top.mark ≡ (state n limit s.history).closed
+  pub shut : s.memory.top.second ≡ (state n limit s.history).shut
+  pub free_tag : s.memory.free.tag ≡ (state n limit s.history).holds
+  pub top_tag : s.memory.top.tag ≡ (state n limit s.history).puts + (state n limit s.history).takes
+  pub free_limit : s.memory.free.tag ≤ limit
+  pub top_limit : s.memory.top.tag ≤ limit
+  pub hands : (p : ℕ) (v : Pass T) → get_elem? s.passes p ≡ some v → (state n limit s.history).hand p ≡ length (held v.line)
+  pub knows : (p : ℕ) (v : Pass T) → get_elem? s.passes p ≡ some v → Knows p v s.history
+  pub answered : (p : ℕ) (v : Pass T) (a : Answer T) → get_elem? s.passes p ≡ some v → v.line ≡ Idle (Some a) → IsRight n limit v.begun v.seen a
+
+-- each pass that has ended an operation has done what it answered
+abbrev pub AllDone : {T : Type 0} → Shape → State T → Type 0
+AllDone {T} c s = (p : ℕ) (v : Pass T) (a : Answer T) → get_elem? s.passes p ≡ some v → v.line ≡ Idle (Some a) → HasDone c p a v.begun v.seen

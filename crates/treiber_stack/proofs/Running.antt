@@ -1,0 +1,25 @@
+-- Several steps of a put, one after another.
+use Rattle.std.proofs.Common.{◌≡◌, ℕ, Result, subst, ◌∙◌}
+use Rattle.bounded_model.specs.declared.answers.Stepped.{Stepped}
+use Rattle.bounded_model.specs.declared.answers.Stepped.TheVariants.{Again, Done}
+use Rattle.bounded_model.specs.declared.answers.PutRefused.{PutRefused}
+use Rattle.bounded_model.specs.declared.views.PassView.{PassView}
+use Rattle.bounded_model.specs.Laws.{PutGives}
+use Rattle.treiber_stack.specs.Operations.{begun_in}
+use Rattle.treiber_stack.specs.Putting.{PutStep, PutRun}
+use Rattle.treiber_stack.specs.Stack.{shape_of, pass_in}
+use Rattle.treiber_stack.specs.declared.putting.PutOp.{PutOp}
+use Rattle.treiber_stack.specs.declared.putting.PutAt.{PutAt}
+use Rattle.treiber_stack.specs.declared.stack.Stack.{Stack}
+use Rattle.treiber_stack.specs.declared.stack.Pass.{Pass}
+
+module _ {T : Type 0} where
+  -- one step is a run
+  pub one_step : (c : Stack T) (x : T) (p : Pass T) (at : PutAt T) (r : Stepped (PutOp T) (Pass T) (Result ℕ (PutRefused T))) → PutStep c x p at r → PutRun c x p r
+  one_step c x p at (Again next) s = (s.0, s.1.begun)
+  one_step c x p at (Done q a) s = (s.0, s.1)
+
+  -- a run after steps of the same put
+  pub run_on : (c : Stack T) (x : T) (p q : Pass T) (r : Stepped (PutOp T) (Pass T) (Result ℕ (PutRefused T))) → begun_in q ≡ begun_in p → PutRun c x q r → PutRun c x p r
+  run_on c x p q (Again next) e s = (s.0, s.1 ∙ e)
+  run_on c x p q (Done after a) e s = (s.0, subst (λ (b : PassView T). PutGives (shape_of c) b x (pass_in after) a) e s.1)
