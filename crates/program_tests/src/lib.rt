@@ -1,10 +1,8 @@
-//! Tests of the program's crates from outside: what no clause says.
+//! Tests of the program from above: what no clause says.
 #![tactic(auto)]
 
 #[cfg(test)]
 mod relay_main_tests;
-#[cfg(test)]
-mod relay_tests;
 #[cfg(test)]
 mod replay_tests;
 #[cfg(test)]

@@ -1,22 +1,19 @@
 -- What a whole range put gives.
-use Rattle.std.proofs.Common.{◌≡◌, ◌≢◌, ℕ, zero, suc, ◌+◌, ◌<◌, ◌≤◌, ◌⊎◌, inl, inr, ⊎_elim, List, [], ◌∷◌, ◌++◌, map, length, reverse, take, drop, replicate, refl, sym, ap, ◌∙◌, subst, arith}
+use Rattle.std.proofs.Common.{◌≡◌, ℕ, zero, suc, ◌<◌, ◌≤◌, inl, inr, ⊎_elim, List, [], ◌∷◌, ◌++◌, map, length, take, drop, replicate, refl, sym, ap, ◌∙◌, subst, arith}
 use Rattle.std.proofs.lemmas.Bool.{false≢true}
-use Rattle.std.specs.Prelude.{false, ◌==◌, Option as Slot, Some, None, IsSome, Ok, Err}
+use Rattle.std.specs.Prelude.{false, ◌==◌, Option as Slot, Some, None, IsSome, Err}
 use Rattle.std.specs.List.{AllByRecursion as Every}
 use Rattle.tagged_index.specs.Limits.{capacity_of, tag_limit_of}
 use Rattle.bounded_model.specs.declared.views.PassView.{PassView}
 use Rattle.bounded_model.specs.Machine.{Shape}
 use Rattle.bounded_model.specs.Laws.{RangeGives}
-use Rattle.bounded_model.specs.Justified.{Sometime}
-use Rattle.stack_machine.specs.Deeds.{HasNoNode}
 use Rattle.stack_machine.specs.declared.lines.Answer.TheVariants.{Put as AnswerPut}
 use Rattle.stack_machine.specs.declared.lines.Giving.{Giving}
 use Rattle.treiber_stack.specs.Folding.{Gave}
 use Rattle.treiber_stack.specs.Operations.{Ended, begun_in}
 use Rattle.treiber_stack.specs.Places.{somes}
 use Rattle.treiber_stack.specs.Ranging.{NotPut, Backs, PutFront, PutsRange, Placed, places_from, of_range}
-use Rattle.treiber_stack.specs.Stack.{IsPassOf, pass_in, shape_of}
-use Rattle.treiber_stack.specs.declared.ranging.Ranged.{Ranged}
+use Rattle.treiber_stack.specs.Stack.{pass_in, shape_of}
 use Rattle.treiber_stack.specs.declared.ranging.RangeRefused.{RangeRefused}
 use Rattle.treiber_stack.specs.declared.ranging.RangeRefused.TheVariants.{Nothing, Full, Closed, Spent}
 use Rattle.treiber_stack.specs.declared.stack.Stack.{Stack}

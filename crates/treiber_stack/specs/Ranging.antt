@@ -1,11 +1,9 @@
 -- Puts of a range: what they promise, and where a pass stands in one.
-use Rattle.std.specs.Prelude.{◌≡◌, ◌⊎◌, ℕ, ◌+◌, ◌<◌, ◌≤◌, List, [], ◌∷◌, ◌++◌, map, length, reverse, take, drop, replicate, Option as Slot, Some, None, Result, Ok, Err}
-use Rattle.tagged_index.specs.Limits.{capacity_of, tag_limit_of}
+use Rattle.std.specs.Prelude.{◌≡◌, ◌⊎◌, ℕ, ◌<◌, ◌≤◌, List, [], ◌∷◌, ◌++◌, map, length, reverse, take, drop, replicate, Option as Slot, Some, None, Result, Ok, Err}
+use Rattle.tagged_index.specs.Limits.{capacity_of}
 use Rattle.bounded_model.specs.declared.answers.PutRefused.{PutRefused}
 use Rattle.bounded_model.specs.declared.answers.PutRefused.TheVariants.{Full as PutFull, Closed as PutClosed, Spent as PutSpent}
-use Rattle.bounded_model.specs.declared.answers.Word.{Word}
 use Rattle.bounded_model.specs.declared.answers.Word.TheVariants.{Free as FreeWord}
-use Rattle.bounded_model.specs.declared.history.Event.{Event}
 use Rattle.bounded_model.specs.declared.views.PassView.{PassView}
 use Rattle.bounded_model.specs.Machine.{Shape}
 use Rattle.bounded_model.specs.Laws.{Adds, BacksOut, RangeGives}
@@ -17,7 +15,7 @@ use Rattle.stack_machine.specs.declared.lines.Answer.TheVariants.{Put as AnswerP
 use Rattle.stack_machine.specs.declared.lines.Giving.{Giving}
 use Rattle.stack_machine.specs.declared.lines.Putting.{Putting}
 use Rattle.stack_machine.specs.declared.lines.Line.{Line}
-use Rattle.stack_machine.specs.declared.lines.Line.TheVariants.{F1, F4, P1, D1, G1}
+use Rattle.stack_machine.specs.declared.lines.Line.TheVariants.{LoadFree, LinkTaken, LoadTop, LoadTopToRefuse, LoadFreeToGive}
 use Rattle.machine.specs.Chains.{first, last}
 use Rattle.stack_machine.specs.Machine.{next_node}
 use Rattle.machine.specs.declared.seats.View.{View}
@@ -28,7 +26,7 @@ use Rattle.treiber_stack.specs.Operations.{IsAt, begun_in, vacant}
 use Rattle.treiber_stack.specs.Stack.{shape_of, pass_in, IsPassOf}
 use Rattle.treiber_stack.specs.declared.folding.Chain.{Chain}
 use Rattle.treiber_stack.specs.declared.operation.Operation.{Operation}
-use Rattle.treiber_stack.specs.declared.operation.Operation.TheVariants.{Look as AnyLater}
+use Rattle.treiber_stack.specs.declared.operation.Operation.TheVariants.{Underway}
 use Rattle.treiber_stack.specs.declared.ranging.Held.{Held}
 use Rattle.treiber_stack.specs.declared.ranging.NoNode.{NoNode}
 use Rattle.treiber_stack.specs.declared.ranging.NoNode.TheVariants.{NoneFree, Spent as NodeSpent}
@@ -88,18 +86,18 @@ module _ {T : Type 0} where
 
   -- a range put that wants a node
   abbrev pub IsCollecting : Stack T → Operation T → Pass T → Putting T → Type 0
-  IsCollecting c o p put = IsAt c o p (F1 put) (loaded put.chain (length put.chain) put.values)
+  IsCollecting c o p put = IsAt c o p (LoadFree put) (loaded put.chain (length put.chain) put.values)
 
   -- a node was taken; it is linked to the one before it, if there is one
   abbrev pub linking : List ℕ → List T → ℕ → Line T
   linking [] vs i = next_node (record { values = vs; chain = i ∷ [] })
-  linking (j ∷ js) vs i = F4 (record { values = vs; chain = i ∷ j ∷ js })
+  linking (j ∷ js) vs i = LinkTaken (record { values = vs; chain = i ∷ j ∷ js })
 
   -- no node could be had: with none in hand the range is refused, and else put
   abbrev pub Stops : Stack T → PassView T → Pass T → List ℕ → List T → NoNode → Type 0
-  Stops c v q [] vs NoneFree = IsAt c AnyLater q (D1 vs) [] × (begun_in q ≡ v)
+  Stops c v q [] vs NoneFree = IsAt c Underway q (LoadTopToRefuse vs) [] × (begun_in q ≡ v)
   Stops c v q [] vs (NodeSpent t) = IsPassOf c q × NotPut (shape_of c) v (length vs) (pass_in q) (Spent FreeWord t)
-  Stops c v q (j ∷ js) vs why = IsAt c AnyLater q (P1 (record { values = vs; chain = j ∷ js })) (loaded (j ∷ js) (length (j ∷ js)) vs) × (begun_in q ≡ v)
+  Stops c v q (j ∷ js) vs why = IsAt c Underway q (LoadTop (record { values = vs; chain = j ∷ js })) (loaded (j ∷ js) (length (j ∷ js)) vs) × (begun_in q ≡ v)
 
   abbrev pub TakesFree : Stack T → Operation T → PassView T → Putting T → Pass T → Result ℕ NoNode → Type 0
   TakesFree c o v put q (Ok i) = IsAt c o q (linking put.chain put.values i) ((i, None) ∷ loaded put.chain (length put.chain) put.values) × (i < capacity_of c.limits) × (length put.chain ≤ capacity_of c.limits) × (begun_in q ≡ v)
@@ -107,7 +105,7 @@ module _ {T : Type 0} where
 
   -- the first step of a range put is its next, and every place has its value
   pub record IsStart (c : Stack T) (o : Operation T) (p : Pass T) (vs : List T) (places : List (Slot T)) : Type 0 where
-    pub at : IsAt c o p (F1 (record { values = vs; chain = [] })) []
+    pub at : IsAt c o p (LoadFree (record { values = vs; chain = [] })) []
     pub some_value : 0 < length vs
     pub are : places ≡ map Some vs
 
@@ -124,7 +122,7 @@ module _ {T : Type 0} where
     pub chain : List ℕ
     pub has : HasNodes c vs held.count chain held.chain
     pub some_node : 0 < held.count
-    pub at : IsAt c AnyLater p (P1 (record { values = vs; chain = chain })) (loaded chain held.count vs)
+    pub at : IsAt c Underway p (LoadTop (record { values = vs; chain = chain })) (loaded chain held.count vs)
 
   abbrev pub Collects : Stack T → PassView T → List T → List (Slot T) → Pass T → Result Held RangeRefused → Type 0
   Collects c v vs places q (Ok held) = IsHolding c q vs held × (places ≡ places_from held.count vs) × (begun_in q ≡ v)
@@ -135,7 +133,7 @@ module _ {T : Type 0} where
     pub chain : List ℕ
     pub has : HasNodes c vs held.count chain held.chain
     pub some_node : 0 < held.count
-    pub at : IsAt c AnyLater p (G1 (record { chain = chain; answer = AnswerPut (Err (of_range why vs)) })) (loaded chain held.count vs)
+    pub at : IsAt c Underway p (LoadFreeToGive (record { chain = chain; answer = AnswerPut (Err (of_range why vs)) })) (loaded chain held.count vs)
     pub kind : Backs why
 
   pub record Placed (c : Stack T) (v : PassView T) (vs : List T) (k : ℕ) (q : Pass T) (number : ℕ) : Type 0 where
@@ -156,17 +154,17 @@ module _ {T : Type 0} where
     pub parts : chain ≡ done ++ left
     pub counted : length done ≡ moved
     pub next : 0 < length left → first left ≡ index
-    pub at : IsAt c AnyLater p (G1 (record { chain = chain; answer = AnswerPut (Err (of_range why vs)) })) (full left (reverse (take (length left) vs)) ++ vacant done)
+    pub at : IsAt c Underway p (LoadFreeToGive (record { chain = chain; answer = AnswerPut (Err (of_range why vs)) })) (full left (reverse (take (length left) vs)) ++ vacant done)
 
   -- they are all back, and the emptied nodes are to be given back
   pub record IsRestored (c : Stack T) (p : Pass T) (vs : List T) (held : Held) (why : RangeRefused) : Type 0 where
     pub giving : Giving T
     pub answer : giving.answer ≡ AnswerPut (Err (of_range why vs))
-    pub back : IsGivingBack c AnyLater p held.chain giving
+    pub back : IsGivingBack c Underway p held.chain giving
 
   abbrev pub Restores : Stack T → Pass T → List T → Held → RangeRefused → List (Slot T) → Pass T → Type 0
   Restores c p vs held why places q = IsRestored c q vs held why × (places ≡ map Some vs) × (begun_in q ≡ begun_in p)
 
   -- a link of the chain that is given back next was read
   abbrev pub ReadsAgain : View T (Line T) → ℕ → ℕ → Type 0
-  ReadsAgain v i found = (giving : Giving T) (before others : List ℕ) (next : ℕ) → line_in v ≡ G1 giving → giving.chain ≡ before ++ i ∷ next ∷ others → found ≡ next
+  ReadsAgain v i found = (giving : Giving T) (before others : List ℕ) (next : ℕ) → line_in v ≡ LoadFreeToGive giving → giving.chain ≡ before ++ i ∷ next ∷ others → found ≡ next

@@ -15,6 +15,7 @@ ghost use Rattle.treiber_stack.specs.Folding.{FoldsAll, AllowsTake, RefusesTake,
 
 use crate::layout::{FREE, TOP};
 use crate::operation::Operation;
+use crate::pause::Pause;
 use crate::rule::Stacked;
 use crate::stack::{Pass, Stack};
 use bounded_model::{TakeRefused, Word};
@@ -108,7 +109,7 @@ impl<T> Stack<T> {
                     count,
                 } = walked;
                 let number = top.tag();
-                let pass = self.give_back(rt, pass, chain, &Operation::Fold(Front::First));
+                let pass = self.give_back(rt, pass, chain, &Operation::Underway);
                 (pass, state, Ok(Folded { number, count }))
             }
         }
@@ -160,14 +161,16 @@ impl<T> Stack<T> {
         ensures { TakesChain self.now front by result.0 result.1 }
     {
         let mut pass = by;
+        let mut pause = Pause::new();
         for _ in rt.forever() {
             let top = self.load_whole(&mut pass, front);
             if let Some(why) = self.refused(top) {
                 return (pass, Err(why));
             }
-            if self.take_nodes(&mut pass, top, front, &Operation::Fold(Front::First)) {
+            if self.take_nodes(&mut pass, top, front, &Operation::Underway) {
                 return (pass, Ok(top));
             }
+            pause.wait();
         }
         unreachable!()
     }
@@ -192,8 +195,8 @@ impl<T> Stack<T> {
         let mut above = NULL;
         let mut index = top.index();
         for _ in 0..self.limits.capacity() {
-            let below = self.load_next(&mut pass, TOP, index, &Operation::Fold(Front::First));
-            self.link_to(&mut pass, TOP, index, above, &Operation::Fold(Front::First));
+            let below = self.load_next(&mut pass, TOP, index, &Operation::Underway);
+            self.link_to(&mut pass, TOP, index, above, &Operation::Underway);
             if below == NULL {
                 return (pass, index);
             }
@@ -241,7 +244,7 @@ impl<T> Stack<T> {
         for before in 0..self.limits.capacity() {
             let value = self.take_out(&mut pass, index);
             folded = f(folded, value);
-            let next = self.load_next(&mut pass, TOP, index, &Operation::Fold(Front::First));
+            let next = self.load_next(&mut pass, TOP, index, &Operation::Underway);
             if next == NULL {
                 return Walked {
                     pass,
@@ -267,12 +270,14 @@ impl<T> Stack<T> {
         ensures { GaveBack self.now operation.now by chain result }
     {
         let mut pass = by;
+        let mut pause = Pause::new();
         for _ in rt.forever() {
             let free = self.load(&mut pass, FREE, operation);
             self.link_to(&mut pass, FREE, chain.last, free.index(), operation);
             if self.give_nodes(&mut pass, free, chain.first, operation) {
                 return pass;
             }
+            pause.wait();
         }
         unreachable!()
     }

@@ -25,6 +25,7 @@ mod rest;
 mod rule;
 mod stack;
 mod steps;
+mod stepwise;
 mod taking;
 #[cfg(test)]
 mod tests;
@@ -41,4 +42,5 @@ pub use putting::PutOp;
 pub use ranging::{RangeRefused, Ranged};
 pub use rest::Rest;
 pub use stack::{Pass, Root, Stack};
+pub use stepwise::LookOp;
 pub use taking::TakeOp;

@@ -15,6 +15,7 @@ ghost use Rattle.treiber_stack.specs.Ranging.{NotPut, PutsRange, Stops, places_f
 use crate::folding::Chain;
 use crate::layout::{self, FREE, TOP};
 use crate::operation::{Listed, Operation};
+use crate::pause::Pause;
 use crate::rule::Stacked;
 use crate::stack::{Pass, Stack};
 use bounded_model::Word;
@@ -100,7 +101,7 @@ impl<T> Stack<T> {
             ),
             Err(why) => {
                 let pass = self.restore(pass, held, values);
-                let pass = self.give_back(rt, pass, held.chain, &Operation::Look);
+                let pass = self.give_back(rt, pass, held.chain, &Operation::Underway);
                 (pass, Err(why))
             }
         }
@@ -175,6 +176,7 @@ impl<T> Stack<T> {
         ensures { (put : Putting T) → IsCollecting self.now operation.now by put → TakesFree self.now operation.now (begun_in by) put result.0 result.1 }
     {
         let mut pass = by;
+        let mut pause = Pause::new();
         for _ in rt.forever() {
             let free = self.load(&mut pass, FREE, operation);
             let index = free.index();
@@ -189,6 +191,7 @@ impl<T> Stack<T> {
             if self.take_node(&mut pass, FREE, free, next, operation) {
                 return (pass, Ok(index));
             }
+            pause.wait();
         }
         unreachable!()
     }
@@ -223,7 +226,7 @@ impl<T> Stack<T> {
         match why {
             NoNode::Spent(tag) => (pass, RangeRefused::Spent(Word::Free, tag)),
             NoNode::NoneFree => {
-                let top = self.load(&mut pass, TOP, &Operation::Look);
+                let top = self.load(&mut pass, TOP, &Operation::Underway);
                 if top.is_marked() {
                     return (pass, RangeRefused::Closed);
                 }
@@ -248,8 +251,9 @@ impl<T> Stack<T> {
         ensures { (vs : List T) → IsHolding self.now by vs held → Places self.now by vs held result.0 result.1 }
     {
         let mut pass = by;
+        let mut pause = Pause::new();
         for _ in rt.forever() {
-            let top = self.load(&mut pass, TOP, &Operation::Look);
+            let top = self.load(&mut pass, TOP, &Operation::Underway);
             if top.is_marked() {
                 return (pass, Err(RangeRefused::Closed));
             }
@@ -262,11 +266,12 @@ impl<T> Stack<T> {
                 TOP,
                 held.chain.last,
                 top.index(),
-                &Operation::Look,
+                &Operation::Underway,
             );
-            if self.put_nodes(&mut pass, top, held.chain.first, &Operation::Look) {
+            if self.put_nodes(&mut pass, top, held.chain.first, &Operation::Underway) {
                 return (pass, Ok(tag));
             }
+            pause.wait();
         }
         unreachable!()
     }
