@@ -1,5 +1,5 @@
 -- Closes and shuts made by steps.
-use Rattle.std.specs.Prelude.{ℕ, Bool, [], Option as Slot, Some, None}
+use Rattle.std.specs.Prelude.{◌≡◌, ℕ, Bool, [], Option as Slot, Some, None}
 use Rattle.tagged_index.specs.Fields.{fields_of}
 use Rattle.bounded_model.specs.declared.answers.Stepped.{Stepped}
 use Rattle.bounded_model.specs.declared.answers.Stepped.TheVariants.{Again, Done}
@@ -40,3 +40,12 @@ module _ {T : Type 0} where
   abbrev pub ShutStep : Stack T → Pass T → Slot ℕ → Stepped (ShutOp T) (Pass T) Bool → Type 0
   ShutStep c p seen (Again next) = IsShutting c next × GoesOn c p next.pass (shut_line seen) (shut_line next.seen)
   ShutStep c p seen (Done q b) = IsPassOf c q × ShutGives (shape_of c) (begun_in p) (pass_in q) b × IsLineOf c p q (shut_line seen) (ends (AnswerShut b))
+
+  -- what several steps give
+  abbrev pub CloseRun : Stack T → Pass T → Stepped (CloseOp T) (Pass T) Bool → Type 0
+  CloseRun c p (Again next) = IsClosing c next × (begun_in next.pass ≡ begun_in p)
+  CloseRun c p (Done q b) = IsPassOf c q × CloseGives (shape_of c) (begun_in p) (pass_in q) b
+
+  abbrev pub ShutRun : Stack T → Pass T → Stepped (ShutOp T) (Pass T) Bool → Type 0
+  ShutRun c p (Again next) = IsShutting c next × (begun_in next.pass ≡ begun_in p)
+  ShutRun c p (Done q b) = IsPassOf c q × ShutGives (shape_of c) (begun_in p) (pass_in q) b

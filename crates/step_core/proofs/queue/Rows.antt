@@ -1,80 +1,10 @@
 -- Worked scripts of the queue: the machine computes their replies and step counts.
-use Rattle.std.proofs.Common.{◌≡◌, ℕ, List, drop, map, replicate, true, false, [], ◌∷◌, refl, Ok, Err}
-use Rattle.bounded_model.specs.declared.answers.Word.TheVariants.{Cells as CellsWord, Next as NextWord}
-use Rattle.bounded_model.specs.declared.answers.PutRefused.TheVariants.{Full, Closed as PutClosed, Spent as PutSpent}
-use Rattle.bounded_model.specs.declared.answers.TakeRefused.{TakeRefused}
+use Rattle.std.proofs.Common.{◌≡◌, ℕ, List, drop, map, replicate, true, false, [], ◌∷◌, refl}
 use Rattle.bounded_model.specs.declared.answers.TakeRefused.TheVariants.{Empty, Closed, Shut}
-use Rattle.bounded_model.specs.declared.history.Order.TheVariants.{Fifo}
-use Rattle.bounded_model.specs.Machine.{Shape}
-use Rattle.queue_machine.specs.declared.lines.Answer.{Answer}
-use Rattle.queue_machine.specs.declared.lines.Answer.TheVariants.{Put, Take, Close, Shut as ShutAnswer, Look}
-use Rattle.queue_machine.specs.declared.lines.Call.{Call}
-use Rattle.queue_machine.specs.declared.lines.Call.TheVariants.{Put as PutCall, Take as TakeCall, Close as CloseCall, Shut as ShutCall, Look as LookCall}
-use Rattle.step_core.proofs.queue.Scripts.{Reply, curtain, replies, calls, begins, steps, finish, answers, begun, again, ended, rest, Plays}
-
--- passes
-abbrev a : ℕ
-a = 0
-
-abbrev b : ℕ
-b = 1
-
-abbrev c : ℕ
-c = 2
-
--- values
-abbrev t : ℕ
-t = 116
-
-abbrev u : ℕ
-u = 117
-
-abbrev v : ℕ
-v = 118
-
-abbrev w : ℕ
-w = 119
-
-abbrev x : ℕ
-x = 120
-
-abbrev y : ℕ
-y = 121
-
-abbrev z : ℕ
-z = 122
-
--- calls
-abbrev put : ℕ → Call ℕ
-put value = PutCall value
-
-abbrev take : Call ℕ
-take = TakeCall
-
--- answers
-abbrev put_is : ℕ → Answer ℕ
-put_is n = Put (Ok n)
-
-abbrev full : ℕ → Answer ℕ
-full value = Put (Err (Full value))
-
-abbrev put_closed : ℕ → Answer ℕ
-put_closed value = Put (Err (PutClosed value))
-
-abbrev cells_spent : ℕ → ℕ → Answer ℕ
-cells_spent tag value = Put (Err (PutSpent value CellsWord tag))
-
-abbrev next_spent : ℕ → ℕ → ℕ → Answer ℕ
-next_spent node tag value = Put (Err (PutSpent value (NextWord node) tag))
-
-abbrev take_is : ℕ → ℕ → Answer ℕ
-take_is n value = Take (Ok (value, n))
-
-abbrev no_take : TakeRefused → Answer ℕ
-no_take why = Take (Err why)
-
-abbrev shape : ℕ → ℕ → Shape
-shape n limit = record { order = Fifo; capacity = n; limit = limit }
+use Rattle.queue_machine.specs.declared.lines.Answer.TheVariants.{Close, Shut as ShutAnswer, Look}
+use Rattle.queue_machine.specs.declared.lines.Call.TheVariants.{Close as CloseCall, Shut as ShutCall, Look as LookCall}
+use Rattle.step_core.proofs.queue.Scripts.{Reply, the_queue, curtain, replies, calls, begins, steps, finish, answers, begun, again, ended, rest, Plays}
+use Rattle.step_core.proofs.queue.Cast.{a, b, c, u, v, w, x, y, z, put, take, put_is, full, put_closed, cells_spent, next_spent, take_is, no_take, shape}
 
 -- one cell
 smallest : Plays (shape 1 7)
@@ -291,7 +221,7 @@ longest = refl
 
 -- A put stops for good after k of its steps: what other calls answer from then on
 abbrev after_stopped_put : ℕ → List Reply
-after_stopped_put k = drop 3 (replies (shape 2 7) (curtain (shape 2 7))
+after_stopped_put k = drop 3 (replies the_queue (shape 2 7) (curtain (shape 2 7))
     (calls b (put v) ∷ begins a (put y) ∷ steps a k ∷ calls b (put w) ∷ calls b take ∷ calls b take ∷ calls b take ∷ calls b CloseCall ∷ finish ∷ []))
 
 put_stopped_early : map after_stopped_put (0 ∷ 1 ∷ 2 ∷ [])
@@ -309,7 +239,7 @@ put_stopped_late = refl
 
 -- A take stops for good after k of its steps
 abbrev after_stopped_take : ℕ → List Reply
-after_stopped_take k = drop 4 (replies (shape 2 7) (curtain (shape 2 7))
+after_stopped_take k = drop 4 (replies the_queue (shape 2 7) (curtain (shape 2 7))
     (calls b (put v) ∷ calls b (put w) ∷ begins a take ∷ steps a k ∷ calls b take ∷ calls b take ∷ calls b (put x) ∷ calls b (put u) ∷ finish ∷ []))
 
 take_stopped_early : map after_stopped_take (0 ∷ 1 ∷ 2 ∷ 3 ∷ 4 ∷ 5 ∷ [])
