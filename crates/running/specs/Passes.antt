@@ -1,0 +1,33 @@
+-- Which passes and roots are those of a table, and what they have seen.
+use Rattle.std.specs.Prelude.{◌≡◌, ◌+◌, [], length}
+use Rattle.atomic_table.specs.Seated.{TableId}
+use Rattle.bounded_model.specs.declared.views.PassView.{PassView}
+use Rattle.bounded_model.specs.declared.views.RootView.{RootView}
+use Rattle.bounded_model.specs.Laws.{IsSound}
+use Rattle.machine.specs.declared.seats.View.TheVariants.{AtRoot}
+use Rattle.machine.specs.Seats.{pass_of, root_of}
+use Rattle.running.specs.Machine.{Names, Machine}
+use Rattle.running.specs.Going.{Rests}
+use Rattle.running.specs.declared.passes.Pass.{Pass}
+use Rattle.running.specs.declared.passes.Root.{Root}
+
+module _ {T L : Type 0} where
+  abbrev pub pass_in : Pass T L → PassView T
+  pass_in p = pass_of p.seat.me.0
+
+  abbrev pub root_in : Root T L → RootView T
+  root_in r = root_of r.seat.me.0
+
+module _ {T L O : Type 0} {names : Names L O} (m : Machine T L O names) where
+  -- a pass between its operations
+  pub record IsPassOn (id : TableId) (p : Pass T L) : Type 0 where
+    pub table : p.seat.table_id ≡ id
+    pub rests : Rests m p.seat.me
+
+  -- a root between its calls
+  pub record IsRootOn (id : TableId) (r : Root T L) : Type 0 where
+    pub table : r.seat.table_id ≡ id
+    pub view : r.seat.me.0 ≡ AtRoot (root_in r) []
+    pub slots : r.seat.me.1 ≡ []
+    pub sound : IsSound m.core.shape (root_in r)
+    pub counted : (root_in r).given ≡ r.out + length (root_in r).account
