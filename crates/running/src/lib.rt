@@ -11,6 +11,6 @@ mod seats;
 mod steps;
 
 pub use lists::{ListMachine, take_first};
-pub use rule::{Machine, Running};
 pub use passes::{Pass, Root, join, meet, split};
-pub use steps::{give_step, load_step, load_tagged_step, store_step, swap_step, take_step};
+pub use rule::{Machine, Running};
+pub use steps::{give_step, load_step, load_tagged_step, raised, store_step, swap_step, take_step};

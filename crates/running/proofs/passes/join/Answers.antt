@@ -1,4 +1,4 @@
-use Rattle.std.proofs.Common.{◌≡◌, ℕ, ◌+◌, ◌-◌, ◌<◌, length, arith, refl, ap, ◌∙◌}
+use Rattle.std.proofs.Common.{◌≡◌, ℕ, ◌+◌, ◌-◌, ◌<◌, length, arith, ap, ◌∙◌}
 use Rattle.bounded_model.specs.declared.views.RootView.{RootView}
 use Rattle.machine.specs.Seats.{held_at, root_of}
 use Rattle.machine.proofs.SeatedCalls.{join_view, was_out}
