@@ -7,7 +7,7 @@ use Rattle.tagged_index.proofs.Words.{same_fields}
 use Rattle.machine.specs.Words.{Tagged, same}
 use Rattle.machine.proofs.Tests.{same-is, same-self}
 use Rattle.running.specs.Machine.{Names, Machine}
-use Rattle.running.specs.Going.{Ended, Found}
+use Rattle.running.specs.Going.{Ended, Found, Steps}
 use Rattle.running.specs.Passes.{IsPassOn, IsAtOn, OneLine, WentOn, begun_of, pass_in}
 use Rattle.running.specs.declared.passes.Pass.{Pass}
 use Rattle.running.proofs.Going.{goes_at, ends_at, begins, begun_at_rest}
@@ -25,6 +25,18 @@ module _ {T L O : Type 0} {names : Names L O} (m : Machine T L O names) where
     ends_so to slots is idle =
         let e = ends_at m (steps (begun_of m p) l at.at.going).0 is idle slots in
         (record { table = table ∙ at.table; rests = e.0 }, e.1, (e.2, e.3))
+
+  -- the same of a step whose line is known
+  module _ {id : TableId} {o : O} (p q : Pass T L) (l to : L) (steps : Steps m o p.seat.me.0 q.seat.me.0 (begun_of m p) l to) (table : q.seat.table_id ≡ id) where
+    pub went_on : (has : List (ℕ × Slot T)) → q.seat.me.1 ≡ has → names.is_idle to ≡ false → IsAtOn m id o q to has × WentOn m p q l to
+    went_on has slots busy =
+        let g = goes_at m steps refl busy slots in
+        (record { table = table; at = g.0 }, (g.1.begun, (g.1.line, g.1.one)))
+
+    pub ended : q.seat.me.1 ≡ [] → names.is_idle to ≡ true → IsPassOn m id q × Ended m o q.seat.me.0 (begun_of m p) to × OneLine m p q l to
+    ended slots idle =
+        let e = ends_at m steps refl idle slots in
+        (record { table = table; rests = e.0 }, e.1, (e.2, e.3))
 
   -- a pass between its operations may begin any
   pub started : (id : TableId) (o : O) (p : Pass T L) → IsPassOn m id p → IsAtOn m id o p (names.first o) []
