@@ -14,8 +14,6 @@ mod faults;
 mod list_text;
 mod message_file;
 mod output;
-#[cfg(test)]
-mod tests;
 mod text;
 
 pub use audit_text::write_audit;

@@ -26,8 +26,6 @@ mod producer;
 mod rooms;
 mod running;
 mod sizes;
-#[cfg(test)]
-mod tests;
 mod threads;
 
 pub use faults::RelayFault;

@@ -17,6 +17,7 @@ use Rattle.bounded_model.specs.Laws.{holds_of, gave_back}
 use Rattle.bounded_model.proofs.Histories.{own-append, own-mine, Later-refl, Later-cons}
 use Rattle.bounded_model.proofs.Adding.{Sometime-now, Sometime-wider}
 use Rattle.machine.specs.Words.{Tagged, same}
+use Rattle.bounded_model.specs.Bulk.{HasNoCell}
 use Rattle.stack_machine.specs.declared.lines.Putting.{Putting}
 use Rattle.stack_machine.specs.declared.lines.Giving.{Giving}
 use Rattle.stack_machine.specs.declared.lines.Direction.{Direction}
@@ -26,11 +27,11 @@ use Rattle.stack_machine.specs.declared.lines.Taking.TheVariants.{One, Whole}
 use Rattle.stack_machine.specs.declared.lines.Answer.{Answer}
 use Rattle.stack_machine.specs.declared.lines.Answer.TheVariants.{Put as AnswerPut, Take as AnswerTake, Fold as AnswerFold, Close as AnswerClose, Shut as AnswerShut, Look as AnswerLook}
 use Rattle.stack_machine.specs.declared.lines.Line.{Line}
-use Rattle.stack_machine.specs.declared.lines.Line.TheVariants.{Idle, F1, F2, F3, F4, P1, P2, P3, D1, S1, S2, S3, A1, A2, A3, A4, G1, G2, G3, Z1, Z2, Y1, Y2, V1}
-use Rattle.stack_machine.specs.Machine.{Memory, Outcome, step, at_P1, at_D1, at_S1, goes_on, wins, wins_value, wins_chain, at_A1, after_hold, after_put, after_give, after_close, after_shut, at_F3, refuses, takes, ends, gives, no_node, next_node, with_node, placed, unplaced}
+use Rattle.stack_machine.specs.declared.lines.Line.TheVariants.{Idle, LoadFree, LoadFreeLink, TakeFree, LinkTaken, LoadTop, LinkToTop, SwapTop, LoadTopToRefuse, LoadTopToTake, LoadTopLink, TakeTop, TakeChain, LoadLinkToTurn, TurnLink, LoadLinkToFold, LoadFreeToGive, LinkToFree, GiveBack, LoadTopToClose, MarkTop, LoadTopToShut, ShutTop, LoadTopToLook}
+use Rattle.stack_machine.specs.Machine.{Memory, Outcome, step, at_load_top, at_load_top_to_refuse, at_load_top_to_take, goes_on, wins, wins_value, wins_chain, at_take_chain, after_hold, after_put, after_give, after_close, after_shut, at_take_free, refuses, takes, ends, gives, no_node, next_node, with_node, placed, unplaced}
 use Rattle.machine.specs.Chains.{values_in, chain_from}
 use Rattle.stack_machine.specs.Rule.{Lists, IsFine}
-use Rattle.stack_machine.specs.Deeds.{BackedOut, Makes, HasMade, HasNoNode, HasAll, PutsAll, IsAll, Deeds}
+use Rattle.stack_machine.specs.Deeds.{BackedOut, Makes, HasMade, HasAll, PutsAll, IsAll, Deeds}
 use Rattle.stack_machine.specs.Answers.{shape}
 use Rattle.machine.proofs.Tests.{cases, same-is}
 
@@ -70,29 +71,29 @@ module _ {T : Type 0} (c : Shape) where
   still_all : (begun seen h : List (Event T)) (l : Line T) → Later seen h → IsAll c begun seen l → IsAll c begun h l
   still_all begun seen h (Idle (Some a)) later k = puts_later begun seen h a later k
   still_all begun seen h (Idle None) later k = tt
-  still_all begun seen h (F1 put) later k = tt
-  still_all begun seen h (F2 put w) later k = tt
-  still_all begun seen h (F3 put w x) later k = tt
-  still_all begun seen h (F4 put) later k = tt
-  still_all begun seen h (P1 put) later k = all_later begun seen h put later k
-  still_all begun seen h (P2 put w) later k = all_later begun seen h put later k
-  still_all begun seen h (P3 put w) later k = all_later begun seen h put later k
-  still_all begun seen h (D1 values) later k = tt
-  still_all begun seen h (S1 taking) later k = tt
-  still_all begun seen h (S2 w) later k = tt
-  still_all begun seen h (S3 w x) later k = tt
-  still_all begun seen h (A1 d w) later k = tt
-  still_all begun seen h (A2 give above i) later k = puts_later begun seen h give.answer later k
-  still_all begun seen h (A3 give above i x) later k = puts_later begun seen h give.answer later k
-  still_all begun seen h (A4 give i) later k = puts_later begun seen h give.answer later k
-  still_all begun seen h (G1 give) later k = puts_later begun seen h give.answer later k
-  still_all begun seen h (G2 give w) later k = puts_later begun seen h give.answer later k
-  still_all begun seen h (G3 give w) later k = puts_later begun seen h give.answer later k
-  still_all begun seen h Z1 later k = tt
-  still_all begun seen h (Z2 w) later k = tt
-  still_all begun seen h Y1 later k = tt
-  still_all begun seen h (Y2 w) later k = tt
-  still_all begun seen h V1 later k = tt
+  still_all begun seen h (LoadFree put) later k = tt
+  still_all begun seen h (LoadFreeLink put w) later k = tt
+  still_all begun seen h (TakeFree put w x) later k = tt
+  still_all begun seen h (LinkTaken put) later k = tt
+  still_all begun seen h (LoadTop put) later k = all_later begun seen h put later k
+  still_all begun seen h (LinkToTop put w) later k = all_later begun seen h put later k
+  still_all begun seen h (SwapTop put w) later k = all_later begun seen h put later k
+  still_all begun seen h (LoadTopToRefuse values) later k = tt
+  still_all begun seen h (LoadTopToTake taking) later k = tt
+  still_all begun seen h (LoadTopLink w) later k = tt
+  still_all begun seen h (TakeTop w x) later k = tt
+  still_all begun seen h (TakeChain d w) later k = tt
+  still_all begun seen h (LoadLinkToTurn give above i) later k = puts_later begun seen h give.answer later k
+  still_all begun seen h (TurnLink give above i x) later k = puts_later begun seen h give.answer later k
+  still_all begun seen h (LoadLinkToFold give i) later k = puts_later begun seen h give.answer later k
+  still_all begun seen h (LoadFreeToGive give) later k = puts_later begun seen h give.answer later k
+  still_all begun seen h (LinkToFree give w) later k = puts_later begun seen h give.answer later k
+  still_all begun seen h (GiveBack give w) later k = puts_later begun seen h give.answer later k
+  still_all begun seen h LoadTopToClose later k = tt
+  still_all begun seen h (MarkTop w) later k = tt
+  still_all begun seen h LoadTopToShut later k = tt
+  still_all begun seen h (ShutTop w) later k = tt
+  still_all begun seen h LoadTopToLook later k = tt
 
   -- the story goes on to a later history, to which others alone have added
   pub meanwhile : (p : ℕ) (begun seen h : List (Event T)) (l : Line T) → Ahead p seen h → Deeds c p l begun seen → Deeds c p l begun h
@@ -134,24 +135,24 @@ module _ {T : Type 0} (n limit : ℕ) (p : ℕ) (begun h : List (Event T)) where
   backs_out most events e = record { nodes = 0; at_most = omega arith; is = e }
 
   next_does : (put : Putting T) (l : Line T) (s : At l) → own p s.between ≡ holds_of p (length put.chain) → At (next_node put)
-  next_does put l s made = cases At (ltb (length put.chain) (length put.values)) (F1 put) (P1 put)
-      (λ e. stays l (F1 put) s made tt)
-      (λ e. stays l (P1 put) s made (inl (grind (arith, nat_tests))))
+  next_does put l s made = cases At (ltb (length put.chain) (length put.values)) (LoadFree put) (LoadTop put)
+      (λ e. stays l (LoadFree put) s made tt)
+      (λ e. stays l (LoadTop put) s made (inl (grind (arith, nat_tests))))
 
   -- a load of TOP by a put that found no node
-  D1_does : (values : List T) (w : Tagged) → At (D1 values) → At (at_D1 limit values w)
-  D1_does values w s =
+  load_top_to_refuse_does : (values : List T) (w : Tagged) → At (LoadTopToRefuse values) → At (at_load_top_to_refuse limit values w)
+  load_top_to_refuse_does values w s =
       let closed : Line T = ends (AnswerPut (Err (PutClosed values))) in
       let spent : Line T = ends (AnswerPut (Err (PutSpent values TopWord w.tag))) in
       let full : Line T = ends (AnswerPut (Err (PutFull values))) in
       let none_made : BackedOut p (length values) (own p s.between) = backs_out (length values) (own p s.between) s.made in
       cases At w.mark closed (cond (leb limit w.tag) spent full)
-      (λ e. stays (D1 values) closed s none_made tt)
-      (λ e. cases At (leb limit w.tag) spent full (λ e. stays (D1 values) spent s none_made tt) (λ e. stays (D1 values) full s none_made tt))
+      (λ e. stays (LoadTopToRefuse values) closed s none_made tt)
+      (λ e. cases At (leb limit w.tag) spent full (λ e. stays (LoadTopToRefuse values) spent s none_made tt) (λ e. stays (LoadTopToRefuse values) full s none_made tt))
 
   -- a load of TOP by a put that holds nodes: it gives them back, or goes on
-  P1_does : (put : Putting T) (w : Tagged) → 0 < length put.chain → length put.chain ≤ length put.values → At (P1 put) → At (at_P1 limit put w)
-  P1_does put w some_node few s =
+  load_top_does : (put : Putting T) (w : Tagged) → 0 < length put.chain → length put.chain ≤ length put.values → At (LoadTop put) → At (at_load_top limit put w)
+  load_top_does put w some_node few s =
       let closed : Line T = gives put.chain (AnswerPut (Err (PutClosed put.values))) in
       let spent : Line T = gives put.chain (AnswerPut (Err (PutSpent put.values TopWord w.tag))) in
       let backs : BackedOut p (length put.values) (Free p (length put.chain) ∷ own p s.between) = record {
@@ -159,21 +160,21 @@ module _ {T : Type 0} (n limit : ℕ) (p : ℕ) (begun h : List (Event T)) where
         at_most = few;
         is = ap (λ (x : List (Event T)). Free p (length put.chain) ∷ x) s.made ∙ gives_back p (length put.chain) some_node;
       } in
-      cases At w.mark closed (cond (leb limit w.tag) spent (P2 put w))
-      (λ e. stays (P1 put) closed s backs tt)
-      (λ e. cases At (leb limit w.tag) spent (P2 put w) (λ e. stays (P1 put) spent s backs tt) (λ e. stays (P1 put) (P2 put w) s s.made s.all))
+      cases At w.mark closed (cond (leb limit w.tag) spent (LinkToTop put w))
+      (λ e. stays (LoadTop put) closed s backs tt)
+      (λ e. cases At (leb limit w.tag) spent (LinkToTop put w) (λ e. stays (LoadTop put) spent s backs tt) (λ e. stays (LoadTop put) (LinkToTop put w) s s.made s.all))
 
   -- a load of TOP by a take or a fold
-  refuses_does : (taking : Taking) (why : TakeRefused) → At (S1 taking) → At (refuses taking why)
-  refuses_does One why s = stays (S1 One) (refuses One why) s s.made tt
-  refuses_does (Whole d) why s = stays (S1 (Whole d)) (refuses (Whole d) why) s s.made tt
+  refuses_does : (taking : Taking) (why : TakeRefused) → At (LoadTopToTake taking) → At (refuses taking why)
+  refuses_does One why s = stays (LoadTopToTake One) (refuses One why) s s.made tt
+  refuses_does (Whole d) why s = stays (LoadTopToTake (Whole d)) (refuses (Whole d) why) s s.made tt
 
-  takes_does : (taking : Taking) (w : Tagged) → At (S1 taking) → At (takes taking w)
-  takes_does One w s = stays (S1 One) (S2 w) s s.made tt
-  takes_does (Whole d) w s = stays (S1 (Whole d)) (A1 d w) s s.made tt
+  takes_does : (taking : Taking) (w : Tagged) → At (LoadTopToTake taking) → At (takes taking w)
+  takes_does One w s = stays (LoadTopToTake One) (LoadTopLink w) s s.made tt
+  takes_does (Whole d) w s = stays (LoadTopToTake (Whole d)) (TakeChain d w) s s.made tt
 
-  S1_does : (taking : Taking) (w : Tagged) → At (S1 taking) → At (at_S1 limit taking w)
-  S1_does taking w s =
+  load_top_to_take_does : (taking : Taking) (w : Tagged) → At (LoadTopToTake taking) → At (at_load_top_to_take limit taking w)
+  load_top_to_take_does taking w s =
       let nothing : TakeRefused = cond w.mark TakeClosed TakeEmpty in
       cases At w.second (refuses taking TakeShut) (cond (eqb w.index NULL) (refuses taking nothing) (cond (leb limit w.tag) (refuses taking (TakeSpent TopWord w.tag)) (takes taking w)))
       (λ e. refuses_does taking TakeShut s)
@@ -185,29 +186,29 @@ module _ {T : Type 0} (n limit : ℕ) (p : ℕ) (begun h : List (Event T)) where
 
   module _ (m : Memory T) where
     -- a load of FREE
-    no_node_does : (put : Putting T) (refused : Line T) → (s : At (F1 put)) → HasNoNode c h → (own p s.between ≡ [] → At refused) → At (no_node put refused)
-    no_node_does put refused s none_free refuse = cases At (eqb (length put.chain) 0) refused (P1 put)
+    no_node_does : (put : Putting T) (refused : Line T) → (s : At (LoadFree put)) → HasNoCell c h → (own p s.between ≡ [] → At refused) → At (no_node put refused)
+    no_node_does put refused s none_free refuse = cases At (eqb (length put.chain) 0) refused (LoadTop put)
         (λ e. refuse (nothing_made put (own p s.between) s.made (eqb-true (length put.chain) 0 e)))
-        (λ e. stays (F1 put) (P1 put) s s.made (inr (Sometime-now (record { more = s.between; is = s.is }) none_free)))
+        (λ e. stays (LoadFree put) (LoadTop put) s s.made (inr (Sometime-now (record { more = s.between; is = s.is }) none_free)))
 
-    F1_does : (put : Putting T) → Reads c m h → At (F1 put) → Does (step c m p (F1 put))
-    F1_does put r s =
+    load_free_does : (put : Putting T) → Reads c m h → At (LoadFree put) → Does (step c m p (LoadFree put))
+    load_free_does put r s =
         let refused : Line T = ends (AnswerPut (Err (PutSpent put.values FreeWord m.free.tag))) in
-        cases At (eqb m.free.index NULL) (no_node put (D1 put.values)) (cond (leb limit m.free.tag) (no_node put refused) (F2 put m.free))
-        (λ e. no_node_does put (D1 put.values) s (inl (r.full (eqb-true m.free.index NULL e))) (λ none_made. stays (F1 put) (D1 put.values) s none_made tt))
-        (λ e. cases At (leb limit m.free.tag) (no_node put refused) (F2 put m.free)
-        (λ e. no_node_does put refused s (inr (r.spent (leb-true limit m.free.tag e))) (λ none_made. stays (F1 put) refused s (backs_out (length put.values) (own p s.between) none_made) tt))
-        (λ e. stays (F1 put) (F2 put m.free) s s.made tt))
+        cases At (eqb m.free.index NULL) (no_node put (LoadTopToRefuse put.values)) (cond (leb limit m.free.tag) (no_node put refused) (LoadFreeLink put m.free))
+        (λ e. no_node_does put (LoadTopToRefuse put.values) s (inl (r.full (eqb-true m.free.index NULL e))) (λ none_made. stays (LoadFree put) (LoadTopToRefuse put.values) s none_made tt))
+        (λ e. cases At (leb limit m.free.tag) (no_node put refused) (LoadFreeLink put m.free)
+        (λ e. no_node_does put refused s (inr (r.spent (leb-true limit m.free.tag e))) (λ none_made. stays (LoadFree put) refused s (backs_out (length put.values) (own p s.between) none_made) tt))
+        (λ e. stays (LoadFree put) (LoadFreeLink put m.free) s s.made tt))
 
     -- an exchange that takes a node
-    F3_does : (put : Putting T) (w : Tagged) (k : ℕ) → At (F3 put w k) → Does (step c m p (F3 put w k))
-    F3_does put w k s = cases Does (same m.free w) (wins (after_hold m w k) (at_F3 put w) (Hold p)) (goes_on m (F1 put))
-        (λ won. cases Held (eqb (length put.chain) 0) (next_node more) (F4 more)
-        (λ e. cases Held (ltb (length more.chain) (length more.values)) (F1 more) (P1 more)
-        (λ e. adds (F3 put w k) (F1 more) (Hold p) s refl holds_one tt)
-        (λ e. adds (F3 put w k) (P1 more) (Hold p) s refl holds_one (inl (grind (arith, nat_tests)))))
-        (λ e. adds (F3 put w k) (F4 more) (Hold p) s refl holds_one tt))
-        (λ lost. stays (F3 put w k) (F1 put) s s.made tt)
+    take_free_does : (put : Putting T) (w : Tagged) (k : ℕ) → At (TakeFree put w k) → Does (step c m p (TakeFree put w k))
+    take_free_does put w k s = cases Does (same m.free w) (wins (after_hold m w k) (at_take_free put w) (Hold p)) (goes_on m (LoadFree put))
+        (λ won. cases Held (eqb (length put.chain) 0) (next_node more) (LinkTaken more)
+        (λ e. cases Held (ltb (length more.chain) (length more.values)) (LoadFree more) (LoadTop more)
+        (λ e. adds (TakeFree put w k) (LoadFree more) (Hold p) s refl holds_one tt)
+        (λ e. adds (TakeFree put w k) (LoadTop more) (Hold p) s refl holds_one (inl (grind (arith, nat_tests)))))
+        (λ e. adds (TakeFree put w k) (LinkTaken more) (Hold p) s refl holds_one tt))
+        (λ lost. stays (TakeFree put w k) (LoadFree put) s s.made tt)
       where
         more : Putting T
         more = with_node put w.index
@@ -219,31 +220,31 @@ module _ {T : Type 0} (n limit : ℕ) (p : ℕ) (begun h : List (Event T)) where
         holds_one = ap (λ (x : List (Event T)). Hold p ∷ x) s.made
 
     -- the exchange that puts
-    P3_does : (put : Putting T) (w : Tagged) → 0 < length put.chain → length put.chain ≤ length put.values → At (P3 put w) → Does (step c m p (P3 put w))
-    P3_does put w some_node few s =
+    swap_top_does : (put : Putting T) (w : Tagged) → 0 < length put.chain → length put.chain ≤ length put.values → At (SwapTop put w) → Does (step c m p (SwapTop put w))
+    swap_top_does put w some_node few s =
         let answer : Answer T = AnswerPut (Ok (w.tag, unplaced put)) in
         let event : Event T = Put p (placed put) w.tag in
         let long : length (placed put) ≡ length put.chain = length-take-le (length put.chain) put.values few in
-        cases Does (same m.top w) (wins (after_put m w put) (ends answer) event) (goes_on m (P1 put))
-        (λ won. adds (P3 put w) (ends answer) event s refl
+        cases Does (same m.top w) (wins (after_put m w put) (ends answer) event) (goes_on m (LoadTop put))
+        (λ won. adds (SwapTop put w) (ends answer) event s refl
         (record { values = placed put; some_value = omega arith; is = ap (λ (x : List (Event T)). event ∷ x) (s.made ∙ ap (λ (k : ℕ). holds_of p k) (sym long)) })
         (⊎_elim (λ e. inl (drop_all (length put.chain) put.values e)) (λ x. inr (Sometime-wider (Later-refl begun) (Later-cons event h) x)) s.all))
-        (λ lost. stays (P3 put w) (P1 put) s s.made s.all)
+        (λ lost. stays (SwapTop put w) (LoadTop put) s s.made s.all)
 
     -- the exchange that takes one value
-    S3_does : (w : Tagged) (k : ℕ) → At (S3 w k) → Does (step c m p (S3 w k))
-    S3_does w k s = cases Does (same m.top w) (wins_value m p w k (m.home w.index)) (goes_on m (S1 One)) (λ won. value (m.home w.index)) (λ lost. stays (S3 w k) (S1 One) s s.made tt)
+    take_top_does : (w : Tagged) (k : ℕ) → At (TakeTop w k) → Does (step c m p (TakeTop w k))
+    take_top_does w k s = cases Does (same m.top w) (wins_value m p w k (m.home w.index)) (goes_on m (LoadTopToTake One)) (λ won. value (m.home w.index)) (λ lost. stays (TakeTop w k) (LoadTopToTake One) s s.made tt)
       where
         value : (o : Option (Slot T)) → Does (wins_value m p w k o)
-        value none = stays (S3 w k) (Idle None) s s.made tt
-        value (some None) = stays (S3 w k) (Idle None) s s.made tt
-        value (some (Some v)) = adds (S3 w k) (gives (w.index ∷ []) (AnswerTake (Ok (v, w.tag)))) (Take p v w.tag) s refl (ap (λ (x : List (Event T)). Free p 1 ∷ Take p v w.tag ∷ x) s.made) tt
+        value none = stays (TakeTop w k) (Idle None) s s.made tt
+        value (some None) = stays (TakeTop w k) (Idle None) s s.made tt
+        value (some (Some v)) = adds (TakeTop w k) (gives (w.index ∷ []) (AnswerTake (Ok (v, w.tag)))) (Take p v w.tag) s refl (ap (λ (x : List (Event T)). Free p 1 ∷ Take p v w.tag ∷ x) s.made) tt
 
     -- the exchange that takes all values
-    A1_does : (d : Direction) (w : Tagged) → Reads c m h → At (A1 d w) → Does (step c m p (A1 d w))
-    A1_does d w r s = cases Does (same m.top w) (wins_chain m p d w chain) (goes_on m (S1 (Whole d)))
+    take_chain_does : (d : Direction) (w : Tagged) → Reads c m h → At (TakeChain d w) → Does (step c m p (TakeChain d w))
+    take_chain_does d w r s = cases Does (same m.top w) (wins_chain m p d w chain) (goes_on m (LoadTopToTake (Whole d)))
         (λ won. whole d (subst (λ (x : Tagged). length (values_in m.home (chain_from n m.link x.index)) ≡ length (chain_from n m.link x.index)) (same-is m.top w won) r.valued))
-        (λ lost. stays (A1 d w) (S1 (Whole d)) s s.made tt)
+        (λ lost. stays (TakeChain d w) (LoadTopToTake (Whole d)) s s.made tt)
       where
         chain : List ℕ
         chain = chain_from n m.link w.index
@@ -255,70 +256,70 @@ module _ {T : Type 0} (n limit : ℕ) (p : ℕ) (begun h : List (Event T)) where
         made each = ap (λ (x : List (Event T)). Free p (length chain) ∷ TakeAll p values w.tag ∷ x) s.made ∙ ap (λ (k : ℕ). Free p k ∷ TakeAll p values w.tag ∷ []) (sym each)
 
         whole : (d : Direction) → length values ≡ length chain → Does (wins_chain m p d w chain)
-        whole Down each = adds (A1 d w) (at_A1 Down w chain values) (TakeAll p values w.tag) s refl (record { values = values; is = made each; order = inl refl }) tt
-        whole Up each = adds (A1 d w) (at_A1 Up w chain values) (TakeAll p values w.tag) s refl (record { values = values; is = made each; order = inr refl }) tt
+        whole Down each = adds (TakeChain d w) (at_take_chain Down w chain values) (TakeAll p values w.tag) s refl (record { values = values; is = made each; order = inl refl }) tt
+        whole Up each = adds (TakeChain d w) (at_take_chain Up w chain values) (TakeAll p values w.tag) s refl (record { values = values; is = made each; order = inr refl }) tt
 
     -- a chain that was turned round is as long as before
-    A3_does : (give : Giving T) (above i k : ℕ) → At (A3 give above i k) → Does (step c m p (A3 give above i k))
-    A3_does give above i k s =
+    turn_link_does : (give : Giving T) (above i k : ℕ) → At (TurnLink give above i k) → Does (step c m p (TurnLink give above i k))
+    turn_link_does give above i k s =
         let turned : Giving T = record give { chain = reverse give.chain } in
-        cases At (eqb k NULL) (A4 turned i) (A2 give i k)
-        (λ e. stays (A3 give above i k) (A4 turned i) s (subst (λ (x : ℕ). Makes p give.answer (Free p x ∷ own p s.between)) (sym (length-reverse give.chain)) s.made) s.all)
-        (λ e. stays (A3 give above i k) (A2 give i k) s s.made s.all)
+        cases At (eqb k NULL) (LoadLinkToFold turned i) (LoadLinkToTurn give i k)
+        (λ e. stays (TurnLink give above i k) (LoadLinkToFold turned i) s (subst (λ (x : ℕ). Makes p give.answer (Free p x ∷ own p s.between)) (sym (length-reverse give.chain)) s.made) s.all)
+        (λ e. stays (TurnLink give above i k) (LoadLinkToTurn give i k) s s.made s.all)
 
-    A4_does : (give : Giving T) (i : ℕ) → At (A4 give i) → Does (step c m p (A4 give i))
-    A4_does give i s = cases At (eqb (m.link i) NULL) (G1 give) (A4 give (m.link i))
-        (λ e. stays (A4 give i) (G1 give) s s.made s.all)
-        (λ e. stays (A4 give i) (A4 give (m.link i)) s s.made s.all)
+    load_link_to_fold_does : (give : Giving T) (i : ℕ) → At (LoadLinkToFold give i) → Does (step c m p (LoadLinkToFold give i))
+    load_link_to_fold_does give i s = cases At (eqb (m.link i) NULL) (LoadFreeToGive give) (LoadLinkToFold give (m.link i))
+        (λ e. stays (LoadLinkToFold give i) (LoadFreeToGive give) s s.made s.all)
+        (λ e. stays (LoadLinkToFold give i) (LoadLinkToFold give (m.link i)) s s.made s.all)
 
     -- the exchange that gives a chain back
-    G3_does : (give : Giving T) (w : Tagged) → At (G3 give w) → Does (step c m p (G3 give w))
-    G3_does give w s =
+    give_back_does : (give : Giving T) (w : Tagged) → At (GiveBack give w) → Does (step c m p (GiveBack give w))
+    give_back_does give w s =
         let event : Event T = Free p (length give.chain) in
-        cases Does (same m.free w) (wins (after_give m w give.chain) (ends give.answer) event) (goes_on m (G1 give))
-        (λ won. adds (G3 give w) (ends give.answer) event s refl s.made (puts_later c begun h (event ∷ h) give.answer (Later-cons event h) s.all))
-        (λ lost. stays (G3 give w) (G1 give) s s.made s.all)
+        cases Does (same m.free w) (wins (after_give m w give.chain) (ends give.answer) event) (goes_on m (LoadFreeToGive give))
+        (λ won. adds (GiveBack give w) (ends give.answer) event s refl s.made (puts_later c begun h (event ∷ h) give.answer (Later-cons event h) s.all))
+        (λ lost. stays (GiveBack give w) (LoadFreeToGive give) s s.made s.all)
 
     -- close and shut
-    Z1_does : At Z1 → Does (step c m p Z1)
-    Z1_does s = cases At m.top.mark (ends (AnswerClose false)) (Z2 m.top) (λ e. stays Z1 (ends (AnswerClose false)) s s.made tt) (λ e. stays Z1 (Z2 m.top) s s.made tt)
+    load_top_to_close_does : At LoadTopToClose → Does (step c m p LoadTopToClose)
+    load_top_to_close_does s = cases At m.top.mark (ends (AnswerClose false)) (MarkTop m.top) (λ e. stays LoadTopToClose (ends (AnswerClose false)) s s.made tt) (λ e. stays LoadTopToClose (MarkTop m.top) s s.made tt)
 
-    Z2_does : (w : Tagged) → At (Z2 w) → Does (step c m p (Z2 w))
-    Z2_does w s = cases Does (same m.top w) (wins (after_close m w) (ends (AnswerClose true)) (Close p)) (goes_on m Z1)
-        (λ won. adds (Z2 w) (ends (AnswerClose true)) (Close p) s refl (ap (λ (x : List (Event T)). Close p ∷ x) s.made) tt)
-        (λ lost. stays (Z2 w) Z1 s s.made tt)
+    mark_top_does : (w : Tagged) → At (MarkTop w) → Does (step c m p (MarkTop w))
+    mark_top_does w s = cases Does (same m.top w) (wins (after_close m w) (ends (AnswerClose true)) (Close p)) (goes_on m LoadTopToClose)
+        (λ won. adds (MarkTop w) (ends (AnswerClose true)) (Close p) s refl (ap (λ (x : List (Event T)). Close p ∷ x) s.made) tt)
+        (λ lost. stays (MarkTop w) LoadTopToClose s s.made tt)
 
-    Y1_does : At Y1 → Does (step c m p Y1)
-    Y1_does s = cases At m.top.second (ends (AnswerShut false)) (Y2 m.top) (λ e. stays Y1 (ends (AnswerShut false)) s s.made tt) (λ e. stays Y1 (Y2 m.top) s s.made tt)
+    load_top_to_shut_does : At LoadTopToShut → Does (step c m p LoadTopToShut)
+    load_top_to_shut_does s = cases At m.top.second (ends (AnswerShut false)) (ShutTop m.top) (λ e. stays LoadTopToShut (ends (AnswerShut false)) s s.made tt) (λ e. stays LoadTopToShut (ShutTop m.top) s s.made tt)
 
-    Y2_does : (w : Tagged) → At (Y2 w) → Does (step c m p (Y2 w))
-    Y2_does w s = cases Does (same m.top w) (wins (after_shut m w) (ends (AnswerShut true)) (Shut p)) (goes_on m Y1)
-        (λ won. adds (Y2 w) (ends (AnswerShut true)) (Shut p) s refl (ap (λ (x : List (Event T)). Shut p ∷ x) s.made) tt)
-        (λ lost. stays (Y2 w) Y1 s s.made tt)
+    shut_top_does : (w : Tagged) → At (ShutTop w) → Does (step c m p (ShutTop w))
+    shut_top_does w s = cases Does (same m.top w) (wins (after_shut m w) (ends (AnswerShut true)) (Shut p)) (goes_on m LoadTopToShut)
+        (λ won. adds (ShutTop w) (ends (AnswerShut true)) (Shut p) s refl (ap (λ (x : List (Event T)). Shut p ∷ x) s.made) tt)
+        (λ lost. stays (ShutTop w) LoadTopToShut s s.made tt)
 
     -- each step of a pass carries on what it has done
     pub step_does : (g : Lists) (l : Line T) → Reads c m h → IsFine limit m g l → At l → Does (step c m p l)
     step_does g (Idle a) r f s = s
-    step_does g (F1 put) r f s = F1_does put r s
-    step_does g (F2 put w) r f s = stays (F2 put w) (F3 put w (m.link w.index)) s s.made tt
-    step_does g (F3 put w k) r f s = F3_does put w k s
-    step_does g (F4 put) r f s = next_does put (F4 put) s s.made
-    step_does g (P1 put) r f s = P1_does put m.top f.some_node f.few s
-    step_does g (P2 put w) r f s = stays (P2 put w) (P3 put w) s s.made s.all
-    step_does g (P3 put w) r f s = P3_does put w f.0.some_node f.0.few s
-    step_does g (D1 values) r f s = D1_does values m.top s
-    step_does g (S1 taking) r f s = S1_does taking m.top s
-    step_does g (S2 w) r f s = stays (S2 w) (S3 w (m.link w.index)) s s.made tt
-    step_does g (S3 w k) r f s = S3_does w k s
-    step_does g (A1 d w) r f s = A1_does d w r s
-    step_does g (A2 give above i) r f s = stays (A2 give above i) (A3 give above i (m.link i)) s s.made s.all
-    step_does g (A3 give above i k) r f s = A3_does give above i k s
-    step_does g (A4 give i) r f s = A4_does give i s
-    step_does g (G1 give) r f s = stays (G1 give) (G2 give m.free) s s.made s.all
-    step_does g (G2 give w) r f s = stays (G2 give w) (G3 give w) s s.made s.all
-    step_does g (G3 give w) r f s = G3_does give w s
-    step_does g Z1 r f s = Z1_does s
-    step_does g (Z2 w) r f s = Z2_does w s
-    step_does g Y1 r f s = Y1_does s
-    step_does g (Y2 w) r f s = Y2_does w s
-    step_does g V1 r f s = stays V1 (ends (AnswerLook (eqb m.top.index NULL))) s s.made tt
+    step_does g (LoadFree put) r f s = load_free_does put r s
+    step_does g (LoadFreeLink put w) r f s = stays (LoadFreeLink put w) (TakeFree put w (m.link w.index)) s s.made tt
+    step_does g (TakeFree put w k) r f s = take_free_does put w k s
+    step_does g (LinkTaken put) r f s = next_does put (LinkTaken put) s s.made
+    step_does g (LoadTop put) r f s = load_top_does put m.top f.some_node f.few s
+    step_does g (LinkToTop put w) r f s = stays (LinkToTop put w) (SwapTop put w) s s.made s.all
+    step_does g (SwapTop put w) r f s = swap_top_does put w f.0.some_node f.0.few s
+    step_does g (LoadTopToRefuse values) r f s = load_top_to_refuse_does values m.top s
+    step_does g (LoadTopToTake taking) r f s = load_top_to_take_does taking m.top s
+    step_does g (LoadTopLink w) r f s = stays (LoadTopLink w) (TakeTop w (m.link w.index)) s s.made tt
+    step_does g (TakeTop w k) r f s = take_top_does w k s
+    step_does g (TakeChain d w) r f s = take_chain_does d w r s
+    step_does g (LoadLinkToTurn give above i) r f s = stays (LoadLinkToTurn give above i) (TurnLink give above i (m.link i)) s s.made s.all
+    step_does g (TurnLink give above i k) r f s = turn_link_does give above i k s
+    step_does g (LoadLinkToFold give i) r f s = load_link_to_fold_does give i s
+    step_does g (LoadFreeToGive give) r f s = stays (LoadFreeToGive give) (LinkToFree give m.free) s s.made s.all
+    step_does g (LinkToFree give w) r f s = stays (LinkToFree give w) (GiveBack give w) s s.made s.all
+    step_does g (GiveBack give w) r f s = give_back_does give w s
+    step_does g LoadTopToClose r f s = load_top_to_close_does s
+    step_does g (MarkTop w) r f s = mark_top_does w s
+    step_does g LoadTopToShut r f s = load_top_to_shut_does s
+    step_does g (ShutTop w) r f s = shut_top_does w s
+    step_does g LoadTopToLook r f s = stays LoadTopToLook (ends (AnswerLook (eqb m.top.index NULL))) s s.made tt

@@ -25,8 +25,8 @@ use Rattle.stack_machine.specs.declared.lines.Taking.TheVariants.{One, Whole}
 use Rattle.stack_machine.specs.declared.lines.Answer.{Answer}
 use Rattle.stack_machine.specs.declared.lines.Answer.TheVariants.{Put as AnswerPut, Take as AnswerTake, Fold as AnswerFold, Close as AnswerClose, Shut as AnswerShut, Look as AnswerLook}
 use Rattle.stack_machine.specs.declared.lines.Line.{Line}
-use Rattle.stack_machine.specs.declared.lines.Line.TheVariants.{Idle, F1, F2, F3, F4, P1, P2, P3, D1, S1, S2, S3, A1, A2, A3, A4, G1, G2, G3, Z1, Z2, Y1, Y2, V1}
-use Rattle.stack_machine.specs.Machine.{Memory, Outcome, placed, unplaced, with_node, ends, gives, next_node, no_node, at_F1, at_P1, at_D1, at_S1, refuses, takes, at_F3, at_A1, goes_on, wins, wins_value, wins_chain, step, after_hold, after_give, after_put, after_close, after_shut}
+use Rattle.stack_machine.specs.declared.lines.Line.TheVariants.{Idle, LoadFree, LoadFreeLink, TakeFree, LinkTaken, LoadTop, LinkToTop, SwapTop, LoadTopToRefuse, LoadTopToTake, LoadTopLink, TakeTop, TakeChain, LoadLinkToTurn, TurnLink, LoadLinkToFold, LoadFreeToGive, LinkToFree, GiveBack, LoadTopToClose, MarkTop, LoadTopToShut, ShutTop, LoadTopToLook}
+use Rattle.stack_machine.specs.Machine.{Memory, Outcome, placed, unplaced, with_node, ends, gives, next_node, no_node, at_load_free, at_load_top, at_load_top_to_refuse, at_load_top_to_take, refuses, takes, at_take_free, at_take_chain, goes_on, wins, wins_value, wins_chain, step, after_hold, after_give, after_put, after_close, after_shut}
 use Rattle.machine.specs.Chains.{chain_from, values_in}
 use Rattle.stack_machine.specs.Answers.{shape, IsRight}
 use Rattle.stack_machine.specs.Rule.{Lists, Tells, Good}
@@ -54,35 +54,35 @@ module _ {T : Type 0} where
     since = Later-trans before now
 
     no_node_tells : (put : Putting T) (refused : Line T) → Tells n limit begun history refused → Tells n limit begun history (no_node put refused)
-    no_node_tells put refused t = cases (Tells n limit begun history) (eqb (length put.chain) 0) refused (P1 put) (λ h. t) (λ h. tt)
+    no_node_tells put refused t = cases (Tells n limit begun history) (eqb (length put.chain) 0) refused (LoadTop put) (λ h. t) (λ h. tt)
 
     next_node_tells : (newer : List (Event T)) (put : Putting T) → Tells n limit begun newer (next_node put)
-    next_node_tells newer put = cases (Tells n limit begun newer) (ltb (length put.chain) (length put.values)) (F1 put) (P1 put) (λ h. tt) (λ h. tt)
+    next_node_tells newer put = cases (Tells n limit begun newer) (ltb (length put.chain) (length put.values)) (LoadFree put) (LoadTop put) (λ h. tt) (λ h. tt)
 
-    at_F3_tells : (newer : List (Event T)) (put : Putting T) (w : Tagged) → Tells n limit begun newer (at_F3 put w)
-    at_F3_tells newer put w = cases (Tells n limit begun newer) (eqb (length put.chain) 0) (next_node (with_node put w.index)) (F4 (with_node put w.index)) (λ h. next_node_tells newer (with_node put w.index)) (λ h. tt)
+    at_take_free_tells : (newer : List (Event T)) (put : Putting T) (w : Tagged) → Tells n limit begun newer (at_take_free put w)
+    at_take_free_tells newer put w = cases (Tells n limit begun newer) (eqb (length put.chain) 0) (next_node (with_node put w.index)) (LinkTaken (with_node put w.index)) (λ h. next_node_tells newer (with_node put w.index)) (λ h. tt)
 
-    F1_tells : (put : Putting T) → Tells n limit begun history (at_F1 limit put m.free)
-    F1_tells put =
+    load_free_tells : (put : Putting T) → Tells n limit begun history (at_load_free limit put m.free)
+    load_free_tells put =
         let refused : Line T = ends (AnswerPut (Err (PutSpent put.values FreeWord m.free.tag))) in
-        cases (Tells n limit begun history) (eqb m.free.index NULL) (no_node put (D1 put.values)) (cond (leb limit m.free.tag) (no_node put refused) (F2 put m.free))
-        (λ h. no_node_tells put (D1 put.values) (Sometime-now since (full_now x (eqb-true m.free.index NULL h))))
-        (λ h. cases (Tells n limit begun history) (leb limit m.free.tag) (no_node put refused) (F2 put m.free)
+        cases (Tells n limit begun history) (eqb m.free.index NULL) (no_node put (LoadTopToRefuse put.values)) (cond (leb limit m.free.tag) (no_node put refused) (LoadFreeLink put m.free))
+        (λ h. no_node_tells put (LoadTopToRefuse put.values) (Sometime-now since (full_now x (eqb-true m.free.index NULL h))))
+        (λ h. cases (Tells n limit begun history) (leb limit m.free.tag) (no_node put refused) (LoadFreeLink put m.free)
         (λ h'. no_node_tells put refused (Sometime-now since (free_spent_now x (grind (arith, nat_tests)))))
         (λ h'. tt))
 
-    P1_tells : (put : Putting T) → Tells n limit begun history (at_P1 limit put m.top)
-    P1_tells put =
+    load_top_tells : (put : Putting T) → Tells n limit begun history (at_load_top limit put m.top)
+    load_top_tells put =
         let closed : Line T = gives put.chain (AnswerPut (Err (PutClosed put.values))) in
         let spent : Line T = gives put.chain (AnswerPut (Err (PutSpent put.values TopWord m.top.tag))) in
-        cases (Tells n limit begun history) m.top.mark closed (cond (leb limit m.top.tag) spent (P2 put m.top))
+        cases (Tells n limit begun history) m.top.mark closed (cond (leb limit m.top.tag) spent (LinkToTop put m.top))
         (λ h. Sometime-now since (closed_now x h))
-        (λ h. cases (Tells n limit begun history) (leb limit m.top.tag) spent (P2 put m.top)
+        (λ h. cases (Tells n limit begun history) (leb limit m.top.tag) spent (LinkToTop put m.top)
         (λ h'. Sometime-now since (top_spent_now x (grind (arith, nat_tests))))
         (λ h'. tt))
 
-    D1_tells : (values : List T) → Sometime begun seen (IsFull (shape n limit)) → Tells n limit begun history (at_D1 limit values m.top)
-    D1_tells values t =
+    load_top_to_refuse_tells : (values : List T) → Sometime begun seen (IsFull (shape n limit)) → Tells n limit begun history (at_load_top_to_refuse limit values m.top)
+    load_top_to_refuse_tells values t =
         let closed : Line T = ends (AnswerPut (Err (PutClosed values))) in
         let spent : Line T = ends (AnswerPut (Err (PutSpent values TopWord m.top.tag))) in
         let full : Line T = ends (AnswerPut (Err (PutFull values))) in
@@ -107,8 +107,8 @@ module _ {T : Type 0} where
         (λ h. Sometime-now since (empty_now x e, closed_now x h, unshut_now x unshut))
         (λ h. Sometime-now since (empty_now x e, open_now x h, unshut_now x unshut))
 
-    S1_tells : (taking : Taking) → Tells n limit begun history (at_S1 limit taking m.top)
-    S1_tells taking =
+    load_top_to_take_tells : (taking : Taking) → Tells n limit begun history (at_load_top_to_take limit taking m.top)
+    load_top_to_take_tells taking =
         let none_there : Line T = refuses taking (cond m.top.mark TakeClosed TakeEmpty) in
         let spent : Line T = refuses taking (TakeSpent TopWord m.top.tag) in
         cases (Tells n limit begun history) m.top.second (refuses taking TakeShut) (cond (eqb m.top.index NULL) none_there (cond (leb limit m.top.tag) spent (takes taking m.top)))
@@ -124,7 +124,7 @@ module _ {T : Type 0} where
     value_tells w k (some None) = tt
     value_tells w k (some (Some v)) = tt
 
-    chain_tells : (newer : List (Event T)) (d : Direction) (w : Tagged) (chain : List ℕ) (values : List T) → Tells n limit begun newer (at_A1 d w chain values)
+    chain_tells : (newer : List (Event T)) (d : Direction) (w : Tagged) (chain : List ℕ) (values : List T) → Tells n limit begun newer (at_take_chain d w chain values)
     chain_tells newer Down w chain values = tt
     chain_tells newer Up w chain values = tt
 
@@ -139,39 +139,39 @@ module _ {T : Type 0} where
     pub tells_kept : (l : Line T) → Tells n limit begun seen l → let o = step (shape n limit) m p l in Tells n limit begun (o.events ++ history) o.line
     tells_kept (Idle None) t = tt
     tells_kept (Idle (Some a)) t = right_wider n limit begun seen history a now t
-    tells_kept (F1 put) t = F1_tells put
-    tells_kept (F2 put w) t = tt
-    tells_kept (F3 put w k) t = cases Told (same m.free w) (wins (after_hold m w k) (at_F3 put w) (Hold p)) (goes_on m (F1 put)) (λ h. at_F3_tells (Hold p ∷ history) put w) (λ h. tt)
-    tells_kept (F4 put) t = next_node_tells history put
-    tells_kept (P1 put) t = P1_tells put
-    tells_kept (P2 put w) t = tt
-    tells_kept (P3 put w) t = cases Told (same m.top w) (wins (after_put m w put) (ends (AnswerPut (Ok (w.tag, unplaced put)))) (Put p (placed put) w.tag)) (goes_on m (P1 put)) (λ h. tt) (λ h. tt)
-    tells_kept (D1 values) t = D1_tells values t
-    tells_kept (S1 taking) t = S1_tells taking
-    tells_kept (S2 w) t = tt
-    tells_kept (S3 w k) t = cases Told (same m.top w) (wins_value m p w k (m.home w.index)) (goes_on m (S1 One)) (λ h. value_tells w k (m.home w.index)) (λ h. tt)
-    tells_kept (A1 d w) t =
+    tells_kept (LoadFree put) t = load_free_tells put
+    tells_kept (LoadFreeLink put w) t = tt
+    tells_kept (TakeFree put w k) t = cases Told (same m.free w) (wins (after_hold m w k) (at_take_free put w) (Hold p)) (goes_on m (LoadFree put)) (λ h. at_take_free_tells (Hold p ∷ history) put w) (λ h. tt)
+    tells_kept (LinkTaken put) t = next_node_tells history put
+    tells_kept (LoadTop put) t = load_top_tells put
+    tells_kept (LinkToTop put w) t = tt
+    tells_kept (SwapTop put w) t = cases Told (same m.top w) (wins (after_put m w put) (ends (AnswerPut (Ok (w.tag, unplaced put)))) (Put p (placed put) w.tag)) (goes_on m (LoadTop put)) (λ h. tt) (λ h. tt)
+    tells_kept (LoadTopToRefuse values) t = load_top_to_refuse_tells values t
+    tells_kept (LoadTopToTake taking) t = load_top_to_take_tells taking
+    tells_kept (LoadTopLink w) t = tt
+    tells_kept (TakeTop w k) t = cases Told (same m.top w) (wins_value m p w k (m.home w.index)) (goes_on m (LoadTopToTake One)) (λ h. value_tells w k (m.home w.index)) (λ h. tt)
+    tells_kept (TakeChain d w) t =
         let chain = chain_from n m.link w.index in
-        cases Told (same m.top w) (wins_chain m p d w chain) (goes_on m (S1 (Whole d))) (λ h. chain_tells (TakeAll p (values_in m.home chain) w.tag ∷ history) d w chain (values_in m.home chain)) (λ h. tt)
-    tells_kept (A2 give lowest i) t = right_wider n limit begun seen history give.answer now t
-    tells_kept (A3 give lowest i k) t =
+        cases Told (same m.top w) (wins_chain m p d w chain) (goes_on m (LoadTopToTake (Whole d))) (λ h. chain_tells (TakeAll p (values_in m.home chain) w.tag ∷ history) d w chain (values_in m.home chain)) (λ h. tt)
+    tells_kept (LoadLinkToTurn give lowest i) t = right_wider n limit begun seen history give.answer now t
+    tells_kept (TurnLink give lowest i k) t =
         let r = right_wider n limit begun seen history give.answer now t in
-        cases (Tells n limit begun history) (eqb k NULL) (A4 (record give { chain = reverse give.chain }) i) (A2 give i k) (λ h. r) (λ h. r)
-    tells_kept (A4 give i) t =
+        cases (Tells n limit begun history) (eqb k NULL) (LoadLinkToFold (record give { chain = reverse give.chain }) i) (LoadLinkToTurn give i k) (λ h. r) (λ h. r)
+    tells_kept (LoadLinkToFold give i) t =
         let r = right_wider n limit begun seen history give.answer now t in
-        cases (Tells n limit begun history) (eqb (m.link i) NULL) (G1 give) (A4 give (m.link i)) (λ h. r) (λ h. r)
-    tells_kept (G1 give) t = right_wider n limit begun seen history give.answer now t
-    tells_kept (G2 give w) t = right_wider n limit begun seen history give.answer now t
-    tells_kept (G3 give w) t =
+        cases (Tells n limit begun history) (eqb (m.link i) NULL) (LoadFreeToGive give) (LoadLinkToFold give (m.link i)) (λ h. r) (λ h. r)
+    tells_kept (LoadFreeToGive give) t = right_wider n limit begun seen history give.answer now t
+    tells_kept (LinkToFree give w) t = right_wider n limit begun seen history give.answer now t
+    tells_kept (GiveBack give w) t =
         let freed : Event T = Free p (length give.chain) in
-        cases Told (same m.free w) (wins (after_give m w give.chain) (ends give.answer) freed) (goes_on m (G1 give))
+        cases Told (same m.free w) (wins (after_give m w give.chain) (ends give.answer) freed) (goes_on m (LoadFreeToGive give))
         (λ h. right_wider n limit begun seen (freed ∷ history) give.answer (Later-trans now (Later-cons freed history)) t)
         (λ h. right_wider n limit begun seen history give.answer now t)
-    tells_kept Z1 t = cases (Tells n limit begun history) m.top.mark (ends (AnswerClose false)) (Z2 m.top) (λ h. Sometime-now since (closed_now x h)) (λ h. tt)
-    tells_kept (Z2 w) t = cases Told (same m.top w) (wins (after_close m w) (ends (AnswerClose true)) (Close p)) (goes_on m Z1) (λ h. tt) (λ h. tt)
-    tells_kept Y1 t = cases (Tells n limit begun history) m.top.second (ends (AnswerShut false)) (Y2 m.top) (λ h. Sometime-now since (shut_now x h)) (λ h. tt)
-    tells_kept (Y2 w) t = cases Told (same m.top w) (wins (after_shut m w) (ends (AnswerShut true)) (Shut p)) (goes_on m Y1) (λ h. tt) (λ h. tt)
-    tells_kept V1 t = look_tells (eqb m.top.index NULL) refl
+    tells_kept LoadTopToClose t = cases (Tells n limit begun history) m.top.mark (ends (AnswerClose false)) (MarkTop m.top) (λ h. Sometime-now since (closed_now x h)) (λ h. tt)
+    tells_kept (MarkTop w) t = cases Told (same m.top w) (wins (after_close m w) (ends (AnswerClose true)) (Close p)) (goes_on m LoadTopToClose) (λ h. tt) (λ h. tt)
+    tells_kept LoadTopToShut t = cases (Tells n limit begun history) m.top.second (ends (AnswerShut false)) (ShutTop m.top) (λ h. Sometime-now since (shut_now x h)) (λ h. tt)
+    tells_kept (ShutTop w) t = cases Told (same m.top w) (wins (after_shut m w) (ends (AnswerShut true)) (Shut p)) (goes_on m LoadTopToShut) (λ h. tt) (λ h. tt)
+    tells_kept LoadTopToLook t = look_tells (eqb m.top.index NULL) refl
 
 -- each event of a step is of the pass that makes it
 module _ {T : Type 0} (c : Shape) (m : Memory T) (p q : ℕ) (other : q ≢ p) (history : List (Event T)) where
@@ -185,33 +185,33 @@ module _ {T : Type 0} (c : Shape) (m : Memory T) (p q : ℕ) (other : q ≢ p) (
 
   pub step_apart : (l : Line T) → own q ((step c m p l).events ++ history) ≡ own q history
   step_apart (Idle a) = refl
-  step_apart (F1 put) = refl
-  step_apart (F2 put w) = refl
-  step_apart (F3 put w k) = cases Apart (same m.free w) (wins (after_hold m w k) (at_F3 put w) (Hold p)) (goes_on m (F1 put)) (λ h. own-other q (Hold p) history (λ e. other (sym e))) (λ h. refl)
-  step_apart (F4 put) = refl
-  step_apart (P1 put) = refl
-  step_apart (P2 put w) = refl
-  step_apart (P3 put w) =
+  step_apart (LoadFree put) = refl
+  step_apart (LoadFreeLink put w) = refl
+  step_apart (TakeFree put w k) = cases Apart (same m.free w) (wins (after_hold m w k) (at_take_free put w) (Hold p)) (goes_on m (LoadFree put)) (λ h. own-other q (Hold p) history (λ e. other (sym e))) (λ h. refl)
+  step_apart (LinkTaken put) = refl
+  step_apart (LoadTop put) = refl
+  step_apart (LinkToTop put w) = refl
+  step_apart (SwapTop put w) =
       let put_now : Event T = Put p (placed put) w.tag in
-      cases Apart (same m.top w) (wins (after_put m w put) (ends (AnswerPut (Ok (w.tag, unplaced put)))) put_now) (goes_on m (P1 put)) (λ h. own-other q put_now history (λ e. other (sym e))) (λ h. refl)
-  step_apart (D1 values) = refl
-  step_apart (S1 taking) = refl
-  step_apart (S2 w) = refl
-  step_apart (S3 w k) = cases Apart (same m.top w) (wins_value m p w k (m.home w.index)) (goes_on m (S1 One)) (λ h. value_apart w k (m.home w.index)) (λ h. refl)
-  step_apart (A1 d w) =
+      cases Apart (same m.top w) (wins (after_put m w put) (ends (AnswerPut (Ok (w.tag, unplaced put)))) put_now) (goes_on m (LoadTop put)) (λ h. own-other q put_now history (λ e. other (sym e))) (λ h. refl)
+  step_apart (LoadTopToRefuse values) = refl
+  step_apart (LoadTopToTake taking) = refl
+  step_apart (LoadTopLink w) = refl
+  step_apart (TakeTop w k) = cases Apart (same m.top w) (wins_value m p w k (m.home w.index)) (goes_on m (LoadTopToTake One)) (λ h. value_apart w k (m.home w.index)) (λ h. refl)
+  step_apart (TakeChain d w) =
       let chain = chain_from c.capacity m.link w.index in
       let all : Event T = TakeAll p (values_in m.home chain) w.tag in
-      cases Apart (same m.top w) (wins_chain m p d w chain) (goes_on m (S1 (Whole d))) (λ h. own-other q all history (λ e. other (sym e))) (λ h. refl)
-  step_apart (A2 give lowest i) = refl
-  step_apart (A3 give lowest i k) = refl
-  step_apart (A4 give i) = refl
-  step_apart (G1 give) = refl
-  step_apart (G2 give w) = refl
-  step_apart (G3 give w) =
+      cases Apart (same m.top w) (wins_chain m p d w chain) (goes_on m (LoadTopToTake (Whole d))) (λ h. own-other q all history (λ e. other (sym e))) (λ h. refl)
+  step_apart (LoadLinkToTurn give lowest i) = refl
+  step_apart (TurnLink give lowest i k) = refl
+  step_apart (LoadLinkToFold give i) = refl
+  step_apart (LoadFreeToGive give) = refl
+  step_apart (LinkToFree give w) = refl
+  step_apart (GiveBack give w) =
       let freed : Event T = Free p (length give.chain) in
-      cases Apart (same m.free w) (wins (after_give m w give.chain) (ends give.answer) freed) (goes_on m (G1 give)) (λ h. own-other q freed history (λ e. other (sym e))) (λ h. refl)
-  step_apart Z1 = refl
-  step_apart (Z2 w) = cases Apart (same m.top w) (wins (after_close m w) (ends (AnswerClose true)) (Close p)) (goes_on m Z1) (λ h. own-other q (Close p) history (λ e. other (sym e))) (λ h. refl)
-  step_apart Y1 = refl
-  step_apart (Y2 w) = cases Apart (same m.top w) (wins (after_shut m w) (ends (AnswerShut true)) (Shut p)) (goes_on m Y1) (λ h. own-other q (Shut p) history (λ e. other (sym e))) (λ h. refl)
-  step_apart V1 = refl
+      cases Apart (same m.free w) (wins (after_give m w give.chain) (ends give.answer) freed) (goes_on m (LoadFreeToGive give)) (λ h. own-other q freed history (λ e. other (sym e))) (λ h. refl)
+  step_apart LoadTopToClose = refl
+  step_apart (MarkTop w) = cases Apart (same m.top w) (wins (after_close m w) (ends (AnswerClose true)) (Close p)) (goes_on m LoadTopToClose) (λ h. own-other q (Close p) history (λ e. other (sym e))) (λ h. refl)
+  step_apart LoadTopToShut = refl
+  step_apart (ShutTop w) = cases Apart (same m.top w) (wins (after_shut m w) (ends (AnswerShut true)) (Shut p)) (goes_on m LoadTopToShut) (λ h. own-other q (Shut p) history (λ e. other (sym e))) (λ h. refl)
+  step_apart LoadTopToLook = refl

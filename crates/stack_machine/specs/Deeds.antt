@@ -5,15 +5,16 @@ use Rattle.bounded_model.specs.declared.answers.PutRefused.{PutRefused}
 use Rattle.bounded_model.specs.declared.answers.PutRefused.TheVariants.{Full, Closed, Spent}
 use Rattle.bounded_model.specs.declared.history.Event.{Event}
 use Rattle.bounded_model.specs.declared.history.Event.TheVariants.{Put, Take, TakeAll, Free, Close, Shut}
-use Rattle.bounded_model.specs.Machine.{Shape, state}
+use Rattle.bounded_model.specs.Machine.{Shape}
 use Rattle.bounded_model.specs.Histories.{own}
-use Rattle.bounded_model.specs.Justified.{Sometime, IsFull}
+use Rattle.bounded_model.specs.Justified.{Sometime}
+use Rattle.bounded_model.specs.Bulk.{HasNoCell}
 use Rattle.bounded_model.specs.Laws.{holds_of, gave_back}
 use Rattle.stack_machine.specs.declared.lines.Putting.{Putting}
 use Rattle.stack_machine.specs.declared.lines.Answer.{Answer}
 use Rattle.stack_machine.specs.declared.lines.Answer.TheVariants.{Put as AnswerPut, Take as AnswerTake, Fold as AnswerFold, Close as AnswerClose, Shut as AnswerShut, Look as AnswerLook}
 use Rattle.stack_machine.specs.declared.lines.Line.{Line}
-use Rattle.stack_machine.specs.declared.lines.Line.TheVariants.{Idle, F1, F2, F3, F4, P1, P2, P3, A2, A3, A4, G1, G2, G3}
+use Rattle.stack_machine.specs.declared.lines.Line.TheVariants.{Idle, LoadFree, LoadFreeLink, TakeFree, LinkTaken, LoadTop, LinkToTop, SwapTop, LoadLinkToTurn, TurnLink, LoadLinkToFold, LoadFreeToGive, LinkToFree, GiveBack}
 
 -- What pass p has done. Its own events are given, the newest first
 
@@ -60,48 +61,44 @@ module _ {T : Type 0} where
   -- these are the events so far of an operation that is at a line
   abbrev pub HasMade : ℕ → Line T → List (Event T) → Type 0
   HasMade p (Idle (Some a)) events = Makes p a events
-  HasMade p (F1 put) events = events ≡ holds_of p (length put.chain)
-  HasMade p (F2 put w) events = events ≡ holds_of p (length put.chain)
-  HasMade p (F3 put w k) events = events ≡ holds_of p (length put.chain)
-  HasMade p (F4 put) events = events ≡ holds_of p (length put.chain)
-  HasMade p (P1 put) events = events ≡ holds_of p (length put.chain)
-  HasMade p (P2 put w) events = events ≡ holds_of p (length put.chain)
-  HasMade p (P3 put w) events = events ≡ holds_of p (length put.chain)
-  HasMade p (A2 give above i) events = Makes p give.answer (Free p (length give.chain) ∷ events)
-  HasMade p (A3 give above i k) events = Makes p give.answer (Free p (length give.chain) ∷ events)
-  HasMade p (A4 give i) events = Makes p give.answer (Free p (length give.chain) ∷ events)
-  HasMade p (G1 give) events = Makes p give.answer (Free p (length give.chain) ∷ events)
-  HasMade p (G2 give w) events = Makes p give.answer (Free p (length give.chain) ∷ events)
-  HasMade p (G3 give w) events = Makes p give.answer (Free p (length give.chain) ∷ events)
+  HasMade p (LoadFree put) events = events ≡ holds_of p (length put.chain)
+  HasMade p (LoadFreeLink put w) events = events ≡ holds_of p (length put.chain)
+  HasMade p (TakeFree put w k) events = events ≡ holds_of p (length put.chain)
+  HasMade p (LinkTaken put) events = events ≡ holds_of p (length put.chain)
+  HasMade p (LoadTop put) events = events ≡ holds_of p (length put.chain)
+  HasMade p (LinkToTop put w) events = events ≡ holds_of p (length put.chain)
+  HasMade p (SwapTop put w) events = events ≡ holds_of p (length put.chain)
+  HasMade p (LoadLinkToTurn give above i) events = Makes p give.answer (Free p (length give.chain) ∷ events)
+  HasMade p (TurnLink give above i k) events = Makes p give.answer (Free p (length give.chain) ∷ events)
+  HasMade p (LoadLinkToFold give i) events = Makes p give.answer (Free p (length give.chain) ∷ events)
+  HasMade p (LoadFreeToGive give) events = Makes p give.answer (Free p (length give.chain) ∷ events)
+  HasMade p (LinkToFree give w) events = Makes p give.answer (Free p (length give.chain) ∷ events)
+  HasMade p (GiveBack give w) events = Makes p give.answer (Free p (length give.chain) ∷ events)
   HasMade p l events = events ≡ []
 
 -- A range leaves values out only where no node could be had. The histories are those that the pass
 -- had seen as its operation was begun, and has seen by now
 
 module _ {T : Type 0} where
-  -- no node is free, or none can be taken any more
-  abbrev pub HasNoNode : Shape → List (Event T) → Type 0
-  HasNoNode c h = IsFull c h ⊎ ((state c h).holds ≡ c.limit)
-
   -- a put goes to the top with all its values, or no further node could be had
   abbrev pub HasAll : Shape → List (Event T) → List (Event T) → Putting T → Type 0
-  HasAll c begun seen put = (length put.values ≤ length put.chain) ⊎ Sometime begun seen (HasNoNode c)
+  HasAll c begun seen put = (length put.values ≤ length put.chain) ⊎ Sometime begun seen (HasNoCell c)
 
   abbrev pub PutsAll : Shape → List (Event T) → List (Event T) → Answer T → Type 0
-  PutsAll c begun seen (AnswerPut (Ok r)) = (r.1 ≡ []) ⊎ Sometime begun seen (HasNoNode c)
+  PutsAll c begun seen (AnswerPut (Ok r)) = (r.1 ≡ []) ⊎ Sometime begun seen (HasNoCell c)
   PutsAll c begun seen a = Unit {0}
 
   abbrev pub IsAll : Shape → List (Event T) → List (Event T) → Line T → Type 0
   IsAll c begun seen (Idle (Some a)) = PutsAll c begun seen a
-  IsAll c begun seen (P1 put) = HasAll c begun seen put
-  IsAll c begun seen (P2 put w) = HasAll c begun seen put
-  IsAll c begun seen (P3 put w) = HasAll c begun seen put
-  IsAll c begun seen (A2 give above i) = PutsAll c begun seen give.answer
-  IsAll c begun seen (A3 give above i k) = PutsAll c begun seen give.answer
-  IsAll c begun seen (A4 give i) = PutsAll c begun seen give.answer
-  IsAll c begun seen (G1 give) = PutsAll c begun seen give.answer
-  IsAll c begun seen (G2 give w) = PutsAll c begun seen give.answer
-  IsAll c begun seen (G3 give w) = PutsAll c begun seen give.answer
+  IsAll c begun seen (LoadTop put) = HasAll c begun seen put
+  IsAll c begun seen (LinkToTop put w) = HasAll c begun seen put
+  IsAll c begun seen (SwapTop put w) = HasAll c begun seen put
+  IsAll c begun seen (LoadLinkToTurn give above i) = PutsAll c begun seen give.answer
+  IsAll c begun seen (TurnLink give above i k) = PutsAll c begun seen give.answer
+  IsAll c begun seen (LoadLinkToFold give i) = PutsAll c begun seen give.answer
+  IsAll c begun seen (LoadFreeToGive give) = PutsAll c begun seen give.answer
+  IsAll c begun seen (LinkToFree give w) = PutsAll c begun seen give.answer
+  IsAll c begun seen (GiveBack give w) = PutsAll c begun seen give.answer
   IsAll c begun seen l = Unit {0}
 
 -- what pass p has done by the time it is at a line

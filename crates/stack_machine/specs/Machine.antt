@@ -21,7 +21,7 @@ use Rattle.stack_machine.specs.declared.lines.Answer.TheVariants.{Put as AnswerP
 use Rattle.machine.specs.Chains.{first, last, second, chain_from, with_home, away, filled, emptied, values_in}
 use Rattle.stack_machine.specs.declared.lines.Giving.{Giving}
 use Rattle.stack_machine.specs.declared.lines.Line.{Line}
-use Rattle.stack_machine.specs.declared.lines.Line.TheVariants.{Idle, F1, F2, F3, F4, P1, P2, P3, D1, S1, S2, S3, A1, A2, A3, A4, G1, G2, G3, Z1, Z2, Y1, Y2, V1}
+use Rattle.stack_machine.specs.declared.lines.Line.TheVariants.{Idle, LoadFree, LoadFreeLink, TakeFree, LinkTaken, LoadTop, LinkToTop, SwapTop, LoadTopToRefuse, LoadTopToTake, LoadTopLink, TakeTop, TakeChain, LoadLinkToTurn, TurnLink, LoadLinkToFold, LoadFreeToGive, LinkToFree, GiveBack, LoadTopToClose, MarkTop, LoadTopToShut, ShutTop, LoadTopToLook}
 use Rattle.stack_machine.specs.declared.lines.Call.{Call}
 use Rattle.stack_machine.specs.declared.lines.Call.TheVariants.{Put as CallPut, Take as CallTake, Close as CallClose, Shut as CallShut, Look as CallLook}
 
@@ -78,33 +78,33 @@ module _ {T : Type 0} where
   ends a = Idle (Some a)
 
   abbrev pub gives : List ℕ → Answer T → Line T
-  gives chain a = G1 (record { chain = chain; answer = a })
+  gives chain a = LoadFreeToGive (record { chain = chain; answer = a })
 
   -- every value has a node, or the next one wants one
   abbrev pub next_node : Putting T → Line T
-  next_node put = if ltb (length put.chain) (length put.values) then F1 put else P1 put
+  next_node put = if ltb (length put.chain) (length put.values) then LoadFree put else LoadTop put
 
   -- no node can be had: what is in hand is put, and with nothing in hand the put is refused
   abbrev pub no_node : Putting T → Line T → Line T
-  no_node put refused = if length put.chain == 0 then refused else P1 put
+  no_node put refused = if length put.chain == 0 then refused else LoadTop put
 
-  abbrev pub at_F1 : ℕ → Putting T → Tagged → Line T
-  at_F1 limit put w =
-      if w.index == NULL then no_node put (D1 put.values)
+  abbrev pub at_load_free : ℕ → Putting T → Tagged → Line T
+  at_load_free limit put w =
+      if w.index == NULL then no_node put (LoadTopToRefuse put.values)
       else if leb limit w.tag then no_node put (ends (AnswerPut (Err (PutSpent put.values FreeWord w.tag))))
-      else F2 put w
+      else LoadFreeLink put w
 
-  abbrev pub at_F3 : Putting T → Tagged → Line T
-  at_F3 put w = if length put.chain == 0 then next_node (with_node put w.index) else F4 (with_node put w.index)
+  abbrev pub at_take_free : Putting T → Tagged → Line T
+  at_take_free put w = if length put.chain == 0 then next_node (with_node put w.index) else LinkTaken (with_node put w.index)
 
-  abbrev pub at_P1 : ℕ → Putting T → Tagged → Line T
-  at_P1 limit put w =
+  abbrev pub at_load_top : ℕ → Putting T → Tagged → Line T
+  at_load_top limit put w =
       if w.mark then gives put.chain (AnswerPut (Err (PutClosed put.values)))
       else if leb limit w.tag then gives put.chain (AnswerPut (Err (PutSpent put.values TopWord w.tag)))
-      else P2 put w
+      else LinkToTop put w
 
-  abbrev pub at_D1 : ℕ → List T → Tagged → Line T
-  at_D1 limit values w =
+  abbrev pub at_load_top_to_refuse : ℕ → List T → Tagged → Line T
+  at_load_top_to_refuse limit values w =
       if w.mark then ends (AnswerPut (Err (PutClosed values)))
       else if leb limit w.tag then ends (AnswerPut (Err (PutSpent values TopWord w.tag)))
       else ends (AnswerPut (Err (PutFull values)))
@@ -114,33 +114,33 @@ module _ {T : Type 0} where
   refuses (Whole d) why = ends (AnswerFold (Err why))
 
   abbrev pub takes : Taking → Tagged → Line T
-  takes One w = S2 w
-  takes (Whole d) w = A1 d w
+  takes One w = LoadTopLink w
+  takes (Whole d) w = TakeChain d w
 
-  abbrev pub at_S1 : ℕ → Taking → Tagged → Line T
-  at_S1 limit taking w =
+  abbrev pub at_load_top_to_take : ℕ → Taking → Tagged → Line T
+  at_load_top_to_take limit taking w =
       if w.second then refuses taking TakeShut
       else if w.index == NULL then refuses taking (if w.mark then TakeClosed else TakeEmpty)
       else if leb limit w.tag then refuses taking (TakeSpent TopWord w.tag)
       else takes taking w
 
   -- the chain of w is in hand, with these values from the top down
-  abbrev pub at_A1 : Direction → Tagged → List ℕ → List T → Line T
-  at_A1 Down w chain values = A4 (record { chain = chain; answer = AnswerFold (Ok (values, w.tag)) }) w.index
-  at_A1 Up w chain values = A2 (record { chain = chain; answer = AnswerFold (Ok (reverse values, w.tag)) }) NULL w.index
+  abbrev pub at_take_chain : Direction → Tagged → List ℕ → List T → Line T
+  at_take_chain Down w chain values = LoadLinkToFold (record { chain = chain; answer = AnswerFold (Ok (values, w.tag)) }) w.index
+  at_take_chain Up w chain values = LoadLinkToTurn (record { chain = chain; answer = AnswerFold (Ok (reverse values, w.tag)) }) NULL w.index
 
   -- node i was linked to its upper neighbour, and k is the lower one
-  abbrev pub at_R2 : Giving T → ℕ → ℕ → Line T
-  at_R2 give i k = if k == NULL then A4 (record give { chain = reverse give.chain }) i else A2 give i k
+  abbrev pub at_turn_link : Giving T → ℕ → ℕ → Line T
+  at_turn_link give i k = if k == NULL then LoadLinkToFold (record give { chain = reverse give.chain }) i else LoadLinkToTurn give i k
 
-  abbrev pub at_W1 : Giving T → ℕ → Line T
-  at_W1 give k = if k == NULL then G1 give else A4 give k
+  abbrev pub at_load_link_to_fold : Giving T → ℕ → Line T
+  at_load_link_to_fold give k = if k == NULL then LoadFreeToGive give else LoadLinkToFold give k
 
-  abbrev pub at_Z1 : Tagged → Line T
-  at_Z1 w = if w.mark then ends (AnswerClose false) else Z2 w
+  abbrev pub at_load_top_to_close : Tagged → Line T
+  at_load_top_to_close w = if w.mark then ends (AnswerClose false) else MarkTop w
 
-  abbrev pub at_Y1 : Tagged → Line T
-  at_Y1 w = if w.second then ends (AnswerShut false) else Y2 w
+  abbrev pub at_load_top_to_shut : Tagged → Line T
+  at_load_top_to_shut w = if w.second then ends (AnswerShut false) else ShutTop w
 
 -- What one step does: it leaves this memory, the pass goes on at this line, and the history grows by
 -- these events, of which there is one or none
@@ -156,71 +156,71 @@ module _ {T : Type 0} where
   abbrev pub wins : Memory T → Line T → Event T → Outcome T
   wins m l e = record { memory = m; line = l; events = e ∷ [] }
 
-  -- the exchange of S3 is won: the node's value goes with it. There always is one; a pass that found
+  -- the exchange of TakeTop is won: the node's value goes with it. There always is one; a pass that found
   -- none would stop here without an answer
   abbrev pub wins_value : Memory T → ℕ → Tagged → ℕ → Option (Slot T) → Outcome T
   wins_value m p w k none = goes_on m (Idle None)
   wins_value m p w k (some None) = goes_on m (Idle None)
   wins_value m p w k (some (Some v)) = wins (after_take m w k) (gives (w.index ∷ []) (AnswerTake (Ok (v, w.tag)))) (Take p v w.tag)
 
-  -- the exchange of A1 is won
+  -- the exchange of TakeChain is won
   abbrev pub wins_chain : Memory T → ℕ → Direction → Tagged → List ℕ → Outcome T
-  wins_chain m p d w chain = wins (after_take_all m w chain) (at_A1 d w chain (values_in m.home chain)) (TakeAll p (values_in m.home chain) w.tag)
+  wins_chain m p d w chain = wins (after_take_all m w chain) (at_take_chain d w chain (values_in m.home chain)) (TakeAll p (values_in m.home chain) w.tag)
 
   -- The step of pass p at a line
   abbrev pub step : Shape → Memory T → ℕ → Line T → Outcome T
   step c m p (Idle a) = goes_on m (Idle a)
   -- put: a node from the free list ..
-  step c m p (F1 put) = goes_on m (at_F1 c.limit put m.free)
-  step c m p (F2 put w) = goes_on m (F3 put w (m.link w.index))
-  step c m p (F3 put w k) = if same m.free w then wins (after_hold m w k) (at_F3 put w) (Hold p) else goes_on m (F1 put)
-  step c m p (F4 put) = goes_on (after_store m (first put.chain) (second put.chain)) (next_node put)
+  step c m p (LoadFree put) = goes_on m (at_load_free c.limit put m.free)
+  step c m p (LoadFreeLink put w) = goes_on m (TakeFree put w (m.link w.index))
+  step c m p (TakeFree put w k) = if same m.free w then wins (after_hold m w k) (at_take_free put w) (Hold p) else goes_on m (LoadFree put)
+  step c m p (LinkTaken put) = goes_on (after_store m (first put.chain) (second put.chain)) (next_node put)
   -- .. then onto the top
-  step c m p (P1 put) = goes_on m (at_P1 c.limit put m.top)
-  step c m p (P2 put w) = goes_on (after_store m (last put.chain) w.index) (P3 put w)
-  step c m p (P3 put w) =
+  step c m p (LoadTop put) = goes_on m (at_load_top c.limit put m.top)
+  step c m p (LinkToTop put w) = goes_on (after_store m (last put.chain) w.index) (SwapTop put w)
+  step c m p (SwapTop put w) =
       if same m.top w then wins (after_put m w put) (ends (AnswerPut (Ok (w.tag, unplaced put)))) (Put p (placed put) w.tag)
-      else goes_on m (P1 put)
-  step c m p (D1 values) = goes_on m (at_D1 c.limit values m.top)
+      else goes_on m (LoadTop put)
+  step c m p (LoadTopToRefuse values) = goes_on m (at_load_top_to_refuse c.limit values m.top)
   -- take
-  step c m p (S1 taking) = goes_on m (at_S1 c.limit taking m.top)
-  step c m p (S2 w) = goes_on m (S3 w (m.link w.index))
-  step c m p (S3 w k) = if same m.top w then wins_value m p w k (m.home w.index) else goes_on m (S1 One)
+  step c m p (LoadTopToTake taking) = goes_on m (at_load_top_to_take c.limit taking m.top)
+  step c m p (LoadTopLink w) = goes_on m (TakeTop w (m.link w.index))
+  step c m p (TakeTop w k) = if same m.top w then wins_value m p w k (m.home w.index) else goes_on m (LoadTopToTake One)
   -- fold: the whole chain, turned round where it is wanted from the bottom up, then its values
-  step c m p (A1 d w) =
+  step c m p (TakeChain d w) =
       if same m.top w then wins_chain m p d w (chain_from c.capacity m.link w.index)
-      else goes_on m (S1 (Whole d))
-  step c m p (A2 give above i) = goes_on m (A3 give above i (m.link i))
-  step c m p (A3 give above i k) = goes_on (after_store m i above) (at_R2 give i k)
-  step c m p (A4 give i) = goes_on m (at_W1 give (m.link i))
+      else goes_on m (LoadTopToTake (Whole d))
+  step c m p (LoadLinkToTurn give above i) = goes_on m (TurnLink give above i (m.link i))
+  step c m p (TurnLink give above i k) = goes_on (after_store m i above) (at_turn_link give i k)
+  step c m p (LoadLinkToFold give i) = goes_on m (at_load_link_to_fold give (m.link i))
   -- a chain goes back to the free list
-  step c m p (G1 give) = goes_on m (G2 give m.free)
-  step c m p (G2 give w) = goes_on (after_store m (last give.chain) w.index) (G3 give w)
-  step c m p (G3 give w) =
+  step c m p (LoadFreeToGive give) = goes_on m (LinkToFree give m.free)
+  step c m p (LinkToFree give w) = goes_on (after_store m (last give.chain) w.index) (GiveBack give w)
+  step c m p (GiveBack give w) =
       if same m.free w then wins (after_give m w give.chain) (ends give.answer) (Free p (length give.chain))
-      else goes_on m (G1 give)
+      else goes_on m (LoadFreeToGive give)
   -- close, shut, look
-  step c m p Z1 = goes_on m (at_Z1 m.top)
-  step c m p (Z2 w) = if same m.top w then wins (after_close m w) (ends (AnswerClose true)) (Close p) else goes_on m Z1
-  step c m p Y1 = goes_on m (at_Y1 m.top)
-  step c m p (Y2 w) = if same m.top w then wins (after_shut m w) (ends (AnswerShut true)) (Shut p) else goes_on m Y1
-  step c m p V1 = goes_on m (ends (AnswerLook (m.top.index == NULL)))
+  step c m p LoadTopToClose = goes_on m (at_load_top_to_close m.top)
+  step c m p (MarkTop w) = if same m.top w then wins (after_close m w) (ends (AnswerClose true)) (Close p) else goes_on m LoadTopToClose
+  step c m p LoadTopToShut = goes_on m (at_load_top_to_shut m.top)
+  step c m p (ShutTop w) = if same m.top w then wins (after_shut m w) (ends (AnswerShut true)) (Shut p) else goes_on m LoadTopToShut
+  step c m p LoadTopToLook = goes_on m (ends (AnswerLook (m.top.index == NULL)))
 
   -- the nodes that a pass holds
   abbrev pub held : Line T → List ℕ
-  held (F1 put) = put.chain
-  held (F2 put w) = put.chain
-  held (F3 put w k) = put.chain
-  held (F4 put) = put.chain
-  held (P1 put) = put.chain
-  held (P2 put w) = put.chain
-  held (P3 put w) = put.chain
-  held (A2 give above i) = give.chain
-  held (A3 give above i k) = give.chain
-  held (A4 give i) = give.chain
-  held (G1 give) = give.chain
-  held (G2 give w) = give.chain
-  held (G3 give w) = give.chain
+  held (LoadFree put) = put.chain
+  held (LoadFreeLink put w) = put.chain
+  held (TakeFree put w k) = put.chain
+  held (LinkTaken put) = put.chain
+  held (LoadTop put) = put.chain
+  held (LinkToTop put w) = put.chain
+  held (SwapTop put w) = put.chain
+  held (LoadLinkToTurn give above i) = give.chain
+  held (TurnLink give above i k) = give.chain
+  held (LoadLinkToFold give i) = give.chain
+  held (LoadFreeToGive give) = give.chain
+  held (LinkToFree give w) = give.chain
+  held (GiveBack give w) = give.chain
   held l = []
 
   abbrev pub is_idle : Line T → Bool
@@ -229,11 +229,11 @@ module _ {T : Type 0} where
 
   -- the first step of an operation
   abbrev pub starts : Call T → Line T
-  starts (CallPut v vs) = F1 (record { values = v ∷ vs; chain = [] })
-  starts (CallTake taking) = S1 taking
-  starts CallClose = Z1
-  starts CallShut = Y1
-  starts CallLook = V1
+  starts (CallPut v vs) = LoadFree (record { values = v ∷ vs; chain = [] })
+  starts (CallTake taking) = LoadTopToTake taking
+  starts CallClose = LoadTopToClose
+  starts CallShut = LoadTopToShut
+  starts CallLook = LoadTopToLook
 
 -- the words and slots of a new stack
 abbrev pub start : {T : Type 0} → Shape → Memory T

@@ -11,7 +11,7 @@ use Rattle.machine.specs.Words.{Tagged, times, total, Stands, IsChain}
 use Rattle.machine.specs.OneList.{ReadTop, ReadLink}
 use Rattle.stack_machine.specs.declared.lines.Putting.{Putting}
 use Rattle.stack_machine.specs.declared.lines.Line.{Line}
-use Rattle.stack_machine.specs.declared.lines.Line.TheVariants.{Idle, F1, F2, F3, F4, P1, P2, P3, D1, S1, S2, S3, A1, A2, A3, A4, G1, G2, G3, Z1, Z2, Y1, Y2, V1}
+use Rattle.stack_machine.specs.declared.lines.Line.TheVariants.{Idle, LoadFree, LoadFreeLink, TakeFree, LinkTaken, LoadTop, LinkToTop, SwapTop, LoadTopToRefuse, LoadTopToTake, LoadTopLink, TakeTop, TakeChain, LoadLinkToTurn, TurnLink, LoadLinkToFold, LoadFreeToGive, LinkToFree, GiveBack, LoadTopToClose, MarkTop, LoadTopToShut, ShutTop, LoadTopToLook}
 use Rattle.stack_machine.specs.Machine.{Memory, held}
 use Rattle.machine.specs.Chains.{last, HasValues}
 use Rattle.bounded_model.specs.Justified.{Sometime, IsFull}
@@ -67,29 +67,29 @@ pub record Turns (link : ℕ → ℕ) (chain : List ℕ) (lowest i : ℕ) : Type
 module _ {T : Type 0} (limit : ℕ) (m : Memory T) (g : Lists) where
   abbrev pub IsFine : Line T → Type 0
   IsFine (Idle a) = Unit {0}
-  IsFine (F1 put) = Collects m.link put
-  IsFine (F2 put w) = Collects m.link put × ReadTop limit m.free g.frees w
-  IsFine (F3 put w k) = Collects m.link put × ReadTop limit m.free g.frees w × ReadLink m.free m.link w k
-  IsFine (F4 put) = Adds m.link put
-  IsFine (P1 put) = Puts m.link put
-  IsFine (P2 put w) = Puts m.link put × (w.mark ≡ false) × (w.tag < limit)
-  IsFine (P3 put w) = Puts m.link put × (w.mark ≡ false) × (w.tag < limit) × (m.link (last put.chain) ≡ w.index)
-  IsFine (D1 values) = Unit {0}
-  IsFine (S1 taking) = Unit {0}
-  IsFine (S2 w) = ReadTop limit m.top g.stack w × (w.second ≡ false)
-  IsFine (S3 w k) = ReadTop limit m.top g.stack w × (w.second ≡ false) × ReadLink m.top m.link w k
-  IsFine (A1 d w) = (w.index ≢ NULL) × (w.second ≡ false) × (w.tag < limit)
-  IsFine (A2 give lowest i) = Turns m.link give.chain lowest i
-  IsFine (A3 give lowest i k) = Turns m.link give.chain lowest i × (m.link i ≡ k)
-  IsFine (A4 give i) = Walks m.link give.chain i
-  IsFine (G1 give) = Gives m.link give.chain
-  IsFine (G2 give w) = Gives m.link give.chain
-  IsFine (G3 give w) = Gives m.link give.chain × (m.link (last give.chain) ≡ w.index)
-  IsFine Z1 = Unit {0}
-  IsFine (Z2 w) = w.mark ≡ false
-  IsFine Y1 = Unit {0}
-  IsFine (Y2 w) = w.second ≡ false
-  IsFine V1 = Unit {0}
+  IsFine (LoadFree put) = Collects m.link put
+  IsFine (LoadFreeLink put w) = Collects m.link put × ReadTop limit m.free g.frees w
+  IsFine (TakeFree put w k) = Collects m.link put × ReadTop limit m.free g.frees w × ReadLink m.free m.link w k
+  IsFine (LinkTaken put) = Adds m.link put
+  IsFine (LoadTop put) = Puts m.link put
+  IsFine (LinkToTop put w) = Puts m.link put × (w.mark ≡ false) × (w.tag < limit)
+  IsFine (SwapTop put w) = Puts m.link put × (w.mark ≡ false) × (w.tag < limit) × (m.link (last put.chain) ≡ w.index)
+  IsFine (LoadTopToRefuse values) = Unit {0}
+  IsFine (LoadTopToTake taking) = Unit {0}
+  IsFine (LoadTopLink w) = ReadTop limit m.top g.stack w × (w.second ≡ false)
+  IsFine (TakeTop w k) = ReadTop limit m.top g.stack w × (w.second ≡ false) × ReadLink m.top m.link w k
+  IsFine (TakeChain d w) = (w.index ≢ NULL) × (w.second ≡ false) × (w.tag < limit)
+  IsFine (LoadLinkToTurn give lowest i) = Turns m.link give.chain lowest i
+  IsFine (TurnLink give lowest i k) = Turns m.link give.chain lowest i × (m.link i ≡ k)
+  IsFine (LoadLinkToFold give i) = Walks m.link give.chain i
+  IsFine (LoadFreeToGive give) = Gives m.link give.chain
+  IsFine (LinkToFree give w) = Gives m.link give.chain
+  IsFine (GiveBack give w) = Gives m.link give.chain × (m.link (last give.chain) ≡ w.index)
+  IsFine LoadTopToClose = Unit {0}
+  IsFine (MarkTop w) = w.mark ≡ false
+  IsFine LoadTopToShut = Unit {0}
+  IsFine (ShutTop w) = w.second ≡ false
+  IsFine LoadTopToLook = Unit {0}
 
 module _ (T : Type 0) where
   -- The words and the links: both lists stand, and each node below n is once on one of them or in
@@ -108,13 +108,13 @@ pub record Filled (T : Type 0) (m : Memory T) (g : Lists) (values : List T) : Ty
 
 -- the nodes that a pass holds for a put
 abbrev pub putting : {T : Type 0} → Line T → List ℕ
-putting (F1 put) = put.chain
-putting (F2 put w) = put.chain
-putting (F3 put w k) = put.chain
-putting (F4 put) = put.chain
-putting (P1 put) = put.chain
-putting (P2 put w) = put.chain
-putting (P3 put w) = put.chain
+putting (LoadFree put) = put.chain
+putting (LoadFreeLink put w) = put.chain
+putting (TakeFree put w k) = put.chain
+putting (LinkTaken put) = put.chain
+putting (LoadTop put) = put.chain
+putting (LinkToTop put w) = put.chain
+putting (SwapTop put w) = put.chain
 putting l = []
 
 -- how many values were put
@@ -151,11 +151,11 @@ module _ {T : Type 0} (n limit : ℕ) (begun seen : List (Event T)) where
   abbrev pub Tells : Line T → Type 0
   Tells (Idle None) = Unit {0}
   Tells (Idle (Some a)) = IsRight n limit begun seen a
-  Tells (D1 values) = Sometime begun seen (IsFull (shape n limit))
-  Tells (A2 give lowest i) = IsRight n limit begun seen give.answer
-  Tells (A3 give lowest i k) = IsRight n limit begun seen give.answer
-  Tells (A4 give i) = IsRight n limit begun seen give.answer
-  Tells (G1 give) = IsRight n limit begun seen give.answer
-  Tells (G2 give w) = IsRight n limit begun seen give.answer
-  Tells (G3 give w) = IsRight n limit begun seen give.answer
+  Tells (LoadTopToRefuse values) = Sometime begun seen (IsFull (shape n limit))
+  Tells (LoadLinkToTurn give lowest i) = IsRight n limit begun seen give.answer
+  Tells (TurnLink give lowest i k) = IsRight n limit begun seen give.answer
+  Tells (LoadLinkToFold give i) = IsRight n limit begun seen give.answer
+  Tells (LoadFreeToGive give) = IsRight n limit begun seen give.answer
+  Tells (LinkToFree give w) = IsRight n limit begun seen give.answer
+  Tells (GiveBack give w) = IsRight n limit begun seen give.answer
   Tells l = Unit {0}

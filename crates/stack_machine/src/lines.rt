@@ -62,51 +62,51 @@ pub enum Line<T> {
     /// No operation. The answer is that of the last one.
     Idle(Option<Answer<T>>),
     /// Load `FREE`.
-    F1(Putting<T>),
+    LoadFree(Putting<T>),
     /// Load the link of the free node.
-    F2(Putting<T>, Fields),
+    LoadFreeLink(Putting<T>, Fields),
     /// Exchange `FREE` for the next free node.
-    F3(Putting<T>, Fields, u32),
+    TakeFree(Putting<T>, Fields, u32),
     /// Link the node taken last to the one taken before it.
-    F4(Putting<T>),
+    LinkTaken(Putting<T>),
     /// Load `TOP`.
-    P1(Putting<T>),
+    LoadTop(Putting<T>),
     /// Link the chain's last node to the top.
-    P2(Putting<T>, Fields),
+    LinkToTop(Putting<T>, Fields),
     /// Exchange `TOP` for the chain's first node.
-    P3(Putting<T>, Fields),
+    SwapTop(Putting<T>, Fields),
     /// No node is free: load `TOP`, to say why nothing can be put.
-    D1(LinkedList<T>),
+    LoadTopToRefuse(LinkedList<T>),
     /// Load `TOP`.
-    S1(Taking),
+    LoadTopToTake(Taking),
     /// Load the link of the top node.
-    S2(Fields),
+    LoadTopLink(Fields),
     /// Exchange `TOP` for the node below it.
-    S3(Fields, u32),
+    TakeTop(Fields, u32),
     /// Exchange `TOP` for null: the whole chain is in hand.
-    A1(Direction, Fields),
+    TakeChain(Direction, Fields),
     /// Load the link of a node of the chain, whose upper neighbour is the first index.
-    A2(Giving<T>, u32, u32),
+    LoadLinkToTurn(Giving<T>, u32, u32),
     /// Link this node to its upper neighbour.
-    A3(Giving<T>, u32, u32, u32),
+    TurnLink(Giving<T>, u32, u32, u32),
     /// Move the value out of this node of the chain, and load its link.
-    A4(Giving<T>, u32),
+    LoadLinkToFold(Giving<T>, u32),
     /// Load `FREE`.
-    G1(Giving<T>),
+    LoadFreeToGive(Giving<T>),
     /// Link the chain's last node to the free one.
-    G2(Giving<T>, Fields),
+    LinkToFree(Giving<T>, Fields),
     /// Exchange `FREE` for the chain's first node.
-    G3(Giving<T>, Fields),
+    GiveBack(Giving<T>, Fields),
     /// Load `TOP`.
-    Z1,
+    LoadTopToClose,
     /// Set its mark.
-    Z2(Fields),
+    MarkTop(Fields),
     /// Load `TOP`.
-    Y1,
+    LoadTopToShut,
     /// Set its second mark.
-    Y2(Fields),
+    ShutTop(Fields),
     /// Load `TOP`, to see whether it is null.
-    V1,
+    LoadTopToLook,
 }
 
 /// An operation to be begun.

@@ -9,6 +9,6 @@ mod bounds;
 mod deeds;
 mod laws;
 
-pub use bounds::stack_bound;
-pub use deeds::stack_answers;
-pub use laws::{list_core, stack_core};
+pub use bounds::{queue_bound, stack_bound};
+pub use deeds::{queue_answers, stack_answers};
+pub use laws::{list_core, queue_core, stack_core};

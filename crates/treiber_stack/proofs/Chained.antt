@@ -1,7 +1,7 @@
 -- A chain that is taken whole, and given back whole.
-use Rattle.std.proofs.Common.{◌≡◌, ◌≢◌, ℕ, ◌+◌, ◌<◌, ◌≤◌, List, [], ◌∷◌, ◌++◌, length, reverse, refl, sym, ap, ◌∙◌, subst, append-nil, arith}
+use Rattle.std.proofs.Common.{◌≡◌, ◌≢◌, ℕ, ◌<◌, ◌≤◌, List, [], ◌∷◌, ◌++◌, length, refl, sym, ap, ◌∙◌, subst, append-nil, arith}
 use Rattle.std.proofs.lemmas.List.{append_cancel_right, length-reverse, reverse-reverse}
-use Rattle.std.specs.Prelude.{Option as Slot, Err}
+use Rattle.std.specs.Prelude.{Err}
 use mathlib.Core.Option.{some}
 use Rattle.tagged_index.specs.Fields.{fields_of, index_of, tag_of}
 use Rattle.tagged_index.specs.Limits.{capacity_of, tag_limit_of}
@@ -22,54 +22,52 @@ use Rattle.machine.specs.Words.{times}
 use Rattle.stack_machine.specs.declared.lines.Answer.TheVariants.{Fold as AnswerFold}
 use Rattle.stack_machine.specs.declared.lines.Giving.{Giving}
 use Rattle.stack_machine.specs.declared.lines.Taking.TheVariants.{Whole}
-use Rattle.stack_machine.specs.declared.lines.Line.{Line}
-use Rattle.stack_machine.specs.declared.lines.Line.TheVariants.{S1, A1, G1, G2, G3}
-use Rattle.machine.specs.Chains.{first, last}
-use Rattle.stack_machine.specs.Machine.{held, at_A1}
-use Rattle.stack_machine.specs.Answers.{shape}
+use Rattle.stack_machine.specs.declared.lines.Line.TheVariants.{LoadTopToTake, TakeChain, LoadFreeToGive, LinkToFree, GiveBack}
+use Rattle.machine.specs.Chains.{first}
+use Rattle.stack_machine.specs.Machine.{held, at_take_chain}
 use Rattle.machine.proofs.Chains.{first_in, last_in}
 use Rattle.treiber_stack.specs.Rule.{line_in}
 use Rattle.treiber_stack.specs.Host.{direction, may_step}
 use Rattle.treiber_stack.specs.KeepsMemory.{times_holds}
-use Rattle.treiber_stack.specs.Operations.{IsAt, IsSame, Going, Ended, Goes, Ends, Told, Lost, TakesAll, Gives, begun_in, vacant}
+use Rattle.treiber_stack.specs.Operations.{IsAt, IsSame, Going, Ended, Goes, Told, Lost, TakesAll, Gives, begun_in, vacant}
 use Rattle.treiber_stack.specs.Stack.{IsPassOf, pass_in, shape_of}
-use Rattle.treiber_stack.specs.Folding.{AllowsTake, RefusesTake, full, later_step, folding, in_order, Took, IsHand, IsTaken, IsEmptied, IsGivingBack, Gave, Walks}
+use Rattle.treiber_stack.specs.Folding.{AllowsTake, RefusesTake, full, folding, in_order, IsTaken, IsEmptied, IsGivingBack, Gave, Walks}
 use Rattle.treiber_stack.specs.declared.folding.Chain.{Chain}
 use Rattle.treiber_stack.specs.declared.folding.Walked.{Walked}
 use Rattle.treiber_stack.specs.declared.operation.Operation.{Operation}
-use Rattle.treiber_stack.specs.declared.operation.Operation.TheVariants.{Fold as FoldFirst}
+use Rattle.treiber_stack.specs.declared.operation.Operation.TheVariants.{Fold as FoldFirst, Underway}
 use Rattle.treiber_stack.specs.declared.stack.Stack.{Stack}
 use Rattle.treiber_stack.specs.declared.stack.Pass.{Pass}
 use Rattle.treiber_stack.proofs.Going.{begun_going, adds_of}
 use Rattle.treiber_stack.proofs.Closes.{is_at, is_pass}
-use Rattle.treiber_stack.proofs.Takings.{may_going, held_going, G1_goes, G2_goes, G3_won, G3_lost}
-use Rattle.treiber_stack.proofs.Folds.{S1_refuses, S1_allows, takes_nothing, WonAll, A1_won, A1_lost, none_made, G1_stays, G2_stays, G3_stays, G3_adds}
+use Rattle.treiber_stack.proofs.Takings.{may_going, held_going, load_free_to_give_goes, link_to_free_goes, give_back_won, give_back_lost}
+use Rattle.treiber_stack.proofs.Folds.{load_top_to_take_refuses, load_top_to_take_allows, takes_nothing, WonAll, take_chain_won, take_chain_lost, none_made, load_free_to_give_stays, link_to_free_stays, give_back_stays, give_back_adds}
 
-module _ {T : Type 0} (c : Stack T) (front : Front) (p : Pass T) (at : IsAt c (FoldFirst front) p (S1 (Whole (direction front))) []) (w : ℕ) (q : Pass T) (same : IsSame p q) (told : Told c (FoldFirst front) 1 read_top w [] p q) where
+module _ {T : Type 0} (c : Stack T) (front : Front) (p : Pass T) (at : IsAt c (FoldFirst front) p (LoadTopToTake (Whole (direction front))) []) (w : ℕ) (q : Pass T) (same : IsSame p q) (told : Told c (FoldFirst front) 1 read_top w [] p q) where
   -- a fold that has read the top goes on, or has ended
-  pub seen_top : AllowsTake (tag_limit_of c.limits) w → IsAt c later_step q (A1 (direction front) (fields_of w)) [] × (begun_in q ≡ begun_in p)
+  pub seen_top : AllowsTake (tag_limit_of c.limits) w → IsAt c Underway q (TakeChain (direction front) (fields_of w)) [] × (begun_in q ≡ begun_in p)
   seen_top a =
-      let goes = S1_allows front w at.going told.did later_step a in
-      (is_at c (FoldFirst front) p (S1 (Whole (direction front))) [] at q same later_step (A1 (direction front) (fields_of w)) goes, begun_going goes.0)
+      let goes = load_top_to_take_allows front w at.going told.did Underway a in
+      (is_at c (FoldFirst front) p (LoadTopToTake (Whole (direction front))) [] at q same Underway (TakeChain (direction front) (fields_of w)) goes, begun_going goes.0)
 
   pub seen_none : (why : TakeRefused) → RefusesTake T (tag_limit_of c.limits) w why → IsPassOf c q × TakesNothing (shape_of c) (begun_in p) (pass_in q) why
   seen_none why r =
-      let e = S1_refuses front w at.going told.did why r in
-      (is_pass c (FoldFirst front) p (S1 (Whole (direction front))) [] at q same (AnswerFold (Err why)) refl e, takes_nothing why e)
+      let e = load_top_to_take_refuses front w at.going told.did why r in
+      (is_pass c (FoldFirst front) p (LoadTopToTake (Whole (direction front))) [] at q same (AnswerFold (Err why)) refl e, takes_nothing why e)
 
-module _ {T : Type 0} (c : Stack T) (front : Front) (w : ℕ) (node : index_of w ≢ NULL) (p : Pass T) (at : IsAt c later_step p (A1 (direction front) (fields_of w)) []) where
+module _ {T : Type 0} (c : Stack T) (front : Front) (w : ℕ) (node : index_of w ≢ NULL) (p : Pass T) (at : IsAt c Underway p (TakeChain (direction front) (fields_of w)) []) where
   abbrev n : ℕ
   n = capacity_of c.limits
 
   abbrev limit : ℕ
   limit = tag_limit_of c.limits
 
-  pub may_take_all : may_step later_step 1 (take_all w) p.seat.me.0
+  pub may_take_all : may_step Underway 1 (take_all w) p.seat.me.0
   may_take_all = may_going 1 (take_all w) at.going (refl, refl)
 
-  pub taken_whole : (q : Pass T) → q.seat.table_id ≡ p.seat.table_id → TakesAll c later_step front w p q → IsTaken c front w q × (begun_in q ≡ begun_in p)
+  pub taken_whole : (q : Pass T) → q.seat.table_id ≡ p.seat.table_id → TakesAll c Underway front w p q → IsTaken c front w q × (begun_in q ≡ begun_in p)
   taken_whole q table won =
-      let all : WonAll n limit later_step front w won.slots p.seat.me.0 q.seat.me.0 (begun_in p) = A1_won front w won.slots node at.going won.told.did later_step in
+      let all : WonAll n limit Underway front w won.slots p.seat.me.0 q.seat.me.0 (begun_in p) = take_chain_won front w won.slots node at.going won.told.did Underway in
       let begun = begun_going all.goes.0 in
       let took : own (begun_in p).number (pass_in q).seen ≡ TakeAll (begun_in p).number all.values (tag_of w) ∷ own (begun_in p).number (begun_in p).seen =
       all.added ∙ ap (λ (es : List (Event T)). TakeAll (begun_in p).number all.values (tag_of w) ∷ es) (none_made (direction front) (fields_of w) at.going) in (
@@ -79,7 +77,7 @@ module _ {T : Type 0} (c : Stack T) (front : Front) (w : ℕ) (node : index_of w
           at = record {
             table = table ∙ at.table;
             has = won.has ∙ (λ k. arranged front (all.slots k) ++ at.has k) ∙ append-nil (arranged front (full all.chain all.values));
-            going = subst (λ (b : PassView T). Going n limit later_step q.seat.me.0 b (at_A1 (direction front) (fields_of w) all.chain all.values)) (sym begun) all.goes.0;
+            going = subst (λ (b : PassView T). Going n limit Underway q.seat.me.0 b (at_take_chain (direction front) (fields_of w) all.chain all.values)) (sym begun) all.goes.0;
           };
           took = subst (λ (b : PassView T). own b.number (pass_in q).seen ≡ TakeAll b.number all.values (tag_of w) ∷ own b.number b.seen) (sym begun) took;
           hand = all.hand;
@@ -89,11 +87,11 @@ module _ {T : Type 0} (c : Stack T) (front : Front) (w : ℕ) (node : index_of w
         begun,
       )
 
-  pub not_taken : (q : Pass T) → q.seat.table_id ≡ p.seat.table_id → (q.seat.me.1 ≡ p.seat.me.1) → Lost c later_step 1 (take_all w) w p q → IsAt c (FoldFirst front) q (S1 (Whole (direction front))) [] × (begun_in q ≡ begun_in p)
+  pub not_taken : (q : Pass T) → q.seat.table_id ≡ p.seat.table_id → (q.seat.me.1 ≡ p.seat.me.1) → Lost c Underway 1 (take_all w) w p q → IsAt c (FoldFirst front) q (LoadTopToTake (Whole (direction front))) [] × (begun_in q ≡ begun_in p)
   not_taken q table slots lost =
-      let goes = A1_lost (FoldFirst front) front w lost.found lost.other at.going lost.told.did in
+      let goes = take_chain_lost (FoldFirst front) front w lost.found lost.other at.going lost.told.did in
       let same : IsSame p q = record { table = table; slots = slots } in
-      (is_at c later_step p (A1 (direction front) (fields_of w)) [] at q same (FoldFirst front) (S1 (Whole (direction front))) goes, begun_going goes.0)
+      (is_at c Underway p (TakeChain (direction front) (fields_of w)) [] at q same (FoldFirst front) (LoadTopToTake (Whole (direction front))) goes, begun_going goes.0)
 
 -- the first of a chain
 others_of : (chain : List ℕ) → 0 < length chain → (others : List ℕ) × (chain ≡ first chain ∷ others)
@@ -120,8 +118,8 @@ module _ {T : Type 0} (c : Stack T) (o : Operation T) (nodes : Chain) (giving : 
   first_low = b.low nodes.first (subst (λ (i : ℕ). 0 < times i giving.chain) b.begins (first_in giving.chain b.some_node))
 
   module _ (w : ℕ) (q : Pass T) (same : IsSame p q) (told : Told c o 0 read_top w [] p q) where
-    on : Goes gn gl o p.seat.me.0 q.seat.me.0 (begun_in p) (G1 giving) (G2 giving (fields_of w))
-    on = G1_goes w giving b.at.going told.did
+    on : Goes gn gl o p.seat.me.0 q.seat.me.0 (begun_in p) (LoadFreeToGive giving) (LinkToFree giving (fields_of w))
+    on = load_free_to_give_goes w giving b.at.going told.did
 
     pub may_link_back : (i : ℕ) → i ≡ index_of w → i ≤ NULL → may_step o 0 (write_link nodes.last i) q.seat.me.0
     may_link_back i e small = may_going 0 (write_link nodes.last i) on.0 ((λ k. some (b.ends k, sym e k)), small)
@@ -130,8 +128,8 @@ module _ {T : Type 0} (c : Stack T) (o : Operation T) (nodes : Chain) (giving : 
     holds_last = subst (λ (xs : List ℕ). Holds xs nodes.last) (sym (held_going on.0)) (times_holds giving.chain nodes.last last_there)
 
     module _ (i : ℕ) (r : Pass T) (same' : IsSame q r) (told' : Told c o 0 (write_link nodes.last i) i [] q r) where
-      on' : Goes gn gl o q.seat.me.0 r.seat.me.0 (begun_in p) (G2 giving (fields_of w)) (G3 giving (fields_of w))
-      on' = G2_goes w nodes.last i i giving on.0 told'.did
+      on' : Goes gn gl o q.seat.me.0 r.seat.me.0 (begun_in p) (LinkToFree giving (fields_of w)) (GiveBack giving (fields_of w))
+      on' = link_to_free_goes w nodes.last i i giving on.0 told'.did
 
       pub may_give_all : may_step o 0 (give_chain w nodes.first) r.seat.me.0
       may_give_all = may_going 0 (give_chain w nodes.first) on'.0 (giving.chain, refl, b.begins)
@@ -146,27 +144,27 @@ module _ {T : Type 0} (c : Stack T) (o : Operation T) (nodes : Chain) (giving : 
       slots_empty = same'.slots ∙ same.slots ∙ b.at.has ∙ ap (λ (xs : List ℕ). vacant xs) (sym is_held)
 
       stays : own (begun_in p).number (pass_in r).seen ≡ own (begun_in p).number (pass_in p).seen
-      stays = G2_stays w nodes.last i i giving on.0 told'.did ∙ G1_stays w giving b.at.going told.did
+      stays = link_to_free_stays w nodes.last i i giving on.0 told'.did ∙ load_free_to_give_stays w giving b.at.going told.did
 
       module _ (s : Pass T) (table : s.seat.table_id ≡ r.seat.table_id) where
         pub given_back : Gives c o 0 w nodes.first r s → Gave c p s giving
         given_back won =
-            let e = G3_won w nodes.first giving won.slots on'.0 won.told.did in
+            let e = give_back_won w nodes.first giving won.slots on'.0 won.told.did in
             record {
               of = record { table = table ∙ same'.table ∙ same.table ∙ b.at.table; view = e.0.view; slots = won.none_left; rests = e.0.rests };
               ended = e.0;
-              added = G3_adds w nodes.first giving won.slots on'.0 won.told.did ∙ ap (λ (es : List (Event T)). Free (begun_in p).number (length giving.chain) ∷ es) stays;
+              added = give_back_adds w nodes.first giving won.slots on'.0 won.told.did ∙ ap (λ (es : List (Event T)). Free (begun_in p).number (length giving.chain) ∷ es) stays;
             }
 
         pub not_given : s.seat.me.1 ≡ r.seat.me.1 → Lost c o 0 (give_chain w nodes.first) w r s → IsGivingBack c o s nodes giving × (begun_in s ≡ begun_in p) × (own (begun_in p).number (pass_in s).seen ≡ own (begun_in p).number (pass_in p).seen)
         not_given slots lost =
-            let next = G3_lost w nodes.first lost.found giving lost.other on'.0 lost.told.did in
+            let next = give_back_lost w nodes.first lost.found giving lost.other on'.0 lost.told.did in
             let begun = begun_going next.0 in (
               record {
                 at = record {
                   table = table ∙ same'.table ∙ same.table ∙ b.at.table;
                   has = slots ∙ same'.slots ∙ same.slots ∙ b.at.has;
-                  going = subst (λ (x : PassView T). Going gn gl o s.seat.me.0 x (G1 giving)) (sym begun) next.0;
+                  going = subst (λ (x : PassView T). Going gn gl o s.seat.me.0 x (LoadFreeToGive giving)) (sym begun) next.0;
                 };
                 low = b.low;
                 some_node = b.some_node;
@@ -174,7 +172,7 @@ module _ {T : Type 0} (c : Stack T) (o : Operation T) (nodes : Chain) (giving : 
                 ends = b.ends;
               },
               begun,
-              G3_stays w nodes.first lost.found giving lost.other on'.0 lost.told.did ∙ stays,
+              give_back_stays w nodes.first lost.found giving lost.other on'.0 lost.told.did ∙ stays,
             )
 
 module _ {T : Type 0} where
@@ -190,7 +188,7 @@ module _ {T : Type 0} where
   folds_twice {S} {c} {front} {w} {Gives} {p} {s} {r} told = subst (λ (us : List T). Folds Gives s us r.state) (sym (in_order_twice front told.folded)) told.folds
 
 module _ {T : Type 0} (c : Stack T) (front : Front) (w : ℕ) (p q r : Pass T) (folded : List T) (nodes : Chain) (e : IsEmptied c front w q folded nodes) (begun : begun_in q ≡ pass_in p) where
-  pub giving_emptied : IsGivingBack c later_step q nodes (folding e.chain folded w)
+  pub giving_emptied : IsGivingBack c Underway q nodes (folding e.chain folded w)
   giving_emptied = record { at = e.at; low = e.hand.low; some_node = e.some_node; begins = e.begins; ends = e.ends }
 
   -- what the fold has done in all

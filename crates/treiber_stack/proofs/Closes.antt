@@ -13,9 +13,9 @@ use Rattle.machine.specs.Words.{Tagged, same}
 use Rattle.stack_machine.specs.declared.lines.Answer.{Answer}
 use Rattle.stack_machine.specs.declared.lines.Answer.TheVariants.{Close as AnswerClose, Shut as AnswerShut, Look as AnswerLook}
 use Rattle.stack_machine.specs.declared.lines.Line.{Line}
-use Rattle.stack_machine.specs.declared.lines.Line.TheVariants.{Z1, Z2, Y1, Y2, V1}
+use Rattle.stack_machine.specs.declared.lines.Line.TheVariants.{LoadTopToClose, MarkTop, LoadTopToShut, ShutTop, LoadTopToLook}
 use Rattle.machine.specs.declared.seats.View.{View}
-use Rattle.stack_machine.specs.Machine.{Outcome, ends, at_Z1, at_Y1, goes_on as core_goes_on, wins, after_close, after_shut}
+use Rattle.stack_machine.specs.Machine.{Outcome, ends, at_load_top_to_close, at_load_top_to_shut, goes_on as core_goes_on, wins, after_close, after_shut}
 use Rattle.stack_machine.specs.Answers.{shape}
 use Rattle.machine.specs.Seats.{pass_of}
 use Rattle.treiber_stack.specs.declared.operation.Operation.{Operation}
@@ -28,56 +28,56 @@ use Rattle.treiber_stack.specs.declared.stack.Pass.{Pass}
 use Rattle.treiber_stack.proofs.Going.{goes_on, ends_so, out_at, begun_going, adds_of, starts, begun_at_rest}
 
 module _ {T : Type 0} {n limit : ℕ} {o : Operation T} {v v' : View T (Line T)} {begun : PassView T} where
-  Z1_leads : (w : ℕ) (g : Going n limit o v begun Z1) (d : Did n limit o 1 read_top w [] v v') → d.out.line ≡ at_Z1 (fields_of w)
-  Z1_leads w g d = ap (λ (x : Outcome T). x.line) (out_at g d) ∙ ap (λ (x : Tagged). at_Z1 x) (sym d.finds)
+  load_top_to_close_leads : (w : ℕ) (g : Going n limit o v begun LoadTopToClose) (d : Did n limit o 1 read_top w [] v v') → d.out.line ≡ at_load_top_to_close (fields_of w)
+  load_top_to_close_leads w g d = ap (λ (x : Outcome T). x.line) (out_at g d) ∙ ap (λ (x : Tagged). at_load_top_to_close x) (sym d.finds)
 
-  pub Z1_ends : (w : ℕ) → Going n limit o v begun Z1 → Did n limit o 1 read_top w [] v v' → mark_of w ≡ true → Ends n limit v v' begun Z1 (AnswerClose false)
-  Z1_ends w g d e = ends_so g d (AnswerClose false) (Z1_leads w g d ∙ ap (λ (b : Bool). cond b (ends (AnswerClose false)) (Z2 (fields_of w))) e)
+  pub load_top_to_close_ends : (w : ℕ) → Going n limit o v begun LoadTopToClose → Did n limit o 1 read_top w [] v v' → mark_of w ≡ true → Ends n limit v v' begun LoadTopToClose (AnswerClose false)
+  load_top_to_close_ends w g d e = ends_so g d (AnswerClose false) (load_top_to_close_leads w g d ∙ ap (λ (b : Bool). cond b (ends (AnswerClose false)) (MarkTop (fields_of w))) e)
 
-  pub Z1_goes : (w : ℕ) → Going n limit o v begun Z1 → Did n limit o 1 read_top w [] v v' → mark_of w ≡ false → Goes n limit o v v' begun Z1 (Z2 (fields_of w))
-  Z1_goes w g d e = goes_on g d o (Z2 (fields_of w)) (Z1_leads w g d ∙ ap (λ (b : Bool). cond b (ends (AnswerClose false)) (Z2 (fields_of w))) e) refl
+  pub load_top_to_close_goes : (w : ℕ) → Going n limit o v begun LoadTopToClose → Did n limit o 1 read_top w [] v v' → mark_of w ≡ false → Goes n limit o v v' begun LoadTopToClose (MarkTop (fields_of w))
+  load_top_to_close_goes w g d e = goes_on g d o (MarkTop (fields_of w)) (load_top_to_close_leads w g d ∙ ap (λ (b : Bool). cond b (ends (AnswerClose false)) (MarkTop (fields_of w))) e) refl
 
-  Z2_leads : (w found : ℕ) (g : Going n limit o v begun (Z2 (fields_of w))) (d : Did n limit o 1 (mark w) found [] v v') (b : Bool) → same d.memory.top (fields_of w) ≡ b → d.out.line ≡ cond b (ends (AnswerClose true)) Z1
-  Z2_leads w found g d b e = ap (λ (x : Outcome T). x.line) (out_at g d)
-      ∙ ap (λ (x : Bool). (cond x (wins (after_close d.memory (fields_of w)) (ends (AnswerClose true)) (Close d.pass.number)) (core_goes_on d.memory Z1)).line) e
+  mark_top_leads : (w found : ℕ) (g : Going n limit o v begun (MarkTop (fields_of w))) (d : Did n limit o 1 (mark w) found [] v v') (b : Bool) → same d.memory.top (fields_of w) ≡ b → d.out.line ≡ cond b (ends (AnswerClose true)) LoadTopToClose
+  mark_top_leads w found g d b e = ap (λ (x : Outcome T). x.line) (out_at g d)
+      ∙ ap (λ (x : Bool). (cond x (wins (after_close d.memory (fields_of w)) (ends (AnswerClose true)) (Close d.pass.number)) (core_goes_on d.memory LoadTopToClose)).line) e
       ∙ by_cases b
     where
-      by_cases : (b : Bool) → (cond b (wins (after_close d.memory (fields_of w)) (ends (AnswerClose true)) (Close d.pass.number)) (core_goes_on d.memory Z1)).line ≡ cond b (ends (AnswerClose true)) Z1
+      by_cases : (b : Bool) → (cond b (wins (after_close d.memory (fields_of w)) (ends (AnswerClose true)) (Close d.pass.number)) (core_goes_on d.memory LoadTopToClose)).line ≡ cond b (ends (AnswerClose true)) LoadTopToClose
       by_cases true = refl
       by_cases false = refl
 
-  pub Z2_ends : (w : ℕ) → Going n limit o v begun (Z2 (fields_of w)) → Did n limit o 1 (mark w) w [] v v' → Ends n limit v v' begun (Z2 (fields_of w)) (AnswerClose true)
-  Z2_ends w g d = ends_so g d (AnswerClose true) (Z2_leads w w g d true (is_same d.memory.top (fields_of w) (sym d.finds)))
+  pub mark_top_ends : (w : ℕ) → Going n limit o v begun (MarkTop (fields_of w)) → Did n limit o 1 (mark w) w [] v v' → Ends n limit v v' begun (MarkTop (fields_of w)) (AnswerClose true)
+  mark_top_ends w g d = ends_so g d (AnswerClose true) (mark_top_leads w w g d true (is_same d.memory.top (fields_of w) (sym d.finds)))
 
-  pub Z2_goes : (w found : ℕ) → found ≢ w → Going n limit o v begun (Z2 (fields_of w)) → Did n limit o 1 (mark w) found [] v v' → Goes n limit o v v' begun (Z2 (fields_of w)) Z1
-  Z2_goes w found ne g d = goes_on g d o Z1 (Z2_leads w found g d false (not_same d.memory.top (fields_of w) (λ e. ne ((same_fields found w).1 (d.finds ∙ e))))) refl
+  pub mark_top_goes : (w found : ℕ) → found ≢ w → Going n limit o v begun (MarkTop (fields_of w)) → Did n limit o 1 (mark w) found [] v v' → Goes n limit o v v' begun (MarkTop (fields_of w)) LoadTopToClose
+  mark_top_goes w found ne g d = goes_on g d o LoadTopToClose (mark_top_leads w found g d false (not_same d.memory.top (fields_of w) (λ e. ne ((same_fields found w).1 (d.finds ∙ e))))) refl
 
-  Y1_leads : (w : ℕ) (g : Going n limit o v begun Y1) (d : Did n limit o 1 read_top w [] v v') → d.out.line ≡ at_Y1 (fields_of w)
-  Y1_leads w g d = ap (λ (x : Outcome T). x.line) (out_at g d) ∙ ap (λ (x : Tagged). at_Y1 x) (sym d.finds)
+  load_top_to_shut_leads : (w : ℕ) (g : Going n limit o v begun LoadTopToShut) (d : Did n limit o 1 read_top w [] v v') → d.out.line ≡ at_load_top_to_shut (fields_of w)
+  load_top_to_shut_leads w g d = ap (λ (x : Outcome T). x.line) (out_at g d) ∙ ap (λ (x : Tagged). at_load_top_to_shut x) (sym d.finds)
 
-  pub Y1_ends : (w : ℕ) → Going n limit o v begun Y1 → Did n limit o 1 read_top w [] v v' → second_of w ≡ true → Ends n limit v v' begun Y1 (AnswerShut false)
-  Y1_ends w g d e = ends_so g d (AnswerShut false) (Y1_leads w g d ∙ ap (λ (b : Bool). cond b (ends (AnswerShut false)) (Y2 (fields_of w))) e)
+  pub load_top_to_shut_ends : (w : ℕ) → Going n limit o v begun LoadTopToShut → Did n limit o 1 read_top w [] v v' → second_of w ≡ true → Ends n limit v v' begun LoadTopToShut (AnswerShut false)
+  load_top_to_shut_ends w g d e = ends_so g d (AnswerShut false) (load_top_to_shut_leads w g d ∙ ap (λ (b : Bool). cond b (ends (AnswerShut false)) (ShutTop (fields_of w))) e)
 
-  pub Y1_goes : (w : ℕ) → Going n limit o v begun Y1 → Did n limit o 1 read_top w [] v v' → second_of w ≡ false → Goes n limit o v v' begun Y1 (Y2 (fields_of w))
-  Y1_goes w g d e = goes_on g d o (Y2 (fields_of w)) (Y1_leads w g d ∙ ap (λ (b : Bool). cond b (ends (AnswerShut false)) (Y2 (fields_of w))) e) refl
+  pub load_top_to_shut_goes : (w : ℕ) → Going n limit o v begun LoadTopToShut → Did n limit o 1 read_top w [] v v' → second_of w ≡ false → Goes n limit o v v' begun LoadTopToShut (ShutTop (fields_of w))
+  load_top_to_shut_goes w g d e = goes_on g d o (ShutTop (fields_of w)) (load_top_to_shut_leads w g d ∙ ap (λ (b : Bool). cond b (ends (AnswerShut false)) (ShutTop (fields_of w))) e) refl
 
-  Y2_leads : (w found : ℕ) (g : Going n limit o v begun (Y2 (fields_of w))) (d : Did n limit o 1 (shut w) found [] v v') (b : Bool) → same d.memory.top (fields_of w) ≡ b → d.out.line ≡ cond b (ends (AnswerShut true)) Y1
-  Y2_leads w found g d b e = ap (λ (x : Outcome T). x.line) (out_at g d)
-      ∙ ap (λ (x : Bool). (cond x (wins (after_shut d.memory (fields_of w)) (ends (AnswerShut true)) (Shut d.pass.number)) (core_goes_on d.memory Y1)).line) e
+  shut_top_leads : (w found : ℕ) (g : Going n limit o v begun (ShutTop (fields_of w))) (d : Did n limit o 1 (shut w) found [] v v') (b : Bool) → same d.memory.top (fields_of w) ≡ b → d.out.line ≡ cond b (ends (AnswerShut true)) LoadTopToShut
+  shut_top_leads w found g d b e = ap (λ (x : Outcome T). x.line) (out_at g d)
+      ∙ ap (λ (x : Bool). (cond x (wins (after_shut d.memory (fields_of w)) (ends (AnswerShut true)) (Shut d.pass.number)) (core_goes_on d.memory LoadTopToShut)).line) e
       ∙ by_cases b
     where
-      by_cases : (b : Bool) → (cond b (wins (after_shut d.memory (fields_of w)) (ends (AnswerShut true)) (Shut d.pass.number)) (core_goes_on d.memory Y1)).line ≡ cond b (ends (AnswerShut true)) Y1
+      by_cases : (b : Bool) → (cond b (wins (after_shut d.memory (fields_of w)) (ends (AnswerShut true)) (Shut d.pass.number)) (core_goes_on d.memory LoadTopToShut)).line ≡ cond b (ends (AnswerShut true)) LoadTopToShut
       by_cases true = refl
       by_cases false = refl
 
-  pub Y2_ends : (w : ℕ) → Going n limit o v begun (Y2 (fields_of w)) → Did n limit o 1 (shut w) w [] v v' → Ends n limit v v' begun (Y2 (fields_of w)) (AnswerShut true)
-  Y2_ends w g d = ends_so g d (AnswerShut true) (Y2_leads w w g d true (is_same d.memory.top (fields_of w) (sym d.finds)))
+  pub shut_top_ends : (w : ℕ) → Going n limit o v begun (ShutTop (fields_of w)) → Did n limit o 1 (shut w) w [] v v' → Ends n limit v v' begun (ShutTop (fields_of w)) (AnswerShut true)
+  shut_top_ends w g d = ends_so g d (AnswerShut true) (shut_top_leads w w g d true (is_same d.memory.top (fields_of w) (sym d.finds)))
 
-  pub Y2_goes : (w found : ℕ) → found ≢ w → Going n limit o v begun (Y2 (fields_of w)) → Did n limit o 1 (shut w) found [] v v' → Goes n limit o v v' begun (Y2 (fields_of w)) Y1
-  Y2_goes w found ne g d = goes_on g d o Y1 (Y2_leads w found g d false (not_same d.memory.top (fields_of w) (λ e. ne ((same_fields found w).1 (d.finds ∙ e))))) refl
+  pub shut_top_goes : (w found : ℕ) → found ≢ w → Going n limit o v begun (ShutTop (fields_of w)) → Did n limit o 1 (shut w) found [] v v' → Goes n limit o v v' begun (ShutTop (fields_of w)) LoadTopToShut
+  shut_top_goes w found ne g d = goes_on g d o LoadTopToShut (shut_top_leads w found g d false (not_same d.memory.top (fields_of w) (λ e. ne ((same_fields found w).1 (d.finds ∙ e))))) refl
 
-  pub V1_ends : (w : ℕ) (b : Bool) → b ≡ eqb (index_of w) NULL → Going n limit o v begun V1 → Did n limit o 1 read_top w [] v v' → Ends n limit v v' begun V1 (AnswerLook b)
-  V1_ends w b is g d = ends_so g d (AnswerLook b) (ap (λ (x : Outcome T). x.line) (out_at g d) ∙ ap (λ (x : Tagged). ends (AnswerLook (eqb x.index NULL))) (sym d.finds) ∙ ap (λ (x : Bool). ends (AnswerLook x)) (sym is))
+  pub load_top_to_look_ends : (w : ℕ) (b : Bool) → b ≡ eqb (index_of w) NULL → Going n limit o v begun LoadTopToLook → Did n limit o 1 read_top w [] v v' → Ends n limit v v' begun LoadTopToLook (AnswerLook b)
+  load_top_to_look_ends w b is g d = ends_so g d (AnswerLook b) (ap (λ (x : Outcome T). x.line) (out_at g d) ∙ ap (λ (x : Tagged). ends (AnswerLook (eqb x.index NULL))) (sym d.finds) ∙ ap (λ (x : Bool). ends (AnswerLook x)) (sym is))
 
 module _ {T : Type 0} {n limit : ℕ} {v v' : View T (Line T)} {begun : PassView T} {l : Line T} where
   pub close_gives : (b : Bool) → Ends n limit v v' begun l (AnswerClose b) → CloseGives (shape n limit) begun (pass_of v') b × IsLine n limit v v' l (ends (AnswerClose b))

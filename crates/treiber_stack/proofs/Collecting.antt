@@ -1,6 +1,6 @@
 -- A range put that collects its nodes.
-use Rattle.std.proofs.Common.{◌≡◌, ◌≢◌, ℕ, ◌+◌, ◌<◌, ◌≤◌, true, false, List, [], ◌∷◌, length, refl, sym, ap, ◌∙◌, subst, arith}
-use Rattle.std.specs.Prelude.{Option as Slot, None, Err}
+use Rattle.std.proofs.Common.{◌≡◌, ◌≢◌, ℕ, ◌<◌, ◌≤◌, true, false, List, [], ◌∷◌, length, refl, sym, ap, ◌∙◌, subst, arith}
+use Rattle.std.specs.Prelude.{None, Err}
 use mathlib.Core.Option.{some}
 use Rattle.tagged_index.specs.Fields.{fields_of, index_of, tag_of, mark_of}
 use Rattle.tagged_index.specs.Limits.{capacity_of, tag_limit_of}
@@ -13,30 +13,29 @@ use Rattle.bounded_model.specs.Laws.{BacksOut, gave_back}
 use Rattle.index_list.specs.Steps.{read_top, read_link, take}
 use Rattle.stack_machine.specs.Deeds.{handed_back}
 use Rattle.machine.proofs.Sums.{total_one}
-use Rattle.stack_machine.specs.Answers.{shape}
 use Rattle.stack_machine.specs.Machine.{held}
 use Rattle.machine.specs.Seats.{pass_of}
 use Rattle.stack_machine.specs.declared.lines.Answer.TheVariants.{Put as AnswerPut}
 use Rattle.stack_machine.specs.declared.lines.Putting.{Putting}
 use Rattle.stack_machine.specs.declared.lines.Line.{Line}
-use Rattle.stack_machine.specs.declared.lines.Line.TheVariants.{F1, F2, F3, F4, P1, D1}
+use Rattle.stack_machine.specs.declared.lines.Line.TheVariants.{LoadFree, LoadFreeLink, TakeFree, LoadTop, LoadTopToRefuse}
 use Rattle.machine.specs.declared.seats.View.{View}
 use Rattle.treiber_stack.specs.Host.{may_step}
-use Rattle.treiber_stack.specs.Operations.{IsAt, IsSame, Going, Ended, Goes, Ends, Told, Takes, Lost, begun_in}
-use Rattle.treiber_stack.specs.Ranging.{NotPut, of_range, loaded, linking, IsCollecting, Stops, TakesFree}
+use Rattle.treiber_stack.specs.Operations.{IsAt, IsSame, Going, Ended, Goes, Told, Takes, Lost, begun_in}
+use Rattle.treiber_stack.specs.Ranging.{NotPut, loaded, linking, Stops}
 use Rattle.treiber_stack.specs.Stack.{IsPassOf, pass_in, shape_of}
 use Rattle.treiber_stack.specs.declared.operation.Operation.{Operation}
-use Rattle.treiber_stack.specs.declared.operation.Operation.TheVariants.{Look as AnyLater}
+use Rattle.treiber_stack.specs.declared.operation.Operation.TheVariants.{Underway}
 use Rattle.treiber_stack.specs.declared.ranging.NoNode.TheVariants.{NoneFree, Spent as NodeSpent}
-use Rattle.treiber_stack.specs.declared.ranging.RangeRefused.TheVariants.{Full, Closed, Spent}
+use Rattle.bounded_model.specs.declared.bulk.RangeRefused.TheVariants.{Full, Closed, Spent}
 use Rattle.treiber_stack.specs.declared.stack.Stack.{Stack}
 use Rattle.treiber_stack.specs.declared.stack.Pass.{Pass}
 use Rattle.treiber_stack.proofs.Going.{begun_going, adds_of}
 use Rattle.treiber_stack.proofs.Closes.{is_at, is_pass}
 use Rattle.treiber_stack.proofs.Takings.{may_going}
-use Rattle.treiber_stack.proofs.Puttings.{F3_slot}
+use Rattle.treiber_stack.proofs.Puttings.{take_free_slot}
 use Rattle.treiber_stack.proofs.Folds.{meets_then}
-use Rattle.treiber_stack.proofs.Ranges.{F1_refused, F1_stops, F1_ends, F1_worn, F1_on, F2_on, F3_first, F3_more, F3_again, D1_closed, D1_worn, D1_full}
+use Rattle.treiber_stack.proofs.Ranges.{load_free_refused, load_free_stops, load_free_ends, load_free_worn, load_free_on, load_free_link_on, take_free_first, take_free_more, take_free_again, load_top_to_refuse_closed, load_top_to_refuse_worn, load_top_to_refuse_full}
 
 module _ {T : Type 0} {n limit : ℕ} {v : View T (Line T)} {begun : PassView T} where
   -- a refused put has given back what it took
@@ -56,34 +55,34 @@ module _ {T : Type 0} (c : Stack T) (o : Operation T) (vs : List T) where
   wants chain = record { values = vs; chain = chain }
 
   module _ (p : Pass T) (w : ℕ) (q : Pass T) (same : IsSame p q) (told : Told c o 0 read_top w [] p q) where
-    pub null_stops : (chain : List ℕ) → IsAt c o p (F1 (wants chain)) (loaded chain (length chain) vs) → index_of w ≡ NULL → Stops c (begun_in p) q chain vs NoneFree
+    pub null_stops : (chain : List ℕ) → IsAt c o p (LoadFree (wants chain)) (loaded chain (length chain) vs) → index_of w ≡ NULL → Stops c (begun_in p) q chain vs NoneFree
     null_stops [] at e =
-        let g = F1_refused AnyLater (wants []) w at.going told.did refl e in
-        (is_at c o p (F1 (wants [])) [] at q same AnyLater (D1 vs) g, begun_going g.0)
+        let g = load_free_refused Underway (wants []) w at.going told.did refl e in
+        (is_at c o p (LoadFree (wants [])) [] at q same Underway (LoadTopToRefuse vs) g, begun_going g.0)
     null_stops (j ∷ js) at e =
-        let g = F1_stops AnyLater (wants (j ∷ js)) w at.going told.did (omega arith) e in
-        (is_at c o p (F1 (wants (j ∷ js))) (loaded (j ∷ js) (length (j ∷ js)) vs) at q same AnyLater (P1 (wants (j ∷ js))) g, begun_going g.0)
+        let g = load_free_stops Underway (wants (j ∷ js)) w at.going told.did (omega arith) e in
+        (is_at c o p (LoadFree (wants (j ∷ js))) (loaded (j ∷ js) (length (j ∷ js)) vs) at q same Underway (LoadTop (wants (j ∷ js))) g, begun_going g.0)
 
-    pub worn_stops : (chain : List ℕ) (t : ℕ) → t ≡ tag_of w → IsAt c o p (F1 (wants chain)) (loaded chain (length chain) vs) → index_of w ≢ NULL → limit ≤ tag_of w → Stops c (begun_in p) q chain vs (NodeSpent t)
+    pub worn_stops : (chain : List ℕ) (t : ℕ) → t ≡ tag_of w → IsAt c o p (LoadFree (wants chain)) (loaded chain (length chain) vs) → index_of w ≢ NULL → limit ≤ tag_of w → Stops c (begun_in p) q chain vs (NodeSpent t)
     worn_stops [] t is at ne h =
-        let g = F1_ends AnyLater (wants []) w at.going told.did refl ne h in (
-          is_pass c o p (F1 (wants [])) [] at q same (AnswerPut (Err (PutSpent vs FreeWord (tag_of w)))) refl g,
+        let g = load_free_ends Underway (wants []) w at.going told.did refl ne h in (
+          is_pass c o p (LoadFree (wants [])) [] at q same (AnswerPut (Err (PutSpent vs FreeWord (tag_of w)))) refl g,
           subst (λ (k : ℕ). NotPut (shape_of c) (begun_in p) (length vs) (pass_in q) (Spent FreeWord k)) (sym is) (backs_out (PutSpent vs FreeWord (tag_of w)) g.0, g.0.tells),
         )
     worn_stops (j ∷ js) t is at ne h =
-        let g = F1_worn AnyLater (wants (j ∷ js)) w at.going told.did (omega arith) ne h in
-        (is_at c o p (F1 (wants (j ∷ js))) (loaded (j ∷ js) (length (j ∷ js)) vs) at q same AnyLater (P1 (wants (j ∷ js))) g, begun_going g.0)
+        let g = load_free_worn Underway (wants (j ∷ js)) w at.going told.did (omega arith) ne h in
+        (is_at c o p (LoadFree (wants (j ∷ js))) (loaded (j ∷ js) (length (j ∷ js)) vs) at q same Underway (LoadTop (wants (j ∷ js))) g, begun_going g.0)
 
-    module _ (chain : List ℕ) (at : IsAt c o p (F1 (wants chain)) (loaded chain (length chain) vs)) (node : index_of w ≢ NULL) (below : tag_of w < limit) where
-      on : Goes n limit o p.seat.me.0 q.seat.me.0 (begun_in p) (F1 (wants chain)) (F2 (wants chain) (fields_of w))
-      on = F1_on o (wants chain) w at.going told.did node below
+    module _ (chain : List ℕ) (at : IsAt c o p (LoadFree (wants chain)) (loaded chain (length chain) vs)) (node : index_of w ≢ NULL) (below : tag_of w < limit) where
+      on : Goes n limit o p.seat.me.0 q.seat.me.0 (begun_in p) (LoadFree (wants chain)) (LoadFreeLink (wants chain) (fields_of w))
+      on = load_free_on o (wants chain) w at.going told.did node below
 
       pub may_read_free : (i : ℕ) → i ≡ index_of w → may_step o 0 (read_link i) q.seat.me.0
       may_read_free i is = may_going 0 (read_link i) on.0 (ap some (sym is))
 
       module _ (i k : ℕ) (is : i ≡ index_of w) (small : k ≤ NULL) (r : Pass T) (same' : IsSame q r) (told' : Told c o 0 (read_link i) k [] q r) where
-        on' : Goes n limit o q.seat.me.0 r.seat.me.0 (begun_in p) (F2 (wants chain) (fields_of w)) (F3 (wants chain) (fields_of w) k)
-        on' = F2_on o (wants chain) w i k is on.0 told'.did
+        on' : Goes n limit o q.seat.me.0 r.seat.me.0 (begun_in p) (LoadFreeLink (wants chain) (fields_of w)) (TakeFree (wants chain) (fields_of w) k)
+        on' = load_free_link_on o (wants chain) w i k is on.0 told'.did
 
         pub may_take_free : may_step o 0 (take w k) r.seat.me.0
         may_take_free = may_going 0 (take w k) on'.0 (refl, small)
@@ -92,7 +91,7 @@ module _ {T : Type 0} (c : Stack T) (o : Operation T) (vs : List T) where
         in_hand : length chain ≤ n
         in_hand =
             let m = meets_then on.0 told'.did in
-            let one = total_one (λ (l : Line T). length (held l)) m.lines m.seat (F2 (wants chain) (fields_of w)) m.here in
+            let one = total_one (λ (l : Line T). length (held l)) m.lines m.seat (LoadFreeLink (wants chain) (fields_of w)) m.here in
             let out = m.good.told.out in
             let room = m.good.told.room in
             omega (arith, one, out, room)
@@ -103,7 +102,7 @@ module _ {T : Type 0} (c : Stack T) (o : Operation T) (vs : List T) where
         module _ (s : Pass T) (table : s.seat.table_id ≡ r.seat.table_id) where
           taken : (l : Line T) → Takes c o 0 w k r s → Going n limit o s.seat.me.0 (begun_in p) l → IsAt c o s l ((index_of w, None) ∷ loaded chain (length chain) vs) × (begun_in s ≡ begun_in p)
           taken l won g =
-              let empty : won.slot ≡ None = F3_slot w k won.slot won.told.did in (
+              let empty : won.slot ≡ None = take_free_slot w k won.slot won.told.did in (
                 record {
                   table = table ∙ same'.table ∙ same.table ∙ at.table;
                   has = won.has ∙ (λ t. (index_of w, empty t) ∷ has t);
@@ -117,34 +116,34 @@ module _ {T : Type 0} (c : Stack T) (o : Operation T) (vs : List T) where
               let t = taken (linking chain vs (index_of w)) won (goes chain on'.0) in
               subst (λ (x : ℕ). IsAt c o s (linking chain vs x) ((x, None) ∷ loaded chain (length chain) vs) × (x < n) × (length chain ≤ n) × (begun_in s ≡ begun_in p)) (sym e) (t.0, low, in_hand, t.1)
             where
-              goes : (chain' : List ℕ) → Going n limit o r.seat.me.0 (begun_in p) (F3 (wants chain') (fields_of w) k) → Going n limit o s.seat.me.0 (begun_in p) (linking chain' vs (index_of w))
-              goes [] g = (F3_first o (wants []) w k w ((index_of w, won.slot) ∷ []) g won.told.did refl refl).0
-              goes (x ∷ xs) g = (F3_more o (wants (x ∷ xs)) w k w ((index_of w, won.slot) ∷ []) g won.told.did refl (omega arith)).0
+              goes : (chain' : List ℕ) → Going n limit o r.seat.me.0 (begun_in p) (TakeFree (wants chain') (fields_of w) k) → Going n limit o s.seat.me.0 (begun_in p) (linking chain' vs (index_of w))
+              goes [] g = (take_free_first o (wants []) w k w ((index_of w, won.slot) ∷ []) g won.told.did refl refl).0
+              goes (x ∷ xs) g = (take_free_more o (wants (x ∷ xs)) w k w ((index_of w, won.slot) ∷ []) g won.told.did refl (omega arith)).0
 
-          pub tries_free_again : (s.seat.me.1 ≡ r.seat.me.1) → Lost c o 0 (take w k) w r s → IsAt c o s (F1 (wants chain)) (loaded chain (length chain) vs) × (begun_in s ≡ begun_in p)
+          pub tries_free_again : (s.seat.me.1 ≡ r.seat.me.1) → Lost c o 0 (take w k) w r s → IsAt c o s (LoadFree (wants chain)) (loaded chain (length chain) vs) × (begun_in s ≡ begun_in p)
           tries_free_again slots lost =
-              let g = F3_again o (wants chain) w k lost.found [] on'.0 lost.told.did lost.other in (
+              let g = take_free_again o (wants chain) w k lost.found [] on'.0 lost.told.did lost.other in (
                 record {
                   table = table ∙ same'.table ∙ same.table ∙ at.table;
                   has = slots ∙ has;
-                  going = subst (λ (b : PassView T). Going n limit o s.seat.me.0 b (F1 (wants chain))) (sym (begun_going g.0)) g.0;
+                  going = subst (λ (b : PassView T). Going n limit o s.seat.me.0 b (LoadFree (wants chain))) (sym (begun_going g.0)) g.0;
                 },
                 begun_going g.0,
               )
 
 -- a range that has no node is refused
-module _ {T : Type 0} (c : Stack T) (vs : List T) (p : Pass T) (at : IsAt c AnyLater p (D1 vs) []) (w : ℕ) (q : Pass T) (same : IsSame p q) (told : Told c AnyLater 1 read_top w [] p q) where
+module _ {T : Type 0} (c : Stack T) (vs : List T) (p : Pass T) (at : IsAt c Underway p (LoadTopToRefuse vs) []) (w : ℕ) (q : Pass T) (same : IsSame p q) (told : Told c Underway 1 read_top w [] p q) where
   pub refused_closed : mark_of w ≡ true → IsPassOf c q × NotPut (shape_of c) (begun_in p) (length vs) (pass_in q) Closed
   refused_closed e =
-      let g = D1_closed vs w at.going told.did e in
-      (is_pass c AnyLater p (D1 vs) [] at q same (AnswerPut (Err (PutClosed vs))) refl g, (backs_out (PutClosed vs) g.0, g.0.tells))
+      let g = load_top_to_refuse_closed vs w at.going told.did e in
+      (is_pass c Underway p (LoadTopToRefuse vs) [] at q same (AnswerPut (Err (PutClosed vs))) refl g, (backs_out (PutClosed vs) g.0, g.0.tells))
 
   pub refused_worn : (t : ℕ) → t ≡ tag_of w → mark_of w ≡ false → tag_limit_of c.limits ≤ tag_of w → IsPassOf c q × NotPut (shape_of c) (begun_in p) (length vs) (pass_in q) (Spent TopWord t)
   refused_worn t is e h =
-      let g = D1_worn vs w at.going told.did t is e h in
-      (is_pass c AnyLater p (D1 vs) [] at q same (AnswerPut (Err (PutSpent vs TopWord t))) refl g, (backs_out (PutSpent vs TopWord t) g.0, g.0.tells))
+      let g = load_top_to_refuse_worn vs w at.going told.did t is e h in
+      (is_pass c Underway p (LoadTopToRefuse vs) [] at q same (AnswerPut (Err (PutSpent vs TopWord t))) refl g, (backs_out (PutSpent vs TopWord t) g.0, g.0.tells))
 
   pub refused_full : mark_of w ≡ false → tag_of w < tag_limit_of c.limits → IsPassOf c q × NotPut (shape_of c) (begun_in p) (length vs) (pass_in q) Full
   refused_full e h =
-      let g = D1_full vs w at.going told.did e h in
-      (is_pass c AnyLater p (D1 vs) [] at q same (AnswerPut (Err (PutFull vs))) refl g.0, (g.1, g.0.0.tells))
+      let g = load_top_to_refuse_full vs w at.going told.did e h in
+      (is_pass c Underway p (LoadTopToRefuse vs) [] at q same (AnswerPut (Err (PutFull vs))) refl g.0, (g.1, g.0.0.tells))

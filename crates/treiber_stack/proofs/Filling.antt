@@ -1,6 +1,5 @@
 -- A range put goes through its places.
-use Rattle.std.proofs.Common.{◌≡◌, ◌≢◌, ℕ, zero, suc, ◌+◌, ◌<◌, ◌≤◌, ◌⊎◌, inl, inr, List, [], ◌∷◌, ◌++◌, map, length, reverse, take, drop, replicate, set, get_or, refl, sym, ap, ◌∙◌, subst, arith}
-use Rattle.std.proofs.lemmas.List.{length-drop}
+use Rattle.std.proofs.Common.{◌≡◌, ◌≢◌, ℕ, zero, suc, ◌+◌, ◌<◌, ◌≤◌, ◌⊎◌, inl, inr, List, [], ◌∷◌, ◌++◌, map, length, drop, replicate, set, get_or, refl, sym, ap, ◌∙◌, subst, arith}
 use Rattle.std.specs.Prelude.{Option as Slot, Some, None}
 use mathlib.Core.Option.{some}
 use Rattle.atomic_table.specs.Table.{rest}
@@ -10,35 +9,35 @@ use Rattle.bounded_model.specs.declared.views.PassView.{PassView}
 use Rattle.index_list.specs.Lists.{Holds}
 use Rattle.index_list.specs.Steps.{write_link}
 use Rattle.machine.specs.Words.{times}
-use Rattle.machine.specs.Chains.{first, second, last}
+use Rattle.machine.specs.Chains.{first, last}
 use Rattle.stack_machine.specs.Machine.{held, next_node}
 use Rattle.stack_machine.specs.declared.lines.Putting.{Putting}
 use Rattle.stack_machine.specs.declared.lines.Line.{Line}
-use Rattle.stack_machine.specs.declared.lines.Line.TheVariants.{Idle, F1, F4, P1}
+use Rattle.stack_machine.specs.declared.lines.Line.TheVariants.{Idle, LoadFree, LinkTaken, LoadTop}
 use Rattle.machine.specs.declared.seats.View.{View}
 use Rattle.machine.proofs.Lists.{times_here, times_else}
 use Rattle.treiber_stack.specs.Host.{may_step}
 use Rattle.treiber_stack.specs.KeepsMemory.{same_or_not, times_holds}
-use Rattle.treiber_stack.specs.Operations.{IsAt, IsSame, Going, Goes, Told, begun_in}
-use Rattle.treiber_stack.specs.Ranging.{loaded, places_from, linking, Stops, IsCollecting, IsStart, HasNodes, IsHolding}
+use Rattle.treiber_stack.specs.Operations.{IsAt, IsSame, Going, Told, begun_in}
+use Rattle.treiber_stack.specs.Ranging.{loaded, places_from, linking, Stops, IsCollecting, IsStart, HasNodes}
 use Rattle.treiber_stack.specs.Rule.{line_in}
-use Rattle.treiber_stack.specs.Places.{somes, values_of}
+use Rattle.bounded_model.specs.Bulk.{somes}
+use Rattle.treiber_stack.specs.Places.{values_of}
 use Rattle.treiber_stack.specs.Stack.{IsPassOf}
 use Rattle.treiber_stack.specs.Host.{first_line, line_now}
 use Rattle.treiber_stack.specs.declared.operation.Listed.{Listed}
 use Rattle.treiber_stack.specs.declared.operation.Listed.TheVariants.{End, More'}
 use Rattle.treiber_stack.proofs.Closes.{is_started}
 use Rattle.treiber_stack.proofs.RangeGives.{somes_all}
-use Rattle.treiber_stack.specs.declared.folding.Chain.{Chain}
 use Rattle.treiber_stack.specs.declared.operation.Operation.{Operation}
-use Rattle.treiber_stack.specs.declared.operation.Operation.TheVariants.{Put as PutFirst, Take as TakeFirst, Close as CloseFirst, Shut as ShutFirst, Look as LookFirst, Fold as FoldFirst, Range as RangeFirst}
+use Rattle.treiber_stack.specs.declared.operation.Operation.TheVariants.{Put as PutFirst, Take as TakeFirst, Close as CloseFirst, Shut as ShutFirst, Look as LookFirst, Fold as FoldFirst, Range as RangeFirst, Underway}
 use Rattle.treiber_stack.specs.declared.ranging.NoNode.{NoNode}
 use Rattle.treiber_stack.specs.declared.stack.Stack.{Stack}
 use Rattle.treiber_stack.specs.declared.stack.Pass.{Pass}
 use Rattle.treiber_stack.proofs.Going.{begun_going}
 use Rattle.treiber_stack.proofs.Takings.{may_going, held_going}
 use Rattle.treiber_stack.proofs.Loading.{next_value, loaded_more}
-use Rattle.treiber_stack.proofs.Ranges.{next_more, next_all, F4_on}
+use Rattle.treiber_stack.proofs.Ranges.{next_more, next_all, link_taken_on}
 
 pub more_than_none : (k : ℕ) → (k ≡ 0 → ⊥) → 0 < k
 more_than_none zero h = absurd (h refl)
@@ -83,11 +82,11 @@ module _ {T : Type 0} (c : Stack T) (o : Operation T) (vs : List T) where
     -- it wants a node for the next value
     pub collects : k < length vs → IsCollecting c o p (wants f.chain)
     collects low =
-        subst (λ (x : ℕ). IsAt c o p (F1 (wants f.chain)) (loaded f.chain x vs)) (sym f.has.counted)
+        subst (λ (x : ℕ). IsAt c o p (LoadFree (wants f.chain)) (loaded f.chain x vs)) (sym f.has.counted)
         (subst (λ (l : Line T). IsAt c o p l (loaded f.chain k vs)) (next_more (wants f.chain) (let e = f.has.counted in omega arith)) f.at)
 
     -- all values have nodes
-    pub holds_all : length vs ≤ k → IsAt c o p (P1 (wants f.chain)) (loaded f.chain k vs)
+    pub holds_all : length vs ≤ k → IsAt c o p (LoadTop (wants f.chain)) (loaded f.chain k vs)
     holds_all high = subst (λ (x : Line T). IsAt c o p x (loaded f.chain k vs)) (next_all (wants f.chain) (let e = f.has.counted in omega arith)) f.at
 
     module _ (low : k < length vs) where
@@ -148,10 +147,10 @@ module _ {T : Type 0} (c : Stack T) (o : Operation T) (vs : List T) where
               some_node [] h e = absurd (omega arith)
               some_node (x ∷ xs) h e = (x, xs, sym e, ap first e ∙ f.has.begins)
 
-          line : linking f.chain vs i ≡ F4 (wants (i ∷ f.chain))
-          line = ap (λ (xs : List ℕ). linking xs vs i) chain_is.2 ∙ ap (λ (xs : List ℕ). F4 (wants (i ∷ xs))) (sym chain_is.2)
+          line : linking f.chain vs i ≡ LinkTaken (wants (i ∷ f.chain))
+          line = ap (λ (xs : List ℕ). linking xs vs i) chain_is.2 ∙ ap (λ (xs : List ℕ). LinkTaken (wants (i ∷ xs))) (sym chain_is.2)
 
-          links : Going n (tag_limit_of c.limits) o r.seat.me.0 (begun_in q) (F4 (wants (i ∷ f.chain)))
+          links : Going n (tag_limit_of c.limits) o r.seat.me.0 (begun_in q) (LinkTaken (wants (i ∷ f.chain)))
           links = subst (λ (l : Line T). Going n (tag_limit_of c.limits) o r.seat.me.0 (begun_in q) l) line going
 
           start_low : start < n
@@ -168,7 +167,7 @@ module _ {T : Type 0} (c : Stack T) (o : Operation T) (vs : List T) where
 
           pub fills_more : (s : Pass T) → IsSame r s → Told c o 0 (write_link i start) start [] r s → IsFilling c o s vs (k + 1) i end × (begun_in s ≡ begun_in q)
           fills_more s same told =
-              let g = F4_on o (wants (i ∷ f.chain)) 0 i start start links told.did in (
+              let g = link_taken_on o (wants (i ∷ f.chain)) 0 i start start links told.did in (
                 record {
                   chain = i ∷ f.chain;
                   has = record {
@@ -189,9 +188,9 @@ module _ {T : Type 0} (c : Stack T) (o : Operation T) (vs : List T) where
 
 -- a range put begins with what its places show
 module _ {T : Type 0} where
-  first_of_range : (l : Listed T) (v : T) (vs : List T) → values_of l ≡ v ∷ vs → first_line (RangeFirst l) ≡ F1 (record { values = v ∷ vs; chain = [] })
+  first_of_range : (l : Listed T) (v : T) (vs : List T) → values_of l ≡ v ∷ vs → first_line (RangeFirst l) ≡ LoadFree (record { values = v ∷ vs; chain = [] })
   first_of_range End v vs e = absurd (let z : 0 ≡ suc (length vs) = ap length e in omega arith)
-  first_of_range (More' x marker others) v vs e = ap (λ (us : List T). F1 (record { values = us; chain = [] })) e
+  first_of_range (More' x marker others) v vs e = ap (λ (us : List T). LoadFree (record { values = us; chain = [] })) e
 
   pub range_starts : (c : Stack T) (p : Pass T) (l : Listed T) (vs : List T) (places : List (Slot T)) → IsPassOf c p → places ≡ map Some vs → 0 < length vs → values_of l ≡ somes places → IsStart c (RangeFirst l) p vs places
   range_starts c p l [] places f are h shows = absurd (omega arith)
@@ -202,22 +201,23 @@ module _ {T : Type 0} where
   }
 
 module _ {T : Type 0} where
-  no_P1 : (o : Operation T) (put : Putting T) → first_line o ≡ P1 put → ⊥
-  no_P1 (PutFirst x) put e = cc
-  no_P1 TakeFirst put e = cc
-  no_P1 CloseFirst put e = cc
-  no_P1 ShutFirst put e = cc
-  no_P1 LookFirst put e = cc
-  no_P1 (FoldFirst front) put e = cc
-  no_P1 (RangeFirst End) put e = cc
-  no_P1 (RangeFirst (More' x marker others)) put e = cc
+  no_load_top : (o : Operation T) (put : Putting T) → first_line o ≡ LoadTop put → ⊥
+  no_load_top (PutFirst x) put e = cc
+  no_load_top TakeFirst put e = cc
+  no_load_top CloseFirst put e = cc
+  no_load_top ShutFirst put e = cc
+  no_load_top LookFirst put e = cc
+  no_load_top Underway put e = cc
+  no_load_top (FoldFirst front) put e = cc
+  no_load_top (RangeFirst End) put e = cc
+  no_load_top (RangeFirst (More' x marker others)) put e = cc
 
-  any_now : (o o' : Operation T) (l : Line T) (put : Putting T) → line_now o l ≡ P1 put → line_now o' l ≡ P1 put
-  any_now o o' (Idle a) put e = absurd (no_P1 o put e)
+  any_now : (o o' : Operation T) (l : Line T) (put : Putting T) → line_now o l ≡ LoadTop put → line_now o' l ≡ LoadTop put
+  any_now o o' (Idle a) put e = absurd (no_load_top o put e)
   any_now o o' l put e = e
 
   -- a range that goes to the top needs no name
-  pub any_name : (c : Stack T) (o o' : Operation T) (p : Pass T) (put : Putting T) (zs : List (ℕ × Slot T)) → IsAt c o p (P1 put) zs → IsAt c o' p (P1 put) zs
+  pub any_name : (c : Stack T) (o o' : Operation T) (p : Pass T) (put : Putting T) (zs : List (ℕ × Slot T)) → IsAt c o p (LoadTop put) zs → IsAt c o' p (LoadTop put) zs
   any_name c o o' p put zs at = record {
     table = at.table;
     has = at.has;
@@ -225,6 +225,6 @@ module _ {T : Type 0} where
   }
 
   -- a range with nodes that gets no further one is put
-  pub stops_holding : (c : Stack T) (v : PassView T) (q : Pass T) (chain : List ℕ) (vs : List T) (why : NoNode) → 0 < length chain → Stops c v q chain vs why → IsAt c LookFirst q (P1 (record { values = vs; chain = chain })) (loaded chain (length chain) vs) × (begun_in q ≡ v)
+  pub stops_holding : (c : Stack T) (v : PassView T) (q : Pass T) (chain : List ℕ) (vs : List T) (why : NoNode) → 0 < length chain → Stops c v q chain vs why → IsAt c Underway q (LoadTop (record { values = vs; chain = chain })) (loaded chain (length chain) vs) × (begun_in q ≡ v)
   stops_holding c v q [] vs why h s = absurd (omega arith)
   stops_holding c v q (x ∷ xs) vs why h s = s

@@ -1,9 +1,8 @@
 -- What each step of a fold leads to.
-use Rattle.std.proofs.Common.{◌≡◌, ◌≢◌, ℕ, ◌+◌, ◌<◌, ◌≤◌, Bool, true, false, cond, eqb, ltb, leb, List, [], ◌∷◌, ◌++◌, length, reverse, refl, sym, ap, ◌∙◌, subst, eq-eqb, ne_eqb, length-append, arith}
+use Rattle.std.proofs.Common.{◌≡◌, ◌≢◌, ℕ, ◌+◌, ◌<◌, ◌≤◌, Bool, false, cond, eqb, ltb, leb, List, [], ◌∷◌, ◌++◌, length, reverse, refl, sym, ap, ◌∙◌, subst, eq-eqb, ne_eqb, arith}
 use Rattle.std.proofs.lemmas.Bool.Decides.{nat_tests}
-use Rattle.std.specs.Prelude.{Option as Slot, Some, Ok, Err}
-use mathlib.Core.Option.{Option, some}
-use Rattle.tagged_index.specs.Fields.{fields_of, index_of, tag_of, mark_of, second_of}
+use Rattle.std.specs.Prelude.{Option as Slot, Err}
+use Rattle.tagged_index.specs.Fields.{fields_of, index_of, tag_of, mark_of}
 use Rattle.tagged_index.specs.declared.word.TheConstants.{NULL}
 use Rattle.tagged_index.proofs.Words.{same_fields}
 use Rattle.bounded_model.specs.declared.answers.TakeRefused.{TakeRefused}
@@ -19,23 +18,21 @@ use Rattle.bounded_model.proofs.Histories.{own-append, own-mine}
 use Rattle.index_list.specs.declared.front.Front.{Front}
 use Rattle.index_list.specs.declared.front.Front.TheVariants.{First, Last}
 use Rattle.index_list.specs.Steps.{Kind, read_top, read_link, write_link, take_all, give_chain, numbers}
-use Rattle.machine.specs.Words.{Tagged, times, total, same, Stands}
+use Rattle.machine.specs.Words.{Tagged, times, total, Stands}
 use Rattle.stack_machine.specs.declared.lines.Direction.{Direction}
-use Rattle.stack_machine.specs.declared.lines.Answer.{Answer}
 use Rattle.stack_machine.specs.declared.lines.Answer.TheVariants.{Fold as AnswerFold}
 use Rattle.stack_machine.specs.declared.lines.Giving.{Giving}
 use Rattle.stack_machine.specs.declared.lines.Taking.TheVariants.{Whole}
 use Rattle.stack_machine.specs.declared.lines.Line.{Line}
-use Rattle.stack_machine.specs.declared.lines.Line.TheVariants.{S1, S2, A1, A2, A3, A4, G1, G2, G3}
+use Rattle.stack_machine.specs.declared.lines.Line.TheVariants.{LoadTopToTake, TakeChain, LoadLinkToTurn, TurnLink, LoadLinkToFold, LoadFreeToGive, LinkToFree, GiveBack}
 use Rattle.machine.specs.declared.seats.View.{View}
-use Rattle.stack_machine.specs.Machine.{Outcome, held, is_idle, ends, at_S1, at_A1, at_R2, at_W1, refuses, goes_on as core_goes_on, wins, wins_chain, after_give, step}
+use Rattle.stack_machine.specs.Machine.{Outcome, held, is_idle, ends, at_load_top_to_take, at_take_chain, at_turn_link, at_load_link_to_fold, goes_on as core_goes_on, wins, wins_chain, after_give}
 use Rattle.machine.specs.Chains.{chain_from, values_in, HasValues}
 use Rattle.stack_machine.specs.Answers.{shape, state}
-use Rattle.stack_machine.specs.Rule.{Good, Walks, Turns}
-use Rattle.machine.specs.Seats.{pass_of, line_of, stepped}
-use Rattle.machine.proofs.Lists.{times_here, leads_from}
+use Rattle.stack_machine.specs.Rule.{Walks, Turns}
+use Rattle.machine.specs.Seats.{pass_of, line_of}
+use Rattle.machine.proofs.Lists.{leads_from}
 use Rattle.machine.proofs.OneList.{front_of}
-use Rattle.machine.proofs.Sums.{total_one}
 use Rattle.machine.proofs.Tests.{cases, at_most_one}
 use Rattle.stack_machine.proofs.Moves.{no_null, all_nodes, all_values}
 use Rattle.treiber_stack.specs.declared.operation.Operation.{Operation}
@@ -69,18 +66,18 @@ module _ {T : Type 0} {n limit : ℕ} {o : Operation T} {list : ℕ} {kind : Kin
 
 module _ {T : Type 0} {n limit : ℕ} {o : Operation T} {v v' : View T (Line T)} {begun : PassView T} where
   -- the load of the top
-  module _ (front : Front) (w : ℕ) (g : Going n limit o v begun (S1 (Whole (direction front)))) (d : Did n limit o 1 read_top w [] v v') where
-    leads : d.out.line ≡ at_S1 limit (Whole (direction front)) (fields_of w)
-    leads = ap (λ (x : Outcome T). x.line) (out_at g d) ∙ ap (λ (x : Tagged). at_S1 limit (Whole (direction front)) x) (sym d.finds)
+  module _ (front : Front) (w : ℕ) (g : Going n limit o v begun (LoadTopToTake (Whole (direction front)))) (d : Did n limit o 1 read_top w [] v v') where
+    leads : d.out.line ≡ at_load_top_to_take limit (Whole (direction front)) (fields_of w)
+    leads = ap (λ (x : Outcome T). x.line) (out_at g d) ∙ ap (λ (x : Tagged). at_load_top_to_take limit (Whole (direction front)) x) (sym d.finds)
 
-    pub S1_refuses : (why : TakeRefused) → RefusesTake T limit w why → Ends n limit v v' begun (S1 (Whole (direction front))) (AnswerFold (Err why))
-    S1_refuses why r = ends_so g d (AnswerFold (Err why)) (leads ∙ r (Whole (direction front)))
+    pub load_top_to_take_refuses : (why : TakeRefused) → RefusesTake T limit w why → Ends n limit v v' begun (LoadTopToTake (Whole (direction front))) (AnswerFold (Err why))
+    load_top_to_take_refuses why r = ends_so g d (AnswerFold (Err why)) (leads ∙ r (Whole (direction front)))
 
-    pub S1_allows : (o' : Operation T) → AllowsTake limit w → Goes n limit o' v v' begun (S1 (Whole (direction front))) (A1 (direction front) (fields_of w))
-    S1_allows o' a = goes_on g d o' (A1 (direction front) (fields_of w)) (leads ∙ allowed) refl
+    pub load_top_to_take_allows : (o' : Operation T) → AllowsTake limit w → Goes n limit o' v v' begun (LoadTopToTake (Whole (direction front))) (TakeChain (direction front) (fields_of w))
+    load_top_to_take_allows o' a = goes_on g d o' (TakeChain (direction front) (fields_of w)) (leads ∙ allowed) refl
       where
         goes : Line T
-        goes = A1 (direction front) (fields_of w)
+        goes = TakeChain (direction front) (fields_of w)
 
         spent : Line T
         spent = cond (leb limit (tag_of w)) (ends (AnswerFold (Err (TakeSpent TopWord (tag_of w))))) goes
@@ -88,25 +85,25 @@ module _ {T : Type 0} {n limit : ℕ} {o : Operation T} {v v' : View T (Line T)}
         nothing : Line T
         nothing = ends (AnswerFold (Err (cond (mark_of w) TakeClosed TakeEmpty)))
 
-        allowed : at_S1 limit (Whole (direction front)) (fields_of w) ≡ goes
+        allowed : at_load_top_to_take limit (Whole (direction front)) (fields_of w) ≡ goes
         allowed = ap (λ (b : Bool). cond b (ends (AnswerFold (Err TakeShut))) (cond (eqb (index_of w) NULL) nothing spent)) a.0
             ∙ ap (λ (b : Bool). cond b nothing spent) (ne_eqb (index_of w) NULL a.1)
             ∙ ap (λ (b : Bool). cond b (ends (AnswerFold (Err (TakeSpent TopWord (tag_of w))))) goes) (leb_not limit (tag_of w) a.2)
 
-  pub S1_stays : (front : Front) (w : ℕ) (g : Going n limit o v begun (S1 (Whole (direction front)))) (d : Did n limit o 1 read_top w [] v v') → own begun.number (pass_of v').seen ≡ own begun.number (pass_of v).seen
-  S1_stays front w g d = own_stays g d (ap (λ (x : Outcome T). x.events) (out_at g d))
+  pub load_top_to_take_stays : (front : Front) (w : ℕ) (g : Going n limit o v begun (LoadTopToTake (Whole (direction front)))) (d : Did n limit o 1 read_top w [] v v') → own begun.number (pass_of v').seen ≡ own begun.number (pass_of v).seen
+  load_top_to_take_stays front w g d = own_stays g d (ap (λ (x : Outcome T). x.events) (out_at g d))
 
   -- the exchange of the top for null
-  pub A1_lost : (o' : Operation T) (front : Front) (w found : ℕ) → found ≢ w → (g : Going n limit o v begun (A1 (direction front) (fields_of w))) (d : Did n limit o 1 (take_all w) found [] v v') → Goes n limit o' v v' begun (A1 (direction front) (fields_of w)) (S1 (Whole (direction front)))
-  A1_lost o' front w found ne g d = goes_on g d o' (S1 (Whole (direction front)))
+  pub take_chain_lost : (o' : Operation T) (front : Front) (w found : ℕ) → found ≢ w → (g : Going n limit o v begun (TakeChain (direction front) (fields_of w))) (d : Did n limit o 1 (take_all w) found [] v v') → Goes n limit o' v v' begun (TakeChain (direction front) (fields_of w)) (LoadTopToTake (Whole (direction front)))
+  take_chain_lost o' front w found ne g d = goes_on g d o' (LoadTopToTake (Whole (direction front)))
       (ap (λ (y : Outcome T). y.line) (out_at g d)
-      ∙ ap (λ (b : Bool). (cond b (wins_chain d.memory d.pass.number (direction front) (fields_of w) (chain_from n d.memory.link (index_of w))) (core_goes_on d.memory (S1 (Whole (direction front))))).line)
+      ∙ ap (λ (b : Bool). (cond b (wins_chain d.memory d.pass.number (direction front) (fields_of w) (chain_from n d.memory.link (index_of w))) (core_goes_on d.memory (LoadTopToTake (Whole (direction front))))).line)
       (not_same d.memory.top (fields_of w) (λ e. ne ((same_fields found w).1 (d.finds ∙ e)))))
       refl
 
 module _ {T : Type 0} {n limit : ℕ} {o : Operation T} {v : View T (Line T)} {begun : PassView T} where
   -- so far the pass has done nothing
-  pub none_made : (d : Direction) (w : Tagged) → Going n limit o v begun (A1 d w) → own begun.number (pass_of v).seen ≡ own begun.number begun.seen
+  pub none_made : (d : Direction) (w : Tagged) → Going n limit o v begun (TakeChain d w) → own begun.number (pass_of v).seen ≡ own begun.number begun.seen
   none_made d w g =
       ap (λ (u : View T (Line T)). own begun.number (pass_of u).seen) g.is
       ∙ ap (own begun.number) g.deeds.is
@@ -117,20 +114,20 @@ module _ {T : Type 0} {n limit : ℕ} {o : Operation T} {v : View T (Line T)} {b
 pub record WonAll {T : Type 0} (n limit : ℕ) (o : Operation T) (front : Front) (w : ℕ) (zs : List (ℕ × Slot T)) (v v' : View T (Line T)) (begun : PassView T) : Type 0 where
   pub chain : List ℕ
   pub values : List T
-  pub goes : Goes n limit o v v' begun (A1 (direction front) (fields_of w)) (at_A1 (direction front) (fields_of w) chain values)
+  pub goes : Goes n limit o v v' begun (TakeChain (direction front) (fields_of w)) (at_take_chain (direction front) (fields_of w) chain values)
   pub slots : zs ≡ full chain values
   pub hand : IsHand n chain values
   pub others : List ℕ
   pub begins : chain ≡ index_of w ∷ others
   pub added : own begun.number (pass_of v').seen ≡ TakeAll begun.number values (tag_of w) ∷ own begun.number (pass_of v).seen
 
-busy : {T : Type 0} (front : Front) (w : Tagged) (chain : List ℕ) (values : List T) → is_idle (at_A1 (direction front) w chain values) ≡ false
+busy : {T : Type 0} (front : Front) (w : Tagged) (chain : List ℕ) (values : List T) → is_idle (at_take_chain (direction front) w chain values) ≡ false
 busy First w chain values = refl
 busy Last w chain values = refl
 
 module _ {T : Type 0} {n limit : ℕ} {o : Operation T} {v v' : View T (Line T)} {begun : PassView T} where
-  module _ (front : Front) (w : ℕ) (zs : List (ℕ × Slot T)) (node : index_of w ≢ NULL) (g : Going n limit o v begun (A1 (direction front) (fields_of w))) (d : Did n limit o 1 (take_all w) w zs v v') where
-    abbrev m : Meets n limit d.memory d.history d.pass.number (A1 (direction front) (fields_of w))
+  module _ (front : Front) (w : ℕ) (zs : List (ℕ × Slot T)) (node : index_of w ≢ NULL) (g : Going n limit o v begun (TakeChain (direction front) (fields_of w))) (d : Did n limit o 1 (take_all w) w zs v v') where
+    abbrev m : Meets n limit d.memory d.history d.pass.number (TakeChain (direction front) (fields_of w))
     m = meets_then g d
 
     abbrev stack : List ℕ
@@ -146,15 +143,15 @@ module _ {T : Type 0} {n limit : ℕ} {o : Operation T} {v v' : View T (Line T)}
     stands = leads_from d.memory.link d.memory.top.index (index_of w) stack NULL (ap (λ (y : Tagged). y.index) won) m.good.linked.top_stands
 
     nowhere : times NULL stack ≡ 0
-    nowhere = let t = no_null m.seat (A1 (direction front) (fields_of w)) m.good m.here in omega arith
+    nowhere = let t = no_null m.seat (TakeChain (direction front) (fields_of w)) m.good m.here in omega arith
 
     nodes : numbers zs ≡ stack
     nodes = one_list d.memory.link (index_of w) (numbers zs) stack (d.moves refl).0 stands nowhere
 
     out_is : d.out ≡ wins_chain d.memory d.pass.number (direction front) (fields_of w) stack
     out_is = out_at g d
-        ∙ ap (λ (b : Bool). cond b (wins_chain d.memory d.pass.number (direction front) (fields_of w) (chain_from n d.memory.link (index_of w))) (core_goes_on d.memory (S1 (Whole (direction front))))) (is_same d.memory.top (fields_of w) won)
-        ∙ ap (wins_chain d.memory d.pass.number (direction front) (fields_of w)) (all_nodes m.seat (A1 (direction front) (fields_of w)) (fields_of w) m.good m.here won)
+        ∙ ap (λ (b : Bool). cond b (wins_chain d.memory d.pass.number (direction front) (fields_of w) (chain_from n d.memory.link (index_of w))) (core_goes_on d.memory (LoadTopToTake (Whole (direction front))))) (is_same d.memory.top (fields_of w) won)
+        ∙ ap (wins_chain d.memory d.pass.number (direction front) (fields_of w)) (all_nodes m.seat (TakeChain (direction front) (fields_of w)) (fields_of w) m.good m.here won)
 
     are : values_in d.memory.home stack ≡ values
     are = all_values m.good
@@ -170,13 +167,13 @@ module _ {T : Type 0} {n limit : ℕ} {o : Operation T} {v v' : View T (Line T)}
         below : (i : ℕ) → times i m.lists.frees + times i stack + total (λ (u : Line T). times i (held u)) m.lines ≡ cond (ltb i n) 1 0 → 0 < times i stack → i < n
         below i e some_there = cases (λ k. times i m.lists.frees + times i stack + total (λ (u : Line T). times i (held u)) m.lines ≡ k → i < n) (ltb i n) 1 0 (λ b e. grind (arith, nat_tests)) (λ b e. absurd (omega arith)) e
 
-    pub A1_won : (o' : Operation T) → WonAll n limit o' front w zs v v' begun
-    A1_won o' =
+    pub take_chain_won : (o' : Operation T) → WonAll n limit o' front w zs v v' begun
+    take_chain_won o' =
         let f = front_of d.memory.link (index_of w) stack NULL node stands in
         record {
           chain = stack;
           values = values;
-          goes = goes_on g d o' (at_A1 (direction front) (fields_of w) stack values) (ap (λ (y : Outcome T). y.line) out_is ∙ ap (at_A1 (direction front) (fields_of w) stack) are) (busy front (fields_of w) stack values);
+          goes = goes_on g d o' (at_take_chain (direction front) (fields_of w) stack values) (ap (λ (y : Outcome T). y.line) out_is ∙ ap (at_take_chain (direction front) (fields_of w) stack) are) (busy front (fields_of w) stack values);
           slots = full_is d.memory.home zs values (d.moves refl).1 (subst (λ (is : List ℕ). HasValues d.memory.home is values) (sym nodes) m.good.filled.stored) ∙ ap (λ (is : List ℕ). full is values) nodes;
           hand = in_hand;
           others = f.rest;
@@ -186,78 +183,78 @@ module _ {T : Type 0} {n limit : ℕ} {o : Operation T} {v v' : View T (Line T)}
         }
 
   -- the walk along the chain: a load of a node's link
-  module _ (o' : Operation T) (i next : ℕ) (give : Giving T) (list : ℕ) (g : Going n limit o v begun (A4 give i)) (d : Did n limit o list (read_link i) next [] v v') where
-    walks_to : d.out.line ≡ at_W1 give next
-    walks_to = ap (λ (x : Outcome T). x.line) (out_at g d) ∙ ap (λ (k : ℕ). at_W1 give k) d.finds.0
+  module _ (o' : Operation T) (i next : ℕ) (give : Giving T) (list : ℕ) (g : Going n limit o v begun (LoadLinkToFold give i)) (d : Did n limit o list (read_link i) next [] v v') where
+    walks_to : d.out.line ≡ at_load_link_to_fold give next
+    walks_to = ap (λ (x : Outcome T). x.line) (out_at g d) ∙ ap (λ (k : ℕ). at_load_link_to_fold give k) d.finds.0
 
-    pub A4_ends : next ≡ NULL → Goes n limit o' v v' begun (A4 give i) (G1 give)
-    A4_ends e = goes_on g d o' (G1 give) (walks_to ∙ ap (λ (b : Bool). cond b (G1 give) (A4 give next)) (eq-eqb next NULL e)) refl
+    pub load_link_to_fold_ends : next ≡ NULL → Goes n limit o' v v' begun (LoadLinkToFold give i) (LoadFreeToGive give)
+    load_link_to_fold_ends e = goes_on g d o' (LoadFreeToGive give) (walks_to ∙ ap (λ (b : Bool). cond b (LoadFreeToGive give) (LoadLinkToFold give next)) (eq-eqb next NULL e)) refl
 
-    pub A4_goes : next ≢ NULL → Goes n limit o' v v' begun (A4 give i) (A4 give next)
-    A4_goes ne = goes_on g d o' (A4 give next) (walks_to ∙ ap (λ (b : Bool). cond b (G1 give) (A4 give next)) (ne_eqb next NULL ne)) refl
+    pub load_link_to_fold_goes : next ≢ NULL → Goes n limit o' v v' begun (LoadLinkToFold give i) (LoadLinkToFold give next)
+    load_link_to_fold_goes ne = goes_on g d o' (LoadLinkToFold give next) (walks_to ∙ ap (λ (b : Bool). cond b (LoadFreeToGive give) (LoadLinkToFold give next)) (ne_eqb next NULL ne)) refl
 
-    pub A4_stays : own begun.number (pass_of v').seen ≡ own begun.number (pass_of v).seen
-    A4_stays = own_stays g d (ap (λ (x : Outcome T). x.events) (out_at g d))
+    pub load_link_to_fold_stays : own begun.number (pass_of v').seen ≡ own begun.number (pass_of v).seen
+    load_link_to_fold_stays = own_stays g d (ap (λ (x : Outcome T). x.events) (out_at g d))
 
     -- the link leads to the rest of the chain
-    pub A4_rest : (done others : List ℕ) → give.chain ≡ done ++ i ∷ others → times i give.chain ≤ 1 → Stands d.memory.link next others
-    A4_rest done others parts once =
+    pub load_link_to_fold_rest : (done others : List ℕ) → give.chain ≡ done ++ i ∷ others → times i give.chain ≤ 1 → Stands d.memory.link next others
+    load_link_to_fold_rest done others parts once =
         let m = meets_then g d in
-        let w : Walks d.memory.link give.chain i = m.good.linked.fine m.seat (A4 give i) m.here in
+        let w : Walks d.memory.link give.chain i = m.good.linked.fine m.seat (LoadLinkToFold give i) m.here in
         let f = front_of d.memory.link i w.left NULL w.here w.stands in
         let e : others ≡ f.rest = same_rest i done others w.above f.rest (subst (λ (xs : List ℕ). times i xs ≤ 1) parts once) (sym parts ∙ w.is ∙ ap (λ (xs : List ℕ). w.above ++ xs) f.is) in
         subst (λ (k : ℕ). Stands d.memory.link k others) d.finds.0 (subst (λ (xs : List ℕ). Stands d.memory.link (d.memory.link i) xs) (sym e) f.leads)
 
   -- the turn of a node: a load of its link, and a store
-  pub A2_goes : (o' : Operation T) (above i below : ℕ) (give : Giving T) (list : ℕ) (g : Going n limit o v begun (A2 give above i)) (d : Did n limit o list (read_link i) below [] v v') → Goes n limit o' v v' begun (A2 give above i) (A3 give above i below)
-  A2_goes o' above i below give list g d = goes_on g d o' (A3 give above i below) (ap (λ (x : Outcome T). x.line) (out_at g d) ∙ ap (λ (k : ℕ). A3 give above i k) d.finds.0) refl
+  pub load_link_to_turn_goes : (o' : Operation T) (above i below : ℕ) (give : Giving T) (list : ℕ) (g : Going n limit o v begun (LoadLinkToTurn give above i)) (d : Did n limit o list (read_link i) below [] v v') → Goes n limit o' v v' begun (LoadLinkToTurn give above i) (TurnLink give above i below)
+  load_link_to_turn_goes o' above i below give list g d = goes_on g d o' (TurnLink give above i below) (ap (λ (x : Outcome T). x.line) (out_at g d) ∙ ap (λ (k : ℕ). TurnLink give above i k) d.finds.0) refl
 
-  pub A2_stays : (above i below : ℕ) (give : Giving T) (list : ℕ) (g : Going n limit o v begun (A2 give above i)) (d : Did n limit o list (read_link i) below [] v v') → own begun.number (pass_of v').seen ≡ own begun.number (pass_of v).seen
-  A2_stays above i below give list g d = own_stays g d (ap (λ (x : Outcome T). x.events) (out_at g d))
+  pub load_link_to_turn_stays : (above i below : ℕ) (give : Giving T) (list : ℕ) (g : Going n limit o v begun (LoadLinkToTurn give above i)) (d : Did n limit o list (read_link i) below [] v v') → own begun.number (pass_of v').seen ≡ own begun.number (pass_of v).seen
+  load_link_to_turn_stays above i below give list g d = own_stays g d (ap (λ (x : Outcome T). x.events) (out_at g d))
 
-  module _ (o' : Operation T) (above i below found : ℕ) (give : Giving T) (list : ℕ) (g : Going n limit o v begun (A3 give above i below)) (d : Did n limit o list (write_link i above) found [] v v') where
+  module _ (o' : Operation T) (above i below found : ℕ) (give : Giving T) (list : ℕ) (g : Going n limit o v begun (TurnLink give above i below)) (d : Did n limit o list (write_link i above) found [] v v') where
     abbrev back : Giving T
     back = record give { chain = reverse give.chain }
 
-    turns_to : d.out.line ≡ at_R2 give i below
+    turns_to : d.out.line ≡ at_turn_link give i below
     turns_to = ap (λ (x : Outcome T). x.line) (out_at g d)
 
-    pub A3_ends : below ≡ NULL → Goes n limit o' v v' begun (A3 give above i below) (A4 back i)
-    A3_ends e = goes_on g d o' (A4 back i) (turns_to ∙ ap (λ (b : Bool). cond b (A4 back i) (A2 give i below)) (eq-eqb below NULL e)) refl
+    pub turn_link_ends : below ≡ NULL → Goes n limit o' v v' begun (TurnLink give above i below) (LoadLinkToFold back i)
+    turn_link_ends e = goes_on g d o' (LoadLinkToFold back i) (turns_to ∙ ap (λ (b : Bool). cond b (LoadLinkToFold back i) (LoadLinkToTurn give i below)) (eq-eqb below NULL e)) refl
 
-    pub A3_goes : below ≢ NULL → Goes n limit o' v v' begun (A3 give above i below) (A2 give i below)
-    A3_goes ne = goes_on g d o' (A2 give i below) (turns_to ∙ ap (λ (b : Bool). cond b (A4 back i) (A2 give i below)) (ne_eqb below NULL ne)) refl
+    pub turn_link_goes : below ≢ NULL → Goes n limit o' v v' begun (TurnLink give above i below) (LoadLinkToTurn give i below)
+    turn_link_goes ne = goes_on g d o' (LoadLinkToTurn give i below) (turns_to ∙ ap (λ (b : Bool). cond b (LoadLinkToFold back i) (LoadLinkToTurn give i below)) (ne_eqb below NULL ne)) refl
 
-    pub A3_stays : own begun.number (pass_of v').seen ≡ own begun.number (pass_of v).seen
-    A3_stays = own_stays g d (ap (λ (x : Outcome T). x.events) (out_at g d))
+    pub turn_link_stays : own begun.number (pass_of v').seen ≡ own begun.number (pass_of v).seen
+    turn_link_stays = own_stays g d (ap (λ (x : Outcome T). x.events) (out_at g d))
 
-    pub A3_rest : (turned others : List ℕ) → give.chain ≡ reverse turned ++ i ∷ others → times i give.chain ≤ 1 → Stands d.memory.link below others
-    A3_rest turned others parts once =
+    pub turn_link_rest : (turned others : List ℕ) → give.chain ≡ reverse turned ++ i ∷ others → times i give.chain ≤ 1 → Stands d.memory.link below others
+    turn_link_rest turned others parts once =
         let m = meets_then g d in
-        let t : Turns d.memory.link give.chain above i × (d.memory.link i ≡ below) = m.good.linked.fine m.seat (A3 give above i below) m.here in
+        let t : Turns d.memory.link give.chain above i × (d.memory.link i ≡ below) = m.good.linked.fine m.seat (TurnLink give above i below) m.here in
         let f = front_of d.memory.link i t.0.left NULL t.0.here t.0.downwards in
         let e : others ≡ f.rest = same_rest i (reverse turned) others (reverse t.0.turned) f.rest (subst (λ (xs : List ℕ). times i xs ≤ 1) parts once) (sym parts ∙ t.0.is ∙ ap (λ (xs : List ℕ). reverse t.0.turned ++ xs) f.is) in
         subst (λ (k : ℕ). Stands d.memory.link k others) t.1 (subst (λ (xs : List ℕ). Stands d.memory.link (d.memory.link i) xs) (sym e) f.leads)
 
   -- the give of the chain
-  pub G1_stays : (w : ℕ) (t : Giving T) (g : Going n limit o v begun (G1 t)) (d : Did n limit o 0 read_top w [] v v') → own begun.number (pass_of v').seen ≡ own begun.number (pass_of v).seen
-  G1_stays w t g d = own_stays g d (ap (λ (x : Outcome T). x.events) (out_at g d))
+  pub load_free_to_give_stays : (w : ℕ) (t : Giving T) (g : Going n limit o v begun (LoadFreeToGive t)) (d : Did n limit o 0 read_top w [] v v') → own begun.number (pass_of v').seen ≡ own begun.number (pass_of v).seen
+  load_free_to_give_stays w t g d = own_stays g d (ap (λ (x : Outcome T). x.events) (out_at g d))
 
-  pub G2_stays : (w i k found : ℕ) (t : Giving T) (g : Going n limit o v begun (G2 t (fields_of w))) (d : Did n limit o 0 (write_link i k) found [] v v') → own begun.number (pass_of v').seen ≡ own begun.number (pass_of v).seen
-  G2_stays w i k found t g d = own_stays g d (ap (λ (x : Outcome T). x.events) (out_at g d))
+  pub link_to_free_stays : (w i k found : ℕ) (t : Giving T) (g : Going n limit o v begun (LinkToFree t (fields_of w))) (d : Did n limit o 0 (write_link i k) found [] v v') → own begun.number (pass_of v').seen ≡ own begun.number (pass_of v).seen
+  link_to_free_stays w i k found t g d = own_stays g d (ap (λ (x : Outcome T). x.events) (out_at g d))
 
-  pub G3_stays : (w i found : ℕ) (t : Giving T) → found ≢ w → (g : Going n limit o v begun (G3 t (fields_of w))) (d : Did n limit o 0 (give_chain w i) found [] v v') → own begun.number (pass_of v').seen ≡ own begun.number (pass_of v).seen
-  G3_stays w i found t ne g d = own_stays g d
+  pub give_back_stays : (w i found : ℕ) (t : Giving T) → found ≢ w → (g : Going n limit o v begun (GiveBack t (fields_of w))) (d : Did n limit o 0 (give_chain w i) found [] v v') → own begun.number (pass_of v').seen ≡ own begun.number (pass_of v).seen
+  give_back_stays w i found t ne g d = own_stays g d
       (ap (λ (y : Outcome T). y.events) (out_at g d)
-      ∙ ap (λ (b : Bool). (cond b (wins (after_give d.memory (fields_of w) t.chain) (ends t.answer) (Free d.pass.number (length t.chain))) (core_goes_on d.memory (G1 t))).events)
+      ∙ ap (λ (b : Bool). (cond b (wins (after_give d.memory (fields_of w) t.chain) (ends t.answer) (Free d.pass.number (length t.chain))) (core_goes_on d.memory (LoadFreeToGive t))).events)
       (not_same d.memory.free (fields_of w) (λ e. ne ((same_fields found w).1 (d.finds ∙ e)))))
 
   -- the exchange that gives the chain back
-  pub G3_adds : (w i : ℕ) (t : Giving T) (zs : List (ℕ × Slot T)) (g : Going n limit o v begun (G3 t (fields_of w))) (d : Did n limit o 0 (give_chain w i) w zs v v') → own begun.number (pass_of v').seen ≡ Free begun.number (length t.chain) ∷ own begun.number (pass_of v).seen
-  G3_adds w i t zs g d =
+  pub give_back_adds : (w i : ℕ) (t : Giving T) (zs : List (ℕ × Slot T)) (g : Going n limit o v begun (GiveBack t (fields_of w))) (d : Did n limit o 0 (give_chain w i) w zs v v') → own begun.number (pass_of v').seen ≡ Free begun.number (length t.chain) ∷ own begun.number (pass_of v).seen
+  give_back_adds w i t zs g d =
       own_adds g d (Free d.pass.number (length t.chain))
       (ap (λ (y : Outcome T). y.events) (out_at g d)
-      ∙ ap (λ (b : Bool). (cond b (wins (after_give d.memory (fields_of w) t.chain) (ends t.answer) (Free d.pass.number (length t.chain))) (core_goes_on d.memory (G1 t))).events) (is_same d.memory.free (fields_of w) (sym d.finds)))
+      ∙ ap (λ (b : Bool). (cond b (wins (after_give d.memory (fields_of w) t.chain) (ends t.answer) (Free d.pass.number (length t.chain))) (core_goes_on d.memory (LoadFreeToGive t))).events) (is_same d.memory.free (fields_of w) (sym d.finds)))
       refl
       ∙ ap (λ (k : ℕ). Free k (length t.chain) ∷ own begun.number (pass_of v).seen) (number_after g d)
 

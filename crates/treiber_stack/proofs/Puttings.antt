@@ -1,6 +1,6 @@
 -- What each step of a put leads to.
 use Rattle.std.proofs.Common.{◌≡◌, ◌≢◌, ℕ, ◌<◌, ◌≤◌, Bool, true, false, cond, eqb, leb, List, [], ◌∷◌, ◌++◌, length, refl, sym, ap, ◌∙◌, subst, eq-eqb, ne_eqb, arith}
-use Rattle.std.specs.Prelude.{Option as Slot, Some, None, Result, Ok, Err}
+use Rattle.std.specs.Prelude.{Option as Slot, Some, None, Ok, Err}
 use mathlib.Core.Option.{none, some}
 use Rattle.tagged_index.specs.Fields.{fields_of, index_of, tag_of, mark_of}
 use Rattle.tagged_index.specs.declared.word.TheConstants.{NULL}
@@ -16,12 +16,11 @@ use Rattle.bounded_model.specs.Laws.{PutGives, Adds, BacksOut, gave_back}
 use Rattle.bounded_model.proofs.Histories.{own-mine}
 use Rattle.index_list.specs.Steps.{read_top, read_link, write_link, take, give_chain}
 use Rattle.machine.specs.Words.{Tagged, same}
-use Rattle.stack_machine.specs.declared.lines.Answer.{Answer}
 use Rattle.stack_machine.specs.declared.lines.Answer.TheVariants.{Put as AnswerPut}
 use Rattle.stack_machine.specs.declared.lines.Line.{Line}
-use Rattle.stack_machine.specs.declared.lines.Line.TheVariants.{F1, F2, F3, P1, P2, P3, D1, G1}
+use Rattle.stack_machine.specs.declared.lines.Line.TheVariants.{LoadFree, LoadFreeLink, TakeFree, LoadTop, LinkToTop, SwapTop, LoadTopToRefuse}
 use Rattle.machine.specs.declared.seats.View.{View}
-use Rattle.stack_machine.specs.Machine.{Outcome, ends, gives, at_F1, at_F3, at_P1, at_D1, goes_on as core_goes_on, wins, after_hold, after_put}
+use Rattle.stack_machine.specs.Machine.{Outcome, ends, gives, at_load_free, at_take_free, at_load_top, at_load_top_to_refuse, goes_on as core_goes_on, wins, after_hold, after_put}
 use Rattle.stack_machine.specs.Answers.{shape}
 use Rattle.stack_machine.specs.Deeds.{handed_back}
 use Rattle.machine.specs.Seats.{pass_of}
@@ -36,7 +35,7 @@ use Rattle.treiber_stack.specs.Rule.{line_in}
 use Rattle.treiber_stack.specs.KeepsMarks.{is_same, not_same}
 use Rattle.treiber_stack.specs.KeepsPuts.{puts_line}
 use Rattle.treiber_stack.specs.Operations.{IsAt, Going, Ended, IsLine, Goes, Ends}
-use Rattle.treiber_stack.specs.Putting.{shown, wanting, bearing, of_range, put_answer, Returns}
+use Rattle.treiber_stack.specs.Putting.{shown, wanting, bearing, put_answer, Returns}
 use Rattle.treiber_stack.proofs.Going.{renamed, goes_on, ends_so, out_at, adds_of, adds_by, deeds_then, number_after}
 use Rattle.treiber_stack.proofs.Takings.{leb_yes, leb_not, same_slot, front_slot}
 
@@ -52,161 +51,161 @@ module _ {T : Type 0} where
 
   -- a put whose name shows its value
   pub named_first : (c : Stack T) (p : Pass T) (y : T) (s : Snapshot T) → s.value ≡ y → {l : Line T} {slots : List (ℕ × Slot T)} → IsAt c (PutFirst (shown y)) p l slots → IsAt c (PutFirst s) p l slots
-  named_first c p y s e at = record { table = at.table; has = at.has; going = renamed (PutFirst (shown y)) (PutFirst s) (ap (λ (x : T). F1 (record { values = x ∷ []; chain = [] })) e) at.going }
+  named_first c p y s e at = record { table = at.table; has = at.has; going = renamed (PutFirst (shown y)) (PutFirst s) (ap (λ (x : T). LoadFree (record { values = x ∷ []; chain = [] })) e) at.going }
 
   -- the slot of a free node is empty
-  pub F3_slot : {n limit : ℕ} {o : Operation T} {v v' : View T (Line T)} (w k : ℕ) (s : Slot T) → Did n limit o 0 (take w k) w ((index_of w, s) ∷ []) v v' → s ≡ None
-  F3_slot w k s d = let m = d.moves refl in same_slot (index_of w) s m.0 m.1 ∙ m.3
+  pub take_free_slot : {n limit : ℕ} {o : Operation T} {v v' : View T (Line T)} (w k : ℕ) (s : Slot T) → Did n limit o 0 (take w k) w ((index_of w, s) ∷ []) v v' → s ≡ None
+  take_free_slot w k s d = let m = d.moves refl in same_slot (index_of w) s m.0 m.1 ∙ m.3
 
 module _ {T : Type 0} {n limit : ℕ} {o : Operation T} {v v' : View T (Line T)} {begun : PassView T} where
-  module _ (o' : Operation T) (y : T) (w : ℕ) (g : Going n limit o v begun (F1 (wanting y))) (d : Did n limit o 0 read_top w [] v v') where
+  module _ (o' : Operation T) (y : T) (w : ℕ) (g : Going n limit o v begun (LoadFree (wanting y))) (d : Did n limit o 0 read_top w [] v v') where
     abbrev spent_free : Line T
-    spent_free = cond (leb limit (tag_of w)) (ends (AnswerPut (Err (Spent (y ∷ []) FreeWord (tag_of w))))) (F2 (wanting y) (fields_of w))
+    spent_free = cond (leb limit (tag_of w)) (ends (AnswerPut (Err (Spent (y ∷ []) FreeWord (tag_of w))))) (LoadFreeLink (wanting y) (fields_of w))
 
-    F1_leads : d.out.line ≡ cond (eqb (index_of w) NULL) (D1 (y ∷ [])) spent_free
-    F1_leads = ap (λ (x : Outcome T). x.line) (out_at g d) ∙ ap (λ (x : Tagged). at_F1 limit (wanting y) x) (sym d.finds)
+    load_free_leads : d.out.line ≡ cond (eqb (index_of w) NULL) (LoadTopToRefuse (y ∷ [])) spent_free
+    load_free_leads = ap (λ (x : Outcome T). x.line) (out_at g d) ∙ ap (λ (x : Tagged). at_load_free limit (wanting y) x) (sym d.finds)
 
-    F1_node : index_of w ≢ NULL → d.out.line ≡ spent_free
-    F1_node ne = F1_leads ∙ ap (λ (b : Bool). cond b (D1 (y ∷ [])) spent_free) (ne_eqb (index_of w) NULL ne)
+    load_free_node : index_of w ≢ NULL → d.out.line ≡ spent_free
+    load_free_node ne = load_free_leads ∙ ap (λ (b : Bool). cond b (LoadTopToRefuse (y ∷ [])) spent_free) (ne_eqb (index_of w) NULL ne)
 
-    pub F1_none : index_of w ≡ NULL → Goes n limit o' v v' begun (F1 (wanting y)) (D1 (y ∷ []))
-    F1_none e = goes_on g d o' (D1 (y ∷ [])) (F1_leads ∙ ap (λ (b : Bool). cond b (D1 (y ∷ [])) spent_free) (eq-eqb (index_of w) NULL e)) refl
+    pub load_free_none : index_of w ≡ NULL → Goes n limit o' v v' begun (LoadFree (wanting y)) (LoadTopToRefuse (y ∷ []))
+    load_free_none e = goes_on g d o' (LoadTopToRefuse (y ∷ [])) (load_free_leads ∙ ap (λ (b : Bool). cond b (LoadTopToRefuse (y ∷ [])) spent_free) (eq-eqb (index_of w) NULL e)) refl
 
-    F1_spends : index_of w ≢ NULL → limit ≤ tag_of w → Ends n limit v v' begun (F1 (wanting y)) (AnswerPut (Err (Spent (y ∷ []) FreeWord (tag_of w))))
-    F1_spends ne h = ends_so g d (AnswerPut (Err (Spent (y ∷ []) FreeWord (tag_of w))))
-        (F1_node ne ∙ ap (λ (b : Bool). cond b (ends (AnswerPut (Err (Spent (y ∷ []) FreeWord (tag_of w))))) (F2 (wanting y) (fields_of w))) (leb_yes limit (tag_of w) h))
+    load_free_spends : index_of w ≢ NULL → limit ≤ tag_of w → Ends n limit v v' begun (LoadFree (wanting y)) (AnswerPut (Err (Spent (y ∷ []) FreeWord (tag_of w))))
+    load_free_spends ne h = ends_so g d (AnswerPut (Err (Spent (y ∷ []) FreeWord (tag_of w))))
+        (load_free_node ne ∙ ap (λ (b : Bool). cond b (ends (AnswerPut (Err (Spent (y ∷ []) FreeWord (tag_of w))))) (LoadFreeLink (wanting y) (fields_of w))) (leb_yes limit (tag_of w) h))
 
-    pub F1_spent : (t : ℕ) → t ≡ tag_of w → index_of w ≢ NULL → limit ≤ tag_of w → Ends n limit v v' begun (F1 (wanting y)) (AnswerPut (Err (Spent (y ∷ []) FreeWord t)))
-    F1_spent t is ne h = subst (λ (k : ℕ). Ends n limit v v' begun (F1 (wanting y)) (AnswerPut (Err (Spent (y ∷ []) FreeWord k)))) (sym is) (F1_spends ne h)
+    pub load_free_spent : (t : ℕ) → t ≡ tag_of w → index_of w ≢ NULL → limit ≤ tag_of w → Ends n limit v v' begun (LoadFree (wanting y)) (AnswerPut (Err (Spent (y ∷ []) FreeWord t)))
+    load_free_spent t is ne h = subst (λ (k : ℕ). Ends n limit v v' begun (LoadFree (wanting y)) (AnswerPut (Err (Spent (y ∷ []) FreeWord k)))) (sym is) (load_free_spends ne h)
 
-    pub F1_goes : index_of w ≢ NULL → tag_of w < limit → Goes n limit o' v v' begun (F1 (wanting y)) (F2 (wanting y) (fields_of w))
-    F1_goes ne h = goes_on g d o' (F2 (wanting y) (fields_of w))
-        (F1_node ne ∙ ap (λ (b : Bool). cond b (ends (AnswerPut (Err (Spent (y ∷ []) FreeWord (tag_of w))))) (F2 (wanting y) (fields_of w))) (leb_not limit (tag_of w) h)) refl
+    pub load_free_goes : index_of w ≢ NULL → tag_of w < limit → Goes n limit o' v v' begun (LoadFree (wanting y)) (LoadFreeLink (wanting y) (fields_of w))
+    load_free_goes ne h = goes_on g d o' (LoadFreeLink (wanting y) (fields_of w))
+        (load_free_node ne ∙ ap (λ (b : Bool). cond b (ends (AnswerPut (Err (Spent (y ∷ []) FreeWord (tag_of w))))) (LoadFreeLink (wanting y) (fields_of w))) (leb_not limit (tag_of w) h)) refl
 
-  pub F2_goes : (y : T) (w i k : ℕ) → i ≡ index_of w → (g : Going n limit o v begun (F2 (wanting y) (fields_of w))) (d : Did n limit o 0 (read_link i) k [] v v') → Goes n limit o v v' begun (F2 (wanting y) (fields_of w)) (F3 (wanting y) (fields_of w) k)
-  F2_goes y w i k is g d = goes_on g d o (F3 (wanting y) (fields_of w) k)
-      (ap (λ (x : Outcome T). x.line) (out_at g d) ∙ ap (λ (j : ℕ). F3 (wanting y) (fields_of w) (d.memory.link j)) (sym is) ∙ ap (λ (j : ℕ). F3 (wanting y) (fields_of w) j) d.finds.0) refl
+  pub load_free_link_goes : (y : T) (w i k : ℕ) → i ≡ index_of w → (g : Going n limit o v begun (LoadFreeLink (wanting y) (fields_of w))) (d : Did n limit o 0 (read_link i) k [] v v') → Goes n limit o v v' begun (LoadFreeLink (wanting y) (fields_of w)) (TakeFree (wanting y) (fields_of w) k)
+  load_free_link_goes y w i k is g d = goes_on g d o (TakeFree (wanting y) (fields_of w) k)
+      (ap (λ (x : Outcome T). x.line) (out_at g d) ∙ ap (λ (j : ℕ). TakeFree (wanting y) (fields_of w) (d.memory.link j)) (sym is) ∙ ap (λ (j : ℕ). TakeFree (wanting y) (fields_of w) j) d.finds.0) refl
 
-  F3_leads : (y : T) (w k found : ℕ) (zs : List (ℕ × Slot T)) (g : Going n limit o v begun (F3 (wanting y) (fields_of w) k)) (d : Did n limit o 0 (take w k) found zs v v') (b : Bool) → same d.memory.free (fields_of w) ≡ b
-      → d.out.line ≡ cond b (P1 (bearing y (index_of w))) (F1 (wanting y))
-  F3_leads y w k found zs g d b e = ap (λ (x : Outcome T). x.line) (out_at g d)
-      ∙ ap (λ (x : Bool). (cond x (wins (after_hold d.memory (fields_of w) k) (at_F3 (wanting y) (fields_of w)) (Hold d.pass.number)) (core_goes_on d.memory (F1 (wanting y)))).line) e
+  take_free_leads : (y : T) (w k found : ℕ) (zs : List (ℕ × Slot T)) (g : Going n limit o v begun (TakeFree (wanting y) (fields_of w) k)) (d : Did n limit o 0 (take w k) found zs v v') (b : Bool) → same d.memory.free (fields_of w) ≡ b
+      → d.out.line ≡ cond b (LoadTop (bearing y (index_of w))) (LoadFree (wanting y))
+  take_free_leads y w k found zs g d b e = ap (λ (x : Outcome T). x.line) (out_at g d)
+      ∙ ap (λ (x : Bool). (cond x (wins (after_hold d.memory (fields_of w) k) (at_take_free (wanting y) (fields_of w)) (Hold d.pass.number)) (core_goes_on d.memory (LoadFree (wanting y)))).line) e
       ∙ by_cases b
     where
-      by_cases : (b : Bool) → (cond b (wins (after_hold d.memory (fields_of w) k) (at_F3 (wanting y) (fields_of w)) (Hold d.pass.number)) (core_goes_on d.memory (F1 (wanting y)))).line ≡ cond b (P1 (bearing y (index_of w))) (F1 (wanting y))
+      by_cases : (b : Bool) → (cond b (wins (after_hold d.memory (fields_of w) k) (at_take_free (wanting y) (fields_of w)) (Hold d.pass.number)) (core_goes_on d.memory (LoadFree (wanting y)))).line ≡ cond b (LoadTop (bearing y (index_of w))) (LoadFree (wanting y))
       by_cases true = refl
       by_cases false = refl
 
-  pub F3_won : (y : T) (w k i : ℕ) (zs : List (ℕ × Slot T)) → i ≡ index_of w → (g : Going n limit o v begun (F3 (wanting y) (fields_of w) k)) (d : Did n limit o 0 (take w k) w zs v v') → Goes n limit o v v' begun (F3 (wanting y) (fields_of w) k) (P1 (bearing y i))
-  F3_won y w k i zs is g d = goes_on g d o (P1 (bearing y i)) (F3_leads y w k w zs g d true (is_same d.memory.free (fields_of w) (sym d.finds)) ∙ ap (λ (j : ℕ). P1 (bearing y j)) (sym is)) refl
+  pub take_free_won : (y : T) (w k i : ℕ) (zs : List (ℕ × Slot T)) → i ≡ index_of w → (g : Going n limit o v begun (TakeFree (wanting y) (fields_of w) k)) (d : Did n limit o 0 (take w k) w zs v v') → Goes n limit o v v' begun (TakeFree (wanting y) (fields_of w) k) (LoadTop (bearing y i))
+  take_free_won y w k i zs is g d = goes_on g d o (LoadTop (bearing y i)) (take_free_leads y w k w zs g d true (is_same d.memory.free (fields_of w) (sym d.finds)) ∙ ap (λ (j : ℕ). LoadTop (bearing y j)) (sym is)) refl
 
-  pub F3_lost : (o' : Operation T) (y : T) (w k found : ℕ) → found ≢ w → (g : Going n limit o v begun (F3 (wanting y) (fields_of w) k)) (d : Did n limit o 0 (take w k) found [] v v') → Goes n limit o' v v' begun (F3 (wanting y) (fields_of w) k) (F1 (wanting y))
-  F3_lost o' y w k found ne g d = goes_on g d o' (F1 (wanting y)) (F3_leads y w k found [] g d false (not_same d.memory.free (fields_of w) (λ e. ne ((same_fields found w).1 (d.finds ∙ e))))) refl
+  pub take_free_lost : (o' : Operation T) (y : T) (w k found : ℕ) → found ≢ w → (g : Going n limit o v begun (TakeFree (wanting y) (fields_of w) k)) (d : Did n limit o 0 (take w k) found [] v v') → Goes n limit o' v v' begun (TakeFree (wanting y) (fields_of w) k) (LoadFree (wanting y))
+  take_free_lost o' y w k found ne g d = goes_on g d o' (LoadFree (wanting y)) (take_free_leads y w k found [] g d false (not_same d.memory.free (fields_of w) (λ e. ne ((same_fields found w).1 (d.finds ∙ e))))) refl
 
-  module _ (x : T) (i w : ℕ) (g : Going n limit o v begun (P1 (bearing x i))) (d : Did n limit o 1 read_top w [] v v') where
+  module _ (x : T) (i w : ℕ) (g : Going n limit o v begun (LoadTop (bearing x i))) (d : Did n limit o 1 read_top w [] v v') where
     abbrev back : PutRefused (List T) → Line T
     back why = gives (i ∷ []) (AnswerPut (Err why))
 
     abbrev spent_top : Line T
-    spent_top = cond (leb limit (tag_of w)) (back (Spent (x ∷ []) TopWord (tag_of w))) (P2 (bearing x i) (fields_of w))
+    spent_top = cond (leb limit (tag_of w)) (back (Spent (x ∷ []) TopWord (tag_of w))) (LinkToTop (bearing x i) (fields_of w))
 
-    P1_leads : d.out.line ≡ cond (mark_of w) (back (Closed (x ∷ []))) spent_top
-    P1_leads = ap (λ (y : Outcome T). y.line) (out_at g d) ∙ ap (λ (y : Tagged). at_P1 limit (bearing x i) y) (sym d.finds)
+    load_top_leads : d.out.line ≡ cond (mark_of w) (back (Closed (x ∷ []))) spent_top
+    load_top_leads = ap (λ (y : Outcome T). y.line) (out_at g d) ∙ ap (λ (y : Tagged). at_load_top limit (bearing x i) y) (sym d.finds)
 
-    P1_open : mark_of w ≡ false → d.out.line ≡ spent_top
-    P1_open e = P1_leads ∙ ap (λ (b : Bool). cond b (back (Closed (x ∷ []))) spent_top) e
+    load_top_open : mark_of w ≡ false → d.out.line ≡ spent_top
+    load_top_open e = load_top_leads ∙ ap (λ (b : Bool). cond b (back (Closed (x ∷ []))) spent_top) e
 
-    P1_closes : mark_of w ≡ true → Goes n limit o v v' begun (P1 (bearing x i)) (back (Closed (x ∷ [])))
-    P1_closes e = goes_on g d o (back (Closed (x ∷ []))) (P1_leads ∙ ap (λ (b : Bool). cond b (back (Closed (x ∷ []))) spent_top) e) refl
+    load_top_closes : mark_of w ≡ true → Goes n limit o v v' begun (LoadTop (bearing x i)) (back (Closed (x ∷ [])))
+    load_top_closes e = goes_on g d o (back (Closed (x ∷ []))) (load_top_leads ∙ ap (λ (b : Bool). cond b (back (Closed (x ∷ []))) spent_top) e) refl
 
-    pub P1_closed : (y : T) → y ≡ x → mark_of w ≡ true → Goes n limit o v v' begun (P1 (bearing x i)) (back (Closed (y ∷ [])))
-    P1_closed y is e = subst (λ (z : T). Goes n limit o v v' begun (P1 (bearing x i)) (back (Closed (z ∷ [])))) (sym is) (P1_closes e)
+    pub load_top_closed : (y : T) → y ≡ x → mark_of w ≡ true → Goes n limit o v v' begun (LoadTop (bearing x i)) (back (Closed (y ∷ [])))
+    load_top_closed y is e = subst (λ (z : T). Goes n limit o v v' begun (LoadTop (bearing x i)) (back (Closed (z ∷ [])))) (sym is) (load_top_closes e)
 
-    P1_spends : mark_of w ≡ false → limit ≤ tag_of w → Goes n limit o v v' begun (P1 (bearing x i)) (back (Spent (x ∷ []) TopWord (tag_of w)))
-    P1_spends e h = goes_on g d o (back (Spent (x ∷ []) TopWord (tag_of w)))
-        (P1_open e ∙ ap (λ (b : Bool). cond b (back (Spent (x ∷ []) TopWord (tag_of w))) (P2 (bearing x i) (fields_of w))) (leb_yes limit (tag_of w) h)) refl
+    load_top_spends : mark_of w ≡ false → limit ≤ tag_of w → Goes n limit o v v' begun (LoadTop (bearing x i)) (back (Spent (x ∷ []) TopWord (tag_of w)))
+    load_top_spends e h = goes_on g d o (back (Spent (x ∷ []) TopWord (tag_of w)))
+        (load_top_open e ∙ ap (λ (b : Bool). cond b (back (Spent (x ∷ []) TopWord (tag_of w))) (LinkToTop (bearing x i) (fields_of w))) (leb_yes limit (tag_of w) h)) refl
 
-    pub P1_spent : (y : T) → y ≡ x → (t : ℕ) → t ≡ tag_of w → mark_of w ≡ false → limit ≤ tag_of w → Goes n limit o v v' begun (P1 (bearing x i)) (back (Spent (y ∷ []) TopWord t))
-    P1_spent y is t tag e h = subst (λ (z : T). Goes n limit o v v' begun (P1 (bearing x i)) (back (Spent (z ∷ []) TopWord t))) (sym is)
-        (subst (λ (k : ℕ). Goes n limit o v v' begun (P1 (bearing x i)) (back (Spent (x ∷ []) TopWord k))) (sym tag) (P1_spends e h))
+    pub load_top_spent : (y : T) → y ≡ x → (t : ℕ) → t ≡ tag_of w → mark_of w ≡ false → limit ≤ tag_of w → Goes n limit o v v' begun (LoadTop (bearing x i)) (back (Spent (y ∷ []) TopWord t))
+    load_top_spent y is t tag e h = subst (λ (z : T). Goes n limit o v v' begun (LoadTop (bearing x i)) (back (Spent (z ∷ []) TopWord t))) (sym is)
+        (subst (λ (k : ℕ). Goes n limit o v v' begun (LoadTop (bearing x i)) (back (Spent (x ∷ []) TopWord k))) (sym tag) (load_top_spends e h))
 
-    pub P1_goes : mark_of w ≡ false → tag_of w < limit → Goes n limit o v v' begun (P1 (bearing x i)) (P2 (bearing x i) (fields_of w))
-    P1_goes e h = goes_on g d o (P2 (bearing x i) (fields_of w))
-        (P1_open e ∙ ap (λ (b : Bool). cond b (back (Spent (x ∷ []) TopWord (tag_of w))) (P2 (bearing x i) (fields_of w))) (leb_not limit (tag_of w) h)) refl
+    pub load_top_goes : mark_of w ≡ false → tag_of w < limit → Goes n limit o v v' begun (LoadTop (bearing x i)) (LinkToTop (bearing x i) (fields_of w))
+    load_top_goes e h = goes_on g d o (LinkToTop (bearing x i) (fields_of w))
+        (load_top_open e ∙ ap (λ (b : Bool). cond b (back (Spent (x ∷ []) TopWord (tag_of w))) (LinkToTop (bearing x i) (fields_of w))) (leb_not limit (tag_of w) h)) refl
 
-  pub P2_goes : (x : T) (i w k found : ℕ) (g : Going n limit o v begun (P2 (bearing x i) (fields_of w))) (d : Did n limit o 1 (write_link i k) found [] v v') → Goes n limit o v v' begun (P2 (bearing x i) (fields_of w)) (P3 (bearing x i) (fields_of w))
-  P2_goes x i w k found g d = goes_on g d o (P3 (bearing x i) (fields_of w)) (ap (λ (y : Outcome T). y.line) (out_at g d)) refl
+  pub link_to_top_goes : (x : T) (i w k found : ℕ) (g : Going n limit o v begun (LinkToTop (bearing x i) (fields_of w))) (d : Did n limit o 1 (write_link i k) found [] v v') → Goes n limit o v v' begun (LinkToTop (bearing x i) (fields_of w)) (SwapTop (bearing x i) (fields_of w))
+  link_to_top_goes x i w k found g d = goes_on g d o (SwapTop (bearing x i) (fields_of w)) (ap (λ (y : Outcome T). y.line) (out_at g d)) refl
 
-  module _ (x : T) (i w found : ℕ) (zs : List (ℕ × Slot T)) (g : Going n limit o v begun (P3 (bearing x i) (fields_of w))) (d : Did n limit o 1 (give_chain w i) found zs v v') where
+  module _ (x : T) (i w found : ℕ) (zs : List (ℕ × Slot T)) (g : Going n limit o v begun (SwapTop (bearing x i) (fields_of w))) (d : Did n limit o 1 (give_chain w i) found zs v v') where
     abbrev tried : Bool → Outcome T
-    tried b = cond b (wins (after_put d.memory (fields_of w) (bearing x i)) (ends (AnswerPut (Ok (tag_of w, [])))) (Put d.pass.number (x ∷ []) (tag_of w))) (core_goes_on d.memory (P1 (bearing x i)))
+    tried b = cond b (wins (after_put d.memory (fields_of w) (bearing x i)) (ends (AnswerPut (Ok (tag_of w, [])))) (Put d.pass.number (x ∷ []) (tag_of w))) (core_goes_on d.memory (LoadTop (bearing x i)))
 
-    P3_out : (b : Bool) → same d.memory.top (fields_of w) ≡ b → d.out ≡ tried b
-    P3_out b e = out_at g d ∙ ap tried e
+    swap_top_out : (b : Bool) → same d.memory.top (fields_of w) ≡ b → d.out ≡ tried b
+    swap_top_out b e = out_at g d ∙ ap tried e
 
     won_top : found ≡ w → same d.memory.top (fields_of w) ≡ true
     won_top e = is_same d.memory.top (fields_of w) (sym d.finds ∙ ap fields_of e)
 
-    P3_answers : found ≡ w → Ends n limit v v' begun (P3 (bearing x i) (fields_of w)) (AnswerPut (Ok (tag_of w, [])))
-    P3_answers e = ends_so g d (AnswerPut (Ok (tag_of w, []))) (ap (λ (y : Outcome T). y.line) (P3_out true (won_top e)))
+    swap_top_answers : found ≡ w → Ends n limit v v' begun (SwapTop (bearing x i) (fields_of w)) (AnswerPut (Ok (tag_of w, [])))
+    swap_top_answers e = ends_so g d (AnswerPut (Ok (tag_of w, []))) (ap (λ (y : Outcome T). y.line) (swap_top_out true (won_top e)))
 
     -- its own events are the take of the node and the put
-    P3_adds : found ≡ w → Adds begun (pass_of v') (Put begun.number (x ∷ []) (tag_of w) ∷ Hold begun.number ∷ [])
-    P3_adds e =
+    swap_top_adds : found ≡ w → Adds begun (pass_of v') (Put begun.number (x ∷ []) (tag_of w) ∷ Hold begun.number ∷ [])
+    swap_top_adds e =
         let p : ℕ = d.pass.number in
         let before : List (Event T) = (deeds_then g d).between in
         adds_by g d (Put begun.number (x ∷ []) (tag_of w) ∷ Hold begun.number ∷ [])
-        (ap (λ (y : Outcome T). own p (y.events ++ before)) (P3_out true (won_top e))
+        (ap (λ (y : Outcome T). own p (y.events ++ before)) (swap_top_out true (won_top e))
         ∙ own-mine p (Put p (x ∷ []) (tag_of w)) before refl
         ∙ ap (λ (h : List (Event T)). Put p (x ∷ []) (tag_of w) ∷ h) (deeds_then g d).made
         ∙ ap (λ (k : ℕ). Put k (x ∷ []) (tag_of w) ∷ Hold k ∷ []) (number_after g d))
 
-    P3_gives : found ≡ w → Ended n limit v' begun (AnswerPut (Ok (tag_of w, []))) × PutGives (shape n limit) begun x (pass_of v') (Ok (tag_of w)) × IsLine n limit v v' (P3 (bearing x i) (fields_of w)) (ends (AnswerPut (Ok (tag_of w, []))))
-    P3_gives e = let a = P3_answers e in (a.0, P3_adds e, a.1)
+    swap_top_gives : found ≡ w → Ended n limit v' begun (AnswerPut (Ok (tag_of w, []))) × PutGives (shape n limit) begun x (pass_of v') (Ok (tag_of w)) × IsLine n limit v v' (SwapTop (bearing x i) (fields_of w)) (ends (AnswerPut (Ok (tag_of w, []))))
+    swap_top_gives e = let a = swap_top_answers e in (a.0, swap_top_adds e, a.1)
 
-    pub P3_won : found ≡ w → (t : ℕ) → t ≡ tag_of w → Ended n limit v' begun (AnswerPut (Ok (t, []))) × PutGives (shape n limit) begun x (pass_of v') (Ok t) × IsLine n limit v v' (P3 (bearing x i) (fields_of w)) (ends (AnswerPut (Ok (t, []))))
-    P3_won e t is = subst (λ (k : ℕ). Ended n limit v' begun (AnswerPut (Ok (k, []))) × PutGives (shape n limit) begun x (pass_of v') (Ok k) × IsLine n limit v v' (P3 (bearing x i) (fields_of w)) (ends (AnswerPut (Ok (k, []))))) (sym is) (P3_gives e)
+    pub swap_top_won : found ≡ w → (t : ℕ) → t ≡ tag_of w → Ended n limit v' begun (AnswerPut (Ok (t, []))) × PutGives (shape n limit) begun x (pass_of v') (Ok t) × IsLine n limit v v' (SwapTop (bearing x i) (fields_of w)) (ends (AnswerPut (Ok (t, []))))
+    swap_top_won e t is = subst (λ (k : ℕ). Ended n limit v' begun (AnswerPut (Ok (k, []))) × PutGives (shape n limit) begun x (pass_of v') (Ok k) × IsLine n limit v v' (SwapTop (bearing x i) (fields_of w)) (ends (AnswerPut (Ok (k, []))))) (sym is) (swap_top_gives e)
 
-    pub P3_lost : found ≢ w → Goes n limit o v v' begun (P3 (bearing x i) (fields_of w)) (P1 (bearing x i))
-    P3_lost ne = goes_on g d o (P1 (bearing x i)) (ap (λ (y : Outcome T). y.line) (P3_out false (not_same d.memory.top (fields_of w) (λ e. ne ((same_fields found w).1 (d.finds ∙ e)))))) refl
+    pub swap_top_lost : found ≢ w → Goes n limit o v v' begun (SwapTop (bearing x i) (fields_of w)) (LoadTop (bearing x i))
+    swap_top_lost ne = goes_on g d o (LoadTop (bearing x i)) (ap (λ (y : Outcome T). y.line) (swap_top_out false (not_same d.memory.top (fields_of w) (λ e. ne ((same_fields found w).1 (d.finds ∙ e)))))) refl
 
-  module _ (y : T) (w : ℕ) (g : Going n limit o v begun (D1 (y ∷ []))) (d : Did n limit o 1 read_top w [] v v') where
+  module _ (y : T) (w : ℕ) (g : Going n limit o v begun (LoadTopToRefuse (y ∷ []))) (d : Did n limit o 1 read_top w [] v v') where
     abbrev refused : PutRefused (List T) → Line T
     refused why = ends (AnswerPut (Err why))
 
     abbrev full_or_spent : Line T
     full_or_spent = cond (leb limit (tag_of w)) (refused (Spent (y ∷ []) TopWord (tag_of w))) (refused (Full (y ∷ [])))
 
-    D1_leads : d.out.line ≡ cond (mark_of w) (refused (Closed (y ∷ []))) full_or_spent
-    D1_leads = ap (λ (x : Outcome T). x.line) (out_at g d) ∙ ap (λ (x : Tagged). at_D1 limit (y ∷ []) x) (sym d.finds)
+    load_top_to_refuse_leads : d.out.line ≡ cond (mark_of w) (refused (Closed (y ∷ []))) full_or_spent
+    load_top_to_refuse_leads = ap (λ (x : Outcome T). x.line) (out_at g d) ∙ ap (λ (x : Tagged). at_load_top_to_refuse limit (y ∷ []) x) (sym d.finds)
 
-    D1_open : mark_of w ≡ false → d.out.line ≡ full_or_spent
-    D1_open e = D1_leads ∙ ap (λ (b : Bool). cond b (refused (Closed (y ∷ []))) full_or_spent) e
+    load_top_to_refuse_open : mark_of w ≡ false → d.out.line ≡ full_or_spent
+    load_top_to_refuse_open e = load_top_to_refuse_leads ∙ ap (λ (b : Bool). cond b (refused (Closed (y ∷ []))) full_or_spent) e
 
-    pub D1_closed : mark_of w ≡ true → Ends n limit v v' begun (D1 (y ∷ [])) (AnswerPut (Err (Closed (y ∷ []))))
-    D1_closed e = ends_so g d (AnswerPut (Err (Closed (y ∷ [])))) (D1_leads ∙ ap (λ (b : Bool). cond b (refused (Closed (y ∷ []))) full_or_spent) e)
+    pub load_top_to_refuse_closed : mark_of w ≡ true → Ends n limit v v' begun (LoadTopToRefuse (y ∷ [])) (AnswerPut (Err (Closed (y ∷ []))))
+    load_top_to_refuse_closed e = ends_so g d (AnswerPut (Err (Closed (y ∷ [])))) (load_top_to_refuse_leads ∙ ap (λ (b : Bool). cond b (refused (Closed (y ∷ []))) full_or_spent) e)
 
-    D1_spends : mark_of w ≡ false → limit ≤ tag_of w → Ends n limit v v' begun (D1 (y ∷ [])) (AnswerPut (Err (Spent (y ∷ []) TopWord (tag_of w))))
-    D1_spends e h = ends_so g d (AnswerPut (Err (Spent (y ∷ []) TopWord (tag_of w))))
-        (D1_open e ∙ ap (λ (b : Bool). cond b (refused (Spent (y ∷ []) TopWord (tag_of w))) (refused (Full (y ∷ [])))) (leb_yes limit (tag_of w) h))
+    load_top_to_refuse_spends : mark_of w ≡ false → limit ≤ tag_of w → Ends n limit v v' begun (LoadTopToRefuse (y ∷ [])) (AnswerPut (Err (Spent (y ∷ []) TopWord (tag_of w))))
+    load_top_to_refuse_spends e h = ends_so g d (AnswerPut (Err (Spent (y ∷ []) TopWord (tag_of w))))
+        (load_top_to_refuse_open e ∙ ap (λ (b : Bool). cond b (refused (Spent (y ∷ []) TopWord (tag_of w))) (refused (Full (y ∷ [])))) (leb_yes limit (tag_of w) h))
 
-    pub D1_spent : (t : ℕ) → t ≡ tag_of w → mark_of w ≡ false → limit ≤ tag_of w → Ends n limit v v' begun (D1 (y ∷ [])) (AnswerPut (Err (Spent (y ∷ []) TopWord t)))
-    D1_spent t is e h = subst (λ (k : ℕ). Ends n limit v v' begun (D1 (y ∷ [])) (AnswerPut (Err (Spent (y ∷ []) TopWord k)))) (sym is) (D1_spends e h)
+    pub load_top_to_refuse_spent : (t : ℕ) → t ≡ tag_of w → mark_of w ≡ false → limit ≤ tag_of w → Ends n limit v v' begun (LoadTopToRefuse (y ∷ [])) (AnswerPut (Err (Spent (y ∷ []) TopWord t)))
+    load_top_to_refuse_spent t is e h = subst (λ (k : ℕ). Ends n limit v v' begun (LoadTopToRefuse (y ∷ [])) (AnswerPut (Err (Spent (y ∷ []) TopWord k)))) (sym is) (load_top_to_refuse_spends e h)
 
-    D1_adds : Adds begun (pass_of v') []
-    D1_adds = adds_by g d [] (ap (λ (x : Outcome T). own d.pass.number (x.events ++ (deeds_then g d).between)) (out_at g d) ∙ (deeds_then g d).made)
+    load_top_to_refuse_adds : Adds begun (pass_of v') []
+    load_top_to_refuse_adds = adds_by g d [] (ap (λ (x : Outcome T). own d.pass.number (x.events ++ (deeds_then g d).between)) (out_at g d) ∙ (deeds_then g d).made)
 
     -- no node was free, and the pass has done nothing
-    pub D1_full : mark_of w ≡ false → tag_of w < limit → Ended n limit v' begun (AnswerPut (Err (Full (y ∷ [])))) × Adds begun (pass_of v') [] × IsLine n limit v v' (D1 (y ∷ [])) (refused (Full (y ∷ [])))
-    D1_full e h =
-        let a = ends_so g d (AnswerPut (Err (Full (y ∷ [])))) (D1_open e ∙ ap (λ (b : Bool). cond b (refused (Spent (y ∷ []) TopWord (tag_of w))) (refused (Full (y ∷ [])))) (leb_not limit (tag_of w) h)) in
-        (a.0, D1_adds, a.1)
+    pub load_top_to_refuse_full : mark_of w ≡ false → tag_of w < limit → Ended n limit v' begun (AnswerPut (Err (Full (y ∷ [])))) × Adds begun (pass_of v') [] × IsLine n limit v v' (LoadTopToRefuse (y ∷ [])) (refused (Full (y ∷ [])))
+    load_top_to_refuse_full e h =
+        let a = ends_so g d (AnswerPut (Err (Full (y ∷ [])))) (load_top_to_refuse_open e ∙ ap (λ (b : Bool). cond b (refused (Spent (y ∷ []) TopWord (tag_of w))) (refused (Full (y ∷ [])))) (leb_not limit (tag_of w) h)) in
+        (a.0, load_top_to_refuse_adds, a.1)
 
 module _ {T : Type 0} {n limit : ℕ} {begun : PassView T} where
   -- the node's slot may go onto the stack with the value of the put
-  pub bears_going : {o : Operation T} {v : View T (Line T)} (x : T) (i : ℕ) (w : Tagged) → Going n limit o v begun (P3 (bearing x i) w) → Bears (line_in v) i (Some x)
+  pub bears_going : {o : Operation T} {v : View T (Line T)} (x : T) (i : ℕ) (w : Tagged) → Going n limit o v begun (SwapTop (bearing x i) w) → Bears (line_in v) i (Some x)
   bears_going {o} {v} x i w g =
-      let is : line_in v ≡ P3 (bearing x i) w = ap line_in g.is ∙ puts_line o g.at w (bearing x i) (ap puts_of g.now) in
+      let is : line_in v ≡ SwapTop (bearing x i) w = ap line_in g.is ∙ puts_line o g.at w (bearing x i) (ap puts_of g.now) in
       subst (λ (k : Line T). Bears k i (Some x)) (sym is) (home_here (λ _. none) i (some (Some x)))
 
   backs : {v : View T (Line T)} (why : PutRefused (List T)) → length (handed_back why) ≡ 1 → Ended n limit v begun (AnswerPut (Err why)) → BacksOut begun (pass_of v) 1

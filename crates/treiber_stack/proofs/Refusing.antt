@@ -1,13 +1,12 @@
 -- Why a top lets no pass take from under it.
-use Rattle.std.proofs.Common.{◌≡◌, ◌≢◌, ℕ, ◌≤◌, Bool, true, false, cond, leb, eqb, refl, sym, ap, ◌∙◌, subst, eq-eqb, ne_eqb}
+use Rattle.std.proofs.Common.{◌≡◌, ◌≢◌, ℕ, ◌≤◌, Bool, true, false, cond, leb, eqb, sym, ap, ◌∙◌, subst, eq-eqb, ne_eqb}
 use Rattle.tagged_index.specs.Fields.{fields_of, index_of, tag_of, mark_of, second_of}
 use Rattle.tagged_index.specs.declared.word.TheConstants.{NULL}
 use Rattle.bounded_model.specs.declared.answers.Word.TheVariants.{Top as TopWord}
-use Rattle.bounded_model.specs.declared.answers.TakeRefused.{TakeRefused}
 use Rattle.bounded_model.specs.declared.answers.TakeRefused.TheVariants.{Empty, Closed, Spent, Shut}
 use Rattle.stack_machine.specs.declared.lines.Taking.{Taking}
 use Rattle.stack_machine.specs.declared.lines.Line.{Line}
-use Rattle.stack_machine.specs.Machine.{at_S1, refuses, takes}
+use Rattle.stack_machine.specs.Machine.{at_load_top_to_take, refuses, takes}
 use Rattle.treiber_stack.specs.Folding.{RefusesTake}
 use Rattle.treiber_stack.proofs.Takings.{leb_yes}
 
@@ -19,7 +18,7 @@ module _ {T : Type 0} (limit w : ℕ) where
     abbrev nothing : Line T
     nothing = refuses taking (cond (mark_of w) Closed Empty)
 
-    unshut : second_of w ≡ false → at_S1 {T = T} limit taking (fields_of w) ≡ cond (eqb (index_of w) NULL) nothing spent
+    unshut : second_of w ≡ false → at_load_top_to_take {T = T} limit taking (fields_of w) ≡ cond (eqb (index_of w) NULL) nothing spent
     unshut e = ap (λ (b : Bool). cond b (refuses taking Shut) (cond (eqb (index_of w) NULL) nothing spent)) e
 
   pub refuses_shut : second_of w ≡ true → RefusesTake T limit w Shut

@@ -1,13 +1,10 @@
 -- The values of a refused range go back to their places.
-use Rattle.std.proofs.Common.{◌≡◌, ◌≢◌, ℕ, zero, suc, ◌+◌, ◌-◌, ◌<◌, ◌≤◌, List, [], ◌∷◌, ◌++◌, map, length, reverse, take, drop, replicate, set, get_or, refl, sym, ap, ◌∙◌, subst, append_assoc, append-nil, length-append, arith}
-use Rattle.std.proofs.lemmas.List.{length-reverse, length-take-le, reverse-append}
-use Rattle.std.specs.Prelude.{Option as Slot, Some, None, Err, slice_index}
-use lib.ListN.{get_elem?}
-use mathlib.Core.Option.{some}
+use Rattle.std.proofs.Common.{◌≡◌, ℕ, zero, suc, ◌+◌, ◌<◌, List, [], ◌∷◌, ◌++◌, map, length, reverse, take, drop, replicate, set, get_or, refl, sym, ap, ◌∙◌, subst, append_assoc, append-nil, length-append, arith}
+use Rattle.std.proofs.lemmas.List.{reverse-append}
+use Rattle.std.specs.Prelude.{Option as Slot, Some, None, Err}
 use Rattle.atomic_table.specs.Table.{Me, Allows, rest}
 use Rattle.tagged_index.specs.Fields.{index_of}
 use Rattle.tagged_index.specs.Limits.{capacity_of, tag_limit_of}
-use Rattle.tagged_index.specs.declared.word.TheConstants.{NULL}
 use Rattle.bounded_model.specs.declared.answers.PutRefused.{PutRefused}
 use Rattle.bounded_model.specs.declared.views.PassView.{PassView}
 use Rattle.bounded_model.proofs.Adding.{Sometime-wider}
@@ -15,13 +12,13 @@ use Rattle.bounded_model.proofs.Histories.{is_nil, Later-refl, Later-trans}
 use Rattle.machine.specs.Words.{times, IsChain}
 use Rattle.stack_machine.specs.Deeds.{Deeds}
 use Rattle.stack_machine.specs.Answers.{shape}
-use Rattle.machine.specs.Chains.{first, last}
+use Rattle.machine.specs.Chains.{first}
 use Rattle.stack_machine.specs.Rule.{IsFine, Gives}
 use Rattle.machine.specs.Seats.{Looks}
 use Rattle.stack_machine.specs.declared.lines.Answer.TheVariants.{Put as AnswerPut}
 use Rattle.stack_machine.specs.declared.lines.Giving.{Giving}
 use Rattle.stack_machine.specs.declared.lines.Line.{Line}
-use Rattle.stack_machine.specs.declared.lines.Line.TheVariants.{Idle, G1}
+use Rattle.stack_machine.specs.declared.lines.Line.TheVariants.{Idle, LoadFreeToGive}
 use Rattle.machine.specs.declared.seats.View.{View}
 use Rattle.machine.specs.declared.seats.View.TheVariants.{AtPass}
 use Rattle.machine.proofs.Lists.{times_here, times_append}
@@ -30,15 +27,15 @@ use Rattle.treiber_stack.specs.Host.{first_line, line_now, begun_now}
 use Rattle.treiber_stack.specs.KeepsRule.{at_map}
 use Rattle.treiber_stack.specs.Layout.{link_at}
 use Rattle.treiber_stack.specs.Operations.{Going, IsAt, IsSame, begun_in, vacant}
-use Rattle.treiber_stack.specs.Folding.{full, IsGivingBack}
-use Rattle.treiber_stack.specs.Ranging.{loaded, places_from, of_range, HasNodes, IsRefused, IsRestoring, IsRestored, ReadsAgain}
+use Rattle.treiber_stack.specs.Folding.{full}
+use Rattle.treiber_stack.specs.Ranging.{places_from, of_range, IsRefused, IsRestoring, IsRestored, ReadsAgain}
 use Rattle.treiber_stack.specs.Rule.{line_in, memory_of, Rule}
 use Rattle.treiber_stack.specs.Stack.{shape_of}
 use Rattle.treiber_stack.specs.declared.operation.Operation.{Operation}
 use Rattle.treiber_stack.specs.declared.operation.Listed.TheVariants.{End, More'}
-use Rattle.treiber_stack.specs.declared.operation.Operation.TheVariants.{Put as PutFirst, Take as TakeFirst, Close as CloseFirst, Shut as ShutFirst, Look as LookFirst, Fold as FoldFirst, Range as RangeFirst}
+use Rattle.treiber_stack.specs.declared.operation.Operation.TheVariants.{Put as PutFirst, Take as TakeFirst, Close as CloseFirst, Shut as ShutFirst, Look as LookFirst, Fold as FoldFirst, Range as RangeFirst, Underway}
 use Rattle.treiber_stack.specs.declared.ranging.Held.{Held}
-use Rattle.treiber_stack.specs.declared.ranging.RangeRefused.{RangeRefused}
+use Rattle.bounded_model.specs.declared.bulk.RangeRefused.{RangeRefused}
 use Rattle.treiber_stack.specs.declared.stack.Stack.{Stack}
 use Rattle.treiber_stack.specs.declared.stack.Pass.{Pass}
 use Rattle.treiber_stack.proofs.Going.{begun_going}
@@ -56,7 +53,7 @@ chain_link link (x ∷ y ∷ xs) i j others c = chain_link link (y ∷ xs) i j o
 
 module _ {T : Type 0} (n limit slots id i : ℕ) (me : Me (Slot T) (View T (Line T))) where
   again_allowed : Allows (Rule n limit) slots id me (link_at i) (λ k. k)
-      (λ found me'. Looks (shape n limit) me.0 me'.0 × (me'.1 ≡ me.1) × ((giving : Giving T) (before others : List ℕ) (next : ℕ) → line_in me.0 ≡ G1 giving → giving.chain ≡ before ++ i ∷ next ∷ others → index_of found ≡ next))
+      (λ found me'. Looks (shape n limit) me.0 me'.0 × (me'.1 ≡ me.1) × ((giving : Giving T) (before others : List ℕ) (next : ℕ) → line_in me.0 ≡ LoadFreeToGive giving → giving.chain ≡ before ++ i ∷ next ∷ others → index_of found ≡ next))
   again_allowed s r long mine fits =
       let a = looks_allowed n limit slots id (link_at i) me s r long mine fits in
       let m = memory_of s.words s.homes in
@@ -75,37 +72,38 @@ module _ {T : Type 0} (n limit slots id i : ℕ) (me : Me (Slot T) (View T (Line
       )
 
   pub again_at : (at : ℕ) → at ≡ link_at i → Allows (Rule n limit) slots id me at (λ k. k)
-      (λ found me'. Looks (shape n limit) me.0 me'.0 × (me'.1 ≡ me.1) × ((giving : Giving T) (before others : List ℕ) (next : ℕ) → line_in me.0 ≡ G1 giving → giving.chain ≡ before ++ i ∷ next ∷ others → index_of found ≡ next))
+      (λ found me'. Looks (shape n limit) me.0 me'.0 × (me'.1 ≡ me.1) × ((giving : Giving T) (before others : List ℕ) (next : ℕ) → line_in me.0 ≡ LoadFreeToGive giving → giving.chain ≡ before ++ i ∷ next ∷ others → index_of found ≡ next))
   again_at at e = subst (λ (x : ℕ). Allows (Rule n limit) slots id me x (λ k. k)
-      (λ found me'. Looks (shape n limit) me.0 me'.0 × (me'.1 ≡ me.1) × ((giving : Giving T) (before others : List ℕ) (next : ℕ) → line_in me.0 ≡ G1 giving → giving.chain ≡ before ++ i ∷ next ∷ others → index_of found ≡ next))) (sym e) again_allowed
+      (λ found me'. Looks (shape n limit) me.0 me'.0 × (me'.1 ≡ me.1) × ((giving : Giving T) (before others : List ℕ) (next : ℕ) → line_in me.0 ≡ LoadFreeToGive giving → giving.chain ≡ before ++ i ∷ next ∷ others → index_of found ≡ next))) (sym e) again_allowed
 
 module _ {T : Type 0} where
-  no_first : (o : Operation T) (giving : Giving T) → first_line o ≡ G1 giving → ⊥
+  no_first : (o : Operation T) (giving : Giving T) → first_line o ≡ LoadFreeToGive giving → ⊥
   no_first (PutFirst x) giving e = cc
   no_first TakeFirst giving e = cc
   no_first CloseFirst giving e = cc
   no_first ShutFirst giving e = cc
   no_first LookFirst giving e = cc
+  no_first Underway giving e = cc
   no_first (FoldFirst front) giving e = cc
   no_first (RangeFirst End) giving e = cc
   no_first (RangeFirst (More' x marker others)) giving e = cc
 
-  begun_same : (o : Operation T) (l : Line T) (giving : Giving T) (p q b : PassView T) → line_now o l ≡ G1 giving → begun_now q b l ≡ begun_now p b l
+  begun_same : (o : Operation T) (l : Line T) (giving : Giving T) (p q b : PassView T) → line_now o l ≡ LoadFreeToGive giving → begun_now q b l ≡ begun_now p b l
   begun_same o (Idle a) giving p q b e = absurd (no_first o giving e)
   begun_same o l giving p q b e = refl
 
-  busy_at : (o : Operation T) (l : Line T) (giving : Giving T) → line_now o l ≡ G1 giving → l ≡ G1 giving
+  busy_at : (o : Operation T) (l : Line T) (giving : Giving T) → line_now o l ≡ LoadFreeToGive giving → l ≡ LoadFreeToGive giving
   busy_at o (Idle a) giving e = absurd (no_first o giving e)
   busy_at o l giving e = e
 
-  line_is : {n limit : ℕ} {o : Operation T} {v : View T (Line T)} {begun : PassView T} {giving : Giving T} → Going n limit o v begun (G1 giving) → line_in v ≡ G1 giving
+  line_is : {n limit : ℕ} {o : Operation T} {v : View T (Line T)} {begun : PassView T} {giving : Giving T} → Going n limit o v begun (LoadFreeToGive giving) → line_in v ≡ LoadFreeToGive giving
   line_is {n} {limit} {o} {v} {begun} {giving} g = ap line_in g.is ∙ busy_at o g.at giving g.now
 
   -- a load that belongs to no line leaves a refused put at its line
-  pub looked_going : {n limit : ℕ} {o : Operation T} {v v' : View T (Line T)} {begun : PassView T} (chain : List ℕ) (why : PutRefused (List T)) → Going n limit o v begun (G1 (record { chain = chain; answer = AnswerPut (Err why) })) → Looks (shape n limit) v v'
-      → Going n limit o v' begun (G1 (record { chain = chain; answer = AnswerPut (Err why) }))
+  pub looked_going : {n limit : ℕ} {o : Operation T} {v v' : View T (Line T)} {begun : PassView T} (chain : List ℕ) (why : PutRefused (List T)) → Going n limit o v begun (LoadFreeToGive (record { chain = chain; answer = AnswerPut (Err why) })) → Looks (shape n limit) v v'
+      → Going n limit o v' begun (LoadFreeToGive (record { chain = chain; answer = AnswerPut (Err why) }))
   looked_going {n} {limit} {o} {v} {v'} {begun} chain why g looks =
-      let l : Line T = G1 (record { chain = chain; answer = AnswerPut (Err why) }) in
+      let l : Line T = LoadFreeToGive (record { chain = chain; answer = AnswerPut (Err why) }) in
       let looked : Looks (shape n limit) (AtPass g.pass g.from g.at) v' = subst (λ (u : View T (Line T)). Looks (shape n limit) u v') g.is looks in
       let q : PassView T = looked.0 in
       let adds = looked.2 in
@@ -162,7 +160,7 @@ module _ {T : Type 0} (c : Stack T) (vs : List T) (nodes : Held) (why : RangeRef
     parts = refl;
     counted = refl;
     next = λ _. r.has.begins;
-    at = subst (λ (zs : List (ℕ × Slot T)). IsAt c LookFirst p (G1 (back r.chain)) zs) ((λ t. full r.chain (reverse (take (sym r.has.counted t) vs))) ∙ sym (append-nil (full r.chain (reverse (take (length r.chain) vs))))) r.at;
+    at = subst (λ (zs : List (ℕ × Slot T)). IsAt c Underway p (LoadFreeToGive (back r.chain)) zs) ((λ t. full r.chain (reverse (take (sym r.has.counted t) vs))) ∙ sym (append-nil (full r.chain (reverse (take (length r.chain) vs))))) r.at;
   }
 
   module _ (p : Pass T) (moved index : ℕ) (r : IsRestoring c p vs nodes why moved index) (here : moved < nodes.count) (place : ℕ) (is : place + (1 + moved) ≡ nodes.count) where
@@ -221,8 +219,8 @@ module _ {T : Type 0} (c : Stack T) (vs : List T) (nodes : Held) (why : RangeRef
           ∙ append_assoc (full more (reverse (take place vs))) (vacant r.done) ((index, None) ∷ [])
           ∙ (λ t. full more (reverse (take (sym fewer t) vs)) ++ sym (vacant_append r.done (index ∷ [])) t)
 
-      going : Going n (tag_limit_of c.limits) LookFirst q.seat.me.0 (begun_in p) (G1 (back r.chain))
-      going = subst (λ (v : View T (Line T)). Going n (tag_limit_of c.limits) LookFirst v (begun_in p) (G1 (back r.chain))) (sym (ap (λ m. m.0) out)) r.at.going
+      going : Going n (tag_limit_of c.limits) Underway q.seat.me.0 (begun_in p) (LoadFreeToGive (back r.chain))
+      going = subst (λ (v : View T (Line T)). Going n (tag_limit_of c.limits) Underway v (begun_in p) (LoadFreeToGive (back r.chain))) (sym (ap (λ m. m.0) out)) r.at.going
 
       parts : r.chain ≡ (r.done ++ index ∷ []) ++ more
       parts = r.parts ∙ ap (λ (xs : List ℕ). r.done ++ xs) left_is ∙ sym (append_assoc r.done (index ∷ []) more)
@@ -238,7 +236,7 @@ module _ {T : Type 0} (c : Stack T) (vs : List T) (nodes : Held) (why : RangeRef
           parts = parts;
           counted = length-append r.done (index ∷ []) ∙ ap (λ (k : ℕ). k + 1) r.counted;
           next = λ h. let f = fewer in absurd (omega arith);
-          at = record { table = table ∙ r.at.table; has = slots_now; going = subst (λ (b : PassView T). Going n (tag_limit_of c.limits) LookFirst q.seat.me.0 b (G1 (back r.chain))) (sym (begun_going going)) going };
+          at = record { table = table ∙ r.at.table; has = slots_now; going = subst (λ (b : PassView T). Going n (tag_limit_of c.limits) Underway q.seat.me.0 b (LoadFreeToGive (back r.chain))) (sym (begun_going going)) going };
         },
         begun_going going,
       )
@@ -248,7 +246,7 @@ module _ {T : Type 0} (c : Stack T) (vs : List T) (nodes : Held) (why : RangeRef
       restore_next h next s same looks reads =
           let going' = looked_going r.chain (of_range why vs) going looks in
           let one = parts_of more (pred_of place) (fewer ∙ pred_is place h) in
-          let line : line_in q.seat.me.0 ≡ G1 (back r.chain) = line_is going in
+          let line : line_in q.seat.me.0 ≡ LoadFreeToGive (back r.chain) = line_is going in
           let named : next ≡ first more = reads (back r.chain) r.done one.0 (first more) line (r.parts ∙ ap (λ (xs : List ℕ). r.done ++ xs) (left_is ∙ ap (λ (xs : List ℕ). index ∷ xs) one.1)) in (
             record {
               chain = r.chain;
@@ -258,7 +256,7 @@ module _ {T : Type 0} (c : Stack T) (vs : List T) (nodes : Held) (why : RangeRef
               parts = parts;
               counted = length-append r.done (index ∷ []) ∙ ap (λ (k : ℕ). k + 1) r.counted;
               next = λ _. sym named;
-              at = record { table = same.table ∙ table ∙ r.at.table; has = same.slots ∙ slots_now; going = subst (λ (b : PassView T). Going n (tag_limit_of c.limits) LookFirst s.seat.me.0 b (G1 (back r.chain))) (sym (begun_going going')) going' };
+              at = record { table = same.table ∙ table ∙ r.at.table; has = same.slots ∙ slots_now; going = subst (λ (b : PassView T). Going n (tag_limit_of c.limits) Underway s.seat.me.0 b (LoadFreeToGive (back r.chain))) (sym (begun_going going')) going' };
             },
             begun_going going',
           )

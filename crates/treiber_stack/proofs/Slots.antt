@@ -1,5 +1,5 @@
 -- Chains of nodes, and their slots as a seat has them.
-use Rattle.std.proofs.Common.{◌≡◌, ◌≢◌, ℕ, zero, suc, ◌+◌, ◌<◌, ◌≤◌, true, List, [], ◌∷◌, ◌++◌, length, reverse, refl, sym, ap, ◌∙◌, subst, append_assoc, append-nil, length-append, arith}
+use Rattle.std.proofs.Common.{◌≡◌, ◌≢◌, ℕ, zero, suc, ◌<◌, ◌≤◌, true, List, [], ◌∷◌, ◌++◌, length, reverse, refl, sym, ap, ◌∙◌, subst, append-nil, length-append, arith}
 use Rattle.std.proofs.lemmas.List.{reverse-append, length-reverse}
 use Rattle.std.specs.Prelude.{Option as Slot, Some, None}
 use mathlib.Core.Option.{Option, some, some-injective}
@@ -8,7 +8,7 @@ use Rattle.bounded_model.specs.Machine.{without_first}
 use Rattle.index_list.specs.Lists as index_list
 use Rattle.index_list.specs.Steps.{Each, numbers, WithSlots}
 use Rattle.index_list.specs.Results.{Brings}
-use Rattle.machine.specs.Words.{times, Leads, Stands}
+use Rattle.machine.specs.Words.{times, Stands}
 use Rattle.machine.specs.Chains.{first, HasValues}
 use Rattle.machine.proofs.Lists.{times_here, times_append}
 use Rattle.treiber_stack.specs.Operations.{vacant}

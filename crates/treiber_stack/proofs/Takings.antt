@@ -18,9 +18,9 @@ use Rattle.stack_machine.specs.declared.lines.Answer.TheVariants.{Take as Answer
 use Rattle.stack_machine.specs.declared.lines.Giving.{Giving}
 use Rattle.stack_machine.specs.declared.lines.Taking.TheVariants.{One}
 use Rattle.stack_machine.specs.declared.lines.Line.{Line}
-use Rattle.stack_machine.specs.declared.lines.Line.TheVariants.{S1, S2, S3, G1, G2, G3}
+use Rattle.stack_machine.specs.declared.lines.Line.TheVariants.{LoadTopToTake, LoadTopLink, TakeTop, LoadFreeToGive, LinkToFree, GiveBack}
 use Rattle.machine.specs.declared.seats.View.{View}
-use Rattle.stack_machine.specs.Machine.{Outcome, held, ends, at_S1, goes_on as core_goes_on, wins, wins_value, after_give}
+use Rattle.stack_machine.specs.Machine.{Outcome, held, ends, at_load_top_to_take, goes_on as core_goes_on, wins, wins_value, after_give}
 use Rattle.stack_machine.specs.Answers.{shape}
 use Rattle.machine.specs.Seats.{pass_of}
 use Rattle.treiber_stack.specs.declared.operation.Operation.{Operation}
@@ -65,17 +65,17 @@ module _ {T : Type 0} where
   same_slot i x y e = ap (λ (zs : List (ℕ × Slot T)). slot_of zs x) e
 
 module _ {T : Type 0} {n limit : ℕ} {o : Operation T} {v v' : View T (Line T)} where
-  -- the value that the won exchange of S3 brings
-  pub S3_value : (w k : ℕ) (x : Slot T) → Did n limit o 1 (take w k) w ((index_of w, x) ∷ []) v v' → (value : T) × (x ≡ Some value)
-  S3_value w k x d =
+  -- the value that the won exchange of TakeTop brings
+  pub take_top_value : (w k : ℕ) (x : Slot T) → Did n limit o 1 (take w k) w ((index_of w, x) ∷ []) v v' → (value : T) × (x ≡ Some value)
+  take_top_value w k x d =
       let m = d.moves refl in
       let same_x : x ≡ m.0 = same_slot (index_of w) x m.0 m.1 in
       (m.3.0, same_x ∙ m.3.1)
 
 module _ {T : Type 0} {n limit : ℕ} {o : Operation T} {v v' : View T (Line T)} {begun : PassView T} where
-  module _ (w : ℕ) (g : Going n limit o v begun (S1 One)) (d : Did n limit o 1 read_top w [] v v') where
+  module _ (w : ℕ) (g : Going n limit o v begun (LoadTopToTake One)) (d : Did n limit o 1 read_top w [] v v') where
     abbrev spent : Line T
-    spent = cond (leb limit (tag_of w)) (ends (AnswerTake (Err (TakeSpent TopWord (tag_of w))))) (S2 (fields_of w))
+    spent = cond (leb limit (tag_of w)) (ends (AnswerTake (Err (TakeSpent TopWord (tag_of w))))) (LoadTopLink (fields_of w))
 
     abbrev nothing : Line T
     nothing = ends (AnswerTake (Err (cond (mark_of w) TakeClosed TakeEmpty)))
@@ -84,7 +84,7 @@ module _ {T : Type 0} {n limit : ℕ} {o : Operation T} {v v' : View T (Line T)}
     unshut = cond (eqb (index_of w) NULL) nothing spent
 
     leads : d.out.line ≡ cond (second_of w) (ends (AnswerTake (Err TakeShut))) unshut
-    leads = ap (λ (x : Outcome T). x.line) (out_at g d) ∙ ap (λ (x : Tagged). at_S1 limit One x) (sym d.finds)
+    leads = ap (λ (x : Outcome T). x.line) (out_at g d) ∙ ap (λ (x : Tagged). at_load_top_to_take limit One x) (sym d.finds)
 
     leads_unshut : second_of w ≡ false → d.out.line ≡ unshut
     leads_unshut e = leads ∙ ap (λ (b : Bool). cond b (ends (AnswerTake (Err TakeShut))) unshut) e
@@ -92,61 +92,61 @@ module _ {T : Type 0} {n limit : ℕ} {o : Operation T} {v v' : View T (Line T)}
     leads_node : second_of w ≡ false → index_of w ≢ NULL → d.out.line ≡ spent
     leads_node e ne = leads_unshut e ∙ ap (λ (b : Bool). cond b nothing spent) (ne_eqb (index_of w) NULL ne)
 
-    pub S1_shut : second_of w ≡ true → Ends n limit v v' begun (S1 One) (AnswerTake (Err TakeShut))
-    S1_shut e = ends_so g d (AnswerTake (Err TakeShut)) (leads ∙ ap (λ (b : Bool). cond b (ends (AnswerTake (Err TakeShut))) unshut) e)
+    pub load_top_to_take_shut : second_of w ≡ true → Ends n limit v v' begun (LoadTopToTake One) (AnswerTake (Err TakeShut))
+    load_top_to_take_shut e = ends_so g d (AnswerTake (Err TakeShut)) (leads ∙ ap (λ (b : Bool). cond b (ends (AnswerTake (Err TakeShut))) unshut) e)
 
-    pub S1_none : (b : Bool) → second_of w ≡ false → index_of w ≡ NULL → mark_of w ≡ b → Ends n limit v v' begun (S1 One) (AnswerTake (Err (cond b TakeClosed TakeEmpty)))
-    S1_none b e z m = ends_so g d (AnswerTake (Err (cond b TakeClosed TakeEmpty)))
+    pub load_top_to_take_none : (b : Bool) → second_of w ≡ false → index_of w ≡ NULL → mark_of w ≡ b → Ends n limit v v' begun (LoadTopToTake One) (AnswerTake (Err (cond b TakeClosed TakeEmpty)))
+    load_top_to_take_none b e z m = ends_so g d (AnswerTake (Err (cond b TakeClosed TakeEmpty)))
         (leads_unshut e ∙ ap (λ (x : Bool). cond x nothing spent) (eq-eqb (index_of w) NULL z) ∙ ap (λ (x : Bool). ends (AnswerTake (Err (cond x TakeClosed TakeEmpty)))) m)
 
-    spends : second_of w ≡ false → index_of w ≢ NULL → limit ≤ tag_of w → Ends n limit v v' begun (S1 One) (AnswerTake (Err (TakeSpent TopWord (tag_of w))))
+    spends : second_of w ≡ false → index_of w ≢ NULL → limit ≤ tag_of w → Ends n limit v v' begun (LoadTopToTake One) (AnswerTake (Err (TakeSpent TopWord (tag_of w))))
     spends e ne h = ends_so g d (AnswerTake (Err (TakeSpent TopWord (tag_of w))))
-        (leads_node e ne ∙ ap (λ (b : Bool). cond b (ends (AnswerTake (Err (TakeSpent TopWord (tag_of w))))) (S2 (fields_of w))) (leb_yes limit (tag_of w) h))
+        (leads_node e ne ∙ ap (λ (b : Bool). cond b (ends (AnswerTake (Err (TakeSpent TopWord (tag_of w))))) (LoadTopLink (fields_of w))) (leb_yes limit (tag_of w) h))
 
-    pub S1_spent : (t : ℕ) → t ≡ tag_of w → second_of w ≡ false → index_of w ≢ NULL → limit ≤ tag_of w → Ends n limit v v' begun (S1 One) (AnswerTake (Err (TakeSpent TopWord t)))
-    S1_spent t is e ne h = subst (λ (k : ℕ). Ends n limit v v' begun (S1 One) (AnswerTake (Err (TakeSpent TopWord k)))) (sym is) (spends e ne h)
+    pub load_top_to_take_spent : (t : ℕ) → t ≡ tag_of w → second_of w ≡ false → index_of w ≢ NULL → limit ≤ tag_of w → Ends n limit v v' begun (LoadTopToTake One) (AnswerTake (Err (TakeSpent TopWord t)))
+    load_top_to_take_spent t is e ne h = subst (λ (k : ℕ). Ends n limit v v' begun (LoadTopToTake One) (AnswerTake (Err (TakeSpent TopWord k)))) (sym is) (spends e ne h)
 
-    pub S1_goes : second_of w ≡ false → index_of w ≢ NULL → tag_of w < limit → Goes n limit o v v' begun (S1 One) (S2 (fields_of w))
-    S1_goes e ne h = goes_on g d o (S2 (fields_of w))
-        (leads_node e ne ∙ ap (λ (b : Bool). cond b (ends (AnswerTake (Err (TakeSpent TopWord (tag_of w))))) (S2 (fields_of w))) (leb_not limit (tag_of w) h)) refl
+    pub load_top_to_take_goes : second_of w ≡ false → index_of w ≢ NULL → tag_of w < limit → Goes n limit o v v' begun (LoadTopToTake One) (LoadTopLink (fields_of w))
+    load_top_to_take_goes e ne h = goes_on g d o (LoadTopLink (fields_of w))
+        (leads_node e ne ∙ ap (λ (b : Bool). cond b (ends (AnswerTake (Err (TakeSpent TopWord (tag_of w))))) (LoadTopLink (fields_of w))) (leb_not limit (tag_of w) h)) refl
 
-  pub S2_goes : (w i k : ℕ) → i ≡ index_of w → (g : Going n limit o v begun (S2 (fields_of w))) (d : Did n limit o 1 (read_link i) k [] v v') → Goes n limit o v v' begun (S2 (fields_of w)) (S3 (fields_of w) k)
-  S2_goes w i k is g d = goes_on g d o (S3 (fields_of w) k) (ap (λ (x : Outcome T). x.line) (out_at g d) ∙ ap (λ (j : ℕ). S3 (fields_of w) (d.memory.link j)) (sym is) ∙ ap (λ (j : ℕ). S3 (fields_of w) j) d.finds.0) refl
+  pub load_top_link_goes : (w i k : ℕ) → i ≡ index_of w → (g : Going n limit o v begun (LoadTopLink (fields_of w))) (d : Did n limit o 1 (read_link i) k [] v v') → Goes n limit o v v' begun (LoadTopLink (fields_of w)) (TakeTop (fields_of w) k)
+  load_top_link_goes w i k is g d = goes_on g d o (TakeTop (fields_of w) k) (ap (λ (x : Outcome T). x.line) (out_at g d) ∙ ap (λ (j : ℕ). TakeTop (fields_of w) (d.memory.link j)) (sym is) ∙ ap (λ (j : ℕ). TakeTop (fields_of w) j) d.finds.0) refl
 
-  pub S3_won : (w k : ℕ) (x : Slot T) (value : T) → x ≡ Some value → (g : Going n limit o v begun (S3 (fields_of w) k)) (d : Did n limit o 1 (take w k) w ((index_of w, x) ∷ []) v v')
-      → Goes n limit o v v' begun (S3 (fields_of w) k) (G1 (record { chain = index_of w ∷ []; answer = AnswerTake (Ok (value, tag_of w)) }))
-  S3_won w k x value is g d =
+  pub take_top_won : (w k : ℕ) (x : Slot T) (value : T) → x ≡ Some value → (g : Going n limit o v begun (TakeTop (fields_of w) k)) (d : Did n limit o 1 (take w k) w ((index_of w, x) ∷ []) v v')
+      → Goes n limit o v v' begun (TakeTop (fields_of w) k) (LoadFreeToGive (record { chain = index_of w ∷ []; answer = AnswerTake (Ok (value, tag_of w)) }))
+  take_top_won w k x value is g d =
       let m = d.moves refl in
       let same_x : x ≡ m.0 = same_slot (index_of w) x m.0 m.1 in
       let here : d.memory.home (index_of w) ≡ some (Some value) = m.2 ∙ ap some (sym same_x ∙ is) in
-      goes_on g d o (G1 (record { chain = index_of w ∷ []; answer = AnswerTake (Ok (value, tag_of w)) }))
+      goes_on g d o (LoadFreeToGive (record { chain = index_of w ∷ []; answer = AnswerTake (Ok (value, tag_of w)) }))
       (ap (λ (y : Outcome T). y.line) (out_at g d)
-      ∙ ap (λ (b : Bool). (cond b (wins_value d.memory d.pass.number (fields_of w) k (d.memory.home (index_of w))) (core_goes_on d.memory (S1 One))).line) (is_same d.memory.top (fields_of w) (sym d.finds))
+      ∙ ap (λ (b : Bool). (cond b (wins_value d.memory d.pass.number (fields_of w) k (d.memory.home (index_of w))) (core_goes_on d.memory (LoadTopToTake One))).line) (is_same d.memory.top (fields_of w) (sym d.finds))
       ∙ ap (λ (y : Option (Slot T)). (wins_value d.memory d.pass.number (fields_of w) k y).line) here)
       refl
 
-  pub S3_lost : (w k found : ℕ) → found ≢ w → (g : Going n limit o v begun (S3 (fields_of w) k)) (d : Did n limit o 1 (take w k) found [] v v') → Goes n limit o v v' begun (S3 (fields_of w) k) (S1 One)
-  S3_lost w k found ne g d = goes_on g d o (S1 One)
+  pub take_top_lost : (w k found : ℕ) → found ≢ w → (g : Going n limit o v begun (TakeTop (fields_of w) k)) (d : Did n limit o 1 (take w k) found [] v v') → Goes n limit o v v' begun (TakeTop (fields_of w) k) (LoadTopToTake One)
+  take_top_lost w k found ne g d = goes_on g d o (LoadTopToTake One)
       (ap (λ (y : Outcome T). y.line) (out_at g d)
-      ∙ ap (λ (b : Bool). (cond b (wins_value d.memory d.pass.number (fields_of w) k (d.memory.home (index_of w))) (core_goes_on d.memory (S1 One))).line)
+      ∙ ap (λ (b : Bool). (cond b (wins_value d.memory d.pass.number (fields_of w) k (d.memory.home (index_of w))) (core_goes_on d.memory (LoadTopToTake One))).line)
       (not_same d.memory.top (fields_of w) (λ e. ne ((same_fields found w).1 (d.finds ∙ e)))))
       refl
 
-  pub G1_goes : (w : ℕ) (t : Giving T) (g : Going n limit o v begun (G1 t)) (d : Did n limit o 0 read_top w [] v v') → Goes n limit o v v' begun (G1 t) (G2 t (fields_of w))
-  G1_goes w t g d = goes_on g d o (G2 t (fields_of w)) (ap (λ (x : Outcome T). x.line) (out_at g d) ∙ ap (λ (x : Tagged). G2 t x) (sym d.finds)) refl
+  pub load_free_to_give_goes : (w : ℕ) (t : Giving T) (g : Going n limit o v begun (LoadFreeToGive t)) (d : Did n limit o 0 read_top w [] v v') → Goes n limit o v v' begun (LoadFreeToGive t) (LinkToFree t (fields_of w))
+  load_free_to_give_goes w t g d = goes_on g d o (LinkToFree t (fields_of w)) (ap (λ (x : Outcome T). x.line) (out_at g d) ∙ ap (λ (x : Tagged). LinkToFree t x) (sym d.finds)) refl
 
-  pub G2_goes : (w i k found : ℕ) (t : Giving T) (g : Going n limit o v begun (G2 t (fields_of w))) (d : Did n limit o 0 (write_link i k) found [] v v') → Goes n limit o v v' begun (G2 t (fields_of w)) (G3 t (fields_of w))
-  G2_goes w i k found t g d = goes_on g d o (G3 t (fields_of w)) (ap (λ (x : Outcome T). x.line) (out_at g d)) refl
+  pub link_to_free_goes : (w i k found : ℕ) (t : Giving T) (g : Going n limit o v begun (LinkToFree t (fields_of w))) (d : Did n limit o 0 (write_link i k) found [] v v') → Goes n limit o v v' begun (LinkToFree t (fields_of w)) (GiveBack t (fields_of w))
+  link_to_free_goes w i k found t g d = goes_on g d o (GiveBack t (fields_of w)) (ap (λ (x : Outcome T). x.line) (out_at g d)) refl
 
-  pub G3_won : (w i : ℕ) (t : Giving T) (zs : List (ℕ × Slot T)) (g : Going n limit o v begun (G3 t (fields_of w))) (d : Did n limit o 0 (give_chain w i) w zs v v') → Ends n limit v v' begun (G3 t (fields_of w)) t.answer
-  G3_won w i t zs g d = ends_so g d t.answer
+  pub give_back_won : (w i : ℕ) (t : Giving T) (zs : List (ℕ × Slot T)) (g : Going n limit o v begun (GiveBack t (fields_of w))) (d : Did n limit o 0 (give_chain w i) w zs v v') → Ends n limit v v' begun (GiveBack t (fields_of w)) t.answer
+  give_back_won w i t zs g d = ends_so g d t.answer
       (ap (λ (y : Outcome T). y.line) (out_at g d)
-      ∙ ap (λ (b : Bool). (cond b (wins (after_give d.memory (fields_of w) t.chain) (ends t.answer) (Free d.pass.number (length t.chain))) (core_goes_on d.memory (G1 t))).line) (is_same d.memory.free (fields_of w) (sym d.finds)))
+      ∙ ap (λ (b : Bool). (cond b (wins (after_give d.memory (fields_of w) t.chain) (ends t.answer) (Free d.pass.number (length t.chain))) (core_goes_on d.memory (LoadFreeToGive t))).line) (is_same d.memory.free (fields_of w) (sym d.finds)))
 
-  pub G3_lost : (w i found : ℕ) (t : Giving T) → found ≢ w → (g : Going n limit o v begun (G3 t (fields_of w))) (d : Did n limit o 0 (give_chain w i) found [] v v') → Goes n limit o v v' begun (G3 t (fields_of w)) (G1 t)
-  G3_lost w i found t ne g d = goes_on g d o (G1 t)
+  pub give_back_lost : (w i found : ℕ) (t : Giving T) → found ≢ w → (g : Going n limit o v begun (GiveBack t (fields_of w))) (d : Did n limit o 0 (give_chain w i) found [] v v') → Goes n limit o v v' begun (GiveBack t (fields_of w)) (LoadFreeToGive t)
+  give_back_lost w i found t ne g d = goes_on g d o (LoadFreeToGive t)
       (ap (λ (y : Outcome T). y.line) (out_at g d)
-      ∙ ap (λ (b : Bool). (cond b (wins (after_give d.memory (fields_of w) t.chain) (ends t.answer) (Free d.pass.number (length t.chain))) (core_goes_on d.memory (G1 t))).line)
+      ∙ ap (λ (b : Bool). (cond b (wins (after_give d.memory (fields_of w) t.chain) (ends t.answer) (Free d.pass.number (length t.chain))) (core_goes_on d.memory (LoadFreeToGive t))).line)
       (not_same d.memory.free (fields_of w) (λ e. ne ((same_fields found w).1 (d.finds ∙ e)))))
       refl
 
@@ -160,11 +160,11 @@ module _ {T : Type 0} where
   unfolding slot_of
   front_slot zs us vs i j x y e f = sym (ap (λ (ws : List (ℕ × Slot T)). slot_of ws x) e) ∙ ap (λ (ws : List (ℕ × Slot T)). slot_of ws x) f
 
-  pub S3_won_as : {n limit : ℕ} {o : Operation T} {v v' : View T (Line T)} {begun : PassView T} (w k i number : ℕ) (x : Slot T) (value : T) → i ≡ index_of w → number ≡ tag_of w → x ≡ Some value → (g : Going n limit o v begun (S3 (fields_of w) k)) (d : Did n limit o 1 (take w k) w ((index_of w, x) ∷ []) v v')
-      → Goes n limit o v v' begun (S3 (fields_of w) k) (G1 (record { chain = i ∷ []; answer = AnswerTake (Ok (value, number)) }))
-  S3_won_as {n} {limit} {o} {v} {v'} {begun} w k i number x value e f is g d =
-      subst (λ (j : ℕ). Goes n limit o v v' begun (S3 (fields_of w) k) (G1 (record { chain = j ∷ []; answer = AnswerTake (Ok (value, number)) }))) (sym e)
-      (subst (λ (t : ℕ). Goes n limit o v v' begun (S3 (fields_of w) k) (G1 (record { chain = index_of w ∷ []; answer = AnswerTake (Ok (value, t)) }))) (sym f) (S3_won w k x value is g d))
+  pub take_top_won_as : {n limit : ℕ} {o : Operation T} {v v' : View T (Line T)} {begun : PassView T} (w k i number : ℕ) (x : Slot T) (value : T) → i ≡ index_of w → number ≡ tag_of w → x ≡ Some value → (g : Going n limit o v begun (TakeTop (fields_of w) k)) (d : Did n limit o 1 (take w k) w ((index_of w, x) ∷ []) v v')
+      → Goes n limit o v v' begun (TakeTop (fields_of w) k) (LoadFreeToGive (record { chain = i ∷ []; answer = AnswerTake (Ok (value, number)) }))
+  take_top_won_as {n} {limit} {o} {v} {v'} {begun} w k i number x value e f is g d =
+      subst (λ (j : ℕ). Goes n limit o v v' begun (TakeTop (fields_of w) k) (LoadFreeToGive (record { chain = j ∷ []; answer = AnswerTake (Ok (value, number)) }))) (sym e)
+      (subst (λ (t : ℕ). Goes n limit o v v' begun (TakeTop (fields_of w) k) (LoadFreeToGive (record { chain = index_of w ∷ []; answer = AnswerTake (Ok (value, t)) }))) (sym f) (take_top_won w k x value is g d))
 
   -- a step that was made in q, and then moves of slots alone
   pub moved_on : (c : Stack T) (o : Operation T) (p q r : Pass T) (l l' : Line T) (slots : List (ℕ × Slot T)) → r.seat.table_id ≡ q.seat.table_id → q.seat.table_id ≡ p.seat.table_id → p.seat.table_id ≡ c.table.shared.table_id

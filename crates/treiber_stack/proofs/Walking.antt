@@ -1,5 +1,5 @@
 -- A walk along a chain, node by node.
-use Rattle.std.proofs.Common.{◌≡◌, ◌≢◌, ℕ, zero, suc, ◌+◌, ◌<◌, ◌≤◌, List, [], ◌∷◌, ◌++◌, length, reverse, refl, sym, ap, ◌∙◌, subst, append_assoc, append-nil, length-append, arith}
+use Rattle.std.proofs.Common.{◌≡◌, ◌≢◌, ℕ, suc, ◌+◌, ◌<◌, ◌≤◌, List, [], ◌∷◌, ◌++◌, length, refl, sym, ap, ◌∙◌, subst, append_assoc, append-nil, length-append, arith}
 use Rattle.std.specs.Prelude.{Option as Slot, Some, None}
 use Rattle.atomic_table.specs.Table.{rest}
 use Rattle.tagged_index.specs.Fields.{tag_of}
@@ -10,27 +10,26 @@ use Rattle.bounded_model.specs.declared.views.PassView.{PassView}
 use Rattle.bounded_model.specs.Histories.{own}
 use Rattle.bounded_model.specs.Consumes.{Folds}
 use Rattle.index_list.specs.declared.front.Front.{Front}
-use Rattle.index_list.specs.declared.front.Front.TheVariants.{First}
 use Rattle.index_list.specs.Steps.{read_link}
 use Rattle.machine.specs.Words.{times, Stands}
 use Rattle.stack_machine.specs.declared.lines.Giving.{Giving}
 use Rattle.stack_machine.specs.declared.lines.Line.{Line}
-use Rattle.stack_machine.specs.declared.lines.Line.TheVariants.{A4, G1}
+use Rattle.stack_machine.specs.declared.lines.Line.TheVariants.{LoadLinkToFold, LoadFreeToGive}
 use Rattle.machine.specs.declared.seats.View.{View}
 use Rattle.machine.specs.Seats.{pass_of}
 use Rattle.machine.specs.Chains.{first, last}
 use Rattle.machine.proofs.Lists.{times_here, times_append}
+use Rattle.treiber_stack.specs.declared.operation.Operation.TheVariants.{Underway}
 use Rattle.treiber_stack.specs.Host.{may_step}
-use Rattle.treiber_stack.specs.Operations.{IsAt, IsSame, Going, Goes, Told, begun_in, vacant}
+use Rattle.treiber_stack.specs.Operations.{IsAt, IsSame, Going, Told, begun_in, vacant}
 use Rattle.treiber_stack.specs.Stack.{pass_in}
-use Rattle.treiber_stack.specs.Folding.{full, later_step, folding, in_order, Took, IsHand, IsReady, IsWalking, IsEmptied}
-use Rattle.treiber_stack.specs.declared.folding.Chain.{Chain}
+use Rattle.treiber_stack.specs.Folding.{full, folding, in_order, Took, IsHand, IsReady, IsWalking, IsEmptied}
 use Rattle.treiber_stack.specs.declared.stack.Stack.{Stack}
 use Rattle.treiber_stack.specs.declared.stack.Pass.{Pass}
 use Rattle.treiber_stack.proofs.Going.{begun_going}
 use Rattle.treiber_stack.proofs.Takings.{may_going, front_slot}
 use Rattle.treiber_stack.proofs.Slots.{ends_here, goes_further, null_off, vacant_append}
-use Rattle.treiber_stack.proofs.Folds.{A4_ends, A4_goes, A4_stays, A4_rest}
+use Rattle.treiber_stack.proofs.Folds.{load_link_to_fold_ends, load_link_to_fold_goes, load_link_to_fold_stays, load_link_to_fold_rest}
 
 pub Folds_more : {T S : Type 0} (Gives : S → T → S → Type 0) (s : S) (xs : List T) (r t : S) (x : T) → Folds Gives s xs r → Gives r x t → Folds Gives s (xs ++ x ∷ []) t
 Folds_more Gives s [] r t x folds next = (t, subst (λ (q : _). Gives q x t) (sym folds) next, refl)
@@ -67,7 +66,7 @@ module _ {T : Type 0} where
           others = r.others;
           value = v.0;
           values = v.1;
-          at = subst (λ (zs : List (ℕ × Slot T)). IsAt c later_step p (A4 (folding r.chain r.folded w) start) zs)
+          at = subst (λ (zs : List (ℕ × Slot T)). IsAt c Underway p (LoadLinkToFold (folding r.chain r.folded w) start) zs)
               ((λ k. full (r.begins k) (v.2 k)) ∙ sym (append-nil (full (start ∷ r.others) (v.0 ∷ v.1)))) r.at;
           took = r.took;
           hand = r.hand;
@@ -105,10 +104,10 @@ module _ {T : Type 0} where
         view : q.seat.me.0 ≡ p.seat.me.0
         view = ap (λ m. m.0) out
 
-        pub going : Going n (tag_limit_of c.limits) later_step q.seat.me.0 (begun_in p) (A4 giving index)
-        going = subst (λ (v : View T (Line T)). Going n (tag_limit_of c.limits) later_step v (begun_in p) (A4 giving index)) (sym view) W.at.going
+        pub going : Going n (tag_limit_of c.limits) Underway q.seat.me.0 (begun_in p) (LoadLinkToFold giving index)
+        going = subst (λ (v : View T (Line T)). Going n (tag_limit_of c.limits) Underway v (begun_in p) (LoadLinkToFold giving index)) (sym view) W.at.going
 
-        pub may_link : may_step later_step 1 (read_link index) q.seat.me.0
+        pub may_link : may_step Underway 1 (read_link index) q.seat.me.0
         may_link = may_going 1 (read_link index) going refl
 
         same_value : x ≡ W.value
@@ -119,12 +118,12 @@ module _ {T : Type 0} where
             ∙ append_assoc (full W.others W.values) (vacant W.done) ((index, None) ∷ [])
             ∙ ap (λ (zs : List (ℕ × Slot T)). full W.others W.values ++ zs) (sym (vacant_append W.done (index ∷ [])))
 
-        module _ (next : ℕ) (r : Pass T) (same : IsSame q r) (told : Told c later_step 1 (read_link index) next [] q r) where
+        module _ (next : ℕ) (r : Pass T) (same : IsSame q r) (told : Told c Underway 1 (read_link index) next [] q r) where
           once : times index W.chain ≤ 1
           once = W.hand.once index
 
           further : Stands told.did.memory.link next W.others
-          further = A4_rest later_step index next giving 1 going told.did W.done W.others W.parts once
+          further = load_link_to_fold_rest Underway index next giving 1 going told.did W.done W.others W.parts once
 
           no_null : times NULL W.others ≡ 0
           no_null = let most = c.limits.capacity_in_range in null_off n W.chain W.done index W.others (omega arith) W.hand.low W.parts
@@ -133,11 +132,11 @@ module _ {T : Type 0} where
           has = same.slots ∙ slots
 
           stays : own (begun_in p).number (pass_in r).seen ≡ own (begun_in p).number (pass_in p).seen
-          stays = A4_stays later_step index next giving 1 going told.did ∙ ap (λ (v : View T (Line T)). own (begun_in p).number (pass_of v).seen) view
+          stays = load_link_to_fold_stays Underway index next giving 1 going told.did ∙ ap (λ (v : View T (Line T)). own (begun_in p).number (pass_of v).seen) view
 
           pub walk_goes : next ≢ NULL → IsWalking c front w r (gone ++ x ∷ []) start (count + 1) next × (begun_in r ≡ begun_in p)
           walk_goes ne =
-              let on = A4_goes later_step index next giving 1 going told.did ne in
+              let on = load_link_to_fold_goes Underway index next giving 1 going told.did ne in
               let begun = begun_going on.0 in
               let more = goes_further told.did.memory.link next W.others further ne in
               let parts : W.chain ≡ (W.done ++ index ∷ []) ++ next ∷ more.0 = W.parts ∙ ap (λ (xs : List ℕ). W.done ++ index ∷ xs) more.1 ∙ sym (append_assoc W.done (index ∷ []) (next ∷ more.0)) in
@@ -159,7 +158,7 @@ module _ {T : Type 0} where
                   at = record {
                     table = same.table ∙ table ∙ W.at.table;
                     has = has ∙ (λ k. full (more.1 k) (v.2 k) ++ vacant (W.done ++ index ∷ []));
-                    going = subst (λ (b : PassView T). Going n (tag_limit_of c.limits) later_step r.seat.me.0 b (A4 giving next)) (sym begun) on.0;
+                    going = subst (λ (b : PassView T). Going n (tag_limit_of c.limits) Underway r.seat.me.0 b (LoadLinkToFold giving next)) (sym begun) on.0;
                   };
                   took = took_on p r (tag_of w) (in_order front W.folded) begun stays W.took;
                   hand = W.hand;
@@ -174,7 +173,7 @@ module _ {T : Type 0} where
 
           pub walk_ends : next ≡ NULL → IsEmptied c front w r (gone ++ x ∷ []) (record { first = start; last = index }) × (begun_in r ≡ begun_in p) × (count + 1 ≡ length (gone ++ x ∷ []))
           walk_ends e =
-              let on = A4_ends later_step index next giving 1 going told.did e in
+              let on = load_link_to_fold_ends Underway index next giving 1 going told.did e in
               let begun = begun_going on.0 in
               let none = ends_here told.did.memory.link next W.others further no_null e in
               let parts : W.chain ≡ W.done ++ index ∷ [] = W.parts ∙ ap (λ (xs : List ℕ). W.done ++ index ∷ xs) none in
@@ -187,10 +186,10 @@ module _ {T : Type 0} where
               let order : W.folded ≡ gone ++ x ∷ [] = W.order ∙ (λ k. gone ++ sym same_value k ∷ nothing k) in (
                 record {
                   chain = W.chain;
-                  at = subst (λ (vs : List T). IsAt c later_step r (G1 (folding W.chain vs w)) (vacant W.chain)) order (record {
+                  at = subst (λ (vs : List T). IsAt c Underway r (LoadFreeToGive (folding W.chain vs w)) (vacant W.chain)) order (record {
                     table = same.table ∙ table ∙ W.at.table;
                     has = has ∙ (λ k. full (none k) (nothing k) ++ vacant (W.done ++ index ∷ [])) ∙ ap (λ (xs : List ℕ). vacant xs) (sym parts);
-                    going = subst (λ (b : PassView T). Going n (tag_limit_of c.limits) later_step r.seat.me.0 b (G1 giving)) (sym begun) on.0;
+                    going = subst (λ (b : PassView T). Going n (tag_limit_of c.limits) Underway r.seat.me.0 b (LoadFreeToGive giving)) (sym begun) on.0;
                   });
                   took = subst (λ (vs : List T). Took r (tag_of w) (in_order front vs)) order (took_on p r (tag_of w) (in_order front W.folded) begun stays W.took);
                   hand = subst (λ (vs : List T). IsHand n W.chain vs) order W.hand;

@@ -1,12 +1,12 @@
 -- Closes and shuts made by steps.
-use Rattle.std.specs.Prelude.{ℕ, Bool, [], Option as Slot, Some, None}
+use Rattle.std.specs.Prelude.{◌≡◌, ℕ, Bool, [], Option as Slot, Some, None}
 use Rattle.tagged_index.specs.Fields.{fields_of}
 use Rattle.bounded_model.specs.declared.answers.Stepped.{Stepped}
 use Rattle.bounded_model.specs.declared.answers.Stepped.TheVariants.{Again, Done}
 use Rattle.bounded_model.specs.Laws.{CloseGives, ShutGives}
 use Rattle.stack_machine.specs.declared.lines.Answer.TheVariants.{Close as AnswerClose, Shut as AnswerShut}
 use Rattle.stack_machine.specs.declared.lines.Line.{Line}
-use Rattle.stack_machine.specs.declared.lines.Line.TheVariants.{Z1, Z2, Y1, Y2}
+use Rattle.stack_machine.specs.declared.lines.Line.TheVariants.{LoadTopToClose, MarkTop, LoadTopToShut, ShutTop}
 use Rattle.stack_machine.specs.Machine.{ends}
 use Rattle.treiber_stack.specs.Operations.{IsAt, IsLineOf, GoesOn, begun_in}
 use Rattle.treiber_stack.specs.Stack.{shape_of, pass_in, IsPassOf}
@@ -17,14 +17,14 @@ use Rattle.treiber_stack.specs.declared.stack.Stack.{Stack}
 use Rattle.treiber_stack.specs.declared.stack.Pass.{Pass}
 
 module _ {T : Type 0} where
-  -- `Z1` until the top has been read, then `Z2`; and `Y1`, `Y2`
+  -- `LoadTopToClose` until the top has been read, then `MarkTop`; and `LoadTopToShut`, `ShutTop`
   abbrev pub close_line : Slot ℕ → Line T
-  close_line None = Z1
-  close_line (Some w) = Z2 (fields_of w)
+  close_line None = LoadTopToClose
+  close_line (Some w) = MarkTop (fields_of w)
 
   abbrev pub shut_line : Slot ℕ → Line T
-  shut_line None = Y1
-  shut_line (Some w) = Y2 (fields_of w)
+  shut_line None = LoadTopToShut
+  shut_line (Some w) = ShutTop (fields_of w)
 
   abbrev pub IsClosing : Stack T → CloseOp T → Type 0
   IsClosing c op = IsAt c CloseFirst op.pass (close_line op.seen) []
@@ -40,3 +40,12 @@ module _ {T : Type 0} where
   abbrev pub ShutStep : Stack T → Pass T → Slot ℕ → Stepped (ShutOp T) (Pass T) Bool → Type 0
   ShutStep c p seen (Again next) = IsShutting c next × GoesOn c p next.pass (shut_line seen) (shut_line next.seen)
   ShutStep c p seen (Done q b) = IsPassOf c q × ShutGives (shape_of c) (begun_in p) (pass_in q) b × IsLineOf c p q (shut_line seen) (ends (AnswerShut b))
+
+  -- what several steps give
+  abbrev pub CloseRun : Stack T → Pass T → Stepped (CloseOp T) (Pass T) Bool → Type 0
+  CloseRun c p (Again next) = IsClosing c next × (begun_in next.pass ≡ begun_in p)
+  CloseRun c p (Done q b) = IsPassOf c q × CloseGives (shape_of c) (begun_in p) (pass_in q) b
+
+  abbrev pub ShutRun : Stack T → Pass T → Stepped (ShutOp T) (Pass T) Bool → Type 0
+  ShutRun c p (Again next) = IsShutting c next × (begun_in next.pass ≡ begun_in p)
+  ShutRun c p (Done q b) = IsPassOf c q × ShutGives (shape_of c) (begun_in p) (pass_in q) b

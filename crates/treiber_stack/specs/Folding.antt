@@ -1,10 +1,9 @@
--- Folds: what they promise, and where a pass stands in one.
-use Rattle.std.specs.Prelude.{◌≡◌, ◌≢◌, ℕ, ◌+◌, ◌<◌, ◌≤◌, false, List, [], ◌∷◌, ◌++◌, length, reverse, Option as Slot, Some, None, Result, Ok, Err}
+-- Folds: where a pass stands in one.
+use Rattle.std.specs.Prelude.{◌≡◌, ◌≢◌, ℕ, ◌<◌, ◌≤◌, false, List, [], ◌∷◌, ◌++◌, length, reverse, Option as Slot, Some, Result, Ok, Err}
 use Rattle.tagged_index.specs.Fields.{fields_of, index_of, tag_of, second_of}
 use Rattle.tagged_index.specs.Limits.{capacity_of, tag_limit_of}
 use Rattle.tagged_index.specs.declared.word.TheConstants.{NULL}
 use Rattle.bounded_model.specs.declared.answers.TakeRefused.{TakeRefused}
-use Rattle.bounded_model.specs.declared.history.Event.{Event}
 use Rattle.bounded_model.specs.declared.history.Event.TheVariants.{TakeAll, Free}
 use Rattle.bounded_model.specs.declared.views.PassView.{PassView}
 use Rattle.bounded_model.specs.Histories.{own}
@@ -18,34 +17,24 @@ use Rattle.machine.specs.Words.{times}
 use Rattle.stack_machine.specs.declared.lines.Answer.TheVariants.{Fold as AnswerFold}
 use Rattle.stack_machine.specs.declared.lines.Giving.{Giving}
 use Rattle.stack_machine.specs.declared.lines.Taking.{Taking}
-use Rattle.stack_machine.specs.declared.lines.Line.{Line}
-use Rattle.stack_machine.specs.declared.lines.Line.TheVariants.{A2, A4, G1}
+use Rattle.stack_machine.specs.declared.lines.Line.TheVariants.{LoadLinkToTurn, LoadLinkToFold, LoadFreeToGive}
 use Rattle.machine.specs.Chains.{first, last}
-use Rattle.stack_machine.specs.Machine.{at_S1, at_A1, refuses}
+use Rattle.stack_machine.specs.Machine.{at_load_top_to_take, at_take_chain, refuses}
 use Rattle.treiber_stack.specs.Host.{direction}
 use Rattle.treiber_stack.specs.Operations.{IsAt, Ended, begun_in, vacant}
 use Rattle.treiber_stack.specs.Stack.{shape_of, pass_in, IsPassOf}
 use Rattle.treiber_stack.specs.declared.folding.Chain.{Chain}
-use Rattle.treiber_stack.specs.declared.folding.Folded.{Folded}
+use Rattle.bounded_model.specs.declared.bulk.Folded.{Folded}
 use Rattle.treiber_stack.specs.declared.folding.Walked.{Walked}
 use Rattle.treiber_stack.specs.declared.operation.Operation.{Operation}
-use Rattle.treiber_stack.specs.declared.operation.Operation.TheVariants.{Fold as FoldFirst}
+use Rattle.treiber_stack.specs.declared.operation.Operation.TheVariants.{Underway}
 use Rattle.treiber_stack.specs.declared.stack.Stack.{Stack}
 use Rattle.treiber_stack.specs.declared.stack.Pass.{Pass}
-
--- What a fold promises
 
 -- values in the order of a fold; they stand from the top down
 abbrev pub in_order : {T : Type 0} → Front → List T → List T
 in_order First values = values
 in_order Last values = reverse values
-
--- An accepted fold has taken some values by one exchange and given back their nodes by another, and
--- f made t of s and them, one after another; `Gives s x t` says that f may answer t on s and x. A
--- refused one has done nothing
-abbrev pub FoldsAll : {T S : Type 0} → Shape → Front → (S → T → S → Type 0) → PassView T → S → PassView T → S → Result Folded TakeRefused → Type 0
-FoldsAll {T} c front Gives v s w t (Ok r) = (values : List T) × FoldGives v w values r.number × (r.count ≡ length values) × Folds Gives s (in_order front values) t
-FoldsAll c front Gives v s w t (Err why) = TakesNothing c v w why × (t ≡ s)
 
 -- Where a pass stands in one
 
@@ -54,7 +43,7 @@ abbrev pub AllowsTake : ℕ → ℕ → Type 0
 AllowsTake limit w = (second_of w ≡ false) × (index_of w ≢ NULL) × (tag_of w < limit)
 
 abbrev pub RefusesTake : Type 0 → ℕ → ℕ → TakeRefused → Type 0
-RefusesTake T limit w why = (taking : Taking) → at_S1 {T = T} limit taking (fields_of w) ≡ refuses taking why
+RefusesTake T limit w why = (taking : Taking) → at_load_top_to_take {T = T} limit taking (fields_of w) ≡ refuses taking why
 
 module _ {T : Type 0} where
   -- the slots of a chain, each with its value
@@ -62,10 +51,6 @@ module _ {T : Type 0} where
   full [] vs = []
   full (i ∷ is) [] = []
   full (i ∷ is) (v ∷ vs) = (i, Some v) ∷ full is vs
-
-  -- a fold's later steps need no name of their own
-  abbrev pub later_step : Operation T
-  later_step = FoldFirst First
 
   -- this chain is to be given back, and then the fold answers these values, in its order
   abbrev pub folding : List ℕ → List T → ℕ → Giving T
@@ -86,7 +71,7 @@ module _ {T : Type 0} where
   pub record IsTaken (c : Stack T) (front : Front) (w : ℕ) (p : Pass T) : Type 0 where
     pub chain : List ℕ
     pub values : List T
-    pub at : IsAt c later_step p (at_A1 (direction front) (fields_of w) chain values) (arranged front (full chain values))
+    pub at : IsAt c Underway p (at_take_chain (direction front) (fields_of w) chain values) (arranged front (full chain values))
     pub took : Took p (tag_of w) values
     pub hand : IsHand (capacity_of c.limits) chain values
     pub others : List ℕ
@@ -96,7 +81,7 @@ module _ {T : Type 0} where
   pub record IsTurning (c : Stack T) (w : ℕ) (p : Pass T) (count above index : ℕ) : Type 0 where
     pub chain : List ℕ
     pub values : List T
-    pub at : IsAt c later_step p (A2 (folding chain (reverse values) w) above index) (reverse (full chain values))
+    pub at : IsAt c Underway p (LoadLinkToTurn (folding chain (reverse values) w) above index) (reverse (full chain values))
     pub took : Took p (tag_of w) values
     pub hand : IsHand (capacity_of c.limits) chain values
     pub turned : List ℕ
@@ -109,7 +94,7 @@ module _ {T : Type 0} where
   pub record IsReady (c : Stack T) (front : Front) (w : ℕ) (p : Pass T) (start : ℕ) : Type 0 where
     pub chain : List ℕ
     pub folded : List T
-    pub at : IsAt c later_step p (A4 (folding chain folded w) start) (full chain folded)
+    pub at : IsAt c Underway p (LoadLinkToFold (folding chain folded w) start) (full chain folded)
     pub took : Took p (tag_of w) (in_order front folded)
     pub hand : IsHand (capacity_of c.limits) chain folded
     pub others : List ℕ
@@ -123,7 +108,7 @@ module _ {T : Type 0} where
     pub others : List ℕ
     pub value : T
     pub values : List T
-    pub at : IsAt c later_step p (A4 (folding chain folded w) index) (full (index ∷ others) (value ∷ values) ++ vacant done)
+    pub at : IsAt c Underway p (LoadLinkToFold (folding chain folded w) index) (full (index ∷ others) (value ∷ values) ++ vacant done)
     pub took : Took p (tag_of w) (in_order front folded)
     pub hand : IsHand (capacity_of c.limits) chain folded
     pub begins : first chain ≡ start
@@ -135,7 +120,7 @@ module _ {T : Type 0} where
   -- all values are gone, and the emptied nodes are in hand
   pub record IsEmptied (c : Stack T) (front : Front) (w : ℕ) (p : Pass T) (folded : List T) (nodes : Chain) : Type 0 where
     pub chain : List ℕ
-    pub at : IsAt c later_step p (G1 (folding chain folded w)) (vacant chain)
+    pub at : IsAt c Underway p (LoadFreeToGive (folding chain folded w)) (vacant chain)
     pub took : Took p (tag_of w) (in_order front folded)
     pub hand : IsHand (capacity_of c.limits) chain folded
     pub some_node : 0 < length chain
@@ -144,7 +129,7 @@ module _ {T : Type 0} where
 
   -- a chain whose slots are empty is to be given back
   pub record IsGivingBack (c : Stack T) (o : Operation T) (p : Pass T) (nodes : Chain) (giving : Giving T) : Type 0 where
-    pub at : IsAt c o p (G1 giving) (vacant giving.chain)
+    pub at : IsAt c o p (LoadFreeToGive giving) (vacant giving.chain)
     pub low : (i : ℕ) → 0 < times i giving.chain → i < capacity_of c.limits
     pub some_node : 0 < length giving.chain
     pub begins : first giving.chain ≡ nodes.first

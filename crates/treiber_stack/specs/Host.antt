@@ -17,7 +17,7 @@ use Rattle.stack_machine.specs.declared.lines.Direction.{Direction}
 use Rattle.stack_machine.specs.declared.lines.Direction.TheVariants.{Down, Up}
 use Rattle.stack_machine.specs.declared.lines.Taking.TheVariants.{One, Whole}
 use Rattle.stack_machine.specs.declared.lines.Line.{Line}
-use Rattle.stack_machine.specs.declared.lines.Line.TheVariants.{Idle, F1, F2, F3, F4, P1, P2, P3, D1, S1, S2, S3, A1, A2, A3, A4, G1, G2, G3, Z1, Z2, Y1, Y2, V1}
+use Rattle.stack_machine.specs.declared.lines.Line.TheVariants.{Idle, LoadFree, LoadFreeLink, TakeFree, LinkTaken, LoadTop, LinkToTop, SwapTop, LoadTopToRefuse, LoadTopToTake, LoadTopLink, TakeTop, TakeChain, LoadLinkToTurn, TurnLink, LoadLinkToFold, LoadFreeToGive, LinkToFree, GiveBack, LoadTopToClose, MarkTop, LoadTopToShut, ShutTop, LoadTopToLook}
 use Rattle.machine.specs.declared.seats.View.{View}
 use Rattle.machine.specs.declared.seats.View.TheVariants.{AtRoot, AtPass, AtMeeting, Left}
 use Rattle.stack_machine.specs.Machine.{Memory, Outcome, held, placed, step}
@@ -30,7 +30,7 @@ use Rattle.treiber_stack.specs.Places.{values_of}
 use Rattle.treiber_stack.specs.declared.operation.Listed.TheVariants.{End, More'}
 use Rattle.treiber_stack.specs.Rule.{idle, line_in, holding, Meets}
 use Rattle.treiber_stack.specs.declared.operation.Operation.{Operation}
-use Rattle.treiber_stack.specs.declared.operation.Operation.TheVariants.{Put as PutFirst, Take as TakeFirst, Close as CloseFirst, Shut as ShutFirst, Look as LookFirst, Fold as FoldFirst, Range as RangeFirst}
+use Rattle.treiber_stack.specs.declared.operation.Operation.TheVariants.{Put as PutFirst, Take as TakeFirst, Close as CloseFirst, Shut as ShutFirst, Look as LookFirst, Fold as FoldFirst, Range as RangeFirst, Underway}
 
 -- a fold that begins with the first node goes down, one that begins with the last goes up
 abbrev pub direction : Front → Direction
@@ -38,16 +38,17 @@ direction First = Down
 direction Last = Up
 
 module _ {T : Type 0} where
-  -- the first step of an operation
+  -- the first step of an operation; one that is under way has none
   abbrev pub first_line : Operation T → Line T
-  first_line (PutFirst v) = F1 (record { values = v.value ∷ []; chain = [] })
-  first_line TakeFirst = S1 One
-  first_line CloseFirst = Z1
-  first_line ShutFirst = Y1
-  first_line LookFirst = V1
-  first_line (FoldFirst front) = S1 (Whole (direction front))
-  first_line (RangeFirst End) = V1
-  first_line (RangeFirst (More' v marker others)) = F1 (record { values = v.value ∷ values_of others; chain = [] })
+  first_line (PutFirst v) = LoadFree (record { values = v.value ∷ []; chain = [] })
+  first_line TakeFirst = LoadTopToTake One
+  first_line CloseFirst = LoadTopToClose
+  first_line ShutFirst = LoadTopToShut
+  first_line LookFirst = LoadTopToLook
+  first_line (FoldFirst front) = LoadTopToTake (Whole (direction front))
+  first_line (RangeFirst End) = LoadTopToLook
+  first_line (RangeFirst (More' v marker others)) = LoadFree (record { values = v.value ∷ values_of others; chain = [] })
+  first_line Underway = idle
 
   -- the line of a pass's next step: a pass between its operations begins one
   abbrev pub line_now : Operation T → Line T → Line T
@@ -70,53 +71,53 @@ module _ {T : Type 0} where
   -- the step that a line makes: on which list and with which words
 
   abbrev pub reads_top_of : Line T → Option ℕ
-  reads_top_of (F1 put) = some 0
-  reads_top_of (G1 giving) = some 0
-  reads_top_of (P1 put) = some 1
-  reads_top_of (D1 values) = some 1
-  reads_top_of (S1 taking) = some 1
-  reads_top_of Z1 = some 1
-  reads_top_of Y1 = some 1
-  reads_top_of V1 = some 1
+  reads_top_of (LoadFree put) = some 0
+  reads_top_of (LoadFreeToGive giving) = some 0
+  reads_top_of (LoadTop put) = some 1
+  reads_top_of (LoadTopToRefuse values) = some 1
+  reads_top_of (LoadTopToTake taking) = some 1
+  reads_top_of LoadTopToClose = some 1
+  reads_top_of LoadTopToShut = some 1
+  reads_top_of LoadTopToLook = some 1
   reads_top_of l = none
 
   abbrev pub reads_link_of : Line T → Option ℕ
-  reads_link_of (F2 put w) = some w.index
-  reads_link_of (S2 w) = some w.index
-  reads_link_of (A2 giving above i) = some i
-  reads_link_of (A4 giving i) = some i
+  reads_link_of (LoadFreeLink put w) = some w.index
+  reads_link_of (LoadTopLink w) = some w.index
+  reads_link_of (LoadLinkToTurn giving above i) = some i
+  reads_link_of (LoadLinkToFold giving i) = some i
   reads_link_of l = none
 
   abbrev pub stores_of : Line T → Option (ℕ × ℕ)
-  stores_of (F4 put) = some (first put.chain, second put.chain)
-  stores_of (P2 put w) = some (last put.chain, w.index)
-  stores_of (A3 giving above i k) = some (i, above)
-  stores_of (G2 giving w) = some (last giving.chain, w.index)
+  stores_of (LinkTaken put) = some (first put.chain, second put.chain)
+  stores_of (LinkToTop put w) = some (last put.chain, w.index)
+  stores_of (TurnLink giving above i k) = some (i, above)
+  stores_of (LinkToFree giving w) = some (last giving.chain, w.index)
   stores_of l = none
 
   abbrev pub takes_of : Line T → Option (ℕ × (Tagged × ℕ))
-  takes_of (F3 put w k) = some (0, (w, k))
-  takes_of (S3 w k) = some (1, (w, k))
+  takes_of (TakeFree put w k) = some (0, (w, k))
+  takes_of (TakeTop w k) = some (1, (w, k))
   takes_of l = none
 
   abbrev pub takes_all_of : Line T → Option Tagged
-  takes_all_of (A1 d w) = some w
+  takes_all_of (TakeChain d w) = some w
   takes_all_of l = none
 
   abbrev pub gives_of : Line T → Option (Tagged × List ℕ)
-  gives_of (G3 giving w) = some (w, giving.chain)
+  gives_of (GiveBack giving w) = some (w, giving.chain)
   gives_of l = none
 
   abbrev pub puts_of : Line T → Option (Tagged × Putting T)
-  puts_of (P3 put w) = some (w, put)
+  puts_of (SwapTop put w) = some (w, put)
   puts_of l = none
 
   abbrev pub marks_of : Line T → Option Tagged
-  marks_of (Z2 w) = some w
+  marks_of (MarkTop w) = some w
   marks_of l = none
 
   abbrev pub shuts_of : Line T → Option Tagged
-  shuts_of (Y2 w) = some w
+  shuts_of (ShutTop w) = some w
   shuts_of l = none
 
   -- a chain goes back to the free list, or onto the stack
@@ -147,7 +148,7 @@ module _ {T : Type 0} where
 
   -- with which value the slot of a node may go home: empty to the free list, to the stack with the node's own value of the put
   abbrev pub Bears : Line T → ℕ → Slot T → Type 0
-  Bears (P3 put w) i x = filled (λ _. none) put.chain (reverse (placed put)) i ≡ some x
+  Bears (SwapTop put w) i x = filled (λ _. none) put.chain (reverse (placed put)) i ≡ some x
   Bears l i x = ⊥
 
   abbrev pub rests_in : ℕ → View T (Line T) → ℕ → Slot T → Type 0

@@ -17,7 +17,7 @@ use Rattle.index_list.proofs.Acts.{length-filled}
 use Rattle.machine.specs.Words.{Tagged, times, total}
 use Rattle.machine.specs.Words as core
 use Rattle.stack_machine.specs.declared.lines.Line.{Line}
-use Rattle.stack_machine.specs.declared.lines.Line.TheVariants.{G1, G3}
+use Rattle.stack_machine.specs.declared.lines.Line.TheVariants.{LoadFreeToGive, GiveBack}
 use Rattle.machine.specs.declared.seats.View.{View}
 use Rattle.machine.specs.declared.seats.View.TheVariants.{AtRoot, AtPass, AtMeeting, Left}
 use Rattle.stack_machine.specs.Machine.{Memory, held, step, goes_on, wins, ends, after_give}
@@ -96,20 +96,20 @@ module _ {T : Type 0} (n limit : ℕ) (s : State (Slot T) (View T (Line T))) (r 
 
 module _ {T : Type 0} (c : Shape) (m : Memory T) (p : ℕ) where
   give_memory : (l : Line T) (w : Tagged) (chain : List ℕ) → gives_of l ≡ some (w, chain) → m.free ≡ w → after_give m w chain ≡ (step c m p l).memory
-  give_memory (G3 giving x) w chain e won =
+  give_memory (GiveBack giving x) w chain e won =
       let is = some-injective (x, giving.chain) (w, chain) e in
       let same_word : x ≡ w = ap (λ (t : Tagged × List ℕ). t.0) is in
       ap (λ (t : Tagged × List ℕ). after_give m t.0 t.1) (sym is)
-      ∙ sym (ap (λ (b : Bool). (cond b (wins (after_give m x giving.chain) (ends giving.answer) (Free p (length giving.chain))) (goes_on m (G1 giving))).memory) (is_same m.free x (won ∙ sym same_word)))
+      ∙ sym (ap (λ (b : Bool). (cond b (wins (after_give m x giving.chain) (ends giving.answer) (Free p (length giving.chain))) (goes_on m (LoadFreeToGive giving))).memory) (is_same m.free x (won ∙ sym same_word)))
   give_memory l w chain e won = absurd (some-ne-none (w, chain) (sym e))
 
 module _ {T : Type 0} where
   gives_held : (l : Line T) (w : Tagged) (chain : List ℕ) → gives_of l ≡ some (w, chain) → held l ≡ chain
-  gives_held (G3 giving x) w chain e = ap (λ (t : Tagged × List ℕ). t.1) (some-injective (x, giving.chain) (w, chain) e)
+  gives_held (GiveBack giving x) w chain e = ap (λ (t : Tagged × List ℕ). t.1) (some-injective (x, giving.chain) (w, chain) e)
   gives_held l w chain e = absurd (some-ne-none (w, chain) (sym e))
 
   gives_fine : (limit : ℕ) (m : Memory T) (g : Lists) (l : Line T) (w : Tagged) (chain : List ℕ) → IsFine limit m g l → gives_of l ≡ some (w, chain) → Gives m.link chain × (m.link (last chain) ≡ w.index)
-  gives_fine limit m g (G3 giving x) w chain f e = subst (λ (t : Tagged × List ℕ). Gives m.link t.1 × (m.link (last t.1) ≡ t.0.index)) (some-injective (x, giving.chain) (w, chain) e) f
+  gives_fine limit m g (GiveBack giving x) w chain f e = subst (λ (t : Tagged × List ℕ). Gives m.link t.1 × (m.link (last t.1) ≡ t.0.index)) (some-injective (x, giving.chain) (w, chain) e) f
   gives_fine limit m g l w chain f e = absurd (some-ne-none (w, chain) (sym e))
 
 module _ {T : Type 0} (n limit : ℕ) where

@@ -16,10 +16,10 @@ use Rattle.stack_machine.specs.declared.lines.Taking.TheVariants.{One, Whole}
 use Rattle.stack_machine.specs.declared.lines.Answer.TheVariants.{Put as AnswerPut, Close as AnswerClose, Shut as AnswerShut}
 use Rattle.stack_machine.specs.declared.lines.Putting.{Putting}
 use Rattle.stack_machine.specs.declared.lines.Line.{Line}
-use Rattle.stack_machine.specs.declared.lines.Line.TheVariants.{F1, F3, P1, P3, S1, S3, A1, G1, G3, Z1, Z2, Y1, Y2}
+use Rattle.stack_machine.specs.declared.lines.Line.TheVariants.{LoadFree, TakeFree, LoadTop, SwapTop, LoadTopToTake, TakeTop, TakeChain, LoadFreeToGive, GiveBack, LoadTopToClose, MarkTop, LoadTopToShut, ShutTop}
 use Rattle.machine.specs.declared.seats.View.{View}
 use Rattle.machine.specs.declared.seats.View.TheVariants.{AtRoot, AtPass, AtMeeting, Left}
-use Rattle.stack_machine.specs.Machine.{Memory, step, goes_on, wins, wins_value, wins_chain, ends, at_F3, after_hold, after_give, after_put, after_close, after_shut, placed, unplaced}
+use Rattle.stack_machine.specs.Machine.{Memory, step, goes_on, wins, wins_value, wins_chain, ends, at_take_free, after_hold, after_give, after_put, after_close, after_shut, placed, unplaced}
 use Rattle.machine.specs.Chains.{chain_from}
 use Rattle.stack_machine.specs.Answers.{shape}
 use Rattle.machine.proofs.Tests.{same-is, same-self}
@@ -43,55 +43,55 @@ is_same a b e = ap (λ (x : Tagged). same x b) e ∙ same-self b
 
 module _ {T : Type 0} (c : Shape) (m : Memory T) (p : ℕ) where
   mark_memory : (l : Line T) (w : Tagged) → marks_of l ≡ some w → m.top ≡ w → after_close m w ≡ (step c m p l).memory
-  mark_memory (Z2 x) w e won =
+  mark_memory (MarkTop x) w e won =
       let is : x ≡ w = some-injective x w e in
-      ap (after_close m) (sym is) ∙ sym (ap (λ (b : Bool). (cond b (wins (after_close m x) (ends (AnswerClose true)) (Close p)) (goes_on m Z1)).memory) (is_same m.top x (won ∙ sym is)))
+      ap (after_close m) (sym is) ∙ sym (ap (λ (b : Bool). (cond b (wins (after_close m x) (ends (AnswerClose true)) (Close p)) (goes_on m LoadTopToClose)).memory) (is_same m.top x (won ∙ sym is)))
   mark_memory l w e won = absurd (some-ne-none w (sym e))
 
   shut_memory : (l : Line T) (w : Tagged) → shuts_of l ≡ some w → m.top ≡ w → after_shut m w ≡ (step c m p l).memory
-  shut_memory (Y2 x) w e won =
+  shut_memory (ShutTop x) w e won =
       let is : x ≡ w = some-injective x w e in
-      ap (after_shut m) (sym is) ∙ sym (ap (λ (b : Bool). (cond b (wins (after_shut m x) (ends (AnswerShut true)) (Shut p)) (goes_on m Y1)).memory) (is_same m.top x (won ∙ sym is)))
+      ap (after_shut m) (sym is) ∙ sym (ap (λ (b : Bool). (cond b (wins (after_shut m x) (ends (AnswerShut true)) (Shut p)) (goes_on m LoadTopToShut)).memory) (is_same m.top x (won ∙ sym is)))
   shut_memory l w e won = absurd (some-ne-none w (sym e))
 
   -- a lost exchange changes no word
   mark_lost : (l : Line T) (w : Tagged) → marks_of l ≡ some w → (m.top ≡ w → ⊥) → m ≡ (step c m p l).memory
-  mark_lost (Z2 x) w e miss =
-      sym (ap (λ (b : Bool). (cond b (wins (after_close m x) (ends (AnswerClose true)) (Close p)) (goes_on m Z1)).memory) (not_same m.top x (λ q. miss (q ∙ some-injective x w e))))
+  mark_lost (MarkTop x) w e miss =
+      sym (ap (λ (b : Bool). (cond b (wins (after_close m x) (ends (AnswerClose true)) (Close p)) (goes_on m LoadTopToClose)).memory) (not_same m.top x (λ q. miss (q ∙ some-injective x w e))))
   mark_lost l w e miss = absurd (some-ne-none w (sym e))
 
   shut_lost : (l : Line T) (w : Tagged) → shuts_of l ≡ some w → (m.top ≡ w → ⊥) → m ≡ (step c m p l).memory
-  shut_lost (Y2 x) w e miss =
-      sym (ap (λ (b : Bool). (cond b (wins (after_shut m x) (ends (AnswerShut true)) (Shut p)) (goes_on m Y1)).memory) (not_same m.top x (λ q. miss (q ∙ some-injective x w e))))
+  shut_lost (ShutTop x) w e miss =
+      sym (ap (λ (b : Bool). (cond b (wins (after_shut m x) (ends (AnswerShut true)) (Shut p)) (goes_on m LoadTopToShut)).memory) (not_same m.top x (λ q. miss (q ∙ some-injective x w e))))
   shut_lost l w e miss = absurd (some-ne-none w (sym e))
 
   take_lost : (l : Line T) (list k : ℕ) (w : Tagged) → takes_of l ≡ some (list, (w, k)) → (top_in list m ≡ w → ⊥) → m ≡ (step c m p l).memory
-  take_lost (F3 put x j) list k w e miss =
+  take_lost (TakeFree put x j) list k w e miss =
       let is = some-injective (0, (x, j)) (list, (w, k)) e in
-      sym (ap (λ (b : Bool). (cond b (wins (after_hold m x j) (at_F3 put x) (Hold p)) (goes_on m (F1 put))).memory)
+      sym (ap (λ (b : Bool). (cond b (wins (after_hold m x j) (at_take_free put x) (Hold p)) (goes_on m (LoadFree put))).memory)
       (not_same m.free x (λ q. miss (ap (λ (t : ℕ × (Tagged × ℕ)). top_in t.0 m) (sym is) ∙ q ∙ ap (λ (t : ℕ × (Tagged × ℕ)). t.1.0) is))))
-  take_lost (S3 x j) list k w e miss =
+  take_lost (TakeTop x j) list k w e miss =
       let is = some-injective (1, (x, j)) (list, (w, k)) e in
-      sym (ap (λ (b : Bool). (cond b (wins_value m p x j (m.home x.index)) (goes_on m (S1 One))).memory)
+      sym (ap (λ (b : Bool). (cond b (wins_value m p x j (m.home x.index)) (goes_on m (LoadTopToTake One))).memory)
       (not_same m.top x (λ q. miss (ap (λ (t : ℕ × (Tagged × ℕ)). top_in t.0 m) (sym is) ∙ q ∙ ap (λ (t : ℕ × (Tagged × ℕ)). t.1.0) is))))
   take_lost l list k w e miss = absurd (some-ne-none (list, (w, k)) (sym e))
 
   all_lost : (l : Line T) (w : Tagged) → takes_all_of l ≡ some w → (m.top ≡ w → ⊥) → m ≡ (step c m p l).memory
-  all_lost (A1 d x) w e miss =
-      sym (ap (λ (b : Bool). (cond b (wins_chain m p d x (chain_from c.capacity m.link x.index)) (goes_on m (S1 (Whole d)))).memory) (not_same m.top x (λ q. miss (q ∙ some-injective x w e))))
+  all_lost (TakeChain d x) w e miss =
+      sym (ap (λ (b : Bool). (cond b (wins_chain m p d x (chain_from c.capacity m.link x.index)) (goes_on m (LoadTopToTake (Whole d)))).memory) (not_same m.top x (λ q. miss (q ∙ some-injective x w e))))
   all_lost l w e miss = absurd (some-ne-none w (sym e))
 
   give_lost : (l : Line T) (w : Tagged) (chain : List ℕ) → gives_of l ≡ some (w, chain) → (m.free ≡ w → ⊥) → m ≡ (step c m p l).memory
-  give_lost (G3 giving x) w chain e miss =
+  give_lost (GiveBack giving x) w chain e miss =
       let is = some-injective (x, giving.chain) (w, chain) e in
-      sym (ap (λ (b : Bool). (cond b (wins (after_give m x giving.chain) (ends giving.answer) (Free p (length giving.chain))) (goes_on m (G1 giving))).memory)
+      sym (ap (λ (b : Bool). (cond b (wins (after_give m x giving.chain) (ends giving.answer) (Free p (length giving.chain))) (goes_on m (LoadFreeToGive giving))).memory)
       (not_same m.free x (λ q. miss (q ∙ ap (λ (t : Tagged × List ℕ). t.0) is))))
   give_lost l w chain e miss = absurd (some-ne-none (w, chain) (sym e))
 
   put_lost : (l : Line T) (w : Tagged) (put : Putting T) → puts_of l ≡ some (w, put) → (m.top ≡ w → ⊥) → m ≡ (step c m p l).memory
-  put_lost (P3 mine x) w put e miss =
+  put_lost (SwapTop mine x) w put e miss =
       let is = some-injective (x, mine) (w, put) e in
-      sym (ap (λ (b : Bool). (cond b (wins (after_put m x mine) (ends (AnswerPut (Ok (x.tag, unplaced mine)))) (Put p (placed mine) x.tag)) (goes_on m (P1 mine))).memory)
+      sym (ap (λ (b : Bool). (cond b (wins (after_put m x mine) (ends (AnswerPut (Ok (x.tag, unplaced mine)))) (Put p (placed mine) x.tag)) (goes_on m (LoadTop mine))).memory)
       (not_same m.top x (λ q. miss (q ∙ ap (λ (t : Tagged × Putting T). t.0) is))))
   put_lost l w put e miss = absurd (some-ne-none (w, put) (sym e))
 

@@ -21,20 +21,19 @@ use Rattle.machine.specs.Words as core
 use Rattle.stack_machine.specs.declared.lines.Answer.TheVariants.{Put as AnswerPut}
 use Rattle.stack_machine.specs.declared.lines.Putting.{Putting}
 use Rattle.stack_machine.specs.declared.lines.Line.{Line}
-use Rattle.stack_machine.specs.declared.lines.Line.TheVariants.{Idle, P1, P3}
+use Rattle.stack_machine.specs.declared.lines.Line.TheVariants.{Idle, LoadTop, SwapTop}
 use Rattle.machine.specs.declared.seats.View.{View}
 use Rattle.machine.specs.declared.seats.View.TheVariants.{AtPass}
 use Rattle.stack_machine.specs.Machine.{Memory, held, step, goes_on, wins, ends, after_put, placed, unplaced}
 use Rattle.machine.specs.Chains.{first, last}
 use Rattle.machine.specs.Chains as chains
-use Rattle.stack_machine.specs.Machine as machine
 use Rattle.stack_machine.specs.Answers.{shape}
 use Rattle.stack_machine.specs.Rule.{IsFine}
 use Rattle.machine.proofs.Lists.{times_else}
 use Rattle.machine.proofs.Chains.{chain_leads, home_here, home_else, filled_else}
 use Rattle.treiber_stack.specs.declared.operation.Operation.{Operation}
 use Rattle.treiber_stack.specs.declared.operation.Listed.TheVariants.{End, More'}
-use Rattle.treiber_stack.specs.declared.operation.Operation.TheVariants.{Put as PutFirst, Take as TakeFirst, Close as CloseFirst, Shut as ShutFirst, Look as LookFirst, Fold as FoldFirst, Range as RangeFirst}
+use Rattle.treiber_stack.specs.declared.operation.Operation.TheVariants.{Put as PutFirst, Take as TakeFirst, Close as CloseFirst, Shut as ShutFirst, Look as LookFirst, Fold as FoldFirst, Range as RangeFirst, Underway}
 use Rattle.treiber_stack.specs.Layout.{top_at, link_at, layout_stack}
 use Rattle.treiber_stack.specs.Rule.{at_home, line_in, memory_of, Rule}
 use Rattle.treiber_stack.specs.Host.{line_now, puts_of, Bears, MakesGive, rests_in, steps_in, Did}
@@ -84,21 +83,22 @@ module _ {T : Type 0} where
       (none_or_some (times j chain))
 
   -- a pass that may put is at that line
-  pub puts_line : (o : Operation T) (l : Line T) (w : Tagged) (put : Putting T) → puts_of (line_now o l) ≡ some (w, put) → l ≡ P3 put w
+  pub puts_line : (o : Operation T) (l : Line T) (w : Tagged) (put : Putting T) → puts_of (line_now o l) ≡ some (w, put) → l ≡ SwapTop put w
   puts_line (PutFirst v) (Idle a) w put e = absurd (some-ne-none (w, put) (sym e))
   puts_line TakeFirst (Idle a) w put e = absurd (some-ne-none (w, put) (sym e))
   puts_line CloseFirst (Idle a) w put e = absurd (some-ne-none (w, put) (sym e))
   puts_line ShutFirst (Idle a) w put e = absurd (some-ne-none (w, put) (sym e))
   puts_line LookFirst (Idle a) w put e = absurd (some-ne-none (w, put) (sym e))
+  puts_line Underway (Idle a) w put e = absurd (some-ne-none (w, put) (sym e))
   puts_line (FoldFirst front) (Idle a) w put e = absurd (some-ne-none (w, put) (sym e))
   puts_line (RangeFirst End) (Idle a) w put e = absurd (some-ne-none (w, put) (sym e))
   puts_line (RangeFirst (More' v marker others)) (Idle a) w put e = absurd (some-ne-none (w, put) (sym e))
-  puts_line o (P3 mine x) w put e = ap (λ (t : Tagged × Putting T). P3 t.1 t.0) (some-injective (x, mine) (w, put) e)
+  puts_line o (SwapTop mine x) w put e = ap (λ (t : Tagged × Putting T). SwapTop t.1 t.0) (some-injective (x, mine) (w, put) e)
   puts_line o l w put e = absurd (some-ne-none (w, put) (sym e))
 
 module _ {T : Type 0} (c : Shape) (m : Memory T) (p : ℕ) where
-  put_memory : (w : Tagged) (put : Putting T) → m.top ≡ w → after_put m w put ≡ (step c m p (P3 put w)).memory
-  put_memory w put won = sym (ap (λ (b : Bool). (cond b (wins (after_put m w put) (ends (AnswerPut (Ok (w.tag, unplaced put)))) (Put p (placed put) w.tag)) (goes_on m (P1 put))).memory) (is_same m.top w won))
+  put_memory : (w : Tagged) (put : Putting T) → m.top ≡ w → after_put m w put ≡ (step c m p (SwapTop put w)).memory
+  put_memory w put won = sym (ap (λ (b : Bool). (cond b (wins (after_put m w put) (ends (AnswerPut (Ok (w.tag, unplaced put)))) (Put p (placed put) w.tag)) (goes_on m (LoadTop put))).memory) (is_same m.top w won))
 
 -- the core's lists as index_list has them, which also says that null is on none
 pub leads_on : (link : ℕ → ℕ) (i : ℕ) (xs : List ℕ) (j : ℕ) → core.Leads link i xs j → ((x : ℕ) → Holds xs x → x < NULL) → index_list.Leads link i xs j
@@ -106,7 +106,7 @@ leads_on link i [] j s low = s
 leads_on link i (x ∷ xs) j s low = (s.0, low x (inl refl), leads_on link (link x) xs j s.1 (λ y h. low y (inr h)))
 
 module _ {T : Type 0} (n limit : ℕ) (o : Operation T) where
-  fine_at : (id : ℕ) (p from : PassView T) (line : Line T) (s : State (Slot T) (View T (Line T))) (w : Tagged) (put : Putting T) (met : Before (Rule n limit) id (AtPass p from line) 16 s) → line ≡ P3 put w → IsFine limit (memory_of s.words s.homes) met.rule.lists (P3 put w)
+  fine_at : (id : ℕ) (p from : PassView T) (line : Line T) (s : State (Slot T) (View T (Line T))) (w : Tagged) (put : Putting T) (met : Before (Rule n limit) id (AtPass p from line) 16 s) → line ≡ SwapTop put w → IsFine limit (memory_of s.words s.homes) met.rule.lists (SwapTop put w)
   fine_at id p from line s w put met is = subst (λ (l : Line T). IsFine limit (memory_of s.words s.homes) met.rule.lists l) is (met.rule.good.linked.fine id line (at_map line_in s.views id (AtPass p from line) met.mine))
 
   node_low : (id : ℕ) (p from : PassView T) (line : Line T) (s : State (Slot T) (View T (Line T))) (met : Before (Rule n limit) id (AtPass p from line) 16 s) (chain : List ℕ) → held line ≡ chain → (j : ℕ) → Holds chain j → j < n
@@ -117,7 +117,7 @@ module _ {T : Type 0} (n limit : ℕ) (o : Operation T) where
   put_leads zero id p from line s w i h may met =
       let m : Memory T = memory_of s.words s.homes in
       let chain : List ℕ = may.0.chain in
-      let is : line ≡ P3 may.0 (fields_of w) = puts_line o line (fields_of w) may.0 may.1 in
+      let is : line ≡ SwapTop may.0 (fields_of w) = puts_line o line (fields_of w) may.0 may.1 in
       let mine : held line ≡ chain = ap (λ (k : Line T). held k) is in
       let f = fine_at id p from line s (fields_of w) may.0 met is in
       let leads : core.Leads m.link (first chain) chain (m.link (last chain)) = chain_leads m.link chain f.0.some_node f.0.chained in
@@ -134,9 +134,9 @@ module _ {T : Type 0} (n limit : ℕ) (o : Operation T) where
       let m : Memory T = memory_of s.words s.homes in
       let put : Putting T = may.0 in
       let values : List T = reverse (placed put) in
-      let is : line ≡ P3 put (fields_of w) = puts_line o line (fields_of w) put may.1 in
+      let is : line ≡ SwapTop put (fields_of w) = puts_line o line (fields_of w) put may.1 in
       let mine : held line ≡ put.chain = ap (λ (k : Line T). held k) is in
-      let now : line_now o line ≡ P3 put (fields_of w) = ap (line_now o) is in
+      let now : line_now o line ≡ SwapTop put (fields_of w) = ap (line_now o) is in
       let f = fine_at id p from line s (fields_of w) put met is in
       let fits : Each (λ k x. chains.filled (λ _. none) put.chain values k ≡ some x) zs = subst (λ (k : Line T). Each (Bears k) zs) is fit in
       let long : length put.chain ≤ length values = omega (arith, length-reverse (placed put), length-take-le (length put.chain) put.values f.0.few) in

@@ -13,7 +13,7 @@ use Rattle.index_list.specs.Lists.{word, Holds}
 use Rattle.index_list.specs.Steps.{read_top, read_link, write_link, looked, changed, Before, Goes}
 use Rattle.machine.specs.Words.{times, total}
 use Rattle.stack_machine.specs.declared.lines.Line.{Line}
-use Rattle.stack_machine.specs.declared.lines.Line.TheVariants.{F1, F2, F4, P1, P2, D1, S1, S2, A2, A3, A4, G1, G2, Z1, Y1, V1}
+use Rattle.stack_machine.specs.declared.lines.Line.TheVariants.{LoadFree, LoadFreeLink, LinkTaken, LoadTop, LinkToTop, LoadTopToRefuse, LoadTopToTake, LoadTopLink, LoadLinkToTurn, TurnLink, LoadLinkToFold, LoadFreeToGive, LinkToFree, LoadTopToClose, LoadTopToShut, LoadTopToLook}
 use Rattle.machine.specs.declared.seats.View.{View}
 use Rattle.machine.specs.declared.seats.View.TheVariants.{AtRoot, AtPass, AtMeeting, Left}
 use Rattle.stack_machine.specs.Machine.{Memory, held, step, after_store}
@@ -30,28 +30,28 @@ use Rattle.treiber_stack.specs.KeepsStep.{goes}
 
 module _ {T : Type 0} (c : Shape) (m : Memory T) (p : ℕ) where
   top_memory : (l : Line T) (k : ℕ) → reads_top_of l ≡ some k → m ≡ (step c m p l).memory
-  top_memory (F1 put) k e = refl
-  top_memory (G1 giving) k e = refl
-  top_memory (P1 put) k e = refl
-  top_memory (D1 values) k e = refl
-  top_memory (S1 taking) k e = refl
-  top_memory Z1 k e = refl
-  top_memory Y1 k e = refl
-  top_memory V1 k e = refl
+  top_memory (LoadFree put) k e = refl
+  top_memory (LoadFreeToGive giving) k e = refl
+  top_memory (LoadTop put) k e = refl
+  top_memory (LoadTopToRefuse values) k e = refl
+  top_memory (LoadTopToTake taking) k e = refl
+  top_memory LoadTopToClose k e = refl
+  top_memory LoadTopToShut k e = refl
+  top_memory LoadTopToLook k e = refl
   top_memory l k e = absurd (some-ne-none k (sym e))
 
   link_memory : (l : Line T) (k : ℕ) → reads_link_of l ≡ some k → m ≡ (step c m p l).memory
-  link_memory (F2 put w) k e = refl
-  link_memory (S2 w) k e = refl
-  link_memory (A2 giving above i) k e = refl
-  link_memory (A4 giving i) k e = refl
+  link_memory (LoadFreeLink put w) k e = refl
+  link_memory (LoadTopLink w) k e = refl
+  link_memory (LoadLinkToTurn giving above i) k e = refl
+  link_memory (LoadLinkToFold giving i) k e = refl
   link_memory l k e = absurd (some-ne-none k (sym e))
 
   store_memory : (l : Line T) (t : ℕ × ℕ) → stores_of l ≡ some t → after_store m t.0 t.1 ≡ (step c m p l).memory
-  store_memory (F4 put) t e = ap (λ (u : ℕ × ℕ). after_store m u.0 u.1) (sym (some-injective _ t e))
-  store_memory (P2 put w) t e = ap (λ (u : ℕ × ℕ). after_store m u.0 u.1) (sym (some-injective _ t e))
-  store_memory (A3 giving above i k) t e = ap (λ (u : ℕ × ℕ). after_store m u.0 u.1) (sym (some-injective _ t e))
-  store_memory (G2 giving w) t e = ap (λ (u : ℕ × ℕ). after_store m u.0 u.1) (sym (some-injective _ t e))
+  store_memory (LinkTaken put) t e = ap (λ (u : ℕ × ℕ). after_store m u.0 u.1) (sym (some-injective _ t e))
+  store_memory (LinkToTop put w) t e = ap (λ (u : ℕ × ℕ). after_store m u.0 u.1) (sym (some-injective _ t e))
+  store_memory (TurnLink giving above i k) t e = ap (λ (u : ℕ × ℕ). after_store m u.0 u.1) (sym (some-injective _ t e))
+  store_memory (LinkToFree giving w) t e = ap (λ (u : ℕ × ℕ). after_store m u.0 u.1) (sym (some-injective _ t e))
   store_memory l t e = absurd (some-ne-none t (sym e))
 
 module _ {T : Type 0} where

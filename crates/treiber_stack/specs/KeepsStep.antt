@@ -29,7 +29,7 @@ use Rattle.stack_machine.proofs.Doing.{Ahead, meanwhile, step_does}
 use Rattle.stack_machine.proofs.Start.{reads_good}
 use Rattle.treiber_stack.specs.declared.operation.Operation.{Operation}
 use Rattle.treiber_stack.specs.declared.operation.Listed.TheVariants.{End, More'}
-use Rattle.treiber_stack.specs.declared.operation.Operation.TheVariants.{Put as PutFirst, Take as TakeFirst, Close as CloseFirst, Shut as ShutFirst, Look as LookFirst, Fold as FoldFirst, Range as RangeFirst}
+use Rattle.treiber_stack.specs.declared.operation.Operation.TheVariants.{Put as PutFirst, Take as TakeFirst, Close as CloseFirst, Shut as ShutFirst, Look as LookFirst, Fold as FoldFirst, Range as RangeFirst, Underway}
 use Rattle.treiber_stack.specs.Layout.{link_at}
 use Rattle.treiber_stack.specs.Rule.{idle, line_in, number_at, who, holding, memory_of, Rule}
 use Rattle.treiber_stack.specs.Host.{first_line, line_now, begun_now, quiet, view_after, steps_in, Finds, Moves, Did}
@@ -61,6 +61,7 @@ module _ {T : Type 0} where
   first_holds CloseFirst = refl
   first_holds ShutFirst = refl
   first_holds LookFirst = refl
+  first_holds Underway = refl
   first_holds (FoldFirst front) = refl
   first_holds (RangeFirst End) = refl
   first_holds (RangeFirst (More' v marker others)) = refl
@@ -71,6 +72,7 @@ module _ {T : Type 0} where
   first_puts CloseFirst = refl
   first_puts ShutFirst = refl
   first_puts LookFirst = refl
+  first_puts Underway = refl
   first_puts (FoldFirst front) = refl
   first_puts (RangeFirst End) = refl
   first_puts (RangeFirst (More' v marker others)) = refl
@@ -81,6 +83,7 @@ module _ {T : Type 0} where
   first_fine limit m g CloseFirst = tt
   first_fine limit m g ShutFirst = tt
   first_fine limit m g LookFirst = tt
+  first_fine limit m g Underway = tt
   first_fine limit m g (FoldFirst front) = tt
   first_fine limit m g (RangeFirst End) = tt
   first_fine limit m g (RangeFirst (More' v marker others)) = record { chained = tt; wants = omega arith }

@@ -16,7 +16,7 @@ use Rattle.index_list.proofs.Lists.{leads_one}
 use Rattle.machine.specs.Words.{Tagged}
 use Rattle.stack_machine.specs.declared.lines.Taking.TheVariants.{Whole}
 use Rattle.stack_machine.specs.declared.lines.Line.{Line}
-use Rattle.stack_machine.specs.declared.lines.Line.TheVariants.{A1, S1}
+use Rattle.stack_machine.specs.declared.lines.Line.TheVariants.{TakeChain, LoadTopToTake}
 use Rattle.machine.specs.declared.seats.View.{View}
 use Rattle.machine.specs.declared.seats.View.TheVariants.{AtRoot, AtPass, AtMeeting, Left}
 use Rattle.stack_machine.specs.Machine.{Memory, step, goes_on, wins_chain, after_take_all}
@@ -51,10 +51,10 @@ module _ {T : Type 0} where
 
 module _ {T : Type 0} (c : Shape) (m : Memory T) (p : ℕ) where
   all_memory : (l : Line T) (w : Tagged) → takes_all_of l ≡ some w → m.top ≡ w → after_take_all m w (chain_from c.capacity m.link w.index) ≡ (step c m p l).memory
-  all_memory (A1 d x) w e won =
+  all_memory (TakeChain d x) w e won =
       let is : x ≡ w = some-injective x w e in
       ap (λ (y : Tagged). after_take_all m y (chain_from c.capacity m.link y.index)) (sym is)
-      ∙ sym (ap (λ (b : Bool). (cond b (wins_chain m p d x (chain_from c.capacity m.link x.index)) (goes_on m (S1 (Whole d)))).memory) (is_same m.top x (won ∙ sym is)))
+      ∙ sym (ap (λ (b : Bool). (cond b (wins_chain m p d x (chain_from c.capacity m.link x.index)) (goes_on m (LoadTopToTake (Whole d)))).memory) (is_same m.top x (won ∙ sym is)))
   all_memory l w e won = absurd (some-ne-none w (sym e))
 
 module _ {T : Type 0} (n limit : ℕ) where

@@ -16,10 +16,10 @@ use Rattle.machine.specs.Words.{Tagged}
 use Rattle.machine.specs.OneList.{ReadTop, ReadLink}
 use Rattle.stack_machine.specs.declared.lines.Taking.TheVariants.{One}
 use Rattle.stack_machine.specs.declared.lines.Line.{Line}
-use Rattle.stack_machine.specs.declared.lines.Line.TheVariants.{F1, F3, S1, S3}
+use Rattle.stack_machine.specs.declared.lines.Line.TheVariants.{LoadFree, TakeFree, LoadTopToTake, TakeTop}
 use Rattle.machine.specs.declared.seats.View.{View}
 use Rattle.machine.specs.declared.seats.View.TheVariants.{AtRoot, AtPass, AtMeeting, Left}
-use Rattle.stack_machine.specs.Machine.{Memory, step, goes_on, wins, wins_value, at_F3, after_hold, after_take}
+use Rattle.stack_machine.specs.Machine.{Memory, step, goes_on, wins, wins_value, at_take_free, after_hold, after_take}
 use Rattle.machine.specs.Chains.{with_home, HasValues}
 use Rattle.stack_machine.specs.Answers.{shape, state}
 use Rattle.stack_machine.specs.Rule.{Lists, IsFine, Good}
@@ -48,10 +48,10 @@ module _ {T : Type 0} where
     link : ReadLink (top_in list m) m.link w k
 
   has_read : (limit : ℕ) (m : Memory T) (g : Lists) (l : Line T) (list : ℕ) (w : Tagged) (k : ℕ) → IsFine limit m g l → takes_of l ≡ some (list, (w, k)) → HasRead limit m g list w k
-  has_read limit m g (F3 put x j) list w k f e =
+  has_read limit m g (TakeFree put x j) list w k f e =
       let is = some-injective (0, (x, j)) (list, (w, k)) e in
       subst (λ (t : ℕ × (Tagged × ℕ)). HasRead limit m g t.0 t.1.0 t.1.1) is (record { top = f.1; link = f.2 })
-  has_read limit m g (S3 x j) list w k f e =
+  has_read limit m g (TakeTop x j) list w k f e =
       let is = some-injective (1, (x, j)) (list, (w, k)) e in
       subst (λ (t : ℕ × (Tagged × ℕ)). HasRead limit m g t.0 t.1.0 t.1.1) is (record { top = f.0; link = f.2 })
   has_read limit m g l list w k f e = absurd (some-ne-none (list, (w, k)) (sym e))
@@ -66,21 +66,21 @@ module _ {T : Type 0} where
 
 module _ {T : Type 0} (c : Shape) (m : Memory T) (p : ℕ) where
   hold_memory : (l : Line T) (w : Tagged) (k : ℕ) → takes_of l ≡ some (0, (w, k)) → m.free ≡ w → after_hold m w k ≡ (step c m p l).memory
-  hold_memory (F3 put x j) w k e won =
+  hold_memory (TakeFree put x j) w k e won =
       let is = some-injective (0, (x, j)) (0, (w, k)) e in
       let same_word : x ≡ w = ap (λ (t : ℕ × (Tagged × ℕ)). t.1.0) is in
-      ap (λ (t : ℕ × (Tagged × ℕ)). after_hold m t.1.0 t.1.1) (sym is) ∙ sym (ap (λ (b : Bool). (cond b (wins (after_hold m x j) (at_F3 put x) (Hold p)) (goes_on m (F1 put))).memory) (is_same m.free x (won ∙ sym same_word)))
-  hold_memory (S3 x j) w k e won = absurd (apart 0 (ap (λ (t : ℕ × (Tagged × ℕ)). t.0) (some-injective (1, (x, j)) (0, (w, k)) e)))
+      ap (λ (t : ℕ × (Tagged × ℕ)). after_hold m t.1.0 t.1.1) (sym is) ∙ sym (ap (λ (b : Bool). (cond b (wins (after_hold m x j) (at_take_free put x) (Hold p)) (goes_on m (LoadFree put))).memory) (is_same m.free x (won ∙ sym same_word)))
+  hold_memory (TakeTop x j) w k e won = absurd (apart 0 (ap (λ (t : ℕ × (Tagged × ℕ)). t.0) (some-injective (1, (x, j)) (0, (w, k)) e)))
   hold_memory l w k e won = absurd (some-ne-none (0, (w, k)) (sym e))
 
   take_memory : (l : Line T) (w : Tagged) (k : ℕ) (v : T) → takes_of l ≡ some (1, (w, k)) → m.top ≡ w → m.home w.index ≡ some (Some v) → after_take m w k ≡ (step c m p l).memory
-  take_memory (S3 x j) w k v e won value =
+  take_memory (TakeTop x j) w k v e won value =
       let is = some-injective (1, (x, j)) (1, (w, k)) e in
       let same_word : x ≡ w = ap (λ (t : ℕ × (Tagged × ℕ)). t.1.0) is in
       let here : m.home x.index ≡ some (Some v) = ap (λ (y : Tagged). m.home y.index) same_word ∙ value in
       ap (λ (t : ℕ × (Tagged × ℕ)). after_take m t.1.0 t.1.1) (sym is)
-      ∙ sym (ap (λ (b : Bool). (cond b (wins_value m p x j (m.home x.index)) (goes_on m (S1 One))).memory) (is_same m.top x (won ∙ sym same_word)) ∙ ap (λ (y : Option (Slot T)). (wins_value m p x j y).memory) here)
-  take_memory (F3 put x j) w k v e won value = absurd (apart 0 (sym (ap (λ (t : ℕ × (Tagged × ℕ)). t.0) (some-injective (0, (x, j)) (1, (w, k)) e))))
+      ∙ sym (ap (λ (b : Bool). (cond b (wins_value m p x j (m.home x.index)) (goes_on m (LoadTopToTake One))).memory) (is_same m.top x (won ∙ sym same_word)) ∙ ap (λ (y : Option (Slot T)). (wins_value m p x j y).memory) here)
+  take_memory (TakeFree put x j) w k v e won value = absurd (apart 0 (sym (ap (λ (t : ℕ × (Tagged × ℕ)). t.0) (some-injective (0, (x, j)) (1, (w, k)) e))))
   take_memory l w k v e won value = absurd (some-ne-none (1, (w, k)) (sym e))
 
 module _ {T : Type 0} (n limit : ℕ) where

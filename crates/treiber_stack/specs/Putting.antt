@@ -14,12 +14,12 @@ use Rattle.stack_machine.specs.declared.lines.Answer.TheVariants.{Put as AnswerP
 use Rattle.stack_machine.specs.declared.lines.Giving.{Giving}
 use Rattle.stack_machine.specs.declared.lines.Putting.{Putting}
 use Rattle.stack_machine.specs.declared.lines.Line.{Line}
-use Rattle.stack_machine.specs.declared.lines.Line.TheVariants.{F1, F2, F3, P1, P2, P3, D1, G1, G2, G3}
+use Rattle.stack_machine.specs.declared.lines.Line.TheVariants.{LoadFree as LoadFreeLine, LoadFreeLink, TakeFree, LoadTop, LinkToTop, SwapTop, LoadTopToRefuse, LoadFreeToGive, LinkToFree, GiveBack as GiveBackLine}
 use Rattle.stack_machine.specs.Machine.{ends}
 use Rattle.treiber_stack.specs.Operations.{IsAt, IsLineOf, GoesOn, begun_in}
 use Rattle.treiber_stack.specs.Stack.{shape_of, pass_in, IsPassOf}
 use Rattle.treiber_stack.specs.declared.operation.Operation.{Operation}
-use Rattle.treiber_stack.specs.declared.operation.Operation.TheVariants.{Put as PutFirst, Look as AnyLater}
+use Rattle.treiber_stack.specs.declared.operation.Operation.TheVariants.{Put as PutFirst, Underway}
 use Rattle.treiber_stack.specs.declared.putting.Refusal.{Refusal}
 use Rattle.treiber_stack.specs.declared.putting.PutOp.{PutOp}
 use Rattle.treiber_stack.specs.declared.putting.PutAt.{PutAt}
@@ -51,16 +51,16 @@ module _ {T : Type 0} where
 
   -- the core's line of a put of x
   abbrev pub put_line : T → PutAt T → Line T
-  put_line x (LoadFree y) = F1 (wanting y)
-  put_line x (Link y w) = F2 (wanting y) (fields_of w)
-  put_line x (Hold y w k) = F3 (wanting y) (fields_of w) k
-  put_line x (Load i) = P1 (bearing x i)
-  put_line x (LinkTo i w) = P2 (bearing x i) (fields_of w)
-  put_line x (Exchange i w) = P3 (bearing x i) (fields_of w)
-  put_line x (Refuse y) = D1 (y ∷ [])
-  put_line x (LoadBack r) = G1 (refusing r)
-  put_line x (LinkBack r w) = G2 (refusing r) (fields_of w)
-  put_line x (GiveBack r w) = G3 (refusing r) (fields_of w)
+  put_line x (LoadFree y) = LoadFreeLine (wanting y)
+  put_line x (Link y w) = LoadFreeLink (wanting y) (fields_of w)
+  put_line x (Hold y w k) = TakeFree (wanting y) (fields_of w) k
+  put_line x (Load i) = LoadTop (bearing x i)
+  put_line x (LinkTo i w) = LinkToTop (bearing x i) (fields_of w)
+  put_line x (Exchange i w) = SwapTop (bearing x i) (fields_of w)
+  put_line x (Refuse y) = LoadTopToRefuse (y ∷ [])
+  put_line x (LoadBack r) = LoadFreeToGive (refusing r)
+  put_line x (LinkBack r w) = LinkToFree (refusing r) (fields_of w)
+  put_line x (GiveBack r w) = GiveBackLine (refusing r) (fields_of w)
 
   -- a value as the operation's name shows it
   abbrev pub shown : T → Snapshot T
@@ -69,7 +69,7 @@ module _ {T : Type 0} where
   -- the operation's name, which only its first step needs
   abbrev pub put_name : PutAt T → Operation T
   put_name (LoadFree y) = PutFirst (shown y)
-  put_name at = AnyLater
+  put_name at = Underway
 
   -- the slots in hand: that of the node, with the value until it is refused
   abbrev pub put_slots : T → PutAt T → List (ℕ × Slot T)

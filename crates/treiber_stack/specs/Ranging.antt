@@ -1,44 +1,39 @@
--- Puts of a range: what they promise, and where a pass stands in one.
-use Rattle.std.specs.Prelude.{◌≡◌, ◌⊎◌, ℕ, ◌+◌, ◌<◌, ◌≤◌, List, [], ◌∷◌, ◌++◌, map, length, reverse, take, drop, replicate, Option as Slot, Some, None, Result, Ok, Err}
-use Rattle.tagged_index.specs.Limits.{capacity_of, tag_limit_of}
+-- Puts of a range: where a pass stands in one.
+use Rattle.std.specs.Prelude.{◌≡◌, ◌⊎◌, ℕ, ◌<◌, ◌≤◌, List, [], ◌∷◌, ◌++◌, map, length, reverse, take, drop, replicate, Option as Slot, Some, None, Result, Ok, Err}
+use Rattle.tagged_index.specs.Limits.{capacity_of}
 use Rattle.bounded_model.specs.declared.answers.PutRefused.{PutRefused}
 use Rattle.bounded_model.specs.declared.answers.PutRefused.TheVariants.{Full as PutFull, Closed as PutClosed, Spent as PutSpent}
-use Rattle.bounded_model.specs.declared.answers.Word.{Word}
 use Rattle.bounded_model.specs.declared.answers.Word.TheVariants.{Free as FreeWord}
-use Rattle.bounded_model.specs.declared.history.Event.{Event}
 use Rattle.bounded_model.specs.declared.views.PassView.{PassView}
 use Rattle.bounded_model.specs.Machine.{Shape}
+use Rattle.bounded_model.specs.Bulk.{HasNoCell}
 use Rattle.bounded_model.specs.Laws.{Adds, BacksOut, RangeGives}
 use Rattle.bounded_model.specs.Justified.{Justified, Sometime}
 use Rattle.bounded_model.specs.Justified as right
 use Rattle.machine.specs.Words.{times}
-use Rattle.stack_machine.specs.Deeds.{HasNoNode}
 use Rattle.stack_machine.specs.declared.lines.Answer.TheVariants.{Put as AnswerPut}
 use Rattle.stack_machine.specs.declared.lines.Giving.{Giving}
 use Rattle.stack_machine.specs.declared.lines.Putting.{Putting}
 use Rattle.stack_machine.specs.declared.lines.Line.{Line}
-use Rattle.stack_machine.specs.declared.lines.Line.TheVariants.{F1, F4, P1, D1, G1}
+use Rattle.stack_machine.specs.declared.lines.Line.TheVariants.{LoadFree, LinkTaken, LoadTop, LoadTopToRefuse, LoadFreeToGive}
 use Rattle.machine.specs.Chains.{first, last}
 use Rattle.stack_machine.specs.Machine.{next_node}
 use Rattle.machine.specs.declared.seats.View.{View}
 use Rattle.treiber_stack.specs.Rule.{line_in}
-use Rattle.treiber_stack.specs.Places.{somes}
 use Rattle.treiber_stack.specs.Folding.{full, IsGivingBack}
 use Rattle.treiber_stack.specs.Operations.{IsAt, begun_in, vacant}
 use Rattle.treiber_stack.specs.Stack.{shape_of, pass_in, IsPassOf}
 use Rattle.treiber_stack.specs.declared.folding.Chain.{Chain}
 use Rattle.treiber_stack.specs.declared.operation.Operation.{Operation}
-use Rattle.treiber_stack.specs.declared.operation.Operation.TheVariants.{Look as AnyLater}
+use Rattle.treiber_stack.specs.declared.operation.Operation.TheVariants.{Underway}
 use Rattle.treiber_stack.specs.declared.ranging.Held.{Held}
 use Rattle.treiber_stack.specs.declared.ranging.NoNode.{NoNode}
 use Rattle.treiber_stack.specs.declared.ranging.NoNode.TheVariants.{NoneFree, Spent as NodeSpent}
-use Rattle.treiber_stack.specs.declared.ranging.Ranged.{Ranged}
-use Rattle.treiber_stack.specs.declared.ranging.RangeRefused.{RangeRefused}
-use Rattle.treiber_stack.specs.declared.ranging.RangeRefused.TheVariants.{Nothing, Full, Closed, Spent}
+use Rattle.bounded_model.specs.declared.bulk.Ranged.{Ranged}
+use Rattle.bounded_model.specs.declared.bulk.RangeRefused.{RangeRefused}
+use Rattle.bounded_model.specs.declared.bulk.RangeRefused.TheVariants.{Nothing, Full, Closed, Spent}
 use Rattle.treiber_stack.specs.declared.stack.Stack.{Stack}
 use Rattle.treiber_stack.specs.declared.stack.Pass.{Pass}
-
--- What a range put promises
 
 -- why a range that is not empty was refused, and what the pass has done
 abbrev pub NotPut : {T : Type 0} → Shape → PassView T → ℕ → PassView T → RangeRefused → Type 0
@@ -46,20 +41,6 @@ NotPut c v most w Nothing = ⊥
 NotPut c v most w Full = Adds v w [] × Justified c v w right.PutFull
 NotPut c v most w Closed = BacksOut v w most × Justified c v w right.PutClosed
 NotPut c v most w (Spent word t) = BacksOut v w most × Justified c v w (right.PutSpent word t)
-
--- a range that was put from the front: these values went in at once, and their places are empty.
--- Values were left only where no node could be had
-pub record PutFront {T : Type 0} (c : Shape) (v : PassView T) (old new : List (Slot T)) (w : PassView T) (r : Ranged) : Type 0 where
-  pub some_value : 0 < r.count
-  pub at_most : r.count ≤ length old
-  pub gives : RangeGives v (somes (take r.count old)) w r.number
-  pub places : new ≡ replicate r.count None ++ drop r.count old
-  pub all : (r.count ≡ length old) ⊎ Sometime v.seen w.seen (HasNoNode c)
-
-abbrev pub PutsRange : {T : Type 0} → Shape → PassView T → List (Slot T) → List (Slot T) → PassView T → Result Ranged RangeRefused → Type 0
-PutsRange c v old new w (Ok r) = PutFront c v old new w r
-PutsRange c v old new w (Err Nothing) = (old ≡ []) × (new ≡ old) × (w ≡ v)
-PutsRange c v old new w (Err why) = (0 < length old) × (new ≡ old) × NotPut c v (length old) w why
 
 -- Where a pass stands in one
 
@@ -88,18 +69,18 @@ module _ {T : Type 0} where
 
   -- a range put that wants a node
   abbrev pub IsCollecting : Stack T → Operation T → Pass T → Putting T → Type 0
-  IsCollecting c o p put = IsAt c o p (F1 put) (loaded put.chain (length put.chain) put.values)
+  IsCollecting c o p put = IsAt c o p (LoadFree put) (loaded put.chain (length put.chain) put.values)
 
   -- a node was taken; it is linked to the one before it, if there is one
   abbrev pub linking : List ℕ → List T → ℕ → Line T
   linking [] vs i = next_node (record { values = vs; chain = i ∷ [] })
-  linking (j ∷ js) vs i = F4 (record { values = vs; chain = i ∷ j ∷ js })
+  linking (j ∷ js) vs i = LinkTaken (record { values = vs; chain = i ∷ j ∷ js })
 
   -- no node could be had: with none in hand the range is refused, and else put
   abbrev pub Stops : Stack T → PassView T → Pass T → List ℕ → List T → NoNode → Type 0
-  Stops c v q [] vs NoneFree = IsAt c AnyLater q (D1 vs) [] × (begun_in q ≡ v)
+  Stops c v q [] vs NoneFree = IsAt c Underway q (LoadTopToRefuse vs) [] × (begun_in q ≡ v)
   Stops c v q [] vs (NodeSpent t) = IsPassOf c q × NotPut (shape_of c) v (length vs) (pass_in q) (Spent FreeWord t)
-  Stops c v q (j ∷ js) vs why = IsAt c AnyLater q (P1 (record { values = vs; chain = j ∷ js })) (loaded (j ∷ js) (length (j ∷ js)) vs) × (begun_in q ≡ v)
+  Stops c v q (j ∷ js) vs why = IsAt c Underway q (LoadTop (record { values = vs; chain = j ∷ js })) (loaded (j ∷ js) (length (j ∷ js)) vs) × (begun_in q ≡ v)
 
   abbrev pub TakesFree : Stack T → Operation T → PassView T → Putting T → Pass T → Result ℕ NoNode → Type 0
   TakesFree c o v put q (Ok i) = IsAt c o q (linking put.chain put.values i) ((i, None) ∷ loaded put.chain (length put.chain) put.values) × (i < capacity_of c.limits) × (length put.chain ≤ capacity_of c.limits) × (begun_in q ≡ v)
@@ -107,7 +88,7 @@ module _ {T : Type 0} where
 
   -- the first step of a range put is its next, and every place has its value
   pub record IsStart (c : Stack T) (o : Operation T) (p : Pass T) (vs : List T) (places : List (Slot T)) : Type 0 where
-    pub at : IsAt c o p (F1 (record { values = vs; chain = [] })) []
+    pub at : IsAt c o p (LoadFree (record { values = vs; chain = [] })) []
     pub some_value : 0 < length vs
     pub are : places ≡ map Some vs
 
@@ -124,7 +105,7 @@ module _ {T : Type 0} where
     pub chain : List ℕ
     pub has : HasNodes c vs held.count chain held.chain
     pub some_node : 0 < held.count
-    pub at : IsAt c AnyLater p (P1 (record { values = vs; chain = chain })) (loaded chain held.count vs)
+    pub at : IsAt c Underway p (LoadTop (record { values = vs; chain = chain })) (loaded chain held.count vs)
 
   abbrev pub Collects : Stack T → PassView T → List T → List (Slot T) → Pass T → Result Held RangeRefused → Type 0
   Collects c v vs places q (Ok held) = IsHolding c q vs held × (places ≡ places_from held.count vs) × (begun_in q ≡ v)
@@ -135,13 +116,13 @@ module _ {T : Type 0} where
     pub chain : List ℕ
     pub has : HasNodes c vs held.count chain held.chain
     pub some_node : 0 < held.count
-    pub at : IsAt c AnyLater p (G1 (record { chain = chain; answer = AnswerPut (Err (of_range why vs)) })) (loaded chain held.count vs)
+    pub at : IsAt c Underway p (LoadFreeToGive (record { chain = chain; answer = AnswerPut (Err (of_range why vs)) })) (loaded chain held.count vs)
     pub kind : Backs why
 
   pub record Placed (c : Stack T) (v : PassView T) (vs : List T) (k : ℕ) (q : Pass T) (number : ℕ) : Type 0 where
     pub of : IsPassOf c q
     pub gives : RangeGives v (take k vs) (pass_in q) number
-    pub all : (length vs ≡ k) ⊎ Sometime v.seen (pass_in q).seen (HasNoNode (shape_of c))
+    pub all : (length vs ≡ k) ⊎ Sometime v.seen (pass_in q).seen (HasNoCell (shape_of c))
 
   abbrev pub Places : Stack T → Pass T → List T → Held → Pass T → Result ℕ RangeRefused → Type 0
   Places c p vs held q (Ok number) = Placed c (begun_in p) vs held.count q number
@@ -156,17 +137,17 @@ module _ {T : Type 0} where
     pub parts : chain ≡ done ++ left
     pub counted : length done ≡ moved
     pub next : 0 < length left → first left ≡ index
-    pub at : IsAt c AnyLater p (G1 (record { chain = chain; answer = AnswerPut (Err (of_range why vs)) })) (full left (reverse (take (length left) vs)) ++ vacant done)
+    pub at : IsAt c Underway p (LoadFreeToGive (record { chain = chain; answer = AnswerPut (Err (of_range why vs)) })) (full left (reverse (take (length left) vs)) ++ vacant done)
 
   -- they are all back, and the emptied nodes are to be given back
   pub record IsRestored (c : Stack T) (p : Pass T) (vs : List T) (held : Held) (why : RangeRefused) : Type 0 where
     pub giving : Giving T
     pub answer : giving.answer ≡ AnswerPut (Err (of_range why vs))
-    pub back : IsGivingBack c AnyLater p held.chain giving
+    pub back : IsGivingBack c Underway p held.chain giving
 
   abbrev pub Restores : Stack T → Pass T → List T → Held → RangeRefused → List (Slot T) → Pass T → Type 0
   Restores c p vs held why places q = IsRestored c q vs held why × (places ≡ map Some vs) × (begun_in q ≡ begun_in p)
 
   -- a link of the chain that is given back next was read
   abbrev pub ReadsAgain : View T (Line T) → ℕ → ℕ → Type 0
-  ReadsAgain v i found = (giving : Giving T) (before others : List ℕ) (next : ℕ) → line_in v ≡ G1 giving → giving.chain ≡ before ++ i ∷ next ∷ others → found ≡ next
+  ReadsAgain v i found = (giving : Giving T) (before others : List ℕ) (next : ℕ) → line_in v ≡ LoadFreeToGive giving → giving.chain ≡ before ++ i ∷ next ∷ others → found ≡ next

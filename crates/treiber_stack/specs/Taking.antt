@@ -11,7 +11,7 @@ use Rattle.stack_machine.specs.declared.lines.Answer.TheVariants.{Take as Answer
 use Rattle.stack_machine.specs.declared.lines.Giving.{Giving}
 use Rattle.stack_machine.specs.declared.lines.Taking.TheVariants.{One}
 use Rattle.stack_machine.specs.declared.lines.Line.{Line}
-use Rattle.stack_machine.specs.declared.lines.Line.TheVariants.{S1, S2, S3, G1, G2, G3}
+use Rattle.stack_machine.specs.declared.lines.Line.TheVariants.{LoadTopToTake, LoadTopLink, TakeTop, LoadFreeToGive, LinkToFree, GiveBack as GiveBackLine}
 use Rattle.stack_machine.specs.Machine.{ends}
 use Rattle.treiber_stack.specs.Operations.{IsAt, IsLineOf, GoesOn, begun_in}
 use Rattle.treiber_stack.specs.Stack.{shape_of, pass_in, IsPassOf}
@@ -30,12 +30,12 @@ module _ {T : Type 0} where
 
   -- the core's line
   abbrev pub take_line : TakeAt T → Line T
-  take_line Load = S1 One
-  take_line (Link w) = S2 (fields_of w)
-  take_line (Exchange w k) = S3 (fields_of w) k
-  take_line (LoadFree t) = G1 (giving t)
-  take_line (LinkBack t w) = G2 (giving t) (fields_of w)
-  take_line (GiveBack t w) = G3 (giving t) (fields_of w)
+  take_line Load = LoadTopToTake One
+  take_line (Link w) = LoadTopLink (fields_of w)
+  take_line (Exchange w k) = TakeTop (fields_of w) k
+  take_line (LoadFree t) = LoadFreeToGive (giving t)
+  take_line (LinkBack t w) = LinkToFree (giving t) (fields_of w)
+  take_line (GiveBack t w) = GiveBackLine (giving t) (fields_of w)
 
   -- the slots in hand: that of the node, emptied
   abbrev pub take_slots : TakeAt T → List (ℕ × Slot T)

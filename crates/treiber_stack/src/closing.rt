@@ -1,10 +1,10 @@
 //! Closing and shutting a stack, by steps, and looking whether it is empty.
 ghost use Rattle.std.specs.Prelude.{◌≡◌};
 ghost use Rattle.bounded_model.specs.Laws.{LookGives};
-ghost use Rattle.treiber_stack.specs.Closing.{IsClosing, IsShutting, CloseStep, ShutStep};
+ghost use Rattle.treiber_stack.specs.Closing.{IsClosing, IsShutting, CloseStep, ShutStep, CloseRun, ShutRun};
 ghost use Rattle.stack_machine.specs.Machine.{ends};
 ghost use Rattle.stack_machine.specs.declared.lines.Answer.TheVariants.{Look as Looked};
-ghost use Rattle.stack_machine.specs.declared.lines.Line.TheVariants.{V1};
+ghost use Rattle.stack_machine.specs.declared.lines.Line.TheVariants.{LoadTopToLook};
 ghost use Rattle.treiber_stack.specs.Operations.{begun_in, IsLineOf};
 ghost use Rattle.treiber_stack.specs.Stack.{shape_of, IsPassOf, pass_in};
 
@@ -35,7 +35,9 @@ impl<T> Stack<T> {
     #[inline]
     pub fn begin_close(&self, by: Pass<T>) -> CloseOp<T>
         requires { IsPassOf self.now by }
-        ensures { IsClosing self.now result × (begun_in result.pass ≡ pass_in by) }
+        ensures close { IsClosing self.now result }
+        ensures begun { begun_in result.pass ≡ pass_in by }
+        ensures now { pass_in result.pass ≡ pass_in by }
     {
         CloseOp {
             pass: by,
@@ -47,7 +49,9 @@ impl<T> Stack<T> {
     #[inline]
     pub fn begin_shut(&self, by: Pass<T>) -> ShutOp<T>
         requires { IsPassOf self.now by }
-        ensures { IsShutting self.now result × (begun_in result.pass ≡ pass_in by) }
+        ensures shut { IsShutting self.now result }
+        ensures begun { begun_in result.pass ≡ pass_in by }
+        ensures now { pass_in result.pass ≡ pass_in by }
     {
         ShutOp {
             pass: by,
@@ -61,7 +65,7 @@ impl<T> Stack<T> {
         requires { IsPassOf self.now by }
         ensures of { IsPassOf self.now result.0 }
         ensures gives { LookGives (shape_of self.now) (pass_in by) (pass_in result.0) result.1 }
-        ensures line { IsLineOf self.now by result.0 V1 (ends (Looked result.1)) }
+        ensures line { IsLineOf self.now by result.0 LoadTopToLook (ends (Looked result.1)) }
     {
         let mut pass = by;
         let top = self.load(&mut pass, TOP, &Operation::Look);
@@ -98,6 +102,18 @@ impl<T> CloseOp<T> {
             }
         }
     }
+
+    /// Both steps of a close that has read nothing: it answers, or has lost the exchange.
+    #[inline]
+    pub(crate) fn run(self, stack: &Stack<T>) -> Stepped<CloseOp<T>, Pass<T>, bool>
+        requires { IsClosing stack.now self }
+        ensures { CloseRun stack.now self.pass result }
+    {
+        match self.step(stack) {
+            Stepped::Again(next) => next.step(stack),
+            Stepped::Done(pass, closed) => Stepped::Done(pass, closed),
+        }
+    }
 }
 
 impl<T> ShutOp<T> {
@@ -127,6 +143,18 @@ impl<T> ShutOp<T> {
                 }
                 Stepped::Again(ShutOp { pass, seen: None })
             }
+        }
+    }
+
+    /// Both steps of a shut that has read nothing: it answers, or has lost the exchange.
+    #[inline]
+    pub(crate) fn run(self, stack: &Stack<T>) -> Stepped<ShutOp<T>, Pass<T>, bool>
+        requires { IsShutting stack.now self }
+        ensures { ShutRun stack.now self.pass result }
+    {
+        match self.step(stack) {
+            Stepped::Again(next) => next.step(stack),
+            Stepped::Done(pass, shut) => Stepped::Done(pass, shut),
         }
     }
 }

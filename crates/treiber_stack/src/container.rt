@@ -88,9 +88,13 @@ impl<T: Drop + Send> Container<T> for Stack<T> {
 
     fn close<R: Wait>(&self, rt: &R, by: Pass<T>) -> (Pass<T>, bool) {
         let mut op = self.begin_close(by);
+        let mut pause = Pause::new();
         for _ in rt.forever() {
-            match op.step(self) {
-                Stepped::Again(next) => op = next,
+            match op.run(self) {
+                Stepped::Again(next) => {
+                    pause.wait();
+                    op = next;
+                }
                 Stepped::Done(pass, closed) => return (pass, closed),
             }
         }
@@ -99,9 +103,13 @@ impl<T: Drop + Send> Container<T> for Stack<T> {
 
     fn shut<R: Wait>(&self, rt: &R, by: Pass<T>) -> (Pass<T>, bool) {
         let mut op = self.begin_shut(by);
+        let mut pause = Pause::new();
         for _ in rt.forever() {
-            match op.step(self) {
-                Stepped::Again(next) => op = next,
+            match op.run(self) {
+                Stepped::Again(next) => {
+                    pause.wait();
+                    op = next;
+                }
                 Stepped::Done(pass, shut) => return (pass, shut),
             }
         }

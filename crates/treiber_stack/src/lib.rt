@@ -11,6 +11,7 @@
 //! by step, or by a whole call, which retries while others interfere.
 #![tactic(auto)]
 
+mod bulk;
 mod closing;
 mod container;
 mod folding;
@@ -25,6 +26,7 @@ mod rest;
 mod rule;
 mod stack;
 mod steps;
+mod stepwise;
 mod taking;
 #[cfg(test)]
 mod tests;
@@ -36,9 +38,8 @@ mod tests_ranges;
 mod tests_threads;
 
 pub use closing::{CloseOp, ShutOp};
-pub use folding::Folded;
 pub use putting::PutOp;
-pub use ranging::{RangeRefused, Ranged};
 pub use rest::Rest;
 pub use stack::{Pass, Root, Stack};
+pub use stepwise::LookOp;
 pub use taking::TakeOp;

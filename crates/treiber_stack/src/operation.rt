@@ -1,12 +1,13 @@
 //! Which operation a pass begins.
 ghost use Rattle.std.specs.Prelude.{◌≡◌};
-ghost use Rattle.treiber_stack.specs.Places.{values_of, somes};
+ghost use Rattle.bounded_model.specs.Bulk.{somes};
+ghost use Rattle.treiber_stack.specs.Places.{values_of};
 
 use index_list::Front;
 use std::snapshot::Snapshot;
 
-/// The operation that a pass makes its first step of. Later steps need no name: the pass's line
-/// says where it is. Of a put it shows the values, for proofs alone.
+/// The operation that a pass makes a step of. Only a first step has to name it: later ones are
+/// `Underway`, since the pass's line says where it is. Of a put it shows the values, for proofs alone.
 #[derive(Drop)]
 pub(crate) enum Operation<T> {
     Put(Snapshot<T>),
@@ -18,6 +19,8 @@ pub(crate) enum Operation<T> {
     Fold(Front),
     /// A put of these values by one exchange.
     Range(Listed<T>),
+    /// The operation that the pass is in, whichever that is.
+    Underway,
 }
 
 /// Which values stand in the places of a range. It has none of them, and is for proofs alone: a

@@ -1,5 +1,5 @@
-//! Putting one value, by steps. Only the first step has to name its operation. The later ones, which
-//! no longer have the value at hand, are named `Look`, and that is not read.
+//! Putting one value, by steps. Only the first step names its operation: the later ones no longer have
+//! the value at hand.
 ghost use Rattle.std.specs.Prelude.{◌≡◌, [], ◌∷◌, Some, None};
 ghost use Rattle.treiber_stack.specs.Operations.{begun_in};
 ghost use Rattle.treiber_stack.specs.Putting.{IsPutting, IsPuttingAt, PutStep, PutRun};
@@ -63,7 +63,9 @@ impl<T> Stack<T> {
     #[inline]
     pub fn begin_put(&self, by: Pass<T>, value: T) -> PutOp<T>
         requires { IsPassOf self.now by }
-        ensures { IsPutting self.now value result × (begun_in result.pass ≡ pass_in by) }
+        ensures put { IsPutting self.now value result }
+        ensures begun { begun_in result.pass ≡ pass_in by }
+        ensures now { pass_in result.pass ≡ pass_in by }
     {
         PutOp {
             pass: by,
@@ -111,7 +113,7 @@ impl<T> Stack<T> {
         ensures { (x : T) → IsPuttingAt self.now x by (Link value free) → PutStep self.now x by (Link value free) result }
     {
         let mut pass = by;
-        let next = self.load_next(&mut pass, FREE, free.index(), &Operation::Look);
+        let next = self.load_next(&mut pass, FREE, free.index(), &Operation::Underway);
         Stepped::Again(PutOp {
             pass,
             at: PutAt::Hold(value, free, next),
@@ -131,7 +133,7 @@ impl<T> Stack<T> {
         ensures { (x : T) → IsPuttingAt self.now x by (Hold value free next) → PutStep self.now x by (Hold value free next) result }
     {
         let mut pass = by;
-        if self.take_node(&mut pass, FREE, free, next, &Operation::Look) {
+        if self.take_node(&mut pass, FREE, free, next, &Operation::Underway) {
             let index = free.index();
             put_in::<T, View<T, Line<T>>, Limits, Stacked<T>>(
                 &self.table.shared,
@@ -173,7 +175,7 @@ impl<T> Stack<T> {
         ensures { (x : T) → IsPuttingAt self.now x by (Load index) → PutStep self.now x by (Load index) result }
     {
         let mut pass = by;
-        let top = self.load(&mut pass, TOP, &Operation::Look);
+        let top = self.load(&mut pass, TOP, &Operation::Underway);
         if top.is_marked() {
             let value = self.value_back(&mut pass, index);
             let why = PutRefused::Closed(value);
@@ -207,7 +209,7 @@ impl<T> Stack<T> {
         ensures { (x : T) → IsPuttingAt self.now x by (LinkTo index top) → PutStep self.now x by (LinkTo index top) result }
     {
         let mut pass = by;
-        self.link_to(&mut pass, TOP, index, top.index(), &Operation::Look);
+        self.link_to(&mut pass, TOP, index, top.index(), &Operation::Underway);
         Stepped::Again(PutOp {
             pass,
             at: PutAt::Exchange(index, top),
@@ -226,7 +228,7 @@ impl<T> Stack<T> {
         ensures { (x : T) → IsPuttingAt self.now x by (Exchange index top) → PutStep self.now x by (Exchange index top) result }
     {
         let mut pass = by;
-        if self.put_node(&mut pass, top, index, &Operation::Look) {
+        if self.put_node(&mut pass, top, index, &Operation::Underway) {
             return Stepped::Done(pass, Ok(top.tag()));
         }
         Stepped::Again(PutOp {
@@ -246,7 +248,7 @@ impl<T> Stack<T> {
         ensures { (x : T) → IsPuttingAt self.now x by (Refuse value) → PutStep self.now x by (Refuse value) result }
     {
         let mut pass = by;
-        let top = self.load(&mut pass, TOP, &Operation::Look);
+        let top = self.load(&mut pass, TOP, &Operation::Underway);
         if top.is_marked() {
             return Stepped::Done(pass, Err(PutRefused::Closed(value)));
         }
@@ -267,7 +269,7 @@ impl<T> Stack<T> {
         ensures { (x : T) → IsPuttingAt self.now x by (LoadBack refusal) → PutStep self.now x by (LoadBack refusal) result }
     {
         let mut pass = by;
-        let free = self.load(&mut pass, FREE, &Operation::Look);
+        let free = self.load(&mut pass, FREE, &Operation::Underway);
         Stepped::Again(PutOp {
             pass,
             at: PutAt::LinkBack(refusal, free),
@@ -290,7 +292,7 @@ impl<T> Stack<T> {
             FREE,
             refusal.index,
             free.index(),
-            &Operation::Look,
+            &Operation::Underway,
         );
         Stepped::Again(PutOp {
             pass,
@@ -309,7 +311,7 @@ impl<T> Stack<T> {
         ensures { (x : T) → IsPuttingAt self.now x by (GiveBack refusal free) → PutStep self.now x by (GiveBack refusal free) result }
     {
         let mut pass = by;
-        if self.give_node(&mut pass, free, refusal.index, &Operation::Look) {
+        if self.give_node(&mut pass, free, refusal.index, &Operation::Underway) {
             let Refusal { why, index: _ } = refusal;
             return Stepped::Done(pass, Err(why));
         }

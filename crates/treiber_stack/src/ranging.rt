@@ -6,51 +6,26 @@ ghost use Rattle.tagged_index.specs.Limits.{capacity_of};
 ghost use Rattle.tagged_index.specs.declared.word.TheConstants.{NULL};
 ghost use Rattle.atomic_table.specs.Table.{rest};
 ghost use Rattle.bounded_model.specs.declared.views.PassView.{PassView};
+ghost use Rattle.bounded_model.specs.Bulk.{PutsRange};
 ghost use Rattle.machine.specs.Seats.{Looks};
 ghost use Rattle.stack_machine.specs.declared.lines.Putting.{Putting};
 ghost use Rattle.treiber_stack.specs.Operations.{IsSame, begun_in};
-ghost use Rattle.treiber_stack.specs.Stack.{shape_of, IsPassOf, pass_in};
-ghost use Rattle.treiber_stack.specs.Ranging.{NotPut, PutsRange, Stops, places_from, IsCollecting, TakesFree, IsStart, Collects, IsHolding, Places, IsRefused, Restores, ReadsAgain};
+ghost use Rattle.treiber_stack.specs.Stack.{shape_of, call_of, IsPassOf, pass_in};
+ghost use Rattle.treiber_stack.specs.Ranging.{NotPut, Stops, places_from, IsCollecting, TakesFree, IsStart, Collects, IsHolding, Places, IsRefused, Restores, ReadsAgain};
 
 use crate::folding::Chain;
 use crate::layout::{self, FREE, TOP};
 use crate::operation::{Listed, Operation};
+use crate::pause::Pause;
 use crate::rule::Stacked;
 use crate::stack::{Pass, Stack};
-use bounded_model::Word;
+use bounded_model::{RangeRefused, Ranged, Word};
 use index_list::{load_as, put_in};
 use machine::View;
 use stack_machine::Line;
 use std::marker::Brand;
 use std::sync::Wait;
 use tagged_index::{Limits, NULL, Tagged};
-use thiserror::Error;
-
-/// A range put that put some values.
-#[derive(Clone, Copy, Debug, PartialEq, Eq)]
-pub struct Ranged {
-    /// The put's number.
-    pub number: u64,
-    /// How many values were put, from the front; 1 at least.
-    pub count: u32,
-}
-
-/// Why a range was not put. Every value is still in its place.
-#[derive(Clone, Copy, Debug, Error, PartialEq, Eq)]
-pub enum RangeRefused {
-    /// The range is empty.
-    #[error("nothing to put")]
-    Nothing,
-    /// Every node holds a value or is in a pass's hand.
-    #[error("full")]
-    Full,
-    /// The stack is closed.
-    #[error("closed")]
-    Closed,
-    /// The tag of this word has reached the limit: the word, and the tag that was read.
-    #[error("spent")]
-    Spent(Word, u64),
-}
 
 /// The nodes of a range put, each with its value.
 #[derive(Clone, Copy)]
@@ -79,7 +54,7 @@ impl<T> Stack<T> {
         requires pass { IsPassOf self.now by }
         requires values { Every (λ place. IsSome place) values.old }
         ensures of { IsPassOf self.now result.0 }
-        ensures gives { PutsRange (shape_of self.now) (pass_in by) values.old values.new (pass_in result.0) result.1 }
+        ensures gives { PutsRange (call_of self.now by result.0) values.old values.new result.1 }
     {
         if values.is_empty() {
             return (by, Err(RangeRefused::Nothing));
@@ -100,7 +75,7 @@ impl<T> Stack<T> {
             ),
             Err(why) => {
                 let pass = self.restore(pass, held, values);
-                let pass = self.give_back(rt, pass, held.chain, &Operation::Look);
+                let pass = self.give_back(rt, pass, held.chain, &Operation::Underway);
                 (pass, Err(why))
             }
         }
@@ -175,6 +150,7 @@ impl<T> Stack<T> {
         ensures { (put : Putting T) → IsCollecting self.now operation.now by put → TakesFree self.now operation.now (begun_in by) put result.0 result.1 }
     {
         let mut pass = by;
+        let mut pause = Pause::new();
         for _ in rt.forever() {
             let free = self.load(&mut pass, FREE, operation);
             let index = free.index();
@@ -189,6 +165,7 @@ impl<T> Stack<T> {
             if self.take_node(&mut pass, FREE, free, next, operation) {
                 return (pass, Ok(index));
             }
+            pause.wait();
         }
         unreachable!()
     }
@@ -223,7 +200,7 @@ impl<T> Stack<T> {
         match why {
             NoNode::Spent(tag) => (pass, RangeRefused::Spent(Word::Free, tag)),
             NoNode::NoneFree => {
-                let top = self.load(&mut pass, TOP, &Operation::Look);
+                let top = self.load(&mut pass, TOP, &Operation::Underway);
                 if top.is_marked() {
                     return (pass, RangeRefused::Closed);
                 }
@@ -248,8 +225,9 @@ impl<T> Stack<T> {
         ensures { (vs : List T) → IsHolding self.now by vs held → Places self.now by vs held result.0 result.1 }
     {
         let mut pass = by;
+        let mut pause = Pause::new();
         for _ in rt.forever() {
-            let top = self.load(&mut pass, TOP, &Operation::Look);
+            let top = self.load(&mut pass, TOP, &Operation::Underway);
             if top.is_marked() {
                 return (pass, Err(RangeRefused::Closed));
             }
@@ -262,11 +240,12 @@ impl<T> Stack<T> {
                 TOP,
                 held.chain.last,
                 top.index(),
-                &Operation::Look,
+                &Operation::Underway,
             );
-            if self.put_nodes(&mut pass, top, held.chain.first, &Operation::Look) {
+            if self.put_nodes(&mut pass, top, held.chain.first, &Operation::Underway) {
                 return (pass, Ok(tag));
             }
+            pause.wait();
         }
         unreachable!()
     }

@@ -155,40 +155,40 @@ fn a_put_and_a_take_make_six_steps_each(rt: HostRuntime) -> Result<(), Fail> {
     let (stack, mut root) = Stack::<u32>::new(rt.alloc(), limits)?;
     let pass = stack.split(&mut root).ok_or("no pass")?;
     let Stepped::Again(put) = stack.begin_put(pass, 7).step(&stack) else {
-        panic!(rt; "F1")
+        panic!(rt; "LoadFree")
     };
     let Stepped::Again(put) = put.step(&stack) else {
-        panic!(rt; "F2")
+        panic!(rt; "LoadFreeLink")
     };
     let Stepped::Again(put) = put.step(&stack) else {
-        panic!(rt; "F3")
+        panic!(rt; "TakeFree")
     };
     let Stepped::Again(put) = put.step(&stack) else {
-        panic!(rt; "P1")
+        panic!(rt; "LoadTop")
     };
     let Stepped::Again(put) = put.step(&stack) else {
-        panic!(rt; "P2")
+        panic!(rt; "LinkToTop")
     };
     let Stepped::Done(pass, Ok(0)) = put.step(&stack) else {
-        panic!(rt; "P3")
+        panic!(rt; "SwapTop")
     };
     let Stepped::Again(take) = stack.begin_take(pass).step(&stack) else {
-        panic!(rt; "S1")
+        panic!(rt; "LoadTopToTake")
     };
     let Stepped::Again(take) = take.step(&stack) else {
-        panic!(rt; "S2")
+        panic!(rt; "LoadTopLink")
     };
     let Stepped::Again(take) = take.step(&stack) else {
-        panic!(rt; "S3")
+        panic!(rt; "TakeTop")
     };
     let Stepped::Again(take) = take.step(&stack) else {
-        panic!(rt; "G1")
+        panic!(rt; "LoadFreeToGive")
     };
     let Stepped::Again(take) = take.step(&stack) else {
-        panic!(rt; "G2")
+        panic!(rt; "LinkToFree")
     };
     let Stepped::Done(_, Ok((7, 1))) = take.step(&stack) else {
-        panic!(rt; "G3")
+        panic!(rt; "GiveBack")
     };
     Ok(())
 }
@@ -204,10 +204,10 @@ fn a_full_stack_refuses_in_two_steps(rt: HostRuntime) -> Result<(), Fail> {
     let (pass, first) = stack.put(&rt, pass, 1);
     assert!(rt; first == Ok(0));
     let Stepped::Again(put) = stack.begin_put(pass, 2).step(&stack) else {
-        panic!(rt; "F1")
+        panic!(rt; "LoadFree")
     };
     let Stepped::Done(_, Err(PutRefused::Full(2))) = put.step(&stack) else {
-        panic!(rt; "D1")
+        panic!(rt; "LoadTopToRefuse")
     };
     Ok(())
 }
@@ -219,29 +219,29 @@ fn a_close_turns_a_begun_put_back(rt: HostRuntime) -> Result<(), Fail> {
     let pass = stack.split(&mut root).ok_or("no pass")?;
     let other = stack.split(&mut root).ok_or("no pass")?;
     let Stepped::Again(put) = stack.begin_put(pass, 7).step(&stack) else {
-        panic!(rt; "F1")
+        panic!(rt; "LoadFree")
     };
     let Stepped::Again(put) = put.step(&stack) else {
-        panic!(rt; "F2")
+        panic!(rt; "LoadFreeLink")
     };
     let Stepped::Again(put) = put.step(&stack) else {
-        panic!(rt; "F3")
+        panic!(rt; "TakeFree")
     };
     let (other, closed) = stack.close(&rt, other);
     assert!(rt; closed);
     let (_, full) = stack.put(&rt, other, 8);
     assert!(rt; full == Err(PutRefused::Closed(8)));
     let Stepped::Again(put) = put.step(&stack) else {
-        panic!(rt; "P1")
+        panic!(rt; "LoadTop")
     };
     let Stepped::Again(put) = put.step(&stack) else {
-        panic!(rt; "G1")
+        panic!(rt; "LoadFreeToGive")
     };
     let Stepped::Again(put) = put.step(&stack) else {
-        panic!(rt; "G2")
+        panic!(rt; "LinkToFree")
     };
     let Stepped::Done(_, Err(PutRefused::Closed(7))) = put.step(&stack) else {
-        panic!(rt; "G3")
+        panic!(rt; "GiveBack")
     };
     Ok(())
 }
@@ -316,13 +316,13 @@ fn a_dropped_operation_drops_its_value(rt: HostRuntime) -> Result<(), Fail> {
         .begin_put(second, Arc::try_clone(&value)?)
         .step(&stack);
     let Stepped::Again(put) = put else {
-        panic!(rt; "F1")
+        panic!(rt; "LoadFree")
     };
     let Stepped::Again(put) = put.step(&stack) else {
-        panic!(rt; "F2")
+        panic!(rt; "LoadFreeLink")
     };
     let Stepped::Again(put) = put.step(&stack) else {
-        panic!(rt; "F3")
+        panic!(rt; "TakeFree")
     };
     drop(put);
     assert_eq!(rt; Arc::strong_count(&value), 2);

@@ -5,7 +5,7 @@ use lib.ListN.{get_elem?}
 use Rattle.tagged_index.specs.declared.word.TheConstants.{NULL}
 use Rattle.machine.specs.Words.{Tagged, raised, kept, same, store, times, Stands}
 use Rattle.machine.specs.OneList.{Later}
-use Rattle.step_core.specs.list.Machine.{Line, Idle, X1, X2, X3, G1, G2, G3, Pass, State, giving, holds, goes}
+use Rattle.step_core.specs.list.Machine.{Line, Idle, LoadTopToTake, LoadTopLink, TakeTop, LoadTopToGive, LinkToTop, GiveBack, Pass, State, giving, holds, goes}
 use Rattle.step_core.specs.list.Rule.{IsFine, Good}
 use Rattle.machine.proofs.Tests.{at_most_one}
 use Rattle.machine.proofs.Sums.{total_set, total_one, total_two, at_set}
@@ -16,12 +16,12 @@ module _ (limit : ℕ) (top : Tagged) (link : ℕ → ℕ) (list : List ℕ) (to
   -- what holds of a pass goes on to hold where the others leave alone what it relies on
   fine_later : (l : Line) → Later top link list top' link' list' → ((i : ℕ) → 0 < times i (giving l) → link' i ≡ link i) → IsFine limit top link list l → IsFine limit top' link' list' l
   fine_later Idle r own f = tt
-  fine_later X1 r own f = tt
-  fine_later (X2 w) r own f = read_top_later w r f
-  fine_later (X3 w k) r own f = (read_top_later w r f.0, read_link_later w k r f.0 f.1)
-  fine_later (G1 i) r own f = tt
-  fine_later (G2 i w) r own f = tt
-  fine_later (G3 i w) r own f = own i (omega (arith, times_here i [])) ∙ f
+  fine_later LoadTopToTake r own f = tt
+  fine_later (LoadTopLink w) r own f = read_top_later w r f
+  fine_later (TakeTop w k) r own f = (read_top_later w r f.0, read_link_later w k r f.0 f.1)
+  fine_later (LoadTopToGive i) r own f = tt
+  fine_later (LinkToTop i w) r own f = tt
+  fine_later (GiveBack i w) r own f = own i (omega (arith, times_here i [])) ∙ f
 
 -- What one step of one pass may do, which makes it from v to v'
 record Moves (limit : ℕ) (s : State) (list : List ℕ) (v : Pass) (s' : State) (list' : List ℕ) (v' : Pass) : Type 0 where
@@ -60,16 +60,16 @@ pub record Stays (n limit : ℕ) (s : State) : Type 0 where
 
 module _ {n limit : ℕ} {s : State} {list : List ℕ} where
   -- a won take
-  pub take_kept : (p : ℕ) (hand : List ℕ) (w : Tagged) (k : ℕ) → Good n limit s list → get_elem? s.passes p ≡ some (record { line = X3 w k; hand = hand }) → s.top ≡ w
+  pub take_kept : (p : ℕ) (hand : List ℕ) (w : Tagged) (k : ℕ) → Good n limit s list → get_elem? s.passes p ≡ some (record { line = TakeTop w k; hand = hand }) → s.top ≡ w
       → Stays n limit (goes (record s { top = raised w k }) p Idle (w.index ∷ hand))
   take_kept p hand w k g e won =
-      let f : IsFine limit s.top s.link list (X3 w k) = g.fine p (record { line = X3 w k; hand = hand }) e in
+      let f : IsFine limit s.top s.link list (TakeTop w k) = g.fine p (record { line = TakeTop w k; hand = hand }) e in
       let t : w.tag ≡ s.top.tag = ap (λ (x : Tagged). x.tag) (sym won) in
       let r = ready limit s.top s.link list w k g.stands won f.0 f.1 in
       let below : w.tag < limit = f.0.below in
       record {
         list = r.rest;
-        good = moves_kept p (record { line = X3 w k; hand = hand }) (record { line = Idle; hand = w.index ∷ hand }) (record s { top = raised w k }) r.rest g e
+        good = moves_kept p (record { line = TakeTop w k; hand = hand }) (record { line = Idle; hand = w.index ∷ hand }) (record s { top = raised w k }) r.rest g e
             (record {
               tag = omega arith;
               limited = omega arith;
@@ -81,23 +81,23 @@ module _ {n limit : ℕ} {s : State} {list : List ℕ} where
       }
 
   -- a won give
-  pub give_kept : (p : ℕ) (hand : List ℕ) (i : ℕ) (w : Tagged) → Good n limit s list → get_elem? s.passes p ≡ some (record { line = G3 i w; hand = hand }) → s.top ≡ w
+  pub give_kept : (p : ℕ) (hand : List ℕ) (i : ℕ) (w : Tagged) → Good n limit s list → get_elem? s.passes p ≡ some (record { line = GiveBack i w; hand = hand }) → s.top ≡ w
       → Good n limit (goes (record s { top = kept w i }) p Idle hand) (i ∷ list)
   give_kept p hand i w g e won =
-      let f : IsFine limit s.top s.link list (G3 i w) = g.fine p (record { line = G3 i w; hand = hand }) e in
+      let f : IsFine limit s.top s.link list (GiveBack i w) = g.fine p (record { line = GiveBack i w; hand = hand }) e in
       let t : w.tag ≡ s.top.tag = ap (λ (x : Tagged). x.tag) (sym won) in
-      moves_kept p (record { line = G3 i w; hand = hand }) (record { line = Idle; hand = hand }) (record s { top = kept w i }) (i ∷ list) g e
+      moves_kept p (record { line = GiveBack i w; hand = hand }) (record { line = Idle; hand = hand }) (record s { top = kept w i }) (i ∷ list) g e
       (record { tag = omega arith; limited = omega (arith, g.tag); stays = λ h j there. omega arith; links = λ j h. refl; moved = λ j. omega arith })
       (refl, leads_from s.link s.top.index (s.link i) list NULL (ap (λ (y : Tagged). y.index) won ∙ sym f) g.stands) tt
 
   -- a store into a held link
-  pub store_kept : (p : ℕ) (hand : List ℕ) (i : ℕ) (w : Tagged) → Good n limit s list → get_elem? s.passes p ≡ some (record { line = G2 i w; hand = hand })
-      → Good n limit (goes (record s { link = store s.link i w.index }) p (G3 i w) hand) list
+  pub store_kept : (p : ℕ) (hand : List ℕ) (i : ℕ) (w : Tagged) → Good n limit s list → get_elem? s.passes p ≡ some (record { line = LinkToTop i w; hand = hand })
+      → Good n limit (goes (record s { link = store s.link i w.index }) p (GiveBack i w) hand) list
   store_kept p hand i w g e =
-      let v : Pass = record { line = G2 i w; hand = hand } in
+      let v : Pass = record { line = LinkToTop i w; hand = hand } in
       let links : (j : ℕ) → holds j v ≡ 0 → store s.link i w.index j ≡ s.link j =
       λ j h. store_else s.link i w.index j (λ (q : j ≡ i). absurd (let a : times i (i ∷ []) ≡ 0 = omega (arith, ap (λ (m : ℕ). times m (i ∷ [])) q) in omega (arith, times_here i []))) in
-      moves_kept p v (record { line = G3 i w; hand = hand }) (record s { link = store s.link i w.index }) list g e
+      moves_kept p v (record { line = GiveBack i w; hand = hand }) (record s { link = store s.link i w.index }) list g e
       (record { tag = omega arith; limited = g.tag; stays = λ h j there. there; links = links; moved = λ j. refl })
       (leads_frame s.link (store s.link i w.index) list s.top.index NULL (λ j there. links j (omega (arith, g.once j, total_one (holds j) s.passes p v e, at_most_one j n))) g.stands)
       (store_here s.link i w.index)

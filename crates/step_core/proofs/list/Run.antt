@@ -6,7 +6,7 @@ use lib.ListN.{get_elem?}
 use Rattle.tagged_index.specs.declared.word.TheConstants.{NULL}
 use Rattle.machine.proofs.Starts.{from, from_stands, from_all}
 use Rattle.machine.specs.Words.{Tagged, raised, kept, same, times, Stands, start_link}
-use Rattle.step_core.specs.list.Machine.{Line, Idle, X1, X2, X3, G1, G2, G3, Pass, State, Act, Take, Give, Step, giving, holds, goes, steps, gives, begins, does, run, start, Lawful}
+use Rattle.step_core.specs.list.Machine.{Line, Idle, LoadTopToTake, LoadTopLink, TakeTop, LoadTopToGive, LinkToTop, GiveBack, Pass, State, Act, Take, Give, Step, giving, holds, goes, steps, gives, begins, does, run, start, Lawful}
 use Rattle.step_core.specs.list.Rule.{IsFine}
 use Rattle.machine.proofs.Tests.{cases, neither, same-is}
 use Rattle.machine.proofs.Sums.{total_same}
@@ -15,44 +15,44 @@ use Rattle.machine.proofs.OneList.{read_top}
 use Rattle.step_core.proofs.list.Kept.{Stays, goes_kept, take_kept, give_kept, store_kept}
 
 module _ (n limit : ℕ) where
-  x1_fine : (top : Tagged) (link : ℕ → ℕ) (list : List ℕ) → Stands link top.index list → IsFine limit top link list (cond (eqb top.index NULL || leb limit top.tag) Idle (X2 top))
-  x1_fine top link list s = cases (IsFine limit top link list) (eqb top.index NULL || leb limit top.tag) Idle (X2 top) (λ h. tt) (λ h.
+  load_top_to_take_fine : (top : Tagged) (link : ℕ → ℕ) (list : List ℕ) → Stands link top.index list → IsFine limit top link list (cond (eqb top.index NULL || leb limit top.tag) Idle (LoadTopLink top))
+  load_top_to_take_fine top link list s = cases (IsFine limit top link list) (eqb top.index NULL || leb limit top.tag) Idle (LoadTopLink top) (λ h. tt) (λ h.
       let b = neither (eqb top.index NULL) (leb limit top.tag) h in
       read_top limit top link list s (λ e. grind (arith, nat_tests)) (grind (arith, nat_tests)))
 
-  x1_gives : (b : Bool) (w : Tagged) → giving (cond b Idle (X2 w)) ≡ []
-  x1_gives true w = refl
-  x1_gives false w = refl
+  load_top_to_take_gives : (b : Bool) (w : Tagged) → giving (cond b Idle (LoadTopLink w)) ≡ []
+  load_top_to_take_gives true w = refl
+  load_top_to_take_gives false w = refl
 
   -- a step of any pass, from any state where the rule holds
   pub steps_kept : (s : State) (p : ℕ) (line : Line) (hand : List ℕ) → Stays n limit s → get_elem? s.passes p ≡ some (record { line = line; hand = hand }) → Stays n limit (steps limit s p line hand)
   steps_kept s p Idle hand g e = g
-  steps_kept s p X1 hand g e =
+  steps_kept s p LoadTopToTake hand g e =
       let b = eqb s.top.index NULL || leb limit s.top.tag in
       record {
         list = g.list;
-        good = goes_kept p (record { line = X1; hand = hand }) (cond b Idle (X2 s.top)) hand g.good e
-            (λ i. ap (λ (is : List ℕ). times i is + times i hand) (x1_gives b s.top)) (x1_fine s.top s.link g.list g.good.stands);
+        good = goes_kept p (record { line = LoadTopToTake; hand = hand }) (cond b Idle (LoadTopLink s.top)) hand g.good e
+            (λ i. ap (λ (is : List ℕ). times i is + times i hand) (load_top_to_take_gives b s.top)) (load_top_to_take_fine s.top s.link g.list g.good.stands);
       }
-  steps_kept s p (X2 w) hand g e =
-      record { list = g.list; good = goes_kept p (record { line = X2 w; hand = hand }) (X3 w (s.link w.index)) hand g.good e (λ i. refl) (g.good.fine p (record { line = X2 w; hand = hand }) e, λ h. refl) }
-  steps_kept s p (X3 w k) hand g e = cases (Stays n limit) (same s.top w) (goes (record s { top = raised w k }) p Idle (w.index ∷ hand)) (goes s p X1 hand)
+  steps_kept s p (LoadTopLink w) hand g e =
+      record { list = g.list; good = goes_kept p (record { line = LoadTopLink w; hand = hand }) (TakeTop w (s.link w.index)) hand g.good e (λ i. refl) (g.good.fine p (record { line = LoadTopLink w; hand = hand }) e, λ h. refl) }
+  steps_kept s p (TakeTop w k) hand g e = cases (Stays n limit) (same s.top w) (goes (record s { top = raised w k }) p Idle (w.index ∷ hand)) (goes s p LoadTopToTake hand)
       (λ h. take_kept p hand w k g.good e (same-is s.top w h))
-      (λ h. record { list = g.list; good = goes_kept p (record { line = X3 w k; hand = hand }) X1 hand g.good e (λ i. refl) tt })
-  steps_kept s p (G1 i) hand g e =
-      record { list = g.list; good = goes_kept p (record { line = G1 i; hand = hand }) (G2 i s.top) hand g.good e (λ j. refl) tt }
-  steps_kept s p (G2 i w) hand g e = record { list = g.list; good = store_kept p hand i w g.good e }
-  steps_kept s p (G3 i w) hand g e = cases (Stays n limit) (same s.top w) (goes (record s { top = kept w i }) p Idle hand) (goes s p (G1 i) hand)
+      (λ h. record { list = g.list; good = goes_kept p (record { line = TakeTop w k; hand = hand }) LoadTopToTake hand g.good e (λ i. refl) tt })
+  steps_kept s p (LoadTopToGive i) hand g e =
+      record { list = g.list; good = goes_kept p (record { line = LoadTopToGive i; hand = hand }) (LinkToTop i s.top) hand g.good e (λ j. refl) tt }
+  steps_kept s p (LinkToTop i w) hand g e = record { list = g.list; good = store_kept p hand i w g.good e }
+  steps_kept s p (GiveBack i w) hand g e = cases (Stays n limit) (same s.top w) (goes (record s { top = kept w i }) p Idle hand) (goes s p (LoadTopToGive i) hand)
       (λ h. record { list = i ∷ g.list; good = give_kept p hand i w g.good e (same-is s.top w h) })
-      (λ h. record { list = g.list; good = goes_kept p (record { line = G3 i w; hand = hand }) (G1 i) hand g.good e (λ j. refl) tt })
+      (λ h. record { list = g.list; good = goes_kept p (record { line = GiveBack i w; hand = hand }) (LoadTopToGive i) hand g.good e (λ j. refl) tt })
 
   begins_kept : (s : State) (p : ℕ) (act : Act) (line : Line) (hand : List ℕ) → Stays n limit s → get_elem? s.passes p ≡ some (record { line = line; hand = hand }) → Stays n limit (begins s p act line hand)
-  begins_kept s p Take Idle hand g e = record { list = g.list; good = goes_kept p (record { line = Idle; hand = hand }) X1 hand g.good e (λ i. refl) tt }
+  begins_kept s p Take Idle hand g e = record { list = g.list; good = goes_kept p (record { line = Idle; hand = hand }) LoadTopToTake hand g.good e (λ i. refl) tt }
   begins_kept s p (Give place) Idle hand g e = given (get_elem? hand place) refl
     where
       given : (o : Option ℕ) → get_elem? hand place ≡ o → Stays n limit (gives s p place o hand)
       given none at = g
-      given (some i) at = record { list = g.list; good = goes_kept p (record { line = Idle; hand = hand }) (G1 i) (remove hand place) g.good e (λ j. let t = times_remove j i hand place at in omega arith) tt }
+      given (some i) at = record { list = g.list; good = goes_kept p (record { line = Idle; hand = hand }) (LoadTopToGive i) (remove hand place) g.good e (λ j. let t = times_remove j i hand place at in omega arith) tt }
   begins_kept s p act line hand g e = g
 
   pub does_kept : (s : State) (p : ℕ) (act : Act) (o : Option Pass) → Stays n limit s → get_elem? s.passes p ≡ o → Stays n limit (does limit s p act o)

@@ -8,7 +8,7 @@ use Rattle.bounded_model.specs.Machine.{Shape}
 use Rattle.machine.specs.Words.{same}
 use Rattle.stack_machine.specs.declared.lines.Taking.TheVariants.{One, Whole}
 use Rattle.stack_machine.specs.declared.lines.Line.{Line}
-use Rattle.stack_machine.specs.declared.lines.Line.TheVariants.{Idle, F1, F2, F3, F4, P1, P2, P3, D1, S1, S2, S3, A1, A2, A3, A4, G1, G2, G3, Z1, Z2, Y1, Y2, V1}
+use Rattle.stack_machine.specs.declared.lines.Line.TheVariants.{Idle, LoadFree, LoadFreeLink, TakeFree, LinkTaken, LoadTop, LinkToTop, SwapTop, LoadTopToRefuse, LoadTopToTake, LoadTopLink, TakeTop, TakeChain, LoadLinkToTurn, TurnLink, LoadLinkToFold, LoadFreeToGive, LinkToFree, GiveBack, LoadTopToClose, MarkTop, LoadTopToShut, ShutTop, LoadTopToLook}
 use Rattle.step_core.specs.stack.Schedule.{Pass, State, Act, Begin, Step, begun, stepped, acts, acts_at}
 use Rattle.stack_machine.specs.Machine.{Memory, Outcome, step, is_idle, starts, goes_on}
 use Rattle.step_core.specs.stack.Bound.{wins_exchange, wins_at, IsStretch, is_busy, counted, own_steps, IsSingle, IsSingleAt}
@@ -39,29 +39,29 @@ module _ {T : Type 0} where
 
   step_still : (c : Shape) (m : Memory T) (p : ℕ) (l : Line T) → wins_exchange m l ≡ false → Still m (step c m p l)
   step_still c m p (Idle a) e = record { free = refl; top = refl }
-  step_still c m p (F1 put) e = record { free = refl; top = refl }
-  step_still c m p (F2 put w) e = record { free = refl; top = refl }
-  step_still c m p (F3 put w k) e = lost (same m.free w) m _ (F1 put) e
-  step_still c m p (F4 put) e = record { free = refl; top = refl }
-  step_still c m p (P1 put) e = record { free = refl; top = refl }
-  step_still c m p (P2 put w) e = record { free = refl; top = refl }
-  step_still c m p (P3 put w) e = lost (same m.top w) m _ (P1 put) e
-  step_still c m p (D1 values) e = record { free = refl; top = refl }
-  step_still c m p (S1 taking) e = record { free = refl; top = refl }
-  step_still c m p (S2 w) e = record { free = refl; top = refl }
-  step_still c m p (S3 w k) e = lost (same m.top w) m _ (S1 One) e
-  step_still c m p (A1 d w) e = lost (same m.top w) m _ (S1 (Whole d)) e
-  step_still c m p (A2 give above i) e = record { free = refl; top = refl }
-  step_still c m p (A3 give above i k) e = record { free = refl; top = refl }
-  step_still c m p (A4 give i) e = record { free = refl; top = refl }
-  step_still c m p (G1 give) e = record { free = refl; top = refl }
-  step_still c m p (G2 give w) e = record { free = refl; top = refl }
-  step_still c m p (G3 give w) e = lost (same m.free w) m _ (G1 give) e
-  step_still c m p Z1 e = record { free = refl; top = refl }
-  step_still c m p (Z2 w) e = lost (same m.top w) m _ Z1 e
-  step_still c m p Y1 e = record { free = refl; top = refl }
-  step_still c m p (Y2 w) e = lost (same m.top w) m _ Y1 e
-  step_still c m p V1 e = record { free = refl; top = refl }
+  step_still c m p (LoadFree put) e = record { free = refl; top = refl }
+  step_still c m p (LoadFreeLink put w) e = record { free = refl; top = refl }
+  step_still c m p (TakeFree put w k) e = lost (same m.free w) m _ (LoadFree put) e
+  step_still c m p (LinkTaken put) e = record { free = refl; top = refl }
+  step_still c m p (LoadTop put) e = record { free = refl; top = refl }
+  step_still c m p (LinkToTop put w) e = record { free = refl; top = refl }
+  step_still c m p (SwapTop put w) e = lost (same m.top w) m _ (LoadTop put) e
+  step_still c m p (LoadTopToRefuse values) e = record { free = refl; top = refl }
+  step_still c m p (LoadTopToTake taking) e = record { free = refl; top = refl }
+  step_still c m p (LoadTopLink w) e = record { free = refl; top = refl }
+  step_still c m p (TakeTop w k) e = lost (same m.top w) m _ (LoadTopToTake One) e
+  step_still c m p (TakeChain d w) e = lost (same m.top w) m _ (LoadTopToTake (Whole d)) e
+  step_still c m p (LoadLinkToTurn give above i) e = record { free = refl; top = refl }
+  step_still c m p (TurnLink give above i k) e = record { free = refl; top = refl }
+  step_still c m p (LoadLinkToFold give i) e = record { free = refl; top = refl }
+  step_still c m p (LoadFreeToGive give) e = record { free = refl; top = refl }
+  step_still c m p (LinkToFree give w) e = record { free = refl; top = refl }
+  step_still c m p (GiveBack give w) e = lost (same m.free w) m _ (LoadFreeToGive give) e
+  step_still c m p LoadTopToClose e = record { free = refl; top = refl }
+  step_still c m p (MarkTop w) e = lost (same m.top w) m _ LoadTopToClose e
+  step_still c m p LoadTopToShut e = record { free = refl; top = refl }
+  step_still c m p (ShutTop w) e = lost (same m.top w) m _ LoadTopToShut e
+  step_still c m p LoadTopToLook e = record { free = refl; top = refl }
 
   -- how many steps a pass has left
   abbrev left_at : Memory T → Option (Pass T) → ℕ

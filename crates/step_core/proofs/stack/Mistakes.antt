@@ -14,10 +14,10 @@ use Rattle.stack_machine.specs.declared.lines.Direction.TheVariants.{Down}
 use Rattle.stack_machine.specs.declared.lines.Taking.TheVariants.{One, Whole}
 use Rattle.stack_machine.specs.declared.lines.Answer.TheVariants.{Put as AnswerPut, Close as AnswerClose, Shut as AnswerShut}
 use Rattle.stack_machine.specs.declared.lines.Line.{Line}
-use Rattle.stack_machine.specs.declared.lines.Line.TheVariants.{F1, F3, P1, P3, S1, S3, A4, Z1, Z2, Y1, Y2}
+use Rattle.stack_machine.specs.declared.lines.Line.TheVariants.{LoadFree, TakeFree, LoadTop, SwapTop, LoadTopToTake, TakeTop, LoadLinkToFold, LoadTopToClose, MarkTop, LoadTopToShut, ShutTop}
 use Rattle.stack_machine.specs.declared.lines.Call.TheVariants.{Put as CallPut, Take as CallTake, Close as CallClose, Shut as CallShut}
 use Rattle.step_core.specs.stack.Schedule.{Pass, State, Act, Begin, Step, begun, stepped, start}
-use Rattle.stack_machine.specs.Machine.{Memory, Outcome, step, held, is_idle, starts, goes_on, wins, wins_value, after_hold, after_put, after_store, at_F3, at_P1, at_S1, ends, placed, with_node}
+use Rattle.stack_machine.specs.Machine.{Memory, Outcome, step, held, is_idle, starts, goes_on, wins, wins_value, after_hold, after_put, after_store, at_take_free, at_load_top, at_load_top_to_take, ends, placed, with_node}
 use Rattle.machine.specs.Chains.{with_home, HasValues}
 use Rattle.stack_machine.specs.Answers.{shape}
 use Rattle.step_core.specs.stack.Law.{Lawful, AllDone}
@@ -55,7 +55,7 @@ takes p = (p, Begin (CallTake One)) ∷ []
 -- pass 2, node 0 goes out and comes back, and pass 0's exchange wins. So node 1 is free while pass 2 holds it, and pass 1
 -- takes it a second time
 abbrev holds_with_old_tag : Steps
-holds_with_old_tag m p (F3 put w k) = if same m.free w then wins (record (after_hold m w k) { free = kept w k }) (at_F3 put w) (Hold p) else goes_on m (F1 put)
+holds_with_old_tag m p (TakeFree put w k) = if same m.free w then wins (record (after_hold m w k) { free = kept w k }) (at_take_free put w) (Hold p) else goes_on m (LoadFree put)
 holds_with_old_tag m p l = step (shape 3 15) m p l
 
 abbrev held_twice : State ℕ
@@ -77,7 +77,7 @@ abbrev keeps : Memory ℕ → Tagged → ℕ → Outcome ℕ → Outcome ℕ
 keeps m w k o = record o { memory = record m { top = kept w k; home = with_home m.home w.index none } }
 
 abbrev takes_with_old_tag : Steps
-takes_with_old_tag m p (S3 w k) = if same m.top w then keeps m w k (wins_value m p w k (m.home w.index)) else goes_on m (S1 One)
+takes_with_old_tag m p (TakeTop w k) = if same m.top w then keeps m w k (wins_value m p w k (m.home w.index)) else goes_on m (LoadTopToTake One)
 takes_with_old_tag m p l = step (shape 2 15) m p l
 
 abbrev number_again : State ℕ
@@ -91,7 +91,7 @@ number_again-unlawful law = numbered law.legal
 
 -- A put that lost its exchange tries again with the new top and its old link: the other pass's value is cut off
 abbrev puts_on_stale_top : Steps
-puts_on_stale_top m p (P3 put w) = if same m.top w then step (shape 2 15) m p (P3 put w) else goes_on m (P3 put m.top)
+puts_on_stale_top m p (SwapTop put w) = if same m.top w then step (shape 2 15) m p (SwapTop put w) else goes_on m (SwapTop put m.top)
 puts_on_stale_top m p l = step (shape 2 15) m p l
 
 abbrev cut_off : State ℕ
@@ -112,7 +112,7 @@ cut_off-unlawful law = two law.stack law.top_stands law.stored
 
 -- A fold that answers without giving its nodes back: the node is nowhere
 abbrev forgets_nodes : Steps
-forgets_nodes m p (A4 give i) = if m.link i == NULL then goes_on m (ends give.answer) else goes_on m (A4 give (m.link i))
+forgets_nodes m p (LoadLinkToFold give i) = if m.link i == NULL then goes_on m (ends give.answer) else goes_on m (LoadLinkToFold give (m.link i))
 forgets_nodes m p l = step (shape 1 15) m p l
 
 abbrev forgotten : State ℕ
@@ -130,11 +130,11 @@ forgotten-unlawful law =
 abbrev further : List ℕ → Tagged → Line ℕ
 further [] w = ends (AnswerPut (Ok (w.tag, [])))
 further (v ∷ []) w = ends (AnswerPut (Ok (w.tag, [])))
-further (v ∷ vs) w = F1 (record { values = vs; chain = [] })
+further (v ∷ vs) w = LoadFree (record { values = vs; chain = [] })
 
 abbrev puts_one_by_one : Steps
-puts_one_by_one m p (F3 put w k) = if same m.free w then wins (after_hold m w k) (P1 (with_node put w.index)) (Hold p) else goes_on m (F1 put)
-puts_one_by_one m p (P3 put w) = if same m.top w then wins (after_put m w put) (further put.values w) (Put p (placed put) w.tag) else goes_on m (P1 put)
+puts_one_by_one m p (TakeFree put w k) = if same m.free w then wins (after_hold m w k) (LoadTop (with_node put w.index)) (Hold p) else goes_on m (LoadFree put)
+puts_one_by_one m p (SwapTop put w) = if same m.top w then wins (after_put m w put) (further put.values w) (Put p (placed put) w.tag) else goes_on m (LoadTop put)
 puts_one_by_one m p l = step (shape 3 15) m p l
 
 abbrev between : State ℕ
@@ -165,9 +165,9 @@ abbrev flag : Memory ℕ → ℕ
 flag m = m.link NULL
 
 abbrev closes_by_flag : Steps
-closes_by_flag m p (P1 put) = goes_on m (at_P1 15 put (record m.top { mark = flag m == 1 }))
-closes_by_flag m p Z1 = if flag m == 1 then goes_on m (ends (AnswerClose false)) else goes_on m (Z2 m.top)
-closes_by_flag m p (Z2 w) = if flag m == 1 then goes_on m (ends (AnswerClose false)) else wins (after_store m NULL 1) (ends (AnswerClose true)) (Close p)
+closes_by_flag m p (LoadTop put) = goes_on m (at_load_top 15 put (record m.top { mark = flag m == 1 }))
+closes_by_flag m p LoadTopToClose = if flag m == 1 then goes_on m (ends (AnswerClose false)) else goes_on m (MarkTop m.top)
+closes_by_flag m p (MarkTop w) = if flag m == 1 then goes_on m (ends (AnswerClose false)) else wins (after_store m NULL 1) (ends (AnswerClose true)) (Close p)
 closes_by_flag m p l = step (shape 1 15) m p l
 
 abbrev put_after_close : State ℕ
@@ -181,9 +181,9 @@ put_after_close-unlawful law = closed law.legal
 
 -- Shutting sets it, and a take that found it clear takes after the shut
 abbrev shuts_by_flag : Steps
-shuts_by_flag m p (S1 taking) = goes_on m (at_S1 15 taking (record m.top { second = flag m == 1 }))
-shuts_by_flag m p Y1 = if flag m == 1 then goes_on m (ends (AnswerShut false)) else goes_on m (Y2 m.top)
-shuts_by_flag m p (Y2 w) = if flag m == 1 then goes_on m (ends (AnswerShut false)) else wins (after_store m NULL 1) (ends (AnswerShut true)) (Shut p)
+shuts_by_flag m p (LoadTopToTake taking) = goes_on m (at_load_top_to_take 15 taking (record m.top { second = flag m == 1 }))
+shuts_by_flag m p LoadTopToShut = if flag m == 1 then goes_on m (ends (AnswerShut false)) else goes_on m (ShutTop m.top)
+shuts_by_flag m p (ShutTop w) = if flag m == 1 then goes_on m (ends (AnswerShut false)) else wins (after_store m NULL 1) (ends (AnswerShut true)) (Shut p)
 shuts_by_flag m p l = step (shape 1 15) m p l
 
 abbrev take_after_shut : State ℕ

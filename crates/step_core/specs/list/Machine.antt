@@ -9,12 +9,12 @@ use Rattle.machine.specs.Words.{Tagged, raised, kept, same, store, times, total,
 -- where a pass is, with what it has read: the top w, the link k of its index. A give has index i
 pub data Line : Type 0 where
   Idle : Line
-  X1 : Line
-  X2 : (w : Tagged) → Line
-  X3 : (w : Tagged) (k : ℕ) → Line
-  G1 : (i : ℕ) → Line
-  G2 : (i : ℕ) (w : Tagged) → Line
-  G3 : (i : ℕ) (w : Tagged) → Line
+  LoadTopToTake : Line
+  LoadTopLink : (w : Tagged) → Line
+  TakeTop : (w : Tagged) (k : ℕ) → Line
+  LoadTopToGive : (i : ℕ) → Line
+  LinkToTop : (i : ℕ) (w : Tagged) → Line
+  GiveBack : (i : ℕ) (w : Tagged) → Line
 
 pub record Pass : Type 0 where
   pub line : Line
@@ -28,12 +28,12 @@ pub record State : Type 0 where
 -- the index that a line is giving back
 abbrev pub giving : Line → List ℕ
 giving Idle = []
-giving X1 = []
-giving (X2 w) = []
-giving (X3 w k) = []
-giving (G1 i) = i ∷ []
-giving (G2 i w) = i ∷ []
-giving (G3 i w) = i ∷ []
+giving LoadTopToTake = []
+giving (LoadTopLink w) = []
+giving (TakeTop w k) = []
+giving (LoadTopToGive i) = i ∷ []
+giving (LinkToTop i w) = i ∷ []
+giving (GiveBack i w) = i ∷ []
 
 -- how often a pass holds i
 abbrev pub holds : ℕ → Pass → ℕ
@@ -46,14 +46,14 @@ goes s p line hand = record s { passes = set s.passes p (record { line = line; h
 -- one step of pass p
 abbrev pub steps : ℕ → State → ℕ → Line → List ℕ → State
 steps limit s p Idle hand = s
-steps limit s p X1 hand = goes s p (if s.top.index == NULL || leb limit s.top.tag then Idle else X2 s.top) hand
-steps limit s p (X2 w) hand = goes s p (X3 w (s.link w.index)) hand
-steps limit s p (X3 w k) hand =
-    if same s.top w then goes (record s { top = raised w k }) p Idle (w.index ∷ hand) else goes s p X1 hand
-steps limit s p (G1 i) hand = goes s p (G2 i s.top) hand
-steps limit s p (G2 i w) hand = goes (record s { link = store s.link i w.index }) p (G3 i w) hand
-steps limit s p (G3 i w) hand =
-    if same s.top w then goes (record s { top = kept w i }) p Idle hand else goes s p (G1 i) hand
+steps limit s p LoadTopToTake hand = goes s p (if s.top.index == NULL || leb limit s.top.tag then Idle else LoadTopLink s.top) hand
+steps limit s p (LoadTopLink w) hand = goes s p (TakeTop w (s.link w.index)) hand
+steps limit s p (TakeTop w k) hand =
+    if same s.top w then goes (record s { top = raised w k }) p Idle (w.index ∷ hand) else goes s p LoadTopToTake hand
+steps limit s p (LoadTopToGive i) hand = goes s p (LinkToTop i s.top) hand
+steps limit s p (LinkToTop i w) hand = goes (record s { link = store s.link i w.index }) p (GiveBack i w) hand
+steps limit s p (GiveBack i w) hand =
+    if same s.top w then goes (record s { top = kept w i }) p Idle hand else goes s p (LoadTopToGive i) hand
 
 -- what a schedule lets a pass do: begin to take, begin to give the index at a place of its hand, or
 -- make a step
@@ -64,11 +64,11 @@ pub data Act : Type 0 where
 
 abbrev pub gives : State → ℕ → ℕ → Option ℕ → List ℕ → State
 gives s p place none hand = s
-gives s p place (some i) hand = goes s p (G1 i) (remove hand place)
+gives s p place (some i) hand = goes s p (LoadTopToGive i) (remove hand place)
 
 -- a begin of a busy pass does nothing
 abbrev pub begins : State → ℕ → Act → Line → List ℕ → State
-begins s p Take Idle hand = goes s p X1 hand
+begins s p Take Idle hand = goes s p LoadTopToTake hand
 begins s p (Give place) Idle hand = gives s p place (get_elem? hand place) hand
 begins s p act line hand = s
 

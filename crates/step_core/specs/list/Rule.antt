@@ -4,17 +4,17 @@ use mathlib.Core.Option.{some}
 use lib.ListN.{get_elem?}
 use Rattle.machine.specs.Words.{Tagged, times, total, Stands}
 use Rattle.machine.specs.OneList.{ReadTop, ReadLink}
-use Rattle.step_core.specs.list.Machine.{Line, Idle, X1, X2, X3, G1, G2, G3, Pass, State, holds}
+use Rattle.step_core.specs.list.Machine.{Line, Idle, LoadTopToTake, LoadTopLink, TakeTop, LoadTopToGive, LinkToTop, GiveBack, Pass, State, holds}
 
 -- of what a pass has read
 abbrev pub IsFine : ℕ → Tagged → (ℕ → ℕ) → List ℕ → Line → Type 0
 IsFine limit top link list Idle = Unit {0}
-IsFine limit top link list X1 = Unit {0}
-IsFine limit top link list (X2 w) = ReadTop limit top list w
-IsFine limit top link list (X3 w k) = ReadTop limit top list w × ReadLink top link w k
-IsFine limit top link list (G1 i) = Unit {0}
-IsFine limit top link list (G2 i w) = Unit {0}
-IsFine limit top link list (G3 i w) = link i ≡ w.index
+IsFine limit top link list LoadTopToTake = Unit {0}
+IsFine limit top link list (LoadTopLink w) = ReadTop limit top list w
+IsFine limit top link list (TakeTop w k) = ReadTop limit top list w × ReadLink top link w k
+IsFine limit top link list (LoadTopToGive i) = Unit {0}
+IsFine limit top link list (LinkToTop i w) = Unit {0}
+IsFine limit top link list (GiveBack i w) = link i ≡ w.index
 
 -- of the whole state, where the top and the links stand for this list
 pub record Good (n limit : ℕ) (s : State) (list : List ℕ) : Type 0 where

@@ -6,20 +6,20 @@ use Rattle.bounded_model.specs.Machine.{Shape}
 use Rattle.machine.specs.Words.{same}
 use Rattle.stack_machine.specs.declared.lines.Taking.TheVariants.{Whole}
 use Rattle.stack_machine.specs.declared.lines.Line.{Line}
-use Rattle.stack_machine.specs.declared.lines.Line.TheVariants.{F1, F2, F3, F4, P3, S1, S3, A1, A2, A3, A4, G3, Z2, Y2}
+use Rattle.stack_machine.specs.declared.lines.Line.TheVariants.{LoadFree, LoadFreeLink, TakeFree, LinkTaken, SwapTop, LoadTopToTake, TakeTop, TakeChain, LoadLinkToTurn, TurnLink, LoadLinkToFold, GiveBack, MarkTop, ShutTop}
 use Rattle.step_core.specs.stack.Schedule.{Pass, State, Act, Begin, Step, acts_at}
 use Rattle.stack_machine.specs.Machine.{Memory, is_idle}
 
 module _ {T : Type 0} where
   -- is the next step of a line an exchange that wins
   abbrev pub wins_exchange : Memory T → Line T → Bool
-  wins_exchange m (F3 put w k) = same m.free w
-  wins_exchange m (P3 put w) = same m.top w
-  wins_exchange m (S3 w k) = same m.top w
-  wins_exchange m (A1 d w) = same m.top w
-  wins_exchange m (G3 give w) = same m.free w
-  wins_exchange m (Z2 w) = same m.top w
-  wins_exchange m (Y2 w) = same m.top w
+  wins_exchange m (TakeFree put w k) = same m.free w
+  wins_exchange m (SwapTop put w) = same m.top w
+  wins_exchange m (TakeTop w k) = same m.top w
+  wins_exchange m (TakeChain d w) = same m.top w
+  wins_exchange m (GiveBack give w) = same m.free w
+  wins_exchange m (MarkTop w) = same m.top w
+  wins_exchange m (ShutTop w) = same m.top w
   wins_exchange m l = false
 
   abbrev pub wins_at : Memory T → Act T → Option (Pass T) → Bool
@@ -50,15 +50,15 @@ module _ {T : Type 0} where
 
   -- a put of one value, a take of one value, a close, a shut or a look, wherever it is
   abbrev pub IsSingle : Line T → Type 0
-  IsSingle (F1 put) = length put.values ≡ 1
-  IsSingle (F2 put w) = length put.values ≡ 1
-  IsSingle (F3 put w k) = length put.values ≡ 1
-  IsSingle (F4 put) = length put.values ≡ 1
-  IsSingle (S1 (Whole d)) = ⊥
-  IsSingle (A1 d w) = ⊥
-  IsSingle (A2 give above i) = ⊥
-  IsSingle (A3 give above i k) = ⊥
-  IsSingle (A4 give i) = ⊥
+  IsSingle (LoadFree put) = length put.values ≡ 1
+  IsSingle (LoadFreeLink put w) = length put.values ≡ 1
+  IsSingle (TakeFree put w k) = length put.values ≡ 1
+  IsSingle (LinkTaken put) = length put.values ≡ 1
+  IsSingle (LoadTopToTake (Whole d)) = ⊥
+  IsSingle (TakeChain d w) = ⊥
+  IsSingle (LoadLinkToTurn give above i) = ⊥
+  IsSingle (TurnLink give above i k) = ⊥
+  IsSingle (LoadLinkToFold give i) = ⊥
   IsSingle l = Unit {0}
 
   abbrev pub IsSingleAt : Option (Pass T) → Type 0

@@ -1,6 +1,6 @@
-use Rattle.std.proofs.Common.{◌≡◌, ℕ, ◌<◌, List, [], length, refl, sym, ap, ◌∙◌, subst, arith}
+use Rattle.std.proofs.Common.{subst}
 use Rattle.bounded_model.specs.declared.views.PassView.{PassView}
-use Rattle.treiber_stack.specs.Ranging.{IsStart, Collects}
+use Rattle.treiber_stack.specs.Ranging.{Collects}
 use Rattle.treiber_stack.proofs.Going.{begun_at_rest}
 use Rattle.treiber_stack.proofs.Filling.{range_starts}
 use Rattle.treiber_stack.proofs.stack.Stack.collect.Goals as goal

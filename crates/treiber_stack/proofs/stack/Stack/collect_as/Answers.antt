@@ -1,15 +1,15 @@
-use Rattle.std.proofs.Common.{◌≡◌, ◌≢◌, ℕ, ◌+◌, ◌<◌, ◌≤◌, List, [], ◌∷◌, ◌++◌, length, map, drop, replicate, set, get_or, slice_index_or, refl, sym, ap, ◌∙◌, subst, arith}
+use Rattle.std.proofs.Common.{◌≡◌, ℕ, ◌+◌, ◌<◌, ◌≤◌, List, ◌∷◌, length, map, drop, set, get_or, refl, sym, ap, ◌∙◌, subst, arith}
 use Rattle.treiber_stack.proofs.RangeGives.{length_some}
-use Rattle.std.specs.Prelude.{Option as Slot, Some, None, Ok, Err}
+use Rattle.std.specs.Prelude.{Option as Slot, Some, None}
 use Rattle.atomic_table.specs.Table.{rest}
 use Rattle.bounded_model.proofs.Histories.{is_nil}
 use Rattle.bounded_model.specs.declared.views.PassView.{PassView}
 use Rattle.stack_machine.specs.declared.lines.Putting.{Putting}
-use Rattle.stack_machine.specs.declared.lines.Line.TheVariants.{P1}
+use Rattle.stack_machine.specs.declared.lines.Line.TheVariants.{LoadTop}
 use Rattle.treiber_stack.specs.Operations.{IsAt, begun_in}
-use Rattle.treiber_stack.specs.Ranging.{IsStart, NotPut, Stops, TakesFree, HasNodes, IsHolding, places_from, loaded}
+use Rattle.treiber_stack.specs.Ranging.{NotPut, Stops, TakesFree, HasNodes, places_from, loaded}
 use Rattle.treiber_stack.specs.Stack.{pass_in, shape_of}
-use Rattle.treiber_stack.specs.declared.operation.Operation.TheVariants.{Look as AnyLater}
+use Rattle.treiber_stack.specs.declared.operation.Operation.TheVariants.{Underway}
 use Rattle.treiber_stack.specs.declared.stack.Pass.{Pass}
 use Rattle.treiber_stack.proofs.Filling.{more_than_none, IsFilling, fill_start, collects, holds_all, value, places_are, places_after, value_at, fills_first, may_link_node, holds_node, fills_more, any_name, stops_holding}
 use Rattle.treiber_stack.proofs.stack.Stack.collect_as.Goals.{then-count-eq0, else-count-eq0}
@@ -228,7 +228,7 @@ returns-in-Err g c vs s =
         chain = i.0.chain;
         has = subst (λ (x : ℕ). HasNodes stack vs x i.0.chain (record { first = c.loop-at.first; last = c.loop-at.last })) (sym i.2) i.0.has;
         some_node = some_yet;
-        at = subst (λ (x : ℕ). IsAt stack AnyLater q (P1 put) (loaded i.0.chain x vs)) (counted ∙ sym same) h.0;
+        at = subst (λ (x : ℕ). IsAt stack Underway q (LoadTop put) (loaded i.0.chain x vs)) (counted ∙ sym same) h.0;
       },
       i.1 ∙ ap (λ (x : ℕ). places_from x vs) (sym same),
       h.1 ∙ i.3,
@@ -247,12 +247,12 @@ returns g c vs s =
     let some_value = s.some_value in
     let same = i.2 in
     let put : Putting _ = record { values = vs; chain = i.0.chain } in
-    let at = any_name stack o AnyLater p put (loaded i.0.chain k vs) (holds_all stack o vs p k c.loop-at.first c.loop-at.last i.0 high) in (
+    let at = any_name stack o Underway p put (loaded i.0.chain k vs) (holds_all stack o vs p k c.loop-at.first c.loop-at.last i.0 high) in (
       record {
         chain = i.0.chain;
         has = subst (λ (x : ℕ). HasNodes stack vs x i.0.chain (record { first = c.loop-at.first; last = c.loop-at.last })) (sym i.2) i.0.has;
         some_node = omega arith;
-        at = subst (λ (x : ℕ). IsAt stack AnyLater p (P1 put) (loaded i.0.chain x vs)) (sym same) at;
+        at = subst (λ (x : ℕ). IsAt stack Underway p (LoadTop put) (loaded i.0.chain x vs)) (sym same) at;
       },
       i.1 ∙ ap (λ (x : ℕ). places_from x vs) (sym same),
       i.3,

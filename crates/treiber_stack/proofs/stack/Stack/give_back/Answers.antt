@@ -1,7 +1,6 @@
-use Rattle.std.proofs.Common.{◌≡◌, ℕ, ◌<◌, refl, sym, ap, ◌∙◌, subst, arith}
+use Rattle.std.proofs.Common.{◌≡◌, refl, ◌∙◌, subst, arith}
 use Rattle.bounded_model.specs.declared.views.PassView.{PassView}
 use Rattle.bounded_model.specs.Histories.{own}
-use Rattle.treiber_stack.specs.Operations.{begun_in}
 use Rattle.treiber_stack.specs.Stack.{pass_in}
 use Rattle.treiber_stack.proofs.Chained.{may_load_free, last_low, first_low, may_link_back, holds_last, may_give_all, holds_all, slots_empty, given_back, not_given, gave_since}
 use Rattle.treiber_stack.proofs.stack.Stack.give_back.Goals as goal

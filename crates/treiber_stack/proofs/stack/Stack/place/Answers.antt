@@ -1,6 +1,6 @@
-use Rattle.std.proofs.Common.{◌≡◌, ℕ, ◌<◌, ◌≤◌, false, refl, sym, ◌∙◌, subst, arith}
+use Rattle.std.proofs.Common.{ℕ, ◌<◌, refl, sym, ◌∙◌, subst, arith}
 use Rattle.bounded_model.specs.declared.views.PassView.{PassView}
-use Rattle.tagged_index.specs.Fields.{index_of, tag_of, mark_of}
+use Rattle.tagged_index.specs.Fields.{tag_of}
 use Rattle.tagged_index.specs.Limits.{tag_limit_of}
 use Rattle.treiber_stack.specs.Ranging.{Placed}
 use Rattle.treiber_stack.proofs.Placing.{may_load_top, last_below, first_below, place_closed, place_worn, may_link_top, holds_end, may_put_all, holds_them, numbers_held, bears_all, places_all, places_again}

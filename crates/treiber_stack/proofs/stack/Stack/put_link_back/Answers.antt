@@ -5,11 +5,11 @@ use Rattle.std.proofs.Common.{inl}
 use Rattle.index_list.specs.Lists.{Holds}
 use Rattle.tagged_index.specs.Fields.{fields_of}
 use Rattle.index_list.specs.Steps.{write_link}
-use Rattle.stack_machine.specs.declared.lines.Line.TheVariants.{G2, G3}
-use Rattle.treiber_stack.specs.declared.operation.Operation.TheVariants.{Look as Later}
+use Rattle.stack_machine.specs.declared.lines.Line.TheVariants.{LinkToFree, GiveBack}
+use Rattle.treiber_stack.specs.declared.operation.Operation.TheVariants.{Underway}
 use Rattle.treiber_stack.specs.Putting.{refusing}
 use Rattle.treiber_stack.proofs.Closes.{is_at, went_on}
-use Rattle.treiber_stack.proofs.Takings.{may_going, held_going, G2_goes}
+use Rattle.treiber_stack.proofs.Takings.{may_going, held_going, link_to_free_goes}
 use Rattle.treiber_stack.proofs.stack.Stack.put_link_back.Goals as goal
 
 pub link_to-requires : goal.link_to-requires
@@ -28,7 +28,7 @@ returns g c x a =
     let at = a.line in
     let t = c.args.refusal in
     let w : ℕ = c.args.free in
-    let e = G2_goes w t.index c.index.result c.index.result (refusing t) at.going c.link_to.ensures.told.did in (
-      record { line = is_at stack Later c.args.by (G2 (refusing t) (fields_of w)) ((t.index, None) ∷ []) at c.link_to.new.by c.link_to.ensures.same Later (G3 (refusing t) (fields_of w)) e; keeps = a.keeps; node = a.node },
-      went_on stack Later c.args.by (G2 (refusing t) (fields_of w)) ((t.index, None) ∷ []) at c.link_to.new.by c.link_to.ensures.same Later (G3 (refusing t) (fields_of w)) 0 (write_link t.index c.index.result) c.index.result [] e c.link_to.ensures.told,
+    let e = link_to_free_goes w t.index c.index.result c.index.result (refusing t) at.going c.link_to.ensures.told.did in (
+      record { line = is_at stack Underway c.args.by (LinkToFree (refusing t) (fields_of w)) ((t.index, None) ∷ []) at c.link_to.new.by c.link_to.ensures.same Underway (GiveBack (refusing t) (fields_of w)) e; keeps = a.keeps; node = a.node },
+      went_on stack Underway c.args.by (LinkToFree (refusing t) (fields_of w)) ((t.index, None) ∷ []) at c.link_to.new.by c.link_to.ensures.same Underway (GiveBack (refusing t) (fields_of w)) 0 (write_link t.index c.index.result) c.index.result [] e c.link_to.ensures.told,
     )

@@ -2,11 +2,11 @@ use Rattle.std.proofs.Common.{ℕ, arith, [], ◌∷◌, refl}
 use Rattle.std.specs.Prelude.{None}
 use Rattle.tagged_index.specs.Fields.{fields_of}
 use Rattle.index_list.specs.Steps.{read_top}
-use Rattle.stack_machine.specs.declared.lines.Line.TheVariants.{G1, G2}
-use Rattle.treiber_stack.specs.declared.operation.Operation.TheVariants.{Look as Later}
+use Rattle.stack_machine.specs.declared.lines.Line.TheVariants.{LoadFreeToGive, LinkToFree}
+use Rattle.treiber_stack.specs.declared.operation.Operation.TheVariants.{Underway}
 use Rattle.treiber_stack.specs.Putting.{refusing}
 use Rattle.treiber_stack.proofs.Closes.{is_at, went_on}
-use Rattle.treiber_stack.proofs.Takings.{may_going, G1_goes}
+use Rattle.treiber_stack.proofs.Takings.{may_going, load_free_to_give_goes}
 use Rattle.treiber_stack.proofs.stack.Stack.put_load_back.Goals as goal
 
 pub load-free-requires : goal.load-free-requires
@@ -20,7 +20,7 @@ returns g c x a =
     let at = a.line in
     let t = c.args.refusal in
     let w : ℕ = c.load-free.result in
-    let e = G1_goes w (refusing t) at.going c.load-free.ensures.told.did in (
-      record { line = is_at stack Later c.args.by (G1 (refusing t)) ((t.index, None) ∷ []) at c.load-free.new.by c.load-free.ensures.same Later (G2 (refusing t) (fields_of w)) e; keeps = a.keeps; node = a.node },
-      went_on stack Later c.args.by (G1 (refusing t)) ((t.index, None) ∷ []) at c.load-free.new.by c.load-free.ensures.same Later (G2 (refusing t) (fields_of w)) 0 read_top w [] e c.load-free.ensures.told,
+    let e = load_free_to_give_goes w (refusing t) at.going c.load-free.ensures.told.did in (
+      record { line = is_at stack Underway c.args.by (LoadFreeToGive (refusing t)) ((t.index, None) ∷ []) at c.load-free.new.by c.load-free.ensures.same Underway (LinkToFree (refusing t) (fields_of w)) e; keeps = a.keeps; node = a.node },
+      went_on stack Underway c.args.by (LoadFreeToGive (refusing t)) ((t.index, None) ∷ []) at c.load-free.new.by c.load-free.ensures.same Underway (LinkToFree (refusing t) (fields_of w)) 0 read_top w [] e c.load-free.ensures.told,
     )

@@ -1,4 +1,4 @@
-use Rattle.std.proofs.Common.{◌≡◌, arith, [], refl, sym, subst}
+use Rattle.std.proofs.Common.{arith, [], subst}
 use Rattle.std.specs.Prelude.{Some}
 use Rattle.tagged_index.specs.Limits.{capacity_of, tag_limit_of}
 use Rattle.tagged_index.specs.declared.limit.Limits.{Limits}

@@ -1,4 +1,4 @@
-use Rattle.std.proofs.Common.{◌≡◌, arith, [], append-nil, sym, subst}
+use Rattle.std.proofs.Common.{arith, [], append-nil, sym, subst}
 use Rattle.tagged_index.specs.Limits.{capacity_of, tag_limit_of}
 use Rattle.tagged_index.specs.declared.limit.Limits.{Limits}
 use Rattle.index_list.specs.Steps.{give_chain}

@@ -4,7 +4,7 @@ use Rattle.tagged_index.specs.Limits.{capacity_of, tag_limit_of}
 use Rattle.stack_machine.specs.Answers.{shape}
 use Rattle.machine.specs.Seats.{Looks}
 use Rattle.stack_machine.specs.declared.lines.Giving.{Giving}
-use Rattle.stack_machine.specs.declared.lines.Line.TheVariants.{G1}
+use Rattle.stack_machine.specs.declared.lines.Line.TheVariants.{LoadFreeToGive}
 use Rattle.treiber_stack.specs.Rule.{line_in}
 use Rattle.treiber_stack.proofs.stack.Stack.read_again.Given as goal
 
@@ -13,5 +13,5 @@ ghosts-load_as g a = record {
   told = λ _ me found me'.
       Looks (shape (capacity_of a.table.now.key) (tag_limit_of a.table.now.key)) me.0 me'.0
       × (me'.1 ≡ me.1)
-      × ((giving : Giving g.row.T.Denot) (before others : List ℕ) (next : ℕ) → line_in me.0 ≡ G1 giving → giving.chain ≡ before ++ a.about ∷ next ∷ others → index_of found ≡ next);
+      × ((giving : Giving g.row.T.Denot) (before others : List ℕ) (next : ℕ) → line_in me.0 ≡ LoadFreeToGive giving → giving.chain ≡ before ++ a.about ∷ next ∷ others → index_of found ≡ next);
 }

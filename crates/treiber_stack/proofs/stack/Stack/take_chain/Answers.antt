@@ -1,6 +1,4 @@
-use Rattle.std.proofs.Common.{ℕ, ◌<◌, ◌≤◌, [], refl, sym, ◌∙◌, subst, arith}
-use Rattle.tagged_index.specs.Limits.{capacity_of, tag_limit_of}
-use Rattle.tagged_index.specs.Fields.{index_of, tag_of}
+use Rattle.std.proofs.Common.{refl, ◌∙◌, subst, arith}
 use Rattle.index_list.specs.Steps.{read_top}
 use Rattle.bounded_model.specs.declared.views.PassView.{PassView}
 use Rattle.bounded_model.specs.Laws.{TakesNothing}

@@ -1,11 +1,10 @@
-use Rattle.std.proofs.Common.{◌≡◌, ◌≢◌, ℕ, ◌<◌, ◌≤◌, refl, sym, ◌∙◌, subst, arith}
+use Rattle.std.proofs.Common.{◌≡◌, ℕ, ◌<◌, refl, sym, ◌∙◌, subst, arith}
 use Rattle.bounded_model.specs.declared.views.PassView.{PassView}
 use Rattle.index_list.specs.Steps.{read_top}
 use Rattle.tagged_index.specs.Fields.{index_of, tag_of}
 use Rattle.tagged_index.specs.Limits.{capacity_of, tag_limit_of}
 use Rattle.tagged_index.specs.declared.word.TheConstants.{NULL}
-use Rattle.treiber_stack.specs.Operations.{begun_in}
-use Rattle.treiber_stack.specs.Ranging.{Stops, TakesFree}
+use Rattle.treiber_stack.specs.Ranging.{Stops}
 use Rattle.treiber_stack.specs.declared.ranging.NoNode.TheVariants.{NoneFree, Spent as NodeSpent}
 use Rattle.treiber_stack.proofs.Takings.{may_going}
 use Rattle.treiber_stack.proofs.Collecting.{null_stops, worn_stops, may_read_free, may_take_free, takes_free, tries_free_again}

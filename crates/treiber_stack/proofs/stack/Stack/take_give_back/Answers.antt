@@ -2,12 +2,12 @@ use Rattle.std.proofs.Common.{◌∙◌, arith, [], ◌∷◌, refl}
 use Rattle.std.specs.Prelude.{None, Ok}
 use Rattle.tagged_index.specs.Fields.{fields_of}
 use Rattle.index_list.specs.Steps.{give_chain}
-use Rattle.stack_machine.specs.declared.lines.Line.TheVariants.{G1, G3}
+use Rattle.stack_machine.specs.declared.lines.Line.TheVariants.{LoadFreeToGive, GiveBack}
 use Rattle.treiber_stack.specs.declared.operation.Operation.TheVariants.{Take as First}
 use Rattle.treiber_stack.specs.Operations.{IsSame}
 use Rattle.treiber_stack.specs.Taking.{giving}
 use Rattle.treiber_stack.proofs.Closes.{is_at, went_on}
-use Rattle.treiber_stack.proofs.Takings.{may_going, held_going, G3_won, G3_lost, take_gives}
+use Rattle.treiber_stack.proofs.Takings.{may_going, held_going, give_back_won, give_back_lost, take_gives}
 use Rattle.treiber_stack.proofs.stack.Stack.take_give_back.Goals as goal
 
 pub give_node-requires : goal.give_node-requires
@@ -28,10 +28,10 @@ returns g c =
     let at = c.requires.line in
     let t = c.args.taken in
     let lost = c.if-give_node.ensures.lost refl in
-    let e = G3_lost c.args.free t.index lost.1.found (giving t) lost.1.other at.going lost.1.told.did in
+    let e = give_back_lost c.args.free t.index lost.1.found (giving t) lost.1.other at.going lost.1.told.did in
     let same : IsSame c.args.by c.give_node.new.by = record { table = c.if-give_node.ensures.table; slots = lost.0 } in (
-      record { line = is_at stack First c.args.by (G3 (giving t) (fields_of c.args.free)) ((t.index, None) ∷ []) at c.give_node.new.by same First (G1 (giving t)) e; node = c.requires.node },
-      went_on stack First c.args.by (G3 (giving t) (fields_of c.args.free)) ((t.index, None) ∷ []) at c.give_node.new.by same First (G1 (giving t)) 0 (give_chain c.args.free t.index) lost.1.found [] e lost.1.told,
+      record { line = is_at stack First c.args.by (GiveBack (giving t) (fields_of c.args.free)) ((t.index, None) ∷ []) at c.give_node.new.by same First (LoadFreeToGive (giving t)) e; node = c.requires.node },
+      went_on stack First c.args.by (GiveBack (giving t) (fields_of c.args.free)) ((t.index, None) ∷ []) at c.give_node.new.by same First (LoadFreeToGive (giving t)) 0 (give_chain c.args.free t.index) lost.1.found [] e lost.1.told,
     )
 
 pub returns-then-give_node : goal.returns-then-give_node
@@ -39,6 +39,6 @@ returns-then-give_node g c =
     let at = c.requires.line in
     let t = c.args.taken in
     let won = c.if-give_node.ensures.won refl in
-    let e = G3_won c.args.free t.index (giving t) won.slots at.going won.told.did in
+    let e = give_back_won c.args.free t.index (giving t) won.slots at.going won.told.did in
     let h = take_gives (Ok (t.value, t.number)) e in
     (record { table = c.if-give_node.ensures.table ∙ at.table; view = e.0.view; slots = won.none_left; rests = e.0.rests }, h.0, h.1)

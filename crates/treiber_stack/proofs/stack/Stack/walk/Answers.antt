@@ -1,4 +1,4 @@
-use Rattle.std.proofs.Common.{◌≡◌, [], ◌∷◌, ◌++◌, refl, sym, ◌∙◌, subst, arith}
+use Rattle.std.proofs.Common.{[], ◌∷◌, ◌++◌, refl, ◌∙◌, arith}
 use Rattle.treiber_stack.proofs.Walking.{Folds_more, walk_start, index_low, count_low, front_full, may_link, walk_goes, walk_ends}
 use Rattle.treiber_stack.proofs.stack.Stack.walk.Goals as goal
 

@@ -1,0 +1,16 @@
+-- What is left may go to another thread.
+use denote.Param.Send.{IsSend, sendable}
+use Rattle.std.proofs.Crossing.{Vec-send}
+use Rattle.relay.specs.contracts.messages.Message as message
+use Rattle.treiber_stack.proofs.Crossing.{rest_send}
+<<<<<<<< HEAD:crates/program_tests/proofs/relay_tests/relay_over/Answers.antt
+use Rattle.program_tests.proofs.relay_tests.relay_over.Goals as goal
+========
+use Rattle.relay_tests.proofs.kinds.through_a_stack.Goals as goal
+>>>>>>>> main:crates/relay_tests/proofs/kinds/through_a_stack/Answers.antt
+
+message_send : IsSend message.the_row
+message_send = search (sendable, Vec-send) depth 20
+
+pub run-requires-send-C-Rest : goal.run-requires-send-C-Rest
+run-requires-send-C-Rest g c κs within = search (sendable, rest_send, message_send) depth 30

@@ -1,0 +1,4 @@
+pub mod Schedule
+pub mod Law
+pub mod Stays
+pub mod Bound
