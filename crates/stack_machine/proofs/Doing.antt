@@ -18,6 +18,7 @@ use Rattle.bounded_model.specs.Laws.{holds_of, gave_back}
 use Rattle.bounded_model.proofs.Histories.{own-append, own-mine, Later-refl, Later-cons}
 use Rattle.bounded_model.proofs.Adding.{Sometime-now, Sometime-wider}
 use Rattle.machine.specs.Words.{Tagged, same}
+use Rattle.bounded_model.specs.Bulk.{HasNoCell}
 use Rattle.stack_machine.specs.declared.lines.Putting.{Putting}
 use Rattle.stack_machine.specs.declared.lines.Giving.{Giving}
 use Rattle.stack_machine.specs.declared.lines.Direction.{Direction}
@@ -33,7 +34,7 @@ use Rattle.machine.specs.Chains.{values_in, chain_from}
 use Rattle.stack_machine.specs.Rule.{Lists, IsFine}
 use Rattle.stack_machine.specs.declared.lines.Call.{Call}
 use Rattle.stack_machine.specs.declared.lines.Call.TheVariants.{Put as CallPut, Take as CallTake, Close as CallClose, Shut as CallShut, Look as CallLook}
-use Rattle.stack_machine.specs.Deeds.{BackedOut, MakesPut, MakesNothing, Makes, IsPut, HasHeld, HasMade, HasNoNode, HasAll, PutsAll, IsAll, Deeds}
+use Rattle.stack_machine.specs.Deeds.{BackedOut, MakesPut, MakesNothing, Makes, IsPut, HasHeld, HasMade, HasAll, PutsAll, IsAll, Deeds}
 use Rattle.stack_machine.specs.Answers.{shape}
 use Rattle.machine.proofs.Ahead.{Ahead}
 use Rattle.machine.proofs.Tests.{cases, same-is}
@@ -207,7 +208,7 @@ module _ {T : Type 0} (n limit : ℕ) (p : ℕ) (call : Call T) (begun h : List 
 
   module _ (m : Memory T) where
     -- a load of FREE
-    no_node_does : (put : Putting T) (refused : Line T) → (s : At (LoadFree put)) → HasNoNode c h → (own p s.between ≡ [] → At refused) → At (no_node put refused)
+    no_node_does : (put : Putting T) (refused : Line T) → (s : At (LoadFree put)) → HasNoCell c h → (own p s.between ≡ [] → At refused) → At (no_node put refused)
     no_node_does put refused s none_free refuse = cases At (eqb (length put.chain) 0) refused (LoadTop put)
         (λ e. refuse (nothing_made put (own p s.between) s.made (eqb-true (length put.chain) 0 e)))
         (λ e. stays (LoadFree put) (LoadTop put) s s.made (inr (Sometime-now (record { more = s.between; is = s.is }) none_free)))
