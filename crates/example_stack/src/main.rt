@@ -4,7 +4,7 @@
 ghost use Rattle.std.specs.Prelude.{IfOk};
 ghost use Rattle.treiber_stack.specs.Stack.{IsPassOf};
 
-use bounded_model::{Container, MakeRefused, PutRefused, Stepped, consume_one};
+use bounded_model::{Bulk, Container, MakeRefused, PutRefused, Stepped, consume_one};
 use std::io;
 use std::process::ExitCode;
 use std::sync::Wait;
