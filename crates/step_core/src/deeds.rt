@@ -1,7 +1,9 @@
 //! What the passes of the pure machines have done when they answer.
 ghost use Rattle.std.specs.Prelude.{ℕ, ◌<◌, ◌≤◌, List};
 ghost use Rattle.tagged_index.specs.declared.word.TheConstants.{NULL};
-ghost use Rattle.step_core.specs.stack.Schedule as stack;
+ghost use Rattle.machine.specs.Schedule.{Act, run, start};
+ghost use Rattle.stack_machine.specs.declared.lines.Call.{Call};
+ghost use Rattle.stack_machine.specs.Machine.{stack};
 ghost use Rattle.stack_machine.specs.Answers.{shape};
 ghost use Rattle.step_core.specs.stack.Law.{AllDone};
 ghost use Rattle.step_core.specs.queue.Schedule as queue;
@@ -14,7 +16,8 @@ ghost use Rattle.queue_machine.specs.Answers as queue_answer;
 /// values by one exchange and gives all nodes back by one, and a refusal leaves nothing in hand. A
 /// range leaves values out only where no node could be had.
 pub fn stack_answers<T>()
-    ensures { (n limit passes : ℕ) (schedule : List (ℕ × stack.Act T)) → 0 < n → n ≤ NULL → AllDone (shape n limit) (stack.run (shape n limit) schedule (stack.start (shape n limit) passes)) }
+    ensures { (n limit passes : ℕ) (schedule : List (ℕ × Act (Call T))) → 0 < n → n ≤ NULL →
+        AllDone (shape n limit) (run (stack (shape n limit)) schedule (start (stack (shape n limit)) passes)) }
 {}
 
 /// In every schedule of a queue, each pass answers the call that its operation was begun with, and the
