@@ -13,6 +13,7 @@
 #![tactic(auto)]
 
 mod closing;
+mod giving;
 mod queue;
 mod rule;
 mod seeking;
