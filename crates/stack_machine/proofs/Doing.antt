@@ -33,6 +33,7 @@ use Rattle.machine.specs.Chains.{values_in, chain_from}
 use Rattle.stack_machine.specs.Rule.{Lists, IsFine}
 use Rattle.stack_machine.specs.Deeds.{BackedOut, Makes, HasMade, HasAll, PutsAll, IsAll, Deeds}
 use Rattle.stack_machine.specs.Answers.{shape}
+use Rattle.machine.proofs.Ahead.{Ahead}
 use Rattle.machine.proofs.Tests.{cases, same-is}
 
 -- what the words say of the history and of the values
@@ -40,12 +41,6 @@ pub record Reads {T : Type 0} (c : Shape) (m : Memory T) (h : List (Event T)) : 
   pub full : m.free.index ≡ NULL → IsFull c h
   pub spent : c.limit ≤ m.free.tag → (state c h).holds ≡ c.limit
   pub valued : length (values_in m.home (chain_from c.capacity m.link m.top.index)) ≡ length (chain_from c.capacity m.link m.top.index)
-
--- the history by now is what pass p has seen with events of others on top
-pub record Ahead {T : Type 0} (p : ℕ) (seen h : List (Event T)) : Type 0 where
-  pub rest : List (Event T)
-  pub is : h ≡ rest ++ seen
-  pub none_own : own p rest ≡ []
 
 same_count : {T : Type 0} (p k k' : ℕ) (e : Event T) → k ≡ k' → e ∷ holds_of p k ≡ e ∷ holds_of p k'
 same_count p k k' e same = ap (λ (x : ℕ). e ∷ holds_of p x) same
