@@ -168,7 +168,7 @@ module _ {T : Type 0} (n limit : ℕ) (p : ℕ) (call : Call T) (begun h : List 
       let none_made : BackedOut p (length values) (own p s.between) = backs_out (length values) (own p s.between) s.made.1 in
       cases At w.mark closed (cond (leb limit w.tag) spent full)
       (λ e. stays (LoadTopToRefuse values) closed s (of_put values (Err (PutClosed values)) (own p s.between) s.made.0 (refl, none_made)) tt)
-      (λ e. cases At (leb limit w.tag) spent full 
+      (λ e. cases At (leb limit w.tag) spent full
       (λ e. stays (LoadTopToRefuse values) spent s (of_put values (Err (PutSpent values TopWord w.tag)) (own p s.between) s.made.0 (refl, none_made)) tt)
       (λ e. stays (LoadTopToRefuse values) full s (of_put values (Err (PutFull values)) (own p s.between) s.made.0 (refl, s.made.1)) tt))
 

@@ -210,7 +210,7 @@ module _ {T : Type 0} {n limit : ℕ} {begun : PassView T} where
       subst (λ (k : Line T). Bears k i (Some x)) (sym is) (home_here (λ _. none) i (some (Some x)))
 
   backs : {v : View T (Line T)} (why : PutRefused (List T)) → length (handed_back why) ≡ 1 → Ended n limit v begun (AnswerPut (Err why)) → BacksOut begun (pass_of v) 1
-  backs why one e =
+  backs {v} why one e =
       let made = made_refusal (pass_of v).number (own (pass_of v).number e.deeds.between) e.call why e.deeds.made in
       let most = made.at_most in
       record { held = made.nodes; at_most = omega arith; adds = adds_of e (gave_back begun.number made.nodes) (made.is ∙ ap (λ (k : ℕ). gave_back k made.nodes) e.number) }
