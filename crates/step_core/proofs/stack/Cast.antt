@@ -1,5 +1,5 @@
 -- Who plays the scripts of the stack, and who and what they speak of: passes, values, calls and answers.
-use Rattle.std.proofs.Common.{ℕ, List, [], ◌∷◌, Some, Ok, Err}
+use Rattle.std.proofs.Common.{ℕ, List, [], Some, Ok, Err}
 use mathlib.Core.Option.{Option, none, some}
 use Rattle.bounded_model.specs.declared.answers.Word.TheVariants.{Free as FreeWord, Top as TopWord}
 use Rattle.bounded_model.specs.declared.answers.PutRefused.TheVariants.{Full, Closed as PutClosed, Spent as PutSpent}

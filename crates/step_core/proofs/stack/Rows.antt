@@ -1,6 +1,6 @@
 -- Worked scripts of the stack: the machine computes their replies and step counts.
 use Rattle.std.proofs.Common.{true, false, [], ◌∷◌, refl}
-use Rattle.bounded_model.specs.declared.answers.Word.TheVariants.{Free as FreeWord, Top as TopWord}
+use Rattle.bounded_model.specs.declared.answers.Word.TheVariants.{Top as TopWord}
 use Rattle.bounded_model.specs.declared.answers.TakeRefused.TheVariants.{Empty, Closed, Spent, Shut}
 use Rattle.stack_machine.specs.declared.lines.Answer.TheVariants.{Close, Shut as ShutAnswer, Look}
 use Rattle.stack_machine.specs.declared.lines.Call.TheVariants.{Close as CloseCall, Shut as ShutCall, Look as LookCall}
