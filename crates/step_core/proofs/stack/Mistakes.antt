@@ -18,7 +18,7 @@ use Rattle.stack_machine.specs.Machine.{Memory, Pass, State, Outcome, stack, ste
 use Rattle.machine.specs.Chains.{with_home, HasValues}
 use Rattle.stack_machine.specs.Answers.{shape}
 use Rattle.step_core.specs.stack.Law.{Lawful}
-use Rattle.stack_machine.proofs.Answers.{none_there}
+use Rattle.machine.proofs.OneList.{none_there}
 
 -- how a machine makes a step, in place of the stack's
 abbrev Steps : Type 0
