@@ -3,8 +3,8 @@
 ghost use Rattle.std.specs.Prelude.{◌≡◌, ◌<◌, ◌^◌, All, IfOk, IfSome, vec_len};
 ghost use Rattle.relay.specs.Rooms.{IsRoomFor, IsWorkRoom, IsOutcomeRoom, most_taken};
 
-use crate::parts::{Sender, Taker};
 use crate::threads::Room;
+use crate::workers::{Sender, Taker};
 use crate::{Message, Plan, Taken};
 use bounded_model::Container;
 use std::alloc::{AllocError, Global};

@@ -4,7 +4,7 @@ use Rattle.std.specs.Vec.Iter.{into_iter_items, into_iter_len}
 use Rattle.bounded_model.specs.Gathers.{EachFrom}
 use Rattle.relay.specs.Passes.{gave, IsNewSender}
 use Rattle.relay.proofs.Zips.{So}
-use Rattle.relay.proofs.passes.split_senders.Given as goal
+use Rattle.relay.proofs.running.split_senders.Given as goal
 
 abbrev pub invariant-loop-messages : goal.invariant-loop-messages
 invariant-loop-messages g l =

@@ -1,7 +1,7 @@
 -- What was counted, and what is still to come, is the total.
 use Rattle.std.proofs.Common.{◌≡◌, ◌+◌, ◌*◌, ◌≤◌, ◌^◌, drop}
 use Rattle.relay.specs.Promises.{total}
-use Rattle.relay.proofs.sizes.count.Given as goal
+use Rattle.relay.proofs.plan.count.Given as goal
 
 abbrev pub invariant-loop-input : goal.invariant-loop-input
 invariant-loop-input l =

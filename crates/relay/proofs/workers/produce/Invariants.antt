@@ -1,6 +1,6 @@
 use Rattle.std.proofs.Common.{◌≡◌, ◌≤◌, ◌+◌, ℕ, length, Some}
 use Rattle.relay.proofs.Working.{Producing}
-use Rattle.relay.proofs.producer.produce.Given as goal
+use Rattle.relay.proofs.workers.produce.Given as goal
 
 abbrev pub invariant-loop : goal.invariant-loop
 invariant-loop g l =

@@ -3,7 +3,7 @@ use Rattle.relay.specs.Passes.{new_pass, IsNewTaker}
 use Rattle.relay.proofs.Zips.{So_more}
 use Rattle.relay.proofs.Lists.{EachFrom_more}
 use Rattle.relay.proofs.Splitting.{gave_more_from, pass_of_split}
-use Rattle.relay.proofs.passes.split_takers.Goals as goal
+use Rattle.relay.proofs.running.split_takers.Goals as goal
 
 pub loop-taken-preserved : goal.loop-taken-preserved
 loop-taken-preserved g c =

@@ -3,7 +3,7 @@ use Rattle.relay.specs.Passes.{new_pass, IsNewSender}
 use Rattle.relay.proofs.Zips.{So_more}
 use Rattle.relay.proofs.Lists.{EachFrom_more}
 use Rattle.relay.proofs.Splitting.{gave_more, pass_of_split}
-use Rattle.relay.proofs.passes.split_senders.Goals as goal
+use Rattle.relay.proofs.running.split_senders.Goals as goal
 
 pub loop-messages-preserved : goal.loop-messages-preserved
 loop-messages-preserved g c =

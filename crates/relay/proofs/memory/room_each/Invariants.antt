@@ -1,7 +1,7 @@
 -- There is room for each consumer so far.
 use Rattle.std.proofs.Common.{◌≡◌, All, vec_len, vec_items}
 use Rattle.relay.specs.Rooms.{IsRoomFor}
-use Rattle.relay.proofs.rooms.room_each.Given as goal
+use Rattle.relay.proofs.memory.room_each.Given as goal
 
 abbrev pub invariant-loop : goal.invariant-loop
 invariant-loop l =

@@ -2,7 +2,7 @@ use Rattle.std.proofs.Common.{◌≡◌, ◌+◌, ◌≤◌, vec_len, vec_capaci
 use Rattle.relay.specs.Rooms.{most_taken}
 use Rattle.relay.specs.Workers.{moves_of}
 use Rattle.relay.proofs.Working.{Consuming, Within}
-use Rattle.relay.proofs.consumer.consume.Given as goal
+use Rattle.relay.proofs.workers.consume.Given as goal
 
 abbrev pub invariant-loop : goal.invariant-loop
 invariant-loop g l =

@@ -4,7 +4,7 @@ use Rattle.std.specs.Vec.Iter.{into_iter_items, into_iter_len}
 use Rattle.bounded_model.specs.Gathers.{EachFrom}
 use Rattle.relay.specs.Passes.{gave, IsNewTaker}
 use Rattle.relay.proofs.Zips.{So}
-use Rattle.relay.proofs.passes.split_takers.Given as goal
+use Rattle.relay.proofs.running.split_takers.Given as goal
 
 abbrev pub invariant-loop-taken : goal.invariant-loop-taken
 invariant-loop-taken g l =

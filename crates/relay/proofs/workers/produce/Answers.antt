@@ -1,7 +1,7 @@
 use Rattle.std.proofs.Common.{arith, sym, ap, ◌∙◌, length}
-use Rattle.relay.specs.declared.ends.ProducerEnd.TheVariants.{SentAll, MetClosed, MetSpent}
+use Rattle.relay.specs.declared.workers.ProducerEnd.TheVariants.{SentAll, MetClosed, MetSpent}
 use Rattle.relay.proofs.Working.{Produces_from, Produces_refused, Produces_closed, is_nil, number-from_close, from_number, once, once_by}
-use Rattle.relay.proofs.producer.produce.Goals as goal
+use Rattle.relay.proofs.workers.produce.Goals as goal
 
 pub returns-then-is_reached-clause-did : goal.returns-then-is_reached-clause-did
 returns-then-is_reached-clause-did g c =
