@@ -1,13 +1,13 @@
 -- Where a step on the way to the end of the chain leads.
 use Rattle.std.specs.Prelude.{Option as Slot}
-use Rattle.std.proofs.Common.{◌≡◌, ◌≢◌, ℕ, true, false, cond, List, [], refl, ap, ◌∙◌, subst, eq-eqb, ne_eqb}
+use Rattle.std.proofs.Common.{◌≡◌, ◌≢◌, ℕ, true, false, List, [], refl, ap, ◌∙◌, subst, eq-eqb, ne_eqb}
 use Rattle.tagged_index.specs.Fields.{fields_of, index_of, mark_of}
 use Rattle.tagged_index.specs.declared.word.TheConstants.{NULL}
 use Rattle.queue_machine.specs.declared.lines.Seeking.{Seeking}
 use Rattle.queue_machine.specs.declared.lines.Line.{Line}
 use Rattle.queue_machine.specs.declared.lines.Line.TheVariants.{LoadTail, CheckTail, SwingTail}
 use Rattle.queue_machine.specs.Machine.{is_idle, found_back, back_closed, back_null}
-use Rattle.queue_table.specs.Lines.{HasRoom, next, Says}
+use Rattle.queue_table.specs.Lines.{next, Says}
 use Rattle.queue_table.specs.declared.operation.Operation.{Operation}
 use Rattle.running.specs.Going.{Found, Steps}
 use Rattle.running.specs.declared.passes.Pass.{Pass}

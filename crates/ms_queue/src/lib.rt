@@ -13,6 +13,8 @@
 #![tactic(auto)]
 
 mod closing;
+mod giving;
+mod making;
 mod queue;
 mod rule;
 mod seeking;

@@ -1,12 +1,10 @@
-use Rattle.std.proofs.Common.{◌≡◌, ◌≢◌, ℕ, [], sym, ◌∙◌, subst}
+use Rattle.std.proofs.Common.{◌≡◌, ◌≢◌, sym, ◌∙◌, subst}
 use Rattle.tagged_index.specs.Fields.{index_of}
 use Rattle.tagged_index.specs.declared.word.TheConstants.{NULL}
-use Rattle.queue_machine.specs.declared.lines.Line.{Line}
 use Rattle.queue_table.specs.Lines.{HasRoom}
 use Rattle.ms_queue.specs.declared.seeking.Seek.TheVariants.{LoadTail, SwingTail}
 use Rattle.ms_queue.specs.declared.seeking.Sought.TheVariants.{On, Closed, End}
 use Rattle.ms_queue.specs.Queue.{limit_of}
-use Rattle.ms_queue.specs.Seeking.{led_line}
 use Rattle.ms_queue.proofs.Seeks.{led, changed, closed, ended, lags}
 use Rattle.ms_queue.proofs.queue.Queue.seek_check.Goals as goal
 
