@@ -18,6 +18,7 @@ use Rattle.stack_machine.specs.declared.lines.Call.TheVariants.{Put as PutCall, 
 use Rattle.stack_machine.specs.Answers.{shape}
 use Rattle.stack_machine.specs.Machine.{Memory, stack}
 use Rattle.machine.specs.Chains.{chain_from, values_in}
+use Rattle.step_core.proofs.Letters.{a, b, c, t, u, v, w, x, y, z}
 use Rattle.step_core.proofs.Scripts.{Player, calls, begins, steps, finish, answers, begun, again, ended, rest, Plays}
 
 -- the stack, the answer of a line, and what is left from the top down
@@ -27,38 +28,6 @@ answer l = none
 
 abbrev plays : Shape → Player (Memory ℕ) (Line ℕ) (Call ℕ) (Answer ℕ) (Event ℕ)
 plays c = record { machine = stack c; answer = answer; left = λ m. values_in m.home (chain_from c.capacity m.link m.top.index) }
-
--- passes
-abbrev a : ℕ
-a = 0
-
-abbrev b : ℕ
-b = 1
-
-abbrev c : ℕ
-c = 2
-
--- values
-abbrev t : ℕ
-t = 116
-
-abbrev u : ℕ
-u = 117
-
-abbrev v : ℕ
-v = 118
-
-abbrev w : ℕ
-w = 119
-
-abbrev x : ℕ
-x = 120
-
-abbrev y : ℕ
-y = 121
-
-abbrev z : ℕ
-z = 122
 
 -- calls
 abbrev put : ℕ → Call ℕ
