@@ -14,10 +14,16 @@
 
 mod closing;
 mod giving;
+mod looking;
 mod queue;
 mod rule;
 mod seeking;
+mod shutting;
+mod taking;
 
 pub use closing::CloseOp;
+pub use looking::LookOp;
 pub use queue::{Pass, Queue, Root};
 pub use rule::Queued;
+pub use shutting::ShutOp;
+pub use taking::TakeOp;
