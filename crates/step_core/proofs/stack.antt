@@ -3,3 +3,4 @@ pub mod Rank
 pub mod Bounded
 pub mod Rows
 pub mod Mistakes
+pub mod WrongAnswers
