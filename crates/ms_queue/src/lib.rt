@@ -15,6 +15,7 @@
 mod closing;
 mod giving;
 mod looking;
+mod making;
 mod queue;
 mod rule;
 mod seeking;
