@@ -26,14 +26,6 @@ mod rule;
 mod stack;
 mod steps;
 mod taking;
-#[cfg(test)]
-mod tests;
-#[cfg(test)]
-mod tests_folds;
-#[cfg(test)]
-mod tests_ranges;
-#[cfg(test)]
-mod tests_threads;
 
 pub use closing::{CloseOp, ShutOp};
 pub use folding::Folded;
