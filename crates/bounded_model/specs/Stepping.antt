@@ -1,5 +1,5 @@
 -- Operations that are made step by step.
-use Rattle.std.specs.Prelude.{◌≡◌, ℕ, suc}
+use Rattle.std.specs.Prelude.{◌≡◌, ◌+◌}
 use Rattle.bounded_model.specs.declared.answers.Stepped.{Stepped}
 use Rattle.bounded_model.specs.declared.answers.Stepped.TheVariants.{Again, Done}
 use Rattle.bounded_model.specs.declared.views.PassView.{PassView}
@@ -17,7 +17,7 @@ no_step v = record { begun = v; now = v }
 -- a pass has made exactly one step more, and what it has seen has only grown
 pub record OneStep {T : Type 0} (v w : PassView T) : Type 0 where
   pub number : w.number ≡ v.number
-  pub steps : w.steps ≡ suc v.steps
+  pub steps : w.steps ≡ v.steps + 1
   pub seen : Later v.seen w.seen
 
 -- an operation goes on: it was begun as before, and its pass has made one step more

@@ -1,7 +1,7 @@
-use bounded_model::{Container, TakeRefused};
+use bounded_model::{Container, Folded, TakeRefused};
 use std::test::Fail;
 use tagged_index::Limits;
-use treiber_stack::{Folded, Stack};
+use treiber_stack::Stack;
 
 type Three = (Option<char>, Option<char>, Option<char>);
 

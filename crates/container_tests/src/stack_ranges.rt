@@ -1,7 +1,7 @@
-use bounded_model::Container;
+use bounded_model::{Container, RangeRefused, Ranged};
 use std::test::Fail;
 use tagged_index::Limits;
-use treiber_stack::{RangeRefused, Ranged, Stack};
+use treiber_stack::Stack;
 
 #[test]
 fn ranges_go_in_at_once_as_far_as_nodes_can_be_had(rt: HostRuntime) -> Result<(), Fail> {

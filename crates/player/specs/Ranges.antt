@@ -2,9 +2,9 @@
 use Rattle.std.specs.Prelude.{Result, Ok, Err}
 use Rattle.script.specs.declared.answer.RangeReply.{RangeReply}
 use Rattle.script.specs.declared.answer.RangeReply.TheVariants as reply
-use Rattle.treiber_stack.specs.declared.ranging.Ranged.{Ranged}
-use Rattle.treiber_stack.specs.declared.ranging.RangeRefused.{RangeRefused}
-use Rattle.treiber_stack.specs.declared.ranging.RangeRefused.TheVariants.{Nothing, Full, Closed, Spent}
+use Rattle.bounded_model.specs.declared.bulk.Ranged.{Ranged}
+use Rattle.bounded_model.specs.declared.bulk.RangeRefused.{RangeRefused}
+use Rattle.bounded_model.specs.declared.bulk.RangeRefused.TheVariants.{Nothing, Full, Closed, Spent}
 
 abbrev pub range_reply : Result Ranged RangeRefused → RangeReply
 range_reply (Ok ranged) = reply.Put ranged.number ranged.count

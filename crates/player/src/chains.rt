@@ -5,11 +5,11 @@ ghost use Rattle.script.specs.Answering.{IsRangeReply};
 ghost use Rattle.player.specs.Ranges.{range_reply};
 ghost use Rattle.treiber_stack.specs.Stack.{IsPassOf};
 
-use bounded_model::TakeRefused;
+use bounded_model::{Folded, RangeRefused, Ranged, TakeRefused};
 use script::{RangeReply, Value, ValueList, Values};
 use std::alloc::{AllocError, Global};
 use std::sync::Wait;
-use treiber_stack::{Folded, Pass, RangeRefused, Ranged, Stack};
+use treiber_stack::{Pass, Stack};
 
 /// Puts as many of the values as there is room for by one exchange. Answers the values that were not
 /// put, too.

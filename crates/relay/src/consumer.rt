@@ -1,7 +1,8 @@
 //! What a consumer does.
 
-ghost use Rattle.std.specs.Prelude.{◌≡◌, ◌+◌, ◌<◌, ◌^◌, [], vec_capacity};
+ghost use Rattle.std.specs.Prelude.{◌≡◌, ◌+◌, ◌<◌, ◌≤◌, ◌^◌, [], vec_capacity};
 ghost use Rattle.bounded_model.specs.Histories.{own};
+ghost use Rattle.relay.specs.Rooms.{most_taken};
 ghost use Rattle.relay.specs.Workers.{Consumer, DidBy, moves_of};
 
 use crate::ends::ConsumerEnd;
@@ -26,7 +27,7 @@ pub(crate) fn consume<C: Pool, G: Gate, W: Wait>(
     requires number { (C.pass by).number ≡ orders.now.producers + consumer }
     requires few { orders.now.producers < 2 ^ 63 }
     requires new { own (C.pass by).number (C.pass by).seen ≡ [] }
-    requires room { orders.now.messages < vec_capacity room }
+    requires room { most_taken orders.now.take orders.now.messages ≤ vec_capacity room }
     requires empty { room.items ≡ [] }
     ensures of { C.is_pass container.now result.0 }
     ensures number { (C.pass result.0).number ≡ orders.now.producers + consumer }

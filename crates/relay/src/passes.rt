@@ -3,6 +3,7 @@
 ghost use Rattle.std.specs.Prelude.{◌≡◌, ◌<◌, ◌≤◌, ◌+◌, ◌^◌, All, IfSome, IfNone, vec_len, map};
 ghost use Rattle.std.specs.List.{AllZip};
 ghost use Rattle.bounded_model.specs.Gathers.{EachFrom};
+ghost use Rattle.bounded_model.specs.declared.container.TheConstants.{MAX_PASSES};
 ghost use Rattle.relay.specs.Rooms.{IsRoomFor};
 ghost use Rattle.relay.specs.Passes.{gave, IsNewSender, IsNewTaker, JoinsAll};
 
@@ -25,7 +26,7 @@ pub(crate) fn split_senders<C: Container<Message>>(
     ensures given { IfSome result (λ v. C.root root.new ≡ gave (vec_len inputs)) }
     ensures new { IfSome result (λ v. EachFrom (IsNewSender (C.is_pass container.now) C.pass) 0 v.items) }
     ensures messages { IfSome result (λ v. AllZip (λ l s. s.messages.items ≡ l.items) inputs.items v.items) }
-    ensures none { IfNone result (65535 ≤ vec_len inputs) }
+    ensures none { IfNone result (MAX_PASSES ≤ vec_len inputs) }
 {
     let mut senders = room;
     for messages in inputs {
@@ -58,7 +59,7 @@ pub(crate) fn split_takers<C: Container<Message>>(
     ensures given { IfSome result (λ v. C.root root.new ≡ gave ((C.root root.old).given + vec_len rooms)) }
     ensures new { IfSome result (λ v. EachFrom (IsNewTaker (C.is_pass container.now) C.pass (C.root root.old).given) 0 v.items) }
     ensures rooms { IfSome result (λ v. AllZip (λ l t. t.room ≡ l) rooms.items v.items) }
-    ensures none { IfNone result (65535 ≤ (C.root root.old).given + vec_len rooms) }
+    ensures none { IfNone result (MAX_PASSES ≤ (C.root root.old).given + vec_len rooms) }
 {
     let mut takers = room;
     for taken in rooms {

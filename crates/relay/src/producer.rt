@@ -14,7 +14,7 @@ use std::collections::VecDeque;
 use std::sync::Wait;
 use std::thread;
 
-/// Puts its messages in their order; answers those that were not put, and how it ended.
+/// Puts its messages in their order, and gives their memory back; answers those that were not put, and how it ended.
 pub(crate) fn produce<C: Pool, G: Gate, W: Wait>(
     rt: &W,
     container: &C,
@@ -50,7 +50,10 @@ pub(crate) fn produce<C: Pool, G: Gate, W: Wait>(
         let (back, answer) = container.put(rt, pass, message);
         pass = back;
         match answer {
-            Ok(_) => put += 1,
+            Ok(_) => {
+                put += 1;
+                rest = shrunk(rest);
+            }
             Err(PutRefused::Full(message)) => {
                 rest.push_front_reserved(message);
                 thread::yield_now();
@@ -66,4 +69,15 @@ pub(crate) fn produce<C: Pool, G: Gate, W: Wait>(
         }
     }
     unreachable!()
+}
+
+// The messages; where they fill less than half of their memory, the rest is given back.
+fn shrunk(messages: VecDeque<Message>) -> VecDeque<Message>
+    ensures { result.items ≡ messages.items }
+{
+    let mut messages = messages;
+    if messages.len() < messages.capacity() / 2 {
+        messages.shrink_to_fit();
+    }
+    messages
 }

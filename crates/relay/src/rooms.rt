@@ -1,11 +1,11 @@
 //! The memory of a relay, taken before any thread is started.
 
-ghost use Rattle.std.specs.Prelude.{◌≡◌, ◌<◌, ◌+◌, ◌^◌, All, IfOk, vec_len};
-ghost use Rattle.relay.specs.Rooms.{IsRoomFor, IsWorkRoom, IsOutcomeRoom};
+ghost use Rattle.std.specs.Prelude.{◌≡◌, ◌<◌, ◌^◌, All, IfOk, IfSome, vec_len};
+ghost use Rattle.relay.specs.Rooms.{IsRoomFor, IsWorkRoom, IsOutcomeRoom, most_taken};
 
 use crate::parts::{Sender, Taker};
 use crate::threads::Room;
-use crate::{Message, Taken};
+use crate::{Message, Plan, Taken};
 use bounded_model::Container;
 use std::alloc::{AllocError, Global};
 
@@ -79,25 +79,36 @@ impl OutcomeRoom {
     }
 }
 
-/// All the room that a relay of so many workers and messages needs. A consumer has room for one
-/// message more than there are, since it cannot know that it takes no more.
+// How many messages a consumer needs room for. It has room for one message more than there are, since
+// it cannot know that it takes no more, and for no more than its share.
+fn most_each(take: Option<u32>, messages: usize) -> Option<usize>
+    ensures { IfSome result (λ most. most ≡ most_taken take messages) }
+{
+    let all = messages.checked_add(1)?;
+    match take {
+        Some(share) => Some(all.min(share as usize)),
+        None => Some(all),
+    }
+}
+
+/// All the room that a relay of so many workers and messages needs.
 pub(crate) fn make_room<C: Container<Message>>(
     alloc: Global,
     producers: usize,
-    consumers: u32,
+    plan: &Plan,
     messages: u128,
 ) -> Result<(WorkRoom<C>, OutcomeRoom), AllocError>
     ensures fits { IfOk result (λ r. messages < 2 ^ 64) }
-    ensures work { IfOk result (λ r. IsWorkRoom producers consumers (messages + 1) r.0) }
-    ensures outcome { IfOk result (λ r. IsOutcomeRoom producers consumers messages r.1) }
+    ensures work { IfOk result (λ r. IsWorkRoom producers plan.now.consumers (most_taken plan.now.take messages) r.0) }
+    ensures outcome { IfOk result (λ r. IsOutcomeRoom producers plan.now.consumers messages r.1) }
 {
     let Ok(messages) = usize::try_from(messages) else {
         return Err(AllocError);
     };
-    let Some(most) = messages.checked_add(1) else {
+    let Some(most) = most_each(plan.take, messages) else {
         return Err(AllocError);
     };
-    let outcome = OutcomeRoom::new(alloc, producers, consumers, messages)?;
-    let work = WorkRoom::new(alloc, producers, consumers, most)?;
+    let outcome = OutcomeRoom::new(alloc, producers, plan.consumers, messages)?;
+    let work = WorkRoom::new(alloc, producers, plan.consumers, most)?;
     Ok((work, outcome))
 }

@@ -4,12 +4,13 @@ ghost use Rattle.std.specs.Prelude.{◌≡◌, ◌↔◌, ◌<◌, ◌≤◌, �
 ghost use Rattle.bounded_model.specs.Gathers.{EachFrom};
 ghost use Rattle.bounded_model.specs.Laws.{fresh};
 ghost use Rattle.relay.specs.Messages.{AreInputsFrom};
-ghost use Rattle.relay.specs.Rooms.{IsWorkRoom};
+ghost use Rattle.relay.specs.Rooms.{IsWorkRoom, most_taken};
 ghost use Rattle.relay.specs.Passes.{gave};
 ghost use Rattle.relay.specs.Parts.{DidSend, DidTake, DidClose, MayUse};
 ghost use Rattle.relay.specs.Worked.{SentAs, TookAs, ClosedAs, EachSent};
 ghost use Rattle.relay.specs.Promises.{total, IsTooSmall, Relays, LosesNothing, KeepsOrder, SendsAll, SendsFirst, LeavesNothing, NumbersRise, NumbersCount, NamesConsumers, TakesNoMore, FirstTakesNoMore, TakesShares, FirstTakesShare};
-ghost use Rattle.relay.specs.declared.faults.RelayFault.TheVariants.{TooSmall, NoPass};
+ghost use Rattle.relay.specs.declared.faults.RelayFault.TheVariants.{TooSmall, NoPass, NoThread};
+ghost use Rattle.bounded_model.specs.declared.container.TheConstants.{MAX_PASSES};
 
 use crate::merge::{drain, merge};
 use crate::orders::Orders;
@@ -38,7 +39,7 @@ fn work<C: Container<Message> + Sync, G: Gate + Sync, R: Threads + Wait + Sync>(
     requires numbered { AreInputsFrom 0 inputs.items }
     requires producers { site.now.orders.producers ≡ vec_len inputs }
     requires few { vec_len room.taken < 2 ^ 32 }
-    requires room { IsWorkRoom (vec_len inputs) (vec_len room.taken) (site.now.orders.messages + 1) room }
+    requires room { IsWorkRoom (vec_len inputs) (vec_len room.taken) (most_taken site.now.orders.take site.now.orders.messages) room }
     ensures root { C.is_root site.now.container root.new }
     ensures given { IfOk result (λ e. C.root root.new ≡ gave (vec_len inputs + vec_len room.taken + 1)) }
     ensures senders { IfOk result (λ e. EachSent (C.is_pass site.now.container) C.pass (C.shape site.now.container) site.now.orders 0 inputs.items e.sent.items) }
@@ -47,7 +48,9 @@ fn work<C: Container<Message> + Sync, G: Gate + Sync, R: Threads + Wait + Sync>(
     ensures closer { IfOk result (λ e. ClosedAs (C.is_pass site.now.container) C.pass (vec_len inputs + vec_len room.taken) e.closer e.used) }
     ensures used { IfOk result (λ e. All (MayUse e.used) e.sent.items) }
     ensures never { (result ≡ Err TooSmall) → ⊥ }
-    ensures no_pass { result ≡ Err NoPass → 65535 ≤ vec_len inputs + vec_len room.taken }
+    ensures no_pass { result ≡ Err NoPass → MAX_PASSES ≤ vec_len inputs + vec_len room.taken }
+    ensures no_thread { result ≡ Err NoThread → vec_len inputs + vec_len room.taken < MAX_PASSES }
+    ensures passes { IfOk result (λ e. vec_len inputs + vec_len room.taken < MAX_PASSES) }
 {
     let WorkRoom {
         senders,
@@ -78,8 +81,9 @@ fn work<C: Container<Message> + Sync, G: Gate + Sync, R: Threads + Wait + Sync>(
 /// the plan did not ask to stay.
 ///
 /// `TooSmall` comes exactly where some message could never be put, and is looked for first; then
-/// `NoMemory`, where there is no room for the outcome; `NoPass`, only where more than 65,535 passes
-/// would be needed; `NoThread`, where a worker's thread could not be started. A fault consumes the
+/// `NoMemory`, where there is no room for the outcome; `NoPass`, exactly where more than
+/// [`MAX_PASSES`](bounded_model::MAX_PASSES) would be needed, one for each worker and one to close;
+/// `NoThread`, where a worker's thread could not be started. A fault consumes the
 /// container and the inputs, and no worker runs on.
 pub fn run<C: Container<Message> + Sync, G: Gate + Sync, R: Threads + Wait + Sync>(
     rt: &R,
@@ -109,13 +113,15 @@ pub fn run<C: Container<Message> + Sync, G: Gate + Sync, R: Threads + Wait + Syn
     ensures first_share { IfOk result (FirstTakesShare (C.shape container) plan inputs.items) }
     ensures all { IfOk result (Relays (C.shape container) plan inputs.items) }
     ensures too_small { (result ≡ Err TooSmall) ↔ IsTooSmall plan (C.shape container).capacity (total inputs.items) }
-    ensures no_pass { result ≡ Err NoPass → 65535 ≤ length inputs.items + plan.consumers }
+    ensures no_pass { result ≡ Err NoPass → MAX_PASSES ≤ length inputs.items + plan.consumers }
+    ensures no_thread { result ≡ Err NoThread → length inputs.items + plan.consumers < MAX_PASSES }
+    ensures passes { IfOk result (λ r. length inputs.items + plan.consumers < MAX_PASSES) }
 {
     let messages = count(&inputs);
     if is_too_small(&plan, container.capacity(), messages) {
         return Err(RelayFault::TooSmall);
     }
-    let Ok(room) = make_room(alloc, inputs.len(), plan.consumers, messages) else {
+    let Ok(room) = make_room(alloc, inputs.len(), &plan, messages) else {
         return Err(RelayFault::NoMemory);
     };
     let (work_room, outcome) = room;

@@ -17,6 +17,7 @@ use Rattle.bounded_model.specs.Laws.{holds_of, gave_back}
 use Rattle.bounded_model.proofs.Histories.{own-append, own-mine, Later-refl, Later-cons}
 use Rattle.bounded_model.proofs.Adding.{Sometime-now, Sometime-wider}
 use Rattle.machine.specs.Words.{Tagged, same}
+use Rattle.bounded_model.specs.Bulk.{HasNoCell}
 use Rattle.stack_machine.specs.declared.lines.Putting.{Putting}
 use Rattle.stack_machine.specs.declared.lines.Giving.{Giving}
 use Rattle.stack_machine.specs.declared.lines.Direction.{Direction}
@@ -30,8 +31,9 @@ use Rattle.stack_machine.specs.declared.lines.Line.TheVariants.{Idle, LoadFree, 
 use Rattle.stack_machine.specs.Machine.{Memory, Outcome, step, at_load_top, at_load_top_to_refuse, at_load_top_to_take, goes_on, wins, wins_value, wins_chain, at_take_chain, after_hold, after_put, after_give, after_close, after_shut, at_take_free, refuses, takes, ends, gives, no_node, next_node, with_node, placed, unplaced}
 use Rattle.machine.specs.Chains.{values_in, chain_from}
 use Rattle.stack_machine.specs.Rule.{Lists, IsFine}
-use Rattle.stack_machine.specs.Deeds.{BackedOut, Makes, HasMade, HasNoNode, HasAll, PutsAll, IsAll, Deeds}
+use Rattle.stack_machine.specs.Deeds.{BackedOut, Makes, HasMade, HasAll, PutsAll, IsAll, Deeds}
 use Rattle.stack_machine.specs.Answers.{shape}
+use Rattle.machine.proofs.Ahead.{Ahead}
 use Rattle.machine.proofs.Tests.{cases, same-is}
 
 -- what the words say of the history and of the values
@@ -39,12 +41,6 @@ pub record Reads {T : Type 0} (c : Shape) (m : Memory T) (h : List (Event T)) : 
   pub full : m.free.index ≡ NULL → IsFull c h
   pub spent : c.limit ≤ m.free.tag → (state c h).holds ≡ c.limit
   pub valued : length (values_in m.home (chain_from c.capacity m.link m.top.index)) ≡ length (chain_from c.capacity m.link m.top.index)
-
--- the history by now is what pass p has seen with events of others on top
-pub record Ahead {T : Type 0} (p : ℕ) (seen h : List (Event T)) : Type 0 where
-  pub rest : List (Event T)
-  pub is : h ≡ rest ++ seen
-  pub none_own : own p rest ≡ []
 
 same_count : {T : Type 0} (p k k' : ℕ) (e : Event T) → k ≡ k' → e ∷ holds_of p k ≡ e ∷ holds_of p k'
 same_count p k k' e same = ap (λ (x : ℕ). e ∷ holds_of p x) same
@@ -185,7 +181,7 @@ module _ {T : Type 0} (n limit : ℕ) (p : ℕ) (begun h : List (Event T)) where
 
   module _ (m : Memory T) where
     -- a load of FREE
-    no_node_does : (put : Putting T) (refused : Line T) → (s : At (LoadFree put)) → HasNoNode c h → (own p s.between ≡ [] → At refused) → At (no_node put refused)
+    no_node_does : (put : Putting T) (refused : Line T) → (s : At (LoadFree put)) → HasNoCell c h → (own p s.between ≡ [] → At refused) → At (no_node put refused)
     no_node_does put refused s none_free refuse = cases At (eqb (length put.chain) 0) refused (LoadTop put)
         (λ e. refuse (nothing_made put (own p s.between) s.made (eqb-true (length put.chain) 0 e)))
         (λ e. stays (LoadFree put) (LoadTop put) s s.made (inr (Sometime-now (record { more = s.between; is = s.is }) none_free)))

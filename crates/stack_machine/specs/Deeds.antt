@@ -5,9 +5,10 @@ use Rattle.bounded_model.specs.declared.answers.PutRefused.{PutRefused}
 use Rattle.bounded_model.specs.declared.answers.PutRefused.TheVariants.{Full, Closed, Spent}
 use Rattle.bounded_model.specs.declared.history.Event.{Event}
 use Rattle.bounded_model.specs.declared.history.Event.TheVariants.{Put, Take, TakeAll, Free, Close, Shut}
-use Rattle.bounded_model.specs.Machine.{Shape, state}
+use Rattle.bounded_model.specs.Machine.{Shape}
 use Rattle.bounded_model.specs.Histories.{own}
-use Rattle.bounded_model.specs.Justified.{Sometime, IsFull}
+use Rattle.bounded_model.specs.Justified.{Sometime}
+use Rattle.bounded_model.specs.Bulk.{HasNoCell}
 use Rattle.bounded_model.specs.Laws.{holds_of, gave_back}
 use Rattle.stack_machine.specs.declared.lines.Putting.{Putting}
 use Rattle.stack_machine.specs.declared.lines.Answer.{Answer}
@@ -79,16 +80,12 @@ module _ {T : Type 0} where
 -- had seen as its operation was begun, and has seen by now
 
 module _ {T : Type 0} where
-  -- no node is free, or none can be taken any more
-  abbrev pub HasNoNode : Shape → List (Event T) → Type 0
-  HasNoNode c h = IsFull c h ⊎ ((state c h).holds ≡ c.limit)
-
   -- a put goes to the top with all its values, or no further node could be had
   abbrev pub HasAll : Shape → List (Event T) → List (Event T) → Putting T → Type 0
-  HasAll c begun seen put = (length put.values ≤ length put.chain) ⊎ Sometime begun seen (HasNoNode c)
+  HasAll c begun seen put = (length put.values ≤ length put.chain) ⊎ Sometime begun seen (HasNoCell c)
 
   abbrev pub PutsAll : Shape → List (Event T) → List (Event T) → Answer T → Type 0
-  PutsAll c begun seen (AnswerPut (Ok r)) = (r.1 ≡ []) ⊎ Sometime begun seen (HasNoNode c)
+  PutsAll c begun seen (AnswerPut (Ok r)) = (r.1 ≡ []) ⊎ Sometime begun seen (HasNoCell c)
   PutsAll c begun seen a = Unit {0}
 
   abbrev pub IsAll : Shape → List (Event T) → List (Event T) → Line T → Type 0

@@ -1,3 +1,4 @@
+pub mod Scripts
 pub mod list
 pub mod stack
 pub mod queue

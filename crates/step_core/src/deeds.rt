@@ -1,12 +1,11 @@
 //! What the passes of the pure machines have done when they answer.
 ghost use Rattle.std.specs.Prelude.{ℕ, ◌<◌, ◌≤◌, List};
 ghost use Rattle.tagged_index.specs.declared.word.TheConstants.{NULL};
-ghost use Rattle.step_core.specs.stack.Schedule as stack;
+ghost use Rattle.machine.specs.Schedule.{Act, run, start};
+ghost use Rattle.stack_machine.specs.declared.lines.Call.{Call};
+ghost use Rattle.stack_machine.specs.Machine.{stack};
 ghost use Rattle.stack_machine.specs.Answers.{shape};
 ghost use Rattle.step_core.specs.stack.Law.{AllDone};
-ghost use Rattle.step_core.specs.queue.Schedule as queue;
-ghost use Rattle.step_core.specs.queue.Law as queue_law;
-ghost use Rattle.queue_machine.specs.Answers as queue_answer;
 
 /// In every schedule of a stack, the events that a pass adds from the begin of an operation to its
 /// answer are exactly those that the answer speaks of: a put takes one node for each value and puts
@@ -14,13 +13,6 @@ ghost use Rattle.queue_machine.specs.Answers as queue_answer;
 /// values by one exchange and gives all nodes back by one, and a refusal leaves nothing in hand. A
 /// range leaves values out only where no node could be had.
 pub fn stack_answers<T>()
-    ensures { (n limit passes : ℕ) (schedule : List (ℕ × stack.Act T)) → 0 < n → n ≤ NULL → AllDone (shape n limit) (stack.run (shape n limit) schedule (stack.start (shape n limit) passes)) }
-{}
-
-/// In every schedule of a queue, each pass answers the call that its operation was begun with, and the
-/// events that it adds from the begin to the answer are exactly those that the answer speaks of: a put
-/// takes one cell and puts the call's value, a take takes one value and gives its cell back, a refused
-/// put hands back the call's value, and a refusal leaves nothing in hand.
-pub fn queue_answers<T>()
-    ensures { (n limit passes : ℕ) (schedule : List (ℕ × queue.Act T)) → 0 < n → n < NULL → 0 < limit → queue_law.AllDone (queue.run (queue_answer.shape n limit) schedule (queue.start (queue_answer.shape n limit) passes)) }
+    ensures { (n limit passes : ℕ) (schedule : List (ℕ × Act (Call T))) → 0 < n → n ≤ NULL →
+        AllDone (shape n limit) (run (stack (shape n limit)) schedule (start (stack (shape n limit)) passes)) }
 {}

@@ -8,7 +8,9 @@
 mod bounds;
 mod deeds;
 mod laws;
+mod queue_laws;
 
-pub use bounds::{queue_bound, stack_bound};
-pub use deeds::{queue_answers, stack_answers};
-pub use laws::{list_core, queue_core, stack_core};
+pub use bounds::stack_bound;
+pub use deeds::stack_answers;
+pub use laws::{list_core, stack_core};
+pub use queue_laws::{queue_answers, queue_bound, queue_core};

@@ -27,7 +27,7 @@ use Rattle.treiber_stack.specs.Stack.{IsPassOf, pass_in, shape_of}
 use Rattle.treiber_stack.specs.declared.operation.Operation.{Operation}
 use Rattle.treiber_stack.specs.declared.operation.Operation.TheVariants.{Underway}
 use Rattle.treiber_stack.specs.declared.ranging.NoNode.TheVariants.{NoneFree, Spent as NodeSpent}
-use Rattle.treiber_stack.specs.declared.ranging.RangeRefused.TheVariants.{Full, Closed, Spent}
+use Rattle.bounded_model.specs.declared.bulk.RangeRefused.TheVariants.{Full, Closed, Spent}
 use Rattle.treiber_stack.specs.declared.stack.Stack.{Stack}
 use Rattle.treiber_stack.specs.declared.stack.Pass.{Pass}
 use Rattle.treiber_stack.proofs.Going.{begun_going, adds_of}

@@ -21,7 +21,8 @@ use Rattle.treiber_stack.specs.KeepsMemory.{same_or_not, times_holds}
 use Rattle.treiber_stack.specs.Operations.{IsAt, IsSame, Going, Told, begun_in}
 use Rattle.treiber_stack.specs.Ranging.{loaded, places_from, linking, Stops, IsCollecting, IsStart, HasNodes}
 use Rattle.treiber_stack.specs.Rule.{line_in}
-use Rattle.treiber_stack.specs.Places.{somes, values_of}
+use Rattle.bounded_model.specs.Bulk.{somes}
+use Rattle.treiber_stack.specs.Places.{values_of}
 use Rattle.treiber_stack.specs.Stack.{IsPassOf}
 use Rattle.treiber_stack.specs.Host.{first_line, line_now}
 use Rattle.treiber_stack.specs.declared.operation.Listed.{Listed}

@@ -1,11 +1,12 @@
 -- How an operation goes on by what a step tells.
-use Rattle.std.proofs.Common.{◌≡◌, ℕ, ◌<◌, ◌≤◌, false, List, [], ◌++◌, refl, sym, ap, ◌∙◌, subst, append_assoc, arith}
+use Rattle.std.proofs.Common.{◌≡◌, ℕ, ◌+◌, ◌<◌, ◌≤◌, false, List, [], ◌++◌, refl, sym, ap, ◌∙◌, subst, append_assoc, arith}
 use Rattle.std.proofs.lemmas.Bool.{false≢true}
 use Rattle.std.specs.Prelude.{Option as Slot, Some}
 use Rattle.bounded_model.specs.declared.history.Event.{Event}
 use Rattle.bounded_model.specs.declared.views.PassView.{PassView}
 use Rattle.bounded_model.specs.Histories.{Later, own}
 use Rattle.bounded_model.specs.Laws.{IsAtRest, Adds}
+use Rattle.bounded_model.specs.Stepping.{OneStep}
 use Rattle.bounded_model.proofs.Histories.{own-between, Later-refl, Later-trans}
 use Rattle.index_list.specs.Steps.{Kind}
 use Rattle.stack_machine.specs.declared.lines.Answer.{Answer}
@@ -76,6 +77,16 @@ module _ {T : Type 0} where
     out_is : d.out ≡ step (shape n limit) d.memory (pass_of v).number l
     out_is = d.steps ∙ (λ k. step (shape n limit) d.memory (sym mine k).number (same_now k))
 
+    one : OneStep (pass_of v) (pass_of v')
+    one =
+        let now : pass_of v' ≡ stepped newer d.pass = ap pass_of d.becomes in
+        let after : Later d.pass.seen newer = Later-trans d.saw.seen (record { more = d.out.events; is = refl }) in
+        record {
+          number = ap (λ (p : PassView T). p.number) now ∙ ap (λ (p : PassView T). p.number) (sym mine);
+          steps = ap (λ (p : PassView T). p.steps) now ∙ ap (λ (p : PassView T). p.steps + 1) (sym mine);
+          seen = subst (λ (p : PassView T). Later p.seen (pass_of v').seen) (sym mine) (subst (λ (p : PassView T). Later d.pass.seen p.seen) (sym now) after);
+        }
+
     line_so : (l' : Line T) → d.out.line ≡ l' → IsLine n limit v v' l l'
     line_so l' e = record {
       memory = d.memory;
@@ -84,6 +95,7 @@ module _ {T : Type 0} where
       saw = subst (λ (p : PassView T). Saw d.history p) (sym mine) d.saw;
       seen = ap (λ (x : View T (Line T)). (pass_of x).seen) d.becomes ∙ ap (λ (x : Outcome T). x.events ++ d.history) out_is;
       leads = ap (λ (x : Outcome T). x.line) (sym out_is) ∙ e;
+      one = one;
     }
 
     goes_so : (o' : Operation T) (l' : Line T) → d.out.line ≡ l' → is_idle l' ≡ false → Going n limit o' v' begun l'

@@ -22,3 +22,4 @@ pub mod Restoring
 pub mod Filling
 pub mod RangeGives
 pub mod Running
+pub mod Stepping

@@ -35,7 +35,7 @@ use Rattle.treiber_stack.specs.declared.operation.Operation.{Operation}
 use Rattle.treiber_stack.specs.declared.operation.Listed.TheVariants.{End, More'}
 use Rattle.treiber_stack.specs.declared.operation.Operation.TheVariants.{Put as PutFirst, Take as TakeFirst, Close as CloseFirst, Shut as ShutFirst, Look as LookFirst, Fold as FoldFirst, Range as RangeFirst, Underway}
 use Rattle.treiber_stack.specs.declared.ranging.Held.{Held}
-use Rattle.treiber_stack.specs.declared.ranging.RangeRefused.{RangeRefused}
+use Rattle.bounded_model.specs.declared.bulk.RangeRefused.{RangeRefused}
 use Rattle.treiber_stack.specs.declared.stack.Stack.{Stack}
 use Rattle.treiber_stack.specs.declared.stack.Pass.{Pass}
 use Rattle.treiber_stack.proofs.Going.{begun_going}

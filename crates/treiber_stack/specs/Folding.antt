@@ -1,4 +1,4 @@
--- Folds: what they promise, and where a pass stands in one.
+-- Folds: where a pass stands in one.
 use Rattle.std.specs.Prelude.{◌≡◌, ◌≢◌, ℕ, ◌<◌, ◌≤◌, false, List, [], ◌∷◌, ◌++◌, length, reverse, Option as Slot, Some, Result, Ok, Err}
 use Rattle.tagged_index.specs.Fields.{fields_of, index_of, tag_of, second_of}
 use Rattle.tagged_index.specs.Limits.{capacity_of, tag_limit_of}
@@ -24,26 +24,17 @@ use Rattle.treiber_stack.specs.Host.{direction}
 use Rattle.treiber_stack.specs.Operations.{IsAt, Ended, begun_in, vacant}
 use Rattle.treiber_stack.specs.Stack.{shape_of, pass_in, IsPassOf}
 use Rattle.treiber_stack.specs.declared.folding.Chain.{Chain}
-use Rattle.treiber_stack.specs.declared.folding.Folded.{Folded}
+use Rattle.bounded_model.specs.declared.bulk.Folded.{Folded}
 use Rattle.treiber_stack.specs.declared.folding.Walked.{Walked}
 use Rattle.treiber_stack.specs.declared.operation.Operation.{Operation}
 use Rattle.treiber_stack.specs.declared.operation.Operation.TheVariants.{Underway}
 use Rattle.treiber_stack.specs.declared.stack.Stack.{Stack}
 use Rattle.treiber_stack.specs.declared.stack.Pass.{Pass}
 
--- What a fold promises
-
 -- values in the order of a fold; they stand from the top down
 abbrev pub in_order : {T : Type 0} → Front → List T → List T
 in_order First values = values
 in_order Last values = reverse values
-
--- An accepted fold has taken some values by one exchange and given back their nodes by another, and
--- f made t of s and them, one after another; `Gives s x t` says that f may answer t on s and x. A
--- refused one has done nothing
-abbrev pub FoldsAll : {T S : Type 0} → Shape → Front → (S → T → S → Type 0) → PassView T → S → PassView T → S → Result Folded TakeRefused → Type 0
-FoldsAll {T} c front Gives v s w t (Ok r) = (values : List T) × FoldGives v w values r.number × (r.count ≡ length values) × Folds Gives s (in_order front values) t
-FoldsAll c front Gives v s w t (Err why) = TakesNothing c v w why × (t ≡ s)
 
 -- Where a pass stands in one
 

@@ -25,7 +25,8 @@ use Rattle.machine.proofs.Seating.{seated_step}
 use Rattle.stack_machine.proofs.Moves.{Kept, good_goes}
 use Rattle.stack_machine.proofs.Step.{step_kept}
 use Rattle.stack_machine.proofs.Tells.{tells_kept, step_apart}
-use Rattle.stack_machine.proofs.Doing.{Ahead, meanwhile, step_does}
+use Rattle.stack_machine.proofs.Doing.{meanwhile, step_does}
+use Rattle.machine.proofs.Ahead.{Ahead}
 use Rattle.stack_machine.proofs.Start.{reads_good}
 use Rattle.treiber_stack.specs.declared.operation.Operation.{Operation}
 use Rattle.treiber_stack.specs.declared.operation.Listed.TheVariants.{End, More'}

@@ -5,6 +5,7 @@ use Rattle.bounded_model.specs.declared.history.Event.{Event}
 use Rattle.bounded_model.specs.declared.views.PassView.{PassView}
 use Rattle.bounded_model.specs.Histories.{Later}
 use Rattle.bounded_model.specs.Laws.{IsAtRest}
+use Rattle.bounded_model.specs.Stepping.{Underway, OneStep}
 use Rattle.stack_machine.specs.declared.lines.Answer.{Answer}
 use Rattle.stack_machine.specs.declared.lines.Line.{Line}
 use Rattle.stack_machine.specs.declared.lines.Line.TheVariants.{Idle}
@@ -51,7 +52,7 @@ module _ {T : Type 0} where
     pub tells : Tells n limit begun.seen (pass_of v).seen (Idle (Some a))
 
   -- A step of a pass, whose view was v and is v', was the core's step of the line l, from a memory and a history that meet the core's rule, and led to l'.
-  -- The pass has now seen that history with the step's events on top
+  -- The pass has now seen that history with the step's events on top, and made one step more
   pub record IsLine (n limit : ℕ) (v v' : View T (Line T)) (l l' : Line T) : Type 0 where
     pub memory : Memory T
     pub history : List (Event T)
@@ -59,6 +60,7 @@ module _ {T : Type 0} where
     pub saw : Saw history (pass_of v)
     pub seen : (pass_of v').seen ≡ (step (shape n limit) memory (pass_of v).number l).events ++ history
     pub leads : (step (shape n limit) memory (pass_of v).number l).line ≡ l'
+    pub one : OneStep (pass_of v) (pass_of v')
 
   -- an operation that was at l goes on at l', or answers
   abbrev pub Goes : (n limit : ℕ) (o : Operation T) (v v' : View T (Line T)) (begun : PassView T) (l l' : Line T) → Type 0
@@ -74,6 +76,10 @@ module _ {T : Type 0} where
 
   abbrev pub begun_in : Pass T → PassView T
   begun_in p = begun_view p.seat.me.0
+
+  -- the operation that it is in
+  abbrev pub underway_in : Pass T → Underway T
+  underway_in p = record { begun = begun_in p; now = pass_of p.seat.me.0 }
 
   -- a step of a pass of this stack was the core's
   abbrev pub IsLineOf : Stack T → Pass T → Pass T → Line T → Line T → Type 0

@@ -4,12 +4,7 @@ use Rattle.treiber_stack.specs.declared.operation.Listed.{Listed}
 use Rattle.treiber_stack.specs.declared.operation.Listed.TheVariants.{End, More'}
 
 module _ {T : Type 0} where
-  abbrev pub somes : List (Slot T) → List T
-  somes [] = []
-  somes (None ∷ places) = somes places
-  somes (Some v ∷ places) = v ∷ somes places
-
-  -- those that a listing shows
+  -- the values that a listing shows
   abbrev pub values_of : Listed T → List T
   values_of End = []
   values_of (More' v marker others) = v.value ∷ values_of others

@@ -35,7 +35,9 @@ impl<T> Stack<T> {
     #[inline]
     pub fn begin_close(&self, by: Pass<T>) -> CloseOp<T>
         requires { IsPassOf self.now by }
-        ensures { IsClosing self.now result × (begun_in result.pass ≡ pass_in by) }
+        ensures close { IsClosing self.now result }
+        ensures begun { begun_in result.pass ≡ pass_in by }
+        ensures now { pass_in result.pass ≡ pass_in by }
     {
         CloseOp {
             pass: by,
@@ -47,7 +49,9 @@ impl<T> Stack<T> {
     #[inline]
     pub fn begin_shut(&self, by: Pass<T>) -> ShutOp<T>
         requires { IsPassOf self.now by }
-        ensures { IsShutting self.now result × (begun_in result.pass ≡ pass_in by) }
+        ensures shut { IsShutting self.now result }
+        ensures begun { begun_in result.pass ≡ pass_in by }
+        ensures now { pass_in result.pass ≡ pass_in by }
     {
         ShutOp {
             pass: by,

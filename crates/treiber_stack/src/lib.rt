@@ -11,6 +11,7 @@
 //! by step, or by a whole call, which retries while others interfere.
 #![tactic(auto)]
 
+mod bulk;
 mod closing;
 mod container;
 mod folding;
@@ -25,12 +26,12 @@ mod rest;
 mod rule;
 mod stack;
 mod steps;
+mod stepwise;
 mod taking;
 
 pub use closing::{CloseOp, ShutOp};
-pub use folding::Folded;
 pub use putting::PutOp;
-pub use ranging::{RangeRefused, Ranged};
 pub use rest::Rest;
 pub use stack::{Pass, Root, Stack};
+pub use stepwise::LookOp;
 pub use taking::TakeOp;

@@ -63,7 +63,9 @@ impl<T> Stack<T> {
     #[inline]
     pub fn begin_put(&self, by: Pass<T>, value: T) -> PutOp<T>
         requires { IsPassOf self.now by }
-        ensures { IsPutting self.now value result × (begun_in result.pass ≡ pass_in by) }
+        ensures put { IsPutting self.now value result }
+        ensures begun { begun_in result.pass ≡ pass_in by }
+        ensures now { pass_in result.pass ≡ pass_in by }
     {
         PutOp {
             pass: by,

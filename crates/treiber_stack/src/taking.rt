@@ -52,7 +52,9 @@ impl<T> Stack<T> {
     #[inline]
     pub fn begin_take(&self, by: Pass<T>) -> TakeOp<T>
         requires { IsPassOf self.now by }
-        ensures { IsTaking self.now result × (begun_in result.pass ≡ pass_in by) }
+        ensures take { IsTaking self.now result }
+        ensures begun { begun_in result.pass ≡ pass_in by }
+        ensures now { pass_in result.pass ≡ pass_in by }
     {
         TakeOp {
             pass: by,

@@ -1,8 +1,7 @@
 -- Machines that are nearly the queue's, and for each a schedule in which it breaks the law.
 use Rattle.std.proofs.Common.{◌≡◌, ℕ, ◌+◌, if◌then◌else◌, ◌==◌, true, List, [], ◌∷◌, ◌++◌, map, replicate, length, refl, sym, ap, arith}
 use Rattle.std.proofs.lemmas.Bool.{false≢true}
-use mathlib.Core.Option.{Option, none, some}
-use lib.ListN.{get_elem?}
+use mathlib.Core.Option.{some}
 use Rattle.tagged_index.specs.declared.word.TheConstants.{NULL}
 use Rattle.bounded_model.specs.declared.history.Event.{Event}
 use Rattle.bounded_model.specs.declared.history.Event.TheVariants.{Hold, Put, Take, Free, Close, Shut}
@@ -14,9 +13,10 @@ use Rattle.queue_machine.specs.declared.lines.Giving.{Giving}
 use Rattle.queue_machine.specs.declared.lines.Answer.TheVariants.{Close as AnswerClose, Shut as AnswerShut}
 use Rattle.queue_machine.specs.declared.lines.Line.{Line}
 use Rattle.queue_machine.specs.declared.lines.Line.TheVariants.{LoadCells, TakeCell, CheckTail, LinkToNodes, LoadCellsToGive, LinkToCells, GiveCell, LoadNodes, TakeNode, StoreCell, PrepareNext, LoadTail, MarkNext, LoadHead, CheckHead, SwingTailToTake, LoadCell, TakeHead, LoadNodesToGive, GiveNode, ShutHead}
+use Rattle.queue_machine.specs.declared.lines.Call.{Call}
 use Rattle.queue_machine.specs.declared.lines.Call.TheVariants.{Put as CallPut, Take as CallTake, Close as CallClose, Shut as CallShut}
-use Rattle.step_core.specs.queue.Schedule.{Pass, State, Act, Begin, Step, begun, stepped, start}
-use Rattle.queue_machine.specs.Machine.{Memory, Outcome, step, held_cells, held_nodes, found_back, frees, after_free, after_clink, after_nlink, is_idle, goes_on, wins, wins_value, null_word, with_cell, with_node, after_node_give, after_next, after_take, ends, next_of}
+use Rattle.machine.specs.Schedule.{Act, Begin, Step, run, start}
+use Rattle.queue_machine.specs.Machine.{Memory, Pass, State, Outcome, queue, step, held_cells, held_nodes, found_back, frees, after_free, after_clink, after_nlink, goes_on, wins, wins_value, null_word, with_cell, with_node, after_node_give, after_next, after_take, ends, next_of}
 use Rattle.queue_machine.specs.Answers.{shape}
 use Rattle.step_core.specs.queue.Law.{Lawful}
 
@@ -24,27 +24,25 @@ use Rattle.step_core.specs.queue.Law.{Lawful}
 abbrev Steps : Type 0
 Steps = Memory ℕ → ℕ → Line ℕ → Outcome ℕ
 
-abbrev does : Steps → State ℕ → ℕ → Act ℕ → Option (Pass ℕ) → State ℕ
-does makes s p a none = s
-does makes s p (Begin call) (some v) = if is_idle v.line then begun s p v call else s
-does makes s p Step (some v) = if is_idle v.line then s else stepped s p v (makes s.memory p v.line)
+abbrev Acts : Type 0
+Acts = List (ℕ × Act (Call ℕ))
 
-abbrev runs : Steps → List (ℕ × Act ℕ) → State ℕ → State ℕ
-runs makes [] s = s
-runs makes (a ∷ more) s = runs makes more (does makes s a.0 a.1 (get_elem? s.passes a.0))
+-- the queue's machine but for its steps
+abbrev runs : Steps → Acts → State ℕ → State ℕ
+runs makes schedule s = run (record (queue (shape 1 15)) { step = makes }) schedule s
 
 -- the machine starts with so many cells and passes
 abbrev first_state : ℕ → ℕ → State ℕ
-first_state n passes = start (shape n 15) passes
+first_state n passes = start (queue (shape n 15)) passes
 
 -- so many steps of a pass
-abbrev steps : ℕ → ℕ → List (ℕ × Act ℕ)
+abbrev steps : ℕ → ℕ → Acts
 steps p k = replicate k (p, Step)
 
-abbrev puts : ℕ → ℕ → List (ℕ × Act ℕ)
+abbrev puts : ℕ → ℕ → Acts
 puts p v = (p, Begin (CallPut v)) ∷ []
 
-abbrev takes : ℕ → List (ℕ × Act ℕ)
+abbrev takes : ℕ → Acts
 takes p = (p, Begin CallTake) ∷ []
 
 -- two hands hold what may be in one place

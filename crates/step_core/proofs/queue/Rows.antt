@@ -1,83 +1,15 @@
 -- Worked scripts of the queue: the machine computes their replies and step counts.
-use Rattle.std.proofs.Common.{◌≡◌, ℕ, List, drop, map, replicate, true, false, [], ◌∷◌, refl, Ok, Err}
-use Rattle.bounded_model.specs.declared.answers.Word.TheVariants.{Cells as CellsWord, Next as NextWord}
-use Rattle.bounded_model.specs.declared.answers.PutRefused.TheVariants.{Full, Closed as PutClosed, Spent as PutSpent}
-use Rattle.bounded_model.specs.declared.answers.TakeRefused.{TakeRefused}
+use Rattle.std.proofs.Common.{◌≡◌, ℕ, List, drop, map, replicate, true, false, [], ◌∷◌, refl}
 use Rattle.bounded_model.specs.declared.answers.TakeRefused.TheVariants.{Empty, Closed, Shut}
-use Rattle.bounded_model.specs.declared.history.Order.TheVariants.{Fifo}
-use Rattle.bounded_model.specs.Machine.{Shape}
 use Rattle.queue_machine.specs.declared.lines.Answer.{Answer}
-use Rattle.queue_machine.specs.declared.lines.Answer.TheVariants.{Put, Take, Close, Shut as ShutAnswer, Look}
-use Rattle.queue_machine.specs.declared.lines.Call.{Call}
-use Rattle.queue_machine.specs.declared.lines.Call.TheVariants.{Put as PutCall, Take as TakeCall, Close as CloseCall, Shut as ShutCall, Look as LookCall}
-use Rattle.step_core.proofs.queue.Scripts.{Reply, curtain, replies, calls, begins, steps, finish, answers, begun, again, ended, rest, Plays}
-
--- passes
-abbrev a : ℕ
-a = 0
-
-abbrev b : ℕ
-b = 1
-
-abbrev c : ℕ
-c = 2
-
--- values
-abbrev t : ℕ
-t = 116
-
-abbrev u : ℕ
-u = 117
-
-abbrev v : ℕ
-v = 118
-
-abbrev w : ℕ
-w = 119
-
-abbrev x : ℕ
-x = 120
-
-abbrev y : ℕ
-y = 121
-
-abbrev z : ℕ
-z = 122
-
--- calls
-abbrev put : ℕ → Call ℕ
-put value = PutCall value
-
-abbrev take : Call ℕ
-take = TakeCall
-
--- answers
-abbrev put_is : ℕ → Answer ℕ
-put_is n = Put (Ok n)
-
-abbrev full : ℕ → Answer ℕ
-full value = Put (Err (Full value))
-
-abbrev put_closed : ℕ → Answer ℕ
-put_closed value = Put (Err (PutClosed value))
-
-abbrev cells_spent : ℕ → ℕ → Answer ℕ
-cells_spent tag value = Put (Err (PutSpent value CellsWord tag))
-
-abbrev next_spent : ℕ → ℕ → ℕ → Answer ℕ
-next_spent node tag value = Put (Err (PutSpent value (NextWord node) tag))
-
-abbrev take_is : ℕ → ℕ → Answer ℕ
-take_is n value = Take (Ok (value, n))
-
-abbrev no_take : TakeRefused → Answer ℕ
-no_take why = Take (Err why)
-
-abbrev shape : ℕ → ℕ → Shape
-shape n limit = record { order = Fifo; capacity = n; limit = limit }
+use Rattle.queue_machine.specs.declared.lines.Answer.TheVariants.{Close, Shut as ShutAnswer, Look}
+use Rattle.queue_machine.specs.declared.lines.Call.TheVariants.{Close as CloseCall, Shut as ShutCall, Look as LookCall}
+use Rattle.step_core.proofs.Scripts.{Reply, curtain, replies, calls, begins, steps, finish, answers, begun, again, ended, rest, Plays}
+use Rattle.queue_machine.specs.Answers.{shape}
+use Rattle.step_core.proofs.queue.Cast.{plays, a, b, c, u, v, w, x, y, z, put, take, put_is, full, put_closed, cells_spent, next_spent, take_is, no_take}
 
 -- one cell
-smallest : Plays (shape 1 7)
+smallest : Plays (plays (shape 1 7))
     ((calls a (put x), answers (put_is 0))
     ∷ (calls a (put y), answers (full y))
     ∷ (calls a take, answers (take_is 0 x))
@@ -87,7 +19,7 @@ smallest : Plays (shape 1 7)
 smallest = refl
 
 -- how many steps a put and a take make alone
-alone : Plays (shape 2 7)
+alone : Plays (plays (shape 2 7))
     ((begins a (put x), begun)
     ∷ (steps a 13, again 13)
     ∷ (steps a 1, ended (put_is 0) 14)
@@ -98,7 +30,7 @@ alone : Plays (shape 2 7)
 alone = refl
 
 -- a full put, an empty take, look, close, shut
-alone_refused : Plays (shape 1 15)
+alone_refused : Plays (plays (shape 1 15))
     ((begins a take, begun)
     ∷ (steps a 40, ended (no_take Empty) 4)
     ∷ (calls a (put x), answers (put_is 0))
@@ -114,7 +46,7 @@ alone_refused : Plays (shape 1 15)
 alone_refused = refl
 
 -- full, although no value is there: a put holds the cell
-full_and_empty : Plays (shape 1 7)
+full_and_empty : Plays (plays (shape 1 7))
     ((begins a (put x), begun)
     ∷ (steps a 3, again 3)
     ∷ (calls b (put y), answers (full y))
@@ -124,7 +56,7 @@ full_and_empty : Plays (shape 1 7)
 full_and_empty = refl
 
 -- a take moves the tail that a put left behind
-helped : Plays (shape 2 7)
+helped : Plays (plays (shape 2 7))
     ((begins a (put x), begun)
     ∷ (steps a 13, again 13)
     ∷ (begins b take, begun)
@@ -134,7 +66,7 @@ helped : Plays (shape 2 7)
 helped = refl
 
 -- a take holds its cell until it gives it back
-taker_holds : Plays (shape 1 7)
+taker_holds : Plays (plays (shape 1 7))
     ((calls a (put x), answers (put_is 0))
     ∷ (begins a take, begun)
     ∷ (steps a 6, again 6)
@@ -146,7 +78,7 @@ taker_holds : Plays (shape 1 7)
 taker_holds = refl
 
 -- closed comes before full
-closed_before_full : Plays (shape 1 7)
+closed_before_full : Plays (plays (shape 1 7))
     ((calls a (put x), answers (put_is 0))
     ∷ (calls a CloseCall, answers (Close true))
     ∷ (calls a (put y), answers (put_closed y))
@@ -159,7 +91,7 @@ closed_before_full : Plays (shape 1 7)
 closed_before_full = refl
 
 -- a close overtakes a put that is about to link its node
-overtaken : Plays (shape 2 7)
+overtaken : Plays (plays (shape 2 7))
     ((begins a (put x), begun)
     ∷ (steps a 12, again 12)
     ∷ (calls b CloseCall, answers (Close true))
@@ -171,7 +103,7 @@ overtaken : Plays (shape 2 7)
 overtaken = refl
 
 -- the tag of the free cells at the limit
-cells_worn : Plays (shape 4 2)
+cells_worn : Plays (plays (shape 4 2))
     ((calls a (put x), answers (put_is 0))
     ∷ (calls a (put y), answers (put_is 1))
     ∷ (begins a (put z), begun)
@@ -183,7 +115,7 @@ cells_worn : Plays (shape 4 2)
 cells_worn = refl
 
 -- the tag of a link near the limit
-next_worn : Plays (shape 1 3)
+next_worn : Plays (plays (shape 1 3))
     ((calls a (put v), answers (put_is 0))
     ∷ (calls a take, answers (take_is 0 v))
     ∷ (calls a (put w), answers (put_is 1))
@@ -195,7 +127,7 @@ next_worn : Plays (shape 1 3)
 next_worn = refl
 
 -- what is left
-left_over : Plays (shape 3 7)
+left_over : Plays (plays (shape 3 7))
     ((calls a (put x), answers (put_is 0))
     ∷ (calls a (put y), answers (put_is 1))
     ∷ (calls a (put z), answers (put_is 2))
@@ -205,7 +137,7 @@ left_over : Plays (shape 3 7)
 left_over = refl
 
 -- a put that stops after its link has put its value
-stopped_after_link : Plays (shape 2 7)
+stopped_after_link : Plays (plays (shape 2 7))
     ((calls a (put x), answers (put_is 0))
     ∷ (begins b (put y), begun)
     ∷ (steps b 13, again 13)
@@ -214,7 +146,7 @@ stopped_after_link : Plays (shape 2 7)
 stopped_after_link = refl
 
 -- at the lost exchange HEAD names the old node again, with another tag
-same_head_other_tag : Plays (shape 1 15)
+same_head_other_tag : Plays (plays (shape 1 15))
     ((calls b (put x), answers (put_is 0))
     ∷ (begins a take, begun)
     ∷ (steps a 5, again 5)
@@ -229,7 +161,7 @@ same_head_other_tag : Plays (shape 1 15)
 same_head_other_tag = refl
 
 -- a link of a node that was used again
-stale_link : Plays (shape 2 15)
+stale_link : Plays (plays (shape 2 15))
     ((begins a (put x), begun)
     ∷ (steps a 12, again 12)
     ∷ (calls b (put y), answers (put_is 0))
@@ -243,7 +175,7 @@ stale_link : Plays (shape 2 15)
 stale_link = refl
 
 -- at the lost exchange NODES names the old node again, with another tag
-same_node_other_tag : Plays (shape 3 15)
+same_node_other_tag : Plays (plays (shape 3 15))
     ((begins a (put x), begun)
     ∷ (steps a 5, again 5)
     ∷ (calls b (put y), answers (put_is 0))
@@ -259,7 +191,7 @@ same_node_other_tag : Plays (shape 3 15)
 same_node_other_tag = refl
 
 -- a shut overtakes a take
-shut_queue : Plays (shape 2 7)
+shut_queue : Plays (plays (shape 2 7))
     ((calls a (put x), answers (put_is 0))
     ∷ (calls a (put y), answers (put_is 1))
     ∷ (begins b take, begun)
@@ -278,7 +210,7 @@ shut_queue : Plays (shape 2 7)
 shut_queue = refl
 
 -- many lost exchanges
-longest : Plays (shape 3 15)
+longest : Plays (plays (shape 3 15))
     ((begins a (put x), begun)
     ∷ (steps a 2, again 2)
     ∷ (calls b (put y), answers (put_is 0))
@@ -290,8 +222,8 @@ longest : Plays (shape 3 15)
 longest = refl
 
 -- A put stops for good after k of its steps: what other calls answer from then on
-abbrev after_stopped_put : ℕ → List Reply
-after_stopped_put k = drop 3 (replies (shape 2 7) (curtain (shape 2 7))
+abbrev after_stopped_put : ℕ → List (Reply (Answer ℕ))
+after_stopped_put k = drop 3 (replies (plays (shape 2 7)) (curtain (plays (shape 2 7)))
     (calls b (put v) ∷ begins a (put y) ∷ steps a k ∷ calls b (put w) ∷ calls b take ∷ calls b take ∷ calls b take ∷ calls b CloseCall ∷ finish ∷ []))
 
 put_stopped_early : map after_stopped_put (0 ∷ 1 ∷ 2 ∷ [])
@@ -308,8 +240,8 @@ put_stopped_late : after_stopped_put 13 ≡ answers (full w) ∷ answers (take_i
 put_stopped_late = refl
 
 -- A take stops for good after k of its steps
-abbrev after_stopped_take : ℕ → List Reply
-after_stopped_take k = drop 4 (replies (shape 2 7) (curtain (shape 2 7))
+abbrev after_stopped_take : ℕ → List (Reply (Answer ℕ))
+after_stopped_take k = drop 4 (replies (plays (shape 2 7)) (curtain (plays (shape 2 7)))
     (calls b (put v) ∷ calls b (put w) ∷ begins a take ∷ steps a k ∷ calls b take ∷ calls b take ∷ calls b (put x) ∷ calls b (put u) ∷ finish ∷ []))
 
 take_stopped_early : map after_stopped_take (0 ∷ 1 ∷ 2 ∷ 3 ∷ 4 ∷ 5 ∷ [])

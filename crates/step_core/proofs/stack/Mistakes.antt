@@ -16,8 +16,9 @@ use Rattle.stack_machine.specs.declared.lines.Answer.TheVariants.{Put as AnswerP
 use Rattle.stack_machine.specs.declared.lines.Line.{Line}
 use Rattle.stack_machine.specs.declared.lines.Line.TheVariants.{LoadFree, TakeFree, LoadTop, SwapTop, LoadTopToTake, TakeTop, LoadLinkToFold, LoadTopToClose, MarkTop, LoadTopToShut, ShutTop}
 use Rattle.stack_machine.specs.declared.lines.Call.TheVariants.{Put as CallPut, Take as CallTake, Close as CallClose, Shut as CallShut}
-use Rattle.step_core.specs.stack.Schedule.{Pass, State, Act, Begin, Step, begun, stepped, start}
-use Rattle.stack_machine.specs.Machine.{Memory, Outcome, step, held, is_idle, starts, goes_on, wins, wins_value, after_hold, after_put, after_store, at_take_free, at_load_top, at_load_top_to_take, ends, placed, with_node}
+use Rattle.machine.specs.Schedule.{Act, Begin, Step, run, start}
+use Rattle.stack_machine.specs.declared.lines.Call.{Call}
+use Rattle.stack_machine.specs.Machine.{Memory, Pass, State, Outcome, stack, step, held, goes_on, wins, wins_value, after_hold, after_put, after_store, at_take_free, at_load_top, at_load_top_to_take, ends, placed, with_node}
 use Rattle.machine.specs.Chains.{with_home, HasValues}
 use Rattle.stack_machine.specs.Answers.{shape}
 use Rattle.step_core.specs.stack.Law.{Lawful, AllDone}
@@ -28,27 +29,24 @@ use Rattle.stack_machine.proofs.Answers.{none_there}
 abbrev Steps : Type 0
 Steps = Memory ℕ → ℕ → Line ℕ → Outcome ℕ
 
-abbrev does : Steps → State ℕ → ℕ → Act ℕ → Option (Pass ℕ) → State ℕ
-does makes s p a none = s
-does makes s p (Begin call) (some v) = if is_idle v.line then begun s p v (starts call) else s
-does makes s p Step (some v) = if is_idle v.line then s else stepped s p v (makes s.memory p v.line)
+abbrev Acts : Type 0
+Acts = List (ℕ × Act (Call ℕ))
 
-abbrev runs : Steps → List (ℕ × Act ℕ) → State ℕ → State ℕ
-runs makes [] s = s
-runs makes (a ∷ more) s = runs makes more (does makes s a.0 a.1 (get_elem? s.passes a.0))
+abbrev runs : Steps → Acts → State ℕ → State ℕ
+runs makes schedule s = run (record (stack (shape 1 15)) { step = makes }) schedule s
 
 -- the machine starts with so many nodes and passes
 abbrev first_state : ℕ → ℕ → State ℕ
-first_state n passes = start (shape n 15) passes
+first_state n passes = start (stack (shape n 15)) passes
 
 -- so many steps of a pass
-abbrev steps : ℕ → ℕ → List (ℕ × Act ℕ)
+abbrev steps : ℕ → ℕ → Acts
 steps p k = replicate k (p, Step)
 
-abbrev puts : ℕ → ℕ → List (ℕ × Act ℕ)
+abbrev puts : ℕ → ℕ → Acts
 puts p v = (p, Begin (CallPut v [])) ∷ []
 
-abbrev takes : ℕ → List (ℕ × Act ℕ)
+abbrev takes : ℕ → Acts
 takes p = (p, Begin (CallTake One)) ∷ []
 
 -- A node is taken from the free list and its top keeps the tag: pass 0 has read node 0 and its link, node 1; node 1 goes to
@@ -143,12 +141,12 @@ between = runs puts_one_by_one (((0, Begin (CallPut 10 (11 ∷ []))) ∷ []) ++ 
 abbrev between_events : List (Event ℕ)
 between_events = Put 0 (11 ∷ []) 2 ∷ Hold 0 ∷ Put 1 (20 ∷ []) 1 ∷ Hold 1 ∷ Put 0 (10 ∷ []) 0 ∷ Hold 0 ∷ []
 
-range_ended : get_elem? between.passes 0 ≡ some (record { line = ends (AnswerPut (Ok (2, []))); begun = []; seen = between_events })
+range_ended : get_elem? between.passes 0 ≡ some (record { line = ends (AnswerPut (Ok (2, []))); call = some (CallPut 10 (11 ∷ [])); begun = []; seen = between_events })
 range_ended = refl
 
 between-not_done : ¬ AllDone (shape 3 15) between
 between-not_done done =
-    let did = done 0 (record { line = ends (AnswerPut (Ok (2, []))); begun = []; seen = between_events }) (AnswerPut (Ok (2, []))) range_ended refl in
+    let did = done 0 (record { line = ends (AnswerPut (Ok (2, []))); call = some (CallPut 10 (11 ∷ [])); begun = []; seen = between_events }) (AnswerPut (Ok (2, []))) range_ended refl in
     at_once (subst (PutAtOnce 0 2) (ap (own 0) (sym (did.is ∙ append-nil did.between))) did.made)
   where
     -- the pass's own events are two puts

@@ -1,5 +1,10 @@
 -- Worked scripts of the stack: the machine computes their replies and step counts.
-use Rattle.std.proofs.Common.{ℕ, true, false, List, [], ◌∷◌, refl, Ok, Err}
+use Rattle.std.proofs.Common.{ℕ, true, false, List, [], ◌∷◌, refl, Ok, Err, Some}
+use mathlib.Core.Option.{Option, none, some}
+use Rattle.bounded_model.specs.declared.history.Event.{Event}
+use Rattle.bounded_model.specs.Machine.{Shape}
+use Rattle.stack_machine.specs.declared.lines.Line.{Line}
+use Rattle.stack_machine.specs.declared.lines.Line.TheVariants.{Idle}
 use Rattle.bounded_model.specs.declared.answers.Word.TheVariants.{Free as FreeWord, Top as TopWord}
 use Rattle.bounded_model.specs.declared.answers.PutRefused.TheVariants.{Full, Closed as PutClosed, Spent as PutSpent}
 use Rattle.bounded_model.specs.declared.answers.TakeRefused.{TakeRefused}
@@ -11,7 +16,17 @@ use Rattle.stack_machine.specs.declared.lines.Answer.TheVariants.{Put, Take, Fol
 use Rattle.stack_machine.specs.declared.lines.Call.{Call}
 use Rattle.stack_machine.specs.declared.lines.Call.TheVariants.{Put as PutCall, Take as TakeCall, Close as CloseCall, Shut as ShutCall, Look as LookCall}
 use Rattle.stack_machine.specs.Answers.{shape}
-use Rattle.step_core.proofs.stack.Scripts.{calls, begins, steps, finish, answers, begun, again, ended, rest, Plays}
+use Rattle.stack_machine.specs.Machine.{Memory, stack}
+use Rattle.machine.specs.Chains.{chain_from, values_in}
+use Rattle.step_core.proofs.Scripts.{Player, calls, begins, steps, finish, answers, begun, again, ended, rest, Plays}
+
+-- the stack, the answer of a line, and what is left from the top down
+abbrev answer : Line ℕ → Option (Answer ℕ)
+answer (Idle (Some a)) = some a
+answer l = none
+
+abbrev plays : Shape → Player (Memory ℕ) (Line ℕ) (Call ℕ) (Answer ℕ) (Event ℕ)
+plays c = record { machine = stack c; answer = answer; left = λ m. values_in m.home (chain_from c.capacity m.link m.top.index) }
 
 -- passes
 abbrev a : ℕ
@@ -93,7 +108,7 @@ abbrev no_fold : TakeRefused → Answer ℕ
 no_fold why = Fold (Err why)
 
 -- how many steps each call makes alone: put and take, a full put, an empty take, close, shut, look
-alone : Plays (shape 1 15)
+alone : Plays (plays (shape 1 15))
     ((begins a take, begun) ∷ (steps a 40, ended (no_take Empty) 1)
     ∷ (begins a (put x), begun) ∷ (steps a 40, ended (put_is 0) 6)
     ∷ (begins a (put y), begun) ∷ (steps a 40, ended (full (y ∷ [])) 2)
@@ -105,7 +120,7 @@ alone : Plays (shape 1 15)
 alone = refl
 
 -- at the lost exchange the top names the old node again, with tag 5 where a had read tag 2
-same_node_other_tag : Plays (shape 3 15)
+same_node_other_tag : Plays (plays (shape 3 15))
     ((calls b (put x), answers (put_is 0))
     ∷ (calls b (put y), answers (put_is 1))
     ∷ (begins a take, begun)
@@ -122,7 +137,7 @@ same_node_other_tag : Plays (shape 3 15)
 same_node_other_tag = refl
 
 -- the top's tag is at the limit
-spent_top : Plays (shape 2 2)
+spent_top : Plays (plays (shape 2 2))
     ((calls a (put x), answers (put_is 0))
     ∷ (calls a (put y), answers (put_is 1))
     ∷ (calls a (put z), answers (top_spent 2 (z ∷ [])))
@@ -135,7 +150,7 @@ spent_top : Plays (shape 2 2)
 spent_top = refl
 
 -- a range goes in by one exchange, as much of it as finds nodes
-ranges : Plays (shape 3 15)
+ranges : Plays (plays (shape 3 15))
     ((calls a (range 1 (2 ∷ 3 ∷ 4 ∷ 5 ∷ [])), answers (range_is 0 (4 ∷ 5 ∷ [])))
     ∷ (calls a take, answers (take_is 1 3))
     ∷ (calls a (range 6 (7 ∷ [])), answers (range_is 2 (7 ∷ [])))
@@ -143,7 +158,7 @@ ranges : Plays (shape 3 15)
     ∷ [])
 ranges = refl
 
-folds : Plays (shape 3 15)
+folds : Plays (plays (shape 3 15))
     ((calls a (put x), answers (put_is 0))
     ∷ (calls a (put y), answers (put_is 1))
     ∷ (calls a (put z), answers (put_is 2))
@@ -159,7 +174,7 @@ folds : Plays (shape 3 15)
 folds = refl
 
 -- what is left, from the top down
-left_over : Plays (shape 3 7)
+left_over : Plays (plays (shape 3 7))
     ((calls a (put x), answers (put_is 0))
     ∷ (calls a (put y), answers (put_is 1))
     ∷ (calls a (put z), answers (put_is 2))
@@ -170,7 +185,7 @@ left_over : Plays (shape 3 7)
 left_over = refl
 
 -- a close overtakes a put that holds a node
-closed_under_a_put : Plays (shape 1 7)
+closed_under_a_put : Plays (plays (shape 1 7))
     ((begins a (put x), begun)
     ∷ (steps a 3, again 3)
     ∷ (calls b CloseCall, answers (Close true))
@@ -179,7 +194,7 @@ closed_under_a_put : Plays (shape 1 7)
     ∷ [])
 closed_under_a_put = refl
 
-range_spent : Plays (shape 3 2)
+range_spent : Plays (plays (shape 3 2))
     ((calls a (range x (y ∷ z ∷ [])), answers (range_is 0 (z ∷ [])))
     ∷ (calls a (range z []), answers (free_spent 2 (z ∷ [])))
     ∷ (calls a take, answers (take_is 1 y))
@@ -187,14 +202,14 @@ range_spent : Plays (shape 3 2)
     ∷ [])
 range_spent = refl
 
-range_closed : Plays (shape 2 7)
+range_closed : Plays (plays (shape 2 7))
     ((calls a CloseCall, answers (Close true))
     ∷ (calls a (range x (y ∷ [])), answers (put_closed (x ∷ y ∷ [])))
     ∷ (calls a fold, answers (no_fold Closed))
     ∷ [])
 range_closed = refl
 
-range_full : Plays (shape 1 7)
+range_full : Plays (plays (shape 1 7))
     ((calls a (put x), answers (put_is 0))
     ∷ (calls a (range y (z ∷ [])), answers (full (y ∷ z ∷ [])))
     ∷ (calls b fold, answers (fold_is 1 (x ∷ [])))
@@ -206,7 +221,7 @@ range_full : Plays (shape 1 7)
 range_full = refl
 
 -- both tags at their limits
-spent_free : Plays (shape 2 2)
+spent_free : Plays (plays (shape 2 2))
     ((calls a (put x), answers (put_is 0))
     ∷ (calls a take, answers (take_is 1 x))
     ∷ (calls a (put y), answers (top_spent 2 (y ∷ [])))
@@ -218,7 +233,7 @@ spent_free : Plays (shape 2 2)
     ∷ [])
 spent_free = refl
 
-shut_stack : Plays (shape 2 7)
+shut_stack : Plays (plays (shape 2 7))
     ((calls a (put x), answers (put_is 0))
     ∷ (calls a ShutCall, answers (ShutAnswer true))
     ∷ (calls a (put y), answers (put_is 1))

@@ -2,23 +2,15 @@
 use Rattle.std.specs.Prelude.{◌≡◌, ℕ, ◌+◌, ◌<◌, ◌≤◌, ltb, if◌then◌else◌, List, length, Some, None}
 use mathlib.Core.Option.{some}
 use lib.ListN.{get_elem?}
-use Rattle.bounded_model.specs.declared.history.Event.{Event}
 use Rattle.bounded_model.specs.Machine.{Shape, Legal}
-use Rattle.bounded_model.specs.Histories.{Later, own}
 use Rattle.machine.specs.Words.{times, total, Stands}
 use Rattle.stack_machine.specs.declared.lines.Answer.{Answer}
 use Rattle.stack_machine.specs.declared.lines.Line.TheVariants.{Idle}
-use Rattle.step_core.specs.stack.Schedule.{Pass, State}
 use Rattle.machine.specs.Chains.{HasValues}
+use Rattle.machine.specs.Seen.{Knows}
 use Rattle.stack_machine.specs.Answers.{shape, state, IsRight}
 use Rattle.stack_machine.specs.Deeds.{HasDone}
-use Rattle.stack_machine.specs.Machine.{held}
-
--- what pass p has seen is an earlier part of the history that has all events of its own
-pub record Knows {T : Type 0} (p : ℕ) (v : Pass T) (history : List (Event T)) : Type 0 where
-  pub before : Later v.begun v.seen
-  pub now : Later v.seen history
-  pub own_events : own p history ≡ own p v.seen
+use Rattle.stack_machine.specs.Machine.{Pass, State, held}
 
 -- The history is one of a bounded stack, with room for n values. The words and slots stand for it: the
 -- top for its values, the first mark for closed, the second for shut, the tags for its numbers. Each

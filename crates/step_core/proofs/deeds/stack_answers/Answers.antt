@@ -1,4 +1,4 @@
-use Rattle.step_core.proofs.stack.Done.{all_done}
+use Rattle.step_core.proofs.stack.Run.{all_done}
 use Rattle.step_core.proofs.deeds.stack_answers.Goals as goal
 
 pub returns : goal.returns

@@ -3,5 +3,8 @@ use Rattle.treiber_stack.proofs.Closes.{is_started}
 use Rattle.treiber_stack.proofs.Going.{begun_at_rest}
 use Rattle.treiber_stack.proofs.stack.Stack.begin_take.Goals as goal
 
-pub returns : goal.returns
-returns g c = (record { line = is_started c.args.self.now First c.args.by c.requires; node = tt }, begun_at_rest c.args.by.seat.me.0 c.requires.view)
+pub returns-clause-take : goal.returns-clause-take
+returns-clause-take g c = record { line = is_started c.args.self.now First c.args.by c.requires; node = tt }
+
+pub returns-clause-begun : goal.returns-clause-begun
+returns-clause-begun g c = begun_at_rest c.args.by.seat.me.0 c.requires.view

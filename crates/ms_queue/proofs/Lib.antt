@@ -1,0 +1,3 @@
+pub mod Seeks
+pub mod Closes
+pub mod Gives

@@ -1,0 +1,4 @@
+pub mod Queue
+pub mod Seeking
+pub mod Closing
+pub mod Giving

@@ -1,0 +1,28 @@
+use Rattle.std.proofs.Common.{◌≡◌, List, string_bytes, sym, subst}
+use Rattle.std.specs.List.{AllByRecursion}
+use Rattle.std.specs.Prelude.{IsTrue}
+use Rattle.bounded_model.specs.declared.history.Order.{Order}
+use Rattle.bounded_model.specs.declared.history.Order.TheVariants.{Fifo, Lifo}
+use Rattle.script.specs.Script.{is_allowed}
+use Rattle.script.specs.View.{head_view}
+use Rattle.program.specs.Outcome.{IsOutputIn, IsOutputOf}
+use Rattle.program.proofs.Outcomes.{if_ok}
+use Rattle.program.proofs.answer.answer.Goals as goal
+
+pub play_stack-requires-clause-allowed : goal.play_stack-requires-clause-allowed
+play_stack-requires-clause-allowed g c =
+    subst (λ (order : Order). AllByRecursion (λ line. IsTrue (is_allowed order line)) c.args.script.lines.items) c.in-Lifo.is c.requires.allowed
+
+pub returns-in-Fifo : goal.returns-in-Fifo
+returns-in-Fifo g c =
+    let head = head_view c.args.script.header in
+    let lines = c.args.script.lines.items in
+    if_ok c.answer_list.result (λ output. IsOutputIn Fifo head lines (string_bytes output)) (λ output. IsOutputOf head lines (string_bytes output)) c.answer_list.ensures
+    (λ output is. subst (λ (order : Order). IsOutputIn order head lines (string_bytes output)) (sym c.in-Fifo.is) is)
+
+pub returns-in-Lifo : goal.returns-in-Lifo
+returns-in-Lifo g c =
+    let head = head_view c.args.script.header in
+    let lines = c.args.script.lines.items in
+    if_ok c.play_stack.result (λ output. IsOutputIn Lifo head lines (string_bytes output)) (λ output. IsOutputOf head lines (string_bytes output)) c.play_stack.ensures
+    (λ output is. subst (λ (order : Order). IsOutputIn order head lines (string_bytes output)) (sym c.in-Lifo.is) is)

@@ -1,0 +1,57 @@
+-- What a replay of a text does.
+use Rattle.std.specs.Prelude.{◌≡◌, ℕ, ◌⊎◌, List, take, map, Option}
+use Rattle.std.specs.Io.KnownBytes.{Appends}
+use Rattle.program.specs.declared.fault.ReplayFault.{ReplayFault}
+use Rattle.program.specs.declared.fault.ReplayFault.TheVariants.{NoMemory, Device, NoFinalNewline, TooLong, BadLine, Output}
+use Rattle.bounded_model.specs.declared.history.Order.{Order}
+use Rattle.bounded_model.specs.declared.history.Order.TheVariants.{Fifo, Lifo}
+use Rattle.script.specs.declared.answer.Answer.{Answer}
+use Rattle.script.specs.declared.line.Line.{Line}
+use Rattle.script.specs.Answering.{AnswersTo}
+use Rattle.script.specs.AnswerTexts.{answer_text}
+use Rattle.script.specs.Faults.{IsUnended, IsFirstBad, IsAccepted}
+use Rattle.script.specs.Reading.{split_lines}
+use Rattle.program.specs.Replies.{output_of}
+use Rattle.script.specs.Script.{Head, IsScript, text_of}
+
+-- what is written for a script: over a sequential list exactly the bounded machine's replies, over a
+-- stack one answer to each line
+abbrev pub IsOutputIn : Order → Head → List Line → List ℕ → Type 0
+IsOutputIn Fifo head lines output = output ≡ output_of head lines
+IsOutputIn Lifo head lines output = (answers : List Answer) × AnswersTo lines answers × (output ≡ text_of (map answer_text answers))
+
+abbrev pub IsOutputOf : Head → List Line → List ℕ → Type 0
+IsOutputOf head lines output = IsOutputIn head.order head lines output
+
+-- the text is a script, and this is written for it
+pub record IsOutputFor (text output : List ℕ) : Type 0 where
+  pub accepted : IsAccepted text
+  pub output_is : (head : Head) (lines : List Line) → IsScript text head lines → IsOutputOf head lines output
+
+-- what is known of the text after a fault
+abbrev pub IsFaultOf : ReplayFault → List ℕ → Type 0
+IsFaultOf NoFinalNewline text = IsUnended text
+IsFaultOf (BadLine number) text = ¬ (IsUnended text) × IsFirstBad (split_lines text) number
+IsFaultOf NoMemory text = Unit {0}
+IsFaultOf Device text = Unit {0}
+IsFaultOf TooLong text = Unit {0}
+IsFaultOf Output text = IsAccepted text
+
+-- the fault is none of the text's
+abbrev pub IsOutside : ReplayFault → Type 0
+IsOutside fault = (fault ≡ NoMemory) ⊎ ((fault ≡ Device) ⊎ ((fault ≡ TooLong) ⊎ (fault ≡ Output)))
+
+-- known bytes grow by a front of these
+abbrev pub AppendsFront : Option (List ℕ) → Option (List ℕ) → List ℕ → Type 0
+AppendsFront old new bytes = (n : ℕ) × Appends old new (take n bytes)
+
+-- some output for the text went out, or a front of one
+pub record Wrote (text : List ℕ) (old new : Option (List ℕ)) : Type 0 where
+  pub output : List ℕ
+  pub is : IsOutputFor text output
+  pub went_out : Appends old new output
+
+pub record WroteFront (text : List ℕ) (old new : Option (List ℕ)) : Type 0 where
+  pub output : List ℕ
+  pub is : IsOutputFor text output
+  pub went_out : AppendsFront old new output

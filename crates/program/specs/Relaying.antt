@@ -1,0 +1,60 @@
+-- What is written for a relay, and what a relay of files does.
+use Rattle.std.specs.Prelude.{◌≡◌, ℕ, Bool, true, false, List, ◌++◌, Option, None, Result, Ok, Err}
+use Rattle.std.specs.Io.KnownBytes.{Appends}
+use Rattle.bounded_model.specs.declared.history.Order.TheVariants.{Lifo}
+use Rattle.bounded_model.specs.Machine.{Shape}
+use Rattle.tagged_index.specs.declared.word.TheConstants.{MAX_TAG}
+use Rattle.relay.specs.declared.faults.RelayFault.{RelayFault}
+use Rattle.relay.specs.declared.faults.RelayFault.TheVariants.{TooSmall}
+use Rattle.relay.specs.declared.outcome.Relayed.{Relayed}
+use Rattle.relay.specs.Promises.{Lists, Relays, IsTooSmall, total}
+use Rattle.audit.specs.Delivered.{full_audit}
+use Rattle.audit.specs.Texts.{audit_text, list_text}
+use Rattle.program.specs.declared.words.RelayArgs.{RelayArgs}
+use Rattle.program.specs.declared.tool_fault.ToolFault.{ToolFault}
+use Rattle.program.specs.declared.tool_fault.ToolFault.TheVariants.{File, Relay, Output}
+use Rattle.program.specs.Inputs.{AreRead, IsFileFault}
+use Rattle.program.specs.Ranges.{plan_of}
+
+-- the audit, and then the list where it is wanted
+abbrev pub outcome_text : Bool → Relayed → List ℕ
+outcome_text true relayed = audit_text relayed ++ list_text relayed
+outcome_text false relayed = audit_text relayed
+
+-- known bytes grow by a front of this text
+pub record GrowsByFront (text : List ℕ) (old new : Option (List ℕ)) : Type 0 where
+  pub front : List ℕ
+  pub rest : List ℕ
+  pub whole : text ≡ front ++ rest
+  pub bytes : Appends old new front
+
+-- a stack of the capacity that was asked for, with the largest limit of tags
+abbrev pub shape_for : RelayArgs → Shape
+shape_for args = record { order = Lifo; capacity = args.capacity; limit = MAX_TAG }
+
+-- no worker is to stop early
+pub record StopsNowhere (args : RelayArgs) : Type 0 where
+  pub take : args.take ≡ None
+  pub close_after : args.close_after ≡ None
+  pub shut_after : args.shut_after ≡ None
+
+-- these inputs were relayed, with this outcome; where no worker was to stop early, each line of its audit says that
+-- all that was read was delivered
+pub record IsRelayed (args : RelayArgs) (inputs : Lists) (relayed : Relayed) : Type 0 where
+  pub relays : Relays (shape_for args) (plan_of args) inputs relayed
+  pub fits : ¬ (IsTooSmall (plan_of args) args.capacity (total inputs))
+  pub all : StopsNowhere args → audit_text relayed ≡ full_audit inputs
+
+-- what a relay of these inputs does to a writer, whose bytes are known as `old` and as `new`: it writes its outcome
+abbrev pub RelaysInputs : RelayArgs → Lists → Option (List ℕ) → Option (List ℕ) → Result (Unit {0}) ToolFault → Type 0
+RelaysInputs args inputs old new (Ok _) = (relayed : Relayed) × IsRelayed args inputs relayed × Appends old new (outcome_text args.list relayed)
+RelaysInputs args inputs old new (Err Output) = (relayed : Relayed) × IsRelayed args inputs relayed × GrowsByFront (outcome_text args.list relayed) old new
+RelaysInputs args inputs old new (Err (Relay cause)) = cause ≡ TooSmall → IsTooSmall (plan_of args) args.capacity (total inputs)
+RelaysInputs args inputs old new (Err (File number cause)) = ⊥
+
+-- what a relay of readers does: it relays what they gave, or one of them is at fault
+abbrev pub RelaysReaders : {R : Type 0} → (R → Option (List ℕ)) → RelayArgs → List R → Option (List ℕ) → Option (List ℕ) → Result (Unit {0}) ToolFault → Type 0
+RelaysReaders remaining args readers old new (Ok done) = (inputs : Lists) × AreRead remaining 0 readers inputs × RelaysInputs args inputs old new (Ok done)
+RelaysReaders remaining args readers old new (Err Output) = (inputs : Lists) × AreRead remaining 0 readers inputs × RelaysInputs args inputs old new (Err Output)
+RelaysReaders remaining args readers old new (Err (Relay cause)) = (inputs : Lists) × AreRead remaining 0 readers inputs × RelaysInputs args inputs old new (Err (Relay cause))
+RelaysReaders remaining args readers old new (Err (File number cause)) = IsFileFault remaining readers number cause

@@ -1,0 +1,89 @@
+//! Files relayed through a container.
+
+ghost use Rattle.std.specs.Prelude.{◌≡◌, ◌≢◌, ◌≤◌, ◌*◌, IfErr, IfOk, List, ℕ, length};
+ghost use Rattle.bounded_model.specs.Laws.{fresh};
+ghost use Rattle.relay.specs.Messages.{AreInputsFrom};
+ghost use Rattle.relay.specs.Promises.{total};
+ghost use Rattle.treiber_stack.specs.Stack.{IsRootOf, root_in, shape_of};
+ghost use Rattle.program.specs.declared.command_line.TheConstants.{MAX_FILES};
+ghost use Rattle.audit.specs.declared.message_file.TheConstants.{MAX_LINES};
+ghost use Rattle.program.specs.declared.tool_fault.ToolFault.TheVariants.{Output, Relay};
+ghost use Rattle.relay.specs.declared.faults.RelayFault.TheVariants.{NoMemory};
+ghost use Rattle.program.specs.Ranges.{IsInRange};
+ghost use Rattle.program.specs.Relaying.{RelaysInputs, RelaysReaders, shape_for};
+
+use crate::inputs::read_inputs;
+use crate::outcome::write_outcome;
+use crate::tool_fault::ToolFault;
+use crate::words::RelayArgs;
+use bounded_model::{Container, MakeRefused};
+use relay::{FreeGate, Message, run};
+use std::alloc::Global;
+use std::io::{Read, Write};
+use std::sync::Wait;
+use std::thread::Threads;
+use tagged_index::{Limits, MAX_TAG};
+use treiber_stack::{Root, Stack};
+
+/// Relays what the readers give, reader `k`, counted from 0, as sender `k`, and writes the outcome:
+/// the audit, and then the list where that is wanted.
+///
+/// All readers are read, in order, before the container is made; `File` tells the first that is no
+/// message file, or fails, by its number from 1. `Relay(NoMemory)` also comes where the container
+/// cannot be made. `Output` comes where a write fails, and then a front of the text went out. After
+/// any other fault nothing was written.
+pub fn relay_main<T: Threads + Wait + Sync, R: Read + Drop, W: Write>(
+    rt: &T,
+    alloc: Global,
+    args: &RelayArgs,
+    readers: Vec<R>,
+    writer: &mut W,
+) -> Result<(), ToolFault>
+    requires args { IsInRange args.now }
+    requires some { 1 ≤ length readers.items }
+    requires few { length readers.items ≤ MAX_FILES }
+    // What is written is the outcome of a relay of the messages that were read.
+    ensures relays { RelaysReaders R.remaining args.now readers.items (W.contents writer.old) (W.contents writer.new) result }
+    ensures untouched { IfErr result (λ fault. fault ≢ Output → writer.new ≡ writer.old) }
+{
+    let inputs = read_inputs(alloc, readers)?;
+    let (stack, root) = stack_for(alloc, args)?;
+    relay_through(rt, alloc, stack, root, args, inputs, writer)
+}
+
+// The stack that is asked for.
+fn stack_for(
+    alloc: Global,
+    args: &RelayArgs,
+) -> Result<(Stack<Message>, Root<Message>), MakeRefused>
+    requires args { IsInRange args.now }
+    ensures { IfOk result (λ made. IsRootOf made.0 made.1 × (root_in made.1 ≡ fresh) × (shape_of made.0 ≡ shape_for args.now)) }
+{
+    match Limits::of(args.capacity, MAX_TAG) {
+        Some(limits) => Stack::new(alloc, limits),
+        None => unreachable!(),
+    }
+}
+
+// Relays these inputs through this container, and writes the outcome.
+fn relay_through<T: Threads + Wait + Sync, C: Container<Message> + Sync, W: Write>(
+    rt: &T,
+    alloc: Global,
+    container: C,
+    root: C::Root,
+    args: &RelayArgs,
+    inputs: Vec<Vec<Message>>,
+    writer: &mut W,
+) -> Result<(), ToolFault>
+    requires args { IsInRange args.now }
+    requires root { C.is_root container root }
+    requires fresh { C.root root ≡ fresh }
+    requires shape { C.shape container ≡ shape_for args.now }
+    requires inputs { AreInputsFrom 0 inputs.items }
+    requires few { total inputs.items ≤ MAX_FILES * MAX_LINES }
+    ensures relays { RelaysInputs args.now inputs.items (W.contents writer.old) (W.contents writer.new) result }
+    ensures untouched { IfErr result (λ fault. fault ≢ Output → writer.new ≡ writer.old) }
+{
+    let relayed = run(rt, alloc, container, root, inputs, args.plan(), &FreeGate)?;
+    write_outcome(&relayed, args.list, writer)
+}

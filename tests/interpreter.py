@@ -1,0 +1,465 @@
+"""A plain interpreter of scripts, by which the program is tested.
+
+It is Treiber's stack and Michael and Scott's queue, over a fixed pool of nodes, one load, store or exchange at a time,
+and it shares nothing with the program but docs/formats.md. An operation is a generator: it makes one atomic step,
+yields, makes the next, and the step that ends it also returns the answer.
+"""
+
+from typing import NamedTuple
+
+NULL = (1 << 20) - 1
+
+
+class Word(NamedTuple):
+    """A tagged word of the container."""
+
+    index: int
+    tag: int = 0
+    closed: bool = False
+    shut: bool = False
+
+    def raised(self, index):
+        return self._replace(index=index, tag=self.tag + 1)
+
+    def kept(self, index):
+        return self._replace(index=index)
+
+
+class Cell:
+    """A word in shared memory."""
+
+    def __init__(self, word):
+        self.word = word
+
+    def load(self):
+        return self.word
+
+    def exchange(self, seen, new):
+        won = self.word == seen
+        if won:
+            self.word = new
+        return won
+
+
+class FreeList:
+    """A free list of indexes: taking from it raises its tag, giving back keeps it."""
+
+    def __init__(self, first, links, limit):
+        self.top, self.links, self.limit = Cell(Word(first)), links, limit
+
+    def take(self):
+        """Answers an index, or the word that stopped it."""
+        while True:
+            seen = self.top.load()
+            if seen.index == NULL or seen.tag == self.limit:
+                return None, seen
+            yield
+            link = self.links[seen.index]
+            yield
+            if self.top.exchange(seen, seen.raised(link)):
+                return seen.index, seen
+            yield
+
+    def give(self, first, last):
+        """Gives a chain back, whose own links stand already."""
+        while True:
+            seen = self.top.load()
+            yield
+            self.links[last] = seen.index
+            yield
+            if self.top.exchange(seen, seen.kept(first)):
+                return
+            yield
+
+
+class Stack:
+    """The stack: nodes with a link each, a free list of them, and the top."""
+
+    operations = ("put", "take", "close", "shut")
+
+    def __init__(self, capacity, limit):
+        links = [*range(1, capacity), NULL]
+        self.links, self.limit = links, limit
+        self.free, self.top = FreeList(0, links, limit), Cell(Word(NULL))
+        self.values = [None] * capacity
+
+    def put(self, value):
+        node, seen = yield from self.free.take()
+        if node is None:
+            if seen.index != NULL:
+                return f"spent free {seen.tag} {value}"
+            yield
+            return f"{self.full()} {value}"
+        self.values[node] = value
+        yield
+        seen, refusal = yield from self.push(node, node)
+        if refusal:
+            yield
+            yield from self.free.give(node, node)
+            return f"{refusal} {value}"
+        return f"put {seen.tag}"
+
+    def full(self):
+        top = self.top.load()
+        if top.closed:
+            return "closed"
+        return f"spent top {top.tag}" if top.tag == self.limit else "full"
+
+    def push(self, first, last):
+        """Puts the chain from its new top down on the stack. Answers why it is refused, if it is."""
+        while True:
+            seen = self.top.load()
+            if seen.closed:
+                return seen, "closed"
+            if seen.tag == self.limit:
+                return seen, f"spent top {seen.tag}"
+            yield
+            self.links[last] = seen.index
+            yield
+            if self.top.exchange(seen, seen.raised(first)):
+                return seen, None
+            yield
+
+    def nothing_to_take(self, seen):
+        if seen.shut:
+            return "shut"
+        if seen.index == NULL:
+            return "closed" if seen.closed else "empty"
+        return f"spent top {seen.tag}" if seen.tag == self.limit else None
+
+    def take(self):
+        while True:
+            seen = self.top.load()
+            refusal = self.nothing_to_take(seen)
+            if refusal:
+                return refusal
+            yield
+            link = self.links[seen.index]
+            yield
+            if self.top.exchange(seen, seen.raised(link)):
+                break
+            yield
+        value = self.values[seen.index]
+        yield
+        yield from self.free.give(seen.index, seen.index)
+        return f"take {seen.tag} {value}"
+
+    def close(self):
+        while True:
+            seen = self.top.load()
+            if seen.closed:
+                return "close false"
+            yield
+            if self.top.exchange(seen, seen._replace(closed=True)):
+                return "close true"
+            yield
+
+    def shut(self):
+        while True:
+            seen = self.top.load()
+            if seen.shut:
+                return "shut false"
+            yield
+            if self.top.exchange(seen, seen._replace(shut=True)):
+                return "shut true"
+            yield
+
+    def look(self):
+        yield from ()
+        return "look empty" if self.top.load().index == NULL else "look some"
+
+    def range(self, *values):
+        if not values:
+            return "nothing"
+        held = []
+        for value in values:
+            node, seen = yield from self.free.take()
+            if node is None:
+                break
+            self.values[node] = value
+            yield
+            if held:
+                self.links[node] = held[-1]
+                yield
+            held.append(node)
+        if not held:
+            refusal = f"spent free {seen.tag}" if seen.index != NULL else self.full()
+        else:
+            top, refusal = yield from self.push(held[-1], held[0])
+            if refusal:
+                yield from self.free.give(held[-1], held[0])
+        if refusal:
+            return " ".join([refusal, "kept", *values])
+        return " ".join([f"range {top.tag} {len(held)} kept", *values[len(held):]])
+
+    def fold_in(self, name, is_reversed):
+        while True:
+            seen = self.top.load()
+            refusal = self.nothing_to_take(seen)
+            if refusal:
+                return refusal
+            yield
+            if self.top.exchange(seen, seen.raised(NULL)):
+                break
+            yield
+        chain = self.chain(seen.index)
+        if is_reversed:
+            chain.reverse()
+            for above, below in zip(chain, chain[1:]):
+                self.links[above] = below
+        values = [self.values[node] for node in chain]
+        yield from self.free.give(chain[0], chain[-1])
+        return " ".join([f"{name} {seen.tag}", *values])
+
+    def fold(self):
+        return self.fold_in("fold", False)
+
+    def rfold(self):
+        return self.fold_in("rfold", True)
+
+    def chain(self, first):
+        nodes = []
+        while first != NULL:
+            nodes.append(first)
+            first = self.links[first]
+        return nodes
+
+    def left(self):
+        return [self.values[node] for node in self.chain(self.top.load().index)]
+
+
+class Queue:
+    """The queue: cells with the values, nodes with the name of a cell each, a head and a tail that may lag."""
+
+    operations = ("put", "take", "close", "shut", "look")
+
+    def __init__(self, capacity, limit):
+        self.limit = limit
+        self.cells = FreeList(0, [*range(1, capacity), NULL], limit)
+        self.nodes = FreeList(1, [NULL, *range(2, capacity + 1), NULL], limit)
+        self.head, self.tail = Cell(Word(0)), Cell(Word(0))
+        self.next = [Cell(Word(NULL)) for _ in range(capacity + 1)]
+        self.data = [NULL] * (capacity + 1)
+        self.values = [None] * capacity
+
+    def end(self):
+        """Goes to the end of the queue and helps a tail that lags. Answers the tail and the end's next word."""
+        while True:
+            tail = self.tail.load()
+            yield
+            following = self.next[tail.index].load()
+            yield
+            if self.tail.load() == tail:
+                if following.closed or following.index == NULL:
+                    return tail, following
+                yield
+                self.tail.exchange(tail, tail.raised(following.index))
+            yield
+
+    def put(self, value):
+        cell, seen = yield from self.cells.take()
+        if cell is None:
+            if seen.index != NULL:
+                return f"spent cells {seen.tag} {value}"
+            yield
+            _, following = yield from self.end()
+            return f"closed {value}" if following.closed else f"full {value}"
+        self.values[cell] = value
+        yield
+        node, seen = yield from self.nodes.take()
+        if node is None:
+            yield
+            yield from self.cells.give(cell, cell)
+            return f"spent nodes {seen.tag} {value}"
+        yield
+        self.data[node] = cell
+        yield
+        ready = self.next[node].load()
+        yield
+        if ready.tag + 2 > self.limit:
+            yield from self.give_back(node, cell)
+            return f"spent next {node} {ready.tag} {value}"
+        self.next[node].word = Word(NULL, ready.tag + 1)
+        yield
+        while True:
+            tail, following = yield from self.end()
+            yield
+            if following.closed:
+                yield from self.give_back(node, cell)
+                return f"closed {value}"
+            if self.next[tail.index].exchange(following, following.raised(node)):
+                break
+            yield
+        yield
+        self.tail.exchange(tail, tail.raised(node))
+        return f"put {tail.tag}"
+
+    def give_back(self, node, cell):
+        yield from self.nodes.give(node, node)
+        yield
+        yield from self.cells.give(cell, cell)
+
+    def take(self):
+        while True:
+            head = self.head.load()
+            if head.shut:
+                return "shut"
+            yield
+            tail = self.tail.load()
+            yield
+            following = self.next[head.index].load()
+            yield
+            if self.head.load() == head:
+                if following.closed:
+                    return "closed"
+                if following.index == NULL:
+                    return "empty"
+                yield
+                if tail.index == head.index:
+                    self.tail.exchange(tail, tail.raised(following.index))
+                else:
+                    cell = self.data[following.index]
+                    yield
+                    if self.head.exchange(head, head.raised(following.index)):
+                        break
+            yield
+        value = self.values[cell]
+        yield
+        yield from self.give_back(head.index, cell)
+        return f"take {head.tag} {value}"
+
+    def close(self):
+        while True:
+            tail, following = yield from self.end()
+            if following.closed:
+                return "close false"
+            yield
+            if self.next[tail.index].exchange(following, following.raised(NULL)._replace(closed=True)):
+                return "close true"
+            yield
+
+    def shut(self):
+        while True:
+            head = self.head.load()
+            if head.shut:
+                return "shut false"
+            yield
+            if self.head.exchange(head, head._replace(shut=True)):
+                return "shut true"
+            yield
+
+    def look(self):
+        while True:
+            head = self.head.load()
+            yield
+            following = self.next[head.index].load()
+            yield
+            if self.head.load() == head:
+                return "look some" if following.index != NULL and not following.closed else "look empty"
+            yield
+
+    def left(self):
+        values, node = [], self.next[self.head.load().index].load().index
+        while node != NULL:
+            values.append(self.values[self.data[node]])
+            node = self.next[node].load().index
+        return values
+
+
+def finished(operation):
+    """The answer of an operation that runs to its end."""
+    while True:
+        try:
+            next(operation)
+        except StopIteration as end:
+            return end.value
+
+
+class Player:
+    """Plays the lines of one script."""
+
+    def __init__(self, container):
+        self.container, self.begun = container, {}
+
+    def reply(self, line):
+        """The reply to a line. There are always passes to be had."""
+        words = line.split(" ")
+        if words == ["finish"]:
+            return " ".join(["rest", *self.container.left()])
+        name, act, given = words[0], words[1], words[2:]
+        if act == "step":
+            return self.step(name, int(given[0])) if name in self.begun else "nothing begun"
+        if act == "drop":
+            return "dropped" if self.begun.pop(name, None) else "nothing begun"
+        if name in self.begun or act == "meet" and given[0] in self.begun:
+            return "busy"
+        if act == "meet":
+            return "met"
+        if act == "begin":
+            self.begun[name] = [getattr(self.container, given[0])(*given[1:]), 0]
+            return "begun"
+        return finished(getattr(self.container, act)(*given))
+
+    def step(self, name, count):
+        begun = self.begun[name]
+        for _ in range(count):
+            begun[1] += 1
+            try:
+                next(begun[0])
+            except StopIteration as end:
+                del self.begun[name]
+                return f"{end.value} steps {begun[1]}"
+        return f"again {begun[1]}"
+
+
+def replies(lines):
+    """The replies to a script, the line that makes the container first."""
+    kind, capacity, limit = lines[0].split(" ")
+    player = Player({"stack": Stack, "queue": Queue}[kind](int(capacity), int(limit)))
+    return [player.reply(line) for line in lines[1:]]
+
+
+def script(kind, random):
+    """A script of this container, by chance: short of room and of tags, with many operations under way."""
+    limit = random.choice((2, 3, 4, 5, 7, 9, 15, 60, 4398046511103))
+    lines = [f"{kind} {random.choice((1, 1, 2, 2, 3, 4))} {limit}"]
+    container = {"stack": Stack, "queue": Queue}[kind]
+    player = Player(container(*map(int, lines[0].split(" ")[1:])))
+    passes = "abcd"[: random.choice((1, 2, 3, 3, 4))]
+    values = (f"v{number}" for number in range(1, 1 << 20))
+    for _ in range(random.randrange(4, 60)):
+        lines.append(line_by_chance(container, player, passes, values, random))
+        player.reply(lines[-1])
+    if random.random() < 0.9:
+        lines.append("finish")
+    return lines
+
+
+def line_by_chance(container, player, passes, values, random):
+    """A line that mostly finds its pass as the line needs it."""
+    busy = [name for name in passes if name in player.begun]
+    resting = [name for name in passes if name not in player.begun]
+    if busy and (not resting or random.random() < 0.5):
+        act = "drop" if random.random() < 0.03 else f"step {random.choice((1, 1, 1, 2, 3, 4, 5, 7, 20))}"
+        usual = busy
+    else:
+        act, usual = call_by_chance(container, values, random), resting
+    name = random.choice(passes if random.random() < 0.05 else usual)
+    if act == "meet":
+        others = passes.replace(name, "") or "z"
+        act = f"meet {random.choice(others)}"
+    return f"{name} {act}"
+
+
+def call_by_chance(container, values, random):
+    """Any act but a step and a drop. Closing and shutting end most of what a script can show, so they are rare."""
+    rare = random.random() < 0.06
+    act = random.choice(("close", "shut") if rare else ("put", "put", "put", "take", "take", "look"))
+    choice = random.random()
+    if choice < 0.05:
+        return "meet"
+    if choice < 0.2 and container is Stack:
+        act = random.choice(("range", "fold", "rfold"))
+        return " ".join([act, *(next(values) for _ in range(random.randrange(5)) if act == "range")])
+    words = f"put {next(values)}" if act == "put" else act
+    return f"begin {words}" if choice < 0.7 and act in container.operations else words

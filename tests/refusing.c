@@ -1,0 +1,79 @@
+/* Stands between the program and the C library, where a test asks for it by the environment:
+   REFUSED_ALLOCATION=N refuses the Nth allocation, REFUSED_FROM=N that and all later ones, REFUSED_THREAD=N the Nth
+   thread; SEEN=FILE gets one byte for each of these calls: 'm' an allocation, 't' a thread, '1' and '2' a write to
+   standard output and error, and 'x' behind a call that was refused. */
+#define _GNU_SOURCE
+#include <dlfcn.h>
+#include <errno.h>
+#include <fcntl.h>
+#include <pthread.h>
+#include <stdatomic.h>
+#include <stddef.h>
+#include <stdlib.h>
+#include <sys/syscall.h>
+#include <unistd.h>
+
+extern void *__libc_malloc(size_t);
+extern void *__libc_realloc(void *, size_t);
+
+static atomic_long allocations, threads;
+static long refused_allocation, refused_from, refused_thread;
+static int seen = -1;
+
+static long number_in(const char *name) {
+    const char *text = getenv(name);
+    return text ? atol(text) : 0;
+}
+
+__attribute__((constructor)) static void start(void) {
+    refused_allocation = number_in("REFUSED_ALLOCATION");
+    refused_from = number_in("REFUSED_FROM");
+    refused_thread = number_in("REFUSED_THREAD");
+    if (getenv("SEEN"))
+        seen = open(getenv("SEEN"), O_WRONLY | O_CREAT | O_APPEND, 0600);
+}
+
+static void tell(char what) {
+    if (seen >= 0)
+        syscall(SYS_write, seen, &what, 1);
+}
+
+static int is_refused(void) {
+    long count = atomic_fetch_add(&allocations, 1) + 1;
+    tell('m');
+    if (count != refused_allocation && !(refused_from && count >= refused_from))
+        return 0;
+    tell('x');
+    errno = ENOMEM;
+    return 1;
+}
+
+void *malloc(size_t size) {
+    return is_refused() ? NULL : __libc_malloc(size);
+}
+
+void *realloc(void *old, size_t size) {
+    return is_refused() ? NULL : __libc_realloc(old, size);
+}
+
+int pthread_create(pthread_t *thread, const pthread_attr_t *how, void *(*start)(void *), void *given) {
+    static int (*create)(pthread_t *, const pthread_attr_t *, void *(*)(void *), void *);
+    if (!create)
+        *(void **)&create = dlsym(RTLD_NEXT, "pthread_create");
+    tell('t');
+    if (atomic_fetch_add(&threads, 1) + 1 == refused_thread) {
+        tell('x');
+        return EAGAIN;
+    }
+    return create(thread, how, start, given);
+}
+
+ssize_t write(int to, const void *bytes, size_t count) {
+    if (to == 1 || to == 2)
+        tell(to == 1 ? '1' : '2');
+    return syscall(SYS_write, to, bytes, count);
+}
+
+ssize_t __write(int to, const void *bytes, size_t count) {
+    return write(to, bytes, count);
+}
