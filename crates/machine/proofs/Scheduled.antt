@@ -5,7 +5,7 @@ use Rattle.std.proofs.lemmas.Bool.{false≢true}
 use Rattle.std.proofs.lemmas.Bool.Decides.{eqb_tells}
 use mathlib.Core.Option.{Option, none, some, some-ne-none}
 use lib.ListN.{get_elem?}
-use Rattle.machine.specs.Schedule.{Machine, Outcome, Pass, State, Act, Begin, Step, stepped, begun, acts, acts_at, next, run}
+use Rattle.machine.specs.Schedule.{Machine, Pass, State, Act, Begin, Step, stepped, begun, acts, acts_at, next, run}
 use Rattle.machine.specs.Bound.{wins_at, IsStretch, is_busy, counted, own_steps, AtLine}
 use Rattle.machine.proofs.Tests.{cases}
 

@@ -7,7 +7,7 @@ use lib.ListN.{get_elem?}
 use Rattle.bounded_model.specs.declared.history.Event.{Event}
 use Rattle.bounded_model.specs.Histories.{Later, own}
 use Rattle.bounded_model.proofs.Histories.{Later-refl, Later-trans, own-between}
-use Rattle.machine.specs.Schedule.{Machine, Outcome, Pass, State, stepped, begun, start, first_pass}
+use Rattle.machine.specs.Schedule.{Machine, Pass, State, stepped, begun, start, first_pass}
 use Rattle.machine.specs.Seen.{Knows}
 use Rattle.machine.proofs.Ahead.{Ahead}
 use Rattle.machine.proofs.Scheduled.{Holds}

@@ -14,6 +14,7 @@
 
 mod closing;
 mod giving;
+mod making;
 mod queue;
 mod rule;
 mod seeking;

@@ -6,7 +6,8 @@ use Rattle.script.specs.Answering.{IsRangeReply}
 use Rattle.script.specs.Words.{values_in}
 use Rattle.script.specs.declared.answer.RangeReply.{RangeReply}
 use Rattle.script.proofs.Lists.{values_all, values_kept}
-use Rattle.bounded_model.specs.Bulk.{Call, PutsRange}
+use Rattle.bounded_model.specs.Laws.{Call}
+use Rattle.bounded_model.specs.Bulk.{PutsRange}
 use Rattle.bounded_model.specs.declared.bulk.Ranged.{Ranged}
 use Rattle.bounded_model.specs.declared.bulk.RangeRefused.{RangeRefused}
 use Rattle.bounded_model.specs.declared.bulk.RangeRefused.TheVariants.{Nothing, Full, Closed, Spent}

@@ -221,7 +221,7 @@ module _ {T : Type 0} where
   any_name c o o' p put zs at = record {
     table = at.table;
     has = at.has;
-    going = let g = at.going in record { pass = g.pass; from = g.from; at = g.at; is = g.is; now = any_now o o' g.at put g.now; begun_is = g.begun_is; number = g.number; steps = g.steps; seen = g.seen; deeds = g.deeds; tells = g.tells };
+    going = let g = at.going in record { pass = g.pass; from = g.from; at = g.at; is = g.is; now = any_now o o' g.at put g.now; begun_is = g.begun_is; number = g.number; steps = g.steps; seen = g.seen; call = g.call; deeds = g.deeds; tells = g.tells };
   }
 
   -- a range with nodes that gets no further one is put

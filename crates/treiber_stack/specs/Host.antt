@@ -16,6 +16,7 @@ use Rattle.stack_machine.specs.declared.lines.Putting.{Putting}
 use Rattle.stack_machine.specs.declared.lines.Direction.{Direction}
 use Rattle.stack_machine.specs.declared.lines.Direction.TheVariants.{Down, Up}
 use Rattle.stack_machine.specs.declared.lines.Taking.TheVariants.{One, Whole}
+use Rattle.stack_machine.specs.declared.lines.Call.{Call}
 use Rattle.stack_machine.specs.declared.lines.Line.{Line}
 use Rattle.stack_machine.specs.declared.lines.Line.TheVariants.{Idle, LoadFree, LoadFreeLink, TakeFree, LinkTaken, LoadTop, LinkToTop, SwapTop, LoadTopToRefuse, LoadTopToTake, LoadTopLink, TakeTop, TakeChain, LoadLinkToTurn, TurnLink, LoadLinkToFold, LoadFreeToGive, LinkToFree, GiveBack, LoadTopToClose, MarkTop, LoadTopToShut, ShutTop, LoadTopToLook}
 use Rattle.machine.specs.declared.seats.View.{View}
@@ -199,7 +200,7 @@ pub record Did {T : Type 0} (n limit : ℕ) (o : Operation T) (list : ℕ) (kind
   pub moves : Moves list kind found zs memory
   pub saw : Saw history pass
   pub becomes : v' ≡ view_after (stepped (out.events ++ history) pass) (begun_now pass from at) out.line
-  pub deeds : (b : List (Event T)) → Deeds (shape n limit) pass.number (line_now o at) b pass.seen → Deeds (shape n limit) pass.number out.line b (out.events ++ history)
+  pub deeds : (b : List (Event T)) (call : Call T) → Deeds (shape n limit) pass.number call (line_now o at) b pass.seen → Deeds (shape n limit) pass.number call out.line b (out.events ++ history)
   pub tells : (b : List (Event T)) → Later b pass.seen → Tells n limit b pass.seen (line_now o at) → Tells n limit b (out.events ++ history) out.line
   pub legal : Legal (shape n limit) (out.events ++ history)
   pub hand : (state n limit (out.events ++ history)).hand pass.number ≡ holding out.line

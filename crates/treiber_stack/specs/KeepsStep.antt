@@ -215,7 +215,7 @@ module _ {T : Type 0} (n limit : ℕ) (o : Operation T) (id at : ℕ) (p from : 
       moves = moves;
       saw = saw;
       becomes = refl;
-      deeds = λ b d. step_does n limit p.number b r.history m r.lists now (reads_good n limit m r.lists (who s.views) (set lines id now) r.history id now ready ready_here) (ready.linked.fine id now ready_here) (meanwhile c p.number b p.seen r.history now ahead d);
+      deeds = λ b call d. step_does n limit p.number call b r.history m r.lists now (reads_good n limit m r.lists (who s.views) (set lines id now) r.history id now ready ready_here) (ready.linked.fine id now ready_here) (meanwhile c p.number call b p.seen r.history now ahead d);
       tells = λ b before t. tells_kept ready p.number b p.seen before saw.seen now t;
       legal = quieted.told.legal;
       hand = hand_after;

@@ -7,6 +7,7 @@ use Rattle.bounded_model.specs.Histories.{Later}
 use Rattle.bounded_model.specs.Laws.{IsAtRest}
 use Rattle.bounded_model.specs.Stepping.{Underway, OneStep}
 use Rattle.stack_machine.specs.declared.lines.Answer.{Answer}
+use Rattle.stack_machine.specs.declared.lines.Call.{Call}
 use Rattle.stack_machine.specs.declared.lines.Line.{Line}
 use Rattle.stack_machine.specs.declared.lines.Line.TheVariants.{Idle}
 use Rattle.machine.specs.declared.seats.View.{View}
@@ -38,7 +39,8 @@ module _ {T : Type 0} where
     pub number : pass.number ≡ begun.number
     pub steps : begun.steps ≤ pass.steps
     pub seen : Later begun.seen pass.seen
-    pub deeds : Deeds (shape n limit) pass.number l begun.seen pass.seen
+    pub call : Call T
+    pub deeds : Deeds (shape n limit) pass.number call l begun.seen pass.seen
     pub tells : Tells n limit begun.seen pass.seen l
 
   -- its operation has answered
@@ -48,7 +50,8 @@ module _ {T : Type 0} where
     pub number : (pass_of v).number ≡ begun.number
     pub steps : begun.steps < (pass_of v).steps
     pub seen : Later begun.seen (pass_of v).seen
-    pub deeds : Deeds (shape n limit) (pass_of v).number (Idle (Some a)) begun.seen (pass_of v).seen
+    pub call : Call T
+    pub deeds : Deeds (shape n limit) (pass_of v).number call (Idle (Some a)) begun.seen (pass_of v).seen
     pub tells : Tells n limit begun.seen (pass_of v).seen (Idle (Some a))
 
   -- A step of a pass, whose view was v and is v', was the core's step of the line l, from a memory and a history that meet the core's rule, and led to l'.

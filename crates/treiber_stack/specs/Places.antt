@@ -1,5 +1,5 @@
 -- The values in the places of a range.
-use Rattle.std.specs.Prelude.{List, [], ◌∷◌, Option as Slot, Some, None}
+use Rattle.std.specs.Prelude.{List, [], ◌∷◌}
 use Rattle.treiber_stack.specs.declared.operation.Listed.{Listed}
 use Rattle.treiber_stack.specs.declared.operation.Listed.TheVariants.{End, More'}
 

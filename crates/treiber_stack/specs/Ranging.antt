@@ -29,7 +29,6 @@ use Rattle.treiber_stack.specs.declared.operation.Operation.TheVariants.{Underwa
 use Rattle.treiber_stack.specs.declared.ranging.Held.{Held}
 use Rattle.treiber_stack.specs.declared.ranging.NoNode.{NoNode}
 use Rattle.treiber_stack.specs.declared.ranging.NoNode.TheVariants.{NoneFree, Spent as NodeSpent}
-use Rattle.bounded_model.specs.declared.bulk.Ranged.{Ranged}
 use Rattle.bounded_model.specs.declared.bulk.RangeRefused.{RangeRefused}
 use Rattle.bounded_model.specs.declared.bulk.RangeRefused.TheVariants.{Nothing, Full, Closed, Spent}
 use Rattle.treiber_stack.specs.declared.stack.Stack.{Stack}

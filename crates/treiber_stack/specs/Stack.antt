@@ -4,8 +4,7 @@ use Rattle.tagged_index.specs.Limits.{capacity_of, tag_limit_of}
 use Rattle.bounded_model.specs.declared.views.PassView.{PassView}
 use Rattle.bounded_model.specs.declared.views.RootView.{RootView}
 use Rattle.bounded_model.specs.Machine.{Shape}
-use Rattle.bounded_model.specs.Laws.{IsAtRest, IsSound}
-use Rattle.bounded_model.specs.Bulk.{Call}
+use Rattle.bounded_model.specs.Laws.{Call, IsAtRest, IsSound}
 use Rattle.machine.specs.declared.seats.View.TheVariants.{AtRoot}
 use Rattle.stack_machine.specs.Answers.{shape}
 use Rattle.machine.specs.Seats.{pass_of, root_of, at_rest}

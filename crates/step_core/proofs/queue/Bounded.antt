@@ -7,7 +7,7 @@ use lib.ListN.{get_elem?}
 use Rattle.tagged_index.specs.declared.word.TheConstants.{NULL}
 use Rattle.bounded_model.specs.declared.history.Event.{Event}
 use Rattle.machine.specs.Words.{Tagged, same, times}
-use Rattle.machine.proofs.Tests.{same-is}
+use Rattle.machine.proofs.Tests.{same-is, one_of}
 use Rattle.machine.proofs.Lists.{times_here}
 use Rattle.machine.proofs.Sums.{at_map}
 use Rattle.queue_machine.specs.declared.lines.Seeking.TheVariants.{ToLink, ToClose}
@@ -25,7 +25,7 @@ use Rattle.step_core.specs.queue.Bound.{MeetsRule}
 use Rattle.step_core.proofs.queue.Run.{Rule, begins_kept}
 use Rattle.queue_machine.proofs.Chain.{word_else, tail_in, head_in}
 use Rattle.queue_machine.proofs.StepKinds.{outside}
-use Rattle.step_core.proofs.queue.Rank.{lag, late, late_by, turn, rank_of, rank, one_of, step_falls, rank_small}
+use Rattle.step_core.proofs.queue.Rank.{lag, late, late_by, turn, rank_of, rank, step_falls, rank_small}
 
 module _ {T : Type 0} where
   -- a step that wins no exchange leaves the tops, the head, the tail, and the links of the chain

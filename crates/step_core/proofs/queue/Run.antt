@@ -98,10 +98,8 @@ module _ {T : Type 0} (n limit : ℕ) where
   pub run_meets : (passes : ℕ) (schedule : List (ℕ × Act (Call T))) → 0 < n → n < NULL → 0 < limit → MeetsRule n limit (run (queue (shape n limit)) schedule (start (queue (shape n limit)) passes))
   run_meets passes schedule h small some_tags = (run_stays passes schedule h small some_tags).rule
 
-  pub queue_lawful : (passes : ℕ) (schedule : List (ℕ × Act (Call T))) → 0 < n → n < NULL → 0 < limit → Lawful T n limit (run (queue (shape n limit)) schedule (start (queue (shape n limit)) passes))
-  queue_lawful passes schedule h small some_tags =
-      let s = run (queue (shape n limit)) schedule (start (queue (shape n limit)) passes) in
-      let x = run_stays passes schedule h small some_tags in
+  lawful : (s : State T) → Kept_at s → Lawful T n limit s
+  lawful s x =
       let g = x.rule.good in
       let lists = x.rule.lists in
       let ch = g.linked.chained in
@@ -140,6 +138,9 @@ module _ {T : Type 0} (n limit : ℕ) where
         knows = x.knows;
         answered = λ p v a e idle. subst (Tells n limit v.begun v.seen) idle (x.story p v e).0;
       }
+
+  pub queue_lawful : (passes : ℕ) (schedule : List (ℕ × Act (Call T))) → 0 < n → n < NULL → 0 < limit → Lawful T n limit (run (queue (shape n limit)) schedule (start (queue (shape n limit)) passes))
+  queue_lawful passes schedule h small some_tags = lawful (run (queue (shape n limit)) schedule (start (queue (shape n limit)) passes)) (run_stays passes schedule h small some_tags)
 
   -- an idle pass that has answered has begun a call
   answered : (p : ℕ) (v : Pass T) (a : Answer T) (o : Option (Call T)) → v.call ≡ o → IsDoing p o (Idle (Some a)) v.begun v.seen → HasAnswered p v a

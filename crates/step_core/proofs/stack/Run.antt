@@ -1,7 +1,7 @@
 -- The stack's machine in every schedule.
-use Rattle.std.proofs.Common.{◌≡◌, ℕ, ◌<◌, ◌≤◌, true, List, [], length, set, refl, sym, ap, ◌∙◌, subst, arith, Some}
+use Rattle.std.proofs.Common.{◌≡◌, ℕ, ◌<◌, ◌≤◌, true, false, List, [], length, set, refl, sym, ap, ◌∙◌, subst, arith, Some, None, ◌++◌}
 use Rattle.std.proofs.lemmas.Bool.{false≢true}
-use mathlib.Core.Option.{Option, some}
+use mathlib.Core.Option.{Option, none, some}
 use lib.ListN.{get_elem?}
 use Rattle.tagged_index.specs.declared.word.TheConstants.{NULL}
 use Rattle.bounded_model.specs.declared.history.Event.{Event}
@@ -9,6 +9,7 @@ use Rattle.machine.specs.Words.{times}
 use Rattle.machine.specs.Schedule.{Act, run, start}
 use Rattle.machine.proofs.Scheduled.{Holds, run_kept}
 use Rattle.machine.proofs.Stories.{Told, Stays, stays_holds, start_stays}
+use Rattle.machine.proofs.Ahead.{Ahead}
 use Rattle.machine.proofs.Sums.{total_map, at_map}
 use Rattle.stack_machine.specs.declared.lines.Line.{Line}
 use Rattle.stack_machine.specs.declared.lines.Line.TheVariants.{Idle}
@@ -16,23 +17,28 @@ use Rattle.stack_machine.specs.declared.lines.Call.{Call}
 use Rattle.stack_machine.specs.declared.lines.Call.TheVariants.{Put as CallPut, Take as CallTake, Close as CallClose, Shut as CallShut, Look as CallLook}
 use Rattle.stack_machine.specs.Answers.{shape}
 use Rattle.stack_machine.specs.Deeds.{Deeds}
-use Rattle.stack_machine.specs.Machine.{Memory, Pass, State, held, is_idle, starts, stack}
+use Rattle.stack_machine.specs.Machine.{Memory, Pass, State, held, is_idle, starts, step, stack}
 use Rattle.stack_machine.specs.Rule.{Lists, IsFine, Tells, putting}
 use Rattle.stack_machine.proofs.Start.{start_kept, reads_good}
 use Rattle.stack_machine.proofs.Moves.{Kept, good_goes}
 use Rattle.stack_machine.proofs.Step.{step_kept}
 use Rattle.stack_machine.proofs.Tells.{tells_kept, step_apart}
-use Rattle.stack_machine.proofs.Doing.{meanwhile, step_does}
-use Rattle.step_core.specs.stack.Law.{Lawful, AllDone}
+use Rattle.stack_machine.proofs.Doing.{begins, meanwhile, step_does}
+use Rattle.step_core.specs.stack.Law.{Lawful, HasAnswered, AllDone}
 
 module _ {T : Type 0} (n limit : ℕ) where
   -- between any two acts the words, slots and lines are right for the history
   abbrev pub Rule : Memory T → List (Line T) → List (Event T) → Type 0
   Rule m lines h = Kept T n limit m some lines h
 
-  -- and each pass's answer is, and what it has done is what its line says
+  -- a pass that was begun with a call has done what its line says
+  abbrev pub Did : ℕ → Option (Call T) → Line T → List (Event T) → List (Event T) → Type 0
+  Did p none l begun seen = l ≡ Idle None
+  Did p (some call) l begun seen = Deeds (shape n limit) p call l begun seen
+
+  -- and the answer that is on its way is right
   abbrev pub Story : ℕ → Option (Call T) → Line T → List (Event T) → List (Event T) → Type 0
-  Story p call l begun seen = Tells n limit begun seen l × Deeds (shape n limit) p l begun seen
+  Story p call l begun seen = Tells n limit begun seen l × Did p call l begun seen
 
   idle_holds : (l : Line T) → is_idle l ≡ true → (held l ≡ []) × (putting l ≡ [])
   idle_holds (Idle a) h = (refl, refl)
@@ -54,11 +60,17 @@ module _ {T : Type 0} (n limit : ℕ) where
 
   -- a call that has just been begun has done nothing
   begins_story : (p : ℕ) (seen : List (Event T)) (call : Call T) → Story p (some call) (starts call) seen seen
-  begins_story p seen (CallPut v vs) = (tt, record { between = []; is = refl; made = refl; all = tt })
-  begins_story p seen (CallTake taking) = (tt, record { between = []; is = refl; made = refl; all = tt })
-  begins_story p seen CallClose = (tt, record { between = []; is = refl; made = refl; all = tt })
-  begins_story p seen CallShut = (tt, record { between = []; is = refl; made = refl; all = tt })
-  begins_story p seen CallLook = (tt, record { between = []; is = refl; made = refl; all = tt })
+  begins_story p seen (CallPut v vs) = (tt, begins (shape n limit) p seen (CallPut v vs))
+  begins_story p seen (CallTake taking) = (tt, begins (shape n limit) p seen (CallTake taking))
+  begins_story p seen CallClose = (tt, begins (shape n limit) p seen CallClose)
+  begins_story p seen CallShut = (tt, begins (shape n limit) p seen CallShut)
+  begins_story p seen CallLook = (tt, begins (shape n limit) p seen CallLook)
+
+  module _ (m : Memory T) (lines : List (Line T)) (h : List (Event T)) (p : ℕ) (l : Line T) (begun seen : List (Event T)) (x : Rule m lines h) (e : get_elem? lines p ≡ some l) (busy : is_idle l ≡ false) (a : Ahead p seen h) where
+    steps_did : (call : Option (Call T)) → Did p call l begun seen → Did p call (step (shape n limit) m p l).line begun ((step (shape n limit) m p l).events ++ h)
+    steps_did none idle = absurd (false≢true (sym busy ∙ ap is_idle idle))
+    steps_did (some call) deeds =
+        step_does n limit p call begun h m x.lists l (reads_good n limit m x.lists some lines h p l x.good e) (x.good.linked.fine p l e) (meanwhile (shape n limit) p call begun seen h l a deeds)
 
   pub stack_told : Told (stack (shape n limit)) Rule Story
   stack_told = record {
@@ -67,7 +79,7 @@ module _ {T : Type 0} (n limit : ℕ) where
     steps = λ m lines h p l x e busy. step_kept n limit m some lines h p p refl x l e;
     steps_story = λ m lines h p call l b seen x e busy before ahead story. (
       tells_kept x.good p b seen before (record { more = ahead.rest; is = ahead.is }) l story.0,
-      step_does n limit p b h m x.lists l (reads_good n limit m x.lists some lines h p l x.good e) (x.good.linked.fine p l e) (meanwhile (shape n limit) p b seen h l ahead story.1),
+      steps_did m lines h p l b seen x e busy ahead call story.1,
     );
     apart = λ m h p q l ne. step_apart (shape n limit) m p q ne h l;
   }
@@ -81,7 +93,7 @@ module _ {T : Type 0} (n limit : ℕ) where
 
   pub run_stays : (passes : ℕ) (schedule : List (ℕ × Act (Call T))) → 0 < n → n ≤ NULL → Kept_at (run (stack (shape n limit)) schedule (start (stack (shape n limit)) passes))
   run_stays passes schedule h small = run_kept (stack (shape n limit)) Kept_at stack_holds schedule (start (stack (shape n limit)) passes)
-      (start_stays (stack (shape n limit)) Rule Story passes (start_kept n limit passes h small) (λ p. (tt, record { between = []; is = refl; made = refl; all = tt })))
+      (start_stays (stack (shape n limit)) Rule Story passes (start_kept n limit passes h small) (λ p. (tt, refl)))
 
   pub stack_lawful : (passes : ℕ) (schedule : List (ℕ × Act (Call T))) → 0 < n → n ≤ NULL → Lawful T n limit (run (stack (shape n limit)) schedule (start (stack (shape n limit)) passes))
   stack_lawful passes schedule h small =
@@ -109,6 +121,9 @@ module _ {T : Type 0} (n limit : ℕ) where
       }
 
   pub all_done : (passes : ℕ) (schedule : List (ℕ × Act (Call T))) → 0 < n → n ≤ NULL → AllDone (shape n limit) (run (stack (shape n limit)) schedule (start (stack (shape n limit)) passes))
-  all_done passes schedule some_node small p v a e idle =
-      let at : Deeds (shape n limit) p (Idle (Some a)) v.begun v.seen = subst (λ (l : Line T). Deeds (shape n limit) p l v.begun v.seen) idle ((run_stays passes schedule some_node small).story p v e).1 in
-      record { between = at.between; is = at.is; made = at.made; all = at.all }
+  all_done passes schedule some_node small p v a e idle = answered v.call refl
+      (subst (λ (l : Line T). Did p v.call l v.begun v.seen) idle ((run_stays passes schedule some_node small).story p v e).1)
+    where
+      answered : (call : Option (Call T)) → v.call ≡ call → Did p call (Idle (Some a)) v.begun v.seen → HasAnswered (shape n limit) p v a
+      answered none is at = cc
+      answered (some call) is at = record { call = call; of = is; done = record { between = at.between; is = at.is; made = at.made; all = at.all } }

@@ -5,6 +5,7 @@ use lib.ListN.{get_elem?}
 use Rattle.bounded_model.specs.Machine.{Shape, Legal}
 use Rattle.machine.specs.Words.{times, total, Stands}
 use Rattle.stack_machine.specs.declared.lines.Answer.{Answer}
+use Rattle.stack_machine.specs.declared.lines.Call.{Call}
 use Rattle.stack_machine.specs.declared.lines.Line.TheVariants.{Idle}
 use Rattle.machine.specs.Chains.{HasValues}
 use Rattle.machine.specs.Seen.{Knows}
@@ -35,6 +36,12 @@ pub record Lawful (T : Type 0) (n limit : ℕ) (s : State T) : Type 0 where
   pub knows : (p : ℕ) (v : Pass T) → get_elem? s.passes p ≡ some v → Knows p v s.history
   pub answered : (p : ℕ) (v : Pass T) (a : Answer T) → get_elem? s.passes p ≡ some v → v.line ≡ Idle (Some a) → IsRight n limit v.begun v.seen a
 
--- each pass that has ended an operation has done what it answered
+-- a pass has answered the call that its operation was begun with, and has done what it answered
+pub record HasAnswered {T : Type 0} (c : Shape) (p : ℕ) (v : Pass T) (a : Answer T) : Type 0 where
+  pub call : Call T
+  pub of : v.call ≡ some call
+  pub done : HasDone c p call a v.begun v.seen
+
+-- and so has each pass that has ended an operation
 abbrev pub AllDone : {T : Type 0} → Shape → State T → Type 0
-AllDone {T} c s = (p : ℕ) (v : Pass T) (a : Answer T) → get_elem? s.passes p ≡ some v → v.line ≡ Idle (Some a) → HasDone c p a v.begun v.seen
+AllDone {T} c s = (p : ℕ) (v : Pass T) (a : Answer T) → get_elem? s.passes p ≡ some v → v.line ≡ Idle (Some a) → HasAnswered c p v a
