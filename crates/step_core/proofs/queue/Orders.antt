@@ -12,7 +12,8 @@ use Rattle.queue_machine.specs.declared.lines.Line.TheVariants.{LoadCells, LoadN
 use Rattle.queue_machine.specs.Machine.{queue, Memory, Outcome, step, goes_on, ends, found_cells, found_back, back_null, back_closed, found_front}
 use Rattle.step_core.proofs.Scripts.{Fails, calls, begins, steps, answers, begun, again, ended}
 use Rattle.queue_machine.specs.Answers.{shape}
-use Rattle.step_core.proofs.queue.Cast.{Machines, player, a, b, c, v, w, x, y, z, put, take, put_is, full, put_closed, cells_spent, next_spent, take_is, no_take}
+use Rattle.step_core.proofs.Letters.{a, b, c, v, w, x, y, z}
+use Rattle.step_core.proofs.queue.Cast.{Machines, player, put, take, put_is, full, put_closed, cells_spent, next_spent, take_is, no_take}
 
 -- a put that looks at the limit before it looks for a free cell
 abbrev limit_first : Machines
