@@ -1,3 +1,4 @@
 pub mod Seeks
 pub mod Closes
 pub mod Gives
+pub mod Takes
