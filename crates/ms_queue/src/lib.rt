@@ -14,11 +14,19 @@
 
 mod closing;
 mod giving;
+mod looking;
 mod making;
+mod putting;
 mod queue;
 mod rule;
 mod seeking;
+mod shutting;
+mod taking;
 
 pub use closing::CloseOp;
+pub use looking::LookOp;
+pub use putting::PutOp;
 pub use queue::{Pass, Queue, Root};
 pub use rule::Queued;
+pub use shutting::ShutOp;
+pub use taking::TakeOp;
