@@ -1,3 +1,5 @@
 pub mod Seeks
 pub mod Closes
 pub mod Gives
+pub mod Leftover
+pub mod Crossing

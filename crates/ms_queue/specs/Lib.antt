@@ -2,3 +2,4 @@ pub mod Queue
 pub mod Seeking
 pub mod Closing
 pub mod Giving
+pub mod Left

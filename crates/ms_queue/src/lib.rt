@@ -13,12 +13,15 @@
 #![tactic(auto)]
 
 mod closing;
+mod ending;
 mod giving;
 mod making;
 mod queue;
+mod rest;
 mod rule;
 mod seeking;
 
 pub use closing::CloseOp;
 pub use queue::{Pass, Queue, Root};
+pub use rest::Rest;
 pub use rule::Queued;
