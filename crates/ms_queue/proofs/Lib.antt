@@ -3,3 +3,4 @@ pub mod Closes
 pub mod Gives
 pub mod Leftover
 pub mod Crossing
+pub mod Takes

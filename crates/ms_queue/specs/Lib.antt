@@ -3,3 +3,6 @@ pub mod Seeking
 pub mod Closing
 pub mod Giving
 pub mod Left
+pub mod Taking
+pub mod Shutting
+pub mod Looking

@@ -15,13 +15,19 @@
 mod closing;
 mod ending;
 mod giving;
+mod looking;
 mod making;
 mod queue;
 mod rest;
 mod rule;
 mod seeking;
+mod shutting;
+mod taking;
 
 pub use closing::CloseOp;
+pub use looking::LookOp;
 pub use queue::{Pass, Queue, Root};
 pub use rest::Rest;
 pub use rule::Queued;
+pub use shutting::ShutOp;
+pub use taking::TakeOp;

@@ -16,8 +16,8 @@ use Rattle.bounded_model.specs.Gathers.{gather, took_of, moved_by, values_of, Ri
 use Rattle.bounded_model.proofs.Histories.{own-mine, own-other}
 use Rattle.relay.specs.declared.messages.Message.{Message}
 use Rattle.relay.specs.declared.outcome.Taken.{Taken}
-use Rattle.relay.specs.declared.orders.Orders.{Orders}
-use Rattle.relay.specs.declared.parts.Took.{Took}
+use Rattle.relay.specs.declared.plan.Orders.{Orders}
+use Rattle.relay.specs.declared.workers.Took.{Took}
 use Rattle.relay.specs.Promises.{messages_of, taken_by}
 use Rattle.relay.specs.Workers.{moves_of}
 use Rattle.relay.specs.Worked.{TookAs}

@@ -16,14 +16,14 @@ use Rattle.bounded_model.specs.Histories.{own, pass_of}
 use Rattle.bounded_model.specs.Justified.{IsEmpty}
 use Rattle.bounded_model.specs.Gathers.{gather, Moved, put_of, took_of, values_of, Rises, EachFrom}
 use Rattle.bounded_model.proofs.Histories.{own-other}
-use Rattle.relay.specs.declared.ends.ProducerEnd.{ProducerEnd}
+use Rattle.relay.specs.declared.workers.ProducerEnd.{ProducerEnd}
 use Rattle.relay.specs.declared.messages.Message.{Message}
 use Rattle.relay.specs.declared.outcome.Plan.{Plan}
 use Rattle.relay.specs.declared.outcome.Taken.{Taken}
 use Rattle.relay.specs.declared.outcome.Relayed.{Relayed}
-use Rattle.relay.specs.declared.orders.Orders.{Orders}
-use Rattle.relay.specs.declared.parts.Sent.{Sent}
-use Rattle.relay.specs.declared.parts.Took.{Took}
+use Rattle.relay.specs.declared.plan.Orders.{Orders}
+use Rattle.relay.specs.declared.workers.Sent.{Sent}
+use Rattle.relay.specs.declared.workers.Took.{Took}
 use Rattle.relay.specs.Promises.{Lists, total, list_of, sent_by, messages_of, taken_by, ended_up, IsAmple, Relays, LosesNothing, KeepsOrder, SendsAll, SendsFirst, LeavesNothing, NumbersRise, NumbersCount, NamesConsumers, TakesNoMore, FirstTakesNoMore, TakesShares, FirstTakesShare}
 use Rattle.relay.specs.Workers.{Worker, Producer, Closer, Did, Ran, items_of, taken_of, moves_of, Accounts, InOrder, AllSent, TookK, AtMost, AtMostFirst, FirstTook, FirstPut, HasConsumer}
 use Rattle.relay.specs.Worked.{EachSent}

@@ -9,11 +9,11 @@ use Rattle.bounded_model.specs.Histories.{own}
 use Rattle.bounded_model.specs.Gathers.{EachFrom}
 use Rattle.relay.specs.declared.messages.Message.{Message}
 use Rattle.relay.specs.declared.outcome.Taken.{Taken}
-use Rattle.relay.specs.declared.orders.Orders.{Orders}
-use Rattle.relay.specs.declared.parts.Sender.{Sender}
-use Rattle.relay.specs.declared.parts.Sent.{Sent}
-use Rattle.relay.specs.declared.parts.Taker.{Taker}
-use Rattle.relay.specs.declared.parts.Took.{Took}
+use Rattle.relay.specs.declared.plan.Orders.{Orders}
+use Rattle.relay.specs.declared.workers.Sender.{Sender}
+use Rattle.relay.specs.declared.workers.Sent.{Sent}
+use Rattle.relay.specs.declared.workers.Taker.{Taker}
+use Rattle.relay.specs.declared.workers.Took.{Took}
 use Rattle.relay.specs.Messages.{GoOnFrom, AreInputsFrom}
 use Rattle.relay.specs.Rooms.{IsRoomFor, most_taken}
 use Rattle.relay.specs.Passes.{new_pass, IsNewSender, IsNewTaker}

@@ -1,8 +1,8 @@
 -- Room that was taken before it is needed.
 use Rattle.std.specs.Prelude.{◌≡◌, ℕ, ◌+◌, ◌≤◌, min, Option, None, Some, [], Vec, All, vec_len, vec_capacity}
 use Rattle.std.specs.declared.alloc.Global.{Global}
-use Rattle.relay.specs.declared.rooms.WorkRoom.{WorkRoom}
-use Rattle.relay.specs.declared.rooms.OutcomeRoom.{OutcomeRoom}
+use Rattle.relay.specs.declared.memory.WorkRoom.{WorkRoom}
+use Rattle.relay.specs.declared.memory.OutcomeRoom.{OutcomeRoom}
 
 -- an empty list that takes n elements and no memory
 pub record IsRoomFor {A : Type 0} (n : ℕ) (v : Vec A Global) : Type 0 where

@@ -1,5 +1,5 @@
 -- Scripts of calls and single steps of up to three passes, played by any machine.
-use Rattle.std.proofs.Common.{◌≡◌, ℕ, zero, suc, cond, List, [], ◌∷◌, map, set}
+use Rattle.std.proofs.Common.{◌≡◌, ℕ, zero, suc, cond, List, [], ◌∷◌, ◌++◌, map, set}
 use mathlib.Core.Option.{Option, none, some}
 use lib.ListN.{get_elem?}
 use Rattle.machine.specs.Schedule.{Machine, Pass, State, Begin, Step, acts_at, start}
@@ -85,3 +85,7 @@ module _ {M L C A E : Type 0} (x : Player M L C A E) where
   -- each line of the script gets its reply
   abbrev pub Plays : List (Says C × Reply A) → Type 0
   Plays script = replies curtain (map (λ line. line.0) script) ≡ map (λ line. line.1) script
+
+  -- the first lines of a script get their replies, and then one gets this reply in place of its own
+  abbrev pub Fails : List (Says C × Reply A) → (Says C × Reply A) → Reply A → Type 0
+  Fails script line other = replies curtain (map (λ line. line.0) (script ++ line ∷ [])) ≡ map (λ line. line.1) script ++ other ∷ []

@@ -10,7 +10,7 @@ use Rattle.stack_machine.specs.declared.lines.Direction.TheVariants.{Down}
 use Rattle.stack_machine.specs.declared.lines.Taking.TheVariants.{One, Whole}
 use Rattle.stack_machine.specs.declared.lines.Answer.TheVariants.{Close as AnswerClose, Shut as AnswerShut}
 use Rattle.stack_machine.specs.declared.lines.Line.{Line}
-use Rattle.stack_machine.specs.declared.lines.Line.TheVariants.{LoadFree, TakeFree, LoadTop, SwapTop, LoadTopToTake, TakeTop, LoadLinkToFold, LoadTopToClose, MarkTop, LoadTopToShut, ShutTop}
+use Rattle.stack_machine.specs.declared.lines.Line.TheVariants.{LoadFree, TakeFree, LoadTop, SwapTop, LoadTopToTake, TakeTop, LoadLinkToFold, LoadTopToClose, MarkTop, LoadTopToShut, ShutTop, GiveBack}
 use Rattle.stack_machine.specs.declared.lines.Call.TheVariants.{Put as CallPut, Take as CallTake, Close as CallClose, Shut as CallShut}
 use Rattle.machine.specs.Schedule.{Act, Begin, Step, run, start}
 use Rattle.stack_machine.specs.declared.lines.Call.{Call}
@@ -118,6 +118,25 @@ forgotten-unlawful law =
     let no_stack : law.stack ≡ [] = none_there forgotten.memory.link NULL law.stack refl (omega arith) law.top_stands in
     let somewhere : times 0 law.frees + times 0 law.stack + 0 ≡ 1 = law.once 0 in
     absurd (omega (arith, somewhere, ap (times 0) no_frees, ap (times 0) no_stack))
+
+-- A take that leaves its value in the node, and a give that does so too: the node is free and not empty
+abbrev leaves_values : Steps
+leaves_values m p (TakeTop w k) = let o = step (shape 1 15) m p (TakeTop w k) in record o { memory = record o.memory { home = m.home } }
+leaves_values m p (GiveBack give w) = let o = step (shape 1 15) m p (GiveBack give w) in record o { memory = record o.memory { home = m.home } }
+leaves_values m p l = step (shape 1 15) m p l
+
+abbrev left_there : State ℕ
+left_there = runs leaves_values (puts 0 10 ++ steps 0 6 ++ takes 0 ++ steps 0 6) (first_state 1 1)
+
+left_there-unlawful : ¬ Lawful ℕ 1 15 left_there
+left_there-unlawful law =
+    let no_null : times NULL law.frees + times NULL law.stack + 0 ≡ 0 = law.once NULL in
+    let no_stack : law.stack ≡ [] = none_there left_there.memory.link NULL law.stack refl (omega arith) law.top_stands in
+    let once : times 0 law.frees + times 0 law.stack + 0 ≡ 1 = law.once 0 in
+    full (law.empty 0 (omega (arith, once, ap (times 0) no_stack)))
+  where
+    full : ◌≡◌ {A = Option (Slot ℕ)} (some (Some 10)) (some None) → ⊥
+    full e = cc
 
 -- Closing sets a flag of its own, a word that lies beside the links, and a put that found it clear goes in after the close
 abbrev flag : Memory ℕ → ℕ

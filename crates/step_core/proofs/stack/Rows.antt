@@ -1,111 +1,13 @@
 -- Worked scripts of the stack: the machine computes their replies and step counts.
-use Rattle.std.proofs.Common.{ℕ, true, false, List, [], ◌∷◌, refl, Ok, Err, Some}
-use mathlib.Core.Option.{Option, none, some}
-use Rattle.bounded_model.specs.declared.history.Event.{Event}
-use Rattle.bounded_model.specs.Machine.{Shape}
-use Rattle.stack_machine.specs.declared.lines.Line.{Line}
-use Rattle.stack_machine.specs.declared.lines.Line.TheVariants.{Idle}
-use Rattle.bounded_model.specs.declared.answers.Word.TheVariants.{Free as FreeWord, Top as TopWord}
-use Rattle.bounded_model.specs.declared.answers.PutRefused.TheVariants.{Full, Closed as PutClosed, Spent as PutSpent}
-use Rattle.bounded_model.specs.declared.answers.TakeRefused.{TakeRefused}
+use Rattle.std.proofs.Common.{true, false, [], ◌∷◌, refl}
+use Rattle.bounded_model.specs.declared.answers.Word.TheVariants.{Top as TopWord}
 use Rattle.bounded_model.specs.declared.answers.TakeRefused.TheVariants.{Empty, Closed, Spent, Shut}
-use Rattle.stack_machine.specs.declared.lines.Direction.TheVariants.{Down, Up}
-use Rattle.stack_machine.specs.declared.lines.Taking.TheVariants.{One, Whole}
-use Rattle.stack_machine.specs.declared.lines.Answer.{Answer}
-use Rattle.stack_machine.specs.declared.lines.Answer.TheVariants.{Put, Take, Fold, Close, Shut as ShutAnswer, Look}
-use Rattle.stack_machine.specs.declared.lines.Call.{Call}
-use Rattle.stack_machine.specs.declared.lines.Call.TheVariants.{Put as PutCall, Take as TakeCall, Close as CloseCall, Shut as ShutCall, Look as LookCall}
+use Rattle.stack_machine.specs.declared.lines.Answer.TheVariants.{Close, Shut as ShutAnswer, Look}
+use Rattle.stack_machine.specs.declared.lines.Call.TheVariants.{Close as CloseCall, Shut as ShutCall, Look as LookCall}
 use Rattle.stack_machine.specs.Answers.{shape}
-use Rattle.stack_machine.specs.Machine.{Memory, stack}
-use Rattle.machine.specs.Chains.{chain_from, values_in}
-use Rattle.step_core.proofs.Scripts.{Player, calls, begins, steps, finish, answers, begun, again, ended, rest, Plays}
-
--- the stack, the answer of a line, and what is left from the top down
-abbrev answer : Line ℕ → Option (Answer ℕ)
-answer (Idle (Some a)) = some a
-answer l = none
-
-abbrev plays : Shape → Player (Memory ℕ) (Line ℕ) (Call ℕ) (Answer ℕ) (Event ℕ)
-plays c = record { machine = stack c; answer = answer; left = λ m. values_in m.home (chain_from c.capacity m.link m.top.index) }
-
--- passes
-abbrev a : ℕ
-a = 0
-
-abbrev b : ℕ
-b = 1
-
-abbrev c : ℕ
-c = 2
-
--- values
-abbrev t : ℕ
-t = 116
-
-abbrev u : ℕ
-u = 117
-
-abbrev v : ℕ
-v = 118
-
-abbrev w : ℕ
-w = 119
-
-abbrev x : ℕ
-x = 120
-
-abbrev y : ℕ
-y = 121
-
-abbrev z : ℕ
-z = 122
-
--- calls
-abbrev put : ℕ → Call ℕ
-put value = PutCall value []
-
-abbrev range : ℕ → List ℕ → Call ℕ
-range value more = PutCall value more
-
-abbrev take : Call ℕ
-take = TakeCall One
-
-abbrev fold : Call ℕ
-fold = TakeCall (Whole Down)
-
-abbrev reversed_fold : Call ℕ
-reversed_fold = TakeCall (Whole Up)
-
--- answers
-abbrev put_is : ℕ → Answer ℕ
-put_is n = Put (Ok (n, []))
-
-abbrev range_is : ℕ → List ℕ → Answer ℕ
-range_is n kept = Put (Ok (n, kept))
-
-abbrev full : List ℕ → Answer ℕ
-full values = Put (Err (Full values))
-
-abbrev put_closed : List ℕ → Answer ℕ
-put_closed values = Put (Err (PutClosed values))
-
-abbrev top_spent : ℕ → List ℕ → Answer ℕ
-top_spent tag values = Put (Err (PutSpent values TopWord tag))
-
-abbrev free_spent : ℕ → List ℕ → Answer ℕ
-free_spent tag values = Put (Err (PutSpent values FreeWord tag))
-
-abbrev take_is : ℕ → ℕ → Answer ℕ
-take_is n value = Take (Ok (value, n))
-
-abbrev no_take : TakeRefused → Answer ℕ
-no_take why = Take (Err why)
-
-abbrev fold_is : ℕ → List ℕ → Answer ℕ
-fold_is n values = Fold (Ok (values, n))
-
-abbrev no_fold : TakeRefused → Answer ℕ
-no_fold why = Fold (Err why)
+use Rattle.step_core.proofs.Scripts.{calls, begins, steps, finish, answers, begun, again, ended, rest, Plays}
+use Rattle.step_core.proofs.Letters.{a, b, c, t, u, v, w, x, y, z}
+use Rattle.step_core.proofs.stack.Cast.{plays, put, range, take, fold, reversed_fold, put_is, range_is, full, put_closed, top_spent, free_spent, take_is, no_take, fold_is, no_fold}
 
 -- how many steps each call makes alone: put and take, a full put, an empty take, close, shut, look
 alone : Plays (plays (shape 1 15))
@@ -242,3 +144,60 @@ shut_stack : Plays (plays (shape 2 7))
     ∷ (finish, rest (y ∷ x ∷ []))
     ∷ [])
 shut_stack = refl
+
+-- a close overtakes a put whose node is linked, and the tag is at the limit by then
+closed_before_spent_top : Plays (plays (shape 2 2))
+    ((begins a (put x), begun)
+    ∷ (steps a 3, again 3)
+    ∷ (calls b (put y), answers (put_is 0))
+    ∷ (calls b take, answers (take_is 1 y))
+    ∷ (calls b CloseCall, answers (Close true))
+    ∷ (steps a 20, ended (put_closed (x ∷ [])) 7)
+    ∷ (finish, rest [])
+    ∷ [])
+closed_before_spent_top = refl
+
+-- a shut that has read the top finds it shut at its exchange, and looks again
+shut_is_overtaken : Plays (plays (shape 2 7))
+    ((calls a (put x), answers (put_is 0))
+    ∷ (begins a ShutCall, begun)
+    ∷ (steps a 1, again 1)
+    ∷ (calls b ShutCall, answers (ShutAnswer true))
+    ∷ (steps a 1, again 2)
+    ∷ (steps a 5, ended (ShutAnswer false) 3)
+    ∷ (finish, rest (x ∷ []))
+    ∷ [])
+shut_is_overtaken = refl
+
+close_is_overtaken : Plays (plays (shape 2 7))
+    ((calls a (put x), answers (put_is 0))
+    ∷ (begins a CloseCall, begun)
+    ∷ (steps a 1, again 1)
+    ∷ (calls b (put y), answers (put_is 1))
+    ∷ (steps a 1, again 2)
+    ∷ (steps a 9, ended (Close true) 4)
+    ∷ (calls b CloseCall, answers (Close false))
+    ∷ (finish, rest (y ∷ x ∷ []))
+    ∷ [])
+close_is_overtaken = refl
+
+folds_of_a_shut_stack : Plays (plays (shape 2 7))
+    ((calls a (put x), answers (put_is 0))
+    ∷ (calls a ShutCall, answers (ShutAnswer true))
+    ∷ (calls a fold, answers (no_fold Shut))
+    ∷ (calls a reversed_fold, answers (no_fold Shut))
+    ∷ (begins a take, begun)
+    ∷ (steps a 1, ended (no_take Shut) 1)
+    ∷ (finish, rest (x ∷ []))
+    ∷ [])
+folds_of_a_shut_stack = refl
+
+empty_and_shut : Plays (plays (shape 1 7))
+    ((calls a ShutCall, answers (ShutAnswer true))
+    ∷ (calls a take, answers (no_take Shut))
+    ∷ (calls a fold, answers (no_fold Shut))
+    ∷ (calls a CloseCall, answers (Close true))
+    ∷ (calls a take, answers (no_take Shut))
+    ∷ (finish, rest [])
+    ∷ [])
+empty_and_shut = refl
