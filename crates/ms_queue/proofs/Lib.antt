@@ -4,3 +4,4 @@ pub mod Gives
 pub mod Leftover
 pub mod Crossing
 pub mod Takes
+pub mod Puts

@@ -6,3 +6,4 @@ pub mod Left
 pub mod Taking
 pub mod Shutting
 pub mod Looking
+pub mod Putting

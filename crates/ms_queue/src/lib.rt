@@ -17,6 +17,7 @@ mod ending;
 mod giving;
 mod looking;
 mod making;
+mod putting;
 mod queue;
 mod rest;
 mod rule;
@@ -26,6 +27,7 @@ mod taking;
 
 pub use closing::CloseOp;
 pub use looking::LookOp;
+pub use putting::PutOp;
 pub use queue::{Pass, Queue, Root};
 pub use rest::Rest;
 pub use rule::Queued;
