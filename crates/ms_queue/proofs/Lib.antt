@@ -2,3 +2,4 @@ pub mod Seeks
 pub mod Closes
 pub mod Gives
 pub mod Takes
+pub mod Puts

@@ -5,3 +5,4 @@ pub mod Giving
 pub mod Taking
 pub mod Shutting
 pub mod Looking
+pub mod Putting

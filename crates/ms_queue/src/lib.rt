@@ -16,6 +16,7 @@ mod closing;
 mod giving;
 mod looking;
 mod making;
+mod putting;
 mod queue;
 mod rule;
 mod seeking;
@@ -24,6 +25,7 @@ mod taking;
 
 pub use closing::CloseOp;
 pub use looking::LookOp;
+pub use putting::PutOp;
 pub use queue::{Pass, Queue, Root};
 pub use rule::Queued;
 pub use shutting::ShutOp;

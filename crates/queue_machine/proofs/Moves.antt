@@ -162,7 +162,8 @@ module _ {T : Type 0} {n limit : ℕ} {m : Memory T} {g : Lists} {lines : List (
       s.cells_stand (refl, leads_from m.nlink m.nodes.index (m.nlink j) g.nodes NULL (index_of m.nodes w won ∙ sym own) s.nodes_stand)
       (record { stands = s.chained.stands; split = s.chained.split; short = s.chained.short; place = s.chained.place; stored = s.chained.stored; tidy = s.chained.tidy }) s.named f
 
-  -- What the winner of an exchange of the last link knows: the tail names the last node, and no node stands behind it
+  -- What the winner of an exchange of the last link knows: the tail names the last node, and no node
+  -- stands behind it
   pub record AtEnd (w : Tagged) : Type 0 where
     pub tag : w.tag ≡ m.tail.tag
     pub index : w.index ≡ m.tail.index

@@ -149,7 +149,8 @@ link_before_head-fails : Fails (player link_before_head (shape 2 9))
     (steps a 3, again 4) (ended (no_take Empty) 4)
 link_before_head-fails = refl
 
--- and one that looks at the mark before comparing with the head: it answers closed, although a value is there
+-- and one that looks at the mark before comparing with the head: it answers closed, although a value is
+-- there
 abbrev mark_before_head : Machines
 mark_before_head s = record (queue s) { step = moves s }
   where
