@@ -1,8 +1,8 @@
 -- How many of its own steps a call makes, while no other pass wins an exchange.
-use Rattle.std.specs.Prelude.{◌≡◌, ◌⊎◌, ℕ, ◌+◌, ◌==◌, if◌then◌else◌, Bool, false, not, List, [], ◌∷◌}
+use Rattle.std.specs.Prelude.{◌≡◌, ◌⊎◌, ℕ, ◌+◌, ◌==◌, if◌then◌else◌, Bool, false, not, [], ◌∷◌}
 use mathlib.Core.Option.{Option, none, some}
 use lib.ListN.{get_elem?}
-use Rattle.machine.specs.Schedule.{Machine, Pass, State, Act, Begin, Step, next}
+use Rattle.machine.specs.Schedule.{Machine, Pass, State, Act, Begin, Step, Schedule, next}
 
 module _ {M L C E : Type 0} (x : Machine M L C E) where
   abbrev pub wins_at : M → Act C → Option (Pass L C E) → Bool
@@ -10,7 +10,7 @@ module _ {M L C E : Type 0} (x : Machine M L C E) where
   wins_at m a v = false
 
   -- a schedule in which no pass but p wins an exchange
-  abbrev pub IsStretch : ℕ → List (ℕ × Act C) → State M L C E → Type 0
+  abbrev pub IsStretch : ℕ → Schedule C → State M L C E → Type 0
   IsStretch p [] s = Unit {0}
   IsStretch p (a ∷ more) s = ((a.0 ≡ p) ⊎ (wins_at s.memory a.1 (get_elem? s.passes a.0) ≡ false)) × IsStretch p more (next x s a)
 
@@ -23,7 +23,7 @@ module _ {M L C E : Type 0} (x : Machine M L C E) where
   counted Step = 1
 
   -- how many steps p makes in a schedule before the call that it is in has ended
-  abbrev pub own_steps : ℕ → List (ℕ × Act C) → State M L C E → ℕ
+  abbrev pub own_steps : ℕ → Schedule C → State M L C E → ℕ
   own_steps p [] s = 0
   own_steps p (a ∷ more) s =
       if is_busy (get_elem? s.passes p)

@@ -41,6 +41,10 @@ pub data Act (C : Type 0) : Type 0 where
   Begin : (call : C) → Act C
   Step : Act C
 
+-- which pass does what, one act after another
+abbrev pub Schedule : Type 0 → Type 0
+Schedule C = List (ℕ × Act C)
+
 module _ {M L C E : Type 0} (x : Machine M L C E) where
   -- pass p, which is v, after a step; it has then seen all that has happened
   abbrev pub stepped : State M L C E → ℕ → Pass L C E → Outcome M L E → State M L C E
@@ -68,7 +72,7 @@ module _ {M L C E : Type 0} (x : Machine M L C E) where
   next s a = acts_at s a.0 a.1 (get_elem? s.passes a.0)
 
   -- one act after another
-  abbrev pub run : List (ℕ × Act C) → State M L C E → State M L C E
+  abbrev pub run : Schedule C → State M L C E → State M L C E
   run [] s = s
   run (a ∷ more) s = run more (next s a)
 
@@ -77,3 +81,7 @@ module _ {M L C E : Type 0} (x : Machine M L C E) where
 
   abbrev pub start : ℕ → State M L C E
   start passes = record { memory = x.first; passes = replicate passes first_pass; history = [] }
+
+  -- the state after a schedule of so many passes
+  abbrev pub after : ℕ → Schedule C → State M L C E
+  after passes schedule = run schedule (start passes)

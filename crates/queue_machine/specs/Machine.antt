@@ -172,8 +172,8 @@ module _ {T : Type 0} where
   abbrev pub wins : Memory T → Line T → Event T → Outcome T
   wins m l e = record { memory = m; line = l; events = e ∷ [] }
 
-  -- the exchange of TakeHead is won: the cell's value goes with it. There always is one; a pass that found
-  -- none would stop here without an answer
+  -- the exchange of TakeHead is won: the cell's value goes with it. There always is one; a pass that
+  -- found none would stop here without an answer
   abbrev pub wins_value : Memory T → ℕ → Tagged → Tagged → ℕ → Option (Slot T) → Outcome T
   wins_value m p h n c none = goes_on m (Idle None)
   wins_value m p h n c (some None) = goes_on m (Idle None)

@@ -5,12 +5,10 @@
 //! on this crate.
 #![tactic(auto)]
 
-mod bounds;
-mod deeds;
-mod laws;
+mod list_laws;
 mod queue_laws;
+mod stack_laws;
 
-pub use bounds::stack_bound;
-pub use deeds::stack_answers;
-pub use laws::{list_core, stack_core};
+pub use list_laws::list_core;
 pub use queue_laws::{queue_answers, queue_bound, queue_core};
+pub use stack_laws::{stack_answers, stack_bound, stack_core, stack_nodes};

@@ -17,6 +17,7 @@ use Rattle.stack_machine.specs.Rule.{Tells}
 use Rattle.stack_machine.specs.Deeds.{Deeds}
 use Rattle.stack_machine.specs.Machine.{Memory, step}
 use Rattle.machine.specs.Seats.{Saw, at_rest, pass_of}
+use Rattle.treiber_stack.specs.declared.layout.TheConstants.{TOP}
 use Rattle.treiber_stack.specs.Rule.{idle, Meets}
 use Rattle.tagged_index.specs.Fields.{index_of}
 use Rattle.index_list.specs.declared.front.Front.{Front}
@@ -126,7 +127,7 @@ module _ {T : Type 0} where
   pub record TakesAll (c : Stack T) (o : Operation T) (front : Front) (w : ℕ) (p q : Pass T) : Type 0 where
     pub slots : List (ℕ × Slot T)
     pub has : q.seat.me.1 ≡ arranged front slots ++ p.seat.me.1
-    pub told : Told c o 1 (take_all w) w slots p q
+    pub told : Told c o TOP (take_all w) w slots p q
 
   -- the emptied slots of a chain
   abbrev pub vacant : List ℕ → List (ℕ × Slot T)

@@ -28,14 +28,6 @@ mod stack;
 mod steps;
 mod stepwise;
 mod taking;
-#[cfg(test)]
-mod tests;
-#[cfg(test)]
-mod tests_folds;
-#[cfg(test)]
-mod tests_ranges;
-#[cfg(test)]
-mod tests_threads;
 
 pub use closing::{CloseOp, ShutOp};
 pub use putting::PutOp;

@@ -1,4 +1,5 @@
--- While no other pass wins an exchange, an operation of the queue ends within the steps that its rank leaves it.
+-- While no other pass wins an exchange, an operation of the queue ends within the steps that its rank
+-- leaves it.
 use Rattle.std.proofs.Common.{◌≡◌, ℕ, ◌+◌, ◌<◌, ◌≤◌, ◌++◌, Bool, true, false, cond, eqb, List, [], map, set, refl, sym, ap, ◌∙◌, subst, arith}
 use Rattle.std.proofs.lemmas.Bool.{false≢true}
 use mathlib.Core.Option.{Option, none, some}

@@ -1,4 +1,4 @@
--- Who plays the scripts of the queue, and who and what they speak of: passes, values, calls and answers.
+-- Who plays the scripts of the queue, and the calls and answers that they speak of.
 use Rattle.std.proofs.Common.{ℕ, map, Some, Ok, Err}
 use mathlib.Core.Option.{Option, none, some}
 use Rattle.bounded_model.specs.declared.answers.Word.TheVariants.{Cells as CellsWord, Next as NextWord}
@@ -38,38 +38,6 @@ player machine s = record {
 
 abbrev pub plays : Shape → Players
 plays s = player (λ shape. queue shape) s
-
--- passes
-abbrev pub a : ℕ
-a = 0
-
-abbrev pub b : ℕ
-b = 1
-
-abbrev pub c : ℕ
-c = 2
-
--- values
-abbrev pub t : ℕ
-t = 116
-
-abbrev pub u : ℕ
-u = 117
-
-abbrev pub v : ℕ
-v = 118
-
-abbrev pub w : ℕ
-w = 119
-
-abbrev pub x : ℕ
-x = 120
-
-abbrev pub y : ℕ
-y = 121
-
-abbrev pub z : ℕ
-z = 122
 
 -- calls
 abbrev pub put : ℕ → Call ℕ

@@ -49,8 +49,9 @@ takes p = (p, Begin CallTake) ∷ []
 once : (a b : ℕ) → a + b + 2 ≡ 1 → ⊥
 once a b e = absurd (omega arith)
 
--- A cell is taken and `CELLS` keeps its tag: pass 0 has read cell 0 and its link, cell 1; cell 1 goes to pass 2, cell 0 goes out
--- and comes back, and pass 0's exchange wins. So cell 1 is free while pass 2 holds it, and pass 1 takes it a second time
+-- A cell is taken and `CELLS` keeps its tag: pass 0 has read cell 0 and its link, cell 1; cell 1 goes
+-- to pass 2, cell 0 goes out and comes back, and pass 0's exchange wins. So cell 1 is free while pass 2
+-- holds it, and pass 1 takes it a second time
 abbrev takes_cell_with_old_tag : Steps
 takes_cell_with_old_tag m p (TakeCell v w k) =
     if same m.cells w then (let o = step (shape 3 15) m p (TakeCell v w k) in record o { memory = record o.memory { cells = kept w k } })
@@ -68,8 +69,9 @@ two_hands_on_it = refl
 cell_held_twice-unlawful : ¬ Lawful ℕ 3 15 cell_held_twice
 cell_held_twice-unlawful law = once (times 1 law.lists.cells) (times 1 (map cell_held_twice.memory.cell law.lists.behind)) (law.once.cells 1)
 
--- A node is taken and `NODES` keeps its tag: pass 0 has read node 1 and its link, node 2; node 2 goes to pass 2, node 1 goes out
--- and comes back, and pass 0's exchange wins. So node 2 is free while pass 2 holds it, and pass 1 takes it a second time
+-- A node is taken and `NODES` keeps its tag: pass 0 has read node 1 and its link, node 2; node 2 goes
+-- to pass 2, node 1 goes out and comes back, and pass 0's exchange wins. So node 2 is free while pass 2
+-- holds it, and pass 1 takes it a second time
 abbrev takes_node_with_old_tag : Steps
 takes_node_with_old_tag m p (TakeNode put w k) = if same m.nodes w then goes_on (record m { nodes = kept w k }) (StoreCell (with_node put w.index)) else goes_on m (LoadNodes put)
 takes_node_with_old_tag m p l = step (shape 3 15) m p l
@@ -102,8 +104,8 @@ number_again-unlawful law = numbered law.legal
     numbered : Legal {T = ℕ} (shape 2 15) (Free 0 1 ∷ Take 0 11 0 ∷ Free 0 1 ∷ Take 0 10 0 ∷ Put 0 (11 ∷ []) 1 ∷ Hold 0 ∷ Put 0 (10 ∷ []) 0 ∷ Hold 0 ∷ []) → ⊥
     numbered legal = absurd (omega (arith, legal.1.0.2))
 
--- A link is prepared with tag 0: a put that has read it before its node went out and came back links behind a node that is no
--- longer the last, with an old number
+-- A link is prepared with tag 0: a put that has read it before its node went out and came back links
+-- behind a node that is no longer the last, with an old number
 abbrev prepares_with_no_tag : Steps
 prepares_with_no_tag m p (PrepareNext link y) = goes_on (after_next m link.node (null_word 0)) (LoadTail (ToLink link))
 prepares_with_no_tag m p l = step (shape 2 15) m p l
@@ -183,8 +185,9 @@ take_after_shut-unlawful law = shut law.legal
     shut : Legal {T = ℕ} (shape 2 15) (Take 0 10 0 ∷ Shut 1 ∷ Put 0 (10 ∷ []) 0 ∷ Hold 0 ∷ []) → ⊥
     shut legal = false≢true (sym legal.0.0)
 
--- A take loads the cell of its value after its exchange of the head, by the node that is the dummy from then on: another take has
--- given that node back, and a put has taken it and stored its own cell there. The load of `NODES` stands for both loads
+-- A take loads the cell of its value after its exchange of the head, by the node that is the dummy from
+-- then on: another take has given that node back, and a put has taken it and stored its own cell there.
+-- The load of `NODES` stands for both loads
 abbrev cell_again : Memory ℕ → Giving ℕ → ℕ
 cell_again m give = m.cell (m.next give.node).index
 
@@ -201,8 +204,8 @@ two_hands_on_the_other = refl
 wrong_cell-unlawful : ¬ Lawful ℕ 2 15 wrong_cell
 wrong_cell-unlawful law = once (times 1 law.lists.cells) (times 1 (map wrong_cell.memory.cell law.lists.behind)) (law.once.cells 1)
 
--- A take gives its cell back first and then its node: another put takes the cell and finds no node. The lines that give a node work
--- on the cells, and those that give a cell on the nodes
+-- A take gives its cell back first and then its node: another put takes the cell and finds no node. The
+-- lines that give a node work on the cells, and those that give a cell on the nodes
 abbrev gives_cell_first : Steps
 gives_cell_first m p (LoadNodesToGive give) = goes_on m (LinkToNodes give m.cells)
 gives_cell_first m p (LinkToNodes give w) = goes_on (after_clink m give.cell w.index) (GiveNode give w)
@@ -227,8 +230,8 @@ no_node-unlawful law = (law.once.finds_node 1 (record { line = LoadNodes (with_c
     seen_by_now : List (Event ℕ)
     seen_by_now = Hold 1 ∷ Free 0 1 ∷ Take 0 10 0 ∷ put_before
 
--- A put links its node without looking whether the tail is still where it was: the node that the tail named went out and came back,
--- and is another put's now
+-- A put links its node without looking whether the tail is still where it was: the node that the tail
+-- named went out and came back, and is another put's now
 abbrev links_behind_stale_tail : Steps
 links_behind_stale_tail m p (CheckTail (ToLink link) w y) = goes_on m (found_back (ToLink link) w y)
 links_behind_stale_tail m p l = step (shape 2 15) m p l

@@ -1,5 +1,6 @@
--- The order of the tests at each line matters: with another order, a script gets another reply.
-use Rattle.std.proofs.Common.{ℕ, ◌==◌, leb, if◌then◌else◌, true, false, [], ◌∷◌, refl}
+-- The order of the tests at each line matters, and so does each comparison: with another one, a script
+-- gets another reply.
+use Rattle.std.proofs.Common.{ℕ, ◌==◌, ◌&&◌, leb, if◌then◌else◌, true, false, [], ◌∷◌, refl}
 use Rattle.bounded_model.specs.declared.answers.TakeRefused.TheVariants.{Empty, Closed, Shut}
 use Rattle.queue_machine.specs.declared.lines.Answer.TheVariants.{Close, Shut as ShutAnswer, Look}
 use Rattle.queue_machine.specs.declared.lines.Call.TheVariants.{Close as CloseCall, Shut as ShutCall, Look as LookCall}
@@ -8,11 +9,12 @@ use Rattle.tagged_index.specs.declared.word.TheConstants.{NULL}
 use Rattle.machine.specs.Words.{same}
 use Rattle.queue_machine.specs.declared.lines.Seeking.TheVariants.{ToRefuse}
 use Rattle.queue_machine.specs.declared.lines.Line.{Line}
-use Rattle.queue_machine.specs.declared.lines.Line.TheVariants.{LoadCells, LoadNext, PrepareNext, LoadTail, CheckTail, LoadHead, LoadTailToTake, CheckHead, SwingTailToTake, CheckHeadToLook}
-use Rattle.queue_machine.specs.Machine.{queue, Memory, Outcome, step, goes_on, ends, found_cells, found_back, back_null, back_closed, found_front}
+use Rattle.queue_machine.specs.declared.lines.Line.TheVariants.{LoadCells, LoadNext, PrepareNext, LoadTail, CheckTail, LoadHead, LoadTailToTake, CheckHead, SwingTailToTake, TakeHead, CheckHeadToLook, MarkNext, ShutHead}
+use Rattle.queue_machine.specs.Machine.{queue, Memory, Outcome, step, goes_on, wins_value, ends, found_cells, found_back, back_null, back_closed, found_front}
 use Rattle.step_core.proofs.Scripts.{Fails, calls, begins, steps, answers, begun, again, ended}
 use Rattle.queue_machine.specs.Answers.{shape}
-use Rattle.step_core.proofs.queue.Cast.{Machines, player, a, b, c, v, w, x, y, z, put, take, put_is, full, put_closed, cells_spent, next_spent, take_is, no_take}
+use Rattle.step_core.proofs.Letters.{a, b, c, v, w, x, y, z}
+use Rattle.step_core.proofs.queue.Cast.{Machines, player, put, take, put_is, full, put_closed, cells_spent, next_spent, take_is, no_take}
 
 -- a put that looks at the limit before it looks for a free cell
 abbrev limit_first : Machines
@@ -147,6 +149,26 @@ link_before_head-fails : Fails (player link_before_head (shape 2 9))
     (steps a 3, again 4) (ended (no_take Empty) 4)
 link_before_head-fails = refl
 
+-- and one that looks at the mark before comparing with the head: it answers closed, although a value is
+-- there
+abbrev mark_before_head : Machines
+mark_before_head s = record (queue s) { step = moves s }
+  where
+    moves : Shape → Memory ℕ → ℕ → Line ℕ → Outcome ℕ
+    moves s m p (CheckHead h w n) = goes_on m (if n.mark then found_front h w n else if same m.head h then found_front h w n else LoadHead)
+    moves s m p l = step s m p l
+
+mark_before_head-fails : Fails (player mark_before_head (shape 2 9))
+    ((begins a take, begun)
+    ∷ (steps a 1, again 1)
+    ∷ (calls b (put x), answers (put_is 0))
+    ∷ (calls b take, answers (take_is 0 x))
+    ∷ (calls b (put y), answers (put_is 1))
+    ∷ (calls b CloseCall, answers (Close true))
+    ∷ [])
+    (steps a 3, again 4) (ended (no_take Closed) 4)
+mark_before_head-fails = refl
+
 -- a take that looks where the tail is before it looks for null: it moves the tail to no node
 abbrev tail_before_null : Machines
 tail_before_null s = record (queue s) { step = moves s }
@@ -177,3 +199,47 @@ link_before_answer-fails : Fails (player link_before_answer (shape 2 9))
     ∷ [])
     (steps a 2, again 3) (ended (Look false) 3)
 link_before_answer-fails = refl
+
+-- an exchange of the head that compares the index and the tag and no mark: a take wins against a shut
+abbrev mark_overlooked : Machines
+mark_overlooked s = record (queue s) { step = moves s }
+  where
+    moves : Shape → Memory ℕ → ℕ → Line ℕ → Outcome ℕ
+    moves s m p (TakeHead h n k) = if m.head.index == h.index && m.head.tag == h.tag then wins_value m p h n k (m.home k) else goes_on m LoadHead
+    moves s m p l = step s m p l
+
+mark_overlooked-fails : Fails (player mark_overlooked (shape 2 7))
+    ((calls a (put x), answers (put_is 0))
+    ∷ (calls a (put y), answers (put_is 1))
+    ∷ (begins b take, begun)
+    ∷ (steps b 5, again 5)
+    ∷ (calls a ShutCall, answers (ShutAnswer true))
+    ∷ (steps b 1, again 6)
+    ∷ [])
+    (steps b 20, ended (no_take Shut) 7) (ended (take_is 0 x) 12)
+mark_overlooked-fails = refl
+
+-- a close and a shut that answer although their mark was lost
+abbrev marks_anyway : Machines
+marks_anyway s = record (queue s) { step = moves s }
+  where
+    moves : Shape → Memory ℕ → ℕ → Line ℕ → Outcome ℕ
+    moves s m p (MarkNext w n) = if same (m.next w.index) n then step s m p (MarkNext w n) else goes_on m (ends (Close true))
+    moves s m p (ShutHead h) = if same m.head h then step s m p (ShutHead h) else goes_on m (ends (ShutAnswer true))
+    moves s m p l = step s m p l
+
+marks_anyway-closes : Fails (player marks_anyway (shape 2 7))
+    ((begins a CloseCall, begun)
+    ∷ (steps a 3, again 3)
+    ∷ (calls b (put x), answers (put_is 0))
+    ∷ [])
+    (steps a 20, ended (Close true) 8) (ended (Close true) 4)
+marks_anyway-closes = refl
+
+marks_anyway-shuts : Fails (player marks_anyway (shape 2 7))
+    ((begins a ShutCall, begun)
+    ∷ (steps a 1, again 1)
+    ∷ (calls b ShutCall, answers (ShutAnswer true))
+    ∷ [])
+    (steps a 9, ended (ShutAnswer false) 3) (ended (ShutAnswer true) 2)
+marks_anyway-shuts = refl

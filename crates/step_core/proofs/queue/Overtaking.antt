@@ -7,7 +7,8 @@ use Rattle.queue_machine.specs.declared.lines.Answer.TheVariants.{Close, Shut as
 use Rattle.queue_machine.specs.declared.lines.Call.TheVariants.{Close as CloseCall, Shut as ShutCall, Look as LookCall}
 use Rattle.step_core.proofs.Scripts.{Reply, curtain, replies, calls, begins, steps, finish, answers, begun, again, ended, rest, Plays}
 use Rattle.queue_machine.specs.Answers.{shape}
-use Rattle.step_core.proofs.queue.Cast.{plays, a, b, c, u, v, w, x, y, z, put, take, put_is, full, put_closed, cells_spent, next_spent, take_is, no_take}
+use Rattle.step_core.proofs.Letters.{a, b, c, u, v, w, x, y, z}
+use Rattle.step_core.proofs.queue.Cast.{plays, put, take, put_is, full, put_closed, cells_spent, next_spent, take_is, no_take}
 
 -- a look sees the value that was put while it was under way; a shut finds the queue shut by another
 look_and_shut : Plays (plays (shape 2 7))
@@ -95,6 +96,33 @@ put_left : Plays (plays (shape 2 7))
     ∷ [])
 put_left = refl
 
+-- a put that stops when it has its cell, and is dropped: another pass finds the queue full and empty
+put_dropped : Plays (plays (shape 1 7))
+    ((begins a (put x), begun)
+    ∷ (steps a 3, again 3)
+    ∷ (calls b (put y), answers (full y))
+    ∷ (calls c (put z), answers (full z))
+    ∷ (calls b take, answers (no_take Empty))
+    ∷ (calls b CloseCall, answers (Close true))
+    ∷ (calls b (put y), answers (put_closed y))
+    ∷ (finish, rest ([]))
+    ∷ [])
+put_dropped = refl
+
+-- looks, and a take that was begun before another took the value
+looks : Plays (plays (shape 1 7))
+    ((calls a LookCall, answers (Look true))
+    ∷ (calls a (put x), answers (put_is 0))
+    ∷ (calls a LookCall, answers (Look false))
+    ∷ (calls c LookCall, answers (Look false))
+    ∷ (begins a LookCall, begun)
+    ∷ (steps a 3, ended (Look false) 3)
+    ∷ (begins a take, begun)
+    ∷ (calls b take, answers (take_is 0 x))
+    ∷ (steps a 40, ended (no_take Empty) 4)
+    ∷ [])
+looks = refl
+
 -- the tag of the free cells is looked at before the end of the chain
 spent_before_closed : Plays (plays (shape 2 2))
     ((calls a (put x), answers (put_is 0))
@@ -166,7 +194,21 @@ head_before_link : Plays (plays (shape 2 9))
     ∷ [])
 head_before_link = refl
 
--- and so does a look
+-- nor for the mark
+head_before_mark : Plays (plays (shape 2 9))
+    ((begins a take, begun)
+    ∷ (steps a 1, again 1)
+    ∷ (calls b (put x), answers (put_is 0))
+    ∷ (calls b take, answers (take_is 0 x))
+    ∷ (calls b (put y), answers (put_is 1))
+    ∷ (calls b CloseCall, answers (Close true))
+    ∷ (steps a 3, again 4)
+    ∷ (steps a 20, ended (take_is 1 y) 16)
+    ∷ (calls a take, answers (no_take Closed))
+    ∷ [])
+head_before_mark = refl
+
+-- a look finds another head too
 head_before_answer : Plays (plays (shape 2 9))
     ((begins a LookCall, begun)
     ∷ (steps a 1, again 1)

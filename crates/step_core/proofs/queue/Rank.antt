@@ -45,7 +45,8 @@ module _ {T : Type 0} where
   abbrev pub late : Memory T → ℕ
   late m = late_by (eqb m.tail.index m.head.index) (eqb (next_of m m.head.index) NULL)
 
-  -- an exchange and the steps before it have fewer steps left where the word that was read is still there
+  -- an exchange and the steps before it have fewer steps left where the word that was read is still
+  -- there
   abbrev pub rank_of : (cells nodes head tail : Tagged) (next : ℕ → Tagged) (g e : ℕ) → Line T → ℕ
   rank_of cells nodes head tail next g e (Idle a) = 0
   rank_of cells nodes head tail next g e (LoadCells v) = 18 + g

@@ -6,7 +6,8 @@ use Rattle.queue_machine.specs.declared.lines.Answer.TheVariants.{Close, Shut as
 use Rattle.queue_machine.specs.declared.lines.Call.TheVariants.{Close as CloseCall, Shut as ShutCall, Look as LookCall}
 use Rattle.step_core.proofs.Scripts.{Reply, curtain, replies, calls, begins, steps, finish, answers, begun, again, ended, rest, Plays}
 use Rattle.queue_machine.specs.Answers.{shape}
-use Rattle.step_core.proofs.queue.Cast.{plays, a, b, c, u, v, w, x, y, z, put, take, put_is, full, put_closed, cells_spent, next_spent, take_is, no_take}
+use Rattle.step_core.proofs.Letters.{a, b, c, u, v, w, x, y, z}
+use Rattle.step_core.proofs.queue.Cast.{plays, put, take, put_is, full, put_closed, cells_spent, next_spent, take_is, no_take}
 
 -- one cell
 smallest : Plays (plays (shape 1 7))

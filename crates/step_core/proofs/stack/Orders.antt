@@ -12,7 +12,8 @@ use Rattle.stack_machine.specs.declared.lines.Line.TheVariants.{LoadFree, LoadTo
 use Rattle.stack_machine.specs.Answers.{shape}
 use Rattle.stack_machine.specs.Machine.{Memory, Outcome, stack, step, goes_on, at_load_free, at_load_top, at_load_top_to_refuse, at_load_top_to_take, refuses, no_node, gives, ends}
 use Rattle.step_core.proofs.Scripts.{Fails, calls, begins, steps, answers, begun, again, ended}
-use Rattle.step_core.proofs.stack.Cast.{Machines, player, a, b, x, y, z, put, take, fold, reversed_fold, put_is, full, put_closed, top_spent, free_spent, take_is, no_take, fold_is}
+use Rattle.step_core.proofs.Letters.{a, b, x, y, z}
+use Rattle.step_core.proofs.stack.Cast.{Machines, player, put, take, fold, reversed_fold, put_is, full, put_closed, top_spent, free_spent, take_is, no_take, fold_is}
 
 -- a put that looks at the limit before it looks for a free node
 abbrev limit_before_null : Machines

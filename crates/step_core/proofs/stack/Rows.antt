@@ -6,7 +6,8 @@ use Rattle.stack_machine.specs.declared.lines.Answer.TheVariants.{Close, Shut as
 use Rattle.stack_machine.specs.declared.lines.Call.TheVariants.{Close as CloseCall, Shut as ShutCall, Look as LookCall}
 use Rattle.stack_machine.specs.Answers.{shape}
 use Rattle.step_core.proofs.Scripts.{calls, begins, steps, finish, answers, begun, again, ended, rest, Plays}
-use Rattle.step_core.proofs.stack.Cast.{plays, a, b, c, t, u, v, w, x, y, z, put, range, take, fold, reversed_fold, put_is, range_is, full, put_closed, top_spent, free_spent, take_is, no_take, fold_is, no_fold}
+use Rattle.step_core.proofs.Letters.{a, b, c, t, u, v, w, x, y, z}
+use Rattle.step_core.proofs.stack.Cast.{plays, put, range, take, fold, reversed_fold, put_is, range_is, full, put_closed, top_spent, free_spent, take_is, no_take, fold_is, no_fold}
 
 -- how many steps each call makes alone: put and take, a full put, an empty take, close, shut, look
 alone : Plays (plays (shape 1 15))

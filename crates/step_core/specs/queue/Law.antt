@@ -38,7 +38,8 @@ module _ {T : Type 0} where
     pub shut : m.head.second ≡ now.shut
 
   -- Each of the n cells is free, in the chain or in one hand, and each of the n + 1 nodes too; no other
-  -- cell or node is anywhere, and free cells are empty. A put that has its cell and wants a node finds one
+  -- cell or node is anywhere, and free cells are empty. A put that has its cell and wants a node finds
+  -- one
   pub record EachOnce (n limit : ℕ) (m : Memory T) (g : Lists) (passes : List (Pass T)) : Type 0 where
     pub free_cells : Stands m.clink m.cells.index g.cells
     pub free_nodes : Stands m.nlink m.nodes.index g.nodes
