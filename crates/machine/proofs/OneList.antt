@@ -17,10 +17,6 @@ module _ {limit : ℕ} {top : Tagged} {link : ℕ → ℕ} {list : List ℕ} {to
   pub read_link_later : (w : Tagged) (k : ℕ) → Later top link list top' link' list' → ReadTop limit top list w → ReadLink top link w k → ReadLink top' link' w k
   read_link_later w k l r s e = l.links (omega arith) w.index (r.there (omega arith)) ∙ s (omega arith)
 
--- once the tag has risen, nothing was promised
-pub later_higher : (top : Tagged) (link : ℕ → ℕ) (list : List ℕ) (top' : Tagged) (link' : ℕ → ℕ) (list' : List ℕ) → top.tag < top'.tag → Later top link list top' link' list'
-later_higher top link list top' link' list' h = record { tag = omega arith; stays = λ e. absurd (omega arith); links = λ e. absurd (omega arith) }
-
 -- the front of a list that is not empty
 pub record Front (link : ℕ → ℕ) (x : ℕ) (list : List ℕ) (y : ℕ) : Type 0 where
   pub rest : List ℕ

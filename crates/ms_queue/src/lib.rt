@@ -13,11 +13,13 @@
 #![tactic(auto)]
 
 mod closing;
+mod ending;
 mod giving;
 mod looking;
 mod making;
 mod putting;
 mod queue;
+mod rest;
 mod rule;
 mod seeking;
 mod shutting;
@@ -27,6 +29,7 @@ pub use closing::CloseOp;
 pub use looking::LookOp;
 pub use putting::PutOp;
 pub use queue::{Pass, Queue, Root};
+pub use rest::Rest;
 pub use rule::Queued;
 pub use shutting::ShutOp;
 pub use taking::TakeOp;

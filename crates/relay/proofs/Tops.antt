@@ -5,7 +5,7 @@ use Rattle.std.specs.declared.alloc.Global.{Global}
 use Rattle.std.proofs.lemmas.List.{get_or_push, get_or_default, get_or_append_left, length_push, length-reverse, get_or-reverse}
 use Rattle.std.proofs.lemmas.List.Elements.{All-append, All-head, All-rest, All-cons, All-nil, All-take, All-drop}
 use Rattle.std.proofs.lemmas.Grind.{flat_map-append}
-use Rattle.std.proofs.lemmas.List.Sorted.{IsPermutation-refl, IsPermutation-trans, IsPermutation-sym, IsPermutation-middle, IsPermutation-append_comm, IsPermutation-append_left, IsPermutation-append_right, IsPermutation-cons, IsPermutation-pop_more, length_permutation, All-permutation}
+use Rattle.std.proofs.lemmas.List.Sorted.{IsPermutation-refl, IsPermutation-trans, IsPermutation-middle, IsPermutation-append_comm, IsPermutation-append_left, IsPermutation-append_right, IsPermutation-cons, IsPermutation-pop_more, length_permutation, All-permutation}
 use Rattle.relay.specs.declared.outcome.Taken.{Taken}
 use Rattle.relay.proofs.Lists.{same_or_not}
 use Rattle.relay.specs.Merge.{all_of, IsUp, IsHeight, IsTop, TakesGreatest}

@@ -1,6 +1,6 @@
 //! The memory of a relay, taken before any thread is started.
 
-ghost use Rattle.std.specs.Prelude.{◌≡◌, ◌<◌, ◌^◌, All, IfOk, IfSome, vec_len};
+ghost use Rattle.std.specs.Prelude.{◌≡◌, ◌+◌, ◌<◌, ◌≤◌, ◌^◌, All, IfOk, IfSome, IfNone, vec_len};
 ghost use Rattle.relay.specs.Rooms.{IsRoomFor, IsWorkRoom, IsOutcomeRoom, most_taken};
 
 use crate::threads::Room;
@@ -82,7 +82,8 @@ impl OutcomeRoom {
 // How many messages a consumer needs room for. It has room for one message more than there are, since
 // it cannot know that it takes no more, and for no more than its share.
 fn most_each(take: Option<u32>, messages: usize) -> Option<usize>
-    ensures { IfSome result (λ most. most ≡ most_taken take messages) }
+    ensures most { IfSome result (λ most. most ≡ most_taken take messages) }
+    ensures none { IfNone result (2 ^ 64 ≤ messages + 1) }
 {
     let all = messages.checked_add(1)?;
     match take {

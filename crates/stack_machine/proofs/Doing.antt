@@ -45,9 +45,6 @@ pub record Reads {T : Type 0} (c : Shape) (m : Memory T) (h : List (Event T)) : 
   pub spent : c.limit ≤ m.free.tag → (state c h).holds ≡ c.limit
   pub valued : length (values_in m.home (chain_from c.capacity m.link m.top.index)) ≡ length (chain_from c.capacity m.link m.top.index)
 
-same_count : {T : Type 0} (p k k' : ℕ) (e : Event T) → k ≡ k' → e ∷ holds_of p k ≡ e ∷ holds_of p k'
-same_count p k k' e same = ap (λ (x : ℕ). e ∷ holds_of p x) same
-
 gives_back : {T : Type 0} (p k : ℕ) → 0 < k → ◌≡◌ {A = List (Event T)} (Free p k ∷ holds_of p k) (gave_back p k)
 gives_back p zero h = absurd (omega arith)
 gives_back p (suc k) h = refl

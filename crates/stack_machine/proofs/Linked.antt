@@ -18,12 +18,7 @@ use Rattle.machine.proofs.Lists.{times_here, times_append, store_else, leads_fra
 use Rattle.machine.proofs.Chains.{times_reverse, times_rest, chain_frame, chain_leads, last_in}
 use Rattle.machine.proofs.OneList.{read_top_later, read_link_later, front_of}
 
--- the node that a walk or a turn has come to is in the chain
-pub walking_in : (link : ℕ → ℕ) (chain : List ℕ) (i : ℕ) → Walks link chain i → 0 < times i chain
-walking_in link chain i w =
-    let f = front_of link i w.left NULL w.here w.stands in
-    omega (arith, ap (times i) w.is, times_append i w.above w.left, ap (times i) f.is, times_here i f.rest)
-
+-- the node that a turn has come to is in the chain
 pub turning_in : (link : ℕ → ℕ) (chain : List ℕ) (lowest i : ℕ) → Turns link chain lowest i → 0 < times i chain
 turning_in link chain lowest i t =
     let f = front_of link i t.left NULL t.here t.downwards in

@@ -11,4 +11,4 @@ mod stack_laws;
 
 pub use list_laws::list_core;
 pub use queue_laws::{queue_answers, queue_bound, queue_core};
-pub use stack_laws::{stack_answers, stack_bound, stack_core};
+pub use stack_laws::{stack_answers, stack_bound, stack_core, stack_nodes};

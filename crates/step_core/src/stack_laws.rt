@@ -9,7 +9,7 @@ ghost use Rattle.stack_machine.specs.declared.lines.Call.{Call};
 ghost use Rattle.stack_machine.specs.Answers.{shape};
 ghost use Rattle.stack_machine.specs.Machine.{State, stack};
 ghost use Rattle.step_core.specs.stack.Bound.{IsSingle};
-ghost use Rattle.step_core.specs.stack.Law.{Lawful, AllDone};
+ghost use Rattle.step_core.specs.stack.Law.{Lawful, NoNodeTwice, AllDone};
 
 /// In every schedule of puts of one or more values, takes, folds, closes, shuts and looks at a stack
 /// of `n` nodes: the history is legal for a bounded stack, the words and slots stand for it, each
@@ -18,6 +18,14 @@ ghost use Rattle.step_core.specs.stack.Law.{Lawful, AllDone};
 pub fn stack_core<T>()
     ensures { (n limit passes : ℕ) (schedule : Schedule (Call T)) → 0 < n → n ≤ NULL →
         Lawful T n limit (after (stack (shape n limit)) passes schedule) }
+{}
+
+/// In every schedule of a stack, no node is in two places at once: not free and on the stack, not on
+/// one of them and in a pass's hand, and not in the hands of two passes. So no node is used again
+/// while a pass holds it.
+pub fn stack_nodes<T>()
+    ensures { (n limit passes : ℕ) (schedule : Schedule (Call T)) → 0 < n → n ≤ NULL →
+        NoNodeTwice (after (stack (shape n limit)) passes schedule) }
 {}
 
 /// In every schedule of a stack, each pass answers the call that it began, and the events that it adds

@@ -10,7 +10,8 @@ use Rattle.machine.specs.Schedule.{Act, run, start}
 use Rattle.machine.proofs.Scheduled.{Holds, run_kept}
 use Rattle.machine.proofs.Stories.{Told, Stays, stays_holds, start_stays}
 use Rattle.machine.proofs.Ahead.{Ahead}
-use Rattle.machine.proofs.Sums.{total_map, at_map}
+use Rattle.machine.proofs.Sums.{total_map, at_map, total_one, total_two}
+use Rattle.machine.proofs.Tests.{at_most_one}
 use Rattle.stack_machine.specs.declared.lines.Line.{Line}
 use Rattle.stack_machine.specs.declared.lines.Line.TheVariants.{Idle}
 use Rattle.stack_machine.specs.declared.lines.Call.{Call}
@@ -24,7 +25,7 @@ use Rattle.stack_machine.proofs.Moves.{Kept, good_goes}
 use Rattle.stack_machine.proofs.Step.{step_kept}
 use Rattle.stack_machine.proofs.Tells.{tells_kept, step_apart}
 use Rattle.stack_machine.proofs.Doing.{begins, meanwhile, step_does}
-use Rattle.step_core.specs.stack.Law.{Lawful, HasAnswered, AllDone}
+use Rattle.step_core.specs.stack.Law.{Lawful, NoNodeTwice, HasAnswered, AllDone}
 
 module _ {T : Type 0} (n limit : ℕ) where
   -- between any two acts the words, slots and lines are right for the history
@@ -127,3 +128,19 @@ module _ {T : Type 0} (n limit : ℕ) where
       answered : (call : Option (Call T)) → v.call ≡ call → Did p call (Idle (Some a)) v.begun v.seen → HasAnswered (shape n limit) p v a
       answered none is at = cc
       answered (some call) is at = record { call = call; of = is; done = record { between = at.between; is = at.is; made = at.made; all = at.all } }
+
+  -- in a lawful state no node is in two places
+  pub no_node_twice : (s : State T) → Lawful T n limit s → NoNodeTwice s
+  no_node_twice s law = record {
+    frees = law.frees;
+    stack = law.stack;
+    free_stands = law.free_stands;
+    top_stands = law.top_stands;
+    free_and_stacked = λ i f t. absurd (omega (arith, law.once i, at_most_one i n));
+    free_and_held = λ i p v at f h. absurd (omega (arith, law.once i, at_most_one i n, total_one (λ (u : Pass T). times i (held u.line)) s.passes p v at));
+    stacked_and_held = λ i p v at t h. absurd (omega (arith, law.once i, at_most_one i n, total_one (λ (u : Pass T). times i (held u.line)) s.passes p v at));
+    held_by_two = λ i p q v u ne at at' h h'. absurd (omega (arith, law.once i, at_most_one i n, total_two (λ (w : Pass T). times i (held w.line)) s.passes p q v u (λ e. ne (sym e)) at at'));
+  }
+
+  pub stack_nodes_once : (passes : ℕ) (schedule : List (ℕ × Act (Call T))) → 0 < n → n ≤ NULL → NoNodeTwice (run (stack (shape n limit)) schedule (start (stack (shape n limit)) passes))
+  stack_nodes_once passes schedule h small = no_node_twice (run (stack (shape n limit)) schedule (start (stack (shape n limit)) passes)) (stack_lawful passes schedule h small)

@@ -1,4 +1,4 @@
-use Rattle.std.proofs.Common.{ℕ, ◌≡◌, ◌<◌, All, Vec, arith, subst, sym, ◌∙◌, slice_index_or, take}
+use Rattle.std.proofs.Common.{ℕ, ◌<◌, All, Vec, arith, subst, sym, ◌∙◌, take}
 use Rattle.std.specs.declared.alloc.Global.{Global}
 use Rattle.std.proofs.lemmas.List.{take_all, get_or_default}
 use Rattle.std.proofs.lemmas.List.Elements.{All-more}

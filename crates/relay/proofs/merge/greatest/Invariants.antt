@@ -1,5 +1,5 @@
 -- The best so far is the highest so far.
-use Rattle.std.proofs.Common.{◌≡◌, ◌<◌, ◌≤◌, All, Vec, take, slice_index_or}
+use Rattle.std.proofs.Common.{◌≡◌, ◌<◌, All, Vec, take, slice_index_or}
 use Rattle.std.specs.declared.alloc.Global.{Global}
 use Rattle.relay.specs.declared.outcome.Taken.{Taken}
 use Rattle.relay.specs.Merge.{IsHeight}

@@ -1,8 +1,6 @@
-use Rattle.std.proofs.Common.{◌≡◌, ◌++◌, ◌∷◌, [], All, ◌<◌, slice_index_or, arith, ap, sym, ◌∙◌, subst, Option, None, Some, option_to_list, remove, length, Vec, MatchOption}
-use Rattle.std.specs.declared.alloc.Global.{Global}
+use Rattle.std.proofs.Common.{◌≡◌, ◌++◌, ◌∷◌, [], ◌<◌, slice_index_or, arith, ap, sym, ◌∙◌, subst, None, option_to_list, remove, length}
 use Rattle.std.proofs.lemmas.List.Elements.{All-append, All-cons, All-nil}
-use Rattle.relay.specs.declared.outcome.Taken.{Taken}
-use Rattle.relay.specs.Merge.{all_of, IsUp, IsTop, TakesGreatest}
+use Rattle.relay.specs.Merge.{IsUp, IsTop}
 use Rattle.relay.proofs.Zips.{is_nil}
 use Rattle.relay.proofs.Tops.{up_front, gives, All-remove}
 use Rattle.relay.proofs.merge.take_greatest.Goals as goal

@@ -1,0 +1,21 @@
+//! The end of a queue.
+ghost use Rattle.bounded_model.specs.Laws.{Leaves};
+ghost use Rattle.running.specs.Passes.{root_in};
+ghost use Rattle.ms_queue.specs.Left.{left_in};
+ghost use Rattle.ms_queue.specs.Queue.{shape_of, IsRootOf};
+
+use crate::queue::{Queue, Root};
+use crate::rest::Rest;
+
+impl<T> Queue<T> {
+    // What is left, from the front. A value that was out with a pass which stopped in mid-operation is
+    // not among it, and is dropped with the rest.
+    pub(crate) fn end(self, parent: Root<T>) -> Rest<T>
+        requires { IsRootOf self parent }
+        ensures { Leaves (shape_of self) (root_in parent) (left_in result) }
+    {
+        let Queue { table, limits: _ } = self;
+        let Root { seat, out: _ } = parent;
+        Rest::of(table.close_with(seat))
+    }
+}
