@@ -13,6 +13,7 @@
 #![tactic(auto)]
 
 mod closing;
+mod container;
 mod ending;
 mod giving;
 mod looking;
