@@ -13,6 +13,7 @@
 #![tactic(auto)]
 
 mod closing;
+mod container;
 mod ending;
 mod giving;
 mod looking;
@@ -23,6 +24,7 @@ mod rest;
 mod rule;
 mod seeking;
 mod shutting;
+mod stepwise;
 mod taking;
 
 pub use closing::CloseOp;

@@ -1,0 +1,107 @@
+//! A queue as a container. A whole call makes an operation's steps until it answers.
+use crate::queue::{Pass, Queue, Root};
+use crate::rest::Rest;
+use bounded_model::{Container, Order, PutRefused, Stepped, TakeRefused};
+use std::sync::Wait;
+
+impl<T: Drop + Send> Container<T> for Queue<T> {
+    ghost use Rattle.std.proofs.Common.{refl};
+    ghost use Rattle.bounded_model.specs.declared.history.Order.TheVariants.{Fifo};
+    ghost use Rattle.running.specs.Passes.{pass_in, root_in};
+    ghost use Rattle.ms_queue.specs.Queue.{shape_of, IsPassOf, IsRootOf};
+
+    type Root = Root<T>;
+
+    type Pass = Pass<T>;
+
+    type Rest = Rest<T>;
+
+    const ORDER: Order = Order::Fifo;
+
+    ghost ORDER = { Fifo };
+
+    ghost shape = { shape_of };
+
+    ghost is_pass = { IsPassOf };
+
+    ghost is_root = { IsRootOf };
+
+    ghost pass = { pass_in };
+
+    ghost root = { root_in };
+
+    ghost order_law = { λ c. refl };
+
+    ghost pass_law = { λ c p is. is.rests.rests };
+
+    ghost root_law = { λ c r is. is.sound };
+
+    #[inline]
+    fn capacity(&self) -> u32 {
+        self.limits.capacity()
+    }
+
+    /// The new pass has seen what the root has.
+    fn split(&self, parent: &mut Root<T>) -> Option<Pass<T>> {
+        running::split(&self.table.shared, parent)
+    }
+
+    fn put<R: Wait>(&self, rt: &R, by: Pass<T>, value: T) -> (Pass<T>, Result<u64, PutRefused<T>>) {
+        let mut op = self.begin_put(by, value);
+        for _ in rt.forever() {
+            match op.step(self) {
+                Stepped::Again(next) => op = next,
+                Stepped::Done(pass, answer) => return (pass, answer),
+            }
+        }
+        unreachable!()
+    }
+
+    fn take<R: Wait>(&self, rt: &R, by: Pass<T>) -> (Pass<T>, Result<(T, u64), TakeRefused>) {
+        let mut op = self.begin_take(by);
+        for _ in rt.forever() {
+            match op.step(self) {
+                Stepped::Again(next) => op = next,
+                Stepped::Done(pass, answer) => return (pass, answer),
+            }
+        }
+        unreachable!()
+    }
+
+    fn close<R: Wait>(&self, rt: &R, by: Pass<T>) -> (Pass<T>, bool) {
+        let mut op = self.begin_close(by);
+        for _ in rt.forever() {
+            match op.step(self) {
+                Stepped::Again(next) => op = next,
+                Stepped::Done(pass, closed) => return (pass, closed),
+            }
+        }
+        unreachable!()
+    }
+
+    fn shut<R: Wait>(&self, rt: &R, by: Pass<T>) -> (Pass<T>, bool) {
+        let mut op = self.begin_shut(by);
+        for _ in rt.forever() {
+            match op.step(self) {
+                Stepped::Again(next) => op = next,
+                Stepped::Done(pass, shut) => return (pass, shut),
+            }
+        }
+        unreachable!()
+    }
+
+    /// The answer is always true, since the table never lacks a seat.
+    fn meet(&self, first: &mut Pass<T>, second: Pass<T>) -> (Pass<T>, bool) {
+        running::meet(&self.table.shared, first, second)
+    }
+
+    fn join(&self, parent: &mut Root<T>, by: Pass<T>) {
+        running::join(&self.table.shared, parent, by)
+    }
+
+    /// In the order of the puts. A value that was out with a pass which stopped in mid-operation is
+    /// not among what is left, and is dropped with the rest.
+    fn finish(self, parent: Root<T>) -> Rest<T> {
+        self.end(parent)
+    }
+}
