@@ -1,4 +1,5 @@
 pub mod Run
+pub mod InOrder
 pub mod Rank
 pub mod Bounded
 pub mod Cast

@@ -1,12 +1,13 @@
 //! The laws of the queue's machine.
-ghost use Rattle.std.specs.Prelude.{ℕ, ◌<◌, ◌≤◌};
+ghost use Rattle.std.specs.Prelude.{◌≡◌, ℕ, ◌<◌, ◌≤◌, ◌++◌};
 ghost use Rattle.tagged_index.specs.declared.word.TheConstants.{NULL};
+ghost use Rattle.bounded_model.specs.Gathers.{gather, sent_of, took_of, values_of, Counts};
 ghost use Rattle.machine.specs.Schedule.{Schedule, after};
 ghost use Rattle.machine.specs.Bound.{IsStretch, own_steps};
 ghost use Rattle.queue_machine.specs.declared.lines.Call.{Call};
 ghost use Rattle.queue_machine.specs.Machine.{State, queue};
 ghost use Rattle.queue_machine.specs.Answers.{shape};
-ghost use Rattle.step_core.specs.queue.Law.{Lawful, AllDone};
+ghost use Rattle.step_core.specs.queue.Law.{Lawful, AllDone, values_left};
 ghost use Rattle.step_core.specs.queue.Bound.{MeetsRule};
 
 /// In every schedule of puts, takes, closes, shuts and looks at a queue of `n` value cells, whose
@@ -37,4 +38,17 @@ pub fn queue_bound<T>()
     ensures in_every_schedule { (n limit passes : ℕ) (schedule : Schedule (Call T)) →
         0 < n → n < NULL → 0 < limit →
         MeetsRule n limit (after (queue (shape n limit)) passes schedule) }
+{}
+
+/// In every schedule of a queue, what was put is, in the order of the puts, what was taken and then
+/// what stands in the cells along the chain. Puts and takes are numbered 0, 1, 2, .. each: so the take
+/// numbered k gives the value of the put numbered k, and what is left are the untaken puts in order.
+pub fn queue_order<T>()
+    ensures values { (n limit passes : ℕ) (schedule : Schedule (Call T)) → 0 < n → n < NULL → 0 < limit →
+        let s = after (queue (shape n limit)) passes schedule in
+        values_of (gather sent_of s.history) ≡ values_of (gather took_of s.history) ++ values_left n s.memory }
+    ensures puts { (n limit passes : ℕ) (schedule : Schedule (Call T)) → 0 < n → n < NULL → 0 < limit →
+        Counts (λ m. m.number) 0 (gather sent_of (after (queue (shape n limit)) passes schedule).history) }
+    ensures takes { (n limit passes : ℕ) (schedule : Schedule (Call T)) → 0 < n → n < NULL → 0 < limit →
+        Counts (λ m. m.number) 0 (gather took_of (after (queue (shape n limit)) passes schedule).history) }
 {}

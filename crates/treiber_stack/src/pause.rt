@@ -1,11 +1,12 @@
 //! Waiting after a lost exchange, so that the thread that won can go on with its lines of memory.
 use std::hint;
 
-/// The first wait is of 2^6 hints to the processor.
-const FIRST: u32 = 6;
+/// The first wait is of 2^5 hints to the processor.
+const FIRST: u32 = 5;
 
-/// The longest wait is of 2^10.
-const LONGEST: u32 = 10;
+/// The longest wait is of 2^9: a longer one pays where the container is large, and costs where it is
+/// small.
+const LONGEST: u32 = 9;
 
 /// How long the next wait is: twice as long as the one before.
 #[derive(Drop)]

@@ -322,7 +322,7 @@ impl<T> Stack<T> {
     }
 
     // The steps of a put from its start, until it answers, is refused or loses an exchange.
-    #[inline]
+    #[inline(always)]
     fn put_run(
         &self,
         by: Pass<T>,
@@ -462,7 +462,7 @@ impl<T> PutOp<T> {
     }
 
     /// Makes steps until the put answers, is refused or loses an exchange.
-    #[inline]
+    #[inline(always)]
     pub(crate) fn run(
         self,
         stack: &Stack<T>,

@@ -332,7 +332,7 @@ impl<T> TakeOp<T> {
     }
 
     /// Makes steps until the take answers or loses an exchange.
-    #[inline]
+    #[inline(always)]
     pub(crate) fn run(
         self,
         stack: &Stack<T>,

@@ -1,12 +1,11 @@
 -- Who plays the scripts of the queue, and the calls and answers that they speak of.
-use Rattle.std.proofs.Common.{ℕ, map, Some, Ok, Err}
+use Rattle.std.proofs.Common.{ℕ, Some, Ok, Err}
 use mathlib.Core.Option.{Option, none, some}
 use Rattle.bounded_model.specs.declared.answers.Word.TheVariants.{Cells as CellsWord, Next as NextWord}
 use Rattle.bounded_model.specs.declared.answers.PutRefused.TheVariants.{Full, Closed as PutClosed, Spent as PutSpent}
 use Rattle.bounded_model.specs.declared.answers.TakeRefused.{TakeRefused}
 use Rattle.bounded_model.specs.declared.history.Event.{Event}
 use Rattle.bounded_model.specs.Machine.{Shape}
-use Rattle.machine.specs.Chains.{chain_from, values_in}
 use Rattle.machine.specs.Schedule.{Machine}
 use Rattle.queue_machine.specs.declared.lines.Answer.{Answer}
 use Rattle.queue_machine.specs.declared.lines.Answer.TheVariants.{Put, Take}
@@ -14,7 +13,8 @@ use Rattle.queue_machine.specs.declared.lines.Call.{Call}
 use Rattle.queue_machine.specs.declared.lines.Call.TheVariants.{Put as PutCall, Take as TakeCall}
 use Rattle.queue_machine.specs.declared.lines.Line.{Line}
 use Rattle.queue_machine.specs.declared.lines.Line.TheVariants.{Idle}
-use Rattle.queue_machine.specs.Machine.{Memory, next_of, queue}
+use Rattle.queue_machine.specs.Machine.{Memory, queue}
+use Rattle.step_core.specs.queue.Law.{values_left}
 use Rattle.step_core.proofs.Scripts.{Player}
 
 -- machines over the queue's words and lines, for each shape
@@ -33,7 +33,7 @@ abbrev pub player : Machines → Shape → Players
 player machine s = record {
   machine = machine s;
   answer = answer;
-  left = λ m. values_in m.home (map m.cell (chain_from s.capacity (next_of m) (next_of m m.head.index)));
+  left = values_left s.capacity;
 }
 
 abbrev pub plays : Shape → Players

@@ -6,7 +6,7 @@ use Rattle.tagged_index.specs.declared.word.TheConstants.{NULL}
 use Rattle.bounded_model.specs.Machine as bounded
 use Rattle.machine.specs.Words.{times, total, Stands}
 use Rattle.machine.specs.Seen.{Knows}
-use Rattle.machine.specs.Chains.{last, HasValues}
+use Rattle.machine.specs.Chains.{last, HasValues, chain_from, values_in}
 use Rattle.queue_machine.specs.declared.lines.Placing.{Placing}
 use Rattle.queue_machine.specs.declared.lines.Answer.{Answer}
 use Rattle.queue_machine.specs.declared.lines.Call.{Call}
@@ -80,3 +80,7 @@ pub record HasAnswered {T : Type 0} (p : ℕ) (v : Pass T) (a : Answer T) : Type
 -- and so has each pass that has ended an operation
 abbrev pub AllDone : {T : Type 0} → State T → Type 0
 AllDone {T} s = (p : ℕ) (v : Pass T) (a : Answer T) → get_elem? s.passes p ≡ some v → v.line ≡ Idle (Some a) → HasAnswered p v a
+
+-- the values in the cells of a queue of n cells, along the chain from the node behind the dummy
+abbrev pub values_left : {T : Type 0} → ℕ → Memory T → List T
+values_left n m = values_in m.home (map m.cell (chain_from n (next_of m) (next_of m m.head.index)))

@@ -13,6 +13,10 @@ use Rattle.stack_machine.specs.Answers.{shape, state, IsRight}
 use Rattle.stack_machine.specs.Deeds.{HasDone}
 use Rattle.stack_machine.specs.Machine.{Pass, State, held}
 
+-- v is pass p
+abbrev pub IsPass : {T : Type 0} → State T → ℕ → Pass T → Type 0
+IsPass s p v = get_elem? s.passes p ≡ some v
+
 -- The history is one of a bounded stack, with room for n values. The words and slots stand for it: the
 -- top for its values, the first mark for closed, the second for shut, the tags for its numbers. Each
 -- node below n is once on the free list, on the stack or in one hand, and no other node is anywhere.
@@ -23,7 +27,8 @@ pub record Lawful (T : Type 0) (n limit : ℕ) (s : State T) : Type 0 where
   pub stack : List ℕ
   pub free_stands : Stands s.memory.link s.memory.free.index frees
   pub top_stands : Stands s.memory.link s.memory.top.index stack
-  pub once : (i : ℕ) → times i frees + times i stack + total (λ v. times i (held v.line)) s.passes ≡ if ltb i n then 1 else 0
+  pub once : (i : ℕ) →
+      times i frees + times i stack + total (λ v. times i (held v.line)) s.passes ≡ if ltb i n then 1 else 0
   pub empty : (i : ℕ) → 0 < times i frees → s.memory.home i ≡ some None
   pub stored : HasValues s.memory.home stack (state n limit s.history).values
   pub closed : s.memory.top.mark ≡ (state n limit s.history).closed
@@ -32,9 +37,11 @@ pub record Lawful (T : Type 0) (n limit : ℕ) (s : State T) : Type 0 where
   pub top_tag : s.memory.top.tag ≡ (state n limit s.history).puts + (state n limit s.history).takes
   pub free_limit : s.memory.free.tag ≤ limit
   pub top_limit : s.memory.top.tag ≤ limit
-  pub hands : (p : ℕ) (v : Pass T) → get_elem? s.passes p ≡ some v → (state n limit s.history).hand p ≡ length (held v.line)
-  pub knows : (p : ℕ) (v : Pass T) → get_elem? s.passes p ≡ some v → Knows p v s.history
-  pub answered : (p : ℕ) (v : Pass T) (a : Answer T) → get_elem? s.passes p ≡ some v → v.line ≡ Idle (Some a) → IsRight n limit v.begun v.seen a
+  pub hands : (p : ℕ) (v : Pass T) → IsPass s p v →
+      (state n limit s.history).hand p ≡ length (held v.line)
+  pub knows : (p : ℕ) (v : Pass T) → IsPass s p v → Knows p v s.history
+  pub answered : (p : ℕ) (v : Pass T) (a : Answer T) → IsPass s p v → v.line ≡ Idle (Some a) →
+      IsRight n limit v.begun v.seen a
 
 -- node i is one of these
 abbrev pub Has : List ℕ → ℕ → Type 0
@@ -48,9 +55,12 @@ pub record NoNodeTwice {T : Type 0} (s : State T) : Type 0 where
   pub free_stands : Stands s.memory.link s.memory.free.index frees
   pub top_stands : Stands s.memory.link s.memory.top.index stack
   pub free_and_stacked : (i : ℕ) → Has frees i → Has stack i → ⊥
-  pub free_and_held : (i p : ℕ) (v : Pass T) → get_elem? s.passes p ≡ some v → Has frees i → Has (held v.line) i → ⊥
-  pub stacked_and_held : (i p : ℕ) (v : Pass T) → get_elem? s.passes p ≡ some v → Has stack i → Has (held v.line) i → ⊥
-  pub held_by_two : (i p q : ℕ) (v u : Pass T) → p ≢ q → get_elem? s.passes p ≡ some v → get_elem? s.passes q ≡ some u → Has (held v.line) i → Has (held u.line) i → ⊥
+  pub free_and_held : (i p : ℕ) (v : Pass T) → IsPass s p v →
+      Has frees i → Has (held v.line) i → ⊥
+  pub stacked_and_held : (i p : ℕ) (v : Pass T) → IsPass s p v →
+      Has stack i → Has (held v.line) i → ⊥
+  pub held_by_two : (i p q : ℕ) (v u : Pass T) → p ≢ q → IsPass s p v → IsPass s q u →
+      Has (held v.line) i → Has (held u.line) i → ⊥
 
 -- a pass has answered the call that its operation was begun with, and has done what it answered
 pub record HasAnswered {T : Type 0} (c : Shape) (p : ℕ) (v : Pass T) (a : Answer T) : Type 0 where
@@ -60,4 +70,5 @@ pub record HasAnswered {T : Type 0} (c : Shape) (p : ℕ) (v : Pass T) (a : Answ
 
 -- and so has each pass that has ended an operation
 abbrev pub AllDone : {T : Type 0} → Shape → State T → Type 0
-AllDone {T} c s = (p : ℕ) (v : Pass T) (a : Answer T) → get_elem? s.passes p ≡ some v → v.line ≡ Idle (Some a) → HasAnswered c p v a
+AllDone {T} c s =
+    (p : ℕ) (v : Pass T) (a : Answer T) → IsPass s p v → v.line ≡ Idle (Some a) → HasAnswered c p v a

@@ -1,0 +1,38 @@
+use one_way::{Carried, carry_all};
+use std::collections::VecDeque;
+use std::sync::Wait;
+use std::test::Fail;
+use tagged_index::{Limits, MAX_TAG};
+use treiber_stack::Stack;
+
+/// Items 0, 1, .. carried over a stack with this much room.
+fn carried<R: AllocGlobal + Wait>(rt: &R, capacity: u32, items: u32) -> Result<Carried<u32>, Fail> {
+    let alloc = rt.alloc();
+    let limits = Limits::of(capacity, MAX_TAG).ok_or("limits")?;
+    let (stack, root) = Stack::new(alloc, limits)?;
+    let mut queue = VecDeque::new(alloc);
+    for item in 0..items {
+        queue.push_back(item)?;
+    }
+    Ok(carry_all(rt, alloc, stack, root, queue)?)
+}
+
+#[test]
+fn a_stack_carries_all_items_from_the_top(rt: HostRuntime) -> Result<(), Fail> {
+    let carried = carried(&rt, 4, 4)?;
+    assert_eq!(rt; carried.taken.as_slice(), [3, 2, 1, 0].as_slice());
+    assert!(rt; carried.left.is_empty());
+    assert!(rt; carried.unsent.is_empty());
+    Ok(())
+}
+
+#[test]
+fn items_without_room_are_handed_back_in_order(rt: HostRuntime) -> Result<(), Fail> {
+    let mut carried = carried(&rt, 3, 5)?;
+    assert_eq!(rt; carried.taken.as_slice(), [2, 1, 0].as_slice());
+    assert!(rt; carried.left.is_empty());
+    assert_eq!(rt; carried.unsent.pop_front(), Some(3));
+    assert_eq!(rt; carried.unsent.pop_front(), Some(4));
+    assert_eq!(rt; carried.unsent.pop_front(), None);
+    Ok(())
+}
