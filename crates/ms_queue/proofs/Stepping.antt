@@ -8,7 +8,6 @@ use Rattle.bounded_model.specs.declared.views.PassView.{PassView}
 use Rattle.bounded_model.specs.Laws.{PutGives, TakeGives, CloseGives, ShutGives, LookGives}
 use Rattle.bounded_model.specs.Stepping.{Underway, no_step, OneStep, GoesOn as Further, MatchStepped}
 use Rattle.queue_machine.specs.declared.lines.Line.{Line}
-use Rattle.queue_table.specs.declared.operation.Operation.{Operation}
 use Rattle.running.specs.Passes.{pass_in}
 use Rattle.running.specs.declared.passes.Pass.{Pass}
 use Rattle.ms_queue.specs.Closing.{IsClosing, CloseStep}
