@@ -22,17 +22,21 @@ refusal (Full values) = right.PutFull
 refusal (Closed values) = right.PutClosed
 refusal (Spent values word t) = right.PutSpent word t
 
--- some history between those seen at the begin and at the end of an operation justifies its answer,
--- where that is one that changes nothing
-abbrev pub IsRight : {T : Type 0} → ℕ → ℕ → List (Event T) → List (Event T) → Answer T → Type 0
-IsRight n limit begun seen (AnswerPut (Ok done)) = Unit {0}
-IsRight n limit begun seen (AnswerPut (Err why)) = right.Sometime begun seen (λ h. right.Justifies (shape n limit) h (refusal why))
-IsRight n limit begun seen (AnswerTake (Ok done)) = Unit {0}
-IsRight n limit begun seen (AnswerTake (Err why)) = right.Sometime begun seen (λ h. right.Justifies (shape n limit) h (right.take_answer why))
-IsRight n limit begun seen (AnswerFold (Ok done)) = Unit {0}
-IsRight n limit begun seen (AnswerFold (Err why)) = right.Sometime begun seen (λ h. right.Justifies (shape n limit) h (right.take_answer why))
-IsRight n limit begun seen (AnswerClose true) = Unit {0}
-IsRight n limit begun seen (AnswerClose false) = right.Sometime begun seen (λ h. right.Justifies (shape n limit) h right.NotClosed)
-IsRight n limit begun seen (AnswerShut true) = Unit {0}
-IsRight n limit begun seen (AnswerShut false) = right.Sometime begun seen (λ h. right.Justifies (shape n limit) h right.NotShut)
-IsRight n limit begun seen (AnswerLook empty) = right.Sometime begun seen (λ h. right.Justifies (shape n limit) h (right.Looked empty))
+module _ {T : Type 0} (n limit : ℕ) (begun seen : List (Event T)) where
+  -- some history between those seen at the begin and at the end of an operation justifies this answer
+  abbrev pub IsJustified : right.Answer → Type 0
+  IsJustified answer = right.Sometime begun seen (λ h. right.Justifies (shape n limit) h answer)
+
+  -- an answer that changes nothing is justified
+  abbrev pub IsRight : Answer T → Type 0
+  IsRight (AnswerPut (Ok done)) = Unit {0}
+  IsRight (AnswerPut (Err why)) = IsJustified (refusal why)
+  IsRight (AnswerTake (Ok done)) = Unit {0}
+  IsRight (AnswerTake (Err why)) = IsJustified (right.take_answer why)
+  IsRight (AnswerFold (Ok done)) = Unit {0}
+  IsRight (AnswerFold (Err why)) = IsJustified (right.take_answer why)
+  IsRight (AnswerClose true) = Unit {0}
+  IsRight (AnswerClose false) = IsJustified right.NotClosed
+  IsRight (AnswerShut true) = Unit {0}
+  IsRight (AnswerShut false) = IsJustified right.NotShut
+  IsRight (AnswerLook empty) = IsJustified (right.Looked empty)
