@@ -1,5 +1,5 @@
 -- What a take gives, and where its steps lead.
-use Rattle.std.proofs.Common.{◌≡◌, ◌≢◌, ℕ, true, false, cond, List, [], ◌∷◌, refl, sym, ap, ◌∙◌, eq-eqb, ne_eqb}
+use Rattle.std.proofs.Common.{◌≡◌, ◌≢◌, ℕ, true, false, List, [], ◌∷◌, refl, sym, ap, ◌∙◌, eq-eqb, ne_eqb}
 use Rattle.std.specs.Prelude.{Option as Slot, Some, Result, Ok, Err}
 use Rattle.tagged_index.specs.Fields.{fields_of, index_of, mark_of, second_of}
 use Rattle.tagged_index.specs.declared.word.TheConstants.{NULL}

@@ -7,3 +7,4 @@ pub mod Taking
 pub mod Shutting
 pub mod Looking
 pub mod Putting
+pub mod Stepwise

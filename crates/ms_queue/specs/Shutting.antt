@@ -1,5 +1,5 @@
 -- Shuts made by steps.
-use Rattle.std.specs.Prelude.{ℕ, Bool, []}
+use Rattle.std.specs.Prelude.{Bool, []}
 use Rattle.tagged_index.specs.Fields.{fields_of}
 use Rattle.bounded_model.specs.declared.answers.Stepped.{Stepped}
 use Rattle.bounded_model.specs.declared.answers.Stepped.TheVariants.{Again, Done}

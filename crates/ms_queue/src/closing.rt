@@ -34,7 +34,8 @@ impl<T> Queue<T> {
     #[inline]
     pub fn begin_close(&self, by: Pass<T>) -> CloseOp<T>
         requires { IsPassOf self.now by }
-        ensures { IsClosing self.now result × (begun_of self.now result.pass ≡ pass_in by) }
+        ensures { IsClosing self.now result
+            × (begun_of self.now result.pass ≡ pass_in by) × (pass_in result.pass ≡ pass_in by) }
     {
         CloseOp {
             pass: by,

@@ -24,6 +24,7 @@ mod rest;
 mod rule;
 mod seeking;
 mod shutting;
+mod stepwise;
 mod taking;
 
 pub use closing::CloseOp;

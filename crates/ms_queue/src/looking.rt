@@ -35,7 +35,8 @@ impl<T> Queue<T> {
     #[inline]
     pub fn begin_look(&self, by: Pass<T>) -> LookOp<T>
         requires { IsPassOf self.now by }
-        ensures { IsLooking self.now result × (begun_of self.now result.pass ≡ pass_in by) }
+        ensures { IsLooking self.now result
+            × (begun_of self.now result.pass ≡ pass_in by) × (pass_in result.pass ≡ pass_in by) }
     {
         LookOp {
             pass: by,

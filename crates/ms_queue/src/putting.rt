@@ -81,7 +81,8 @@ impl<T> Queue<T> {
     #[inline]
     pub fn begin_put(&self, by: Pass<T>, value: T) -> PutOp<T>
         requires { IsPassOf self.now by }
-        ensures { IsPutting self.now value result × (begun_of self.now result.pass ≡ pass_in by) }
+        ensures { IsPutting self.now value result
+            × (begun_of self.now result.pass ≡ pass_in by) × (pass_in result.pass ≡ pass_in by) }
     {
         let operation = Operation::Put(Snapshot::of(&value));
         PutOp {

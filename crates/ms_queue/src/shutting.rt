@@ -33,7 +33,8 @@ impl<T> Queue<T> {
     #[inline]
     pub fn begin_shut(&self, by: Pass<T>) -> ShutOp<T>
         requires { IsPassOf self.now by }
-        ensures { IsShutting self.now result × (begun_of self.now result.pass ≡ pass_in by) }
+        ensures { IsShutting self.now result
+            × (begun_of self.now result.pass ≡ pass_in by) × (pass_in result.pass ≡ pass_in by) }
     {
         ShutOp {
             pass: by,

@@ -57,7 +57,8 @@ impl<T> Queue<T> {
     #[inline]
     pub fn begin_take(&self, by: Pass<T>) -> TakeOp<T>
         requires { IsPassOf self.now by }
-        ensures { IsTaking self.now result × (begun_of self.now result.pass ≡ pass_in by) }
+        ensures { IsTaking self.now result
+            × (begun_of self.now result.pass ≡ pass_in by) × (pass_in result.pass ≡ pass_in by) }
     {
         TakeOp {
             pass: by,

@@ -1,4 +1,4 @@
-use Rattle.std.proofs.Common.{[], ap, subst}
+use Rattle.std.proofs.Common.{[], refl, ap, subst}
 use Rattle.queue_machine.specs.declared.lines.Call.TheVariants.{Put as CallPut}
 use Rattle.queue_machine.specs.declared.lines.Line.{Line}
 use Rattle.queue_machine.specs.declared.lines.Line.TheVariants.{LoadCells}
@@ -13,4 +13,4 @@ returns g c =
     let id = q.table.shared.table_id in
     let o = First c.of.result in
     let line = subst (λ (l : Line _). IsAt q o c.args.by l []) (ap LoadCells c.of.ensures) (started (machine_of q) id o c.args.by c.requires) in
-    (record { of = ap CallPut c.of.ensures; line = line; read = tt }, begun_is (machine_of q) id c.args.by c.requires)
+    (record { of = ap CallPut c.of.ensures; line = line; read = tt }, begun_is (machine_of q) id c.args.by c.requires, refl)

@@ -2,7 +2,6 @@ use Rattle.std.proofs.Common.{◌≡◌, ◌≢◌, ℕ, eqb, [], refl, sym, ap,
 use Rattle.tagged_index.specs.Fields.{fields_of}
 use Rattle.tagged_index.specs.declared.word.TheConstants.{NULL}
 use Rattle.queue_machine.specs.declared.lines.Answer.TheVariants.{Look as Answer}
-use Rattle.queue_machine.specs.declared.lines.Line.{Line}
 use Rattle.queue_machine.specs.declared.lines.Line.TheVariants.{LoadHeadToLook, CheckHeadToLook}
 use Rattle.queue_machine.specs.Machine.{ends}
 use Rattle.queue_table.specs.Lines.{next}

@@ -1,5 +1,5 @@
-use Rattle.std.proofs.Common.{◌≡◌, ℕ, ◌+◌, ◌<◌, ◌≤◌, [], ◌∷◌, refl, sym, ap, ◌∙◌, subst, arith}
-use Rattle.std.specs.Prelude.{Err, Some}
+use Rattle.std.proofs.Common.{◌≡◌, ℕ, ◌+◌, ◌<◌, ◌≤◌, [], refl, sym, ap, ◌∙◌, subst, arith}
+use Rattle.std.specs.Prelude.{Err}
 use Rattle.tagged_index.specs.Fields.{fields_of, tag_of}
 use Rattle.tagged_index.specs.Limits.{tag_limit_of}
 use Rattle.bounded_model.specs.declared.answers.PutRefused.TheVariants.{Spent}

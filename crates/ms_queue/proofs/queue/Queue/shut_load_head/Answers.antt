@@ -1,4 +1,4 @@
-use Rattle.std.proofs.Common.{Bool, true, false, cond, [], refl, sym, ap, ◌∙◌}
+use Rattle.std.proofs.Common.{Bool, false, cond, [], refl, sym, ap, ◌∙◌}
 use Rattle.tagged_index.specs.Fields.{fields_of}
 use Rattle.queue_machine.specs.declared.lines.Answer.TheVariants.{Shut as Answer}
 use Rattle.queue_machine.specs.declared.lines.Line.TheVariants.{ShutHead}

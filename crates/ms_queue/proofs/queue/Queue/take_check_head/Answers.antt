@@ -1,4 +1,4 @@
-use Rattle.std.proofs.Common.{◌≡◌, ◌≢◌, ℕ, [], refl, sym, ◌∙◌, subst}
+use Rattle.std.proofs.Common.{◌≡◌, ◌≢◌, [], refl, sym, ◌∙◌, subst}
 use Rattle.std.specs.Prelude.{Err}
 use Rattle.tagged_index.specs.Fields.{fields_of, index_of}
 use Rattle.tagged_index.specs.declared.word.TheConstants.{NULL}

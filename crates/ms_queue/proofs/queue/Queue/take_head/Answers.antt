@@ -1,4 +1,4 @@
-use Rattle.std.proofs.Common.{◌≡◌, ℕ, ◌+◌, ◌<◌, List, [], ◌∷◌, ◌++◌, refl, sym, ap, ◌∙◌, subst}
+use Rattle.std.proofs.Common.{ℕ, ◌+◌, ◌<◌, List, [], ◌∷◌, ◌++◌, refl, sym, ap, ◌∙◌, subst}
 use Rattle.std.specs.Prelude.{Option as Slot, Some, None, Ok}
 use Rattle.atomic_table.specs.Table.{rest}
 use Rattle.tagged_index.specs.Fields.{fields_of}

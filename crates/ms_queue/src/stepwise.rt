@@ -1,0 +1,112 @@
+//! A queue's calls by single steps, as every such container has them.
+ghost use Rattle.ms_queue.specs.Closing.{IsClosing};
+ghost use Rattle.ms_queue.specs.Looking.{IsLooking};
+ghost use Rattle.ms_queue.specs.Putting.{IsPutting};
+ghost use Rattle.ms_queue.specs.Shutting.{IsShutting};
+ghost use Rattle.ms_queue.specs.Stepwise.{underway_in};
+ghost use Rattle.ms_queue.specs.Taking.{IsTaking};
+
+use crate::closing::CloseOp;
+use crate::looking::LookOp;
+use crate::putting::PutOp;
+use crate::queue::{Pass, Queue};
+use crate::shutting::ShutOp;
+use crate::taking::TakeOp;
+use bounded_model::{PutRefused, Stepped, Stepwise, TakeRefused};
+use std::sync::Wait;
+
+impl<T: Drop + Send> Stepwise<T> for Queue<T> {
+    type PutOp = PutOp<T>;
+
+    type TakeOp = TakeOp<T>;
+
+    type CloseOp = CloseOp<T>;
+
+    type ShutOp = ShutOp<T>;
+
+    type LookOp = LookOp<T>;
+
+    ghost is_putting = { IsPutting };
+
+    ghost is_taking = { IsTaking };
+
+    ghost is_closing = { IsClosing };
+
+    ghost is_shutting = { IsShutting };
+
+    ghost is_looking = { IsLooking };
+
+    ghost putting = { λ op. underway_in op.pass };
+
+    ghost taking = { λ op. underway_in op.pass };
+
+    ghost closing = { λ op. underway_in op.pass };
+
+    ghost shutting = { λ op. underway_in op.pass };
+
+    ghost looking = { λ op. underway_in op.pass };
+
+    #[inline]
+    fn begin_put(&self, by: Pass<T>, value: T) -> PutOp<T> {
+        self.begin_put(by, value)
+    }
+
+    #[inline]
+    fn begin_take(&self, by: Pass<T>) -> TakeOp<T> {
+        self.begin_take(by)
+    }
+
+    #[inline]
+    fn begin_close(&self, by: Pass<T>) -> CloseOp<T> {
+        self.begin_close(by)
+    }
+
+    #[inline]
+    fn begin_shut(&self, by: Pass<T>) -> ShutOp<T> {
+        self.begin_shut(by)
+    }
+
+    #[inline]
+    fn begin_look(&self, by: Pass<T>) -> LookOp<T> {
+        self.begin_look(by)
+    }
+
+    #[inline]
+    fn step_put(&self, op: PutOp<T>) -> Stepped<PutOp<T>, Pass<T>, Result<u64, PutRefused<T>>> {
+        op.step(self)
+    }
+
+    #[inline]
+    fn step_take(
+        &self,
+        op: TakeOp<T>,
+    ) -> Stepped<TakeOp<T>, Pass<T>, Result<(T, u64), TakeRefused>> {
+        op.step(self)
+    }
+
+    #[inline]
+    fn step_close(&self, op: CloseOp<T>) -> Stepped<CloseOp<T>, Pass<T>, bool> {
+        op.step(self)
+    }
+
+    #[inline]
+    fn step_shut(&self, op: ShutOp<T>) -> Stepped<ShutOp<T>, Pass<T>, bool> {
+        op.step(self)
+    }
+
+    #[inline]
+    fn step_look(&self, op: LookOp<T>) -> Stepped<LookOp<T>, Pass<T>, bool> {
+        op.step(self)
+    }
+
+    fn look<R: Wait>(&self, rt: &R, by: Pass<T>) -> (Pass<T>, bool) {
+        let mut op = self.begin_look(by);
+        for _ in rt.forever() {
+            match op.step(self) {
+                Stepped::Again(next) => op = next,
+                Stepped::Done(pass, is_empty) => return (pass, is_empty),
+            }
+        }
+        unreachable!()
+    }
+}
