@@ -1,2 +1,2 @@
-pub mod Playing
-pub mod Ranges
+pub mod Plays
+pub mod Shows
