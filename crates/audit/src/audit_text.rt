@@ -9,6 +9,7 @@ use crate::AuditFault;
 use crate::counts::Counts;
 use crate::digits::Digits;
 use crate::output::{Progress, put_all};
+use crate::tallies::Tallies;
 use relay::Relayed;
 use std::io::Write;
 
@@ -42,8 +43,9 @@ fn put_senders<W: Write>(
         left: 0,
         unsent: 0,
     };
+    let mut tallies = Tallies::new(relayed, 0);
     for (sender, unsent) in relayed.unsent.iter().enumerate() {
-        let counts = Counts::of(relayed, sender, unsent);
+        let counts = tallies.of_sender(relayed, sender, unsent);
         let number = Digits::of(sender as u128);
         put_counts(writer, progress, b"sender ", number.as_slice(), counts)?;
         sums = sums.plus(counts);

@@ -14,6 +14,7 @@ mod faults;
 mod list_text;
 mod message_file;
 mod output;
+mod tallies;
 mod text;
 
 pub use audit_text::write_audit;

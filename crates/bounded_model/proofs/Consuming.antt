@@ -1,9 +1,15 @@
 -- One more take at the end of a row of takes.
-use Rattle.std.proofs.Common.{ℕ, List, [], ◌∷◌, ◌++◌, refl, Ok, map}
+use Rattle.std.proofs.Common.{◌≡◌, ℕ, List, [], ◌∷◌, ◌++◌, refl, Ok, map}
 use Rattle.bounded_model.specs.declared.views.PassView.{PassView}
 use Rattle.bounded_model.specs.Machine.{Shape}
 use Rattle.bounded_model.specs.Laws.{TakeGives}
-use Rattle.bounded_model.specs.Consumes.{TakesEach, Folds, Consumed}
+use Rattle.bounded_model.specs.Consumes.{TakesEach, Folds}
+
+-- some values were taken, and f made t of s and them in the order of taking
+pub record Consumed {T S : Type 0} (c : Shape) (Gives : S → T → S → Type 0) (v : PassView T) (s : S) (w : PassView T) (t : S) : Type 0 where
+  pub taken : List (T × ℕ)
+  pub takes : TakesEach c v taken w
+  pub folds : Folds Gives s (map (λ x. x.0) taken) t
 
 TakesEach_more : {T : Type 0} (c : Shape) (v : PassView T) (xs : List (T × ℕ)) (u w : PassView T) (x : T × ℕ) → TakesEach c v xs u → TakeGives c u w (Ok x) → TakesEach c v (xs ++ x ∷ []) w
 TakesEach_more c v [] u w x takes last = (w, rw takes last, refl)

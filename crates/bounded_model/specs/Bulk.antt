@@ -6,16 +6,9 @@ use Rattle.bounded_model.specs.declared.bulk.RangeRefused.{RangeRefused}
 use Rattle.bounded_model.specs.declared.bulk.RangeRefused.TheVariants.{Nothing, Full, Closed, Spent}
 use Rattle.bounded_model.specs.declared.bulk.Folded.{Folded}
 use Rattle.bounded_model.specs.declared.history.Event.{Event}
-use Rattle.bounded_model.specs.declared.views.PassView.{PassView}
 use Rattle.bounded_model.specs.Machine.{Shape, state}
 use Rattle.bounded_model.specs.Justified.{Sometime, Justified, IsFull, PutFull, PutClosed, PutSpent}
-use Rattle.bounded_model.specs.Laws.{Adds, BacksOut, TakesNothing, RangeGives, FoldGives}
-
--- a call of a pass: what it had seen as the call began, and as it ended
-pub record Call (T : Type 0) : Type 0 where
-  pub shape : Shape
-  pub from : PassView T
-  pub to : PassView T
+use Rattle.bounded_model.specs.Laws.{Call, Adds, BacksOut, TakesNothing, RangeGives, FoldGives}
 
 -- Puts of a range
 

@@ -3,7 +3,7 @@ use Rattle.std.specs.Prelude.{◌≡◌, ℕ, List, [], ◌∷◌, map, Ok, Err}
 use Rattle.bounded_model.specs.declared.answers.TakeRefused.{TakeRefused}
 use Rattle.bounded_model.specs.declared.views.PassView.{PassView}
 use Rattle.bounded_model.specs.Machine.{Shape}
-use Rattle.bounded_model.specs.Laws.{TakeGives}
+use Rattle.bounded_model.specs.Laws.{Call, TakeGives}
 
 -- these values, each with its number, were taken one after another
 abbrev pub TakesEach : {T : Type 0} → Shape → PassView T → List (T × ℕ) → PassView T → Type 0
@@ -16,14 +16,11 @@ abbrev pub Folds : {T S : Type 0} → (S → T → S → Type 0) → S → List 
 Folds Gives s [] t = s ≡ t
 Folds {T} {S} Gives s (x ∷ xs) t = (r : S) × Gives s x r × Folds Gives r xs t
 
--- some values were taken, and f made t of s and them in the order of taking
-pub record Consumed {T S : Type 0} (c : Shape) (Gives : S → T → S → Type 0) (v : PassView T) (s : S) (w : PassView T) (t : S) : Type 0 where
+-- some values were taken one after another until a take was refused, and the fold did with them, in
+-- the order of taking, what `folds` says
+pub record ConsumesAll {T : Type 0} (call : Call T) (folds : List T → Type 0) (why : TakeRefused) : Type 0 where
   pub taken : List (T × ℕ)
-  pub takes : TakesEach c v taken w
-  pub folds : Folds Gives s (map (λ x. x.0) taken) t
-
--- the same until a take was refused
-pub record ConsumesAll {T S : Type 0} (c : Shape) (Gives : S → T → S → Type 0) (v : PassView T) (s : S) (w : PassView T) (t : S) (why : TakeRefused) : Type 0 where
   pub last : PassView T
-  pub before : Consumed c Gives v s last t
-  pub refused : TakeGives c last w (Err why)
+  pub takes : TakesEach call.shape call.from taken last
+  pub folded : folds (map (λ x. x.0) taken)
+  pub refused : TakeGives call.shape last call.to (Err why)

@@ -87,6 +87,12 @@ pub record BacksOut {T : Type 0} (v w : PassView T) (most : ℕ) : Type 0 where
 
 -- The calls of a pass, by their answers
 
+-- a call of a pass: what it had seen as the call began, and as it ended
+pub record Call (T : Type 0) : Type 0 where
+  pub shape : Shape
+  pub from : PassView T
+  pub to : PassView T
+
 -- put: a refusal hands the value back
 abbrev pub PutGives : {T : Type 0} → Shape → PassView T → T → PassView T → Result ℕ (PutRefused T) → Type 0
 PutGives c v x w (Ok n) = Adds v w (Put v.number (x ∷ []) n ∷ Hold v.number ∷ [])

@@ -2,7 +2,7 @@
 
 ghost use Rattle.std.specs.Prelude.{MatchResult};
 ghost use Rattle.bounded_model.specs.Laws.{TakeGives};
-ghost use Rattle.bounded_model.specs.Consumes.{ConsumesAll};
+ghost use Rattle.bounded_model.specs.Consumes.{Folds, ConsumesAll};
 
 use crate::{Container, TakeRefused};
 use std::sync::Wait;
@@ -42,8 +42,10 @@ pub fn consume_all<T, C: Container<T>, W: Wait, S, F: Fn(S, T) -> S + Drop>(
     requires pass { C.is_pass c.now by }
     requires call { F.IsAlwaysCallable f }
     ensures of { C.is_pass c.now result.0 }
-    ensures gives { ConsumesAll (C.shape c.now) (λ s x t. F.post f s x t)
-        (C.pass by) state (C.pass result.0) result.1 result.2 }
+    ensures gives { ConsumesAll
+        (record { shape = C.shape c.now; from = C.pass by; to = C.pass result.0 })
+        (λ values. Folds (λ s x t. F.post f s x t) state values result.1)
+        result.2 }
 {
     let mut pass = by;
     let mut folded = state;

@@ -25,6 +25,9 @@ use std::sync::Wait;
 /// The most passes of a container that may be out at one time.
 pub const MAX_PASSES: u32 = 65_535;
 
+// Laws and clauses say the name; this says the number.
+const _: () = prove!(MAX_PASSES == 65_535);
+
 /// The values that are left in a container at its end: a queue's in the order of their puts, a
 /// stack's from the top down.
 pub trait Leaving<T> {

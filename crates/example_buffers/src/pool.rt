@@ -5,7 +5,7 @@ ghost use Rattle.treiber_stack.specs.Stack.{IsPassOf, IsRootOf};
 
 use crate::buffer::{Buffer, give, use_pool};
 use crate::fault::Fault;
-use bounded_model::Container;
+use bounded_model::{Bulk, Container};
 use std::alloc::Global;
 use std::sync::Wait;
 use std::thread;

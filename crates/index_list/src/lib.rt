@@ -23,5 +23,5 @@ pub use host::ListHost;
 pub use links::{load_link, load_top, store_link};
 pub use marks::{try_mark, try_shut};
 pub use slots::{move_out, put_in};
-pub use takes::{try_take, try_take_all};
+pub use takes::{raised, try_take, try_take_all};
 pub use told::{Telling, exchange_as, load_as, store_as, try_as};

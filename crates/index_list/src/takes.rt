@@ -82,9 +82,10 @@ pub fn try_take_all<S, V, K, P: ListHost<S, V, K, L>, const L: usize>(
     )
 }
 
-// The top after a take. There is no test of the tag, which is known to be below the greatest.
+/// The word with a new index and the next tag, as a take leaves the top. There is no test of the
+/// tag, which is known to be below the greatest.
 #[inline]
-pub(crate) fn raised(seen: Tagged, index: u32) -> Tagged
+pub fn raised(seen: Tagged, index: u32) -> Tagged
     requires { (index ≤ NULL) × (tag_of seen < MAX_TAG) }
     ensures { result ≡ top_after_take seen index }
 {

@@ -4,6 +4,8 @@ pub mod Lists
 pub mod OneList
 pub mod Chains
 pub mod Starts
+pub mod Scheduled
+pub mod Stories
 pub mod Hands
 pub mod Seating
 pub mod SeatedEnds

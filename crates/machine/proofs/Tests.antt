@@ -1,5 +1,5 @@
 -- Tests of the machines, and what each outcome tells.
-use Rattle.std.proofs.Common.{◌≡◌, ◌≤◌, ℕ, ◌&&◌, ◌||◌, Bool, true, false, cond, eqb, ltb, refl, sym, eqb-true, eq-eqb, arith}
+use Rattle.std.proofs.Common.{◌≡◌, ◌<◌, ◌≤◌, ℕ, ◌&&◌, ◌||◌, Bool, true, false, cond, eqb, ltb, refl, sym, eqb-true, eq-eqb, arith}
 use Rattle.std.proofs.lemmas.Bool.{false≢true}
 use Rattle.std.proofs.lemmas.Bool.Decides.{nat_tests}
 use Rattle.machine.specs.Words.{Tagged, same_mark, same}
@@ -48,3 +48,11 @@ at_most_one i n = grind arith
 
 pub not_below : (i n : ℕ) → n ≤ i → cond (ltb i n) 1 0 ≤ 0
 not_below i n h = cases (λ x. x ≤ 0) (ltb i n) 1 0 (λ b. absurd (grind (arith, nat_tests))) (λ b. omega arith)
+
+-- Ranks: a choice is as small as both of its values, and of a word that was just read it is the first
+pub one_of : (b : Bool) (x y n : ℕ) → x ≤ n → y ≤ n → cond b x y ≤ n
+one_of true x y n h h' = h
+one_of false x y n h h' = h'
+
+pub fresh : (w : Tagged) (x y r : ℕ) → x < r → cond (same w w) x y < r
+fresh w x y r h = rw (same-self w) h

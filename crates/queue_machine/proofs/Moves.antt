@@ -8,7 +8,7 @@ use Rattle.machine.proofs.Lists.{times_here, times_append, store_else, leads_fra
 use Rattle.queue_machine.specs.declared.lines.Line.{Line}
 use Rattle.queue_machine.specs.Machine.{Memory, held_cells, held_nodes, store_word, after_hold, after_free, after_node_take, after_node_give, after_clink, after_nlink, after_cell, after_next, after_link_of, after_swing, after_close, after_take, after_shut, next_of}
 use Rattle.queue_machine.specs.Rule.{Lists, Was, Lags, Ends, IsFine, IsChained, Linked}
-use Rattle.queue_machine.proofs.Chain.{word_else, word_each, past_refl, past_higher, was_refl, was_higher, pool_same, chain_same, tail_in, at_end, behind}
+use Rattle.queue_machine.proofs.Chain.{ChainMoves, word_else, word_each, past_refl, past_higher, was_refl, was_higher, pool_same, chain_same, tail_in, at_end, behind}
 use Rattle.queue_machine.proofs.Chained.{store_cell_chained, store_next_chained, link_chained, close_chained, swing_chained, Taken, shut_chained}
 use Rattle.queue_machine.proofs.Linked.{cell_once, node_once, no_null, held_below, moves_kept}
 
@@ -175,14 +175,27 @@ module _ {T : Type 0} {n limit : ℕ} {m : Memory T} {g : Lists} {lines : List (
       let null : next_of m m.tail.index ≡ NULL = ap (next_of m) (sym at.1) ∙ index_of (m.next w.index) x won ∙ ends.null in
       record { tag = at.0; index = at.1; null = null; last = at_end s.chained (omega (arith, no_null s)) null }
 
+  -- what it does to the chain, y being the new link
+  end_moves : (w x y : Tagged) → AtEnd w → m.next w.index ≡ x → x.tag < y.tag → ChainMoves m.head m.tail m.next m.cell g.chain (held_nodes l) m.head m.tail (store_word m.next w.index y) m.cell
+  end_moves w x y at won higher =
+      let there : 0 < times w.index g.chain = subst (λ (i : ℕ). 0 < times i g.chain) (sym at.index) (tail_in s.chained) in
+      let null : next_of m w.index ≡ NULL = ap (next_of m) at.index ∙ at.null in
+      record {
+        heads = past_refl m.head;
+        tails = past_refl m.tail;
+        words = word_each (λ i u. Was u (m.next i)) m.next w.index y (was_higher y (m.next w.index) (omega (arith, tag_of (m.next w.index) x won))) (λ i ne. was_refl (m.next i));
+        links = λ i h node. node_apart m.next w.index y null i node;
+        others = λ i h out. chain_apart m.next w.index y g.chain there i out;
+        cells = λ i h. refl;
+        still = λ h. refl;
+      }
+
   -- a node is linked behind the last one
   pub link_linked : (w x : Tagged) (j c : ℕ) (v : T) → Ends m.tail m.next w x → m.next w.index ≡ x → held_cells l ≡ c ∷ [] → held_nodes l ≡ j ∷ [] → m.cell j ≡ c → next_of m j ≡ NULL → held_cells l' ≡ [] → held_nodes l' ≡ []
       → IsFine limit (after_link_of m w x j c v) (record g { chain = g.chain ++ (j ∷ []); after = j ∷ []; queued = g.queued ++ (c ∷ []) }) l'
       → Linked T n limit (after_link_of m w x j c v) (record g { chain = g.chain ++ (j ∷ []); after = j ∷ []; queued = g.queued ++ (c ∷ []) }) (set lines p l')
   link_linked w x j c v ends won mine_cell mine_node in_cell null no_cell no_node f =
       let at = at_the_end w x ends won in
-      let there : 0 < times w.index g.chain = subst (λ (i : ℕ). 0 < times i g.chain) (sym at.index) (tail_in s.chained) in
-      let wnull : next_of m w.index ≡ NULL = ap (next_of m) at.index ∙ at.null in
       let y = raised x j in
       let ch = link_chained s.chained x j (ap m.next (sym at.index) ∙ won) ends.unmarked at.last (omega (arith, node_once p j l s e, ap (times j) mine_node, times_here j [])) (omega (arith, node_once p m.tail.index l s e)) null in
       let ch' : IsChained m.head m.tail (store_word m.next w.index y) m.cell (record g { chain = g.chain ++ (j ∷ []); after = j ∷ []; queued = g.queued ++ (m.cell j ∷ []) }) =
@@ -192,15 +205,7 @@ module _ {T : Type 0} {n limit : ℕ} {m : Memory T} {g : Lists} {lines : List (
       (record {
         cells = pool_same m.cells m.clink g.cells (held_cells l);
         nodes = pool_same m.nodes m.nlink g.nodes (held_nodes l);
-        chain = record {
-          heads = past_refl m.head;
-          tails = past_refl m.tail;
-          words = word_each (λ i u. Was u (m.next i)) m.next w.index y (was_higher y (m.next w.index) (omega (arith, tag_of (m.next w.index) x won))) (λ i ne. was_refl (m.next i));
-          links = λ i h node. node_apart m.next w.index y wnull i node;
-          others = λ i h out. chain_apart m.next w.index y g.chain there i out;
-          cells = λ i h. refl;
-          still = λ h. refl;
-        };
+        chain = end_moves w x y at won (omega arith);
         cells_moved = λ i. omega (arith, ap (times i) mine_cell, ap (times i) no_cell, times_append i g.queued (c ∷ []));
         nodes_moved = λ i. omega (arith, ap (times i) mine_node, ap (times i) no_node, times_append i g.chain (j ∷ []));
       })
@@ -213,22 +218,12 @@ module _ {T : Type 0} {n limit : ℕ} {m : Memory T} {g : Lists} {lines : List (
   pub close_linked : (w x : Tagged) → Ends m.tail m.next w x → m.next w.index ≡ x → held_cells l' ≡ held_cells l → held_nodes l' ≡ held_nodes l → IsFine limit (after_close m w x) g l' → Linked T n limit (after_close m w x) g (set lines p l')
   close_linked w x ends won same_cells same_nodes f =
       let at = at_the_end w x ends won in
-      let there : 0 < times w.index g.chain = subst (λ (i : ℕ). 0 < times i g.chain) (sym at.index) (tail_in s.chained) in
-      let wnull : next_of m w.index ≡ NULL = ap (next_of m) at.index ∙ at.null in
       let y = marked (raised x NULL) in
       moves_kept p l l' s e
       (record {
         cells = pool_same m.cells m.clink g.cells (held_cells l);
         nodes = pool_same m.nodes m.nlink g.nodes (held_nodes l);
-        chain = record {
-          heads = past_refl m.head;
-          tails = past_refl m.tail;
-          words = word_each (λ i u. Was u (m.next i)) m.next w.index y (was_higher y (m.next w.index) (omega (arith, tag_of (m.next w.index) x won))) (λ i ne. was_refl (m.next i));
-          links = λ i h node. node_apart m.next w.index y wnull i node;
-          others = λ i h out. chain_apart m.next w.index y g.chain there i out;
-          cells = λ i h. refl;
-          still = λ h. refl;
-        };
+        chain = end_moves w x y at won (omega arith);
         cells_moved = λ i. omega (arith, ap (times i) same_cells);
         nodes_moved = λ j. omega (arith, ap (times j) same_nodes);
       })

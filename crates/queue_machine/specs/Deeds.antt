@@ -59,6 +59,7 @@ module _ {T : Type 0} (p : ℕ) where
   abbrev pub HasMade : Call T → Line T → List (Event T) → Type 0
   HasMade call (Idle (Some a)) events = Makes call a events
   HasMade call (Idle None) events = events ≡ []
+  -- put: a cell, a node, to the end of the chain
   HasMade call (LoadCells v) events = (call ≡ CallPut v) × (events ≡ [])
   HasMade call (LoadCellLink v w) events = (call ≡ CallPut v) × (events ≡ [])
   HasMade call (TakeCell v w k) events = (call ≡ CallPut v) × (events ≡ [])
@@ -75,6 +76,7 @@ module _ {T : Type 0} (p : ℕ) where
   HasMade call (LinkNext link w n) events = (call ≡ CallPut link.value) × (events ≡ Hold p ∷ [])
   HasMade call (SwingToLinked v w x) events = (call ≡ CallPut v) × (events ≡ Put p (v ∷ []) w.tag ∷ Hold p ∷ [])
   HasMade call (MarkNext w n) events = (call ≡ CallClose) × (events ≡ [])
+  -- take
   HasMade call LoadHead events = (call ≡ CallTake) × (events ≡ [])
   HasMade call (LoadTailToTake h) events = (call ≡ CallTake) × (events ≡ [])
   HasMade call (LoadHeadNext h w) events = (call ≡ CallTake) × (events ≡ [])
@@ -82,12 +84,14 @@ module _ {T : Type 0} (p : ℕ) where
   HasMade call (SwingTailToTake w n) events = (call ≡ CallTake) × (events ≡ [])
   HasMade call (LoadCell h n) events = (call ≡ CallTake) × (events ≡ [])
   HasMade call (TakeHead h n k) events = (call ≡ CallTake) × (events ≡ [])
+  -- giving back
   HasMade call (LoadNodesToGive give) events = HasToFree call give.answer events
   HasMade call (LinkToNodes give w) events = HasToFree call give.answer events
   HasMade call (GiveNode give w) events = HasToFree call give.answer events
   HasMade call (LoadCellsToGive give) events = HasToFree call give.answer events
   HasMade call (LinkToCells give w) events = HasToFree call give.answer events
   HasMade call (GiveCell give w) events = HasToFree call give.answer events
+  -- look, shut
   HasMade call LoadHeadToLook events = (call ≡ CallLook) × (events ≡ [])
   HasMade call (LoadNextToLook h) events = (call ≡ CallLook) × (events ≡ [])
   HasMade call (CheckHeadToLook h n) events = (call ≡ CallLook) × (events ≡ [])

@@ -9,6 +9,7 @@ use Rattle.bounded_model.specs.declared.answers.TakeRefused.TheVariants.{Empty a
 use Rattle.bounded_model.specs.declared.history.Event.{Event}
 use Rattle.bounded_model.specs.declared.history.Event.TheVariants.{Hold, Put, Take, Free, Close, Shut}
 use Rattle.bounded_model.specs.Machine.{Shape}
+use Rattle.machine.specs.Schedule as schedule
 use Rattle.machine.specs.Words.{Tagged, kept, raised, marked, with_second, same, store, start_word, start_link}
 use Rattle.machine.specs.Chains.{with_home}
 use Rattle.queue_machine.specs.declared.lines.Placing.{Placing}
@@ -160,12 +161,9 @@ module _ {T : Type 0} where
   abbrev pub found_head_to_shut : Tagged → Line T
   found_head_to_shut h = if h.second then ends (AnswerShut false) else ShutHead h
 
--- What one step does: it leaves this memory, the pass goes on at this line, and the history grows by
--- these events, of which there is one or none
-pub record Outcome (T : Type 0) : Type 0 where
-  pub memory : Memory T
-  pub line : Line T
-  pub events : List (Event T)
+-- What one step does
+abbrev pub Outcome : Type 0 → Type 0
+Outcome T = schedule.Outcome (Memory T) (Line T) (Event T)
 
 module _ {T : Type 0} where
   abbrev pub goes_on : Memory T → Line T → Outcome T
@@ -297,3 +295,36 @@ start c = record {
   cell = λ j. NULL;
   home = λ i. some None;
 }
+
+module _ {T : Type 0} where
+  -- is the next step of a line an exchange that wins
+  abbrev pub wins_exchange : Memory T → Line T → Bool
+  wins_exchange m (TakeCell v w k) = same m.cells w
+  wins_exchange m (TakeNode put w k) = same m.nodes w
+  wins_exchange m (SwingTail s w n) = same m.tail w
+  wins_exchange m (LinkNext link w n) = same (m.next w.index) n
+  wins_exchange m (SwingToLinked v w n) = same m.tail w
+  wins_exchange m (MarkNext w n) = same (m.next w.index) n
+  wins_exchange m (SwingTailToTake w n) = same m.tail w
+  wins_exchange m (TakeHead h n k) = same m.head h
+  wins_exchange m (GiveNode give w) = same m.nodes w
+  wins_exchange m (GiveCell give w) = same m.cells w
+  wins_exchange m (ShutHead h) = same m.head h
+  wins_exchange m l = false
+
+-- the whole machine, for schedules
+abbrev pub queue : {T : Type 0} → Shape → schedule.Machine (Memory T) (Line T) (Call T) (Event T)
+queue c = record {
+  first = start c;
+  rest = Idle None;
+  is_idle = is_idle;
+  starts = λ call idle. starts call;
+  step = step c;
+  wins = wins_exchange;
+}
+
+abbrev pub Pass : Type 0 → Type 0
+Pass T = schedule.Pass (Line T) (Call T) (Event T)
+
+abbrev pub State : Type 0 → Type 0
+State T = schedule.State (Memory T) (Line T) (Call T) (Event T)

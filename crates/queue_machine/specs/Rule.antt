@@ -45,6 +45,10 @@ pub record Was (now n : Tagged) : Type 0 where
 abbrev pub Follows : Tagged → (ℕ → Tagged) → Tagged → Tagged → Type 0
 Follows top next w n = w.tag ≡ top.tag → n.index ≢ NULL → next w.index ≡ n
 
+-- w was the tail after h had been the head: as long as h still is, w names its node or has passed it
+abbrev pub HasPassed : Tagged → Tagged → Tagged → Type 0
+HasPassed head h w = h.tag ≡ head.tag → w.index ≢ h.index → h.tag < w.tag
+
 -- the tail was w, and n was the link of its node and names another: the tail can be moved on
 pub record Lags (tail : Tagged) (next : ℕ → Tagged) (w n : Tagged) : Type 0 where
   pub node : n.index ≢ NULL
@@ -83,15 +87,19 @@ module _ {T : Type 0} (limit : ℕ) (m : Memory T) (g : Lists) where
 
   abbrev pub IsFine : Line T → Type 0
   IsFine (Idle a) = Unit {0}
+  -- put: a cell ..
   IsFine (LoadCells v) = Unit {0}
   IsFine (LoadCellLink v w) = ReadTop limit m.cells g.cells w
   IsFine (TakeCell v w k) = ReadTop limit m.cells g.cells w × ReadLink m.cells m.clink w k
+  -- .. a node ..
   IsFine (LoadNodes put) = Unit {0}
   IsFine (LoadNodeLink put w) = ReadTop limit m.nodes g.nodes w
   IsFine (TakeNode put w k) = ReadTop limit m.nodes g.nodes w × ReadLink m.nodes m.nlink w k
+  -- .. which is prepared
   IsFine (StoreCell link) = HasRoom link.node
   IsFine (LoadNext link) = HasRoom link.node × (m.cell link.node ≡ link.cell)
   IsFine (PrepareNext link n) = HasRoom link.node × (m.cell link.node ≡ link.cell) × (m.next link.node ≡ n) × (n.tag + 2 ≤ limit)
+  -- to the end of the chain
   IsFine (LoadTail s) = Seeks s
   IsFine (LoadTailNext s w) = Seeks s × Past m.tail w
   IsFine (CheckTail s w n) = Seeks s × Past m.tail w × Was (m.next w.index) n × Follows m.tail m.next w n
@@ -99,19 +107,22 @@ module _ {T : Type 0} (limit : ℕ) (m : Memory T) (g : Lists) where
   IsFine (LinkNext link w n) = IsPrepared limit m link × Ends m.tail m.next w n
   IsFine (SwingToLinked v w x) = Lags m.tail m.next w x
   IsFine (MarkNext w n) = Ends m.tail m.next w n
+  -- take
   IsFine LoadHead = Unit {0}
   IsFine (LoadTailToTake h) = Past m.head h × (h.second ≡ false)
-  IsFine (LoadHeadNext h w) = Past m.head h × (h.second ≡ false) × Past m.tail w × (h.tag ≡ m.head.tag → w.index ≢ h.index → h.tag < w.tag)
-  IsFine (CheckHead h w n) = Past m.head h × (h.second ≡ false) × Past m.tail w × (h.tag ≡ m.head.tag → w.index ≢ h.index → h.tag < w.tag) × Follows m.head m.next h n
+  IsFine (LoadHeadNext h w) = Past m.head h × (h.second ≡ false) × Past m.tail w × HasPassed m.head h w
+  IsFine (CheckHead h w n) = Past m.head h × (h.second ≡ false) × Past m.tail w × HasPassed m.head h w × Follows m.head m.next h n
   IsFine (SwingTailToTake w n) = Lags m.tail m.next w n
   IsFine (LoadCell h n) = Past m.head h × (h.second ≡ false) × (n.index ≢ NULL) × Follows m.head m.next h n × (h.tag < m.tail.tag)
   IsFine (TakeHead h n k) = Past m.head h × (h.second ≡ false) × (n.index ≢ NULL) × Follows m.head m.next h n × (h.tag < m.tail.tag) × (h.tag ≡ m.head.tag → m.cell n.index ≡ k)
+  -- giving back
   IsFine (LoadNodesToGive give) = Unit {0}
   IsFine (LinkToNodes give w) = Unit {0}
   IsFine (GiveNode give w) = m.nlink give.node ≡ w.index
   IsFine (LoadCellsToGive give) = Unit {0}
   IsFine (LinkToCells give w) = Unit {0}
   IsFine (GiveCell give w) = m.clink give.cell ≡ w.index
+  -- look, shut
   IsFine LoadHeadToLook = Unit {0}
   IsFine (LoadNextToLook h) = Past m.head h
   IsFine (CheckHeadToLook h n) = Unit {0}

@@ -1,3 +1,4 @@
 pub mod Memories
 pub mod Does
 pub mod Laws
+pub mod Opening

@@ -1,9 +1,12 @@
 //! Where the words of a queue lie. The tops of the two free lists, the head and the tail are 16 words
 //! apart, so that each has cache lines of its own; then four words follow for each index: the link of
 //! the free cell, that of the free node, and the node's link in the chain and its cell.
-ghost use Rattle.std.specs.Prelude.{◌≡◌, ◌≤◌};
+ghost use Rattle.std.specs.Prelude.{◌≡◌, ◌+◌, ◌*◌, ◌<◌, ◌≤◌};
 ghost use Rattle.tagged_index.specs.declared.word.TheConstants.{NULL};
-ghost use Rattle.queue_table.specs.Layout.{clink_at, nlink_at, next_at, cell_at};
+ghost use Rattle.machine.specs.Words.{start_link};
+ghost use Rattle.queue_table.specs.Layout.{clink_at, nlink_at, next_at, cell_at, words_for, start_at};
+
+use tagged_index::NULL;
 
 /// The top of the free cells.
 pub const CELLS: usize = 0;
@@ -55,4 +58,45 @@ pub fn cell(index: u32) -> usize
     ensures { result ≡ cell_at index }
 {
     FIRST_LINK + WORDS_OF_AN_INDEX * index as usize + 3
+}
+
+/// How many words a queue of this capacity has.
+#[inline]
+pub fn words(capacity: u32) -> usize
+    requires { capacity ≤ NULL }
+    ensures { result ≡ words_for capacity }
+{
+    FIRST_LINK + WORDS_OF_AN_INDEX * (capacity as usize + 1)
+}
+
+// The next of so many indexes; null behind the last.
+fn after(index: usize, count: usize) -> u64
+    requires { index ≤ 4 * NULL }
+    ensures { result ≡ start_link count index }
+{
+    if index + 1 == count {
+        NULL as u64
+    } else {
+        (index + 1) as u64
+    }
+}
+
+/// A word of a new queue. All cells are free, and all nodes but node 0, which is the dummy; each free
+/// one is linked to the next.
+pub fn start(capacity: u32, at: usize) -> u64
+    requires { (capacity ≤ NULL) × (at < words_for capacity) }
+    ensures { result ≡ start_at capacity at }
+{
+    if at < FIRST_LINK {
+        return if at == NODES { 1 } else { 0 };
+    }
+    let index = (at - FIRST_LINK) / WORDS_OF_AN_INDEX;
+    let part = (at - FIRST_LINK) % WORDS_OF_AN_INDEX;
+    if part == 0 {
+        after(index, capacity as usize)
+    } else if part == 1 && index != 0 {
+        after(index, capacity as usize + 1)
+    } else {
+        NULL as u64
+    }
 }

@@ -13,12 +13,12 @@ use Rattle.bounded_model.specs.Gathers.{EachFrom}
 use Rattle.bounded_model.specs.Laws.{IsSound, NoneOut, Joins}
 use Rattle.bounded_model.proofs.Histories.{Later-trans}
 use Rattle.bounded_model.proofs.Joining.{HasJoined, HasJoined-now, HasJoined-join, own-joined}
-use Rattle.relay.specs.declared.ends.ProducerEnd.TheVariants.{SentAll, ClosedIt, MetClosed, MetSpent}
-use Rattle.relay.specs.declared.ends.ConsumerEnd.TheVariants.{TookEnough, ShutIt, FoundClosed, FoundShut, FoundSpent, NoRoom}
+use Rattle.relay.specs.declared.workers.ProducerEnd.TheVariants.{SentAll, ClosedIt, MetClosed, MetSpent}
+use Rattle.relay.specs.declared.workers.ConsumerEnd.TheVariants.{TookEnough, ShutIt, FoundClosed, FoundShut, FoundSpent, NoRoom}
 use Rattle.relay.specs.declared.messages.Message.{Message}
-use Rattle.relay.specs.declared.orders.Orders.{Orders}
-use Rattle.relay.specs.declared.parts.Sent.{Sent}
-use Rattle.relay.specs.declared.parts.Took.{Took}
+use Rattle.relay.specs.declared.plan.Orders.{Orders}
+use Rattle.relay.specs.declared.workers.Sent.{Sent}
+use Rattle.relay.specs.declared.workers.Took.{Took}
 use Rattle.relay.specs.Promises.{Lists, total}
 use Rattle.relay.specs.Passes.{gave, JoinsAll}
 use Rattle.relay.specs.Parts.{MayUse}

@@ -1,8 +1,10 @@
 -- What the consumers' lists say of the history, and of each consumer.
-use Rattle.std.proofs.Common.{◌≡◌, ℕ, suc, ◌+◌, ◌<◌, ◌≤◌, ◌≢◌, List, [], ◌∷◌, ◌++◌, refl, true, false, cond, sym, ◌∙◌, ap, subst, arith, length, flat_map, inl, inr, Vec}
+use Rattle.std.proofs.Common.{◌≡◌, ℕ, zero, suc, ◌+◌, ◌<◌, ◌≤◌, ◌≢◌, List, [], ◌∷◌, ◌++◌, refl, true, false, cond, sym, ◌∙◌, ap, subst, arith, length, flat_map, inl, inr, Vec}
 use Rattle.std.specs.Prelude.{◌==◌, ◌⊎◌}
 use Rattle.std.specs.List.{AllZip, AllByRecursion as Every}
 use Rattle.std.specs.declared.alloc.Global.{Global}
+use Rattle.std.specs.List.Sorted.{IsNonDecreasingBy}
+use Rattle.std.proofs.lemmas.List.Elements.{All-from_recursion}
 use Rattle.std.proofs.lemmas.Bool.Decides.{nat_tests}
 use Rattle.std.proofs.lemmas.List.Sums.{sum_by-cons, sum_by-append}
 use Rattle.bounded_model.specs.declared.history.Event.{Event}
@@ -14,12 +16,12 @@ use Rattle.bounded_model.specs.Gathers.{gather, took_of, moved_by, values_of, Ri
 use Rattle.bounded_model.proofs.Histories.{own-mine, own-other}
 use Rattle.relay.specs.declared.messages.Message.{Message}
 use Rattle.relay.specs.declared.outcome.Taken.{Taken}
-use Rattle.relay.specs.declared.orders.Orders.{Orders}
-use Rattle.relay.specs.declared.parts.Took.{Took}
+use Rattle.relay.specs.declared.plan.Orders.{Orders}
+use Rattle.relay.specs.declared.workers.Took.{Took}
 use Rattle.relay.specs.Promises.{messages_of, taken_by}
 use Rattle.relay.specs.Workers.{moves_of}
 use Rattle.relay.specs.Worked.{TookAs}
-use Rattle.relay.proofs.Lists.{same_or_not, Every_append}
+use Rattle.relay.proofs.Lists.{same_or_not, Every_append, Every_front, Every_back}
 
 -- Numbers and messages of the moves
 
@@ -135,3 +137,54 @@ lists_items [] [] h = refl
 lists_items [] (l ∷ ls) h = absurd h
 lists_items (t ∷ ts) [] h = absurd h
 lists_items (t ∷ ts) (l ∷ ls) h = rw (h.0, lists_items ts ls h.1) refl
+
+-- Each list rises
+
+module _ {T A : Type 0} (f : Event T → List A) where
+  -- what holds of all that was gathered holds of what is one pass's own
+  own_every : (P : A → Type 0) (a : ℕ) (h : List (Event T)) → Every P (gather f h) → Every P (gather f (own a h))
+  own_every P a [] all = tt
+  own_every P a (e ∷ h) all =
+      let before = own_every P a h (Every_front P (gather f h) (f e) all) in
+      elim (same_or_not (pass_of e) a) [
+        | inl is ↦ rw (own-mine a e h is) (Every_append P (gather f (own a h)) (f e) before (Every_back P (gather f h) (f e) all))
+        | inr other ↦ rw (own-other a e h other) before
+      ]
+
+  module _ (n : A → ℕ) where
+    rises_front : (xs ys : List A) → Rises n (xs ++ ys) → Rises n xs
+    rises_front [] ys r = tt
+    rises_front (x ∷ xs) ys r = (Every_front (λ z. n x < n z) xs ys r.0, rises_front xs ys r.1)
+
+    rises_back : (xs ys : List A) → Rises n (xs ++ ys) → Rises n ys
+    rises_back [] ys r = r
+    rises_back (x ∷ xs) ys r = rises_back xs ys r.1
+
+    -- each of the front is below each of the back
+    abbrev Across : List A → List A → Type 0
+    Across xs ys = Every (λ x. Every (λ y. n x < n y) ys) xs
+
+    across : (xs ys : List A) → Rises n (xs ++ ys) → Across xs ys
+    across [] ys r = tt
+    across (x ∷ xs) ys r = (Every_back (λ z. n x < n z) xs ys r.0, across xs ys r.1)
+
+    rises_append : (xs ys : List A) → Rises n xs → Rises n ys → Across xs ys → Rises n (xs ++ ys)
+    rises_append [] ys r s a = s
+    rises_append (x ∷ xs) ys r s a = (Every_append (λ z. n x < n z) xs ys r.0 a.0, rises_append xs ys r.1 s a.1)
+
+    pub own_rises : (a : ℕ) (h : List (Event T)) → Rises n (gather f h) → Rises n (gather f (own a h))
+    own_rises a [] r = tt
+    own_rises a (e ∷ h) r =
+        let before = own_rises a h (rises_front (gather f h) (f e) r) in
+        elim (same_or_not (pass_of e) a) [
+          | inl is ↦ rw (own-mine a e h is) (rises_append (gather f (own a h)) (f e) before (rises_back (gather f h) (f e) r) (own_every (λ x. Every (λ y. n x < n y) (f e)) a h (across (gather f h) (f e) r)))
+          | inr other ↦ rw (own-other a e h other) before
+        ]
+
+-- what rises does not fall
+pub rises_up : {A : Type 0} (n : A → ℕ) (xs : List A) → Rises n xs → IsNonDecreasingBy n xs
+rises_up n [] r i j d le lt = absurd (omega arith)
+rises_up n (x ∷ xs) r zero zero d le lt = omega arith
+rises_up n (x ∷ xs) r zero (suc j) d le lt = let above = All-from_recursion (λ y. n x < n y) xs r.0 j d (omega arith) in omega (arith, above)
+rises_up n (x ∷ xs) r (suc i) zero d le lt = absurd (omega arith)
+rises_up n (x ∷ xs) r (suc i) (suc j) d le lt = rises_up n xs r.1 i j d (omega arith) (omega arith)

@@ -7,9 +7,9 @@ use Rattle.bounded_model.specs.declared.views.PassView.{PassView}
 use Rattle.bounded_model.specs.Machine.{Shape}
 use Rattle.bounded_model.specs.Gathers.{EachFrom}
 use Rattle.relay.specs.declared.messages.Message.{Message}
-use Rattle.relay.specs.declared.orders.Orders.{Orders}
-use Rattle.relay.specs.declared.parts.Sent.{Sent}
-use Rattle.relay.specs.declared.parts.Took.{Took}
+use Rattle.relay.specs.declared.plan.Orders.{Orders}
+use Rattle.relay.specs.declared.workers.Sent.{Sent}
+use Rattle.relay.specs.declared.workers.Took.{Took}
 use Rattle.relay.specs.Promises.{Lists}
 use Rattle.relay.specs.Rooms.{IsRoomFor}
 use Rattle.relay.specs.Worked.{EachSent, TookAs}

@@ -11,4 +11,5 @@ pub mod Delivering
 pub mod Ended
 pub mod Promised
 pub mod Merging
+pub mod Tops
 pub mod Relaying

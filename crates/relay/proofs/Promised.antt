@@ -1,11 +1,12 @@
 -- The promises, for a relay whose workers have ended and whose passes are all joined.
-use Rattle.std.proofs.Common.{◌≡◌, ℕ, zero, suc, ◌+◌, ◌*◌, ◌<◌, ◌≤◌, List, [], ◌∷◌, ◌++◌, refl, Bool, sym, ◌∙◌, ap, subst, arith, map, length, length-append, flat_map, drop, inl, inr, Vec, IsPermutation, Option, None, Some}
+use Rattle.std.proofs.Common.{◌≡◌, ℕ, zero, suc, ◌+◌, ◌*◌, ◌<◌, ◌≤◌, List, [], ◌∷◌, ◌++◌, refl, Bool, sym, ◌∙◌, ap, subst, arith, map, length, length-append, flat_map, drop, inl, inr, Vec, All, IsPermutation, Option, None, Some}
 use Rattle.std.specs.Prelude.{◌⊎◌}
 use Rattle.std.specs.List.{AllZip, AllByRecursion as Every}
 use Rattle.std.specs.List.Sorted.{IsNonDecreasingBy}
 use Rattle.std.specs.declared.alloc.Global.{Global}
 use Rattle.std.proofs.lemmas.List.{length-map, map-append, get_or-map}
 use Rattle.std.proofs.lemmas.Grind.{flat_map-append}
+use Rattle.std.proofs.lemmas.List.Elements.{All-from_recursion}
 use Rattle.std.proofs.lemmas.List.Sorted.{IsPermutation-map, IsPermutation-refl, length_permutation, sum_by-IsPermutation}
 use Rattle.bounded_model.specs.declared.history.Event.{Event}
 use Rattle.bounded_model.specs.declared.views.PassView.{PassView}
@@ -13,23 +14,24 @@ use Rattle.bounded_model.specs.declared.views.RootView.{RootView}
 use Rattle.bounded_model.specs.Machine.{Shape, state}
 use Rattle.bounded_model.specs.Histories.{own, pass_of}
 use Rattle.bounded_model.specs.Justified.{IsEmpty}
-use Rattle.bounded_model.specs.Gathers.{gather, Moved, put_of, took_of, values_of, EachFrom}
+use Rattle.bounded_model.specs.Gathers.{gather, Moved, put_of, took_of, values_of, Rises, EachFrom}
 use Rattle.bounded_model.proofs.Histories.{own-other}
-use Rattle.relay.specs.declared.ends.ProducerEnd.{ProducerEnd}
+use Rattle.relay.specs.declared.workers.ProducerEnd.{ProducerEnd}
 use Rattle.relay.specs.declared.messages.Message.{Message}
 use Rattle.relay.specs.declared.outcome.Plan.{Plan}
 use Rattle.relay.specs.declared.outcome.Taken.{Taken}
 use Rattle.relay.specs.declared.outcome.Relayed.{Relayed}
-use Rattle.relay.specs.declared.orders.Orders.{Orders}
-use Rattle.relay.specs.declared.parts.Sent.{Sent}
-use Rattle.relay.specs.declared.parts.Took.{Took}
+use Rattle.relay.specs.declared.plan.Orders.{Orders}
+use Rattle.relay.specs.declared.workers.Sent.{Sent}
+use Rattle.relay.specs.declared.workers.Took.{Took}
 use Rattle.relay.specs.Promises.{Lists, total, list_of, sent_by, messages_of, taken_by, ended_up, IsAmple, Relays, LosesNothing, KeepsOrder, SendsAll, SendsFirst, LeavesNothing, NumbersRise, NumbersCount, NamesConsumers, TakesNoMore, FirstTakesNoMore, TakesShares, FirstTakesShare}
 use Rattle.relay.specs.Workers.{Worker, Producer, Closer, Did, Ran, items_of, taken_of, moves_of, Accounts, InOrder, AllSent, TookK, AtMost, AtMostFirst, FirstTook, FirstPut, HasConsumer}
 use Rattle.relay.specs.Worked.{EachSent}
 use Rattle.relay.proofs.Lists.{EachFrom_at, EachFrom_append, EachFrom_front, EachFrom_back, Every_permutation}
 use Rattle.relay.proofs.Relaying.{all_taken, few_left, few_takes, nothing_of, delivered_is, numbers_rise, numbers_count, in_order, accounts, all_sent, first_put, each_took, first_took, none_left, at_most, at_most_first}
 use Rattle.relay.proofs.Accounts.{sender_of, senders, taker, workers, senders_long, workers_long, Ends, ran, all_items}
-use Rattle.relay.proofs.Delivering.{moves_messages, rises_from, counts_from, each_theirs, all_below, count_at, lists_items}
+use Rattle.relay.specs.Merge.{IsUp}
+use Rattle.relay.proofs.Delivering.{moves_messages, own_rises, rises_up, rises_from, counts_from, each_theirs, all_below, count_at, lists_items}
 
 -- Lists
 
@@ -158,6 +160,24 @@ module _ {P : Type 0} (is_pass : P → Type 0) (view : P → PassView Message) (
         let same = length_permutation _ _ (all_taken sender_of c orders r.seen ws used run') in
         let moves = length-map (flat_map (λ (t : Took P). t.taken.items) took) (move orders.producers) in
         omega (arith, few, same, ap length taken_all, moves, items)
+
+    -- the numbers of each list rise
+    rises_at : (a : ℕ) (ts : List (Took P)) → EachFrom (Did sender_of c orders r.seen) a (map (taker is_pass view c orders) ts) → Every (λ t. IsUp t.taken) ts
+    rises_at a [] h = tt
+    rises_at a (t ∷ ts) h =
+        let whole = numbers_rise sender_of c orders r.seen ws used run' (gather took_of r.seen) refl in
+        let mine = own_rises took_of (λ m. m.number) a r.seen whole in
+        let own' = rises_from orders.producers t.taken.items (subst (Rises (λ m. m.number)) h.0.takes mine) in
+        (rises_up (λ u. u.number) t.taken.items own', rises_at (suc a) ts h.1)
+
+    each_up : (ts : List (Took P)) (ls : List (Vec Taken Global)) → AllZip (λ t l. l ≡ t.taken) ts ls → Every (λ t. IsUp t.taken) ts → Every IsUp ls
+    each_up [] [] z h = tt
+    each_up [] (l ∷ ls) z h = absurd z
+    each_up (t ∷ ts) [] z h = absurd z
+    each_up (t ∷ ts) (l ∷ ls) z h = (subst IsUp (sym z.0) h.0, each_up ts ls z.1 h.1)
+
+    pub lists_up : (lists : List (Vec Taken Global)) → AllZip (λ t l. l ≡ t.taken) took lists → All IsUp lists
+    lists_up lists zip = All-from_recursion IsUp lists (each_up took lists zip (rises_at (length inputs) took (middle (Did sender_of c orders r.seen) run'.did)))
 
     pub few_there : length (state c r.seen).values ≤ total inputs
     few_there = omega (arith, few_left sender_of c orders r.seen ws used run', items)

@@ -17,9 +17,9 @@ use Rattle.bounded_model.proofs.Gathering.{by_passes, nobody}
 use Rattle.bounded_model.proofs.Balance.{first_in_first_out, all_there_of, all_there}
 use Rattle.bounded_model.proofs.Numbers.{takes_rise, takes_count}
 use Rattle.bounded_model.proofs.Staying.{done_stays, never_closed, never_shut as unshut_for_good, worn_stays}
-use Rattle.relay.specs.declared.ends.ProducerEnd.TheVariants.{SentAll, ClosedIt, MetClosed, MetSpent}
-use Rattle.relay.specs.declared.ends.ConsumerEnd.TheVariants.{TookEnough, ShutIt, FoundClosed, FoundShut, FoundSpent, NoRoom}
-use Rattle.relay.specs.declared.orders.Orders.{Orders}
+use Rattle.relay.specs.declared.workers.ProducerEnd.TheVariants.{SentAll, ClosedIt, MetClosed, MetSpent}
+use Rattle.relay.specs.declared.workers.ConsumerEnd.TheVariants.{TookEnough, ShutIt, FoundClosed, FoundShut, FoundSpent, NoRoom}
+use Rattle.relay.specs.declared.plan.Orders.{Orders}
 use Rattle.relay.specs.Workers.{Worker, Producer, Consumer, Closer, Did, Unused, Once, Ran, items_of, taken_of, from, Accounts, InOrder, AllSent, TookK, AtMost, AtMostFirst, FirstTook, FirstPut, HasConsumer}
 use Rattle.relay.proofs.Lists.{same_or_not, EachFrom_weaker, EachFrom_both, EachFrom_at, Every_front, Every_back, none_some, some_same}
 use Rattle.relay.proofs.Working.{is_nil}

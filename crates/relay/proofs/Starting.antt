@@ -9,13 +9,13 @@ use Rattle.bounded_model.specs.Histories.{own}
 use Rattle.bounded_model.specs.Gathers.{EachFrom}
 use Rattle.relay.specs.declared.messages.Message.{Message}
 use Rattle.relay.specs.declared.outcome.Taken.{Taken}
-use Rattle.relay.specs.declared.orders.Orders.{Orders}
-use Rattle.relay.specs.declared.parts.Sender.{Sender}
-use Rattle.relay.specs.declared.parts.Sent.{Sent}
-use Rattle.relay.specs.declared.parts.Taker.{Taker}
-use Rattle.relay.specs.declared.parts.Took.{Took}
+use Rattle.relay.specs.declared.plan.Orders.{Orders}
+use Rattle.relay.specs.declared.workers.Sender.{Sender}
+use Rattle.relay.specs.declared.workers.Sent.{Sent}
+use Rattle.relay.specs.declared.workers.Taker.{Taker}
+use Rattle.relay.specs.declared.workers.Took.{Took}
 use Rattle.relay.specs.Messages.{GoOnFrom, AreInputsFrom}
-use Rattle.relay.specs.Rooms.{IsRoomFor}
+use Rattle.relay.specs.Rooms.{IsRoomFor, most_taken}
 use Rattle.relay.specs.Passes.{new_pass, IsNewSender, IsNewTaker}
 use Rattle.relay.specs.Parts.{IsSender, IsTaker, DidSend, DidTake, DidClose}
 use Rattle.relay.specs.Workers.{Producer, DidBy}
@@ -53,27 +53,27 @@ module _ {P : Type 0} (is_pass : P → Type 0) (view : P → PassView Message) w
   senders_ready inputs senders new same from = All-from_recursion (IsSender is_pass view) senders (each_sender 0 inputs senders new same from)
 
   each_taker : (orders : Orders) (few : orders.producers < 2 ^ 63) (k : ℕ) (rooms : List (Vec Taken Global)) (takers : List (Taker P)) → EachFrom (IsNewTaker is_pass view orders.producers) k takers
-      → AllZip (λ v t. t.room ≡ v) rooms takers → Every (IsRoomFor (orders.messages + 1)) rooms → Every (IsTaker is_pass view orders) takers
+      → AllZip (λ v t. t.room ≡ v) rooms takers → Every (IsRoomFor (most_taken orders.take orders.messages)) rooms → Every (IsTaker is_pass view orders) takers
   each_taker orders few k [] [] new same room = tt
   each_taker orders few k [] (t ∷ ts) new same room = absurd same
   each_taker orders few k (v ∷ vs) [] new same room = tt
   each_taker orders few k (v ∷ vs) (t ∷ ts) new same room =
       let n = new.0 in
-      let has = subst (IsRoomFor (orders.messages + 1)) (sym same.0) room.0 in (
+      let has = subst (IsRoomFor (most_taken orders.take orders.messages)) (sym same.0) room.0 in (
         record {
           of = n.of;
           number = number_of t.pass (orders.producers + k) n.pass ∙ ap (λ j. orders.producers + j) (sym n.number);
           new = new_of t.pass (orders.producers + k) n.pass;
           few = few;
-          room = omega (arith, has.room);
+          room = has.room;
           empty = has.empty;
         },
         each_taker orders few (suc k) vs ts new.1 same.1 room.1,
       )
 
   pub takers_ready : (orders : Orders) (few : orders.producers < 2 ^ 63) (rooms : List (Vec Taken Global)) (takers : List (Taker P)) → EachFrom (IsNewTaker is_pass view orders.producers) 0 takers
-      → AllZip (λ v t. t.room ≡ v) rooms takers → All (IsRoomFor (orders.messages + 1)) rooms → All (IsTaker is_pass view orders) takers
-  takers_ready orders few rooms takers new same room = All-from_recursion (IsTaker is_pass view orders) takers (each_taker orders few 0 rooms takers new same (recursion_from_All (IsRoomFor (orders.messages + 1)) rooms room))
+      → AllZip (λ v t. t.room ≡ v) rooms takers → All (IsRoomFor (most_taken orders.take orders.messages)) rooms → All (IsTaker is_pass view orders) takers
+  takers_ready orders few rooms takers new same room = All-from_recursion (IsTaker is_pass view orders) takers (each_taker orders few 0 rooms takers new same (recursion_from_All (IsRoomFor (most_taken orders.take orders.messages)) rooms room))
 
   pub each_sent : (c : Shape) (orders : Orders) (who : ℕ) (inputs : List (Vec Message Global)) (senders : List (Sender P)) (sent : List (Sent P)) → EachFrom (IsNewSender is_pass view) who senders
       → AllZip (λ l s. s.messages.items ≡ l.items) inputs senders → AllZip (λ p q. DidSend is_pass view c orders p q) senders sent → EachSent is_pass view c orders who inputs sent

@@ -2,11 +2,11 @@
 use Rattle.std.proofs.Common.{◌≡◌, ℕ, ◌+◌, ◌≤◌, List, [], ◌∷◌, ◌++◌, refl, arith, ap, sym, ◌∙◌, subst, append-nil, append_assoc, length, length-append, Bool, true, false, Some}
 use Rattle.bounded_model.specs.declared.history.Event.{Event}
 use Rattle.bounded_model.specs.declared.history.Event.TheVariants.{Hold, Put, Take, Free}
-use Rattle.relay.specs.declared.ends.ProducerEnd.{ProducerEnd}
-use Rattle.relay.specs.declared.ends.ProducerEnd.TheVariants.{ClosedIt}
-use Rattle.relay.specs.declared.ends.ConsumerEnd.{ConsumerEnd}
-use Rattle.relay.specs.declared.ends.ConsumerEnd.TheVariants.{ShutIt}
-use Rattle.relay.specs.declared.orders.Orders.{Orders}
+use Rattle.relay.specs.declared.workers.ProducerEnd.{ProducerEnd}
+use Rattle.relay.specs.declared.workers.ProducerEnd.TheVariants.{ClosedIt}
+use Rattle.relay.specs.declared.workers.ConsumerEnd.{ConsumerEnd}
+use Rattle.relay.specs.declared.workers.ConsumerEnd.TheVariants.{ShutIt}
+use Rattle.relay.specs.declared.plan.Orders.{Orders}
 use Rattle.std.specs.List.{AllByRecursion as Every}
 use Rattle.bounded_model.specs.declared.views.PassView.{PassView}
 use Rattle.bounded_model.specs.Machine.{Shape}

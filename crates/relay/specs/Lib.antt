@@ -1,8 +1,9 @@
 pub mod Messages
+pub mod Merge
 pub mod KeepsMessages
 pub mod Workers
-pub mod Parts
 pub mod Rooms
+pub mod Parts
 pub mod Promises
 pub mod Passes
 pub mod Worked

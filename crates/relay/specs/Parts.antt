@@ -1,15 +1,16 @@
 -- When a worker's part is ready, and when it is done.
-use Rattle.std.specs.Prelude.{◌≡◌, ◌+◌, ◌<◌, ◌^◌, Bool, [], vec_capacity}
+use Rattle.std.specs.Prelude.{◌≡◌, ◌+◌, ◌<◌, ◌≤◌, ◌^◌, Bool, [], vec_capacity}
 use Rattle.std.specs.List.{AllByRecursion as Every}
 use Rattle.bounded_model.specs.declared.views.PassView.{PassView}
 use Rattle.bounded_model.specs.Machine.{Shape}
 use Rattle.bounded_model.specs.Histories.{own}
 use Rattle.relay.specs.declared.messages.Message.{Message}
-use Rattle.relay.specs.declared.orders.Orders.{Orders}
-use Rattle.relay.specs.declared.parts.Sender.{Sender}
-use Rattle.relay.specs.declared.parts.Sent.{Sent}
-use Rattle.relay.specs.declared.parts.Taker.{Taker}
-use Rattle.relay.specs.declared.parts.Took.{Took}
+use Rattle.relay.specs.declared.plan.Orders.{Orders}
+use Rattle.relay.specs.declared.workers.Sender.{Sender}
+use Rattle.relay.specs.declared.workers.Sent.{Sent}
+use Rattle.relay.specs.declared.workers.Taker.{Taker}
+use Rattle.relay.specs.declared.workers.Took.{Took}
+use Rattle.relay.specs.Rooms.{most_taken}
 use Rattle.relay.specs.Workers.{Producer, Consumer, ClosesLast, DidBy, NotMet, moves_of}
 
 module _ {P : Type 0} (is_pass : P → Type 0) (view : P → PassView Message) where
@@ -20,13 +21,13 @@ module _ {P : Type 0} (is_pass : P → Type 0) (view : P → PassView Message) w
     pub new : own (view job.pass).number (view job.pass).seen ≡ []
     pub from : Every (λ m. m.sender ≡ job.who) job.messages.items
 
-  -- a consumer with a new pass, whose number follows the producers', and with room for all messages and one more
+  -- a consumer with a new pass, whose number follows the producers', and with room for the most that it may take
   pub record IsTaker (orders : Orders) (job : Taker P) : Type 0 where
     pub of : is_pass job.pass
     pub number : (view job.pass).number ≡ orders.producers + job.consumer
     pub new : own (view job.pass).number (view job.pass).seen ≡ []
     pub few : orders.producers < 2 ^ 63
-    pub room : orders.messages < vec_capacity job.room
+    pub room : most_taken orders.take orders.messages ≤ vec_capacity job.room
     pub empty : job.room.items ≡ []
 
   -- the same pass, and what its producer did

@@ -4,8 +4,8 @@ use Rattle.bounded_model.specs.declared.views.PassView.{PassView}
 use Rattle.bounded_model.specs.declared.views.RootView.{RootView}
 use Rattle.bounded_model.specs.Laws.{Joins}
 use Rattle.relay.specs.declared.messages.Message.{Message}
-use Rattle.relay.specs.declared.parts.Sender.{Sender}
-use Rattle.relay.specs.declared.parts.Taker.{Taker}
+use Rattle.relay.specs.declared.workers.Sender.{Sender}
+use Rattle.relay.specs.declared.workers.Taker.{Taker}
 
 -- a root that has given n passes and has seen nothing
 abbrev pub gave : ℕ → RootView Message

@@ -1,13 +1,18 @@
 -- Room that was taken before it is needed.
-use Rattle.std.specs.Prelude.{◌≡◌, ℕ, ◌≤◌, [], Vec, All, vec_len, vec_capacity}
+use Rattle.std.specs.Prelude.{◌≡◌, ℕ, ◌+◌, ◌≤◌, min, Option, None, Some, [], Vec, All, vec_len, vec_capacity}
 use Rattle.std.specs.declared.alloc.Global.{Global}
-use Rattle.relay.specs.declared.rooms.WorkRoom.{WorkRoom}
-use Rattle.relay.specs.declared.rooms.OutcomeRoom.{OutcomeRoom}
+use Rattle.relay.specs.declared.memory.WorkRoom.{WorkRoom}
+use Rattle.relay.specs.declared.memory.OutcomeRoom.{OutcomeRoom}
 
 -- an empty list that takes n elements and no memory
 pub record IsRoomFor {A : Type 0} (n : ℕ) (v : Vec A Global) : Type 0 where
   pub room : n ≤ vec_capacity v
   pub empty : v.items ≡ []
+
+-- the most messages that a consumer needs room for: all of them and one more, and no more than its share
+abbrev pub most_taken : Option ℕ → ℕ → ℕ
+most_taken None messages = messages + 1
+most_taken (Some share) messages = min share (messages + 1)
 
 -- room for so many workers, and for each consumer for `most` messages
 pub record IsWorkRoom {C Root Pass Rest : Type 0} (producers consumers most : ℕ) (r : WorkRoom C Root Pass Rest) : Type 0 where

@@ -5,9 +5,9 @@ use Rattle.bounded_model.specs.declared.views.PassView.{PassView}
 use Rattle.bounded_model.specs.Machine.{Shape}
 use Rattle.bounded_model.specs.Histories.{own}
 use Rattle.relay.specs.declared.messages.Message.{Message}
-use Rattle.relay.specs.declared.orders.Orders.{Orders}
-use Rattle.relay.specs.declared.parts.Sent.{Sent}
-use Rattle.relay.specs.declared.parts.Took.{Took}
+use Rattle.relay.specs.declared.plan.Orders.{Orders}
+use Rattle.relay.specs.declared.workers.Sent.{Sent}
+use Rattle.relay.specs.declared.workers.Took.{Took}
 use Rattle.relay.specs.Workers.{Producer, Consumer, ClosesLast, DidBy, moves_of}
 
 module _ {P : Type 0} (is_pass : P → Type 0) (view : P → PassView Message) where

@@ -7,11 +7,11 @@ use Rattle.bounded_model.specs.Machine.{Shape, Legal}
 use Rattle.bounded_model.specs.Histories.{own, pass_of, Later}
 use Rattle.bounded_model.specs.Justified.{IsEmpty, IsClosed, IsShut, IsWorn}
 use Rattle.bounded_model.specs.Gathers.{gather, Moved, put_of, took_of, hold_of, fold_of, close_of, shut_of, EachFrom}
-use Rattle.relay.specs.declared.ends.ProducerEnd.{ProducerEnd}
-use Rattle.relay.specs.declared.ends.ProducerEnd.TheVariants.{SentAll, ClosedIt, MetClosed, MetSpent}
-use Rattle.relay.specs.declared.ends.ConsumerEnd.{ConsumerEnd}
-use Rattle.relay.specs.declared.ends.ConsumerEnd.TheVariants.{TookEnough, ShutIt, FoundClosed, FoundShut, FoundSpent, NoRoom}
-use Rattle.relay.specs.declared.orders.Orders.{Orders}
+use Rattle.relay.specs.declared.workers.ProducerEnd.{ProducerEnd}
+use Rattle.relay.specs.declared.workers.ProducerEnd.TheVariants.{SentAll, ClosedIt, MetClosed, MetSpent}
+use Rattle.relay.specs.declared.workers.ConsumerEnd.{ConsumerEnd}
+use Rattle.relay.specs.declared.workers.ConsumerEnd.TheVariants.{TookEnough, ShutIt, FoundClosed, FoundShut, FoundSpent, NoRoom}
+use Rattle.relay.specs.declared.plan.Orders.{Orders}
 use Rattle.relay.specs.declared.messages.Message.{Message}
 use Rattle.relay.specs.declared.outcome.Taken.{Taken}
 

@@ -5,31 +5,30 @@
 //! left in the container, or unsent, each once; over a queue each sender's messages keep their order;
 //! numbers rise, over a queue 0, 1, 2, ..; nothing is unsent or left that the plan did not ask for; no
 //! consumer takes more than its share, and each takes just that where something is left. A relay that
-//! is too small for its messages is refused before anything starts.
+//! is too small for its messages is refused before anything starts. [`run_freely`] promises the same,
+//! and holds no thread at a gate.
 //!
 //! [`numbered`] tells whether inputs are numbered as a relay wants them, and a [`Gate`] lets a test
 //! hold threads where it wants them.
+//!
+//! A relay is told in `running`: its `plan` and its `memory` are looked at first, then `threads` start the
+//! `workers`, which see the container as a `pool`, and `merge` puts together what they took.
 #![tactic(auto)]
 
-mod consumer;
-mod ends;
 mod faults;
 mod gates;
+mod memory;
 mod merge;
 mod messages;
-mod orders;
 mod outcome;
-mod parts;
-mod passes;
+mod plan;
 mod pool;
-mod producer;
-mod rooms;
 mod running;
-mod sizes;
 mod threads;
+mod workers;
 
 pub use faults::RelayFault;
 pub use gates::{FreeGate, Gate};
 pub use messages::{Message, numbered};
 pub use outcome::{Plan, Relayed, Taken};
-pub use running::run;
+pub use running::{run, run_freely};

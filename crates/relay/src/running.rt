@@ -1,26 +1,27 @@
 //! A relay from its beginning to its end.
 
-ghost use Rattle.std.specs.Prelude.{◌≡◌, ◌↔◌, ◌<◌, ◌≤◌, ◌+◌, ◌^◌, All, [], length, vec_len, vec_capacity, IfOk, Err};
+ghost use Rattle.std.specs.Prelude.{◌≡◌, ◌↔◌, ◌<◌, ◌≤◌, ◌+◌, ◌^◌, All, [], length, vec_len, vec_capacity, IfOk, Err, IfSome, IfNone, map};
 ghost use Rattle.bounded_model.specs.Gathers.{EachFrom};
 ghost use Rattle.bounded_model.specs.Laws.{fresh};
 ghost use Rattle.relay.specs.Messages.{AreInputsFrom};
-ghost use Rattle.relay.specs.Rooms.{IsWorkRoom};
-ghost use Rattle.relay.specs.Passes.{gave};
+ghost use Rattle.relay.specs.Rooms.{IsWorkRoom, most_taken, IsRoomFor};
+ghost use Rattle.relay.specs.Passes.{gave, IsNewSender, IsNewTaker, JoinsAll};
 ghost use Rattle.relay.specs.Parts.{DidSend, DidTake, DidClose, MayUse};
 ghost use Rattle.relay.specs.Worked.{SentAs, TookAs, ClosedAs, EachSent};
 ghost use Rattle.relay.specs.Promises.{total, IsTooSmall, Relays, LosesNothing, KeepsOrder, SendsAll, SendsFirst, LeavesNothing, NumbersRise, NumbersCount, NamesConsumers, TakesNoMore, FirstTakesNoMore, TakesShares, FirstTakesShare};
-ghost use Rattle.relay.specs.declared.faults.RelayFault.TheVariants.{TooSmall, NoPass};
+ghost use Rattle.relay.specs.declared.faults.RelayFault.TheVariants.{TooSmall, NoPass, NoThread};
+ghost use Rattle.bounded_model.specs.declared.container.TheConstants.{MAX_PASSES};
+ghost use Rattle.std.specs.List.{AllZip};
 
+use crate::memory::{WorkRoom, make_room};
 use crate::merge::{drain, merge};
-use crate::orders::Orders;
-use crate::parts::Site;
-use crate::passes::{join_senders, join_takers, split_senders, split_takers};
-use crate::rooms::{WorkRoom, make_room};
-use crate::sizes::{count, is_too_small};
+use crate::plan::{Orders, count, is_too_small};
 use crate::threads::{Ended, run_workers};
-use crate::{Gate, Message, Plan, RelayFault, Relayed};
+use crate::workers::{Sender, Sent, Site, Taker, Took};
+use crate::{FreeGate, Gate, Message, Plan, RelayFault, Relayed, Taken};
 use bounded_model::Container;
 use std::alloc::Global;
+use std::collections::VecDeque;
 use std::sync::Wait;
 use std::thread::Threads;
 
@@ -38,7 +39,7 @@ fn work<C: Container<Message> + Sync, G: Gate + Sync, R: Threads + Wait + Sync>(
     requires numbered { AreInputsFrom 0 inputs.items }
     requires producers { site.now.orders.producers ≡ vec_len inputs }
     requires few { vec_len room.taken < 2 ^ 32 }
-    requires room { IsWorkRoom (vec_len inputs) (vec_len room.taken) (site.now.orders.messages + 1) room }
+    requires room { IsWorkRoom (vec_len inputs) (vec_len room.taken) (most_taken site.now.orders.take site.now.orders.messages) room }
     ensures root { C.is_root site.now.container root.new }
     ensures given { IfOk result (λ e. C.root root.new ≡ gave (vec_len inputs + vec_len room.taken + 1)) }
     ensures senders { IfOk result (λ e. EachSent (C.is_pass site.now.container) C.pass (C.shape site.now.container) site.now.orders 0 inputs.items e.sent.items) }
@@ -47,7 +48,9 @@ fn work<C: Container<Message> + Sync, G: Gate + Sync, R: Threads + Wait + Sync>(
     ensures closer { IfOk result (λ e. ClosedAs (C.is_pass site.now.container) C.pass (vec_len inputs + vec_len room.taken) e.closer e.used) }
     ensures used { IfOk result (λ e. All (MayUse e.used) e.sent.items) }
     ensures never { (result ≡ Err TooSmall) → ⊥ }
-    ensures no_pass { result ≡ Err NoPass → 65535 ≤ vec_len inputs + vec_len room.taken }
+    ensures no_pass { result ≡ Err NoPass → MAX_PASSES ≤ vec_len inputs + vec_len room.taken }
+    ensures no_thread { result ≡ Err NoThread → vec_len inputs + vec_len room.taken < MAX_PASSES }
+    ensures passes { IfOk result (λ e. vec_len inputs + vec_len room.taken < MAX_PASSES) }
 {
     let WorkRoom {
         senders,
@@ -78,8 +81,9 @@ fn work<C: Container<Message> + Sync, G: Gate + Sync, R: Threads + Wait + Sync>(
 /// the plan did not ask to stay.
 ///
 /// `TooSmall` comes exactly where some message could never be put, and is looked for first; then
-/// `NoMemory`, where there is no room for the outcome; `NoPass`, only where more than 65,535 passes
-/// would be needed; `NoThread`, where a worker's thread could not be started. A fault consumes the
+/// `NoMemory`, where there is no room for the outcome; `NoPass`, exactly where more than
+/// [`MAX_PASSES`](bounded_model::MAX_PASSES) would be needed, one for each worker and one to close;
+/// `NoThread`, where a worker's thread could not be started. A fault consumes the
 /// container and the inputs, and no worker runs on.
 pub fn run<C: Container<Message> + Sync, G: Gate + Sync, R: Threads + Wait + Sync>(
     rt: &R,
@@ -109,13 +113,15 @@ pub fn run<C: Container<Message> + Sync, G: Gate + Sync, R: Threads + Wait + Syn
     ensures first_share { IfOk result (FirstTakesShare (C.shape container) plan inputs.items) }
     ensures all { IfOk result (Relays (C.shape container) plan inputs.items) }
     ensures too_small { (result ≡ Err TooSmall) ↔ IsTooSmall plan (C.shape container).capacity (total inputs.items) }
-    ensures no_pass { result ≡ Err NoPass → 65535 ≤ length inputs.items + plan.consumers }
+    ensures no_pass { result ≡ Err NoPass → MAX_PASSES ≤ length inputs.items + plan.consumers }
+    ensures no_thread { result ≡ Err NoThread → length inputs.items + plan.consumers < MAX_PASSES }
+    ensures passes { IfOk result (λ r. length inputs.items + plan.consumers < MAX_PASSES) }
 {
     let messages = count(&inputs);
     if is_too_small(&plan, container.capacity(), messages) {
         return Err(RelayFault::TooSmall);
     }
-    let Ok(room) = make_room(alloc, inputs.len(), plan.consumers, messages) else {
+    let Ok(room) = make_room(alloc, inputs.len(), &plan, messages) else {
         return Err(RelayFault::NoMemory);
     };
     let (work_room, outcome) = room;
@@ -144,4 +150,155 @@ pub fn run<C: Container<Message> + Sync, G: Gate + Sync, R: Threads + Wait + Syn
         left,
         unsent,
     })
+}
+
+/// Relays all messages as [`run`] does, and holds nobody.
+pub fn run_freely<C: Container<Message> + Sync, R: Threads + Wait + Sync>(
+    rt: &R,
+    alloc: Global,
+    container: C,
+    root: C::Root,
+    inputs: Vec<Vec<Message>>,
+    plan: Plan,
+) -> Result<Relayed, RelayFault>
+    requires root { C.is_root container root }
+    requires fresh { C.root root ≡ fresh }
+    requires consumers { 1 ≤ plan.consumers }
+    requires numbered { AreInputsFrom 0 inputs.items }
+    ensures all { IfOk result (Relays (C.shape container) plan inputs.items) }
+    ensures too_small { (result ≡ Err TooSmall) ↔ IsTooSmall plan (C.shape container).capacity (total inputs.items) }
+    ensures no_pass { result ≡ Err NoPass → MAX_PASSES ≤ length inputs.items + plan.consumers }
+    ensures no_thread { result ≡ Err NoThread → length inputs.items + plan.consumers < MAX_PASSES }
+    ensures passes { IfOk result (λ r. length inputs.items + plan.consumers < MAX_PASSES) }
+{
+    run(rt, alloc, container, root, inputs, plan, &FreeGate)
+}
+
+/// A producer for each input, with the passes from 0 on. `None` where there are not so many passes.
+pub(crate) fn split_senders<C: Container<Message>>(
+    container: &C,
+    root: &mut C::Root,
+    inputs: Vec<Vec<Message>>,
+    room: Vec<Sender<C::Pass>>,
+) -> Option<Vec<Sender<C::Pass>>>
+    requires root { C.is_root container.now root.old }
+    requires fresh { C.root root.old ≡ gave 0 }
+    requires room { IsRoomFor (vec_len inputs) room }
+    ensures root { C.is_root container.now root.new }
+    ensures given { IfSome result (λ v. C.root root.new ≡ gave (vec_len inputs)) }
+    ensures new { IfSome result (λ v. EachFrom (IsNewSender (C.is_pass container.now) C.pass) 0 v.items) }
+    ensures messages { IfSome result (λ v. AllZip (λ l s. s.messages.items ≡ l.items) inputs.items v.items) }
+    ensures none { IfNone result (MAX_PASSES ≤ vec_len inputs) }
+{
+    let mut senders = room;
+    for messages in inputs {
+        let who = senders.len() as u64;
+        let Some(pass) = container.split(root) else {
+            return None;
+        };
+        senders.push_reserved(Sender {
+            pass,
+            who,
+            messages: VecDeque::from(messages),
+        });
+    }
+    Some(senders)
+}
+
+/// A consumer for each room, with the passes after those given. `None` where there are not so many
+/// passes.
+pub(crate) fn split_takers<C: Container<Message>>(
+    container: &C,
+    root: &mut C::Root,
+    rooms: Vec<Vec<Taken>>,
+    room: Vec<Taker<C::Pass>>,
+) -> Option<Vec<Taker<C::Pass>>>
+    requires root { C.is_root container.now root.old }
+    requires fresh { C.root root.old ≡ gave (C.root root.old).given }
+    requires room { IsRoomFor (vec_len rooms) room }
+    requires few { vec_len rooms < 2 ^ 32 }
+    ensures root { C.is_root container.now root.new }
+    ensures given { IfSome result (λ v. C.root root.new ≡ gave ((C.root root.old).given + vec_len rooms)) }
+    ensures new { IfSome result (λ v. EachFrom (IsNewTaker (C.is_pass container.now) C.pass (C.root root.old).given) 0 v.items) }
+    ensures rooms { IfSome result (λ v. AllZip (λ l t. t.room ≡ l) rooms.items v.items) }
+    ensures none { IfNone result (MAX_PASSES ≤ (C.root root.old).given + vec_len rooms) }
+{
+    let mut takers = room;
+    for taken in rooms {
+        let consumer = takers.len() as u32;
+        let Some(pass) = container.split(root) else {
+            return None;
+        };
+        takers.push_reserved(Taker {
+            pass,
+            consumer,
+            room: taken,
+        });
+    }
+    Some(takers)
+}
+
+// The messages as a list. The memory of a list without messages is given back.
+fn list_of(unsent: VecDeque<Message>) -> Vec<Message>
+    ensures { result.items ≡ unsent.items }
+{
+    let mut list = Vec::from(unsent);
+    if list.is_empty() {
+        list.shrink_to_fit();
+    }
+    list
+}
+
+/// Takes the producers' passes back; answers what each did not put.
+pub(crate) fn join_senders<C: Container<Message>>(
+    container: &C,
+    root: &mut C::Root,
+    sent: Vec<Sent<C::Pass>>,
+    room: Vec<Vec<Message>>,
+) -> Vec<Vec<Message>>
+    requires root { C.is_root container.now root.old }
+    requires passes { All (λ s. C.is_pass container.now s.pass) sent.items }
+    requires room { IsRoomFor (vec_len sent) room }
+    ensures root { C.is_root container.now root.new }
+    ensures joined { JoinsAll (C.root root.old) (map (λ s. C.pass s.pass) sent.items) (C.root root.new) }
+    ensures unsent { AllZip (λ s l. l.items ≡ s.unsent.items) sent.items result.items }
+{
+    let mut lists = room;
+    for one in sent {
+        let Sent {
+            pass,
+            unsent,
+            end: _,
+        } = one;
+        container.join(root, pass);
+        lists.push_reserved(list_of(unsent));
+    }
+    lists
+}
+
+/// Takes the consumers' passes back; answers what each took.
+pub(crate) fn join_takers<C: Container<Message>>(
+    container: &C,
+    root: &mut C::Root,
+    took: Vec<Took<C::Pass>>,
+    room: Vec<Vec<Taken>>,
+) -> Vec<Vec<Taken>>
+    requires root { C.is_root container.now root.old }
+    requires passes { All (λ t. C.is_pass container.now t.pass) took.items }
+    requires room { IsRoomFor (vec_len took) room }
+    ensures root { C.is_root container.now root.new }
+    ensures joined { JoinsAll (C.root root.old) (map (λ t. C.pass t.pass) took.items) (C.root root.new) }
+    ensures taken { AllZip (λ t l. l ≡ t.taken) took.items result.items }
+{
+    let mut lists = room;
+    for one in took {
+        let Took {
+            pass,
+            taken,
+            end: _,
+        } = one;
+        container.join(root, pass);
+        lists.push_reserved(taken);
+    }
+    lists
 }

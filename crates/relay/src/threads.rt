@@ -7,8 +7,8 @@ ghost use Rattle.relay.specs.Parts.{IsSender, IsTaker, DidSend, DidTake, MayUse,
 ghost use Rattle.relay.specs.Rooms.{IsRoomFor};
 
 use crate::Gate;
-use crate::parts::{Sender, Sent, Site, Taker, Took, receive, send};
 use crate::pool::Pool;
+use crate::workers::{Sender, Sent, Site, Taker, Took, receive, send};
 use std::alloc::{AllocError, Global};
 use std::snapshot::Snapshot;
 use std::sync::Wait;

@@ -5,11 +5,12 @@
 #![tactic(auto)]
 
 mod lists;
+mod passes;
 mod rule;
 mod seats;
 mod steps;
 
 pub use lists::{ListMachine, take_first};
+pub use passes::{Pass, Root, join, meet, split};
 pub use rule::{Machine, Running};
-pub use seats::{join, look, split};
-pub use steps::{give_step, load_step, load_tagged_step, store_step, swap_step, take_step};
+pub use steps::{give_step, load_step, load_tagged_step, raised, store_step, swap_step, take_step};

@@ -8,20 +8,14 @@ use Rattle.bounded_model.specs.declared.history.Event.{Event}
 use Rattle.bounded_model.specs.declared.history.Event.TheVariants.{Hold, Put, Take, TakeAll, Free, Close, Shut}
 use Rattle.bounded_model.specs.Machine.{Legal, without_first}
 use Rattle.bounded_model.specs.Justified.{IsEmpty, IsOpen, IsClosed, IsUnshut, IsShut, IsFull, Justifies, PutSpent}
-use Rattle.machine.specs.Words.{times, Stands}
+use Rattle.machine.specs.Words.{times}
 use Rattle.stack_machine.specs.declared.lines.Line.{Line}
 use Rattle.stack_machine.specs.Machine.{Memory}
 use Rattle.stack_machine.specs.Answers.{shape, state}
 use Rattle.machine.specs.Chains.{HasValues}
 use Rattle.stack_machine.specs.Rule.{Lists, values_put, Good}
-use Rattle.machine.proofs.Lists.{times_here}
-use Rattle.machine.proofs.OneList.{front_of}
-use Rattle.stack_machine.proofs.Moves.{not_below}
-
--- a list whose first index is null is empty
-pub none_there : (link : ℕ → ℕ) (x : ℕ) (list : List ℕ) → x ≡ NULL → times NULL list ≡ 0 → Stands link x list → list ≡ []
-none_there link x [] e never s = refl
-none_there link x (i ∷ is) e never s = absurd (omega (arith, ap (λ (k : ℕ). times NULL (k ∷ is)) (sym s.0 ∙ e), times_here NULL is))
+use Rattle.machine.proofs.OneList.{front_of, none_there}
+use Rattle.machine.proofs.Tests.{not_below}
 
 module _ {T : Type 0} (n limit : ℕ) where
   -- each put, take and take of all has moved a value

@@ -1,10 +1,11 @@
 -- Each step of a pass of the stack carries on what it has done.
-use Rattle.std.proofs.Common.{◌≡◌, ℕ, zero, suc, ◌<◌, ◌≤◌, true, false, cond, eqb, ltb, leb, List, [], ◌∷◌, ◌++◌, length, reverse, refl, sym, ap, ◌∙◌, subst, inl, inr, ⊎_elim, append_assoc, eqb-true, leb-true, arith, Option as Slot, Some, None, Ok, Err}
+use Rattle.std.proofs.Common.{◌≡◌, ℕ, zero, suc, ◌<◌, ◌≤◌, true, false, cond, eqb, ltb, leb, List, [], ◌∷◌, ◌++◌, length, reverse, refl, sym, ap, ◌∙◌, subst, inl, inr, ⊎_elim, append_assoc, eqb-true, leb-true, arith, Option as Slot, Some, None, Result, Ok, Err}
 use Rattle.std.proofs.lemmas.Bool.Decides.{nat_tests}
-use Rattle.std.proofs.lemmas.List.{length-take-le, length-reverse, drop_all}
+use Rattle.std.proofs.lemmas.List.{length-take-le, length-reverse, drop_all, take-append-drop}
 use mathlib.Core.Option.{Option, none, some}
 use Rattle.tagged_index.specs.declared.word.TheConstants.{NULL}
 use Rattle.bounded_model.specs.declared.answers.Word.TheVariants.{Free as FreeWord, Top as TopWord}
+use Rattle.bounded_model.specs.declared.answers.PutRefused.{PutRefused}
 use Rattle.bounded_model.specs.declared.answers.PutRefused.TheVariants.{Full as PutFull, Closed as PutClosed, Spent as PutSpent}
 use Rattle.bounded_model.specs.declared.answers.TakeRefused.{TakeRefused}
 use Rattle.bounded_model.specs.declared.answers.TakeRefused.TheVariants.{Empty as TakeEmpty, Closed as TakeClosed, Spent as TakeSpent, Shut as TakeShut}
@@ -17,6 +18,7 @@ use Rattle.bounded_model.specs.Laws.{holds_of, gave_back}
 use Rattle.bounded_model.proofs.Histories.{own-append, own-mine, Later-refl, Later-cons}
 use Rattle.bounded_model.proofs.Adding.{Sometime-now, Sometime-wider}
 use Rattle.machine.specs.Words.{Tagged, same}
+use Rattle.bounded_model.specs.Bulk.{HasNoCell}
 use Rattle.stack_machine.specs.declared.lines.Putting.{Putting}
 use Rattle.stack_machine.specs.declared.lines.Giving.{Giving}
 use Rattle.stack_machine.specs.declared.lines.Direction.{Direction}
@@ -27,11 +29,14 @@ use Rattle.stack_machine.specs.declared.lines.Answer.{Answer}
 use Rattle.stack_machine.specs.declared.lines.Answer.TheVariants.{Put as AnswerPut, Take as AnswerTake, Fold as AnswerFold, Close as AnswerClose, Shut as AnswerShut, Look as AnswerLook}
 use Rattle.stack_machine.specs.declared.lines.Line.{Line}
 use Rattle.stack_machine.specs.declared.lines.Line.TheVariants.{Idle, LoadFree, LoadFreeLink, TakeFree, LinkTaken, LoadTop, LinkToTop, SwapTop, LoadTopToRefuse, LoadTopToTake, LoadTopLink, TakeTop, TakeChain, LoadLinkToTurn, TurnLink, LoadLinkToFold, LoadFreeToGive, LinkToFree, GiveBack, LoadTopToClose, MarkTop, LoadTopToShut, ShutTop, LoadTopToLook}
-use Rattle.stack_machine.specs.Machine.{Memory, Outcome, step, at_load_top, at_load_top_to_refuse, at_load_top_to_take, goes_on, wins, wins_value, wins_chain, at_take_chain, after_hold, after_put, after_give, after_close, after_shut, at_take_free, refuses, takes, ends, gives, no_node, next_node, with_node, placed, unplaced}
+use Rattle.stack_machine.specs.Machine.{Memory, Outcome, starts, step, at_load_top, at_load_top_to_refuse, at_load_top_to_take, goes_on, wins, wins_value, wins_chain, at_take_chain, after_hold, after_put, after_give, after_close, after_shut, at_take_free, refuses, takes, ends, gives, no_node, next_node, with_node, placed, unplaced}
 use Rattle.machine.specs.Chains.{values_in, chain_from}
 use Rattle.stack_machine.specs.Rule.{Lists, IsFine}
-use Rattle.stack_machine.specs.Deeds.{BackedOut, Makes, HasMade, HasNoNode, HasAll, PutsAll, IsAll, Deeds}
+use Rattle.stack_machine.specs.declared.lines.Call.{Call}
+use Rattle.stack_machine.specs.declared.lines.Call.TheVariants.{Put as CallPut, Take as CallTake, Close as CallClose, Shut as CallShut, Look as CallLook}
+use Rattle.stack_machine.specs.Deeds.{BackedOut, MakesPut, MakesNothing, Makes, IsPut, HasHeld, HasMade, HasAll, PutsAll, IsAll, Deeds}
 use Rattle.stack_machine.specs.Answers.{shape}
+use Rattle.machine.proofs.Ahead.{Ahead}
 use Rattle.machine.proofs.Tests.{cases, same-is}
 
 -- what the words say of the history and of the values
@@ -39,12 +44,6 @@ pub record Reads {T : Type 0} (c : Shape) (m : Memory T) (h : List (Event T)) : 
   pub full : m.free.index ≡ NULL → IsFull c h
   pub spent : c.limit ≤ m.free.tag → (state c h).holds ≡ c.limit
   pub valued : length (values_in m.home (chain_from c.capacity m.link m.top.index)) ≡ length (chain_from c.capacity m.link m.top.index)
-
--- the history by now is what pass p has seen with events of others on top
-pub record Ahead {T : Type 0} (p : ℕ) (seen h : List (Event T)) : Type 0 where
-  pub rest : List (Event T)
-  pub is : h ≡ rest ++ seen
-  pub none_own : own p rest ≡ []
 
 same_count : {T : Type 0} (p k k' : ℕ) (e : Event T) → k ≡ k' → e ∷ holds_of p k ≡ e ∷ holds_of p k'
 same_count p k k' e same = ap (λ (x : ℕ). e ∷ holds_of p x) same
@@ -95,45 +94,67 @@ module _ {T : Type 0} (c : Shape) where
   still_all begun seen h LoadTopToLook later k = tt
 
   -- the story goes on to a later history, to which others alone have added
-  pub meanwhile : (p : ℕ) (begun seen h : List (Event T)) (l : Line T) → Ahead p seen h → Deeds c p l begun seen → Deeds c p l begun h
-  meanwhile p begun seen h l a s = record {
+  pub meanwhile : (p : ℕ) (call : Call T) (begun seen h : List (Event T)) (l : Line T) → Ahead p seen h → Deeds c p call l begun seen → Deeds c p call l begun h
+  meanwhile p call begun seen h l a s = record {
     between = a.rest ++ s.between;
     is = a.is ∙ ap (λ (x : List (Event T)). a.rest ++ x) s.is ∙ sym (append_assoc a.rest s.between begun);
-    made = subst (HasMade p l) (sym (own-append p a.rest s.between ∙ ap (λ (x : List (Event T)). x ++ own p s.between) a.none_own)) s.made;
+    made = subst (HasMade p call l) (sym (own-append p a.rest s.between ∙ ap (λ (x : List (Event T)). x ++ own p s.between) a.none_own)) s.made;
     all = still_all begun seen h l (record { more = a.rest; is = a.is }) s.all;
   }
 
-module _ {T : Type 0} (n limit : ℕ) (p : ℕ) (begun h : List (Event T)) where
+  -- a call that has just been begun has done nothing
+  pub begins : (p : ℕ) (h : List (Event T)) (call : Call T) → Deeds c p call (starts call) h h
+  begins p h (CallPut v vs) = record { between = []; is = refl; made = (refl, refl); all = tt }
+  begins p h (CallTake taking) = record { between = []; is = refl; made = (refl, refl); all = tt }
+  begins p h CallClose = record { between = []; is = refl; made = (refl, refl); all = tt }
+  begins p h CallShut = record { between = []; is = refl; made = (refl, refl); all = tt }
+  begins p h CallLook = record { between = []; is = refl; made = (refl, refl); all = tt }
+
+module _ {T : Type 0} (n limit : ℕ) (p : ℕ) (call : Call T) (begun h : List (Event T)) where
   abbrev c : Shape
   c = shape n limit
 
   abbrev At : Line T → Type 0
-  At l = Deeds c p l begun h
+  At l = Deeds c p call l begun h
 
   abbrev Does : Outcome T → Type 0
-  Does o = Deeds c p o.line begun (o.events ++ h)
+  Does o = Deeds c p call o.line begun (o.events ++ h)
 
   -- a step without an event
-  stays : (l l' : Line T) (s : At l) → HasMade p l' (own p s.between) → IsAll c begun h l' → At l'
+  stays : (l l' : Line T) (s : At l) → HasMade p call l' (own p s.between) → IsAll c begun h l' → At l'
   stays l l' s made all = record { between = s.between; is = s.is; made = made; all = all }
 
   -- a step with an event
-  adds : (l l' : Line T) (e : Event T) (s : At l) → pass_of e ≡ p → HasMade p l' (e ∷ own p s.between) → IsAll c begun (e ∷ h) l' → Deeds c p l' begun (e ∷ h)
+  adds : (l l' : Line T) (e : Event T) (s : At l) → pass_of e ≡ p → HasMade p call l' (e ∷ own p s.between) → IsAll c begun (e ∷ h) l' → Deeds c p call l' begun (e ∷ h)
   adds l l' e s mine made all = record {
     between = e ∷ s.between;
     is = ap (λ (x : List (Event T)). e ∷ x) s.is;
-    made = subst (HasMade p l') (sym (own-mine p e s.between mine)) made;
+    made = subst (HasMade p call l') (sym (own-mine p e s.between mine)) made;
     all = all;
   }
 
+  -- an answer to the call, whichever of its names it goes by
+  of : (call' : Call T) (a : Answer T) (events : List (Event T)) → call ≡ call' → Makes p call' a events → Makes p call a events
+  of call' a events is made = subst (λ (k : Call T). Makes p k a events) (sym is) made
+
+  of_put : (values : List T) (r : Result (ℕ × List T) (PutRefused (List T))) (events : List (Event T)) → IsPut p call values → MakesPut p values r events → Makes p call (AnswerPut r) events
+  of_put values r events is made = put call is
+    where
+      put : (k : Call T) → IsPut p k values → Makes p k (AnswerPut r) events
+      put (CallPut v vs) e = subst (λ (ws : List T). MakesPut p ws r events) e made
+      put (CallTake taking) e = absurd e
+      put CallClose e = absurd e
+      put CallShut e = absurd e
+      put CallLook e = absurd e
+
   -- a put that holds no node has made no event
-  nothing_made : (put : Putting T) (events : List (Event T)) → events ≡ holds_of p (length put.chain) → length put.chain ≡ 0 → events ≡ []
-  nothing_made put events e none_held = e ∙ ap (λ (k : ℕ). holds_of p k) none_held
+  nothing_made : (put : Putting T) (events : List (Event T)) → HasHeld p call put events → length put.chain ≡ 0 → events ≡ []
+  nothing_made put events e none_held = e.1 ∙ ap (λ (k : ℕ). holds_of p k) none_held
 
   backs_out : (most : ℕ) (events : List (Event T)) → events ≡ [] → BackedOut p most events
   backs_out most events e = record { nodes = 0; at_most = omega arith; is = e }
 
-  next_does : (put : Putting T) (l : Line T) (s : At l) → own p s.between ≡ holds_of p (length put.chain) → At (next_node put)
+  next_does : (put : Putting T) (l : Line T) (s : At l) → HasHeld p call put (own p s.between) → At (next_node put)
   next_does put l s made = cases At (ltb (length put.chain) (length put.values)) (LoadFree put) (LoadTop put)
       (λ e. stays l (LoadFree put) s made tt)
       (λ e. stays l (LoadTop put) s made (inl (grind (arith, nat_tests))))
@@ -144,10 +165,12 @@ module _ {T : Type 0} (n limit : ℕ) (p : ℕ) (begun h : List (Event T)) where
       let closed : Line T = ends (AnswerPut (Err (PutClosed values))) in
       let spent : Line T = ends (AnswerPut (Err (PutSpent values TopWord w.tag))) in
       let full : Line T = ends (AnswerPut (Err (PutFull values))) in
-      let none_made : BackedOut p (length values) (own p s.between) = backs_out (length values) (own p s.between) s.made in
+      let none_made : BackedOut p (length values) (own p s.between) = backs_out (length values) (own p s.between) s.made.1 in
       cases At w.mark closed (cond (leb limit w.tag) spent full)
-      (λ e. stays (LoadTopToRefuse values) closed s none_made tt)
-      (λ e. cases At (leb limit w.tag) spent full (λ e. stays (LoadTopToRefuse values) spent s none_made tt) (λ e. stays (LoadTopToRefuse values) full s none_made tt))
+      (λ e. stays (LoadTopToRefuse values) closed s (of_put values (Err (PutClosed values)) (own p s.between) s.made.0 (refl, none_made)) tt)
+      (λ e. cases At (leb limit w.tag) spent full
+      (λ e. stays (LoadTopToRefuse values) spent s (of_put values (Err (PutSpent values TopWord w.tag)) (own p s.between) s.made.0 (refl, none_made)) tt)
+      (λ e. stays (LoadTopToRefuse values) full s (of_put values (Err (PutFull values)) (own p s.between) s.made.0 (refl, s.made.1)) tt))
 
   -- a load of TOP by a put that holds nodes: it gives them back, or goes on
   load_top_does : (put : Putting T) (w : Tagged) → 0 < length put.chain → length put.chain ≤ length put.values → At (LoadTop put) → At (at_load_top limit put w)
@@ -157,16 +180,16 @@ module _ {T : Type 0} (n limit : ℕ) (p : ℕ) (begun h : List (Event T)) where
       let backs : BackedOut p (length put.values) (Free p (length put.chain) ∷ own p s.between) = record {
         nodes = length put.chain;
         at_most = few;
-        is = ap (λ (x : List (Event T)). Free p (length put.chain) ∷ x) s.made ∙ gives_back p (length put.chain) some_node;
+        is = ap (λ (x : List (Event T)). Free p (length put.chain) ∷ x) s.made.1 ∙ gives_back p (length put.chain) some_node;
       } in
       cases At w.mark closed (cond (leb limit w.tag) spent (LinkToTop put w))
-      (λ e. stays (LoadTop put) closed s backs tt)
-      (λ e. cases At (leb limit w.tag) spent (LinkToTop put w) (λ e. stays (LoadTop put) spent s backs tt) (λ e. stays (LoadTop put) (LinkToTop put w) s s.made s.all))
+      (λ e. stays (LoadTop put) closed s (of_put put.values (Err (PutClosed put.values)) (Free p (length put.chain) ∷ own p s.between) s.made.0 (refl, backs)) tt)
+      (λ e. cases At (leb limit w.tag) spent (LinkToTop put w) (λ e. stays (LoadTop put) spent s (of_put put.values (Err (PutSpent put.values TopWord w.tag)) (Free p (length put.chain) ∷ own p s.between) s.made.0 (refl, backs)) tt) (λ e. stays (LoadTop put) (LinkToTop put w) s s.made s.all))
 
   -- a load of TOP by a take or a fold
-  refuses_does : (taking : Taking) (why : TakeRefused) → At (LoadTopToTake taking) → At (refuses taking why)
-  refuses_does One why s = stays (LoadTopToTake One) (refuses One why) s s.made tt
-  refuses_does (Whole d) why s = stays (LoadTopToTake (Whole d)) (refuses (Whole d) why) s s.made tt
+  refuses_does : (taking : Taking) (why : TakeRefused) → (s : At (LoadTopToTake taking)) → MakesNothing p why (own p s.between) → At (refuses taking why)
+  refuses_does One why s did = stays (LoadTopToTake One) (refuses One why) s (of (CallTake One) (AnswerTake (Err why)) (own p s.between) s.made.0 did) tt
+  refuses_does (Whole d) why s did = stays (LoadTopToTake (Whole d)) (refuses (Whole d) why) s (of (CallTake (Whole d)) (AnswerFold (Err why)) (own p s.between) s.made.0 did) tt
 
   takes_does : (taking : Taking) (w : Tagged) → At (LoadTopToTake taking) → At (takes taking w)
   takes_does One w s = stays (LoadTopToTake One) (LoadTopLink w) s s.made tt
@@ -176,16 +199,16 @@ module _ {T : Type 0} (n limit : ℕ) (p : ℕ) (begun h : List (Event T)) where
   load_top_to_take_does taking w s =
       let nothing : TakeRefused = cond w.mark TakeClosed TakeEmpty in
       cases At w.second (refuses taking TakeShut) (cond (eqb w.index NULL) (refuses taking nothing) (cond (leb limit w.tag) (refuses taking (TakeSpent TopWord w.tag)) (takes taking w)))
-      (λ e. refuses_does taking TakeShut s)
+      (λ e. refuses_does taking TakeShut s s.made.1)
       (λ e. cases At (eqb w.index NULL) (refuses taking nothing) (cond (leb limit w.tag) (refuses taking (TakeSpent TopWord w.tag)) (takes taking w))
-      (λ e. refuses_does taking nothing s)
+      (λ e. cases (λ (why : TakeRefused). At (refuses taking why)) w.mark TakeClosed TakeEmpty (λ e. refuses_does taking TakeClosed s s.made.1) (λ e. refuses_does taking TakeEmpty s s.made.1))
       (λ e. cases At (leb limit w.tag) (refuses taking (TakeSpent TopWord w.tag)) (takes taking w)
-      (λ e. refuses_does taking (TakeSpent TopWord w.tag) s)
+      (λ e. refuses_does taking (TakeSpent TopWord w.tag) s s.made.1)
       (λ e. takes_does taking w s)))
 
   module _ (m : Memory T) where
     -- a load of FREE
-    no_node_does : (put : Putting T) (refused : Line T) → (s : At (LoadFree put)) → HasNoNode c h → (own p s.between ≡ [] → At refused) → At (no_node put refused)
+    no_node_does : (put : Putting T) (refused : Line T) → (s : At (LoadFree put)) → HasNoCell c h → (own p s.between ≡ [] → At refused) → At (no_node put refused)
     no_node_does put refused s none_free refuse = cases At (eqb (length put.chain) 0) refused (LoadTop put)
         (λ e. refuse (nothing_made put (own p s.between) s.made (eqb-true (length put.chain) 0 e)))
         (λ e. stays (LoadFree put) (LoadTop put) s s.made (inr (Sometime-now (record { more = s.between; is = s.is }) none_free)))
@@ -194,9 +217,9 @@ module _ {T : Type 0} (n limit : ℕ) (p : ℕ) (begun h : List (Event T)) where
     load_free_does put r s =
         let refused : Line T = ends (AnswerPut (Err (PutSpent put.values FreeWord m.free.tag))) in
         cases At (eqb m.free.index NULL) (no_node put (LoadTopToRefuse put.values)) (cond (leb limit m.free.tag) (no_node put refused) (LoadFreeLink put m.free))
-        (λ e. no_node_does put (LoadTopToRefuse put.values) s (inl (r.full (eqb-true m.free.index NULL e))) (λ none_made. stays (LoadFree put) (LoadTopToRefuse put.values) s none_made tt))
+        (λ e. no_node_does put (LoadTopToRefuse put.values) s (inl (r.full (eqb-true m.free.index NULL e))) (λ none_made. stays (LoadFree put) (LoadTopToRefuse put.values) s (s.made.0, none_made) tt))
         (λ e. cases At (leb limit m.free.tag) (no_node put refused) (LoadFreeLink put m.free)
-        (λ e. no_node_does put refused s (inr (r.spent (leb-true limit m.free.tag e))) (λ none_made. stays (LoadFree put) refused s (backs_out (length put.values) (own p s.between) none_made) tt))
+        (λ e. no_node_does put refused s (inr (r.spent (leb-true limit m.free.tag e))) (λ none_made. stays (LoadFree put) refused s (of_put put.values (Err (PutSpent put.values FreeWord m.free.tag)) (own p s.between) s.made.0 (refl, none_made)) tt))
         (λ e. stays (LoadFree put) (LoadFreeLink put m.free) s s.made tt))
 
     -- an exchange that takes a node
@@ -213,10 +236,10 @@ module _ {T : Type 0} (n limit : ℕ) (p : ℕ) (begun h : List (Event T)) where
         more = with_node put w.index
 
         Held : Line T → Type 0
-        Held l = Deeds c p l begun (Hold p ∷ h)
+        Held l = Deeds c p call l begun (Hold p ∷ h)
 
-        holds_one : Hold p ∷ own p s.between ≡ holds_of p (suc (length put.chain))
-        holds_one = ap (λ (x : List (Event T)). Hold p ∷ x) s.made
+        holds_one : HasHeld p call more (Hold p ∷ own p s.between)
+        holds_one = (s.made.0, ap (λ (x : List (Event T)). Hold p ∷ x) s.made.1)
 
     -- the exchange that puts
     swap_top_does : (put : Putting T) (w : Tagged) → 0 < length put.chain → length put.chain ≤ length put.values → At (SwapTop put w) → Does (step c m p (SwapTop put w))
@@ -226,7 +249,12 @@ module _ {T : Type 0} (n limit : ℕ) (p : ℕ) (begun h : List (Event T)) where
         let long : length (placed put) ≡ length put.chain = length-take-le (length put.chain) put.values few in
         cases Does (same m.top w) (wins (after_put m w put) (ends answer) event) (goes_on m (LoadTop put))
         (λ won. adds (SwapTop put w) (ends answer) event s refl
-        (record { values = placed put; some_value = omega arith; is = ap (λ (x : List (Event T)). event ∷ x) (s.made ∙ ap (λ (k : ℕ). holds_of p k) (sym long)) })
+        (of_put put.values (Ok (w.tag, unplaced put)) (event ∷ own p s.between) s.made.0 (record {
+          values = placed put;
+          some_value = omega arith;
+          all = take-append-drop (length put.chain) put.values;
+          is = ap (λ (x : List (Event T)). event ∷ x) (s.made.1 ∙ ap (λ (k : ℕ). holds_of p k) (sym long));
+        }))
         (⊎_elim (λ e. inl (drop_all (length put.chain) put.values e)) (λ x. inr (Sometime-wider (Later-refl begun) (Later-cons event h) x)) s.all))
         (λ lost. stays (SwapTop put w) (LoadTop put) s s.made s.all)
 
@@ -235,14 +263,15 @@ module _ {T : Type 0} (n limit : ℕ) (p : ℕ) (begun h : List (Event T)) where
     take_top_does w k s = cases Does (same m.top w) (wins_value m p w k (m.home w.index)) (goes_on m (LoadTopToTake One)) (λ won. value (m.home w.index)) (λ lost. stays (TakeTop w k) (LoadTopToTake One) s s.made tt)
       where
         value : (o : Option (Slot T)) → Does (wins_value m p w k o)
-        value none = stays (TakeTop w k) (Idle None) s s.made tt
-        value (some None) = stays (TakeTop w k) (Idle None) s s.made tt
-        value (some (Some v)) = adds (TakeTop w k) (gives (w.index ∷ []) (AnswerTake (Ok (v, w.tag)))) (Take p v w.tag) s refl (ap (λ (x : List (Event T)). Free p 1 ∷ Take p v w.tag ∷ x) s.made) tt
+        value none = stays (TakeTop w k) (Idle None) s s.made.1 tt
+        value (some None) = stays (TakeTop w k) (Idle None) s s.made.1 tt
+        value (some (Some v)) = adds (TakeTop w k) (gives (w.index ∷ []) (AnswerTake (Ok (v, w.tag)))) (Take p v w.tag) s refl
+            (of (CallTake One) (AnswerTake (Ok (v, w.tag))) (Free p 1 ∷ Take p v w.tag ∷ own p s.between) s.made.0 (ap (λ (x : List (Event T)). Free p 1 ∷ Take p v w.tag ∷ x) s.made.1)) tt
 
     -- the exchange that takes all values
     take_chain_does : (d : Direction) (w : Tagged) → Reads c m h → At (TakeChain d w) → Does (step c m p (TakeChain d w))
     take_chain_does d w r s = cases Does (same m.top w) (wins_chain m p d w chain) (goes_on m (LoadTopToTake (Whole d)))
-        (λ won. whole d (subst (λ (x : Tagged). length (values_in m.home (chain_from n m.link x.index)) ≡ length (chain_from n m.link x.index)) (same-is m.top w won) r.valued))
+        (λ won. whole d s.made.0 (subst (λ (x : Tagged). length (values_in m.home (chain_from n m.link x.index)) ≡ length (chain_from n m.link x.index)) (same-is m.top w won) r.valued))
         (λ lost. stays (TakeChain d w) (LoadTopToTake (Whole d)) s s.made tt)
       where
         chain : List ℕ
@@ -252,18 +281,20 @@ module _ {T : Type 0} (n limit : ℕ) (p : ℕ) (begun h : List (Event T)) where
         values = values_in m.home chain
 
         made : length values ≡ length chain → ◌≡◌ {A = List (Event T)} (Free p (length chain) ∷ TakeAll p values w.tag ∷ own p s.between) (Free p (length values) ∷ TakeAll p values w.tag ∷ [])
-        made each = ap (λ (x : List (Event T)). Free p (length chain) ∷ TakeAll p values w.tag ∷ x) s.made ∙ ap (λ (k : ℕ). Free p k ∷ TakeAll p values w.tag ∷ []) (sym each)
+        made each = ap (λ (x : List (Event T)). Free p (length chain) ∷ TakeAll p values w.tag ∷ x) s.made.1 ∙ ap (λ (k : ℕ). Free p k ∷ TakeAll p values w.tag ∷ []) (sym each)
 
-        whole : (d : Direction) → length values ≡ length chain → Does (wins_chain m p d w chain)
-        whole Down each = adds (TakeChain d w) (at_take_chain Down w chain values) (TakeAll p values w.tag) s refl (record { values = values; is = made each; order = inl refl }) tt
-        whole Up each = adds (TakeChain d w) (at_take_chain Up w chain values) (TakeAll p values w.tag) s refl (record { values = values; is = made each; order = inr refl }) tt
+        whole : (e : Direction) → call ≡ CallTake (Whole e) → length values ≡ length chain → Does (wins_chain m p e w chain)
+        whole Down is each = adds (TakeChain d w) (at_take_chain Down w chain values) (TakeAll p values w.tag) s refl
+            (of (CallTake (Whole Down)) (AnswerFold (Ok (values, w.tag))) (Free p (length chain) ∷ TakeAll p values w.tag ∷ own p s.between) is (record { values = values; is = made each; order = refl })) tt
+        whole Up is each = adds (TakeChain d w) (at_take_chain Up w chain values) (TakeAll p values w.tag) s refl
+            (of (CallTake (Whole Up)) (AnswerFold (Ok (reverse values, w.tag))) (Free p (length chain) ∷ TakeAll p values w.tag ∷ own p s.between) is (record { values = values; is = made each; order = refl })) tt
 
     -- a chain that was turned round is as long as before
     turn_link_does : (give : Giving T) (above i k : ℕ) → At (TurnLink give above i k) → Does (step c m p (TurnLink give above i k))
     turn_link_does give above i k s =
         let turned : Giving T = record give { chain = reverse give.chain } in
         cases At (eqb k NULL) (LoadLinkToFold turned i) (LoadLinkToTurn give i k)
-        (λ e. stays (TurnLink give above i k) (LoadLinkToFold turned i) s (subst (λ (x : ℕ). Makes p give.answer (Free p x ∷ own p s.between)) (sym (length-reverse give.chain)) s.made) s.all)
+        (λ e. stays (TurnLink give above i k) (LoadLinkToFold turned i) s (subst (λ (x : ℕ). Makes p call give.answer (Free p x ∷ own p s.between)) (sym (length-reverse give.chain)) s.made) s.all)
         (λ e. stays (TurnLink give above i k) (LoadLinkToTurn give i k) s s.made s.all)
 
     load_link_to_fold_does : (give : Giving T) (i : ℕ) → At (LoadLinkToFold give i) → Does (step c m p (LoadLinkToFold give i))
@@ -281,19 +312,19 @@ module _ {T : Type 0} (n limit : ℕ) (p : ℕ) (begun h : List (Event T)) where
 
     -- close and shut
     load_top_to_close_does : At LoadTopToClose → Does (step c m p LoadTopToClose)
-    load_top_to_close_does s = cases At m.top.mark (ends (AnswerClose false)) (MarkTop m.top) (λ e. stays LoadTopToClose (ends (AnswerClose false)) s s.made tt) (λ e. stays LoadTopToClose (MarkTop m.top) s s.made tt)
+    load_top_to_close_does s = cases At m.top.mark (ends (AnswerClose false)) (MarkTop m.top) (λ e. stays LoadTopToClose (ends (AnswerClose false)) s (of CallClose (AnswerClose false) (own p s.between) s.made.0 s.made.1) tt) (λ e. stays LoadTopToClose (MarkTop m.top) s s.made tt)
 
     mark_top_does : (w : Tagged) → At (MarkTop w) → Does (step c m p (MarkTop w))
     mark_top_does w s = cases Does (same m.top w) (wins (after_close m w) (ends (AnswerClose true)) (Close p)) (goes_on m LoadTopToClose)
-        (λ won. adds (MarkTop w) (ends (AnswerClose true)) (Close p) s refl (ap (λ (x : List (Event T)). Close p ∷ x) s.made) tt)
+        (λ won. adds (MarkTop w) (ends (AnswerClose true)) (Close p) s refl (of CallClose (AnswerClose true) (Close p ∷ own p s.between) s.made.0 (ap (λ (x : List (Event T)). Close p ∷ x) s.made.1)) tt)
         (λ lost. stays (MarkTop w) LoadTopToClose s s.made tt)
 
     load_top_to_shut_does : At LoadTopToShut → Does (step c m p LoadTopToShut)
-    load_top_to_shut_does s = cases At m.top.second (ends (AnswerShut false)) (ShutTop m.top) (λ e. stays LoadTopToShut (ends (AnswerShut false)) s s.made tt) (λ e. stays LoadTopToShut (ShutTop m.top) s s.made tt)
+    load_top_to_shut_does s = cases At m.top.second (ends (AnswerShut false)) (ShutTop m.top) (λ e. stays LoadTopToShut (ends (AnswerShut false)) s (of CallShut (AnswerShut false) (own p s.between) s.made.0 s.made.1) tt) (λ e. stays LoadTopToShut (ShutTop m.top) s s.made tt)
 
     shut_top_does : (w : Tagged) → At (ShutTop w) → Does (step c m p (ShutTop w))
     shut_top_does w s = cases Does (same m.top w) (wins (after_shut m w) (ends (AnswerShut true)) (Shut p)) (goes_on m LoadTopToShut)
-        (λ won. adds (ShutTop w) (ends (AnswerShut true)) (Shut p) s refl (ap (λ (x : List (Event T)). Shut p ∷ x) s.made) tt)
+        (λ won. adds (ShutTop w) (ends (AnswerShut true)) (Shut p) s refl (of CallShut (AnswerShut true) (Shut p ∷ own p s.between) s.made.0 (ap (λ (x : List (Event T)). Shut p ∷ x) s.made.1)) tt)
         (λ lost. stays (ShutTop w) LoadTopToShut s s.made tt)
 
     -- each step of a pass carries on what it has done
@@ -321,4 +352,4 @@ module _ {T : Type 0} (n limit : ℕ) (p : ℕ) (begun h : List (Event T)) where
     step_does g (MarkTop w) r f s = mark_top_does w s
     step_does g LoadTopToShut r f s = load_top_to_shut_does s
     step_does g (ShutTop w) r f s = shut_top_does w s
-    step_does g LoadTopToLook r f s = stays LoadTopToLook (ends (AnswerLook (eqb m.top.index NULL))) s s.made tt
+    step_does g LoadTopToLook r f s = stays LoadTopToLook (ends (AnswerLook (eqb m.top.index NULL))) s (of CallLook (AnswerLook (eqb m.top.index NULL)) (own p s.between) s.made.0 s.made.1) tt

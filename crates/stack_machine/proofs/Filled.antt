@@ -1,7 +1,7 @@
 -- Each kind of step of the stack keeps what the slots at home have.
 use Rattle.std.proofs.Common.{◌≡◌, ◌⊎◌, inl, inr, ℕ, zero, suc, ◌+◌, ◌<◌, ◌≤◌, List, [], ◌∷◌, ◌++◌, length, refl, sym, ap, ◌∙◌, subst, ⊎_elim, arith}
-use Rattle.std.specs.Prelude.{Option as Slot, Some}
-use mathlib.Core.Option.{Option, none, some}
+use Rattle.std.specs.Prelude.{Option as Slot}
+use mathlib.Core.Option.{Option, none}
 use Rattle.machine.specs.Words.{times}
 use Rattle.stack_machine.specs.Machine.{Memory}
 use Rattle.machine.specs.Chains.{with_home, away, filled, emptied, HasValues}
@@ -58,15 +58,3 @@ module _ {T : Type 0} {m : Memory T} {g : Lists} {values : List T} where
     empty = λ j there. (λ k. home k j) ∙ away_else m.home chain j (omega (arith, once j)) ∙ f.empty j there;
     stored = tt;
   }
-
--- the value on top, and the others without its slot
-pub record First {T : Type 0} (home : ℕ → Option (Slot T)) (i : ℕ) (rest : List ℕ) (values : List T) : Type 0 where
-  pub value : T
-  pub left : List T
-  pub here : home i ≡ some (Some value)
-  pub is : values ≡ value ∷ left
-  pub stored : HasValues home rest left
-
-pub first_value : {T : Type 0} (home : ℕ → Option (Slot T)) (i : ℕ) (rest : List ℕ) (values : List T) → HasValues home (i ∷ rest) values → First home i rest values
-first_value home i rest [] h = absurd h
-first_value home i rest (v ∷ vs) h = record { value = v; left = vs; here = h.0; is = refl; stored = h.1 }

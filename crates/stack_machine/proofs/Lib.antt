@@ -6,4 +6,5 @@ pub mod Step
 pub mod Answers
 pub mod Tells
 pub mod Doing
+pub mod Made
 pub mod Start

@@ -1,9 +1,8 @@
 -- Each kind of step of the stack keeps what holds between any two steps, from any state where it
 -- holds. Running code cites these.
-use Rattle.std.proofs.Common.{◌≡◌, ◌≢◌, ℕ, ◌+◌, ◌<◌, ◌≤◌, cond, ltb, false, List, [], ◌∷◌, ◌++◌, length, reverse, set, refl, sym, ap, ◌∙◌, subst, arith}
+use Rattle.std.proofs.Common.{◌≡◌, ◌≢◌, ℕ, ◌+◌, ◌<◌, ◌≤◌, false, List, [], ◌∷◌, ◌++◌, length, reverse, set, refl, sym, ap, ◌∙◌, subst, arith}
 use Rattle.std.proofs.lemmas.List.{length-reverse, append-nil}
 use Rattle.std.specs.Prelude.{Some, None}
-use Rattle.std.proofs.lemmas.Bool.Decides.{nat_tests}
 use mathlib.Core.Option.{Option, some}
 use lib.ListN.{get_elem?}
 use Rattle.tagged_index.specs.declared.word.TheConstants.{NULL}
@@ -17,17 +16,14 @@ use Rattle.stack_machine.specs.Machine.{Memory, held, after_hold, after_give, af
 use Rattle.machine.specs.Chains.{first, last, chain_from, values_in, HasValues}
 use Rattle.stack_machine.specs.Answers.{state}
 use Rattle.stack_machine.specs.Rule.{Lists, Gives, IsFine, Filled, putting, Good}
-use Rattle.machine.proofs.Tests.{cases}
+use Rattle.machine.proofs.Tests.{not_below}
 use Rattle.machine.proofs.Sums.{total_one}
 use Rattle.machine.proofs.Lists.{times_here, leads_from}
 use Rattle.machine.proofs.OneList.{ready, front_of}
-use Rattle.machine.proofs.Chains.{chain_from-is, values_in-is}
+use Rattle.machine.proofs.Chains.{first_value, chain_from-is, values_in-is}
 use Rattle.stack_machine.proofs.Linked.{held_once, goes_linked, store_linked, hold_linked, give_linked, put_linked, take_linked, mark_linked}
-use Rattle.stack_machine.proofs.Filled.{same_filled, hold_filled, give_filled, put_filled, take_filled, take_all_filled, first_value}
+use Rattle.stack_machine.proofs.Filled.{same_filled, hold_filled, give_filled, put_filled, take_filled, take_all_filled}
 use Rattle.stack_machine.proofs.Told.{goes_told, hold_told, give_told, put_told, take_told, take_all_told, close_told, shut_told}
-
-pub not_below : (i n : ℕ) → n ≤ i → cond (ltb i n) 1 0 ≤ 0
-not_below i n h = cases (λ x. x ≤ 0) (ltb i n) 1 0 (λ b. absurd (grind (arith, nat_tests))) (λ b. omega arith)
 
 -- good with some lists
 pub record Kept (T : Type 0) (n limit : ℕ) (m : Memory T) (who : ℕ → Option ℕ) (lines : List (Line T)) (history : List (Event T)) : Type 0 where

@@ -18,6 +18,7 @@ use Rattle.stack_machine.specs.declared.lines.Taking.{Taking}
 use Rattle.stack_machine.specs.declared.lines.Taking.TheVariants.{One, Whole}
 use Rattle.stack_machine.specs.declared.lines.Answer.{Answer}
 use Rattle.stack_machine.specs.declared.lines.Answer.TheVariants.{Put as AnswerPut, Take as AnswerTake, Fold as AnswerFold, Close as AnswerClose, Shut as AnswerShut, Look as AnswerLook}
+use Rattle.machine.specs.Schedule as schedule
 use Rattle.machine.specs.Chains.{first, last, second, chain_from, with_home, away, filled, emptied, values_in}
 use Rattle.stack_machine.specs.declared.lines.Giving.{Giving}
 use Rattle.stack_machine.specs.declared.lines.Line.{Line}
@@ -142,12 +143,9 @@ module _ {T : Type 0} where
   abbrev pub at_load_top_to_shut : Tagged → Line T
   at_load_top_to_shut w = if w.second then ends (AnswerShut false) else ShutTop w
 
--- What one step does: it leaves this memory, the pass goes on at this line, and the history grows by
--- these events, of which there is one or none
-pub record Outcome (T : Type 0) : Type 0 where
-  pub memory : Memory T
-  pub line : Line T
-  pub events : List (Event T)
+-- What one step does
+abbrev pub Outcome : Type 0 → Type 0
+Outcome T = schedule.Outcome (Memory T) (Line T) (Event T)
 
 module _ {T : Type 0} where
   abbrev pub goes_on : Memory T → Line T → Outcome T
@@ -238,3 +236,32 @@ module _ {T : Type 0} where
 -- the words and slots of a new stack
 abbrev pub start : {T : Type 0} → Shape → Memory T
 start c = record { free = start_word 0; top = start_word NULL; link = start_link c.capacity; home = λ i. some None }
+
+module _ {T : Type 0} where
+  -- is the next step of a line an exchange that wins
+  abbrev pub wins_exchange : Memory T → Line T → Bool
+  wins_exchange m (TakeFree put w k) = same m.free w
+  wins_exchange m (SwapTop put w) = same m.top w
+  wins_exchange m (TakeTop w k) = same m.top w
+  wins_exchange m (TakeChain d w) = same m.top w
+  wins_exchange m (GiveBack give w) = same m.free w
+  wins_exchange m (MarkTop w) = same m.top w
+  wins_exchange m (ShutTop w) = same m.top w
+  wins_exchange m l = false
+
+-- the whole machine, for schedules
+abbrev pub stack : {T : Type 0} → Shape → schedule.Machine (Memory T) (Line T) (Call T) (Event T)
+stack c = record {
+  first = start c;
+  rest = Idle None;
+  is_idle = is_idle;
+  starts = λ call idle. starts call;
+  step = step c;
+  wins = wins_exchange;
+}
+
+abbrev pub Pass : Type 0 → Type 0
+Pass T = schedule.Pass (Line T) (Call T) (Event T)
+
+abbrev pub State : Type 0 → Type 0
+State T = schedule.State (Memory T) (Line T) (Call T) (Event T)

@@ -1,3 +1,5 @@
+pub mod Scripts
+pub mod Letters
 pub mod list
 pub mod stack
 pub mod queue

@@ -1,8 +1,6 @@
 pub mod Run
-pub mod Done
 pub mod Rank
 pub mod Bounded
-pub mod Scripts
 pub mod Cast
 pub mod Rows
 pub mod Overtaking

@@ -1,7 +1,8 @@
 pub mod Run
-pub mod Done
 pub mod Rank
 pub mod Bounded
-pub mod Scripts
+pub mod Cast
 pub mod Rows
+pub mod Orders
 pub mod Mistakes
+pub mod WrongAnswers

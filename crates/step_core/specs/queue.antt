@@ -1,4 +1,2 @@
-pub mod Schedule
 pub mod Law
-pub mod Stays
 pub mod Bound

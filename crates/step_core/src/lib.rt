@@ -5,10 +5,10 @@
 //! on this crate.
 #![tactic(auto)]
 
-mod bounds;
-mod deeds;
-mod laws;
+mod list_laws;
+mod queue_laws;
+mod stack_laws;
 
-pub use bounds::{queue_bound, stack_bound};
-pub use deeds::{queue_answers, stack_answers};
-pub use laws::{list_core, queue_core, stack_core};
+pub use list_laws::list_core;
+pub use queue_laws::{queue_answers, queue_bound, queue_core};
+pub use stack_laws::{stack_answers, stack_bound, stack_core};

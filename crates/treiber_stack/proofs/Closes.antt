@@ -18,6 +18,8 @@ use Rattle.machine.specs.declared.seats.View.{View}
 use Rattle.stack_machine.specs.Machine.{Outcome, ends, at_load_top_to_close, at_load_top_to_shut, goes_on as core_goes_on, wins, after_close, after_shut}
 use Rattle.stack_machine.specs.Answers.{shape}
 use Rattle.machine.specs.Seats.{pass_of}
+use Rattle.stack_machine.proofs.Made.{made_close, made_shut, made_look}
+use Rattle.bounded_model.specs.Histories.{own}
 use Rattle.treiber_stack.specs.declared.operation.Operation.{Operation}
 use Rattle.treiber_stack.specs.Host.{first_line, Did}
 use Rattle.treiber_stack.specs.KeepsMarks.{is_same, not_same}
@@ -81,15 +83,15 @@ module _ {T : Type 0} {n limit : ℕ} {o : Operation T} {v v' : View T (Line T)}
 
 module _ {T : Type 0} {n limit : ℕ} {v v' : View T (Line T)} {begun : PassView T} {l : Line T} where
   pub close_gives : (b : Bool) → Ends n limit v v' begun l (AnswerClose b) → CloseGives (shape n limit) begun (pass_of v') b × IsLine n limit v v' l (ends (AnswerClose b))
-  close_gives true (e, line) = (adds_of e (Close begun.number ∷ []) (e.deeds.made ∙ ap (λ (k : ℕ). Close k ∷ []) e.number), line)
-  close_gives false (e, line) = ((adds_of e [] e.deeds.made, e.tells), line)
+  close_gives true (e, line) = (adds_of e (Close begun.number ∷ []) (made_close (pass_of v').number (own (pass_of v').number e.deeds.between) e.call true e.deeds.made ∙ ap (λ (k : ℕ). Close k ∷ []) e.number), line)
+  close_gives false (e, line) = ((adds_of e [] (made_close (pass_of v').number (own (pass_of v').number e.deeds.between) e.call false e.deeds.made), e.tells), line)
 
   pub shut_gives : (b : Bool) → Ends n limit v v' begun l (AnswerShut b) → ShutGives (shape n limit) begun (pass_of v') b × IsLine n limit v v' l (ends (AnswerShut b))
-  shut_gives true (e, line) = (adds_of e (Shut begun.number ∷ []) (e.deeds.made ∙ ap (λ (k : ℕ). Shut k ∷ []) e.number), line)
-  shut_gives false (e, line) = ((adds_of e [] e.deeds.made, e.tells), line)
+  shut_gives true (e, line) = (adds_of e (Shut begun.number ∷ []) (made_shut (pass_of v').number (own (pass_of v').number e.deeds.between) e.call true e.deeds.made ∙ ap (λ (k : ℕ). Shut k ∷ []) e.number), line)
+  shut_gives false (e, line) = ((adds_of e [] (made_shut (pass_of v').number (own (pass_of v').number e.deeds.between) e.call false e.deeds.made), e.tells), line)
 
   pub look_gives : (b : Bool) → Ends n limit v v' begun l (AnswerLook b) → LookGives (shape n limit) begun (pass_of v') b
-  look_gives b (e, line) = (adds_of e [] e.deeds.made, e.tells)
+  look_gives b (e, line) = (adds_of e [] (made_look (pass_of v').number (own (pass_of v').number e.deeds.between) e.call b e.deeds.made), e.tells)
 
 module _ {T : Type 0} (c : Stack T) (o : Operation T) (p : Pass T) (l : Line T) (slots : List (ℕ × Slot T)) (at : IsAt c o p l slots) (q : Pass T) (same_seat : IsSame p q) where
   abbrev n : ℕ

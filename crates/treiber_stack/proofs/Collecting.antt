@@ -20,6 +20,8 @@ use Rattle.stack_machine.specs.declared.lines.Putting.{Putting}
 use Rattle.stack_machine.specs.declared.lines.Line.{Line}
 use Rattle.stack_machine.specs.declared.lines.Line.TheVariants.{LoadFree, LoadFreeLink, TakeFree, LoadTop, LoadTopToRefuse}
 use Rattle.machine.specs.declared.seats.View.{View}
+use Rattle.stack_machine.proofs.Made.{made_refusal}
+use Rattle.bounded_model.specs.Histories.{own}
 use Rattle.treiber_stack.specs.Host.{may_step}
 use Rattle.treiber_stack.specs.Operations.{IsAt, IsSame, Going, Ended, Goes, Told, Takes, Lost, begun_in}
 use Rattle.treiber_stack.specs.Ranging.{NotPut, loaded, linking, Stops}
@@ -27,7 +29,7 @@ use Rattle.treiber_stack.specs.Stack.{IsPassOf, pass_in, shape_of}
 use Rattle.treiber_stack.specs.declared.operation.Operation.{Operation}
 use Rattle.treiber_stack.specs.declared.operation.Operation.TheVariants.{Underway}
 use Rattle.treiber_stack.specs.declared.ranging.NoNode.TheVariants.{NoneFree, Spent as NodeSpent}
-use Rattle.treiber_stack.specs.declared.ranging.RangeRefused.TheVariants.{Full, Closed, Spent}
+use Rattle.bounded_model.specs.declared.bulk.RangeRefused.TheVariants.{Full, Closed, Spent}
 use Rattle.treiber_stack.specs.declared.stack.Stack.{Stack}
 use Rattle.treiber_stack.specs.declared.stack.Pass.{Pass}
 use Rattle.treiber_stack.proofs.Going.{begun_going, adds_of}
@@ -41,7 +43,7 @@ module _ {T : Type 0} {n limit : ℕ} {v : View T (Line T)} {begun : PassView T}
   -- a refused put has given back what it took
   pub backs_out : (why : PutRefused (List T)) → Ended n limit v begun (AnswerPut (Err why)) → BacksOut begun (pass_of v) (length (handed_back why))
   backs_out why e =
-      let made = e.deeds.made in
+      let made = made_refusal (pass_of v).number (own (pass_of v).number e.deeds.between) e.call why e.deeds.made in
       record { held = made.nodes; at_most = made.at_most; adds = adds_of e (gave_back begun.number made.nodes) (made.is ∙ ap (λ (k : ℕ). gave_back k made.nodes) e.number) }
 
 module _ {T : Type 0} (c : Stack T) (o : Operation T) (vs : List T) where

@@ -21,7 +21,8 @@ use Rattle.treiber_stack.specs.KeepsMemory.{same_or_not, times_holds}
 use Rattle.treiber_stack.specs.Operations.{IsAt, IsSame, Going, Told, begun_in}
 use Rattle.treiber_stack.specs.Ranging.{loaded, places_from, linking, Stops, IsCollecting, IsStart, HasNodes}
 use Rattle.treiber_stack.specs.Rule.{line_in}
-use Rattle.treiber_stack.specs.Places.{somes, values_of}
+use Rattle.bounded_model.specs.Bulk.{somes}
+use Rattle.treiber_stack.specs.Places.{values_of}
 use Rattle.treiber_stack.specs.Stack.{IsPassOf}
 use Rattle.treiber_stack.specs.Host.{first_line, line_now}
 use Rattle.treiber_stack.specs.declared.operation.Listed.{Listed}
@@ -220,7 +221,7 @@ module _ {T : Type 0} where
   any_name c o o' p put zs at = record {
     table = at.table;
     has = at.has;
-    going = let g = at.going in record { pass = g.pass; from = g.from; at = g.at; is = g.is; now = any_now o o' g.at put g.now; begun_is = g.begun_is; number = g.number; steps = g.steps; seen = g.seen; deeds = g.deeds; tells = g.tells };
+    going = let g = at.going in record { pass = g.pass; from = g.from; at = g.at; is = g.is; now = any_now o o' g.at put g.now; begun_is = g.begun_is; number = g.number; steps = g.steps; seen = g.seen; call = g.call; deeds = g.deeds; tells = g.tells };
   }
 
   -- a range with nodes that gets no further one is put

@@ -35,6 +35,7 @@ use Rattle.machine.proofs.Lists.{leads_from}
 use Rattle.machine.proofs.OneList.{front_of}
 use Rattle.machine.proofs.Tests.{cases, at_most_one}
 use Rattle.stack_machine.proofs.Moves.{no_null, all_nodes, all_values}
+use Rattle.stack_machine.proofs.Made.{made_no_fold}
 use Rattle.treiber_stack.specs.declared.operation.Operation.{Operation}
 use Rattle.treiber_stack.specs.Rule.{idle, Meets}
 use Rattle.treiber_stack.specs.Host.{line_now, direction, Did}
@@ -108,7 +109,7 @@ module _ {T : Type 0} {n limit : ℕ} {o : Operation T} {v : View T (Line T)} {b
       ap (λ (u : View T (Line T)). own begun.number (pass_of u).seen) g.is
       ∙ ap (own begun.number) g.deeds.is
       ∙ own-append begun.number g.deeds.between begun.seen
-      ∙ ap (λ (es : List (Event T)). es ++ own begun.number begun.seen) (subst (λ (k : ℕ). own k g.deeds.between ≡ []) g.number g.deeds.made)
+      ∙ ap (λ (es : List (Event T)). es ++ own begun.number begun.seen) (subst (λ (k : ℕ). own k g.deeds.between ≡ []) g.number g.deeds.made.1)
 
 -- the whole chain in hand: its nodes, their values, and that the pass took these
 pub record WonAll {T : Type 0} (n limit : ℕ) (o : Operation T) (front : Front) (w : ℕ) (zs : List (ℕ × Slot T)) (v v' : View T (Line T)) (begun : PassView T) : Type 0 where
@@ -261,4 +262,4 @@ module _ {T : Type 0} {n limit : ℕ} {o : Operation T} {v v' : View T (Line T)}
 module _ {T : Type 0} {n limit : ℕ} {v v' : View T (Line T)} {begun : PassView T} {l : Line T} where
   -- a refused fold
   pub takes_nothing : (why : TakeRefused) → Ends n limit v v' begun l (AnswerFold (Err why)) → TakesNothing (shape n limit) begun (pass_of v') why
-  takes_nothing why (e, line) = (adds_of e [] e.deeds.made, e.tells)
+  takes_nothing why (e, line) = (adds_of e [] (made_no_fold (pass_of v').number (own (pass_of v').number e.deeds.between) e.call why e.deeds.made), e.tells)

@@ -10,6 +10,11 @@ use Rattle.bounded_model.specs.Stepping.{OneStep}
 use Rattle.bounded_model.proofs.Histories.{own-between, Later-refl, Later-trans}
 use Rattle.index_list.specs.Steps.{Kind}
 use Rattle.stack_machine.specs.declared.lines.Answer.{Answer}
+use Rattle.stack_machine.specs.declared.lines.Call.{Call}
+use Rattle.stack_machine.specs.declared.lines.Call.TheVariants.{Put as CallPut, Take as CallTake, Close as CallClose, Shut as CallShut, Look as CallLook}
+use Rattle.stack_machine.specs.declared.lines.Taking.TheVariants.{One, Whole}
+use Rattle.treiber_stack.specs.Host.{direction}
+use Rattle.treiber_stack.specs.Places.{values_of}
 use Rattle.stack_machine.specs.declared.lines.Line.{Line}
 use Rattle.stack_machine.specs.declared.lines.Line.TheVariants.{Idle}
 use Rattle.machine.specs.declared.seats.View.{View}
@@ -58,8 +63,8 @@ module _ {T : Type 0} where
     later : Later begun.seen newer
     later = Later-trans g.seen (Later-trans (subst (λ (p : PassView T). Later p.seen d.history) same_pass d.saw.seen) (record { more = d.out.events; is = refl }))
 
-    deeds_after : Deeds (shape n limit) d.pass.number d.out.line begun.seen newer
-    deeds_after = d.deeds begun.seen (subst (λ (k : Line T). Deeds (shape n limit) d.pass.number k begun.seen d.pass.seen) (sym same_now) (subst (λ (p : PassView T). Deeds (shape n limit) p.number l begun.seen p.seen) (sym same_pass) g.deeds))
+    deeds_after : Deeds (shape n limit) d.pass.number g.call d.out.line begun.seen newer
+    deeds_after = d.deeds begun.seen g.call (subst (λ (k : Line T). Deeds (shape n limit) d.pass.number g.call k begun.seen d.pass.seen) (sym same_now) (subst (λ (p : PassView T). Deeds (shape n limit) p.number g.call l begun.seen p.seen) (sym same_pass) g.deeds))
 
     tells_after : Tells n limit begun.seen newer d.out.line
     tells_after = d.tells begun.seen (subst (λ (p : PassView T). Later begun.seen p.seen) (sym same_pass) g.seen)
@@ -112,7 +117,8 @@ module _ {T : Type 0} where
           number = number_after;
           steps = omega arith;
           seen = later;
-          deeds = subst (λ (k : Line T). Deeds (shape n limit) d.pass.number k begun.seen newer) e deeds_after;
+          call = g.call;
+          deeds = subst (λ (k : Line T). Deeds (shape n limit) d.pass.number g.call k begun.seen newer) e deeds_after;
           tells = subst (λ (k : Line T). Tells n limit begun.seen newer k) e tells_after;
         }
 
@@ -129,7 +135,8 @@ module _ {T : Type 0} where
           number = ap (λ (x : PassView T). x.number) (sym same) ∙ number_after;
           steps = subst (λ (x : PassView T). begun.steps < x.steps) same (omega arith);
           seen = subst (λ (x : PassView T). Later begun.seen x.seen) same later;
-          deeds = subst (λ (x : PassView T). Deeds (shape n limit) x.number (Idle (Some a)) begun.seen x.seen) same (subst (λ (k : Line T). Deeds (shape n limit) d.pass.number k begun.seen newer) e deeds_after);
+          call = g.call;
+          deeds = subst (λ (x : PassView T). Deeds (shape n limit) x.number g.call (Idle (Some a)) begun.seen x.seen) same (subst (λ (k : Line T). Deeds (shape n limit) d.pass.number g.call k begun.seen newer) e deeds_after);
           tells = subst (λ (x : PassView T). Tells n limit begun.seen x.seen (Idle (Some a))) same (subst (λ (k : Line T). Tells n limit begun.seen newer k) e tells_after);
         }
 
@@ -142,10 +149,10 @@ module _ {T : Type 0} where
     ends_so a e = (answers a e, line_so (Idle (Some a)) e)
 
     -- what the pass had done by the time of the step
-    pub deeds_then : Deeds (shape n limit) d.pass.number l begun.seen d.history
-    deeds_then = meanwhile (shape n limit) d.pass.number begun.seen d.pass.seen d.history l
+    pub deeds_then : Deeds (shape n limit) d.pass.number g.call l begun.seen d.history
+    deeds_then = meanwhile (shape n limit) d.pass.number g.call begun.seen d.pass.seen d.history l
         (record { rest = d.saw.seen.more; is = d.saw.seen.is; none_own = own-between d.pass.number d.saw.seen.more d.pass.seen (sym (ap (own d.pass.number) d.saw.seen.is) ∙ d.saw.own_events) })
-        (subst (λ (p : PassView T). Deeds (shape n limit) p.number l begun.seen p.seen) (sym same_pass) g.deeds)
+        (subst (λ (p : PassView T). Deeds (shape n limit) p.number g.call l begun.seen p.seen) (sym same_pass) g.deeds)
 
     -- and all that it has done since its operation was begun
     pub adds_by : (events : List (Event T)) → own d.pass.number (d.out.events ++ deeds_then.between) ≡ events → Adds begun (pass_of v') events
@@ -176,6 +183,7 @@ module _ {T : Type 0} where
     number = g.number;
     steps = g.steps;
     seen = g.seen;
+    call = g.call;
     deeds = g.deeds;
     tells = g.tells;
   }
@@ -192,20 +200,32 @@ module _ {T : Type 0} where
     number = refl;
     steps = omega arith;
     seen = Later-refl (pass_of v).seen;
+    call = first_call o;
     deeds = first_deeds o;
     tells = first_tells o;
   }
     where
-      first_deeds : (o : Operation T) → Deeds (shape n limit) (pass_of v).number (first_line o) (pass_of v).seen (pass_of v).seen
-      first_deeds (PutFirst x) = record { between = []; is = refl; made = refl; all = tt }
-      first_deeds TakeFirst = record { between = []; is = refl; made = refl; all = tt }
-      first_deeds CloseFirst = record { between = []; is = refl; made = refl; all = tt }
-      first_deeds ShutFirst = record { between = []; is = refl; made = refl; all = tt }
-      first_deeds LookFirst = record { between = []; is = refl; made = refl; all = tt }
+      first_call : Operation T → Call T
+      first_call (PutFirst x) = CallPut x.value []
+      first_call TakeFirst = CallTake One
+      first_call CloseFirst = CallClose
+      first_call ShutFirst = CallShut
+      first_call LookFirst = CallLook
+      first_call Underway = CallLook
+      first_call (FoldFirst front) = CallTake (Whole (direction front))
+      first_call (RangeFirst End) = CallLook
+      first_call (RangeFirst (More' x marker others)) = CallPut x.value (values_of others)
+
+      first_deeds : (o : Operation T) → Deeds (shape n limit) (pass_of v).number (first_call o) (first_line o) (pass_of v).seen (pass_of v).seen
       first_deeds Underway = record { between = []; is = refl; made = refl; all = tt }
-      first_deeds (FoldFirst front) = record { between = []; is = refl; made = refl; all = tt }
-      first_deeds (RangeFirst End) = record { between = []; is = refl; made = refl; all = tt }
-      first_deeds (RangeFirst (More' x marker others)) = record { between = []; is = refl; made = refl; all = tt }
+      first_deeds (PutFirst x) = record { between = []; is = refl; made = (refl, refl); all = tt }
+      first_deeds TakeFirst = record { between = []; is = refl; made = (refl, refl); all = tt }
+      first_deeds CloseFirst = record { between = []; is = refl; made = (refl, refl); all = tt }
+      first_deeds ShutFirst = record { between = []; is = refl; made = (refl, refl); all = tt }
+      first_deeds LookFirst = record { between = []; is = refl; made = (refl, refl); all = tt }
+      first_deeds (FoldFirst front) = record { between = []; is = refl; made = (refl, refl); all = tt }
+      first_deeds (RangeFirst End) = record { between = []; is = refl; made = (refl, refl); all = tt }
+      first_deeds (RangeFirst (More' x marker others)) = record { between = []; is = refl; made = (refl, refl); all = tt }
 
       first_tells : (o : Operation T) → Tells n limit (pass_of v).seen (pass_of v).seen (first_line o)
       first_tells (PutFirst x) = tt

@@ -32,7 +32,7 @@ use Rattle.treiber_stack.specs.Rule.{line_in}
 use Rattle.treiber_stack.specs.Stack.{pass_in}
 use Rattle.treiber_stack.specs.declared.operation.Operation.TheVariants.{Underway}
 use Rattle.treiber_stack.specs.declared.ranging.Held.{Held}
-use Rattle.treiber_stack.specs.declared.ranging.RangeRefused.TheVariants.{Closed, Spent}
+use Rattle.bounded_model.specs.declared.bulk.RangeRefused.TheVariants.{Closed, Spent}
 use Rattle.treiber_stack.specs.declared.stack.Stack.{Stack}
 use Rattle.treiber_stack.specs.declared.stack.Pass.{Pass}
 use Rattle.treiber_stack.proofs.Going.{begun_going}

@@ -25,6 +25,7 @@ use Rattle.stack_machine.specs.Answers.{shape}
 use Rattle.stack_machine.specs.Deeds.{handed_back}
 use Rattle.machine.specs.Seats.{pass_of}
 use Rattle.machine.proofs.Chains.{home_here}
+use Rattle.stack_machine.proofs.Made.{made_refusal}
 use Rattle.treiber_stack.specs.declared.operation.Operation.{Operation}
 use Rattle.treiber_stack.specs.declared.operation.Operation.TheVariants.{Put as PutFirst}
 use Rattle.std.specs.declared.snapshot.Snapshot.{Snapshot}
@@ -157,7 +158,7 @@ module _ {T : Type 0} {n limit : ℕ} {o : Operation T} {v v' : View T (Line T)}
         adds_by g d (Put begun.number (x ∷ []) (tag_of w) ∷ Hold begun.number ∷ [])
         (ap (λ (y : Outcome T). own p (y.events ++ before)) (swap_top_out true (won_top e))
         ∙ own-mine p (Put p (x ∷ []) (tag_of w)) before refl
-        ∙ ap (λ (h : List (Event T)). Put p (x ∷ []) (tag_of w) ∷ h) (deeds_then g d).made
+        ∙ ap (λ (h : List (Event T)). Put p (x ∷ []) (tag_of w) ∷ h) (deeds_then g d).made.1
         ∙ ap (λ (k : ℕ). Put k (x ∷ []) (tag_of w) ∷ Hold k ∷ []) (number_after g d))
 
     swap_top_gives : found ≡ w → Ended n limit v' begun (AnswerPut (Ok (tag_of w, []))) × PutGives (shape n limit) begun x (pass_of v') (Ok (tag_of w)) × IsLine n limit v v' (SwapTop (bearing x i) (fields_of w)) (ends (AnswerPut (Ok (tag_of w, []))))
@@ -193,7 +194,7 @@ module _ {T : Type 0} {n limit : ℕ} {o : Operation T} {v v' : View T (Line T)}
     load_top_to_refuse_spent t is e h = subst (λ (k : ℕ). Ends n limit v v' begun (LoadTopToRefuse (y ∷ [])) (AnswerPut (Err (Spent (y ∷ []) TopWord k)))) (sym is) (load_top_to_refuse_spends e h)
 
     load_top_to_refuse_adds : Adds begun (pass_of v') []
-    load_top_to_refuse_adds = adds_by g d [] (ap (λ (x : Outcome T). own d.pass.number (x.events ++ (deeds_then g d).between)) (out_at g d) ∙ (deeds_then g d).made)
+    load_top_to_refuse_adds = adds_by g d [] (ap (λ (x : Outcome T). own d.pass.number (x.events ++ (deeds_then g d).between)) (out_at g d) ∙ (deeds_then g d).made.1)
 
     -- no node was free, and the pass has done nothing
     pub load_top_to_refuse_full : mark_of w ≡ false → tag_of w < limit → Ended n limit v' begun (AnswerPut (Err (Full (y ∷ [])))) × Adds begun (pass_of v') [] × IsLine n limit v v' (LoadTopToRefuse (y ∷ [])) (refused (Full (y ∷ [])))
@@ -209,8 +210,8 @@ module _ {T : Type 0} {n limit : ℕ} {begun : PassView T} where
       subst (λ (k : Line T). Bears k i (Some x)) (sym is) (home_here (λ _. none) i (some (Some x)))
 
   backs : {v : View T (Line T)} (why : PutRefused (List T)) → length (handed_back why) ≡ 1 → Ended n limit v begun (AnswerPut (Err why)) → BacksOut begun (pass_of v) 1
-  backs why one e =
-      let made = e.deeds.made in
+  backs {v} why one e =
+      let made = made_refusal (pass_of v).number (own (pass_of v).number e.deeds.between) e.call why e.deeds.made in
       let most = made.at_most in
       record { held = made.nodes; at_most = omega arith; adds = adds_of e (gave_back begun.number made.nodes) (made.is ∙ ap (λ (k : ℕ). gave_back k made.nodes) e.number) }
 

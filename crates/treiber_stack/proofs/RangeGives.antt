@@ -11,11 +11,11 @@ use Rattle.stack_machine.specs.declared.lines.Answer.TheVariants.{Put as AnswerP
 use Rattle.stack_machine.specs.declared.lines.Giving.{Giving}
 use Rattle.treiber_stack.specs.Folding.{Gave}
 use Rattle.treiber_stack.specs.Operations.{Ended, begun_in}
-use Rattle.treiber_stack.specs.Places.{somes}
-use Rattle.treiber_stack.specs.Ranging.{NotPut, Backs, PutFront, PutsRange, Placed, places_from, of_range}
+use Rattle.bounded_model.specs.Bulk.{somes, PutsFront, PutsNone, PutsRange}
+use Rattle.treiber_stack.specs.Ranging.{NotPut, Backs, Placed, places_from, of_range}
 use Rattle.treiber_stack.specs.Stack.{pass_in, shape_of}
-use Rattle.treiber_stack.specs.declared.ranging.RangeRefused.{RangeRefused}
-use Rattle.treiber_stack.specs.declared.ranging.RangeRefused.TheVariants.{Nothing, Full, Closed, Spent}
+use Rattle.bounded_model.specs.declared.bulk.RangeRefused.{RangeRefused}
+use Rattle.bounded_model.specs.declared.bulk.RangeRefused.TheVariants.{Nothing, Full, Closed, Spent}
 use Rattle.treiber_stack.specs.declared.stack.Stack.{Stack}
 use Rattle.treiber_stack.specs.declared.stack.Pass.{Pass}
 use Rattle.treiber_stack.proofs.Collecting.{backs_out}
@@ -56,18 +56,21 @@ module _ {T : Type 0} where
   length_places (suc k) (v ∷ vs) h = ap suc (length_places k vs (omega arith))
 
   -- a refusal of a range that is not empty
-  pub not_put_gives : (c : Shape) (v w : PassView T) (old new : List (Slot T)) (vs : List T) (why : RangeRefused) → old ≡ map Some vs → 0 < length vs → new ≡ map Some vs → NotPut c v (length vs) w why → PutsRange c v old new w (Err why)
-  not_put_gives c v w old new vs Nothing is h same refusal = absurd refusal
-  not_put_gives c v w old new vs Full is h same refusal = (long is h, same ∙ sym is, refusal)
+  pub not_put_gives : (c : Shape) (v w : PassView T) (old new : List (Slot T)) (vs : List T) (why : RangeRefused) → old ≡ map Some vs → 0 < length vs → new ≡ map Some vs → NotPut c v (length vs) w why
+      → PutsRange (record { shape = c; from = v; to = w }) old new (Err why)
+  not_put_gives c v w old new vs why is h same refusal =
+      let many : length vs ≡ length old = sym (ap length is ∙ length_some vs) in
+      (same ∙ sym is, puts_none why (length old) (subst (λ (k : ℕ). 0 < k) many h) (subst (λ (k : ℕ). NotPut c v k w why) many refusal))
     where
-      long : old ≡ map Some vs → 0 < length vs → 0 < length old
-      long e h = subst (λ (k : ℕ). 0 < k) (sym (ap length e ∙ length_some vs)) h
-  not_put_gives c v w old new vs Closed is h same refusal = (subst (λ (k : ℕ). 0 < k) (sym (ap length is ∙ length_some vs)) h, same ∙ sym is, subst (λ (k : ℕ). NotPut c v k w Closed) (sym (ap length is ∙ length_some vs)) refusal)
-  not_put_gives c v w old new vs (Spent word t) is h same refusal = (subst (λ (k : ℕ). 0 < k) (sym (ap length is ∙ length_some vs)) h, same ∙ sym is, subst (λ (k : ℕ). NotPut c v k w (Spent word t)) (sym (ap length is ∙ length_some vs)) refusal)
+      puts_none : (why : RangeRefused) (most : ℕ) → 0 < most → NotPut c v most w why → PutsNone (record { shape = c; from = v; to = w }) most why
+      puts_none Nothing most some r = absurd r
+      puts_none Full most some r = (some, r.0, r.1)
+      puts_none Closed most some r = (some, r.0, r.1)
+      puts_none (Spent word t) most some r = (some, r.0, r.1)
 
   -- the values that were put
   pub put_gives : (c : Stack T) (v : PassView T) (old new : List (Slot T)) (vs : List T) (k : ℕ) (q : Pass T) (number : ℕ) → old ≡ map Some vs → 0 < k → k ≤ length vs → new ≡ places_from k vs → Placed c v vs k q number
-      → PutFront (shape_of c) v old new (pass_in q) (record { number = number; count = k })
+      → PutsFront (record { shape = shape_of c; from = v; to = pass_in q }) old new (record { number = number; count = k })
   put_gives c v old new vs k q number is h few same p = record {
     some_value = h;
     at_most = subst (λ (x : ℕ). k ≤ x) (sym (ap length is ∙ length_some vs)) few;

@@ -159,7 +159,7 @@ module _ {T : Type 0} {n limit : ℕ} {o : Operation T} {v v' : View T (Line T)}
         adds_by g d (Put begun.number (placed put) (tag_of w) ∷ holds_of begun.number (length put.chain))
         (ap (λ (y : Outcome T). own p (y.events ++ before)) (tried true (won_top e))
         ∙ own-mine p (Put p (placed put) (tag_of w)) before refl
-        ∙ ap (λ (h : List (Event T)). Put p (placed put) (tag_of w) ∷ h) (deeds_then g d).made
+        ∙ ap (λ (h : List (Event T)). Put p (placed put) (tag_of w) ∷ h) (deeds_then g d).made.1
         ∙ ap (λ (k : ℕ). Put k (placed put) (tag_of w) ∷ holds_of k (length put.chain)) (number_after g d))
 
     pub swap_top_again : found ≢ w → Goes n limit o' v v' begun (SwapTop put (fields_of w)) (LoadTop put)
@@ -190,5 +190,5 @@ module _ {T : Type 0} {n limit : ℕ} {o : Operation T} {v v' : View T (Line T)}
     pub load_top_to_refuse_full : mark_of w ≡ false → tag_of w < limit → Ends n limit v v' begun (LoadTopToRefuse values) (AnswerPut (Err (Full values))) × Adds begun (pass_of v') []
     load_top_to_refuse_full e h = (
       ends_so g d (AnswerPut (Err (Full values))) (denies_open e ∙ ap (λ (b : Bool). cond b (refused (Spent values TopWord (tag_of w))) (refused (Full values))) (leb_not limit (tag_of w) h)),
-      adds_by g d [] (ap (λ (x : Outcome T). own d.pass.number (x.events ++ (deeds_then g d).between)) (out_at g d) ∙ (deeds_then g d).made),
+      adds_by g d [] (ap (λ (x : Outcome T). own d.pass.number (x.events ++ (deeds_then g d).between)) (out_at g d) ∙ (deeds_then g d).made.1),
     )

@@ -35,7 +35,7 @@ use Rattle.treiber_stack.specs.declared.operation.Operation.{Operation}
 use Rattle.treiber_stack.specs.declared.operation.Listed.TheVariants.{End, More'}
 use Rattle.treiber_stack.specs.declared.operation.Operation.TheVariants.{Put as PutFirst, Take as TakeFirst, Close as CloseFirst, Shut as ShutFirst, Look as LookFirst, Fold as FoldFirst, Range as RangeFirst, Underway}
 use Rattle.treiber_stack.specs.declared.ranging.Held.{Held}
-use Rattle.treiber_stack.specs.declared.ranging.RangeRefused.{RangeRefused}
+use Rattle.bounded_model.specs.declared.bulk.RangeRefused.{RangeRefused}
 use Rattle.treiber_stack.specs.declared.stack.Stack.{Stack}
 use Rattle.treiber_stack.specs.declared.stack.Pass.{Pass}
 use Rattle.treiber_stack.proofs.Going.{begun_going}
@@ -119,8 +119,9 @@ module _ {T : Type 0} where
         number = adds.number ∙ g.number;
         steps = omega arith;
         seen = Later-trans g.seen (record { more = adds.between; is = adds.seen });
-        deeds = subst (λ (k : ℕ). Deeds (shape n limit) k l begun.seen q.seen) (sym adds.number)
-            (meanwhile (shape n limit) g.pass.number begun.seen g.pass.seen q.seen l (record { rest = adds.between; is = adds.seen; none_own = adds.own_events }) g.deeds);
+        call = g.call;
+        deeds = subst (λ (k : ℕ). Deeds (shape n limit) k g.call l begun.seen q.seen) (sym adds.number)
+            (meanwhile (shape n limit) g.pass.number g.call begun.seen g.pass.seen q.seen l (record { rest = adds.between; is = adds.seen; none_own = adds.own_events }) g.deeds);
         tells = Sometime-wider (Later-refl begun.seen) (record { more = adds.between; is = adds.seen }) g.tells;
       }
 

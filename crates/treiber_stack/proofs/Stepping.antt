@@ -1,5 +1,5 @@
 -- A stack's steps are those of a stepwise container.
-use Rattle.std.proofs.Common.{◌≡◌, ℕ, Bool, Result}
+use Rattle.std.proofs.Common.{ℕ, Bool, Result}
 use Rattle.bounded_model.specs.declared.answers.Stepped.{Stepped}
 use Rattle.bounded_model.specs.declared.answers.Stepped.TheVariants.{Again, Done}
 use Rattle.bounded_model.specs.declared.answers.PutRefused.{PutRefused}

@@ -23,6 +23,8 @@ use Rattle.machine.specs.declared.seats.View.{View}
 use Rattle.stack_machine.specs.Machine.{Outcome, held, ends, at_load_top_to_take, goes_on as core_goes_on, wins, wins_value, after_give}
 use Rattle.stack_machine.specs.Answers.{shape}
 use Rattle.machine.specs.Seats.{pass_of}
+use Rattle.stack_machine.proofs.Made.{made_take, made_no_take}
+use Rattle.bounded_model.specs.Histories.{own}
 use Rattle.treiber_stack.specs.declared.operation.Operation.{Operation}
 use Rattle.treiber_stack.specs.Host.{Makes, may_step, steps_in, Did}
 use Rattle.treiber_stack.specs.Rule.{line_in}
@@ -152,8 +154,8 @@ module _ {T : Type 0} {n limit : ℕ} {o : Operation T} {v v' : View T (Line T)}
 
 module _ {T : Type 0} {n limit : ℕ} {v v' : View T (Line T)} {begun : PassView T} {l : Line T} where
   pub take_gives : (r : Result (T × ℕ) TakeRefused) → Ends n limit v v' begun l (AnswerTake r) → TakeGives (shape n limit) begun (pass_of v') r × IsLine n limit v v' l (ends (AnswerTake r))
-  take_gives (Ok r) (e, line) = (adds_of e (Free begun.number 1 ∷ Take begun.number r.0 r.1 ∷ []) (e.deeds.made ∙ ap (λ (k : ℕ). Free k 1 ∷ Take k r.0 r.1 ∷ []) e.number), line)
-  take_gives (Err why) (e, line) = ((adds_of e [] e.deeds.made, e.tells), line)
+  take_gives (Ok r) (e, line) = (adds_of e (Free begun.number 1 ∷ Take begun.number r.0 r.1 ∷ []) (made_take (pass_of v').number (own (pass_of v').number e.deeds.between) e.call r e.deeds.made ∙ ap (λ (k : ℕ). Free k 1 ∷ Take k r.0 r.1 ∷ []) e.number), line)
+  take_gives (Err why) (e, line) = ((adds_of e [] (made_no_take (pass_of v').number (own (pass_of v').number e.deeds.between) e.call why e.deeds.made), e.tells), line)
 
 module _ {T : Type 0} where
   pub front_slot : (zs us vs : List (ℕ × Slot T)) (i j : ℕ) (x y : Slot T) → zs ≡ (i, x) ∷ us → zs ≡ (j, y) ∷ vs → x ≡ y

@@ -3,6 +3,7 @@ use Rattle.std.specs.Prelude.{◌≡◌, ℕ, Bool, [], Option as Slot, Some, No
 use Rattle.tagged_index.specs.Fields.{fields_of}
 use Rattle.bounded_model.specs.declared.answers.Stepped.{Stepped}
 use Rattle.bounded_model.specs.declared.answers.Stepped.TheVariants.{Again, Done}
+use Rattle.bounded_model.specs.declared.views.PassView.{PassView}
 use Rattle.bounded_model.specs.Laws.{CloseGives, ShutGives}
 use Rattle.stack_machine.specs.declared.lines.Answer.TheVariants.{Close as AnswerClose, Shut as AnswerShut}
 use Rattle.stack_machine.specs.declared.lines.Line.{Line}
@@ -41,11 +42,11 @@ module _ {T : Type 0} where
   ShutStep c p seen (Again next) = IsShutting c next × GoesOn c p next.pass (shut_line seen) (shut_line next.seen)
   ShutStep c p seen (Done q b) = IsPassOf c q × ShutGives (shape_of c) (begun_in p) (pass_in q) b × IsLineOf c p q (shut_line seen) (ends (AnswerShut b))
 
-  -- what several steps give
-  abbrev pub CloseRun : Stack T → Pass T → Stepped (CloseOp T) (Pass T) Bool → Type 0
-  CloseRun c p (Again next) = IsClosing c next × (begun_in next.pass ≡ begun_in p)
-  CloseRun c p (Done q b) = IsPassOf c q × CloseGives (shape_of c) (begun_in p) (pass_in q) b
+  -- what several steps give, of an operation that was begun as the pass was `begun`
+  abbrev pub CloseRun : Stack T → PassView T → Stepped (CloseOp T) (Pass T) Bool → Type 0
+  CloseRun c begun (Again next) = IsClosing c next × (begun_in next.pass ≡ begun)
+  CloseRun c begun (Done q b) = IsPassOf c q × CloseGives (shape_of c) begun (pass_in q) b
 
-  abbrev pub ShutRun : Stack T → Pass T → Stepped (ShutOp T) (Pass T) Bool → Type 0
-  ShutRun c p (Again next) = IsShutting c next × (begun_in next.pass ≡ begun_in p)
-  ShutRun c p (Done q b) = IsPassOf c q × ShutGives (shape_of c) (begun_in p) (pass_in q) b
+  abbrev pub ShutRun : Stack T → PassView T → Stepped (ShutOp T) (Pass T) Bool → Type 0
+  ShutRun c begun (Again next) = IsShutting c next × (begun_in next.pass ≡ begun)
+  ShutRun c begun (Done q b) = IsPassOf c q × ShutGives (shape_of c) begun (pass_in q) b

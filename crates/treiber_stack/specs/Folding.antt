@@ -1,14 +1,12 @@
--- Folds: what they promise, and where a pass stands in one.
+-- Folds: where a pass stands in one.
 use Rattle.std.specs.Prelude.{◌≡◌, ◌≢◌, ℕ, ◌<◌, ◌≤◌, false, List, [], ◌∷◌, ◌++◌, length, reverse, Option as Slot, Some, Result, Ok, Err}
 use Rattle.tagged_index.specs.Fields.{fields_of, index_of, tag_of, second_of}
 use Rattle.tagged_index.specs.Limits.{capacity_of, tag_limit_of}
 use Rattle.tagged_index.specs.declared.word.TheConstants.{NULL}
 use Rattle.bounded_model.specs.declared.answers.TakeRefused.{TakeRefused}
 use Rattle.bounded_model.specs.declared.history.Event.TheVariants.{TakeAll, Free}
-use Rattle.bounded_model.specs.declared.views.PassView.{PassView}
 use Rattle.bounded_model.specs.Histories.{own}
-use Rattle.bounded_model.specs.Machine.{Shape}
-use Rattle.bounded_model.specs.Laws.{TakesNothing, FoldGives}
+use Rattle.bounded_model.specs.Laws.{TakesNothing}
 use Rattle.bounded_model.specs.Consumes.{Folds}
 use Rattle.index_list.specs.declared.front.Front.{Front}
 use Rattle.index_list.specs.declared.front.Front.TheVariants.{First, Last}
@@ -24,26 +22,16 @@ use Rattle.treiber_stack.specs.Host.{direction}
 use Rattle.treiber_stack.specs.Operations.{IsAt, Ended, begun_in, vacant}
 use Rattle.treiber_stack.specs.Stack.{shape_of, pass_in, IsPassOf}
 use Rattle.treiber_stack.specs.declared.folding.Chain.{Chain}
-use Rattle.treiber_stack.specs.declared.folding.Folded.{Folded}
 use Rattle.treiber_stack.specs.declared.folding.Walked.{Walked}
 use Rattle.treiber_stack.specs.declared.operation.Operation.{Operation}
 use Rattle.treiber_stack.specs.declared.operation.Operation.TheVariants.{Underway}
 use Rattle.treiber_stack.specs.declared.stack.Stack.{Stack}
 use Rattle.treiber_stack.specs.declared.stack.Pass.{Pass}
 
--- What a fold promises
-
 -- values in the order of a fold; they stand from the top down
 abbrev pub in_order : {T : Type 0} → Front → List T → List T
 in_order First values = values
 in_order Last values = reverse values
-
--- An accepted fold has taken some values by one exchange and given back their nodes by another, and
--- f made t of s and them, one after another; `Gives s x t` says that f may answer t on s and x. A
--- refused one has done nothing
-abbrev pub FoldsAll : {T S : Type 0} → Shape → Front → (S → T → S → Type 0) → PassView T → S → PassView T → S → Result Folded TakeRefused → Type 0
-FoldsAll {T} c front Gives v s w t (Ok r) = (values : List T) × FoldGives v w values r.number × (r.count ≡ length values) × Folds Gives s (in_order front values) t
-FoldsAll c front Gives v s w t (Err why) = TakesNothing c v w why × (t ≡ s)
 
 -- Where a pass stands in one
 

@@ -16,6 +16,7 @@ use Rattle.stack_machine.specs.declared.lines.Putting.{Putting}
 use Rattle.stack_machine.specs.declared.lines.Direction.{Direction}
 use Rattle.stack_machine.specs.declared.lines.Direction.TheVariants.{Down, Up}
 use Rattle.stack_machine.specs.declared.lines.Taking.TheVariants.{One, Whole}
+use Rattle.stack_machine.specs.declared.lines.Call.{Call}
 use Rattle.stack_machine.specs.declared.lines.Line.{Line}
 use Rattle.stack_machine.specs.declared.lines.Line.TheVariants.{Idle, LoadFree, LoadFreeLink, TakeFree, LinkTaken, LoadTop, LinkToTop, SwapTop, LoadTopToRefuse, LoadTopToTake, LoadTopLink, TakeTop, TakeChain, LoadLinkToTurn, TurnLink, LoadLinkToFold, LoadFreeToGive, LinkToFree, GiveBack, LoadTopToClose, MarkTop, LoadTopToShut, ShutTop, LoadTopToLook}
 use Rattle.machine.specs.declared.seats.View.{View}
@@ -26,6 +27,7 @@ use Rattle.stack_machine.specs.Answers.{shape, state}
 use Rattle.stack_machine.specs.Rule.{Tells}
 use Rattle.stack_machine.specs.Deeds.{Deeds}
 use Rattle.machine.specs.Seats.{Saw, stepped}
+use Rattle.treiber_stack.specs.declared.layout.TheConstants.{FREE, TOP}
 use Rattle.treiber_stack.specs.Places.{values_of}
 use Rattle.treiber_stack.specs.declared.operation.Listed.TheVariants.{End, More'}
 use Rattle.treiber_stack.specs.Rule.{idle, line_in, holding, Meets}
@@ -71,14 +73,14 @@ module _ {T : Type 0} where
   -- the step that a line makes: on which list and with which words
 
   abbrev pub reads_top_of : Line T → Option ℕ
-  reads_top_of (LoadFree put) = some 0
-  reads_top_of (LoadFreeToGive giving) = some 0
-  reads_top_of (LoadTop put) = some 1
-  reads_top_of (LoadTopToRefuse values) = some 1
-  reads_top_of (LoadTopToTake taking) = some 1
-  reads_top_of LoadTopToClose = some 1
-  reads_top_of LoadTopToShut = some 1
-  reads_top_of LoadTopToLook = some 1
+  reads_top_of (LoadFree put) = some FREE
+  reads_top_of (LoadFreeToGive giving) = some FREE
+  reads_top_of (LoadTop put) = some TOP
+  reads_top_of (LoadTopToRefuse values) = some TOP
+  reads_top_of (LoadTopToTake taking) = some TOP
+  reads_top_of LoadTopToClose = some TOP
+  reads_top_of LoadTopToShut = some TOP
+  reads_top_of LoadTopToLook = some TOP
   reads_top_of l = none
 
   abbrev pub reads_link_of : Line T → Option ℕ
@@ -96,8 +98,8 @@ module _ {T : Type 0} where
   stores_of l = none
 
   abbrev pub takes_of : Line T → Option (ℕ × (Tagged × ℕ))
-  takes_of (TakeFree put w k) = some (0, (w, k))
-  takes_of (TakeTop w k) = some (1, (w, k))
+  takes_of (TakeFree put w k) = some (FREE, (w, k))
+  takes_of (TakeTop w k) = some (TOP, (w, k))
   takes_of l = none
 
   abbrev pub takes_all_of : Line T → Option Tagged
@@ -132,9 +134,9 @@ module _ {T : Type 0} where
   Makes list (take w k) l = (takes_of l ≡ some (list, (fields_of w, k))) × (k ≤ NULL)
   Makes list (give w i) l = ⊥
   Makes list (give_chain w i) l = MakesGive list w i l
-  Makes list (take_all w) l = (list ≡ 1) × (takes_all_of l ≡ some (fields_of w))
-  Makes list (mark w) l = (list ≡ 1) × (marks_of l ≡ some (fields_of w))
-  Makes list (shut w) l = (list ≡ 1) × (shuts_of l ≡ some (fields_of w))
+  Makes list (take_all w) l = (list ≡ TOP) × (takes_all_of l ≡ some (fields_of w))
+  Makes list (mark w) l = (list ≡ TOP) × (marks_of l ≡ some (fields_of w))
+  Makes list (shut w) l = (list ≡ TOP) × (shuts_of l ≡ some (fields_of w))
 
   -- a pass may make exactly the step that it is at
   abbrev pub may_step : Operation T → ℕ → Kind → View T (Line T) → Type 0
@@ -199,7 +201,7 @@ pub record Did {T : Type 0} (n limit : ℕ) (o : Operation T) (list : ℕ) (kind
   pub moves : Moves list kind found zs memory
   pub saw : Saw history pass
   pub becomes : v' ≡ view_after (stepped (out.events ++ history) pass) (begun_now pass from at) out.line
-  pub deeds : (b : List (Event T)) → Deeds (shape n limit) pass.number (line_now o at) b pass.seen → Deeds (shape n limit) pass.number out.line b (out.events ++ history)
+  pub deeds : (b : List (Event T)) (call : Call T) → Deeds (shape n limit) pass.number call (line_now o at) b pass.seen → Deeds (shape n limit) pass.number call out.line b (out.events ++ history)
   pub tells : (b : List (Event T)) → Later b pass.seen → Tells n limit b pass.seen (line_now o at) → Tells n limit b (out.events ++ history) out.line
   pub legal : Legal (shape n limit) (out.events ++ history)
   pub hand : (state n limit (out.events ++ history)).hand pass.number ≡ holding out.line

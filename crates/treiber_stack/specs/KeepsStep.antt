@@ -25,7 +25,8 @@ use Rattle.machine.proofs.Seating.{seated_step}
 use Rattle.stack_machine.proofs.Moves.{Kept, good_goes}
 use Rattle.stack_machine.proofs.Step.{step_kept}
 use Rattle.stack_machine.proofs.Tells.{tells_kept, step_apart}
-use Rattle.stack_machine.proofs.Doing.{Ahead, meanwhile, step_does}
+use Rattle.stack_machine.proofs.Doing.{meanwhile, step_does}
+use Rattle.machine.proofs.Ahead.{Ahead}
 use Rattle.stack_machine.proofs.Start.{reads_good}
 use Rattle.treiber_stack.specs.declared.operation.Operation.{Operation}
 use Rattle.treiber_stack.specs.declared.operation.Listed.TheVariants.{End, More'}
@@ -214,7 +215,7 @@ module _ {T : Type 0} (n limit : ℕ) (o : Operation T) (id at : ℕ) (p from : 
       moves = moves;
       saw = saw;
       becomes = refl;
-      deeds = λ b d. step_does n limit p.number b r.history m r.lists now (reads_good n limit m r.lists (who s.views) (set lines id now) r.history id now ready ready_here) (ready.linked.fine id now ready_here) (meanwhile c p.number b p.seen r.history now ahead d);
+      deeds = λ b call d. step_does n limit p.number call b r.history m r.lists now (reads_good n limit m r.lists (who s.views) (set lines id now) r.history id now ready ready_here) (ready.linked.fine id now ready_here) (meanwhile c p.number call b p.seen r.history now ahead d);
       tells = λ b before t. tells_kept ready p.number b p.seen before saw.seen now t;
       legal = quieted.told.legal;
       hand = hand_after;

@@ -24,7 +24,7 @@ use Rattle.machine.specs.Chains.{with_home, HasValues}
 use Rattle.stack_machine.specs.Answers.{shape, state}
 use Rattle.stack_machine.specs.Rule.{Lists, IsFine, Good}
 use Rattle.machine.proofs.OneList.{ready}
-use Rattle.stack_machine.proofs.Filled.{first_value}
+use Rattle.machine.proofs.Chains.{first_value}
 use Rattle.stack_machine.proofs.Moves.{hold_slot}
 use Rattle.treiber_stack.specs.declared.operation.Operation.{Operation}
 use Rattle.treiber_stack.specs.Layout.{top_at, link_at}

@@ -7,6 +7,7 @@ use Rattle.bounded_model.specs.Histories.{Later}
 use Rattle.bounded_model.specs.Laws.{IsAtRest}
 use Rattle.bounded_model.specs.Stepping.{Underway, OneStep}
 use Rattle.stack_machine.specs.declared.lines.Answer.{Answer}
+use Rattle.stack_machine.specs.declared.lines.Call.{Call}
 use Rattle.stack_machine.specs.declared.lines.Line.{Line}
 use Rattle.stack_machine.specs.declared.lines.Line.TheVariants.{Idle}
 use Rattle.machine.specs.declared.seats.View.{View}
@@ -16,6 +17,7 @@ use Rattle.stack_machine.specs.Rule.{Tells}
 use Rattle.stack_machine.specs.Deeds.{Deeds}
 use Rattle.stack_machine.specs.Machine.{Memory, step}
 use Rattle.machine.specs.Seats.{Saw, at_rest, pass_of}
+use Rattle.treiber_stack.specs.declared.layout.TheConstants.{TOP}
 use Rattle.treiber_stack.specs.Rule.{idle, Meets}
 use Rattle.tagged_index.specs.Fields.{index_of}
 use Rattle.index_list.specs.declared.front.Front.{Front}
@@ -38,7 +40,8 @@ module _ {T : Type 0} where
     pub number : pass.number ≡ begun.number
     pub steps : begun.steps ≤ pass.steps
     pub seen : Later begun.seen pass.seen
-    pub deeds : Deeds (shape n limit) pass.number l begun.seen pass.seen
+    pub call : Call T
+    pub deeds : Deeds (shape n limit) pass.number call l begun.seen pass.seen
     pub tells : Tells n limit begun.seen pass.seen l
 
   -- its operation has answered
@@ -48,7 +51,8 @@ module _ {T : Type 0} where
     pub number : (pass_of v).number ≡ begun.number
     pub steps : begun.steps < (pass_of v).steps
     pub seen : Later begun.seen (pass_of v).seen
-    pub deeds : Deeds (shape n limit) (pass_of v).number (Idle (Some a)) begun.seen (pass_of v).seen
+    pub call : Call T
+    pub deeds : Deeds (shape n limit) (pass_of v).number call (Idle (Some a)) begun.seen (pass_of v).seen
     pub tells : Tells n limit begun.seen (pass_of v).seen (Idle (Some a))
 
   -- A step of a pass, whose view was v and is v', was the core's step of the line l, from a memory and a history that meet the core's rule, and led to l'.
@@ -123,7 +127,7 @@ module _ {T : Type 0} where
   pub record TakesAll (c : Stack T) (o : Operation T) (front : Front) (w : ℕ) (p q : Pass T) : Type 0 where
     pub slots : List (ℕ × Slot T)
     pub has : q.seat.me.1 ≡ arranged front slots ++ p.seat.me.1
-    pub told : Told c o 1 (take_all w) w slots p q
+    pub told : Told c o TOP (take_all w) w slots p q
 
   -- the emptied slots of a chain
   abbrev pub vacant : List ℕ → List (ℕ × Slot T)

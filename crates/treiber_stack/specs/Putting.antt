@@ -8,6 +8,7 @@ use Rattle.bounded_model.specs.declared.answers.Stepped.{Stepped}
 use Rattle.bounded_model.specs.declared.answers.Stepped.TheVariants.{Again, Done}
 use Rattle.bounded_model.specs.declared.answers.PutRefused.{PutRefused}
 use Rattle.bounded_model.specs.declared.answers.PutRefused.TheVariants.{Full, Closed, Spent}
+use Rattle.bounded_model.specs.declared.views.PassView.{PassView}
 use Rattle.bounded_model.specs.Laws.{PutGives}
 use Rattle.stack_machine.specs.declared.lines.Answer.{Answer}
 use Rattle.stack_machine.specs.declared.lines.Answer.TheVariants.{Put as AnswerPut}
@@ -125,7 +126,7 @@ module _ {T : Type 0} where
   PutStep c x p at (Again next) = IsPutting c x next × GoesOn c p next.pass (put_line x at) (put_line x next.at)
   PutStep c x p at (Done q r) = IsPassOf c q × PutGives (shape_of c) (begun_in p) x (pass_in q) r × IsLineOf c p q (put_line x at) (ends (put_answer r))
 
-  -- what several steps give
-  abbrev pub PutRun : Stack T → T → Pass T → Stepped (PutOp T) (Pass T) (Result ℕ (PutRefused T)) → Type 0
-  PutRun c x p (Again next) = IsPutting c x next × (begun_in next.pass ≡ begun_in p)
-  PutRun c x p (Done q r) = IsPassOf c q × PutGives (shape_of c) (begun_in p) x (pass_in q) r
+  -- what several steps give, of a put that was begun as the pass was `begun`
+  abbrev pub PutRun : Stack T → T → PassView T → Stepped (PutOp T) (Pass T) (Result ℕ (PutRefused T)) → Type 0
+  PutRun c x begun (Again next) = IsPutting c x next × (begun_in next.pass ≡ begun)
+  PutRun c x begun (Done q r) = IsPassOf c q × PutGives (shape_of c) begun x (pass_in q) r

@@ -1,4 +1,4 @@
--- Puts of a range: what they promise, and where a pass stands in one.
+-- Puts of a range: where a pass stands in one.
 use Rattle.std.specs.Prelude.{◌≡◌, ◌⊎◌, ℕ, ◌<◌, ◌≤◌, List, [], ◌∷◌, ◌++◌, map, length, reverse, take, drop, replicate, Option as Slot, Some, None, Result, Ok, Err}
 use Rattle.tagged_index.specs.Limits.{capacity_of}
 use Rattle.bounded_model.specs.declared.answers.PutRefused.{PutRefused}
@@ -6,11 +6,11 @@ use Rattle.bounded_model.specs.declared.answers.PutRefused.TheVariants.{Full as 
 use Rattle.bounded_model.specs.declared.answers.Word.TheVariants.{Free as FreeWord}
 use Rattle.bounded_model.specs.declared.views.PassView.{PassView}
 use Rattle.bounded_model.specs.Machine.{Shape}
+use Rattle.bounded_model.specs.Bulk.{HasNoCell}
 use Rattle.bounded_model.specs.Laws.{Adds, BacksOut, RangeGives}
 use Rattle.bounded_model.specs.Justified.{Justified, Sometime}
 use Rattle.bounded_model.specs.Justified as right
 use Rattle.machine.specs.Words.{times}
-use Rattle.stack_machine.specs.Deeds.{HasNoNode}
 use Rattle.stack_machine.specs.declared.lines.Answer.TheVariants.{Put as AnswerPut}
 use Rattle.stack_machine.specs.declared.lines.Giving.{Giving}
 use Rattle.stack_machine.specs.declared.lines.Putting.{Putting}
@@ -20,7 +20,6 @@ use Rattle.machine.specs.Chains.{first, last}
 use Rattle.stack_machine.specs.Machine.{next_node}
 use Rattle.machine.specs.declared.seats.View.{View}
 use Rattle.treiber_stack.specs.Rule.{line_in}
-use Rattle.treiber_stack.specs.Places.{somes}
 use Rattle.treiber_stack.specs.Folding.{full, IsGivingBack}
 use Rattle.treiber_stack.specs.Operations.{IsAt, begun_in, vacant}
 use Rattle.treiber_stack.specs.Stack.{shape_of, pass_in, IsPassOf}
@@ -30,13 +29,10 @@ use Rattle.treiber_stack.specs.declared.operation.Operation.TheVariants.{Underwa
 use Rattle.treiber_stack.specs.declared.ranging.Held.{Held}
 use Rattle.treiber_stack.specs.declared.ranging.NoNode.{NoNode}
 use Rattle.treiber_stack.specs.declared.ranging.NoNode.TheVariants.{NoneFree, Spent as NodeSpent}
-use Rattle.treiber_stack.specs.declared.ranging.Ranged.{Ranged}
-use Rattle.treiber_stack.specs.declared.ranging.RangeRefused.{RangeRefused}
-use Rattle.treiber_stack.specs.declared.ranging.RangeRefused.TheVariants.{Nothing, Full, Closed, Spent}
+use Rattle.bounded_model.specs.declared.bulk.RangeRefused.{RangeRefused}
+use Rattle.bounded_model.specs.declared.bulk.RangeRefused.TheVariants.{Nothing, Full, Closed, Spent}
 use Rattle.treiber_stack.specs.declared.stack.Stack.{Stack}
 use Rattle.treiber_stack.specs.declared.stack.Pass.{Pass}
-
--- What a range put promises
 
 -- why a range that is not empty was refused, and what the pass has done
 abbrev pub NotPut : {T : Type 0} → Shape → PassView T → ℕ → PassView T → RangeRefused → Type 0
@@ -44,20 +40,6 @@ NotPut c v most w Nothing = ⊥
 NotPut c v most w Full = Adds v w [] × Justified c v w right.PutFull
 NotPut c v most w Closed = BacksOut v w most × Justified c v w right.PutClosed
 NotPut c v most w (Spent word t) = BacksOut v w most × Justified c v w (right.PutSpent word t)
-
--- a range that was put from the front: these values went in at once, and their places are empty.
--- Values were left only where no node could be had
-pub record PutFront {T : Type 0} (c : Shape) (v : PassView T) (old new : List (Slot T)) (w : PassView T) (r : Ranged) : Type 0 where
-  pub some_value : 0 < r.count
-  pub at_most : r.count ≤ length old
-  pub gives : RangeGives v (somes (take r.count old)) w r.number
-  pub places : new ≡ replicate r.count None ++ drop r.count old
-  pub all : (r.count ≡ length old) ⊎ Sometime v.seen w.seen (HasNoNode c)
-
-abbrev pub PutsRange : {T : Type 0} → Shape → PassView T → List (Slot T) → List (Slot T) → PassView T → Result Ranged RangeRefused → Type 0
-PutsRange c v old new w (Ok r) = PutFront c v old new w r
-PutsRange c v old new w (Err Nothing) = (old ≡ []) × (new ≡ old) × (w ≡ v)
-PutsRange c v old new w (Err why) = (0 < length old) × (new ≡ old) × NotPut c v (length old) w why
 
 -- Where a pass stands in one
 
@@ -139,7 +121,7 @@ module _ {T : Type 0} where
   pub record Placed (c : Stack T) (v : PassView T) (vs : List T) (k : ℕ) (q : Pass T) (number : ℕ) : Type 0 where
     pub of : IsPassOf c q
     pub gives : RangeGives v (take k vs) (pass_in q) number
-    pub all : (length vs ≡ k) ⊎ Sometime v.seen (pass_in q).seen (HasNoNode (shape_of c))
+    pub all : (length vs ≡ k) ⊎ Sometime v.seen (pass_in q).seen (HasNoCell (shape_of c))
 
   abbrev pub Places : Stack T → Pass T → List T → Held → Pass T → Result ℕ RangeRefused → Type 0
   Places c p vs held q (Ok number) = Placed c (begun_in p) vs held.count q number

@@ -14,6 +14,7 @@ use Rattle.stack_machine.specs.Machine.{Memory, held}
 use Rattle.stack_machine.specs.Answers.{shape}
 use Rattle.stack_machine.specs.Rule.{Lists, Good}
 use Rattle.machine.specs.Seats.{Seated, line_of, left_of, right_of}
+use Rattle.treiber_stack.specs.declared.layout.TheConstants.{FREE, TOP}
 use Rattle.treiber_stack.specs.Layout.{top_at, link_at, words_for}
 
 -- what a slot's place has: its value where it is at home, else nothing
@@ -25,8 +26,8 @@ module _ {T : Type 0} where
   -- the core's memory, read off the table
   abbrev pub memory_of : List ℕ → List (Option (Slot T)) → Memory T
   memory_of words homes = record {
-    free = fields_of (slice_index words (top_at 0));
-    top = fields_of (slice_index words (top_at 1));
+    free = fields_of (slice_index words (top_at FREE));
+    top = fields_of (slice_index words (top_at TOP));
     link = λ i. slice_index words (link_at i);
     home = λ i. at_home (get_elem? homes i);
   }

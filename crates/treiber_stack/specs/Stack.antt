@@ -4,7 +4,7 @@ use Rattle.tagged_index.specs.Limits.{capacity_of, tag_limit_of}
 use Rattle.bounded_model.specs.declared.views.PassView.{PassView}
 use Rattle.bounded_model.specs.declared.views.RootView.{RootView}
 use Rattle.bounded_model.specs.Machine.{Shape}
-use Rattle.bounded_model.specs.Laws.{IsAtRest, IsSound}
+use Rattle.bounded_model.specs.Laws.{Call, IsAtRest, IsSound}
 use Rattle.machine.specs.declared.seats.View.TheVariants.{AtRoot}
 use Rattle.stack_machine.specs.Answers.{shape}
 use Rattle.machine.specs.Seats.{pass_of, root_of, at_rest}
@@ -23,6 +23,10 @@ module _ {T : Type 0} where
 
   abbrev pub root_in : Root T → RootView T
   root_in r = root_of r.seat.me.0
+
+  -- a call of one of its passes
+  abbrev pub call_of : Stack T → Pass T → Pass T → Call T
+  call_of c by back = record { shape = shape_of c; from = pass_in by; to = pass_in back }
 
   -- a pass between its operations
   pub record IsPassOf (c : Stack T) (p : Pass T) : Type 0 where

@@ -6,6 +6,7 @@ use Rattle.tagged_index.specs.declared.word.TheConstants.{NULL}
 use Rattle.bounded_model.specs.declared.answers.Stepped.{Stepped}
 use Rattle.bounded_model.specs.declared.answers.Stepped.TheVariants.{Again, Done}
 use Rattle.bounded_model.specs.declared.answers.TakeRefused.{TakeRefused}
+use Rattle.bounded_model.specs.declared.views.PassView.{PassView}
 use Rattle.bounded_model.specs.Laws.{TakeGives}
 use Rattle.stack_machine.specs.declared.lines.Answer.TheVariants.{Take as AnswerTake}
 use Rattle.stack_machine.specs.declared.lines.Giving.{Giving}
@@ -67,7 +68,7 @@ module _ {T : Type 0} where
   TakeStep c p at (Again next) = IsTaking c next × GoesOn c p next.pass (take_line at) (take_line next.at)
   TakeStep c p at (Done q r) = IsPassOf c q × TakeGives (shape_of c) (begun_in p) (pass_in q) r × IsLineOf c p q (take_line at) (ends (AnswerTake r))
 
-  -- what several steps give
-  abbrev pub TakeRun : Stack T → Pass T → Stepped (TakeOp T) (Pass T) (Result (T × ℕ) TakeRefused) → Type 0
-  TakeRun c p (Again next) = IsTaking c next × (begun_in next.pass ≡ begun_in p)
-  TakeRun c p (Done q r) = IsPassOf c q × TakeGives (shape_of c) (begun_in p) (pass_in q) r
+  -- what several steps give, of a take that was begun as the pass was `begun`
+  abbrev pub TakeRun : Stack T → PassView T → Stepped (TakeOp T) (Pass T) (Result (T × ℕ) TakeRefused) → Type 0
+  TakeRun c begun (Again next) = IsTaking c next × (begun_in next.pass ≡ begun)
+  TakeRun c begun (Done q r) = IsPassOf c q × TakeGives (shape_of c) begun (pass_in q) r

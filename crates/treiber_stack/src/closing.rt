@@ -107,7 +107,7 @@ impl<T> CloseOp<T> {
     #[inline]
     pub(crate) fn run(self, stack: &Stack<T>) -> Stepped<CloseOp<T>, Pass<T>, bool>
         requires { IsClosing stack.now self }
-        ensures { CloseRun stack.now self.pass result }
+        ensures { CloseRun stack.now (begun_in self.pass) result }
     {
         match self.step(stack) {
             Stepped::Again(next) => next.step(stack),
@@ -150,7 +150,7 @@ impl<T> ShutOp<T> {
     #[inline]
     pub(crate) fn run(self, stack: &Stack<T>) -> Stepped<ShutOp<T>, Pass<T>, bool>
         requires { IsShutting stack.now self }
-        ensures { ShutRun stack.now self.pass result }
+        ensures { ShutRun stack.now (begun_in self.pass) result }
     {
         match self.step(stack) {
             Stepped::Again(next) => next.step(stack),

@@ -1,4 +1,5 @@
-//! A stack as a container. A whole call makes an operation's steps until it answers.
+//! A stack as a container. A whole call makes an operation's steps until it answers: straight on, the
+//! first time, then again after each exchange that was lost.
 use crate::pause::Pause;
 use crate::rest::Rest;
 use crate::rule::{Cuts, Makes};
@@ -53,34 +54,34 @@ impl<T: Drop + Send> Container<T> for Stack<T> {
     }
 
     fn put<R: Wait>(&self, rt: &R, by: Pass<T>, value: T) -> (Pass<T>, Result<u64, PutRefused<T>>) {
-        let mut op = self.begin_put(by, value);
+        let mut made = self.begin_put(by, value).run(self);
         let mut pause = Pause::new();
         for _ in rt.forever() {
-            match op.run(self) {
+            match made {
+                Stepped::Done(pass, answer) => return (pass, answer),
                 Stepped::Again(next) => {
                     if next.is_retry() {
                         pause.wait();
                     }
-                    op = next;
+                    made = next.run(self);
                 }
-                Stepped::Done(pass, answer) => return (pass, answer),
             }
         }
         unreachable!()
     }
 
     fn take<R: Wait>(&self, rt: &R, by: Pass<T>) -> (Pass<T>, Result<(T, u64), TakeRefused>) {
-        let mut op = self.begin_take(by);
+        let mut made = self.begin_take(by).run(self);
         let mut pause = Pause::new();
         for _ in rt.forever() {
-            match op.run(self) {
+            match made {
+                Stepped::Done(pass, answer) => return (pass, answer),
                 Stepped::Again(next) => {
                     if next.is_retry() {
                         pause.wait();
                     }
-                    op = next;
+                    made = next.run(self);
                 }
-                Stepped::Done(pass, answer) => return (pass, answer),
             }
         }
         unreachable!()

@@ -1,7 +1,9 @@
 //! Folds: all values are taken by one exchange of the top, and handed to a function one after
 //! another on a walk along their chain; one more exchange gives the whole chain to the free list.
-ghost use Rattle.std.specs.Prelude.{◌≡◌, ◌≢◌, ℕ, ◌+◌, ◌<◌, ◌++◌, [], ◌∷◌, Some, None, IsTrue, IsFalse, MatchOption};
+ghost use Rattle.std.specs.Prelude.{◌≡◌, ◌≢◌, ℕ, ◌+◌, ◌<◌, ◌++◌, [], ◌∷◌, reverse, Some, None, IsTrue, IsFalse, MatchOption};
 ghost use Rattle.atomic_table.specs.Table.{rest};
+ghost use Rattle.bounded_model.specs.Bulk.{FoldsAll};
+ghost use Rattle.bounded_model.specs.Consumes.{Folds};
 ghost use Rattle.tagged_index.specs.Limits.{capacity_of, tag_limit_of};
 ghost use Rattle.index_list.specs.declared.front.Front.TheVariants.{First, Last};
 ghost use Rattle.index_list.specs.Steps.{read_top};
@@ -10,29 +12,20 @@ ghost use Rattle.tagged_index.specs.declared.word.TheConstants.{NULL};
 ghost use Rattle.treiber_stack.specs.Host.{may_step};
 ghost use Rattle.treiber_stack.specs.Operations.{IsSame, Told, begun_in};
 ghost use Rattle.treiber_stack.specs.declared.operation.Operation.TheVariants.{Fold as FoldFirst};
-ghost use Rattle.treiber_stack.specs.Stack.{shape_of, IsPassOf, pass_in};
-ghost use Rattle.treiber_stack.specs.Folding.{FoldsAll, AllowsTake, RefusesTake, TakesChain, IsTaken, IsReady, Walks, IsGiving, GaveBack};
+ghost use Rattle.treiber_stack.specs.Stack.{shape_of, call_of, IsPassOf, pass_in};
+ghost use Rattle.treiber_stack.specs.Folding.{in_order, AllowsTake, RefusesTake, TakesChain, IsTaken, IsReady, Walks, IsGiving, GaveBack};
 
 use crate::layout::{FREE, TOP};
 use crate::operation::Operation;
 use crate::pause::Pause;
 use crate::rule::Stacked;
 use crate::stack::{Pass, Stack};
-use bounded_model::{TakeRefused, Word};
+use bounded_model::{Folded, TakeRefused, Word};
 use index_list::{Front, move_out};
 use machine::View;
 use stack_machine::Line;
 use std::sync::Wait;
 use tagged_index::{Limits, NULL, Tagged};
-
-/// A fold that took all values.
-#[derive(Clone, Copy, Debug, PartialEq, Eq)]
-pub struct Folded {
-    /// The number of the exchange that took them.
-    pub number: u64,
-    /// How many values there were.
-    pub count: u32,
-}
 
 /// A chain of nodes in hand, each linked to the next, whose slots are empty.
 #[derive(Clone, Copy)]
@@ -62,7 +55,9 @@ impl<T> Stack<T> {
         requires pass { IsPassOf self.now by }
         requires call { F.IsAlwaysCallable f }
         ensures of { IsPassOf self.now result.0 }
-        ensures gives { FoldsAll (shape_of self.now) First (λ s x t. F.post f s x t) (pass_in by) state (pass_in result.0) result.1 result.2 }
+        ensures gives { FoldsAll (call_of self.now by result.0)
+            (λ values. Folds (λ s x t. F.post f s x t) state values result.1)
+            (result.1 ≡ state) result.2 }
     {
         self.fold(rt, by, Front::First, state, f)
     }
@@ -78,7 +73,9 @@ impl<T> Stack<T> {
         requires pass { IsPassOf self.now by }
         requires call { F.IsAlwaysCallable f }
         ensures of { IsPassOf self.now result.0 }
-        ensures gives { FoldsAll (shape_of self.now) Last (λ s x t. F.post f s x t) (pass_in by) state (pass_in result.0) result.1 result.2 }
+        ensures gives { FoldsAll (call_of self.now by result.0)
+            (λ values. Folds (λ s x t. F.post f s x t) state (reverse values) result.1)
+            (result.1 ≡ state) result.2 }
     {
         self.fold(rt, by, Front::Last, state, f)
     }
@@ -94,7 +91,9 @@ impl<T> Stack<T> {
         requires pass { IsPassOf self.now by }
         requires call { F.IsAlwaysCallable f }
         ensures of { IsPassOf self.now result.0 }
-        ensures gives { FoldsAll (shape_of self.now) front (λ s x t. F.post f s x t) (pass_in by) state (pass_in result.0) result.1 result.2 }
+        ensures gives { FoldsAll (call_of self.now by result.0)
+            (λ values. Folds (λ s x t. F.post f s x t) state (in_order front values) result.1)
+            (result.1 ≡ state) result.2 }
     {
         let (pass, taken) = self.take_chain(rt, by, front);
         match taken {

@@ -11,6 +11,7 @@
 //! by step, or by a whole call, which retries while others interfere.
 #![tactic(auto)]
 
+mod bulk;
 mod closing;
 mod container;
 mod folding;
@@ -27,19 +28,9 @@ mod stack;
 mod steps;
 mod stepwise;
 mod taking;
-#[cfg(test)]
-mod tests;
-#[cfg(test)]
-mod tests_folds;
-#[cfg(test)]
-mod tests_ranges;
-#[cfg(test)]
-mod tests_threads;
 
 pub use closing::{CloseOp, ShutOp};
-pub use folding::Folded;
 pub use putting::PutOp;
-pub use ranging::{RangeRefused, Ranged};
 pub use rest::Rest;
 pub use stack::{Pass, Root, Stack};
 pub use stepwise::LookOp;

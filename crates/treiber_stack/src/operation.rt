@@ -1,6 +1,7 @@
 //! Which operation a pass begins.
 ghost use Rattle.std.specs.Prelude.{◌≡◌};
-ghost use Rattle.treiber_stack.specs.Places.{values_of, somes};
+ghost use Rattle.bounded_model.specs.Bulk.{somes};
+ghost use Rattle.treiber_stack.specs.Places.{values_of};
 
 use index_list::Front;
 use std::snapshot::Snapshot;

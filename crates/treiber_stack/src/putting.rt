@@ -329,7 +329,7 @@ impl<T> Stack<T> {
         value: T,
     ) -> Stepped<PutOp<T>, Pass<T>, Result<u64, PutRefused<T>>>
         requires { (x : T) × IsPuttingAt self.now x by (LoadFree value) }
-        ensures { (x : T) → IsPuttingAt self.now x by (LoadFree value) → PutRun self.now x by result }
+        ensures { (x : T) → IsPuttingAt self.now x by (LoadFree value) → PutRun self.now x (begun_in by) result }
     {
         match self.put_load_free(by, value) {
             Stepped::Done(pass, answer) => Stepped::Done(pass, answer),
@@ -348,7 +348,7 @@ impl<T> Stack<T> {
         free: Tagged,
     ) -> Stepped<PutOp<T>, Pass<T>, Result<u64, PutRefused<T>>>
         requires { (x : T) × IsPuttingAt self.now x by (Link value free) }
-        ensures { (x : T) → IsPuttingAt self.now x by (Link value free) → PutRun self.now x by result }
+        ensures { (x : T) → IsPuttingAt self.now x by (Link value free) → PutRun self.now x (begun_in by) result }
     {
         match self.put_link(by, value, free) {
             Stepped::Done(pass, answer) => Stepped::Done(pass, answer),
@@ -368,7 +368,7 @@ impl<T> Stack<T> {
         next: u32,
     ) -> Stepped<PutOp<T>, Pass<T>, Result<u64, PutRefused<T>>>
         requires { (x : T) × IsPuttingAt self.now x by (Hold value free next) }
-        ensures { (x : T) → IsPuttingAt self.now x by (Hold value free next) → PutRun self.now x by result }
+        ensures { (x : T) → IsPuttingAt self.now x by (Hold value free next) → PutRun self.now x (begun_in by) result }
     {
         match self.put_hold(by, value, free, next) {
             Stepped::Done(pass, answer) => Stepped::Done(pass, answer),
@@ -386,7 +386,7 @@ impl<T> Stack<T> {
         index: u32,
     ) -> Stepped<PutOp<T>, Pass<T>, Result<u64, PutRefused<T>>>
         requires { (x : T) × IsPuttingAt self.now x by (Load index) }
-        ensures { (x : T) → IsPuttingAt self.now x by (Load index) → PutRun self.now x by result }
+        ensures { (x : T) → IsPuttingAt self.now x by (Load index) → PutRun self.now x (begun_in by) result }
     {
         match self.put_load(by, index) {
             Stepped::Done(pass, answer) => Stepped::Done(pass, answer),
@@ -405,7 +405,7 @@ impl<T> Stack<T> {
         top: Tagged,
     ) -> Stepped<PutOp<T>, Pass<T>, Result<u64, PutRefused<T>>>
         requires { (x : T) × IsPuttingAt self.now x by (LinkTo index top) }
-        ensures { (x : T) → IsPuttingAt self.now x by (LinkTo index top) → PutRun self.now x by result }
+        ensures { (x : T) → IsPuttingAt self.now x by (LinkTo index top) → PutRun self.now x (begun_in by) result }
     {
         match self.put_link_to(by, index, top) {
             Stepped::Done(pass, answer) => Stepped::Done(pass, answer),
@@ -424,7 +424,7 @@ impl<T> Stack<T> {
         top: Tagged,
     ) -> Stepped<PutOp<T>, Pass<T>, Result<u64, PutRefused<T>>>
         requires { (x : T) × IsPuttingAt self.now x by (Exchange index top) }
-        ensures { (x : T) → IsPuttingAt self.now x by (Exchange index top) → PutRun self.now x by result }
+        ensures { (x : T) → IsPuttingAt self.now x by (Exchange index top) → PutRun self.now x (begun_in by) result }
     {
         self.put_exchange(by, index, top)
     }
@@ -468,7 +468,7 @@ impl<T> PutOp<T> {
         stack: &Stack<T>,
     ) -> Stepped<PutOp<T>, Pass<T>, Result<u64, PutRefused<T>>>
         requires { (x : T) × IsPutting stack.now x self }
-        ensures { (x : T) → IsPutting stack.now x self → PutRun stack.now x self.pass result }
+        ensures { (x : T) → IsPutting stack.now x self → PutRun stack.now x (begun_in self.pass) result }
     {
         let PutOp { pass, at } = self;
         match at {

@@ -6,11 +6,12 @@ ghost use Rattle.tagged_index.specs.Limits.{capacity_of};
 ghost use Rattle.tagged_index.specs.declared.word.TheConstants.{NULL};
 ghost use Rattle.atomic_table.specs.Table.{rest};
 ghost use Rattle.bounded_model.specs.declared.views.PassView.{PassView};
+ghost use Rattle.bounded_model.specs.Bulk.{PutsRange};
 ghost use Rattle.machine.specs.Seats.{Looks};
 ghost use Rattle.stack_machine.specs.declared.lines.Putting.{Putting};
 ghost use Rattle.treiber_stack.specs.Operations.{IsSame, begun_in};
-ghost use Rattle.treiber_stack.specs.Stack.{shape_of, IsPassOf, pass_in};
-ghost use Rattle.treiber_stack.specs.Ranging.{NotPut, PutsRange, Stops, places_from, IsCollecting, TakesFree, IsStart, Collects, IsHolding, Places, IsRefused, Restores, ReadsAgain};
+ghost use Rattle.treiber_stack.specs.Stack.{shape_of, call_of, IsPassOf, pass_in};
+ghost use Rattle.treiber_stack.specs.Ranging.{NotPut, Stops, places_from, IsCollecting, TakesFree, IsStart, Collects, IsHolding, Places, IsRefused, Restores, ReadsAgain};
 
 use crate::folding::Chain;
 use crate::layout::{self, FREE, TOP};
@@ -18,40 +19,13 @@ use crate::operation::{Listed, Operation};
 use crate::pause::Pause;
 use crate::rule::Stacked;
 use crate::stack::{Pass, Stack};
-use bounded_model::Word;
+use bounded_model::{RangeRefused, Ranged, Word};
 use index_list::{load_as, put_in};
 use machine::View;
 use stack_machine::Line;
 use std::marker::Brand;
 use std::sync::Wait;
 use tagged_index::{Limits, NULL, Tagged};
-use thiserror::Error;
-
-/// A range put that put some values.
-#[derive(Clone, Copy, Debug, PartialEq, Eq)]
-pub struct Ranged {
-    /// The put's number.
-    pub number: u64,
-    /// How many values were put, from the front; 1 at least.
-    pub count: u32,
-}
-
-/// Why a range was not put. Every value is still in its place.
-#[derive(Clone, Copy, Debug, Error, PartialEq, Eq)]
-pub enum RangeRefused {
-    /// The range is empty.
-    #[error("nothing to put")]
-    Nothing,
-    /// Every node holds a value or is in a pass's hand.
-    #[error("full")]
-    Full,
-    /// The stack is closed.
-    #[error("closed")]
-    Closed,
-    /// The tag of this word has reached the limit: the word, and the tag that was read.
-    #[error("spent")]
-    Spent(Word, u64),
-}
 
 /// The nodes of a range put, each with its value.
 #[derive(Clone, Copy)]
@@ -80,7 +54,7 @@ impl<T> Stack<T> {
         requires pass { IsPassOf self.now by }
         requires values { Every (λ place. IsSome place) values.old }
         ensures of { IsPassOf self.now result.0 }
-        ensures gives { PutsRange (shape_of self.now) (pass_in by) values.old values.new (pass_in result.0) result.1 }
+        ensures gives { PutsRange (call_of self.now by result.0) values.old values.new result.1 }
     {
         if values.is_empty() {
             return (by, Err(RangeRefused::Nothing));

@@ -204,7 +204,7 @@ impl<T> Stack<T> {
     #[inline]
     fn take_run(&self, by: Pass<T>) -> Stepped<TakeOp<T>, Pass<T>, Result<(T, u64), TakeRefused>>
         requires { IsTakingAt self.now by Load }
-        ensures { TakeRun self.now by result }
+        ensures { TakeRun self.now (begun_in by) result }
     {
         match self.take_load(by) {
             Stepped::Done(pass, answer) => Stepped::Done(pass, answer),
@@ -222,7 +222,7 @@ impl<T> Stack<T> {
         top: Tagged,
     ) -> Stepped<TakeOp<T>, Pass<T>, Result<(T, u64), TakeRefused>>
         requires { IsTakingAt self.now by (Link top) }
-        ensures { TakeRun self.now by result }
+        ensures { TakeRun self.now (begun_in by) result }
     {
         match self.take_link(by, top) {
             Stepped::Done(pass, answer) => Stepped::Done(pass, answer),
@@ -241,7 +241,7 @@ impl<T> Stack<T> {
         next: u32,
     ) -> Stepped<TakeOp<T>, Pass<T>, Result<(T, u64), TakeRefused>>
         requires { IsTakingAt self.now by (Exchange top next) }
-        ensures { TakeRun self.now by result }
+        ensures { TakeRun self.now (begun_in by) result }
     {
         match self.take_exchange(by, top, next) {
             Stepped::Done(pass, answer) => Stepped::Done(pass, answer),
@@ -259,7 +259,7 @@ impl<T> Stack<T> {
         taken: Taken<T>,
     ) -> Stepped<TakeOp<T>, Pass<T>, Result<(T, u64), TakeRefused>>
         requires { IsTakingAt self.now by (LoadFree taken) }
-        ensures { TakeRun self.now by result }
+        ensures { TakeRun self.now (begun_in by) result }
     {
         match self.take_load_free(by, taken) {
             Stepped::Done(pass, answer) => Stepped::Done(pass, answer),
@@ -278,7 +278,7 @@ impl<T> Stack<T> {
         free: Tagged,
     ) -> Stepped<TakeOp<T>, Pass<T>, Result<(T, u64), TakeRefused>>
         requires { IsTakingAt self.now by (LinkBack taken free) }
-        ensures { TakeRun self.now by result }
+        ensures { TakeRun self.now (begun_in by) result }
     {
         match self.take_link_back(by, taken, free) {
             Stepped::Done(pass, answer) => Stepped::Done(pass, answer),
@@ -297,7 +297,7 @@ impl<T> Stack<T> {
         free: Tagged,
     ) -> Stepped<TakeOp<T>, Pass<T>, Result<(T, u64), TakeRefused>>
         requires { IsTakingAt self.now by (GiveBack taken free) }
-        ensures { TakeRun self.now by result }
+        ensures { TakeRun self.now (begun_in by) result }
     {
         self.take_give_back(by, taken, free)
     }
@@ -338,7 +338,7 @@ impl<T> TakeOp<T> {
         stack: &Stack<T>,
     ) -> Stepped<TakeOp<T>, Pass<T>, Result<(T, u64), TakeRefused>>
         requires { IsTaking stack.now self }
-        ensures { TakeRun stack.now self.pass result }
+        ensures { TakeRun stack.now (begun_in self.pass) result }
     {
         let TakeOp { pass, at } = self;
         match at {

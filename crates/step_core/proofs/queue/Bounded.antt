@@ -1,40 +1,31 @@
 -- While no other pass wins an exchange, an operation of the queue ends within the steps that its rank leaves it.
-use Rattle.std.proofs.Common.{◌≡◌, ◌≢◌, ◌⊎◌, ℕ, zero, suc, ◌+◌, ◌<◌, ◌≤◌, ◌==◌, ◌++◌, not, Bool, true, false, cond, eqb, List, [], ◌∷◌, map, set, refl, sym, ap, ◌∙◌, subst, ⊎_elim, arith}
+use Rattle.std.proofs.Common.{◌≡◌, ℕ, ◌+◌, ◌<◌, ◌≤◌, ◌++◌, Bool, true, false, cond, eqb, List, [], map, set, refl, sym, ap, ◌∙◌, subst, arith}
 use Rattle.std.proofs.lemmas.Bool.{false≢true}
-use Rattle.std.proofs.lemmas.Bool.Decides.{eqb_tells}
-use mathlib.Core.Option.{Option, none, some, some-ne-none}
+use mathlib.Core.Option.{Option, none, some}
+use Rattle.std.proofs.lemmas.List.{map-set}
 use lib.ListN.{get_elem?}
 use Rattle.tagged_index.specs.declared.word.TheConstants.{NULL}
 use Rattle.bounded_model.specs.declared.history.Event.{Event}
 use Rattle.machine.specs.Words.{Tagged, same, times}
-use Rattle.machine.proofs.Tests.{cases, same-is}
+use Rattle.machine.proofs.Tests.{same-is, one_of}
 use Rattle.machine.proofs.Lists.{times_here}
 use Rattle.machine.proofs.Sums.{at_map}
 use Rattle.queue_machine.specs.declared.lines.Seeking.TheVariants.{ToLink, ToClose}
 use Rattle.queue_machine.specs.declared.lines.Line.{Line}
 use Rattle.queue_machine.specs.declared.lines.Line.TheVariants.{Idle, LoadCells, LoadCellLink, TakeCell, LoadNodes, LoadNodeLink, TakeNode, StoreCell, LoadNext, PrepareNext, LoadTail, LoadTailNext, CheckTail, SwingTail, LinkNext, SwingToLinked, MarkNext, LoadHead, LoadTailToTake, LoadHeadNext, CheckHead, SwingTailToTake, LoadCell, TakeHead, LoadNodesToGive, LinkToNodes, GiveNode, LoadCellsToGive, LinkToCells, GiveCell, LoadHeadToLook, LoadNextToLook, CheckHeadToLook, LoadHeadToShut, ShutHead}
-use Rattle.step_core.specs.queue.Schedule.{Pass, State, Act, Begin, Step, acts, acts_at, run, start, begun, stepped}
-use Rattle.queue_machine.specs.Machine.{Memory, Outcome, starts, step, is_idle, goes_on, null_word, next_of}
+use Rattle.queue_machine.specs.Machine.{Memory, Pass, State, Outcome, starts, step, goes_on, null_word, next_of, wins_exchange, queue}
 use Rattle.queue_machine.specs.Answers.{shape}
-use Rattle.step_core.specs.queue.Stays.{Stays}
 use Rattle.queue_machine.specs.Rule.{Lists, Ends, IsFine, Good}
-use Rattle.step_core.specs.queue.Bound.{wins_exchange, wins_at, IsStretch, is_busy, counted, own_steps}
+use Rattle.machine.specs.Schedule.{Act}
+use Rattle.machine.specs.Bound.{IsStretch, own_steps, AtLine}
+use Rattle.machine.proofs.Scheduled.{Holds, Ranks, left_at, stretch_bounded}
+use Rattle.queue_machine.specs.declared.lines.Call.{Call}
+use Rattle.queue_machine.proofs.Step.{step_kept}
+use Rattle.step_core.specs.queue.Bound.{MeetsRule}
+use Rattle.step_core.proofs.queue.Run.{Rule, begins_kept}
 use Rattle.queue_machine.proofs.Chain.{word_else, tail_in, head_in}
 use Rattle.queue_machine.proofs.StepKinds.{outside}
-use Rattle.step_core.proofs.queue.Run.{acts_at_kept, run_kept, start_stays}
-use Rattle.step_core.proofs.queue.Rank.{lag, late, late_by, turn, rank_of, rank, one_of, step_falls, rank_small}
-
-set_other : {A : Type 0} (xs : List A) (q p : ℕ) (x : A) → q ≢ p → get_elem? (set xs q x) p ≡ get_elem? xs p
-set_other [] q p x ne = refl
-set_other (y ∷ ys) zero zero x ne = absurd (ne refl)
-set_other (y ∷ ys) zero (suc p) x ne = refl
-set_other (y ∷ ys) (suc q) zero x ne = refl
-set_other (y ∷ ys) (suc q) (suc p) x ne = set_other ys q p x (λ e. ne (ap suc e))
-
-set_same : {A : Type 0} (xs : List A) (p : ℕ) (x y : A) → get_elem? xs p ≡ some x → get_elem? (set xs p y) p ≡ some y
-set_same [] p x y e = absurd (some-ne-none x (sym e))
-set_same (z ∷ zs) zero x y e = refl
-set_same (z ∷ zs) (suc p) x y e = set_same zs p x y e
+use Rattle.step_core.proofs.queue.Rank.{lag, late, late_by, turn, rank_of, rank, step_falls, rank_small}
 
 module _ {T : Type 0} where
   -- a step that wins no exchange leaves the tops, the head, the tail, and the links of the chain
@@ -167,87 +158,47 @@ module _ {T : Type 0} where
         rank_of (still.cells k) (still.nodes k) (still.head k) (still.tail k) m'.next (cond (eqb (at_tail k) NULL) 0 4) (late_by (eqb (still.tail k).index (still.head k).index) (eqb (at_head k) NULL)) l in
         omega (arith, same_words, next_rank q l at m'.next still.chain)
 
-  -- how many steps a pass has left
-  abbrev left_at : Memory T → Option (Pass T) → ℕ
-  left_at m none = 0
-  left_at m (some v) = rank m v.line
+  module _ (n limit : ℕ) where
+    abbrev Rules : State T → Type 0
+    Rules s = MeetsRule n limit s
 
-  abbrev left : State T → ℕ → ℕ
-  left s p = left_at s.memory (get_elem? s.passes p)
+    -- each line counts
+    abbrev Any : Line T → Type 0
+    Any l = Unit {0}
 
-  module _ (n limit : ℕ) (p : ℕ) (s : State T) (x : Stays n limit s) where
-    line_at : (q : ℕ) (v : Pass T) → get_elem? s.passes q ≡ some v → get_elem? (map (λ (u : Pass T). u.line) s.passes) q ≡ some v.line
-    line_at q v at = at_map (λ (u : Pass T). u.line) s.passes q v at
+    any_at : (o : Option (Pass T)) → AtLine Any o
+    any_at none = tt
+    any_at (some v) = tt
 
-    -- where another pass acts and wins nothing, p has no more steps left
-    others : (q : ℕ) (a : Act T) (o : Option (Pass T)) → get_elem? s.passes q ≡ o → q ≢ p → wins_at s.memory a o ≡ false → left (acts_at (shape n limit) s q a o) p ≤ left s p
-    others q a none at ne e = omega arith
-    others q (Begin call) (some v) at ne e = cases (λ (t : State T). left t p ≤ left s p) (is_idle v.line) (begun s q v call) s
-        (λ h. omega (arith, ap (left_at s.memory) (set_other s.passes q p (record v { line = starts call; call = some call; begun = v.seen }) ne)))
-        (λ h. omega arith)
-    others q Step (some v) at ne e = cases (λ (t : State T). left t p ≤ left s p) (is_idle v.line) s (stepped s q v (step (shape n limit) s.memory q v.line))
-        (λ h. omega arith)
-        (λ h.
-        let o = step (shape n limit) s.memory q v.line in
-        let still = step_quiet x.kept.good q q v.line (line_at q v at) e in
-        omega (arith, ap (left_at o.memory) (set_other s.passes q p (record v { line = o.line; seen = o.events ++ s.history }) ne), no_more (get_elem? s.passes p) refl o.memory still))
-      where
-        no_more : (u : Option (Pass T)) → get_elem? s.passes p ≡ u → (m' : Memory T) → Quiet s.memory x.kept.lists m' → left_at m' u ≤ left_at s.memory u
-        no_more none at m' still = omega arith
-        no_more (some u) at m' still = quiet_rank x.kept.good p u.line m' (line_at p u at) still
+    line_at : (s : State T) (q : ℕ) (v : Pass T) → get_elem? s.passes q ≡ some v → get_elem? (map (λ (u : Pass T). u.line) s.passes) q ≡ some v.line
+    line_at s q v at = at_map (λ (u : Pass T). u.line) s.passes q v at
 
-    -- p's own act, in the middle of an operation
-    own : (a : Act T) (v : Pass T) → get_elem? s.passes p ≡ some v → is_idle v.line ≡ false → counted a + left (acts (shape n limit) s p a v) p ≤ left s p
-    own (Begin call) v at busy = cases (λ (t : State T). 0 + left t p ≤ left s p) (is_idle v.line) (begun s p v call) s
-        (λ h. absurd (false≢true (sym busy ∙ h)))
-        (λ h. omega arith)
-    own Step v at busy = cases (λ (t : State T). 1 + left t p ≤ left s p) (is_idle v.line) s (stepped s p v (step (shape n limit) s.memory p v.line))
-        (λ h. absurd (false≢true (sym busy ∙ h)))
-        (λ h.
-        let o = step (shape n limit) s.memory p v.line in
-        let low : rank o.memory o.line < rank s.memory v.line = step_falls x.kept.good p p v.line (line_at p v at) busy in
-        let there = set_same s.passes p v (record v { line = o.line; seen = o.events ++ s.history }) at in
-        omega (arith, low, ap (left_at o.memory) there, ap (left_at s.memory) at))
+    with_line : (s : State T) (m : Memory T) (p : ℕ) (u : Pass T) (h : List (Event T)) → Rule n limit m (set (map (λ (v : Pass T). v.line) s.passes) p u.line) h
+        → Rules (record { memory = m; passes = set s.passes p u; history = h })
+    with_line s m p u h k = subst (λ (ls : List (Line T)). Rule n limit m ls h) (sym (map-set (λ (v : Pass T). v.line) s.passes p u)) k
 
-    -- one act of a stretch, whoever makes it, while the operation goes on
-    one_act : (a : ℕ × Act T) → is_busy (get_elem? s.passes p) ≡ true → (a.0 ≡ p) ⊎ (wins_at s.memory a.1 (get_elem? s.passes a.0) ≡ false)
-        → cond (a.0 == p) (counted a.1) 0 + left (acts_at (shape n limit) s a.0 a.1 (get_elem? s.passes a.0)) p ≤ left s p
-    one_act (q, a) busy h = ⊎_elim
-        (λ t. rw t.0 (subst (λ (y : ℕ). counted a + left (acts_at (shape n limit) s y a (get_elem? s.passes y)) p ≤ left s p) (sym t.1) (mine (get_elem? s.passes p) refl busy)))
-        (λ t. let less = others q a (get_elem? s.passes q) refl t.1 (no_win t.1 h) in rw t.0 (omega arith))
-        (eqb_tells q p)
-      where
-        mine : (o : Option (Pass T)) → get_elem? s.passes p ≡ o → is_busy o ≡ true → counted a + left (acts_at (shape n limit) s p a o) p ≤ left s p
-        mine none at busy = absurd (false≢true busy)
-        mine (some v) at busy = own a v at (is_not (is_idle v.line) busy)
-          where
-            is_not : (b : Bool) → not b ≡ true → b ≡ false
-            is_not true e = absurd (false≢true e)
-            is_not false e = refl
+    rules_hold : Holds (queue (shape n limit)) Rules
+    rules_hold = record {
+      begins = λ s p v k at idle call. with_line s s.memory p (record v { line = starts call; call = some call; begun = v.seen }) s.history
+          (begins_kept n limit s.memory (map (λ (u : Pass T). u.line) s.passes) s.history p v.line k (line_at s p v at) idle call);
+      steps = λ s p v k at busy.
+          let o = step (shape n limit) s.memory p v.line in
+          with_line s o.memory p (record v { line = o.line; seen = o.events ++ s.history }) (o.events ++ s.history)
+          (step_kept n limit s.memory some (map (λ (u : Pass T). u.line) s.passes) s.history p p refl k v.line (line_at s p v at));
+    }
 
-        no_win : q ≢ p → (q ≡ p) ⊎ (wins_at s.memory a (get_elem? s.passes q) ≡ false) → wins_at s.memory a (get_elem? s.passes q) ≡ false
-        no_win ne h = ⊎_elim (λ e. absurd (ne e)) (λ w. w) h
+    ranks : Ranks (queue (shape n limit)) Rules Any rank
+    ranks = record {
+      holds = rules_hold;
+      others = λ s p q u v k at at' lost. quiet_rank k.good p u.line (step (shape n limit) s.memory q v.line).memory (line_at s p u at)
+          (step_quiet k.good q q v.line (line_at s q v at') lost);
+      falls = λ s p v k at busy any. step_falls k.good p p v.line (line_at s p v at) busy;
+      counts = λ s p v k at busy any. tt;
+    }
 
-  pub stretch_bounded : (n limit p : ℕ) (stretch : List (ℕ × Act T)) (s : State T) → Stays n limit s → IsStretch (shape n limit) p stretch s → own_steps (shape n limit) p stretch s ≤ left s p
-  stretch_bounded n limit p [] s x h = omega arith
-  stretch_bounded n limit p (a ∷ more) s x h =
-      let t = acts_at (shape n limit) s a.0 a.1 (get_elem? s.passes a.0) in
-      goes (is_busy (get_elem? s.passes p)) refl (stretch_bounded n limit p more t (acts_at_kept n limit s a.0 a.1 (get_elem? s.passes a.0) x refl) h.1)
-    where
-      goes : (b : Bool) → is_busy (get_elem? s.passes p) ≡ b
-          → own_steps (shape n limit) p more (acts_at (shape n limit) s a.0 a.1 (get_elem? s.passes a.0)) ≤ left (acts_at (shape n limit) s a.0 a.1 (get_elem? s.passes a.0)) p
-          → cond b (cond (a.0 == p) (counted a.1) 0 + own_steps (shape n limit) p more (acts_at (shape n limit) s a.0 a.1 (get_elem? s.passes a.0))) 0 ≤ left s p
-      goes true e rest = omega (arith, one_act n limit p s x a e h.0, rest)
-      goes false e rest = omega arith
+    left_small : (m : Memory T) (o : Option (Pass T)) → left_at (queue (shape n limit)) Rules Any rank ranks m o ≤ 24
+    left_small m none = omega arith
+    left_small m (some v) = rank_small m v.line
 
-  left_small : (m : Memory T) (o : Option (Pass T)) → left_at m o ≤ 24
-  left_small m none = omega arith
-  left_small m (some v) = rank_small m v.line
-
-  pub queue_bounded : (n limit p : ℕ) (s : State T) (stretch : List (ℕ × Act T)) → Stays n limit s → IsStretch (shape n limit) p stretch s → own_steps (shape n limit) p stretch s ≤ 32
-  queue_bounded n limit p s stretch x h = omega (arith, stretch_bounded n limit p stretch s x h, left_small s.memory (get_elem? s.passes p))
-
-  pub run_bounded : (n limit passes p : ℕ) (schedule stretch : List (ℕ × Act T)) → 0 < n → n < NULL → 0 < limit → IsStretch (shape n limit) p stretch (run (shape n limit) schedule (start (shape n limit) passes))
-      → own_steps (shape n limit) p stretch (run (shape n limit) schedule (start (shape n limit) passes)) ≤ 32
-  run_bounded n limit passes p schedule stretch h small some_tags is =
-      queue_bounded n limit p (run (shape n limit) schedule (start (shape n limit) passes)) stretch (run_kept n limit schedule (start (shape n limit) passes) (start_stays n limit passes h small some_tags)) is
+    pub queue_bounded : (p : ℕ) (s : State T) (stretch : List (ℕ × Act (Call T))) → MeetsRule n limit s → IsStretch (queue (shape n limit)) p stretch s → own_steps (queue (shape n limit)) p stretch s ≤ 32
+    queue_bounded p s stretch k h = omega (arith, stretch_bounded (queue (shape n limit)) Rules Any rank ranks p s stretch k (any_at (get_elem? s.passes p)) h, left_small s.memory (get_elem? s.passes p))

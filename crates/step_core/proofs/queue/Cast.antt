@@ -1,46 +1,43 @@
--- Who and what the scripts of the queue speak of: passes, values, calls and answers.
-use Rattle.std.proofs.Common.{ℕ, Ok, Err}
+-- Who plays the scripts of the queue, and the calls and answers that they speak of.
+use Rattle.std.proofs.Common.{ℕ, map, Some, Ok, Err}
+use mathlib.Core.Option.{Option, none, some}
 use Rattle.bounded_model.specs.declared.answers.Word.TheVariants.{Cells as CellsWord, Next as NextWord}
 use Rattle.bounded_model.specs.declared.answers.PutRefused.TheVariants.{Full, Closed as PutClosed, Spent as PutSpent}
 use Rattle.bounded_model.specs.declared.answers.TakeRefused.{TakeRefused}
-use Rattle.bounded_model.specs.declared.history.Order.TheVariants.{Fifo}
+use Rattle.bounded_model.specs.declared.history.Event.{Event}
 use Rattle.bounded_model.specs.Machine.{Shape}
+use Rattle.machine.specs.Chains.{chain_from, values_in}
+use Rattle.machine.specs.Schedule.{Machine}
 use Rattle.queue_machine.specs.declared.lines.Answer.{Answer}
 use Rattle.queue_machine.specs.declared.lines.Answer.TheVariants.{Put, Take}
 use Rattle.queue_machine.specs.declared.lines.Call.{Call}
 use Rattle.queue_machine.specs.declared.lines.Call.TheVariants.{Put as PutCall, Take as TakeCall}
+use Rattle.queue_machine.specs.declared.lines.Line.{Line}
+use Rattle.queue_machine.specs.declared.lines.Line.TheVariants.{Idle}
+use Rattle.queue_machine.specs.Machine.{Memory, next_of, queue}
+use Rattle.step_core.proofs.Scripts.{Player}
 
--- passes
-abbrev pub a : ℕ
-a = 0
+-- machines over the queue's words and lines, for each shape
+abbrev pub Machines : Type 0
+Machines = Shape → Machine (Memory ℕ) (Line ℕ) (Call ℕ) (Event ℕ)
 
-abbrev pub b : ℕ
-b = 1
+abbrev pub Players : Type 0
+Players = Player (Memory ℕ) (Line ℕ) (Call ℕ) (Answer ℕ) (Event ℕ)
 
-abbrev pub c : ℕ
-c = 2
+abbrev pub answer : Line ℕ → Option (Answer ℕ)
+answer (Idle (Some a)) = some a
+answer l = none
 
--- values
-abbrev pub t : ℕ
-t = 116
+-- a machine, the answer of a line, and what is left from the front
+abbrev pub player : Machines → Shape → Players
+player machine s = record {
+  machine = machine s;
+  answer = answer;
+  left = λ m. values_in m.home (map m.cell (chain_from s.capacity (next_of m) (next_of m m.head.index)));
+}
 
-abbrev pub u : ℕ
-u = 117
-
-abbrev pub v : ℕ
-v = 118
-
-abbrev pub w : ℕ
-w = 119
-
-abbrev pub x : ℕ
-x = 120
-
-abbrev pub y : ℕ
-y = 121
-
-abbrev pub z : ℕ
-z = 122
+abbrev pub plays : Shape → Players
+plays s = player (λ shape. queue shape) s
 
 -- calls
 abbrev pub put : ℕ → Call ℕ
@@ -70,6 +67,3 @@ take_is n value = Take (Ok (value, n))
 
 abbrev pub no_take : TakeRefused → Answer ℕ
 no_take why = Take (Err why)
-
-abbrev pub shape : ℕ → ℕ → Shape
-shape n limit = record { order = Fifo; capacity = n; limit = limit }

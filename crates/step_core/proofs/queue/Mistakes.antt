@@ -13,10 +13,10 @@ use Rattle.queue_machine.specs.declared.lines.Giving.{Giving}
 use Rattle.queue_machine.specs.declared.lines.Answer.TheVariants.{Close as AnswerClose, Shut as AnswerShut}
 use Rattle.queue_machine.specs.declared.lines.Line.{Line}
 use Rattle.queue_machine.specs.declared.lines.Line.TheVariants.{LoadCells, TakeCell, CheckTail, LinkToNodes, LoadCellsToGive, LinkToCells, GiveCell, LoadNodes, TakeNode, StoreCell, PrepareNext, LoadTail, MarkNext, LoadHead, CheckHead, SwingTailToTake, LoadCell, TakeHead, LoadNodesToGive, GiveNode, ShutHead}
+use Rattle.queue_machine.specs.declared.lines.Call.{Call}
 use Rattle.queue_machine.specs.declared.lines.Call.TheVariants.{Put as CallPut, Take as CallTake, Close as CallClose, Shut as CallShut}
-use Rattle.step_core.specs.queue.Schedule.{Pass, State, Act, Begin, Step, start}
-use Rattle.step_core.proofs.queue.Scripts.{Way, the_queue, runs}
-use Rattle.queue_machine.specs.Machine.{Memory, Outcome, step, held_cells, held_nodes, found_back, frees, after_free, after_clink, after_nlink, goes_on, wins, wins_value, null_word, with_cell, with_node, after_node_give, after_next, after_take, ends, next_of}
+use Rattle.machine.specs.Schedule.{Act, Begin, Step, run, start}
+use Rattle.queue_machine.specs.Machine.{Memory, Pass, State, Outcome, queue, step, held_cells, held_nodes, found_back, frees, after_free, after_clink, after_nlink, goes_on, wins, wins_value, null_word, with_cell, with_node, after_node_give, after_next, after_take, ends, next_of}
 use Rattle.queue_machine.specs.Answers.{shape}
 use Rattle.step_core.specs.queue.Law.{Lawful}
 
@@ -24,22 +24,25 @@ use Rattle.step_core.specs.queue.Law.{Lawful}
 abbrev Steps : Type 0
 Steps = Memory ℕ → ℕ → Line ℕ → Outcome ℕ
 
+abbrev Acts : Type 0
+Acts = List (ℕ × Act (Call ℕ))
+
 -- the queue's machine but for its steps
-abbrev stepping : Steps → Way
-stepping moves = record the_queue { moves = λ c. moves }
+abbrev runs : Steps → Acts → State ℕ → State ℕ
+runs makes schedule s = run (record (queue (shape 1 15)) { step = makes }) schedule s
 
 -- the machine starts with so many cells and passes
 abbrev first_state : ℕ → ℕ → State ℕ
-first_state n passes = start (shape n 15) passes
+first_state n passes = start (queue (shape n 15)) passes
 
 -- so many steps of a pass
-abbrev steps : ℕ → ℕ → List (ℕ × Act ℕ)
+abbrev steps : ℕ → ℕ → Acts
 steps p k = replicate k (p, Step)
 
-abbrev puts : ℕ → ℕ → List (ℕ × Act ℕ)
+abbrev puts : ℕ → ℕ → Acts
 puts p v = (p, Begin (CallPut v)) ∷ []
 
-abbrev takes : ℕ → List (ℕ × Act ℕ)
+abbrev takes : ℕ → Acts
 takes p = (p, Begin CallTake) ∷ []
 
 -- two hands hold what may be in one place
@@ -55,7 +58,7 @@ takes_cell_with_old_tag m p (TakeCell v w k) =
 takes_cell_with_old_tag m p l = step (shape 3 15) m p l
 
 abbrev cell_held_twice : State ℕ
-cell_held_twice = runs (stepping takes_cell_with_old_tag) (shape 3 15)
+cell_held_twice = runs takes_cell_with_old_tag
     (puts 0 10 ++ steps 0 2 ++ puts 1 11 ++ steps 1 14 ++ puts 2 12 ++ steps 2 3 ++ takes 1 ++ steps 1 12 ++ steps 0 1 ++ puts 1 13 ++ steps 1 3)
     (first_state 3 3)
 
@@ -72,7 +75,7 @@ takes_node_with_old_tag m p (TakeNode put w k) = if same m.nodes w then goes_on 
 takes_node_with_old_tag m p l = step (shape 3 15) m p l
 
 abbrev held_twice : State ℕ
-held_twice = runs (stepping takes_node_with_old_tag) (shape 3 15)
+held_twice = runs takes_node_with_old_tag
     (puts 0 10 ++ steps 0 5 ++ puts 1 11 ++ steps 1 14 ++ puts 2 12 ++ steps 2 6 ++ takes 1 ++ steps 1 12 ++ puts 1 13 ++ steps 1 14 ++ takes 1 ++ steps 1 12 ++ steps 0 1 ++ puts 1 14 ++ steps 1 6)
     (first_state 3 3)
 
@@ -91,7 +94,7 @@ takes_with_old_tag m p (TakeHead h y k) =
 takes_with_old_tag m p l = step (shape 2 15) m p l
 
 abbrev number_again : State ℕ
-number_again = runs (stepping takes_with_old_tag) (shape 2 15) (puts 0 10 ++ steps 0 14 ++ puts 0 11 ++ steps 0 14 ++ takes 0 ++ steps 0 12 ++ takes 0 ++ steps 0 12) (first_state 2 1)
+number_again = runs takes_with_old_tag (puts 0 10 ++ steps 0 14 ++ puts 0 11 ++ steps 0 14 ++ takes 0 ++ steps 0 12 ++ takes 0 ++ steps 0 12) (first_state 2 1)
 
 number_again-unlawful : ¬ Lawful ℕ 2 15 number_again
 number_again-unlawful law = numbered law.legal
@@ -106,7 +109,7 @@ prepares_with_no_tag m p (PrepareNext link y) = goes_on (after_next m link.node 
 prepares_with_no_tag m p l = step (shape 2 15) m p l
 
 abbrev linked_late : State ℕ
-linked_late = runs (stepping prepares_with_no_tag) (shape 2 15) (puts 0 10 ++ steps 0 12 ++ puts 1 11 ++ steps 1 14 ++ takes 1 ++ steps 1 12 ++ puts 1 12 ++ steps 1 14 ++ steps 0 1) (first_state 2 2)
+linked_late = runs prepares_with_no_tag (puts 0 10 ++ steps 0 12 ++ puts 1 11 ++ steps 1 14 ++ takes 1 ++ steps 1 12 ++ puts 1 12 ++ steps 1 14 ++ steps 0 1) (first_state 2 2)
 
 linked_late-unlawful : ¬ Lawful ℕ 2 15 linked_late
 linked_late-unlawful law = numbered law.legal
@@ -120,7 +123,7 @@ gives_new_dummy m p (GiveNode give w) = if same m.nodes w then goes_on (after_no
 gives_new_dummy m p l = step (shape 1 15) m p l
 
 abbrev dummy_free : State ℕ
-dummy_free = runs (stepping gives_new_dummy) (shape 1 15) (puts 0 10 ++ steps 0 14 ++ takes 0 ++ steps 0 12) (first_state 1 1)
+dummy_free = runs gives_new_dummy (puts 0 10 ++ steps 0 14 ++ takes 0 ++ steps 0 12) (first_state 1 1)
 
 dummy_free-unlawful : ¬ Lawful ℕ 1 15 dummy_free
 dummy_free-unlawful law = twice law.lists.nodes law.once.free_nodes (law.once.nodes 1)
@@ -136,7 +139,7 @@ overtakes_tail m p (CheckHead h w y) = if w.index == h.index then (if same m.hea
 overtakes_tail m p l = step (shape 2 15) m p l
 
 abbrev overtaken : State ℕ
-overtaken = runs (stepping overtakes_tail) (shape 2 15) (puts 0 10 ++ steps 0 13 ++ takes 1 ++ steps 1 6) (first_state 2 2)
+overtaken = runs overtakes_tail (puts 0 10 ++ steps 0 13 ++ takes 1 ++ steps 1 6) (first_state 2 2)
 
 overtaken-unlawful : ¬ Lawful ℕ 2 15 overtaken
 overtaken-unlawful law = behind law.lists.behind law.represents.chain (no_null (times NULL law.lists.nodes) (times NULL (1 ∷ law.lists.behind)) (law.once.nodes NULL)) (ap length law.represents.tail) law.counts.tail
@@ -158,7 +161,7 @@ closes_apart m p (MarkNext w y) = wins m (ends (AnswerClose true)) (Close p)
 closes_apart m p l = step (shape 2 15) m p l
 
 abbrev put_after_close : State ℕ
-put_after_close = runs (stepping closes_apart) (shape 2 15) (puts 0 10 ++ steps 0 12 ++ ((1, Begin CallClose) ∷ []) ++ steps 1 4 ++ steps 0 1) (first_state 2 2)
+put_after_close = runs closes_apart (puts 0 10 ++ steps 0 12 ++ ((1, Begin CallClose) ∷ []) ++ steps 1 4 ++ steps 0 1) (first_state 2 2)
 
 put_after_close-unlawful : ¬ Lawful ℕ 2 15 put_after_close
 put_after_close-unlawful law = closed law.legal
@@ -172,7 +175,7 @@ shuts_apart m p (ShutHead h) = wins m (ends (AnswerShut true)) (Shut p)
 shuts_apart m p l = step (shape 2 15) m p l
 
 abbrev take_after_shut : State ℕ
-take_after_shut = runs (stepping shuts_apart) (shape 2 15) (puts 0 10 ++ steps 0 14 ++ takes 0 ++ steps 0 5 ++ ((1, Begin CallShut) ∷ []) ++ steps 1 2 ++ steps 0 1) (first_state 2 2)
+take_after_shut = runs shuts_apart (puts 0 10 ++ steps 0 14 ++ takes 0 ++ steps 0 5 ++ ((1, Begin CallShut) ∷ []) ++ steps 1 2 ++ steps 0 1) (first_state 2 2)
 
 take_after_shut-unlawful : ¬ Lawful ℕ 2 15 take_after_shut
 take_after_shut-unlawful law = shut law.legal
@@ -190,7 +193,7 @@ loads_cell_late m p (LoadNodesToGive give) = goes_on m (LinkToNodes (record give
 loads_cell_late m p l = step (shape 2 15) m p l
 
 abbrev wrong_cell : State ℕ
-wrong_cell = runs (stepping loads_cell_late) (shape 2 15) (puts 1 10 ++ steps 1 14 ++ puts 1 11 ++ steps 1 14 ++ takes 0 ++ steps 0 6 ++ takes 1 ++ steps 1 12 ++ puts 1 12 ++ steps 1 7 ++ steps 0 1) (first_state 2 2)
+wrong_cell = runs loads_cell_late (puts 1 10 ++ steps 1 14 ++ puts 1 11 ++ steps 1 14 ++ takes 0 ++ steps 0 6 ++ takes 1 ++ steps 1 12 ++ puts 1 12 ++ steps 1 7 ++ steps 0 1) (first_state 2 2)
 
 two_hands_on_the_other : total (λ (v : Pass ℕ). times 1 (held_cells v.line)) wrong_cell.passes ≡ 2
 two_hands_on_the_other = refl
@@ -213,7 +216,7 @@ gives_cell_first m p (GiveCell give w) =
 gives_cell_first m p l = step (shape 1 15) m p l
 
 abbrev no_node : State ℕ
-no_node = runs (stepping gives_cell_first) (shape 1 15) (puts 1 10 ++ steps 1 14 ++ takes 0 ++ steps 0 9 ++ puts 1 11 ++ steps 1 3) (first_state 1 2)
+no_node = runs gives_cell_first (puts 1 10 ++ steps 1 14 ++ takes 0 ++ steps 0 9 ++ puts 1 11 ++ steps 1 3) (first_state 1 2)
 
 no_node-unlawful : ¬ Lawful ℕ 1 15 no_node
 no_node-unlawful law = (law.once.finds_node 1 (record { line = LoadNodes (with_cell 11 0); call = some (CallPut 11); begun = put_before; seen = seen_by_now }) (with_cell 11 0) refl refl).0 refl
@@ -231,7 +234,7 @@ links_behind_stale_tail m p (CheckTail (ToLink link) w y) = goes_on m (found_bac
 links_behind_stale_tail m p l = step (shape 2 15) m p l
 
 abbrev linked_aside : State ℕ
-linked_aside = runs (stepping links_behind_stale_tail) (shape 2 15) (puts 0 10 ++ steps 0 10 ++ puts 1 11 ++ steps 1 14 ++ takes 1 ++ steps 1 12 ++ puts 1 12 ++ steps 1 9 ++ steps 0 3) (first_state 2 2)
+linked_aside = runs links_behind_stale_tail (puts 0 10 ++ steps 0 10 ++ puts 1 11 ++ steps 1 14 ++ takes 1 ++ steps 1 12 ++ puts 1 12 ++ steps 1 9 ++ steps 0 3) (first_state 2 2)
 
 linked_aside-unlawful : ¬ Lawful ℕ 2 15 linked_aside
 linked_aside-unlawful law = numbered law.legal

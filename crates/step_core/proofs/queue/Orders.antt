@@ -1,5 +1,6 @@
--- The order of the tests at each line matters: with another order, a script gets another reply.
-use Rattle.std.proofs.Common.{ℕ, ◌==◌, leb, if◌then◌else◌, true, false, [], ◌∷◌, refl}
+-- The order of the tests at each line matters, and so does each comparison: with another one, a script
+-- gets another reply.
+use Rattle.std.proofs.Common.{ℕ, ◌==◌, ◌&&◌, leb, if◌then◌else◌, true, false, [], ◌∷◌, refl}
 use Rattle.bounded_model.specs.declared.answers.TakeRefused.TheVariants.{Empty, Closed, Shut}
 use Rattle.queue_machine.specs.declared.lines.Answer.TheVariants.{Close, Shut as ShutAnswer, Look}
 use Rattle.queue_machine.specs.declared.lines.Call.TheVariants.{Close as CloseCall, Shut as ShutCall, Look as LookCall}
@@ -8,20 +9,22 @@ use Rattle.tagged_index.specs.declared.word.TheConstants.{NULL}
 use Rattle.machine.specs.Words.{same}
 use Rattle.queue_machine.specs.declared.lines.Seeking.TheVariants.{ToRefuse}
 use Rattle.queue_machine.specs.declared.lines.Line.{Line}
-use Rattle.queue_machine.specs.declared.lines.Line.TheVariants.{LoadCells, LoadNext, PrepareNext, LoadTail, CheckTail, LoadHead, LoadTailToTake, CheckHead, SwingTailToTake, CheckHeadToLook}
-use Rattle.queue_machine.specs.Machine.{Memory, Outcome, step, goes_on, ends, found_cells, found_back, back_null, back_closed, found_front}
-use Rattle.step_core.proofs.queue.Scripts.{Way, the_queue, calls, begins, steps, answers, begun, again, ended, Fails}
-use Rattle.step_core.proofs.queue.Cast.{a, b, c, v, w, x, y, z, put, take, put_is, full, put_closed, cells_spent, next_spent, take_is, no_take, shape}
+use Rattle.queue_machine.specs.declared.lines.Line.TheVariants.{LoadCells, LoadNext, PrepareNext, LoadTail, CheckTail, LoadHead, LoadTailToTake, CheckHead, SwingTailToTake, TakeHead, CheckHeadToLook, MarkNext, ShutHead}
+use Rattle.queue_machine.specs.Machine.{queue, Memory, Outcome, step, goes_on, wins_value, ends, found_cells, found_back, back_null, back_closed, found_front}
+use Rattle.step_core.proofs.Scripts.{Fails, calls, begins, steps, answers, begun, again, ended}
+use Rattle.queue_machine.specs.Answers.{shape}
+use Rattle.step_core.proofs.Letters.{a, b, c, v, w, x, y, z}
+use Rattle.step_core.proofs.queue.Cast.{Machines, player, put, take, put_is, full, put_closed, cells_spent, next_spent, take_is, no_take}
 
 -- a put that looks at the limit before it looks for a free cell
-abbrev limit_first : Way
-limit_first = record the_queue { moves = moves }
+abbrev limit_first : Machines
+limit_first s = record (queue s) { step = moves s }
   where
     moves : Shape → Memory ℕ → ℕ → Line ℕ → Outcome ℕ
     moves s m p (LoadCells value) = goes_on m (if leb s.limit m.cells.tag then ends (cells_spent m.cells.tag value) else found_cells s.limit value m.cells)
     moves s m p l = step s m p l
 
-limit_first-fails : Fails limit_first (shape 2 2)
+limit_first-fails : Fails (player limit_first (shape 2 2))
     ((calls a (put x), answers (put_is 0))
     ∷ (calls a (put y), answers (put_is 1))
     ∷ [])
@@ -29,14 +32,14 @@ limit_first-fails : Fails limit_first (shape 2 2)
 limit_first-fails = refl
 
 -- a put that goes to see whether the queue is closed before it refuses at the limit
-abbrev closed_first : Way
-closed_first = record the_queue { moves = moves }
+abbrev closed_first : Machines
+closed_first s = record (queue s) { step = moves s }
   where
     moves : Shape → Memory ℕ → ℕ → Line ℕ → Outcome ℕ
     moves s m p (LoadCells value) = goes_on m (if leb s.limit m.cells.tag then LoadTail (ToRefuse value) else found_cells s.limit value m.cells)
     moves s m p l = step s m p l
 
-closed_first-fails : Fails closed_first (shape 2 2)
+closed_first-fails : Fails (player closed_first (shape 2 2))
     ((calls a (put x), answers (put_is 0))
     ∷ (calls a (put y), answers (put_is 1))
     ∷ (calls a take, answers (take_is 0 x))
@@ -46,14 +49,14 @@ closed_first-fails : Fails closed_first (shape 2 2)
 closed_first-fails = refl
 
 -- a put that prepares its link whatever its tag
-abbrev next_limit_last : Way
-next_limit_last = record the_queue { moves = moves }
+abbrev next_limit_last : Machines
+next_limit_last s = record (queue s) { step = moves s }
   where
     moves : Shape → Memory ℕ → ℕ → Line ℕ → Outcome ℕ
     moves s m p (LoadNext link) = goes_on m (PrepareNext link (m.next link.node))
     moves s m p l = step s m p l
 
-next_limit_last-fails : Fails next_limit_last (shape 1 3)
+next_limit_last-fails : Fails (player next_limit_last (shape 1 3))
     ((calls a (put v), answers (put_is 0))
     ∷ (calls a take, answers (take_is 0 v))
     ∷ (calls a (put w), answers (put_is 1))
@@ -65,14 +68,14 @@ next_limit_last-fails : Fails next_limit_last (shape 1 3)
 next_limit_last-fails = refl
 
 -- who comes to the end of the chain takes null for open before looking at the mark
-abbrev null_before_mark : Way
-null_before_mark = record the_queue { moves = moves }
+abbrev null_before_mark : Machines
+null_before_mark s = record (queue s) { step = moves s }
   where
     moves : Shape → Memory ℕ → ℕ → Line ℕ → Outcome ℕ
     moves s m p (CheckTail seek w n) = goes_on m (if same m.tail w then (if n.index == NULL then back_null seek w n else found_back seek w n) else LoadTail seek)
     moves s m p l = step s m p l
 
-null_before_mark-fails : Fails null_before_mark (shape 1 7)
+null_before_mark-fails : Fails (player null_before_mark (shape 1 7))
     ((calls a (put x), answers (put_is 0))
     ∷ (calls a CloseCall, answers (Close true))
     ∷ [])
@@ -80,14 +83,14 @@ null_before_mark-fails : Fails null_before_mark (shape 1 7)
 null_before_mark-fails = refl
 
 -- and looks at the mark before comparing with the tail
-abbrev link_before_tail : Way
-link_before_tail = record the_queue { moves = moves }
+abbrev link_before_tail : Machines
+link_before_tail s = record (queue s) { step = moves s }
   where
     moves : Shape → Memory ℕ → ℕ → Line ℕ → Outcome ℕ
     moves s m p (CheckTail seek w n) = goes_on m (if n.mark then back_closed seek else if same m.tail w then found_back seek w n else LoadTail seek)
     moves s m p l = step s m p l
 
-link_before_tail-fails : Fails link_before_tail (shape 2 9)
+link_before_tail-fails : Fails (player link_before_tail (shape 2 9))
     ((begins a CloseCall, begun)
     ∷ (steps a 1, again 1)
     ∷ (calls b (put x), answers (put_is 0))
@@ -99,43 +102,43 @@ link_before_tail-fails : Fails link_before_tail (shape 2 9)
 link_before_tail-fails = refl
 
 -- a take that looks whether the queue is shut when it has found a value
-abbrev shut_last : Way
-shut_last = record the_queue { moves = moves }
+abbrev shut_last : Machines
+shut_last s = record (queue s) { step = moves s }
   where
     moves : Shape → Memory ℕ → ℕ → Line ℕ → Outcome ℕ
     moves s m p LoadHead = goes_on m (LoadTailToTake m.head)
     moves s m p (CheckHead h w n) = goes_on m (if same m.head h then (if n.index == NULL then found_front h w n else if h.second then ends (no_take Shut) else found_front h w n) else LoadHead)
     moves s m p l = step s m p l
 
-shut_last-fails : Fails shut_last (shape 1 7)
+shut_last-fails : Fails (player shut_last (shape 1 7))
     ((calls a ShutCall, answers (ShutAnswer true))
     ∷ [])
     (calls a take, answers (no_take Shut)) (answers (no_take Empty))
 shut_last-fails = refl
 
 -- a take that takes null for empty before looking at the mark
-abbrev empty_before_closed : Way
-empty_before_closed = record the_queue { moves = moves }
+abbrev empty_before_closed : Machines
+empty_before_closed s = record (queue s) { step = moves s }
   where
     moves : Shape → Memory ℕ → ℕ → Line ℕ → Outcome ℕ
     moves s m p (CheckHead h w n) = goes_on m (if same m.head h then (if n.index == NULL then ends (no_take Empty) else found_front h w n) else LoadHead)
     moves s m p l = step s m p l
 
-empty_before_closed-fails : Fails empty_before_closed (shape 1 7)
+empty_before_closed-fails : Fails (player empty_before_closed (shape 1 7))
     ((calls a CloseCall, answers (Close true))
     ∷ [])
     (calls a take, answers (no_take Closed)) (answers (no_take Empty))
 empty_before_closed-fails = refl
 
 -- a take that looks for null before comparing with the head
-abbrev link_before_head : Way
-link_before_head = record the_queue { moves = moves }
+abbrev link_before_head : Machines
+link_before_head s = record (queue s) { step = moves s }
   where
     moves : Shape → Memory ℕ → ℕ → Line ℕ → Outcome ℕ
     moves s m p (CheckHead h w n) = goes_on m (if n.index == NULL then found_front h w n else if same m.head h then found_front h w n else LoadHead)
     moves s m p l = step s m p l
 
-link_before_head-fails : Fails link_before_head (shape 2 9)
+link_before_head-fails : Fails (player link_before_head (shape 2 9))
     ((begins a take, begun)
     ∷ (steps a 1, again 1)
     ∷ (calls b (put x), answers (put_is 0))
@@ -146,29 +149,48 @@ link_before_head-fails : Fails link_before_head (shape 2 9)
     (steps a 3, again 4) (ended (no_take Empty) 4)
 link_before_head-fails = refl
 
+-- and one that looks at the mark before comparing with the head: it answers closed, although a value is there
+abbrev mark_before_head : Machines
+mark_before_head s = record (queue s) { step = moves s }
+  where
+    moves : Shape → Memory ℕ → ℕ → Line ℕ → Outcome ℕ
+    moves s m p (CheckHead h w n) = goes_on m (if n.mark then found_front h w n else if same m.head h then found_front h w n else LoadHead)
+    moves s m p l = step s m p l
+
+mark_before_head-fails : Fails (player mark_before_head (shape 2 9))
+    ((begins a take, begun)
+    ∷ (steps a 1, again 1)
+    ∷ (calls b (put x), answers (put_is 0))
+    ∷ (calls b take, answers (take_is 0 x))
+    ∷ (calls b (put y), answers (put_is 1))
+    ∷ (calls b CloseCall, answers (Close true))
+    ∷ [])
+    (steps a 3, again 4) (ended (no_take Closed) 4)
+mark_before_head-fails = refl
+
 -- a take that looks where the tail is before it looks for null: it moves the tail to no node
-abbrev tail_before_null : Way
-tail_before_null = record the_queue { moves = moves }
+abbrev tail_before_null : Machines
+tail_before_null s = record (queue s) { step = moves s }
   where
     moves : Shape → Memory ℕ → ℕ → Line ℕ → Outcome ℕ
     moves s m p (CheckHead h w n) = goes_on m (if same m.head h then (if w.index == h.index then SwingTailToTake w n else found_front h w n) else LoadHead)
     moves s m p l = step s m p l
 
-tail_before_null-fails : Fails tail_before_null (shape 1 15)
+tail_before_null-fails : Fails (player tail_before_null (shape 1 15))
     ((begins a take, begun)
     ∷ [])
     (steps a 4, ended (no_take Empty) 4) (again 4)
 tail_before_null-fails = refl
 
 -- a look that answers without comparing with the head
-abbrev link_before_answer : Way
-link_before_answer = record the_queue { moves = moves }
+abbrev link_before_answer : Machines
+link_before_answer s = record (queue s) { step = moves s }
   where
     moves : Shape → Memory ℕ → ℕ → Line ℕ → Outcome ℕ
     moves s m p (CheckHeadToLook h n) = goes_on m (ends (Look (n.index == NULL)))
     moves s m p l = step s m p l
 
-link_before_answer-fails : Fails link_before_answer (shape 2 9)
+link_before_answer-fails : Fails (player link_before_answer (shape 2 9))
     ((begins a LookCall, begun)
     ∷ (steps a 1, again 1)
     ∷ (calls b (put x), answers (put_is 0))
@@ -176,3 +198,47 @@ link_before_answer-fails : Fails link_before_answer (shape 2 9)
     ∷ [])
     (steps a 2, again 3) (ended (Look false) 3)
 link_before_answer-fails = refl
+
+-- an exchange of the head that compares the index and the tag and no mark: a take wins against a shut
+abbrev mark_overlooked : Machines
+mark_overlooked s = record (queue s) { step = moves s }
+  where
+    moves : Shape → Memory ℕ → ℕ → Line ℕ → Outcome ℕ
+    moves s m p (TakeHead h n k) = if m.head.index == h.index && m.head.tag == h.tag then wins_value m p h n k (m.home k) else goes_on m LoadHead
+    moves s m p l = step s m p l
+
+mark_overlooked-fails : Fails (player mark_overlooked (shape 2 7))
+    ((calls a (put x), answers (put_is 0))
+    ∷ (calls a (put y), answers (put_is 1))
+    ∷ (begins b take, begun)
+    ∷ (steps b 5, again 5)
+    ∷ (calls a ShutCall, answers (ShutAnswer true))
+    ∷ (steps b 1, again 6)
+    ∷ [])
+    (steps b 20, ended (no_take Shut) 7) (ended (take_is 0 x) 12)
+mark_overlooked-fails = refl
+
+-- a close and a shut that answer although their mark was lost
+abbrev marks_anyway : Machines
+marks_anyway s = record (queue s) { step = moves s }
+  where
+    moves : Shape → Memory ℕ → ℕ → Line ℕ → Outcome ℕ
+    moves s m p (MarkNext w n) = if same (m.next w.index) n then step s m p (MarkNext w n) else goes_on m (ends (Close true))
+    moves s m p (ShutHead h) = if same m.head h then step s m p (ShutHead h) else goes_on m (ends (ShutAnswer true))
+    moves s m p l = step s m p l
+
+marks_anyway-closes : Fails (player marks_anyway (shape 2 7))
+    ((begins a CloseCall, begun)
+    ∷ (steps a 3, again 3)
+    ∷ (calls b (put x), answers (put_is 0))
+    ∷ [])
+    (steps a 20, ended (Close true) 8) (ended (Close true) 4)
+marks_anyway-closes = refl
+
+marks_anyway-shuts : Fails (player marks_anyway (shape 2 7))
+    ((begins a ShutCall, begun)
+    ∷ (steps a 1, again 1)
+    ∷ (calls b ShutCall, answers (ShutAnswer true))
+    ∷ [])
+    (steps a 9, ended (ShutAnswer false) 3) (ended (ShutAnswer true) 2)
+marks_anyway-shuts = refl

@@ -2,13 +2,16 @@
 -- to refuse meet.
 use Rattle.std.proofs.Common.{◌≡◌, ℕ, Bool, List, drop, map, replicate, true, false, [], ◌∷◌, refl}
 use Rattle.bounded_model.specs.declared.answers.TakeRefused.TheVariants.{Empty, Closed, Shut}
+use Rattle.queue_machine.specs.declared.lines.Answer.{Answer}
 use Rattle.queue_machine.specs.declared.lines.Answer.TheVariants.{Close, Shut as ShutAnswer, Look}
 use Rattle.queue_machine.specs.declared.lines.Call.TheVariants.{Close as CloseCall, Shut as ShutCall, Look as LookCall}
-use Rattle.step_core.proofs.queue.Scripts.{Reply, the_queue, curtain, replies, calls, begins, steps, finish, answers, begun, again, ended, rest, Plays}
-use Rattle.step_core.proofs.queue.Cast.{a, b, c, u, v, w, x, y, z, put, take, put_is, full, put_closed, cells_spent, next_spent, take_is, no_take, shape}
+use Rattle.step_core.proofs.Scripts.{Reply, curtain, replies, calls, begins, steps, finish, answers, begun, again, ended, rest, Plays}
+use Rattle.queue_machine.specs.Answers.{shape}
+use Rattle.step_core.proofs.Letters.{a, b, c, u, v, w, x, y, z}
+use Rattle.step_core.proofs.queue.Cast.{plays, put, take, put_is, full, put_closed, cells_spent, next_spent, take_is, no_take}
 
 -- a look sees the value that was put while it was under way; a shut finds the queue shut by another
-look_and_shut : Plays (shape 2 7)
+look_and_shut : Plays (plays (shape 2 7))
     ((begins a LookCall, begun)
     ∷ (steps a 1, again 1)
     ∷ (calls b (put x), answers (put_is 0))
@@ -24,7 +27,7 @@ look_and_shut : Plays (shape 2 7)
 look_and_shut = refl
 
 -- a put overtakes a close, which then closes behind it
-put_overtakes_close : Plays (shape 2 7)
+put_overtakes_close : Plays (plays (shape 2 7))
     ((begins a CloseCall, begun)
     ∷ (steps a 3, again 3)
     ∷ (calls b (put x), answers (put_is 0))
@@ -37,7 +40,7 @@ put_overtakes_close : Plays (shape 2 7)
 put_overtakes_close = refl
 
 -- a close finds the queue closed by another
-close_overtakes_close : Plays (shape 2 7)
+close_overtakes_close : Plays (plays (shape 2 7))
     ((begins a CloseCall, begun)
     ∷ (steps a 2, again 2)
     ∷ (calls b CloseCall, answers (Close true))
@@ -47,7 +50,7 @@ close_overtakes_close : Plays (shape 2 7)
 close_overtakes_close = refl
 
 -- a put that has found no cell sees the close
-close_overtakes_full : Plays (shape 1 7)
+close_overtakes_full : Plays (plays (shape 1 7))
     ((calls a (put x), answers (put_is 0))
     ∷ (begins b (put y), begun)
     ∷ (steps b 2, again 2)
@@ -58,7 +61,7 @@ close_overtakes_full : Plays (shape 1 7)
 close_overtakes_full = refl
 
 -- a put that has found no cell moves the tail that another put left behind
-full_helps : Plays (shape 2 9)
+full_helps : Plays (plays (shape 2 9))
     ((calls a (put x), answers (put_is 0))
     ∷ (begins c (put z), begun)
     ∷ (steps c 13, again 13)
@@ -69,7 +72,7 @@ full_helps : Plays (shape 2 9)
 full_helps = refl
 
 -- a close moves the tail on, and takes go on
-close_helps : Plays (shape 3 9)
+close_helps : Plays (plays (shape 3 9))
     ((begins a (put x), begun)
     ∷ (steps a 13, again 13)
     ∷ (begins b CloseCall, begun)
@@ -82,7 +85,7 @@ close_helps : Plays (shape 3 9)
 close_helps = refl
 
 -- a pass that stops after it has taken its cell and its node keeps the cell: one value fits
-put_left : Plays (shape 2 7)
+put_left : Plays (plays (shape 2 7))
     ((calls a (put x), answers (put_is 0))
     ∷ (begins b (put y), begun)
     ∷ (steps b 7, again 7)
@@ -93,8 +96,35 @@ put_left : Plays (shape 2 7)
     ∷ [])
 put_left = refl
 
+-- a put that stops when it has its cell, and is dropped: another pass finds the queue full and empty
+put_dropped : Plays (plays (shape 1 7))
+    ((begins a (put x), begun)
+    ∷ (steps a 3, again 3)
+    ∷ (calls b (put y), answers (full y))
+    ∷ (calls c (put z), answers (full z))
+    ∷ (calls b take, answers (no_take Empty))
+    ∷ (calls b CloseCall, answers (Close true))
+    ∷ (calls b (put y), answers (put_closed y))
+    ∷ (finish, rest ([]))
+    ∷ [])
+put_dropped = refl
+
+-- looks, and a take that was begun before another took the value
+looks : Plays (plays (shape 1 7))
+    ((calls a LookCall, answers (Look true))
+    ∷ (calls a (put x), answers (put_is 0))
+    ∷ (calls a LookCall, answers (Look false))
+    ∷ (calls c LookCall, answers (Look false))
+    ∷ (begins a LookCall, begun)
+    ∷ (steps a 3, ended (Look false) 3)
+    ∷ (begins a take, begun)
+    ∷ (calls b take, answers (take_is 0 x))
+    ∷ (steps a 40, ended (no_take Empty) 4)
+    ∷ [])
+looks = refl
+
 -- the tag of the free cells is looked at before the end of the chain
-spent_before_closed : Plays (shape 2 2)
+spent_before_closed : Plays (plays (shape 2 2))
     ((calls a (put x), answers (put_is 0))
     ∷ (calls a (put y), answers (put_is 1))
     ∷ (calls a take, answers (take_is 0 x))
@@ -106,7 +136,7 @@ spent_before_closed : Plays (shape 2 2)
 spent_before_closed = refl
 
 -- and so is the tag of the node's link
-next_spent_before_closed : Plays (shape 1 3)
+next_spent_before_closed : Plays (plays (shape 1 3))
     ((calls a (put v), answers (put_is 0))
     ∷ (calls a take, answers (take_is 0 v))
     ∷ (calls a (put w), answers (put_is 1))
@@ -118,7 +148,7 @@ next_spent_before_closed : Plays (shape 1 3)
 next_spent_before_closed = refl
 
 -- no free cell, and the tag of their top at the limit: the queue is full
-null_before_limit : Plays (shape 2 2)
+null_before_limit : Plays (plays (shape 2 2))
     ((calls a (put x), answers (put_is 0))
     ∷ (calls a (put y), answers (put_is 1))
     ∷ (calls a (put z), answers (full z))
@@ -128,7 +158,7 @@ null_before_limit : Plays (shape 2 2)
 null_before_limit = refl
 
 -- shut before empty and before closed
-shut_before_empty : Plays (shape 1 7)
+shut_before_empty : Plays (plays (shape 1 7))
     ((calls a ShutCall, answers (ShutAnswer true))
     ∷ (calls a take, answers (no_take Shut))
     ∷ (calls a CloseCall, answers (Close true))
@@ -139,7 +169,7 @@ shut_before_empty : Plays (shape 1 7)
 shut_before_empty = refl
 
 -- a close finds another tail, and so takes no link of the old one to be the last
-tail_before_link : Plays (shape 2 9)
+tail_before_link : Plays (plays (shape 2 9))
     ((begins a CloseCall, begun)
     ∷ (steps a 1, again 1)
     ∷ (calls b (put x), answers (put_is 0))
@@ -152,7 +182,7 @@ tail_before_link : Plays (shape 2 9)
 tail_before_link = refl
 
 -- a take finds another head, and so takes no link of the old one to be the first
-head_before_link : Plays (shape 2 9)
+head_before_link : Plays (plays (shape 2 9))
     ((begins a take, begun)
     ∷ (steps a 1, again 1)
     ∷ (calls b (put x), answers (put_is 0))
@@ -164,8 +194,22 @@ head_before_link : Plays (shape 2 9)
     ∷ [])
 head_before_link = refl
 
--- and so does a look
-head_before_answer : Plays (shape 2 9)
+-- nor for the mark
+head_before_mark : Plays (plays (shape 2 9))
+    ((begins a take, begun)
+    ∷ (steps a 1, again 1)
+    ∷ (calls b (put x), answers (put_is 0))
+    ∷ (calls b take, answers (take_is 0 x))
+    ∷ (calls b (put y), answers (put_is 1))
+    ∷ (calls b CloseCall, answers (Close true))
+    ∷ (steps a 3, again 4)
+    ∷ (steps a 20, ended (take_is 1 y) 16)
+    ∷ (calls a take, answers (no_take Closed))
+    ∷ [])
+head_before_mark = refl
+
+-- a look finds another head too
+head_before_answer : Plays (plays (shape 2 9))
     ((begins a LookCall, begun)
     ∷ (steps a 1, again 1)
     ∷ (calls b (put x), answers (put_is 0))
@@ -177,19 +221,19 @@ head_before_answer = refl
 
 -- A put stops after k of its steps while others put, take and close, and a take while others take and
 -- put: with 32 steps more each has ended
-abbrev has_ended : List Reply → Bool
+abbrev has_ended : List (Reply (Answer ℕ)) → Bool
 has_ended (ended answer count ∷ []) = true
 has_ended replies = false
 
 abbrev put_ends : ℕ → Bool
-put_ends k = has_ended (drop 8 (replies the_queue (shape 2 7) (curtain (shape 2 7))
+put_ends k = has_ended (drop 8 (replies (plays (shape 2 7)) (curtain (plays (shape 2 7)))
     (calls b (put v) ∷ begins a (put y) ∷ steps a k ∷ calls b (put w) ∷ calls b take ∷ calls b take ∷ calls b take ∷ calls b CloseCall ∷ steps a 32 ∷ [])))
 
 puts_end : map put_ends (0 ∷ 1 ∷ 2 ∷ 3 ∷ 4 ∷ 5 ∷ 6 ∷ 7 ∷ 8 ∷ 9 ∷ 10 ∷ 11 ∷ 12 ∷ 13 ∷ []) ≡ replicate 14 true
 puts_end = refl
 
 abbrev take_ends : ℕ → Bool
-take_ends k = has_ended (drop 8 (replies the_queue (shape 2 7) (curtain (shape 2 7))
+take_ends k = has_ended (drop 8 (replies (plays (shape 2 7)) (curtain (plays (shape 2 7)))
     (calls b (put v) ∷ calls b (put w) ∷ begins a take ∷ steps a k ∷ calls b take ∷ calls b take ∷ calls b (put x) ∷ calls b (put u) ∷ steps a 32 ∷ [])))
 
 takes_end : map take_ends (0 ∷ 1 ∷ 2 ∷ 3 ∷ 4 ∷ 5 ∷ 6 ∷ 7 ∷ 8 ∷ 9 ∷ 10 ∷ 11 ∷ []) ≡ replicate 12 true

@@ -11,7 +11,7 @@ use Rattle.bounded_model.specs.declared.answers.TakeRefused.TheVariants.{Empty a
 use Rattle.bounded_model.specs.declared.history.Event.{Event}
 use Rattle.bounded_model.specs.declared.history.Event.TheVariants.{Hold, Put, Free, Close, Shut}
 use Rattle.machine.specs.Words.{Tagged, same, raised}
-use Rattle.machine.proofs.Tests.{cases, same-is, same-self}
+use Rattle.machine.proofs.Tests.{cases, same-is, one_of, fresh, same-self}
 use Rattle.machine.proofs.Lists.{times_here}
 use Rattle.queue_machine.specs.declared.lines.Seeking.{Seeking}
 use Rattle.queue_machine.specs.declared.lines.Seeking.TheVariants.{ToLink, ToRefuse, ToClose}
@@ -87,14 +87,6 @@ module _ {T : Type 0} where
   rank m l = rank_of m.cells m.nodes m.head m.tail m.next (lag m) (late m) l
 
 -- choices between numbers
-
-pub one_of : (b : Bool) (x y k : ℕ) → x ≤ k → y ≤ k → cond b x y ≤ k
-one_of true x y k h h' = h
-one_of false x y k h h' = h'
-
--- a word that was just read is still there
-fresh : (w : Tagged) (x y r : ℕ) → x < r → cond (same w w) x y < r
-fresh w x y r h = rw (same-self w) h
 
 -- a step between a load and its exchange
 nearer : (b : Bool) (x y x' y' : ℕ) → x < x' → y < y' → cond b x y < cond b x' y'

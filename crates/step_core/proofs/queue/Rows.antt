@@ -1,13 +1,16 @@
 -- Worked scripts of the queue: the machine computes their replies and step counts.
 use Rattle.std.proofs.Common.{◌≡◌, ℕ, List, drop, map, replicate, true, false, [], ◌∷◌, refl}
 use Rattle.bounded_model.specs.declared.answers.TakeRefused.TheVariants.{Empty, Closed, Shut}
+use Rattle.queue_machine.specs.declared.lines.Answer.{Answer}
 use Rattle.queue_machine.specs.declared.lines.Answer.TheVariants.{Close, Shut as ShutAnswer, Look}
 use Rattle.queue_machine.specs.declared.lines.Call.TheVariants.{Close as CloseCall, Shut as ShutCall, Look as LookCall}
-use Rattle.step_core.proofs.queue.Scripts.{Reply, the_queue, curtain, replies, calls, begins, steps, finish, answers, begun, again, ended, rest, Plays}
-use Rattle.step_core.proofs.queue.Cast.{a, b, c, u, v, w, x, y, z, put, take, put_is, full, put_closed, cells_spent, next_spent, take_is, no_take, shape}
+use Rattle.step_core.proofs.Scripts.{Reply, curtain, replies, calls, begins, steps, finish, answers, begun, again, ended, rest, Plays}
+use Rattle.queue_machine.specs.Answers.{shape}
+use Rattle.step_core.proofs.Letters.{a, b, c, u, v, w, x, y, z}
+use Rattle.step_core.proofs.queue.Cast.{plays, put, take, put_is, full, put_closed, cells_spent, next_spent, take_is, no_take}
 
 -- one cell
-smallest : Plays (shape 1 7)
+smallest : Plays (plays (shape 1 7))
     ((calls a (put x), answers (put_is 0))
     ∷ (calls a (put y), answers (full y))
     ∷ (calls a take, answers (take_is 0 x))
@@ -17,7 +20,7 @@ smallest : Plays (shape 1 7)
 smallest = refl
 
 -- how many steps a put and a take make alone
-alone : Plays (shape 2 7)
+alone : Plays (plays (shape 2 7))
     ((begins a (put x), begun)
     ∷ (steps a 13, again 13)
     ∷ (steps a 1, ended (put_is 0) 14)
@@ -28,7 +31,7 @@ alone : Plays (shape 2 7)
 alone = refl
 
 -- a full put, an empty take, look, close, shut
-alone_refused : Plays (shape 1 15)
+alone_refused : Plays (plays (shape 1 15))
     ((begins a take, begun)
     ∷ (steps a 40, ended (no_take Empty) 4)
     ∷ (calls a (put x), answers (put_is 0))
@@ -44,7 +47,7 @@ alone_refused : Plays (shape 1 15)
 alone_refused = refl
 
 -- full, although no value is there: a put holds the cell
-full_and_empty : Plays (shape 1 7)
+full_and_empty : Plays (plays (shape 1 7))
     ((begins a (put x), begun)
     ∷ (steps a 3, again 3)
     ∷ (calls b (put y), answers (full y))
@@ -54,7 +57,7 @@ full_and_empty : Plays (shape 1 7)
 full_and_empty = refl
 
 -- a take moves the tail that a put left behind
-helped : Plays (shape 2 7)
+helped : Plays (plays (shape 2 7))
     ((begins a (put x), begun)
     ∷ (steps a 13, again 13)
     ∷ (begins b take, begun)
@@ -64,7 +67,7 @@ helped : Plays (shape 2 7)
 helped = refl
 
 -- a take holds its cell until it gives it back
-taker_holds : Plays (shape 1 7)
+taker_holds : Plays (plays (shape 1 7))
     ((calls a (put x), answers (put_is 0))
     ∷ (begins a take, begun)
     ∷ (steps a 6, again 6)
@@ -76,7 +79,7 @@ taker_holds : Plays (shape 1 7)
 taker_holds = refl
 
 -- closed comes before full
-closed_before_full : Plays (shape 1 7)
+closed_before_full : Plays (plays (shape 1 7))
     ((calls a (put x), answers (put_is 0))
     ∷ (calls a CloseCall, answers (Close true))
     ∷ (calls a (put y), answers (put_closed y))
@@ -89,7 +92,7 @@ closed_before_full : Plays (shape 1 7)
 closed_before_full = refl
 
 -- a close overtakes a put that is about to link its node
-overtaken : Plays (shape 2 7)
+overtaken : Plays (plays (shape 2 7))
     ((begins a (put x), begun)
     ∷ (steps a 12, again 12)
     ∷ (calls b CloseCall, answers (Close true))
@@ -101,7 +104,7 @@ overtaken : Plays (shape 2 7)
 overtaken = refl
 
 -- the tag of the free cells at the limit
-cells_worn : Plays (shape 4 2)
+cells_worn : Plays (plays (shape 4 2))
     ((calls a (put x), answers (put_is 0))
     ∷ (calls a (put y), answers (put_is 1))
     ∷ (begins a (put z), begun)
@@ -113,7 +116,7 @@ cells_worn : Plays (shape 4 2)
 cells_worn = refl
 
 -- the tag of a link near the limit
-next_worn : Plays (shape 1 3)
+next_worn : Plays (plays (shape 1 3))
     ((calls a (put v), answers (put_is 0))
     ∷ (calls a take, answers (take_is 0 v))
     ∷ (calls a (put w), answers (put_is 1))
@@ -125,7 +128,7 @@ next_worn : Plays (shape 1 3)
 next_worn = refl
 
 -- what is left
-left_over : Plays (shape 3 7)
+left_over : Plays (plays (shape 3 7))
     ((calls a (put x), answers (put_is 0))
     ∷ (calls a (put y), answers (put_is 1))
     ∷ (calls a (put z), answers (put_is 2))
@@ -135,7 +138,7 @@ left_over : Plays (shape 3 7)
 left_over = refl
 
 -- a put that stops after its link has put its value
-stopped_after_link : Plays (shape 2 7)
+stopped_after_link : Plays (plays (shape 2 7))
     ((calls a (put x), answers (put_is 0))
     ∷ (begins b (put y), begun)
     ∷ (steps b 13, again 13)
@@ -144,7 +147,7 @@ stopped_after_link : Plays (shape 2 7)
 stopped_after_link = refl
 
 -- at the lost exchange HEAD names the old node again, with another tag
-same_head_other_tag : Plays (shape 1 15)
+same_head_other_tag : Plays (plays (shape 1 15))
     ((calls b (put x), answers (put_is 0))
     ∷ (begins a take, begun)
     ∷ (steps a 5, again 5)
@@ -159,7 +162,7 @@ same_head_other_tag : Plays (shape 1 15)
 same_head_other_tag = refl
 
 -- a link of a node that was used again
-stale_link : Plays (shape 2 15)
+stale_link : Plays (plays (shape 2 15))
     ((begins a (put x), begun)
     ∷ (steps a 12, again 12)
     ∷ (calls b (put y), answers (put_is 0))
@@ -173,7 +176,7 @@ stale_link : Plays (shape 2 15)
 stale_link = refl
 
 -- at the lost exchange NODES names the old node again, with another tag
-same_node_other_tag : Plays (shape 3 15)
+same_node_other_tag : Plays (plays (shape 3 15))
     ((begins a (put x), begun)
     ∷ (steps a 5, again 5)
     ∷ (calls b (put y), answers (put_is 0))
@@ -189,7 +192,7 @@ same_node_other_tag : Plays (shape 3 15)
 same_node_other_tag = refl
 
 -- a shut overtakes a take
-shut_queue : Plays (shape 2 7)
+shut_queue : Plays (plays (shape 2 7))
     ((calls a (put x), answers (put_is 0))
     ∷ (calls a (put y), answers (put_is 1))
     ∷ (begins b take, begun)
@@ -208,7 +211,7 @@ shut_queue : Plays (shape 2 7)
 shut_queue = refl
 
 -- many lost exchanges
-longest : Plays (shape 3 15)
+longest : Plays (plays (shape 3 15))
     ((begins a (put x), begun)
     ∷ (steps a 2, again 2)
     ∷ (calls b (put y), answers (put_is 0))
@@ -220,8 +223,8 @@ longest : Plays (shape 3 15)
 longest = refl
 
 -- A put stops for good after k of its steps: what other calls answer from then on
-abbrev after_stopped_put : ℕ → List Reply
-after_stopped_put k = drop 3 (replies the_queue (shape 2 7) (curtain (shape 2 7))
+abbrev after_stopped_put : ℕ → List (Reply (Answer ℕ))
+after_stopped_put k = drop 3 (replies (plays (shape 2 7)) (curtain (plays (shape 2 7)))
     (calls b (put v) ∷ begins a (put y) ∷ steps a k ∷ calls b (put w) ∷ calls b take ∷ calls b take ∷ calls b take ∷ calls b CloseCall ∷ finish ∷ []))
 
 put_stopped_early : map after_stopped_put (0 ∷ 1 ∷ 2 ∷ [])
@@ -238,8 +241,8 @@ put_stopped_late : after_stopped_put 13 ≡ answers (full w) ∷ answers (take_i
 put_stopped_late = refl
 
 -- A take stops for good after k of its steps
-abbrev after_stopped_take : ℕ → List Reply
-after_stopped_take k = drop 4 (replies the_queue (shape 2 7) (curtain (shape 2 7))
+abbrev after_stopped_take : ℕ → List (Reply (Answer ℕ))
+after_stopped_take k = drop 4 (replies (plays (shape 2 7)) (curtain (plays (shape 2 7)))
     (calls b (put v) ∷ calls b (put w) ∷ begins a take ∷ steps a k ∷ calls b take ∷ calls b take ∷ calls b (put x) ∷ calls b (put u) ∷ finish ∷ []))
 
 take_stopped_early : map after_stopped_take (0 ∷ 1 ∷ 2 ∷ 3 ∷ 4 ∷ 5 ∷ [])

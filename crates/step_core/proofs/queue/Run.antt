@@ -1,31 +1,27 @@
 -- The queue's machine in every schedule.
-use Rattle.std.proofs.Common.{◌≡◌, ℕ, zero, suc, ◌<◌, true, List, [], ◌∷◌, ◌++◌, map, set, replicate, refl, sym, ap, ◌∙◌, subst, ⊎_elim, None, arith}
+use Rattle.std.proofs.Common.{◌≡◌, ℕ, ◌<◌, Bool, true, false, List, [], map, set, refl, sym, ap, ◌∙◌, subst, None, Some, arith}
 use Rattle.std.proofs.lemmas.Bool.{false≢true}
-use Rattle.std.proofs.lemmas.List.{map-set}
 use mathlib.Core.Option.{Option, none, some}
 use lib.ListN.{get_elem?}
 use Rattle.tagged_index.specs.declared.word.TheConstants.{NULL}
 use Rattle.bounded_model.specs.declared.history.Event.{Event}
 use Rattle.bounded_model.specs.Machine.{without_first}
-use Rattle.bounded_model.specs.Histories.{Later}
-use Rattle.bounded_model.proofs.Histories.{Later-refl, Later-trans}
 use Rattle.machine.specs.Words.{times}
-use Rattle.machine.specs.Chains.{last}
-use Rattle.machine.specs.Chains.{HasValues}
-use Rattle.machine.proofs.Tests.{cases}
-use Rattle.machine.proofs.Sums.{total_map, at_set}
+use Rattle.machine.specs.Chains.{last, HasValues}
+use Rattle.machine.specs.Schedule.{Act, run, start}
+use Rattle.machine.proofs.Sums.{total_map, at_map}
 use Rattle.machine.proofs.OneList.{front}
-use Rattle.machine.proofs.Sums.{same_at, at_map}
+use Rattle.machine.proofs.Scheduled.{run_kept}
+use Rattle.machine.proofs.Stories.{Told, Stays, stays_holds, start_stays}
+use Rattle.queue_machine.specs.declared.lines.Answer.{Answer}
 use Rattle.queue_machine.specs.declared.lines.Call.{Call}
 use Rattle.queue_machine.specs.declared.lines.Call.TheVariants.{Put as CallPut, Take as CallTake, Close as CallClose, Shut as CallShut, Look as CallLook}
-use Rattle.step_core.specs.queue.Schedule.{Pass, State, stepped, begun, Act, Begin, Step, acts, acts_at, run, start}
 use Rattle.queue_machine.specs.declared.lines.Line.{Line}
 use Rattle.queue_machine.specs.declared.lines.Line.TheVariants.{Idle}
-use Rattle.queue_machine.specs.Machine.{held_cells, held_nodes, is_idle, starts, step, next_of}
+use Rattle.queue_machine.specs.Machine.{Memory, Pass, State, held_cells, held_nodes, is_idle, starts, next_of, queue}
 use Rattle.queue_machine.specs.Answers.{shape, state}
-use Rattle.step_core.specs.queue.Law.{Knows, Lawful}
-use Rattle.step_core.specs.queue.Stays.{Stays}
-use Rattle.queue_machine.specs.Rule.{Lists, IsFine, Tells, bare, wanting, putting, Good, Kept}
+use Rattle.queue_machine.specs.Rule.{Lists, IsFine, Tells, bare, wanting, putting, Kept}
+use Rattle.queue_machine.specs.Deeds.{Deeds}
 use Rattle.queue_machine.proofs.Chain.{head_in}
 use Rattle.queue_machine.proofs.Raises.{puts_passed, puts_within}
 use Rattle.queue_machine.proofs.Start.{start_kept, end_marked}
@@ -33,98 +29,79 @@ use Rattle.queue_machine.proofs.StepKinds.{Alike, good_goes}
 use Rattle.queue_machine.proofs.Step.{step_kept}
 use Rattle.queue_machine.proofs.Answers.{node_there, node_below}
 use Rattle.queue_machine.proofs.Tells.{tells_kept, step_apart}
+use Rattle.queue_machine.proofs.Doing.{meanwhile, begins, step_does}
+use Rattle.step_core.specs.queue.Bound.{MeetsRule}
+use Rattle.step_core.specs.queue.Law.{Lawful, HasAnswered, AllDone}
 
-module _ {T : Type 0} where
-  module _ (n limit : ℕ) (s : State T) (p : ℕ) (v : Pass T) (x : Stays n limit s) (e : get_elem? s.passes p ≡ some v) where
-    here : get_elem? (map (λ (u : Pass T). u.line) s.passes) p ≡ some v.line
-    here = at_map (λ (u : Pass T). u.line) s.passes p v e
+module _ {T : Type 0} (n limit : ℕ) where
+  -- between any two acts the words, cells and lines are right for the history
+  abbrev pub Rule : Memory T → List (Line T) → List (Event T) → Type 0
+  Rule m lines h = Kept T n limit m some lines h
 
-    lines_set : (u : Pass T) → map (λ (u : Pass T). u.line) (set s.passes p u) ≡ set (map (λ (u : Pass T). u.line) s.passes) p u.line
-    lines_set u = map-set (λ (u : Pass T). u.line) s.passes p u
+  -- what a pass has done since it began its call; one that has begun none is idle and has not answered
+  abbrev IsDoing : ℕ → Option (Call T) → Line T → List (Event T) → List (Event T) → Type 0
+  IsDoing p none l begun seen = l ≡ Idle None
+  IsDoing p (some call) l begun seen = Deeds p call l begun seen
 
-    stepped_kept : Stays n limit (stepped s p v (step (shape n limit) s.memory p v.line))
-    stepped_kept =
-        let o = step (shape n limit) s.memory p v.line in
-        let newer = o.events ++ s.history in
-        let u : Pass T = record v { line = o.line; seen = newer } in
-        let know = x.knows p v e in
-        let grows : Later s.history newer = record { more = o.events; is = refl } in
-        record {
-          kept = subst (λ (ls : List (Line T)). Kept T n limit o.memory some ls newer) (sym (lines_set u)) (step_kept n limit s.memory some (map (λ (u : Pass T). u.line) s.passes) s.history p p refl x.kept v.line here);
-          knows = λ q w at. ⊎_elim
-              (λ t. let mine : Knows p u newer = record { before = Later-trans know.before (Later-trans know.now grows); now = Later-refl newer; own_events = refl } in
-              subst (λ (y : ℕ). Knows y w newer) (sym t.0) (subst (λ (y : Pass T). Knows p y newer) t.1 mine))
-              (λ t. let old = x.knows q w t.1 in
-              record { before = old.before; now = Later-trans old.now grows; own_events = step_apart (shape n limit) s.memory p q t.0 s.history v.line ∙ old.own_events })
-              (at_set s.passes p q u w at);
-          tells = λ q w at. ⊎_elim
-              (λ t. subst (λ (y : Pass T). Tells n limit y.begun y.seen y.line) t.1 (tells_kept x.kept.good p p v.begun v.seen know.before know.now v.line here (x.tells p v e)))
-              (λ t. x.tells q w t.1)
-              (at_set s.passes p q u w at);
-        }
+  -- each pass's answer is right, and it has done what its line says
+  abbrev Story : ℕ → Option (Call T) → Line T → List (Event T) → List (Event T) → Type 0
+  Story p call l begun seen = Tells n limit begun seen l × IsDoing p call l begun seen
 
-    idle_alike : (l l' : Line T) → is_idle l ≡ true → held_cells l' ≡ [] → held_nodes l' ≡ [] → bare l' ≡ 0 → wanting l' ≡ 0 → putting l' ≡ 0 → Alike l l'
-    idle_alike (Idle a) l' h cells nodes bare_none wants puts = record { cells = cells; nodes = nodes; bare_same = bare_none; wanting_less = omega arith; putting_less = omega arith }
-    idle_alike l l' h cells nodes bare_none wants puts = absurd (false≢true h)
+  module _ (m : Memory T) (lines : List (Line T)) (h : List (Event T)) (p : ℕ) (l : Line T) (x : Rule m lines h) (e : get_elem? lines p ≡ some l) (idle : is_idle l ≡ true) where
+    begun_kept : (call : Call T) → Alike l (starts call) → ((g : Lists) → IsFine limit m g (starts call)) → Rule m (set lines p (starts call)) h
+    begun_kept call alike fine = record { lists = x.lists; good = good_goes p l (starts call) x.good e alike (fine x.lists) }
 
-    begun_kept : (call : Call T) → Alike v.line (starts call) → ((g : Lists) → IsFine limit s.memory g (starts call)) → ((b h : List (Event T)) → Tells n limit b h (starts call)) → Stays n limit (begun s p v call)
-    begun_kept call alike fine tells =
-        let u : Pass T = record v { line = starts call; call = some call; begun = v.seen } in
-        let know = x.knows p v e in
-        let good = good_goes p v.line (starts call) x.kept.good here alike (fine x.kept.lists) in
-        record {
-          kept = record { lists = x.kept.lists; good = subst (λ (ls : List (Line T)). Good T n limit s.memory x.kept.lists some ls s.history) (sym (lines_set u)) good };
-          knows = λ q w at. ⊎_elim
-              (λ t. let mine : Knows p u s.history = record { before = Later-refl v.seen; now = know.now; own_events = know.own_events } in
-              subst (λ (y : ℕ). Knows y w s.history) (sym t.0) (subst (λ (y : Pass T). Knows p y s.history) t.1 mine))
-              (λ t. x.knows q w t.1)
-              (at_set s.passes p q u w at);
-          tells = λ q w at. ⊎_elim
-              (λ t. subst (λ (y : Pass T). Tells n limit y.begun y.seen y.line) t.1 (tells v.seen v.seen))
-              (λ t. x.tells q w t.1)
-              (at_set s.passes p q u w at);
-        }
+    idle_alike : (l : Line T) → is_idle l ≡ true → (l' : Line T) → held_cells l' ≡ [] → held_nodes l' ≡ [] → bare l' ≡ 0 → wanting l' ≡ 0 → putting l' ≡ 0 → Alike l l'
+    idle_alike (Idle a) i l' cells nodes bare_none wants puts = record { cells = cells; nodes = nodes; bare_same = bare_none; wanting_less = omega arith; putting_less = omega arith }
+    idle_alike l i l' cells nodes bare_none wants puts = absurd (false≢true i)
 
-    begins_kept : (call : Call T) → is_idle v.line ≡ true → Stays n limit (begun s p v call)
-    begins_kept (CallPut y) h = begun_kept (CallPut y) (idle_alike v.line (starts (CallPut y)) h refl refl refl refl refl) (λ g. tt) (λ b k. tt)
-    begins_kept CallTake h = begun_kept CallTake (idle_alike v.line (starts CallTake) h refl refl refl refl refl) (λ g. tt) (λ b k. tt)
-    begins_kept CallClose h = begun_kept CallClose (idle_alike v.line (starts CallClose) h refl refl refl refl refl) (λ g. tt) (λ b k. tt)
-    begins_kept CallShut h = begun_kept CallShut (idle_alike v.line (starts CallShut) h refl refl refl refl refl) (λ g. tt) (λ b k. tt)
-    begins_kept CallLook h = begun_kept CallLook (idle_alike v.line (starts CallLook) h refl refl refl refl refl) (λ g. tt) (λ b k. tt)
+    pub begins_kept : (call : Call T) → Rule m (set lines p (starts call)) h
+    begins_kept (CallPut y) = begun_kept (CallPut y) (idle_alike l idle (starts (CallPut y)) refl refl refl refl refl) (λ g. tt)
+    begins_kept CallTake = begun_kept CallTake (idle_alike l idle (starts CallTake) refl refl refl refl refl) (λ g. tt)
+    begins_kept CallClose = begun_kept CallClose (idle_alike l idle (starts CallClose) refl refl refl refl refl) (λ g. tt)
+    begins_kept CallShut = begun_kept CallShut (idle_alike l idle (starts CallShut) refl refl refl refl refl) (λ g. tt)
+    begins_kept CallLook = begun_kept CallLook (idle_alike l idle (starts CallLook) refl refl refl refl refl) (λ g. tt)
 
-    acts_kept : (a : Act T) → Stays n limit (acts (shape n limit) s p a v)
-    acts_kept (Begin call) = cases (Stays n limit) (is_idle v.line) (begun s p v call) s (λ h. begins_kept call h) (λ h. x)
-    acts_kept Step = cases (Stays n limit) (is_idle v.line) s (stepped s p v (step (shape n limit) s.memory p v.line)) (λ h. x) (λ h. stepped_kept)
+  -- a call that has just been begun has done nothing
+  begins_story : (p : ℕ) (seen : List (Event T)) (call : Call T) → Story p (some call) (starts call) seen seen
+  begins_story p seen (CallPut v) = (tt, begins p seen (CallPut v))
+  begins_story p seen CallTake = (tt, begins p seen CallTake)
+  begins_story p seen CallClose = (tt, begins p seen CallClose)
+  begins_story p seen CallShut = (tt, begins p seen CallShut)
+  begins_story p seen CallLook = (tt, begins p seen CallLook)
 
-  module _ (n limit : ℕ) where
-    pub acts_at_kept : (s : State T) (p : ℕ) (a : Act T) (o : Option (Pass T)) → Stays n limit s → get_elem? s.passes p ≡ o → Stays n limit (acts_at (shape n limit) s p a o)
-    acts_at_kept s p a none x e = x
-    acts_at_kept s p a (some v) x e = acts_kept n limit s p v x e a
-
-    pub run_kept : (schedule : List (ℕ × Act T)) (s : State T) → Stays n limit s → Stays n limit (run (shape n limit) schedule s)
-    run_kept [] s x = x
-    run_kept (a ∷ more) s x = run_kept more (acts_at (shape n limit) s a.0 a.1 (get_elem? s.passes a.0)) (acts_at_kept s a.0 a.1 (get_elem? s.passes a.0) x refl)
-
-  abbrev idle_pass : Pass T
-  idle_pass = record { line = Idle None; call = none; begun = []; seen = [] }
-
-  idle_lines : (passes : ℕ) → map (λ (v : Pass T). v.line) (replicate passes idle_pass) ≡ replicate passes (Idle None)
-  idle_lines zero = refl
-  idle_lines (suc k) = ap (λ (ls : List (Line T)). Idle None ∷ ls) (idle_lines k)
-
-  pub start_stays : (n limit passes : ℕ) → 0 < n → n < NULL → 0 < limit → Stays {T = T} n limit (start (shape n limit) passes)
-  start_stays n limit passes h small some_tags = record {
-    kept = subst (λ (ls : List (Line T)). Kept T n limit (start (shape n limit) passes).memory some ls []) (sym (idle_lines passes)) (start_kept n limit passes h small some_tags);
-    knows = λ p v e. subst (λ (u : Pass T). Knows p u []) (same_at passes p idle_pass v e) (record { before = Later-refl []; now = Later-refl []; own_events = refl });
-    tells = λ p v e. subst (λ (u : Pass T). Tells n limit u.begun u.seen u.line) (same_at passes p idle_pass v e) tt;
+  queue_told : Told (queue (shape n limit)) Rule Story
+  queue_told = record {
+    begins = λ m lines h p l call x e idle. begins_kept m lines h p l x e idle call;
+    begins_story = λ p l call seen idle. begins_story p seen call;
+    steps = λ m lines h p l x e busy. step_kept n limit m some lines h p p refl x l e;
+    steps_story = λ m lines h p call l b seen x e busy before ahead story. (
+      tells_kept x.good p p b seen before (record { more = ahead.rest; is = ahead.is }) l e story.0,
+      still_doing call busy story.1 (λ c d. step_does x.good p p c b l e (meanwhile p c b seen h l ahead d)),
+    );
+    apart = λ m h p q l ne. step_apart (shape n limit) m p q ne h l;
   }
+    where
+      still_doing : {p : ℕ} {l : Line T} {l' : Line T} {b seen newer : List (Event T)} (call : Option (Call T)) → is_idle l ≡ false → IsDoing p call l b seen
+          → ((c : Call T) → Deeds p c l b seen → Deeds p c l' b newer) → IsDoing p call l' b newer
+      still_doing none busy is goes = absurd (false≢true (sym busy ∙ ap is_idle is))
+      still_doing (some c) busy d goes = goes c d
 
-  pub queue_lawful : (n limit passes : ℕ) (schedule : List (ℕ × Act T)) → 0 < n → n < NULL → 0 < limit → Lawful T n limit (run (shape n limit) schedule (start (shape n limit) passes))
-  queue_lawful n limit passes schedule h small some_tags =
-      let s = run (shape n limit) schedule (start (shape n limit) passes) in
-      let x = run_kept n limit schedule (start (shape n limit) passes) (start_stays n limit passes h small some_tags) in
-      let g = x.kept.good in
-      let lists = x.kept.lists in
+  -- what holds of the state between any two acts
+  abbrev Kept_at : State T → Type 0
+  Kept_at s = Stays (queue (shape n limit)) Rule Story s
+
+  run_stays : (passes : ℕ) (schedule : List (ℕ × Act (Call T))) → 0 < n → n < NULL → 0 < limit → Kept_at (run (queue (shape n limit)) schedule (start (queue (shape n limit)) passes))
+  run_stays passes schedule h small some_tags = run_kept (queue (shape n limit)) Kept_at (stays_holds (queue (shape n limit)) Rule Story queue_told) schedule (start (queue (shape n limit)) passes)
+      (start_stays (queue (shape n limit)) Rule Story passes (start_kept n limit passes h small some_tags) (λ p. (tt, refl)))
+
+  pub run_meets : (passes : ℕ) (schedule : List (ℕ × Act (Call T))) → 0 < n → n < NULL → 0 < limit → MeetsRule n limit (run (queue (shape n limit)) schedule (start (queue (shape n limit)) passes))
+  run_meets passes schedule h small some_tags = (run_stays passes schedule h small some_tags).rule
+
+  lawful : (s : State T) → Kept_at s → Lawful T n limit s
+  lawful s x =
+      let g = x.rule.good in
+      let lists = x.rule.lists in
       let ch = g.linked.chained in
       let f = front (next_of s.memory) s.memory.head.index lists.chain NULL (head_in ch) ch.stands in
       let queued : lists.queued ≡ map s.memory.cell f.rest = ch.stored ∙ ap (λ (is : List ℕ). map s.memory.cell (without_first is)) f.is in
@@ -159,5 +136,24 @@ module _ {T : Type 0} where
         };
         hands = λ p v e. g.told.hands p p v.line (place p v e) refl;
         knows = x.knows;
-        answered = λ p v a e idle. subst (Tells n limit v.begun v.seen) idle (x.tells p v e);
+        answered = λ p v a e idle. subst (Tells n limit v.begun v.seen) idle (x.story p v e).0;
       }
+
+  pub queue_lawful : (passes : ℕ) (schedule : List (ℕ × Act (Call T))) → 0 < n → n < NULL → 0 < limit → Lawful T n limit (run (queue (shape n limit)) schedule (start (queue (shape n limit)) passes))
+  queue_lawful passes schedule h small some_tags = lawful (run (queue (shape n limit)) schedule (start (queue (shape n limit)) passes)) (run_stays passes schedule h small some_tags)
+
+  -- an idle pass that has answered has begun a call
+  answered : (p : ℕ) (v : Pass T) (a : Answer T) (o : Option (Call T)) → v.call ≡ o → IsDoing p o (Idle (Some a)) v.begun v.seen → HasAnswered p v a
+  answered p v a none is d = absurd (has_answer d)
+    where
+      some_answer : Line T → Bool
+      some_answer (Idle (Some a)) = true
+      some_answer l = false
+
+      has_answer : Idle (Some a) ≡ Idle None → ⊥
+      has_answer d = false≢true (sym (ap some_answer d))
+  answered p v a (some call) is d = record { call = call; of = is; done = record { between = d.between; is = d.is; made = d.made } }
+
+  pub all_done : (passes : ℕ) (schedule : List (ℕ × Act (Call T))) → 0 < n → n < NULL → 0 < limit → AllDone (run (queue (shape n limit)) schedule (start (queue (shape n limit)) passes))
+  all_done passes schedule some_cell small some_tags p v a e idle =
+      answered p v a v.call refl (subst (λ (l : Line T). IsDoing p v.call l v.begun v.seen) idle ((run_stays passes schedule some_cell small some_tags).story p v e).1)

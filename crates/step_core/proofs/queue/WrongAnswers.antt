@@ -15,12 +15,12 @@ use Rattle.queue_machine.specs.declared.lines.Call.{Call}
 use Rattle.queue_machine.specs.declared.lines.Call.TheVariants.{Put as CallPut, Close as CallClose, Shut as CallShut}
 use Rattle.queue_machine.specs.declared.lines.Line.{Line}
 use Rattle.queue_machine.specs.declared.lines.Line.TheVariants.{LoadTail, CheckTail, LinkNext, SwingToLinked}
-use Rattle.queue_machine.specs.Machine.{Memory, Outcome, starts, step, goes_on, wins, after_link_of, ends}
+use Rattle.queue_machine.specs.Machine.{Memory, Pass, State, queue, Outcome, starts, step, goes_on, wins, after_link_of, ends}
 use Rattle.queue_machine.specs.Answers.{shape}
 use Rattle.queue_machine.specs.Deeds.{Makes}
-use Rattle.step_core.specs.queue.Schedule.{Pass, State, Act, Begin, Step, start}
+use Rattle.machine.specs.Schedule.{Act, Begin, Step, run, start}
 use Rattle.step_core.specs.queue.Law.{AllDone, HasAnswered}
-use Rattle.step_core.proofs.queue.Scripts.{Way, the_queue, runs}
+use Rattle.step_core.proofs.queue.Cast.{Machines}
 
 -- what pass 0 makes of a call, where it has seen no history before it
 made : (v : Pass ℕ) (a : Answer ℕ) (call : Call ℕ) → v.call ≡ some call → v.begun ≡ [] → HasAnswered 0 v a → Makes 0 call a (own 0 v.seen)
@@ -30,16 +30,16 @@ made v a call of new h =
     subst (λ (k : Call ℕ). Makes 0 k a (own 0 v.seen)) same_call (subst (λ (e : List (Event ℕ)). Makes 0 h.call a (own 0 e)) (sym all) h.done.made)
 
 -- a pass begins a call and makes so many steps
-abbrev begins : ℕ → Call ℕ → ℕ → List (ℕ × Act ℕ)
+abbrev begins : ℕ → Call ℕ → ℕ → List (ℕ × Act (Call ℕ))
 begins p call count = (p, Begin call) ∷ replicate count (p, Step)
 
 -- a queue of one cell and one pass, which does so
-abbrev called : Way → Call ℕ → ℕ → State ℕ
-called way call count = runs way (shape 1 15) (begins 0 call count) (start (shape 1 15) 1)
+abbrev called : Machines → Call ℕ → ℕ → State ℕ
+called machine call count = run (machine (shape 1 15)) (begins 0 call count) (start (machine (shape 1 15)) 1)
 
 -- A put that puts another value than its own
-abbrev puts_another : Way
-puts_another = record the_queue { moves = moves }
+abbrev puts_another : Machines
+puts_another s = record (queue s) { step = moves s }
   where
     moves : Shape → Memory ℕ → ℕ → Line ℕ → Outcome ℕ
     moves s m p (LinkNext link w n) =
@@ -69,8 +69,8 @@ put_another-unlawful done =
     absurd (omega (arith, same_value))
 
 -- A put that is refused hands back another value
-abbrev hands_back_another : Way
-hands_back_another = record the_queue { moves = moves }
+abbrev hands_back_another : Machines
+hands_back_another s = record (queue s) { step = moves s }
   where
     moves : Shape → Memory ℕ → ℕ → Line ℕ → Outcome ℕ
     moves s m p (CheckTail (ToRefuse v) w n) = goes_on m (ends (AnswerPut (Err (Closed (v + 1)))))
@@ -78,7 +78,7 @@ hands_back_another = record the_queue { moves = moves }
 
 -- pass 1 has taken the only cell and stopped, and pass 2 has closed the queue
 abbrev handed_back : State ℕ
-handed_back = runs hands_back_another (shape 1 15) (begins 1 (CallPut 12) 3 ++ begins 2 CallClose 4 ++ begins 0 (CallPut 10) 4) (start (shape 1 15) 3)
+handed_back = run (hands_back_another (shape 1 15)) (begins 1 (CallPut 12) 3 ++ begins 2 CallClose 4 ++ begins 0 (CallPut 10) 4) (start (hands_back_another (shape 1 15)) 3)
 
 abbrev put_refused : Answer ℕ
 put_refused = AnswerPut (Err (Closed 11))
@@ -90,8 +90,8 @@ handed_back-unlawful : ¬ AllDone handed_back
 handed_back-unlawful done = absurd (omega (arith, (made was_refused put_refused (CallPut 10) refl refl (done 0 was_refused put_refused refl refl)).0))
 
 -- A refused put keeps its cell: its answer comes before the cell goes back
-abbrev keeps_cell : Way
-keeps_cell = record the_queue { moves = moves }
+abbrev keeps_cell : Machines
+keeps_cell s = record (queue s) { step = moves s }
   where
     moves : Shape → Memory ℕ → ℕ → Line ℕ → Outcome ℕ
     moves s m p (CheckTail (ToLink link) w n) =
@@ -99,7 +99,7 @@ keeps_cell = record the_queue { moves = moves }
     moves s m p l = step s m p l
 
 abbrev kept_cell : State ℕ
-kept_cell = runs keeps_cell (shape 1 15) (begins 1 CallClose 4 ++ begins 0 (CallPut 10) 12) (start (shape 1 15) 2)
+kept_cell = run (keeps_cell (shape 1 15)) (begins 1 CallClose 4 ++ begins 0 (CallPut 10) 12) (start (keeps_cell (shape 1 15)) 2)
 
 abbrev put_closed : Answer ℕ
 put_closed = AnswerPut (Err (Closed 10))
@@ -111,8 +111,8 @@ kept_cell-unlawful : ¬ AllDone kept_cell
 kept_cell-unlawful done = ⊎_elim (λ e. absurd (omega (arith, ap length e))) (λ e. absurd (omega (arith, ap length e))) (made has_kept put_closed (CallPut 10) refl refl (done 0 has_kept put_closed refl refl)).1
 
 -- A shut that begins as a close: the queue is closed, and the answer is one of a close
-abbrev shuts_by_closing : Way
-shuts_by_closing = record the_queue { begins_at = begins_at }
+abbrev shuts_by_closing : Machines
+shuts_by_closing s = record (queue s) { starts = λ call l. begins_at call }
   where
     begins_at : Call ℕ → Line ℕ
     begins_at CallShut = LoadTail ToClose

@@ -1,54 +1,47 @@
 -- Machines that are nearly the stack's, and for each a schedule in which it breaks the law.
-use Rattle.std.proofs.Common.{◌≡◌, ℕ, ◌+◌, ◌==◌, if◌then◌else◌, true, false, List, [], ◌∷◌, ◌++◌, replicate, length, refl, sym, ap, ◌∙◌, subst, append-nil, arith, Some, None, Ok, Option as Slot}
+use Rattle.std.proofs.Common.{◌≡◌, ℕ, ◌+◌, ◌==◌, if◌then◌else◌, true, false, List, [], ◌∷◌, ◌++◌, replicate, refl, sym, ap, ◌∙◌, arith, Some, None, Option as Slot}
 use Rattle.std.proofs.lemmas.Bool.{false≢true}
 use mathlib.Core.Option.{Option, none, some}
-use lib.ListN.{get_elem?}
 use Rattle.tagged_index.specs.declared.word.TheConstants.{NULL}
-use Rattle.bounded_model.specs.declared.history.Event.{Event}
 use Rattle.bounded_model.specs.declared.history.Event.TheVariants.{Hold, Put, Take, Free, Close, Shut}
 use Rattle.bounded_model.specs.Machine.{Legal}
-use Rattle.bounded_model.specs.Histories.{own}
-use Rattle.bounded_model.specs.Laws.{holds_of}
 use Rattle.machine.specs.Words.{Tagged, kept, same, times, total, Stands}
 use Rattle.stack_machine.specs.declared.lines.Direction.TheVariants.{Down}
 use Rattle.stack_machine.specs.declared.lines.Taking.TheVariants.{One, Whole}
-use Rattle.stack_machine.specs.declared.lines.Answer.TheVariants.{Put as AnswerPut, Close as AnswerClose, Shut as AnswerShut}
+use Rattle.stack_machine.specs.declared.lines.Answer.TheVariants.{Close as AnswerClose, Shut as AnswerShut}
 use Rattle.stack_machine.specs.declared.lines.Line.{Line}
-use Rattle.stack_machine.specs.declared.lines.Line.TheVariants.{LoadFree, TakeFree, LoadTop, SwapTop, LoadTopToTake, TakeTop, LoadLinkToFold, LoadTopToClose, MarkTop, LoadTopToShut, ShutTop}
+use Rattle.stack_machine.specs.declared.lines.Line.TheVariants.{LoadFree, TakeFree, LoadTop, SwapTop, LoadTopToTake, TakeTop, LoadLinkToFold, LoadTopToClose, MarkTop, LoadTopToShut, ShutTop, GiveBack}
 use Rattle.stack_machine.specs.declared.lines.Call.TheVariants.{Put as CallPut, Take as CallTake, Close as CallClose, Shut as CallShut}
-use Rattle.step_core.specs.stack.Schedule.{Pass, State, Act, Begin, Step, begun, stepped, start}
-use Rattle.stack_machine.specs.Machine.{Memory, Outcome, step, held, is_idle, starts, goes_on, wins, wins_value, after_hold, after_put, after_store, at_take_free, at_load_top, at_load_top_to_take, ends, placed, with_node}
+use Rattle.machine.specs.Schedule.{Act, Begin, Step, run, start}
+use Rattle.stack_machine.specs.declared.lines.Call.{Call}
+use Rattle.stack_machine.specs.Machine.{Memory, Pass, State, Outcome, stack, step, held, goes_on, wins, wins_value, after_hold, after_store, at_take_free, at_load_top, at_load_top_to_take, ends}
 use Rattle.machine.specs.Chains.{with_home, HasValues}
 use Rattle.stack_machine.specs.Answers.{shape}
-use Rattle.step_core.specs.stack.Law.{Lawful, AllDone}
-use Rattle.stack_machine.specs.Deeds.{PutAtOnce}
-use Rattle.stack_machine.proofs.Answers.{none_there}
+use Rattle.step_core.specs.stack.Law.{Lawful}
+use Rattle.machine.proofs.OneList.{none_there}
 
 -- how a machine makes a step, in place of the stack's
 abbrev Steps : Type 0
 Steps = Memory ℕ → ℕ → Line ℕ → Outcome ℕ
 
-abbrev does : Steps → State ℕ → ℕ → Act ℕ → Option (Pass ℕ) → State ℕ
-does makes s p a none = s
-does makes s p (Begin call) (some v) = if is_idle v.line then begun s p v (starts call) else s
-does makes s p Step (some v) = if is_idle v.line then s else stepped s p v (makes s.memory p v.line)
+abbrev Acts : Type 0
+Acts = List (ℕ × Act (Call ℕ))
 
-abbrev runs : Steps → List (ℕ × Act ℕ) → State ℕ → State ℕ
-runs makes [] s = s
-runs makes (a ∷ more) s = runs makes more (does makes s a.0 a.1 (get_elem? s.passes a.0))
+abbrev runs : Steps → Acts → State ℕ → State ℕ
+runs makes schedule s = run (record (stack (shape 1 15)) { step = makes }) schedule s
 
 -- the machine starts with so many nodes and passes
 abbrev first_state : ℕ → ℕ → State ℕ
-first_state n passes = start (shape n 15) passes
+first_state n passes = start (stack (shape n 15)) passes
 
 -- so many steps of a pass
-abbrev steps : ℕ → ℕ → List (ℕ × Act ℕ)
+abbrev steps : ℕ → ℕ → Acts
 steps p k = replicate k (p, Step)
 
-abbrev puts : ℕ → ℕ → List (ℕ × Act ℕ)
+abbrev puts : ℕ → ℕ → Acts
 puts p v = (p, Begin (CallPut v [])) ∷ []
 
-abbrev takes : ℕ → List (ℕ × Act ℕ)
+abbrev takes : ℕ → Acts
 takes p = (p, Begin (CallTake One)) ∷ []
 
 -- A node is taken from the free list and its top keeps the tag: pass 0 has read node 0 and its link, node 1; node 1 goes to
@@ -126,39 +119,24 @@ forgotten-unlawful law =
     let somewhere : times 0 law.frees + times 0 law.stack + 0 ≡ 1 = law.once 0 in
     absurd (omega (arith, somewhere, ap (times 0) no_frees, ap (times 0) no_stack))
 
--- A range that goes in by one exchange for each value: another pass's value gets between its values
-abbrev further : List ℕ → Tagged → Line ℕ
-further [] w = ends (AnswerPut (Ok (w.tag, [])))
-further (v ∷ []) w = ends (AnswerPut (Ok (w.tag, [])))
-further (v ∷ vs) w = LoadFree (record { values = vs; chain = [] })
+-- A take that leaves its value in the node, and a give that does so too: the node is free and not empty
+abbrev leaves_values : Steps
+leaves_values m p (TakeTop w k) = let o = step (shape 1 15) m p (TakeTop w k) in record o { memory = record o.memory { home = m.home } }
+leaves_values m p (GiveBack give w) = let o = step (shape 1 15) m p (GiveBack give w) in record o { memory = record o.memory { home = m.home } }
+leaves_values m p l = step (shape 1 15) m p l
 
-abbrev puts_one_by_one : Steps
-puts_one_by_one m p (TakeFree put w k) = if same m.free w then wins (after_hold m w k) (LoadTop (with_node put w.index)) (Hold p) else goes_on m (LoadFree put)
-puts_one_by_one m p (SwapTop put w) = if same m.top w then wins (after_put m w put) (further put.values w) (Put p (placed put) w.tag) else goes_on m (LoadTop put)
-puts_one_by_one m p l = step (shape 3 15) m p l
+abbrev left_there : State ℕ
+left_there = runs leaves_values (puts 0 10 ++ steps 0 6 ++ takes 0 ++ steps 0 6) (first_state 1 1)
 
-abbrev between : State ℕ
-between = runs puts_one_by_one (((0, Begin (CallPut 10 (11 ∷ []))) ∷ []) ++ steps 0 6 ++ puts 1 20 ++ steps 1 6 ++ steps 0 6) (first_state 3 2)
-
-abbrev between_events : List (Event ℕ)
-between_events = Put 0 (11 ∷ []) 2 ∷ Hold 0 ∷ Put 1 (20 ∷ []) 1 ∷ Hold 1 ∷ Put 0 (10 ∷ []) 0 ∷ Hold 0 ∷ []
-
-range_ended : get_elem? between.passes 0 ≡ some (record { line = ends (AnswerPut (Ok (2, []))); begun = []; seen = between_events })
-range_ended = refl
-
-between-not_done : ¬ AllDone (shape 3 15) between
-between-not_done done =
-    let did = done 0 (record { line = ends (AnswerPut (Ok (2, []))); begun = []; seen = between_events }) (AnswerPut (Ok (2, []))) range_ended refl in
-    at_once (subst (PutAtOnce 0 2) (ap (own 0) (sym (did.is ∙ append-nil did.between))) did.made)
+left_there-unlawful : ¬ Lawful ℕ 1 15 left_there
+left_there-unlawful law =
+    let no_null : times NULL law.frees + times NULL law.stack + 0 ≡ 0 = law.once NULL in
+    let no_stack : law.stack ≡ [] = none_there left_there.memory.link NULL law.stack refl (omega arith) law.top_stands in
+    let once : times 0 law.frees + times 0 law.stack + 0 ≡ 1 = law.once 0 in
+    full (law.empty 0 (omega (arith, once, ap (times 0) no_stack)))
   where
-    -- the pass's own events are two puts
-    at_once : PutAtOnce {T = ℕ} 0 2 (Put 0 (11 ∷ []) 2 ∷ Hold 0 ∷ Put 0 (10 ∷ []) 0 ∷ Hold 0 ∷ []) → ⊥
-    at_once made = one made.values made.is
-      where
-        one : (vs : List ℕ) → ◌≡◌ {A = List (Event ℕ)} (Put 0 (11 ∷ []) 2 ∷ Hold 0 ∷ Put 0 (10 ∷ []) 0 ∷ Hold 0 ∷ []) (Put 0 vs 2 ∷ holds_of 0 (length vs)) → ⊥
-        one [] e = cc
-        one (v ∷ []) e = cc
-        one (v ∷ x ∷ vs) e = cc
+    full : ◌≡◌ {A = Option (Slot ℕ)} (some (Some 10)) (some None) → ⊥
+    full e = cc
 
 -- Closing sets a flag of its own, a word that lies beside the links, and a put that found it clear goes in after the close
 abbrev flag : Memory ℕ → ℕ

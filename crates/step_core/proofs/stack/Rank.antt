@@ -19,15 +19,7 @@ use Rattle.stack_machine.specs.declared.lines.Line.TheVariants.{Idle, LoadFree, 
 use Rattle.stack_machine.specs.Machine.{Memory, Outcome, step, placed, unplaced, next_node, no_node, with_node, at_take_free, is_idle, goes_on, wins, wins_value, after_hold, after_give, after_store, after_put, after_close, after_shut, ends, gives, refuses}
 use Rattle.machine.specs.Chains.{first, second, last}
 use Rattle.step_core.specs.stack.Bound.{IsSingle}
-use Rattle.machine.proofs.Tests.{cases, same-self}
-
-one_of : (b : Bool) (x y n : ℕ) → x ≤ n → y ≤ n → cond b x y ≤ n
-one_of true x y n h h' = h
-one_of false x y n h h' = h'
-
--- a word that was just read is still there
-fresh : (w : Tagged) (x y r : ℕ) → x < r → cond (same w w) x y < r
-fresh w x y r h = rw (same-self w) h
+use Rattle.machine.proofs.Tests.{cases, one_of, fresh}
 
 module _ {T : Type 0} where
   -- an exchange and the steps before it have fewer steps left where the word that was read is still there

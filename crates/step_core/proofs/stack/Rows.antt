@@ -1,99 +1,16 @@
 -- Worked scripts of the stack: the machine computes their replies and step counts.
-use Rattle.std.proofs.Common.{ℕ, true, false, List, [], ◌∷◌, refl, Ok, Err}
-use Rattle.bounded_model.specs.declared.answers.Word.TheVariants.{Free as FreeWord, Top as TopWord}
-use Rattle.bounded_model.specs.declared.answers.PutRefused.TheVariants.{Full, Closed as PutClosed, Spent as PutSpent}
-use Rattle.bounded_model.specs.declared.answers.TakeRefused.{TakeRefused}
+use Rattle.std.proofs.Common.{true, false, [], ◌∷◌, refl}
+use Rattle.bounded_model.specs.declared.answers.Word.TheVariants.{Top as TopWord}
 use Rattle.bounded_model.specs.declared.answers.TakeRefused.TheVariants.{Empty, Closed, Spent, Shut}
-use Rattle.stack_machine.specs.declared.lines.Direction.TheVariants.{Down, Up}
-use Rattle.stack_machine.specs.declared.lines.Taking.TheVariants.{One, Whole}
-use Rattle.stack_machine.specs.declared.lines.Answer.{Answer}
-use Rattle.stack_machine.specs.declared.lines.Answer.TheVariants.{Put, Take, Fold, Close, Shut as ShutAnswer, Look}
-use Rattle.stack_machine.specs.declared.lines.Call.{Call}
-use Rattle.stack_machine.specs.declared.lines.Call.TheVariants.{Put as PutCall, Take as TakeCall, Close as CloseCall, Shut as ShutCall, Look as LookCall}
+use Rattle.stack_machine.specs.declared.lines.Answer.TheVariants.{Close, Shut as ShutAnswer, Look}
+use Rattle.stack_machine.specs.declared.lines.Call.TheVariants.{Close as CloseCall, Shut as ShutCall, Look as LookCall}
 use Rattle.stack_machine.specs.Answers.{shape}
-use Rattle.step_core.proofs.stack.Scripts.{calls, begins, steps, finish, answers, begun, again, ended, rest, Plays}
-
--- passes
-abbrev a : ℕ
-a = 0
-
-abbrev b : ℕ
-b = 1
-
-abbrev c : ℕ
-c = 2
-
--- values
-abbrev t : ℕ
-t = 116
-
-abbrev u : ℕ
-u = 117
-
-abbrev v : ℕ
-v = 118
-
-abbrev w : ℕ
-w = 119
-
-abbrev x : ℕ
-x = 120
-
-abbrev y : ℕ
-y = 121
-
-abbrev z : ℕ
-z = 122
-
--- calls
-abbrev put : ℕ → Call ℕ
-put value = PutCall value []
-
-abbrev range : ℕ → List ℕ → Call ℕ
-range value more = PutCall value more
-
-abbrev take : Call ℕ
-take = TakeCall One
-
-abbrev fold : Call ℕ
-fold = TakeCall (Whole Down)
-
-abbrev reversed_fold : Call ℕ
-reversed_fold = TakeCall (Whole Up)
-
--- answers
-abbrev put_is : ℕ → Answer ℕ
-put_is n = Put (Ok (n, []))
-
-abbrev range_is : ℕ → List ℕ → Answer ℕ
-range_is n kept = Put (Ok (n, kept))
-
-abbrev full : List ℕ → Answer ℕ
-full values = Put (Err (Full values))
-
-abbrev put_closed : List ℕ → Answer ℕ
-put_closed values = Put (Err (PutClosed values))
-
-abbrev top_spent : ℕ → List ℕ → Answer ℕ
-top_spent tag values = Put (Err (PutSpent values TopWord tag))
-
-abbrev free_spent : ℕ → List ℕ → Answer ℕ
-free_spent tag values = Put (Err (PutSpent values FreeWord tag))
-
-abbrev take_is : ℕ → ℕ → Answer ℕ
-take_is n value = Take (Ok (value, n))
-
-abbrev no_take : TakeRefused → Answer ℕ
-no_take why = Take (Err why)
-
-abbrev fold_is : ℕ → List ℕ → Answer ℕ
-fold_is n values = Fold (Ok (values, n))
-
-abbrev no_fold : TakeRefused → Answer ℕ
-no_fold why = Fold (Err why)
+use Rattle.step_core.proofs.Scripts.{calls, begins, steps, finish, answers, begun, again, ended, rest, Plays}
+use Rattle.step_core.proofs.Letters.{a, b, c, t, u, v, w, x, y, z}
+use Rattle.step_core.proofs.stack.Cast.{plays, put, range, take, fold, reversed_fold, put_is, range_is, full, put_closed, top_spent, free_spent, take_is, no_take, fold_is, no_fold}
 
 -- how many steps each call makes alone: put and take, a full put, an empty take, close, shut, look
-alone : Plays (shape 1 15)
+alone : Plays (plays (shape 1 15))
     ((begins a take, begun) ∷ (steps a 40, ended (no_take Empty) 1)
     ∷ (begins a (put x), begun) ∷ (steps a 40, ended (put_is 0) 6)
     ∷ (begins a (put y), begun) ∷ (steps a 40, ended (full (y ∷ [])) 2)
@@ -105,7 +22,7 @@ alone : Plays (shape 1 15)
 alone = refl
 
 -- at the lost exchange the top names the old node again, with tag 5 where a had read tag 2
-same_node_other_tag : Plays (shape 3 15)
+same_node_other_tag : Plays (plays (shape 3 15))
     ((calls b (put x), answers (put_is 0))
     ∷ (calls b (put y), answers (put_is 1))
     ∷ (begins a take, begun)
@@ -122,7 +39,7 @@ same_node_other_tag : Plays (shape 3 15)
 same_node_other_tag = refl
 
 -- the top's tag is at the limit
-spent_top : Plays (shape 2 2)
+spent_top : Plays (plays (shape 2 2))
     ((calls a (put x), answers (put_is 0))
     ∷ (calls a (put y), answers (put_is 1))
     ∷ (calls a (put z), answers (top_spent 2 (z ∷ [])))
@@ -135,7 +52,7 @@ spent_top : Plays (shape 2 2)
 spent_top = refl
 
 -- a range goes in by one exchange, as much of it as finds nodes
-ranges : Plays (shape 3 15)
+ranges : Plays (plays (shape 3 15))
     ((calls a (range 1 (2 ∷ 3 ∷ 4 ∷ 5 ∷ [])), answers (range_is 0 (4 ∷ 5 ∷ [])))
     ∷ (calls a take, answers (take_is 1 3))
     ∷ (calls a (range 6 (7 ∷ [])), answers (range_is 2 (7 ∷ [])))
@@ -143,7 +60,7 @@ ranges : Plays (shape 3 15)
     ∷ [])
 ranges = refl
 
-folds : Plays (shape 3 15)
+folds : Plays (plays (shape 3 15))
     ((calls a (put x), answers (put_is 0))
     ∷ (calls a (put y), answers (put_is 1))
     ∷ (calls a (put z), answers (put_is 2))
@@ -159,7 +76,7 @@ folds : Plays (shape 3 15)
 folds = refl
 
 -- what is left, from the top down
-left_over : Plays (shape 3 7)
+left_over : Plays (plays (shape 3 7))
     ((calls a (put x), answers (put_is 0))
     ∷ (calls a (put y), answers (put_is 1))
     ∷ (calls a (put z), answers (put_is 2))
@@ -170,7 +87,7 @@ left_over : Plays (shape 3 7)
 left_over = refl
 
 -- a close overtakes a put that holds a node
-closed_under_a_put : Plays (shape 1 7)
+closed_under_a_put : Plays (plays (shape 1 7))
     ((begins a (put x), begun)
     ∷ (steps a 3, again 3)
     ∷ (calls b CloseCall, answers (Close true))
@@ -179,7 +96,7 @@ closed_under_a_put : Plays (shape 1 7)
     ∷ [])
 closed_under_a_put = refl
 
-range_spent : Plays (shape 3 2)
+range_spent : Plays (plays (shape 3 2))
     ((calls a (range x (y ∷ z ∷ [])), answers (range_is 0 (z ∷ [])))
     ∷ (calls a (range z []), answers (free_spent 2 (z ∷ [])))
     ∷ (calls a take, answers (take_is 1 y))
@@ -187,14 +104,14 @@ range_spent : Plays (shape 3 2)
     ∷ [])
 range_spent = refl
 
-range_closed : Plays (shape 2 7)
+range_closed : Plays (plays (shape 2 7))
     ((calls a CloseCall, answers (Close true))
     ∷ (calls a (range x (y ∷ [])), answers (put_closed (x ∷ y ∷ [])))
     ∷ (calls a fold, answers (no_fold Closed))
     ∷ [])
 range_closed = refl
 
-range_full : Plays (shape 1 7)
+range_full : Plays (plays (shape 1 7))
     ((calls a (put x), answers (put_is 0))
     ∷ (calls a (range y (z ∷ [])), answers (full (y ∷ z ∷ [])))
     ∷ (calls b fold, answers (fold_is 1 (x ∷ [])))
@@ -206,7 +123,7 @@ range_full : Plays (shape 1 7)
 range_full = refl
 
 -- both tags at their limits
-spent_free : Plays (shape 2 2)
+spent_free : Plays (plays (shape 2 2))
     ((calls a (put x), answers (put_is 0))
     ∷ (calls a take, answers (take_is 1 x))
     ∷ (calls a (put y), answers (top_spent 2 (y ∷ [])))
@@ -218,7 +135,7 @@ spent_free : Plays (shape 2 2)
     ∷ [])
 spent_free = refl
 
-shut_stack : Plays (shape 2 7)
+shut_stack : Plays (plays (shape 2 7))
     ((calls a (put x), answers (put_is 0))
     ∷ (calls a ShutCall, answers (ShutAnswer true))
     ∷ (calls a (put y), answers (put_is 1))
@@ -227,3 +144,60 @@ shut_stack : Plays (shape 2 7)
     ∷ (finish, rest (y ∷ x ∷ []))
     ∷ [])
 shut_stack = refl
+
+-- a close overtakes a put whose node is linked, and the tag is at the limit by then
+closed_before_spent_top : Plays (plays (shape 2 2))
+    ((begins a (put x), begun)
+    ∷ (steps a 3, again 3)
+    ∷ (calls b (put y), answers (put_is 0))
+    ∷ (calls b take, answers (take_is 1 y))
+    ∷ (calls b CloseCall, answers (Close true))
+    ∷ (steps a 20, ended (put_closed (x ∷ [])) 7)
+    ∷ (finish, rest [])
+    ∷ [])
+closed_before_spent_top = refl
+
+-- a shut that has read the top finds it shut at its exchange, and looks again
+shut_is_overtaken : Plays (plays (shape 2 7))
+    ((calls a (put x), answers (put_is 0))
+    ∷ (begins a ShutCall, begun)
+    ∷ (steps a 1, again 1)
+    ∷ (calls b ShutCall, answers (ShutAnswer true))
+    ∷ (steps a 1, again 2)
+    ∷ (steps a 5, ended (ShutAnswer false) 3)
+    ∷ (finish, rest (x ∷ []))
+    ∷ [])
+shut_is_overtaken = refl
+
+close_is_overtaken : Plays (plays (shape 2 7))
+    ((calls a (put x), answers (put_is 0))
+    ∷ (begins a CloseCall, begun)
+    ∷ (steps a 1, again 1)
+    ∷ (calls b (put y), answers (put_is 1))
+    ∷ (steps a 1, again 2)
+    ∷ (steps a 9, ended (Close true) 4)
+    ∷ (calls b CloseCall, answers (Close false))
+    ∷ (finish, rest (y ∷ x ∷ []))
+    ∷ [])
+close_is_overtaken = refl
+
+folds_of_a_shut_stack : Plays (plays (shape 2 7))
+    ((calls a (put x), answers (put_is 0))
+    ∷ (calls a ShutCall, answers (ShutAnswer true))
+    ∷ (calls a fold, answers (no_fold Shut))
+    ∷ (calls a reversed_fold, answers (no_fold Shut))
+    ∷ (begins a take, begun)
+    ∷ (steps a 1, ended (no_take Shut) 1)
+    ∷ (finish, rest (x ∷ []))
+    ∷ [])
+folds_of_a_shut_stack = refl
+
+empty_and_shut : Plays (plays (shape 1 7))
+    ((calls a ShutCall, answers (ShutAnswer true))
+    ∷ (calls a take, answers (no_take Shut))
+    ∷ (calls a fold, answers (no_fold Shut))
+    ∷ (calls a CloseCall, answers (Close true))
+    ∷ (calls a take, answers (no_take Shut))
+    ∷ (finish, rest [])
+    ∷ [])
+empty_and_shut = refl

@@ -1,10 +1,16 @@
 -- One list of n indexes with a tagged top: any number of passes take from it and give to it, a
 -- step at a time (Treiber 1986, with tags against a top that changed and came back).
-use Rattle.std.specs.Prelude.{◌≡◌, ℕ, ◌+◌, ◌≤◌, ◌==◌, leb, ltb, ◌||◌, if◌then◌else◌, List, [], ◌∷◌, set, replicate, remove}
+use Rattle.std.specs.Prelude.{ℕ, ◌==◌, leb, ◌||◌, if◌then◌else◌, Bool, true, false, List, [], ◌∷◌, remove}
 use mathlib.Core.Option.{Option, none, some}
 use lib.ListN.{get_elem?}
 use Rattle.tagged_index.specs.declared.word.TheConstants.{NULL}
-use Rattle.machine.specs.Words.{Tagged, raised, kept, same, store, times, total, Stands, start_word, start_link}
+use Rattle.bounded_model.specs.declared.history.Event.{Event}
+use Rattle.machine.specs.Words.{Tagged, raised, kept, same, store, start_word, start_link}
+use Rattle.machine.specs.Schedule as schedule
+
+pub record Memory : Type 0 where
+  pub top : Tagged
+  pub link : ℕ → ℕ
 
 -- where a pass is, with what it has read: the top w, the link k of its index. A give has index i
 pub data Line : Type 0 where
@@ -16,85 +22,66 @@ pub data Line : Type 0 where
   LinkToTop : (i : ℕ) (w : Tagged) → Line
   GiveBack : (i : ℕ) (w : Tagged) → Line
 
-pub record Pass : Type 0 where
+-- and the indexes that it has taken
+pub record At : Type 0 where
   pub line : Line
   pub hand : List ℕ
 
-pub record State : Type 0 where
-  pub top : Tagged
-  pub link : ℕ → ℕ
-  pub passes : List Pass
+-- what a pass may begin: to take, or to give the index at a place of its hand
+pub data Call : Type 0 where
+  Take : Call
+  Give : (place : ℕ) → Call
 
--- the index that a line is giving back
-abbrev pub giving : Line → List ℕ
-giving Idle = []
-giving LoadTopToTake = []
-giving (LoadTopLink w) = []
-giving (TakeTop w k) = []
-giving (LoadTopToGive i) = i ∷ []
-giving (LinkToTop i w) = i ∷ []
-giving (GiveBack i w) = i ∷ []
+-- a list has no events
+abbrev pub Events : Type 0
+Events = Event ⊥
 
--- how often a pass holds i
-abbrev pub holds : ℕ → Pass → ℕ
-holds i pass = times i (giving pass.line) + times i pass.hand
+abbrev pub Outcome : Type 0
+Outcome = schedule.Outcome Memory At Events
 
--- pass p goes on to a line
-abbrev pub goes : State → ℕ → Line → List ℕ → State
-goes s p line hand = record s { passes = set s.passes p (record { line = line; hand = hand }) }
+abbrev pub goes_on : Memory → Line → List ℕ → Outcome
+goes_on m line hand = record { memory = m; line = record { line = line; hand = hand }; events = [] }
 
--- one step of pass p
-abbrev pub steps : ℕ → State → ℕ → Line → List ℕ → State
-steps limit s p Idle hand = s
-steps limit s p LoadTopToTake hand = goes s p (if s.top.index == NULL || leb limit s.top.tag then Idle else LoadTopLink s.top) hand
-steps limit s p (LoadTopLink w) hand = goes s p (TakeTop w (s.link w.index)) hand
-steps limit s p (TakeTop w k) hand =
-    if same s.top w then goes (record s { top = raised w k }) p Idle (w.index ∷ hand) else goes s p LoadTopToTake hand
-steps limit s p (LoadTopToGive i) hand = goes s p (LinkToTop i s.top) hand
-steps limit s p (LinkToTop i w) hand = goes (record s { link = store s.link i w.index }) p (GiveBack i w) hand
-steps limit s p (GiveBack i w) hand =
-    if same s.top w then goes (record s { top = kept w i }) p Idle hand else goes s p (LoadTopToGive i) hand
+-- one step of a pass
+abbrev pub step : ℕ → Memory → Line → List ℕ → Outcome
+step limit m Idle hand = goes_on m Idle hand
+step limit m LoadTopToTake hand = goes_on m (if m.top.index == NULL || leb limit m.top.tag then Idle else LoadTopLink m.top) hand
+step limit m (LoadTopLink w) hand = goes_on m (TakeTop w (m.link w.index)) hand
+step limit m (TakeTop w k) hand =
+    if same m.top w then goes_on (record m { top = raised w k }) Idle (w.index ∷ hand) else goes_on m LoadTopToTake hand
+step limit m (LoadTopToGive i) hand = goes_on m (LinkToTop i m.top) hand
+step limit m (LinkToTop i w) hand = goes_on (record m { link = store m.link i w.index }) (GiveBack i w) hand
+step limit m (GiveBack i w) hand = if same m.top w then goes_on (record m { top = kept w i }) Idle hand else goes_on m (LoadTopToGive i) hand
 
--- what a schedule lets a pass do: begin to take, begin to give the index at a place of its hand, or
--- make a step
-pub data Act : Type 0 where
-  Take : Act
-  Give : (place : ℕ) → Act
-  Step : Act
+abbrev pub is_idle : Line → Bool
+is_idle Idle = true
+is_idle l = false
 
-abbrev pub gives : State → ℕ → ℕ → Option ℕ → List ℕ → State
-gives s p place none hand = s
-gives s p place (some i) hand = goes s p (LoadTopToGive i) (remove hand place)
+-- a place beyond the hand has no index to give
+abbrev pub gives : ℕ → Option ℕ → List ℕ → At
+gives place none hand = record { line = Idle; hand = hand }
+gives place (some i) hand = record { line = LoadTopToGive i; hand = remove hand place }
 
--- a begin of a busy pass does nothing
-abbrev pub begins : State → ℕ → Act → Line → List ℕ → State
-begins s p Take Idle hand = goes s p LoadTopToTake hand
-begins s p (Give place) Idle hand = gives s p place (get_elem? hand place) hand
-begins s p act line hand = s
+abbrev pub starts : Call → List ℕ → At
+starts Take hand = record { line = LoadTopToTake; hand = hand }
+starts (Give place) hand = gives place (get_elem? hand place) hand
 
-abbrev pub does : ℕ → State → ℕ → Act → Option Pass → State
-does limit s p act none = s
-does limit s p Step (some pass) = steps limit s p pass.line pass.hand
-does limit s p Take (some pass) = begins s p Take pass.line pass.hand
-does limit s p (Give place) (some pass) = begins s p (Give place) pass.line pass.hand
+-- is the next step of a line an exchange that wins
+abbrev pub wins_exchange : Memory → Line → Bool
+wins_exchange m (TakeTop w k) = same m.top w
+wins_exchange m (GiveBack i w) = same m.top w
+wins_exchange m l = false
 
-abbrev pub run : ℕ → List (ℕ × Act) → State → State
-run limit [] s = s
-run limit (e ∷ es) s = run limit es (does limit s e.0 e.1 (get_elem? s.passes e.0))
-
--- at the start all indexes are in the list
-abbrev pub start : ℕ → ℕ → State
-start n passes = record {
-  top = start_word 0;
-  link = start_link n;
-  passes = replicate passes (record { line = Idle; hand = [] });
+-- the whole machine, for schedules; at the start all n indexes are in the list
+abbrev pub list : ℕ → ℕ → schedule.Machine Memory At Call Events
+list n limit = record {
+  first = record { top = start_word 0; link = start_link n };
+  rest = record { line = Idle; hand = [] };
+  is_idle = λ at. is_idle at.line;
+  starts = λ call at. starts call at.hand;
+  step = λ m p at. step limit m at.line at.hand;
+  wins = λ m at. wins_exchange m at.line;
 }
 
--- The top and the links stand for a list, each index below n is once in the list or in one hand, and
--- no other index is anywhere. So the list's indexes are distinct, the hands share none with it or
--- with one another, and together they are all
-pub record Lawful (n limit : ℕ) (s : State) : Type 0 where
-  pub list : List ℕ
-  pub stands : Stands s.link s.top.index list
-  pub once : (i : ℕ) → times i list + total (holds i) s.passes ≡ if ltb i n then 1 else 0
-  pub tag : s.top.tag ≤ limit
+abbrev pub State : Type 0
+State = schedule.State Memory At Call Events

@@ -4,7 +4,8 @@ use mathlib.Core.Option.{some}
 use lib.ListN.{get_elem?}
 use Rattle.machine.specs.Words.{Tagged, times, total, Stands}
 use Rattle.machine.specs.OneList.{ReadTop, ReadLink}
-use Rattle.step_core.specs.list.Machine.{Line, Idle, LoadTopToTake, LoadTopLink, TakeTop, LoadTopToGive, LinkToTop, GiveBack, Pass, State, holds}
+use Rattle.step_core.specs.list.Machine.{Memory, At, Line, Idle, LoadTopToTake, LoadTopLink, TakeTop, LoadTopToGive, LinkToTop, GiveBack}
+use Rattle.step_core.specs.list.Law.{holds}
 
 -- of what a pass has read
 abbrev pub IsFine : ℕ → Tagged → (ℕ → ℕ) → List ℕ → Line → Type 0
@@ -16,9 +17,14 @@ IsFine limit top link list (LoadTopToGive i) = Unit {0}
 IsFine limit top link list (LinkToTop i w) = Unit {0}
 IsFine limit top link list (GiveBack i w) = link i ≡ w.index
 
--- of the whole state, where the top and the links stand for this list
-pub record Good (n limit : ℕ) (s : State) (list : List ℕ) : Type 0 where
-  pub stands : Stands s.link s.top.index list
-  pub once : (i : ℕ) → times i list + total (holds i) s.passes ≡ if ltb i n then 1 else 0
-  pub tag : s.top.tag ≤ limit
-  pub fine : (p : ℕ) (pass : Pass) → get_elem? s.passes p ≡ some pass → IsFine limit s.top s.link list pass.line
+-- of the whole machine, where the top and the links stand for this list
+pub record Good (n limit : ℕ) (m : Memory) (passes : List At) (list : List ℕ) : Type 0 where
+  pub stands : Stands m.link m.top.index list
+  pub once : (i : ℕ) → times i list + total (holds i) passes ≡ if ltb i n then 1 else 0
+  pub tag : m.top.tag ≤ limit
+  pub fine : (p : ℕ) (v : At) → get_elem? passes p ≡ some v → IsFine limit m.top m.link list v.line
+
+-- with some list
+pub record Kept (n limit : ℕ) (m : Memory) (passes : List At) : Type 0 where
+  pub list : List ℕ
+  pub good : Good n limit m passes list

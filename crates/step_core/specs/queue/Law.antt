@@ -3,19 +3,17 @@ use Rattle.std.specs.Prelude.{◌≡◌, ◌≢◌, ℕ, ◌+◌, ◌<◌, ◌�
 use mathlib.Core.Option.{some}
 use lib.ListN.{get_elem?}
 use Rattle.tagged_index.specs.declared.word.TheConstants.{NULL}
-use Rattle.bounded_model.specs.declared.history.Event.{Event}
 use Rattle.bounded_model.specs.Machine as bounded
-use Rattle.bounded_model.specs.Histories.{Later, own}
 use Rattle.machine.specs.Words.{times, total, Stands}
+use Rattle.machine.specs.Seen.{Knows}
 use Rattle.machine.specs.Chains.{last, HasValues}
 use Rattle.queue_machine.specs.declared.lines.Placing.{Placing}
 use Rattle.queue_machine.specs.declared.lines.Answer.{Answer}
 use Rattle.queue_machine.specs.declared.lines.Call.{Call}
 use Rattle.queue_machine.specs.declared.lines.Line.TheVariants.{Idle, LoadNodes}
-use Rattle.queue_machine.specs.Machine.{Memory, next_of, held_cells, held_nodes}
+use Rattle.queue_machine.specs.Machine.{Memory, Pass, State, next_of, held_cells, held_nodes}
 use Rattle.queue_machine.specs.Answers.{shape, state, IsRight}
 use Rattle.queue_machine.specs.Deeds.{HasDone}
-use Rattle.step_core.specs.queue.Schedule.{Pass, State}
 
 -- the free cells and the free nodes; the nodes of the chain behind its first, which is the dummy; and
 -- the parts of the whole chain before and after the node that the tail names
@@ -59,12 +57,6 @@ module _ {T : Type 0} where
     pub puts : now.puts ≤ limit
     pub nodes : m.nodes.tag ≤ limit
     pub next : (j : ℕ) → (m.next j).tag ≤ limit
-
-  -- what pass p has seen is an earlier part of the history that has all events of its own
-  pub record Knows (p : ℕ) (v : Pass T) (history : List (Event T)) : Type 0 where
-    pub before : Later v.begun v.seen
-    pub now : Later v.seen history
-    pub own_events : own p history ≡ own p v.seen
 
 -- The history is one of a bounded queue, with room for n values, and the words and cells are what it
 -- says; what each pass holds, has seen and has answered is right

@@ -2,23 +2,16 @@
 use Rattle.std.specs.Prelude.{◌≡◌, ℕ, ◌+◌, ◌<◌, ◌≤◌, ltb, if◌then◌else◌, List, length, Some, None}
 use mathlib.Core.Option.{some}
 use lib.ListN.{get_elem?}
-use Rattle.bounded_model.specs.declared.history.Event.{Event}
 use Rattle.bounded_model.specs.Machine.{Shape, Legal}
-use Rattle.bounded_model.specs.Histories.{Later, own}
 use Rattle.machine.specs.Words.{times, total, Stands}
 use Rattle.stack_machine.specs.declared.lines.Answer.{Answer}
+use Rattle.stack_machine.specs.declared.lines.Call.{Call}
 use Rattle.stack_machine.specs.declared.lines.Line.TheVariants.{Idle}
-use Rattle.step_core.specs.stack.Schedule.{Pass, State}
 use Rattle.machine.specs.Chains.{HasValues}
+use Rattle.machine.specs.Seen.{Knows}
 use Rattle.stack_machine.specs.Answers.{shape, state, IsRight}
 use Rattle.stack_machine.specs.Deeds.{HasDone}
-use Rattle.stack_machine.specs.Machine.{held}
-
--- what pass p has seen is an earlier part of the history that has all events of its own
-pub record Knows {T : Type 0} (p : ℕ) (v : Pass T) (history : List (Event T)) : Type 0 where
-  pub before : Later v.begun v.seen
-  pub now : Later v.seen history
-  pub own_events : own p history ≡ own p v.seen
+use Rattle.stack_machine.specs.Machine.{Pass, State, held}
 
 -- The history is one of a bounded stack, with room for n values. The words and slots stand for it: the
 -- top for its values, the first mark for closed, the second for shut, the tags for its numbers. Each
@@ -43,6 +36,12 @@ pub record Lawful (T : Type 0) (n limit : ℕ) (s : State T) : Type 0 where
   pub knows : (p : ℕ) (v : Pass T) → get_elem? s.passes p ≡ some v → Knows p v s.history
   pub answered : (p : ℕ) (v : Pass T) (a : Answer T) → get_elem? s.passes p ≡ some v → v.line ≡ Idle (Some a) → IsRight n limit v.begun v.seen a
 
--- each pass that has ended an operation has done what it answered
+-- a pass has answered the call that its operation was begun with, and has done what it answered
+pub record HasAnswered {T : Type 0} (c : Shape) (p : ℕ) (v : Pass T) (a : Answer T) : Type 0 where
+  pub call : Call T
+  pub of : v.call ≡ some call
+  pub done : HasDone c p call a v.begun v.seen
+
+-- and so has each pass that has ended an operation
 abbrev pub AllDone : {T : Type 0} → Shape → State T → Type 0
-AllDone {T} c s = (p : ℕ) (v : Pass T) (a : Answer T) → get_elem? s.passes p ≡ some v → v.line ≡ Idle (Some a) → HasDone c p a v.begun v.seen
+AllDone {T} c s = (p : ℕ) (v : Pass T) (a : Answer T) → get_elem? s.passes p ≡ some v → v.line ≡ Idle (Some a) → HasAnswered c p v a

@@ -1,7 +1,7 @@
 -- The lines and the sums of the senders so far: with those of the rest they are the whole.
 use Rattle.std.proofs.Common.{◌≡◌, ℕ, ◌*◌, ◌^◌, ◌≤◌, List, ◌++◌, drop}
 use Rattle.audit.specs.Output.{Sends}
-use Rattle.audit.specs.Counting.{counts_from, sum_of, total}
+use Rattle.audit.specs.Counting.{counts_from, sum_of, total, IsTallyOf}
 use Rattle.audit.specs.Texts.{sender_lines}
 use Rattle.audit.proofs.audit_text.put_senders.Given as goal
 
@@ -12,4 +12,4 @@ invariant-loop-sender g l =
     (out : List ℕ) × (out ++ sender_lines l.sender rest ≡ sender_lines 0 (counts_from l.relayed 0 lists))
     × Sends out (g.W.Write.contents l.initial.writer) (g.W.Write.contents l.writer) l.initial.progress.written l.progress.written
     × (sum_of l.sums (total rest) ≡ total (counts_from l.relayed 0 lists))
-    × (l.sums.delivered ≤ l.sender * 2 ^ 63) × (l.sums.left ≤ l.sender * 2 ^ 63) × (l.sums.unsent ≤ l.sender * 2 ^ 63)
+    × IsTallyOf l.relayed l.tallies × (l.sums.delivered ≤ l.sender * 2 ^ 63) × (l.sums.left ≤ l.sender * 2 ^ 63) × (l.sums.unsent ≤ l.sender * 2 ^ 63)

@@ -13,4 +13,10 @@ loop-preserved g c = record {
 }
 
 pub returns-in-Err-clause-gives : goal.returns-in-Err-clause-gives
-returns-in-Err-clause-gives g c = record { last = _; before = c.loop.invariant.consumed; refused = rw c.in-Err.is at c.take-back.ensures.gives }
+returns-in-Err-clause-gives g c = record {
+  taken = c.loop.invariant.consumed.taken;
+  last = _;
+  takes = c.loop.invariant.consumed.takes;
+  folded = c.loop.invariant.consumed.folds;
+  refused = rw c.in-Err.is at c.take-back.ensures.gives;
+}

@@ -1,4 +1,4 @@
-use Rattle.bounded_model.specs.Consumes.{Consumed}
+use Rattle.bounded_model.proofs.Consuming.{Consumed}
 use Rattle.bounded_model.proofs.consume.consume_all.Given as goal
 
 abbrev pub invariant-loop : goal.invariant-loop

@@ -4,7 +4,8 @@ use Rattle.bounded_model.proofs.Joining.{left_is}
 use Rattle.relay.specs.Promises.{total, Relays}
 use Rattle.relay.proofs.Accounts.{ends_from, none_out, sent_long}
 use Rattle.relay.proofs.Ended.{sent_passes, took_passes, fits_within}
-use Rattle.relay.proofs.Promised.{few_taken, few_there, lists_of, relays}
+use Rattle.relay.proofs.Promised.{few_taken, few_there, lists_of, lists_up, relays}
+use Rattle.relay.proofs.Starting.{zip_long}
 use Rattle.relay.proofs.running.run.Given as given
 use Rattle.relay.proofs.running.run.Goals as goal
 
@@ -19,8 +20,27 @@ join_senders-unsent-requires-clause-room g c κs within =
 pub join_takers-lists-requires-clause-passes : goal.join_takers-lists-requires-clause-passes
 join_takers-lists-requires-clause-passes g c κs within = took_passes _ _ _ _ 0 _ c.in_ok-sent.ensures.takers
 
-pub merge-delivered-requires : goal.merge-delivered-requires
-merge-delivered-requires g c =
+pub merge-delivered-requires-clause-some : goal.merge-delivered-requires-clause-some
+merge-delivered-requires-clause-some g c =
+    let lists = c.join_takers-lists.result in
+    let long = zip_long _ _ _ c.join_takers-lists.ensures.taken in
+    let took = c.in_ok-sent.field-0.took in
+    omega (arith, lists.ok.0, long, took.ok.0, c.in_ok-sent.ensures.consumers, c.in-Ok.ensures.work.consumers_are, c.requires.consumers)
+
+pub merge-delivered-requires-clause-up : goal.merge-delivered-requires-clause-up
+merge-delivered-requires-clause-up g c =
+    let C = g.C.Container in
+    let laws = g.met.C.Container g.world.𝓛 g.world.𝓜 g.world.𝓡 ((λ s x. x), (λ x. x), (λ x. x), λ x. x) in
+    let did = c.in_ok-sent.ensures in
+    let ended = c.in_ok-sent.field-0 in
+    let messages = c.count-messages.ensures ∙ ap total c.deref.ensures.value in
+    let e =
+    ends_from _ _ _ _ c.args.inputs.items ended.sent.items ended.took.items ended.closer ended.used _ _ _ _ _ _ (sym c.args.inputs.ok.0) (sym ended.took.ok.0 ∙ did.consumers) did.senders did.takers did.closer did.used did.given
+    c.join_senders-unsent.ensures.joined c.join_takers-lists.ensures.joined c.join.ensures.gives (laws.root_law c.args.container c.join.new.parent c.join.ensures.root) c.len-2.ensures messages in
+    lists_up _ _ _ _ _ _ _ _ _ _ e c.join_takers-lists.result.items c.join_takers-lists.ensures.taken
+
+pub merge-delivered-requires-clause-room : goal.merge-delivered-requires-clause-room
+merge-delivered-requires-clause-room g c =
     let C = g.C.Container in
     let laws = g.met.C.Container g.world.𝓛 g.world.𝓜 g.world.𝓡 ((λ s x. x), (λ x. x), (λ x. x), λ x. x) in
     let did = c.in_ok-sent.ensures in

@@ -3,11 +3,7 @@ use denote.Param.Send.{IsSend, sendable}
 use Rattle.std.proofs.Crossing.{Vec-send}
 use Rattle.relay.specs.contracts.messages.Message as message
 use Rattle.treiber_stack.proofs.Crossing.{rest_send}
-<<<<<<<< HEAD:crates/program_tests/proofs/relay_tests/relay_over/Answers.antt
-use Rattle.program_tests.proofs.relay_tests.relay_over.Goals as goal
-========
 use Rattle.relay_tests.proofs.kinds.through_a_stack.Goals as goal
->>>>>>>> main:crates/relay_tests/proofs/kinds/through_a_stack/Answers.antt
 
 message_send : IsSend message.the_row
 message_send = search (sendable, Vec-send) depth 20

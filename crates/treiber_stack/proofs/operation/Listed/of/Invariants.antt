@@ -1,5 +1,6 @@
 use Rattle.std.proofs.Common.{◌≡◌, ◌-◌, drop, length}
-use Rattle.treiber_stack.specs.Places.{values_of, somes}
+use Rattle.bounded_model.specs.Bulk.{somes}
+use Rattle.treiber_stack.specs.Places.{values_of}
 use Rattle.treiber_stack.proofs.operation.Listed.of.Given as goal
 
 abbrev pub invariant-loop-back : goal.invariant-loop-back

@@ -3,7 +3,7 @@ use Rattle.bounded_model.specs.declared.views.PassView.{PassView}
 use Rattle.bounded_model.specs.declared.answers.Word.TheVariants.{Top as TopWord}
 use Rattle.treiber_stack.specs.Ranging.{NotPut, Stops}
 use Rattle.treiber_stack.specs.Stack.{pass_in, shape_of}
-use Rattle.treiber_stack.specs.declared.ranging.RangeRefused.TheVariants.{Full, Closed, Spent}
+use Rattle.bounded_model.specs.declared.bulk.RangeRefused.TheVariants.{Full, Closed, Spent}
 use Rattle.treiber_stack.proofs.Collecting.{refused_closed, refused_worn, refused_full}
 use Rattle.treiber_stack.proofs.stack.Stack.refuse_range.Goals as goal
 

@@ -1,7 +1,7 @@
 use Rattle.std.proofs.Common.{◌≡◌, ℕ, ◌+◌, List}
 use Rattle.treiber_stack.specs.Operations.{begun_in}
 use Rattle.treiber_stack.specs.Ranging.{IsRefused, IsRestoring, places_from}
-use Rattle.treiber_stack.specs.declared.ranging.RangeRefused.{RangeRefused}
+use Rattle.bounded_model.specs.declared.bulk.RangeRefused.{RangeRefused}
 use Rattle.treiber_stack.proofs.stack.Stack.restore.Given as goal
 
 abbrev pub invariant-loop-moved : goal.invariant-loop-moved

@@ -1,0 +1,146 @@
+//! Values through any container: by one thread, and by many at once.
+
+ghost use Rattle.std.specs.Prelude.{All, IfOk};
+
+use crate::crowd::{Tally, exchange, take_after_own_put};
+use bounded_model::{Container, PutRefused, TakeRefused};
+use std::alloc::Global;
+use std::process::Abort;
+use std::sync::Wait;
+use std::sync::atomic::Ordering;
+use std::test::Fail;
+use std::thread::Threads;
+
+/// So many passes.
+pub(crate) fn passes<C: Container<u64>>(
+    alloc: Global,
+    container: &C,
+    root: &mut C::Root,
+    count: u32,
+) -> Result<Vec<C::Pass>, Fail>
+    requires { C.is_root container.now root.old }
+    ensures root { C.is_root container.now root.new }
+    ensures passes { IfOk result (λ ps. All (C.is_pass container.now) ps.items) }
+{
+    let mut all = Vec::new(alloc);
+    for _ in 0..count {
+        let pass = container.split(root).ok_or("no pass")?;
+        all.push(pass)?;
+    }
+    Ok(all)
+}
+
+/// One value in and out, twice, through a container with room for one.
+pub(crate) fn one_value_at_a_time<C: Container<u64>, R: Abort + Wait>(
+    rt: &R,
+    container: &C,
+    root: &mut C::Root,
+) -> Result<(), Fail>
+    requires { C.is_root container.now root.old }
+{
+    let pass = container.split(root).ok_or("no pass")?;
+    let (pass, put) = container.put(rt, pass, 7);
+    assert!(rt; put.is_ok());
+    let (pass, full) = container.put(rt, pass, 9);
+    assert!(rt; full == Err(PutRefused::Full(9)));
+    let (pass, taken) = container.take(rt, pass);
+    assert!(rt; taken.map(|found| found.0) == Ok(7));
+    let (pass, put) = container.put(rt, pass, 8);
+    assert!(rt; put.is_ok());
+    let (pass, taken) = container.take(rt, pass);
+    assert!(rt; taken.map(|found| found.0) == Ok(8));
+    let (_, empty) = container.take(rt, pass);
+    assert!(rt; empty == Err(TakeRefused::Empty));
+    Ok(())
+}
+
+// Fills an empty container: it has room for so many values and for no other.
+fn fill<C: Container<u64>, R: Abort + Wait>(rt: &R, container: &C, by: C::Pass) -> C::Pass
+    requires { C.is_pass container.now by }
+    ensures { C.is_pass container.now result }
+{
+    let room = u64::from(container.capacity());
+    let mut pass = by;
+    for value in 0..room {
+        let (back, put) = container.put(rt, pass, value);
+        assert!(rt; put.is_ok());
+        pass = back;
+    }
+    let (pass, full) = container.put(rt, pass, room);
+    assert!(rt; full == Err(PutRefused::Full(room)));
+    pass
+}
+
+// Empties a full container.
+fn empty<C: Container<u64>, R: Abort + Wait>(rt: &R, container: &C, by: C::Pass) -> C::Pass
+    requires { C.is_pass container.now by }
+    ensures { C.is_pass container.now result }
+{
+    let mut pass = by;
+    for _ in 0..container.capacity() {
+        let (back, taken) = container.take(rt, pass);
+        assert!(rt; taken.is_ok());
+        pass = back;
+    }
+    let (pass, empty) = container.take(rt, pass);
+    assert!(rt; empty == Err(TakeRefused::Empty));
+    pass
+}
+
+/// A container takes exactly as many values as it has room for, and has that room again when they
+/// are out.
+pub(crate) fn room_for_its_capacity<C: Container<u64>, R: Abort + Wait>(
+    rt: &R,
+    container: &C,
+    root: &mut C::Root,
+) -> Result<(), Fail>
+    requires { C.is_root container.now root.old }
+{
+    let pass = container.split(root).ok_or("no pass")?;
+    let pass = fill(rt, container, pass);
+    let pass = empty(rt, container, pass);
+    let pass = fill(rt, container, pass);
+    let _ = empty(rt, container, pass);
+    Ok(())
+}
+
+/// Producers and consumers at once, each value put by one of the producers: each comes out once,
+/// and each consumer's numbers rise. Answers what they found.
+pub(crate) fn each_value_once<C: Container<u64> + Sync, R: Abort + Threads + Wait + Sync>(
+    rt: &R,
+    alloc: Global,
+    container: &C,
+    root: &mut C::Root,
+    producers: u32,
+    consumers: u32,
+    each: u64,
+) -> Result<Tally, Fail>
+    requires { C.is_root container.now root.old }
+{
+    let tally = Tally::of(alloc, each.saturating_mul(u64::from(producers)))?;
+    let producers = passes(alloc, container, root, producers)?;
+    let consumers = passes(alloc, container, root, consumers)?;
+    let closer = container.split(root).ok_or("no pass")?;
+    assert!(rt; exchange(rt, container, producers, consumers, closer, each, &tally));
+    assert!(rt; tally.is_each_once());
+    assert_eq!(rt; tally.falls.load(Ordering::SeqCst), 0);
+    Ok(tally)
+}
+
+/// Threads that each put and take in turn: no take is refused.
+pub(crate) fn own_puts_suffice<C: Container<u64> + Sync, R: Abort + Threads + Wait + Sync>(
+    rt: &R,
+    alloc: Global,
+    container: &C,
+    root: &mut C::Root,
+    threads: u32,
+    times: u64,
+) -> Result<(), Fail>
+    requires { C.is_root container.now root.old }
+{
+    let tally = Tally::of(alloc, 0)?;
+    let passes = passes(alloc, container, root, threads)?;
+    assert!(rt; take_after_own_put(rt, container, passes, times, &tally));
+    assert_eq!(rt; tally.refusals.load(Ordering::SeqCst), 0);
+    Ok(())
+}

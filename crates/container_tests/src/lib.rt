@@ -1,0 +1,23 @@
+//! Tests of the containers that need none of their private names. Of any container: what a value
+//! must go through as in the test suites of crossbeam-queue's `ArrayQueue` and of Boost.Lockfree,
+//! in our own words. Of the stack beside these: single steps, ranges, folds.
+#![tactic(auto)]
+
+#[cfg(test)]
+mod crowd;
+#[cfg(test)]
+mod drops;
+#[cfg(test)]
+mod fills;
+#[cfg(test)]
+mod pool;
+#[cfg(test)]
+mod stack;
+#[cfg(test)]
+mod stack_calls;
+#[cfg(test)]
+mod stack_crowd;
+#[cfg(test)]
+mod stack_folds;
+#[cfg(test)]
+mod stack_ranges;

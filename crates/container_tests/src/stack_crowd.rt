@@ -1,0 +1,160 @@
+//! Ranges go in and folds take all beside takes of single values.
+
+ghost use Rattle.treiber_stack.specs.Stack.{IsPassOf};
+
+use crate::crowd::Tally;
+use crate::stack::MOST;
+use bounded_model::{Container, PutRefused, TakeRefused};
+use std::sync::Wait;
+use std::test::Fail;
+use std::thread;
+use tagged_index::Limits;
+use treiber_stack::{Pass, Stack};
+
+/// How many ranges of three values each of the two putting threads has.
+const RANGES: u64 = 3_000;
+
+// Puts one value, however often the stack is full.
+fn put<R: Wait>(rt: &R, stack: &Stack<u64>, by: Pass<u64>, value: u64) -> Pass<u64>
+    requires { IsPassOf stack.now by }
+    ensures { IsPassOf stack.now result }
+{
+    let mut pass = by;
+    for _ in rt.forever() {
+        let (back, answer) = stack.put(rt, pass, value);
+        pass = back;
+        match answer {
+            Err(PutRefused::Full(_)) => thread::yield_now(),
+            _ => return pass,
+        }
+    }
+    unreachable!()
+}
+
+// Puts three values by one exchange where there is room, and those that found none one by one.
+fn put_three<R: Wait>(rt: &R, stack: &Stack<u64>, by: Pass<u64>, first: u64) -> Pass<u64>
+    requires { IsPassOf stack.now by }
+    ensures { IsPassOf stack.now result }
+{
+    let mut values = [
+        Some(first),
+        Some(first.saturating_add(1)),
+        Some(first.saturating_add(2)),
+    ];
+    let (back, answer) = stack.put_range(rt, by, &mut values);
+    let mut pass = back;
+    if answer.is_err() {
+        thread::yield_now();
+    }
+    for place in &mut values {
+        if let Some(value) = place.take() {
+            pass = put(rt, stack, pass, value);
+        }
+    }
+    pass
+}
+
+fn put_ranges<R: Wait>(rt: &R, stack: &Stack<u64>, by: Pass<u64>, first: u64)
+    requires { IsPassOf stack.now by }
+{
+    let mut pass = by;
+    for k in 0..RANGES {
+        pass = put_three(rt, stack, pass, first.saturating_add(3 * k));
+    }
+}
+
+// Takes single values until the stack is closed and empty.
+fn take_each<R: Wait>(rt: &R, stack: &Stack<u64>, by: Pass<u64>, tally: &Tally)
+    requires { IsPassOf stack.now by }
+{
+    let mut pass = by;
+    for _ in rt.forever() {
+        let (back, answer) = stack.take(rt, pass);
+        pass = back;
+        match answer {
+            Ok((value, _)) => tally.count(value),
+            Err(TakeRefused::Empty) => thread::yield_now(),
+            Err(_) => return,
+        }
+    }
+    unreachable!()
+}
+
+// Takes all values at a time until the stack is closed and empty.
+fn fold_each<R: Wait>(rt: &R, stack: &Stack<u64>, by: Pass<u64>, tally: &Tally)
+    requires { IsPassOf stack.now by }
+{
+    let mut pass = by;
+    for _ in rt.forever() {
+        let count = |seen: u64, value: u64| {
+            tally.count(value);
+            seen.wrapping_add(1)
+        };
+        let (back, _, answer) = stack.fold_all_atomic(rt, pass, 0u64, count);
+        pass = back;
+        match answer {
+            Ok(_) | Err(TakeRefused::Empty) => thread::yield_now(),
+            Err(_) => return,
+        }
+    }
+    unreachable!()
+}
+
+#[test]
+fn ranges_and_folds_beside_takes_keep_each_value(rt: HostRuntime) -> Result<(), Fail> {
+    let limits = Limits::of(8, MOST).ok_or("limits")?;
+    let (stack, mut root) = Stack::<u64>::new(rt.alloc(), limits)?;
+    let whole = Tally::of(rt.alloc(), 6 * RANGES)?;
+    let (shared, tally) = (&stack, &whole);
+    let low = stack.split(&mut root).ok_or("no pass")?;
+    let high = stack.split(&mut root).ok_or("no pass")?;
+    let taker = stack.split(&mut root).ok_or("no pass")?;
+    let folder = stack.split(&mut root).ok_or("no pass")?;
+    let closer = stack.split(&mut root).ok_or("no pass")?;
+    let threads = &rt;
+    thread::scope(
+        thread::scope_env(),
+        &rt,
+        |scope|
+            requires low { IsPassOf shared.now low }
+            requires high { IsPassOf shared.now high }
+            requires taker { IsPassOf shared.now taker }
+            requires folder { IsPassOf shared.now folder }
+            requires closer { IsPassOf shared.now closer }
+        {
+            let Ok(first) = scope.spawn(
+                move ||
+                    requires { IsPassOf shared.now low }
+                { put_ranges(threads, shared, low, 0) },
+            ) else {
+                panic!(threads; "no thread")
+            };
+            let Ok(second) = scope.spawn(
+                move ||
+                    requires { IsPassOf shared.now high }
+                { put_ranges(threads, shared, high, 3 * RANGES) },
+            ) else {
+                panic!(threads; "no thread")
+            };
+            let Ok(_) = scope.spawn(
+                move ||
+                    requires { IsPassOf shared.now taker }
+                { take_each(threads, shared, taker, tally) },
+            ) else {
+                panic!(threads; "no thread")
+            };
+            let Ok(_) = scope.spawn(
+                move ||
+                    requires { IsPassOf shared.now folder }
+                { fold_each(threads, shared, folder, tally) },
+            ) else {
+                panic!(threads; "no thread")
+            };
+            first.join(threads);
+            second.join(threads);
+            let _ = shared.close(threads, closer);
+        },
+    );
+    assert!(rt; whole.is_each_once());
+    Ok(())
+}

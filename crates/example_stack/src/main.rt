@@ -1,0 +1,109 @@
+//! What a stack has beside puts and takes: a range, folds, single steps, and two passes that meet.
+#![tactic(auto)]
+
+ghost use Rattle.std.specs.Prelude.{IfOk};
+ghost use Rattle.treiber_stack.specs.Stack.{IsPassOf};
+
+use bounded_model::{Bulk, Container, MakeRefused, PutRefused, Stepped, consume_one};
+use std::io;
+use std::process::ExitCode;
+use std::sync::Wait;
+use tagged_index::{Limits, MAX_TAG};
+use thiserror::Error;
+use treiber_stack::{Pass, Stack};
+
+#[derive(Debug, Drop, Error)]
+enum Fault {
+    #[error("no memory for the stack")]
+    Make(#[from] MakeRefused),
+    #[error("output failed")]
+    Output(#[from] io::Error),
+}
+
+// Puts three values by one exchange and folds them from the bottom up.
+fn ranges<R: Print + Wait>(rt: &R, stack: &Stack<u64>, by: Pass<u64>) -> Result<Pass<u64>, Fault>
+    requires { IsPassOf stack.now by }
+    ensures { IfOk result (λ pass. IsPassOf stack.now pass) }
+{
+    let mut places = [Some(1), Some(2), Some(3)];
+    let (pass, ranged) = stack.put_range(rt, by, &mut places);
+    println!(rt; "{ranged:?}, places {places:?}")?;
+    let digits = |state: u64, value: u64| state.saturating_mul(10).saturating_add(value);
+    let (pass, number, folded) = stack.fold_all_atomic_reversed(rt, pass, 0, digits);
+    println!(rt; "{folded:?}, from the bottom up {number}")?;
+    Ok(pass)
+}
+
+// One pass puts a value, and then another by single steps.
+fn steps<R: Print + Wait>(
+    rt: &R,
+    stack: &Stack<u64>,
+    by: Pass<u64>,
+    other: Pass<u64>,
+) -> Result<(Pass<u64>, Pass<u64>), Fault>
+    requires by { IsPassOf stack.now by }
+    requires other { IsPassOf stack.now other }
+    ensures { IfOk result (λ ps. IsPassOf stack.now ps.0 × IsPassOf stack.now ps.1) }
+{
+    let (other, between) = stack.put(rt, other, 5);
+    let (pass, answer, count) = put_by_steps(rt, stack, by, 4);
+    println!(rt; "put {between:?}, and {answer:?} by {count} steps")?;
+    Ok((pass, other))
+}
+
+fn put_by_steps<R: Wait>(
+    rt: &R,
+    stack: &Stack<u64>,
+    by: Pass<u64>,
+    value: u64,
+) -> (Pass<u64>, Result<u64, PutRefused<u64>>, u64)
+    requires { IsPassOf stack.now by }
+    ensures { IsPassOf stack.now result.0 }
+{
+    let mut op = stack.begin_put(by, value);
+    let mut count: u64 = 0;
+    for _ in rt.forever() {
+        count = count.saturating_add(1);
+        match op.step(stack) {
+            Stepped::Again(next) => op = next,
+            Stepped::Done(pass, answer) => return (pass, answer, count),
+        }
+    }
+    unreachable!()
+}
+
+fn calls<R: AllocGlobal + Print + Wait>(rt: &R) -> Result<(), Fault> {
+    let Some(limits) = Limits::of(8, MAX_TAG) else {
+        unreachable!()
+    };
+    let (stack, mut root) = Stack::new(rt.alloc(), limits)?;
+    let Some(first) = stack.split(&mut root) else {
+        unreachable!()
+    };
+    let Some(second) = stack.split(&mut root) else {
+        unreachable!()
+    };
+    let first = ranges(rt, &stack, first)?;
+    let (mut first, second) = steps(rt, &stack, first, second)?;
+    let (second, _) = stack.meet(&mut first, second);
+    let (second, taken) = consume_one(&stack, rt, second, |value: u64| value.saturating_add(100));
+    let (first, shut) = stack.shut(rt, first);
+    let (first, again) = stack.shut(rt, first);
+    let (second, refused) = stack.take(rt, second);
+    let (first, empty) = stack.is_empty(first);
+    println!(rt; "consumed {taken:?}, shut {shut} {again}, take {refused:?}, empty {empty}")?;
+    stack.join(&mut root, first);
+    stack.join(&mut root, second);
+    Ok(())
+}
+
+fn main(rt: HostRuntime) -> ExitCode {
+    match calls(&rt) {
+        Ok(()) => ExitCode::SUCCESS,
+        Err(fault) => {
+            // Nothing is left to do where standard error fails too.
+            let _ = eprintln!(rt; "example_stack: {fault}");
+            ExitCode::FAILURE
+        }
+    }
+}

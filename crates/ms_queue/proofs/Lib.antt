@@ -1,0 +1,4 @@
+pub mod Seeks
+pub mod Closes
+pub mod Gives
+pub mod Takes

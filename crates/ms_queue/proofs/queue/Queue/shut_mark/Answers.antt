@@ -1,0 +1,24 @@
+use Rattle.std.proofs.Common.{ℕ, true, [], refl, ◌∙◌}
+use Rattle.queue_machine.specs.declared.lines.Answer.TheVariants.{Shut as Answer}
+use Rattle.queue_machine.specs.declared.lines.Line.TheVariants.{LoadHeadToShut}
+use Rattle.queue_machine.specs.Machine.{ends}
+use Rattle.running.proofs.Ways.{goes_on, ends_so, hits, misses}
+use Rattle.ms_queue.specs.Queue.{machine_of}
+use Rattle.ms_queue.proofs.Closes.{shut_gives}
+use Rattle.ms_queue.proofs.queue.Queue.shut_mark.Goals as goal
+
+pub returns-then-swap_step : goal.returns-then-swap_step
+returns-then-swap_step g c =
+    let q = c.args.self.now in
+    let s = c.swap_step in
+    let w : ℕ = c.args.head in
+    let e = ends_so (machine_of q) c.requires (record { seat = s.new.seat }) w [] (c.if-swap_step.ensures.won refl) s.ensures.seat.0 (ends (Answer true)) (s.ensures.seat.1 ∙ c.requires.at.has) (hits w (ends (Answer true)) LoadHeadToShut) refl in
+    (e.0, shut_gives q true e.1, e.2)
+
+pub returns : goal.returns
+returns g c =
+    let q = c.args.self.now in
+    let s = c.swap_step in
+    let w : ℕ = c.args.head in
+    let lost = c.if-swap_step.ensures.lost refl in
+    goes_on (machine_of q) c.requires (record { seat = s.new.seat }) lost.found [] lost.steps s.ensures.seat.0 [] LoadHeadToShut (s.ensures.seat.1 ∙ c.requires.at.has) (misses lost.found w lost.other (ends (Answer true)) LoadHeadToShut) refl

@@ -1,0 +1,49 @@
+-- Which passes and roots are a queue's, and what they have seen.
+use Rattle.std.specs.Prelude.{ℕ, List, Option as Slot}
+use Rattle.tagged_index.specs.Limits.{capacity_of, tag_limit_of}
+use Rattle.bounded_model.specs.declared.views.PassView.{PassView}
+use Rattle.bounded_model.specs.Machine.{Shape}
+use Rattle.queue_machine.specs.declared.lines.Line.{Line}
+use Rattle.running.specs.Machine as running
+use Rattle.running.specs.Passes as passes
+use Rattle.running.specs.declared.passes.Pass.{Pass}
+use Rattle.running.specs.declared.passes.Root.{Root}
+use Rattle.queue_table.specs.declared.operation.Operation.{Operation}
+use Rattle.queue_table.specs.Lines.{names}
+use Rattle.queue_table.proofs.Laws.{queue}
+use Rattle.ms_queue.specs.declared.queue.Queue.{Queue}
+
+module _ {T : Type 0} where
+  -- how many values it has room for, and the limit of its tags
+  abbrev pub room_of : Queue T → ℕ
+  room_of c = capacity_of c.table.shared.key
+
+  abbrev pub limit_of : Queue T → ℕ
+  limit_of c = tag_limit_of c.table.shared.key
+
+  abbrev pub machine_of : Queue T → running.Machine T (Line T) (Operation T) names
+  machine_of c = queue T (room_of c) (limit_of c)
+
+  abbrev pub shape_of : Queue T → Shape
+  shape_of c = (machine_of c).core.shape
+
+  -- a pass between its operations, and a root between its calls
+  abbrev pub IsPassOf : Queue T → Pass T (Line T) → Type 0
+  IsPassOf c p = passes.IsPassOn (machine_of c) c.table.shared.table_id p
+
+  abbrev pub IsRootOf : Queue T → Root T (Line T) → Type 0
+  IsRootOf c r = passes.IsRootOn (machine_of c) c.table.shared.table_id r
+
+  -- a pass in an operation, at a line and with these slots in hand
+  abbrev pub IsAt : Queue T → Operation T → Pass T (Line T) → Line T → List (ℕ × Slot T) → Type 0
+  IsAt c o p l slots = passes.IsAtOn (machine_of c) c.table.shared.table_id o p l slots
+
+  abbrev pub begun_of : Queue T → Pass T (Line T) → PassView T
+  begun_of c p = passes.begun_of (machine_of c) p
+
+  -- a step was the machine's line l, exactly one more, and led to l'; and its operation goes on
+  abbrev pub OneLine : Queue T → Pass T (Line T) → Pass T (Line T) → Line T → Line T → Type 0
+  OneLine c p q l l' = passes.OneLine (machine_of c) p q l l'
+
+  abbrev pub WentOn : Queue T → Pass T (Line T) → Pass T (Line T) → Line T → Line T → Type 0
+  WentOn c p q l l' = passes.WentOn (machine_of c) p q l l'

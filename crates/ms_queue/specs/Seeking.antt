@@ -1,0 +1,54 @@
+-- The way to the end of the chain, by steps.
+use Rattle.std.specs.Prelude.{◌≡◌, ◌≢◌, ℕ, ◌+◌, ◌<◌}
+use Rattle.tagged_index.specs.Fields.{fields_of, index_of, tag_of}
+use Rattle.tagged_index.specs.declared.word.TheConstants.{NULL}
+use Rattle.queue_machine.specs.declared.lines.Seeking.{Seeking}
+use Rattle.queue_machine.specs.declared.lines.Line.{Line}
+use Rattle.queue_machine.specs.declared.lines.Line.TheVariants.{LoadTail, LoadTailNext, CheckTail, SwingTail}
+use Rattle.queue_machine.specs.Machine.{back_closed, back_null}
+use Rattle.queue_table.specs.declared.operation.Operation.{Operation}
+use Rattle.queue_table.specs.Lines.{HasRoom}
+use Rattle.running.specs.Going.{Steps}
+use Rattle.running.specs.declared.passes.Pass.{Pass}
+use Rattle.ms_queue.specs.declared.queue.Queue.{Queue}
+use Rattle.ms_queue.specs.declared.seeking.Seek.{Seek}
+use Rattle.ms_queue.specs.declared.seeking.Seek.TheVariants.{LoadTail as SeekTail, LoadNext as SeekNext, CheckTail as SeekCheck, SwingTail as SeekSwing}
+use Rattle.ms_queue.specs.declared.seeking.Sought.{Sought}
+use Rattle.ms_queue.specs.declared.seeking.Sought.TheVariants.{On, Closed, End}
+use Rattle.ms_queue.specs.Queue.{room_of, limit_of, machine_of, begun_of, IsAt}
+
+-- what was read names nodes, and the tail that is to be moved has room for its tag to rise
+abbrev pub IsRead : ℕ → ℕ → Seek → Type 0
+IsRead n limit SeekTail = Unit {0}
+IsRead n limit (SeekNext w) = index_of w < n + 1
+IsRead n limit (SeekCheck w x) = (index_of w < n + 1) × (index_of x ≢ NULL → index_of x < n + 1)
+IsRead n limit (SeekSwing w x) = (index_of w < n + 1) × (index_of x < n + 1) × (tag_of w < limit)
+
+module _ {T : Type 0} where
+  -- the machine's line, and the one that a step led to
+  abbrev pub seek_line : Seeking T → Seek → Line T
+  seek_line s SeekTail = LoadTail s
+  seek_line s (SeekNext w) = LoadTailNext s (fields_of w)
+  seek_line s (SeekCheck w x) = CheckTail s (fields_of w) (fields_of x)
+  seek_line s (SeekSwing w x) = SwingTail s (fields_of w) (fields_of x)
+
+  abbrev pub led_line : Seeking T → Sought → Line T
+  led_line s (On at) = seek_line s at
+  led_line s Closed = back_closed s
+  led_line s (End w x) = back_null s (fields_of w) (fields_of x)
+
+  abbrev pub HasRead : ℕ → ℕ → Seeking T → Sought → Type 0
+  HasRead n limit s (On at) = IsRead n limit at
+  HasRead n limit s Closed = Unit {0}
+  HasRead n limit s (End w x) = (index_of w < n + 1) × HasRoom limit (back_null s (fields_of w) (fields_of x))
+
+  pub record IsSeeking (c : Queue T) (o : Operation T) (p : Pass T (Line T)) (s : Seeking T) (at : Seek) : Type 0 where
+    pub line : IsAt c o p (seek_line s at) p.seat.me.1
+    pub read : IsRead (room_of c) (limit_of c) at
+
+  -- what a step leaves: the hand as it was, and the pass where the machine's step led
+  pub record Led (c : Queue T) (o : Operation T) (p q : Pass T (Line T)) (s : Seeking T) (at : Seek) (led : Sought) : Type 0 where
+    pub table : q.seat.table_id ≡ p.seat.table_id
+    pub slots : q.seat.me.1 ≡ p.seat.me.1
+    pub steps : Steps (machine_of c) o p.seat.me.0 q.seat.me.0 (begun_of c p) (seek_line s at) (led_line s led)
+    pub read : HasRead (room_of c) (limit_of c) s led

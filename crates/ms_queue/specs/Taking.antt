@@ -1,0 +1,66 @@
+-- A take made by steps.
+use Rattle.std.specs.Prelude.{◌≢◌, ℕ, ◌+◌, ◌<◌, ◌≤◌, List, [], ◌∷◌, Option as Slot, Result, Ok}
+use Rattle.tagged_index.specs.Fields.{fields_of, index_of, tag_of}
+use Rattle.tagged_index.specs.declared.word.TheConstants.{NULL}
+use Rattle.bounded_model.specs.declared.answers.Stepped.{Stepped}
+use Rattle.bounded_model.specs.declared.answers.Stepped.TheVariants.{Again, Done}
+use Rattle.bounded_model.specs.declared.answers.TakeRefused.{TakeRefused}
+use Rattle.bounded_model.specs.Laws.{TakeGives}
+use Rattle.queue_machine.specs.declared.lines.Answer.{Answer}
+use Rattle.queue_machine.specs.declared.lines.Answer.TheVariants.{Take as AnswerTake}
+use Rattle.queue_machine.specs.declared.lines.Line.{Line}
+use Rattle.queue_machine.specs.declared.lines.Line.TheVariants.{LoadHead, LoadTailToTake, LoadHeadNext, CheckHead, SwingTailToTake, LoadCell, TakeHead}
+use Rattle.queue_machine.specs.Machine.{ends}
+use Rattle.queue_table.specs.declared.operation.Operation.TheVariants.{Take as TakeFirst}
+use Rattle.running.specs.Passes.{pass_in}
+use Rattle.running.specs.declared.passes.Pass.{Pass}
+use Rattle.ms_queue.specs.declared.queue.Queue.{Queue}
+use Rattle.ms_queue.specs.declared.taking.Taken.{Taken}
+use Rattle.ms_queue.specs.declared.taking.TakeOp.{TakeOp}
+use Rattle.ms_queue.specs.declared.taking.TakeAt.{TakeAt}
+use Rattle.ms_queue.specs.declared.taking.TakeAt.TheVariants.{LoadHead as LoadHeadFirst, LoadTail, LoadNext, CheckHead as CheckHeadAgain, SwingTail, LoadCell as LoadFirstCell, TakeHead as TakeFirstNode, GiveBack}
+use Rattle.ms_queue.specs.Queue.{room_of, limit_of, shape_of, begun_of, IsPassOf, IsAt, OneLine, WentOn}
+use Rattle.ms_queue.specs.Giving.{give_line, held_slot, AreHeld}
+
+module _ {T : Type 0} where
+  abbrev pub took : Taken T → Answer T
+  took t = AnswerTake (Ok (t.value, t.number))
+
+  -- the machine's line
+  abbrev pub take_line : TakeAt T → Line T
+  take_line LoadHeadFirst = LoadHead
+  take_line (LoadTail h) = LoadTailToTake (fields_of h)
+  take_line (LoadNext h w) = LoadHeadNext (fields_of h) (fields_of w)
+  take_line (CheckHeadAgain h w x) = CheckHead (fields_of h) (fields_of w) (fields_of x)
+  take_line (SwingTail w x) = SwingTailToTake (fields_of w) (fields_of x)
+  take_line (LoadFirstCell h x) = LoadCell (fields_of h) (fields_of x)
+  take_line (TakeFirstNode h x k) = TakeHead (fields_of h) (fields_of x) k
+  take_line (GiveBack t at) = give_line (took t) t.held at
+
+  -- the slots in hand
+  abbrev pub take_slots : TakeAt T → List (ℕ × Slot T)
+  take_slots (GiveBack t at) = held_slot t.held
+  take_slots at = []
+
+  -- what was read names nodes and a cell, and the tag of the word to be exchanged has room to rise
+  abbrev pub HasReadToTake : ℕ → ℕ → TakeAt T → Type 0
+  HasReadToTake n limit LoadHeadFirst = Unit {0}
+  HasReadToTake n limit (LoadTail h) = index_of h < n + 1
+  HasReadToTake n limit (LoadNext h w) = index_of h < n + 1
+  HasReadToTake n limit (CheckHeadAgain h w x) = (index_of h < n + 1) × (index_of x ≢ NULL → index_of x < n + 1)
+  HasReadToTake n limit (SwingTail w x) = (index_of x < n + 1) × (tag_of w < limit)
+  HasReadToTake n limit (LoadFirstCell h x) = (index_of h < n + 1) × (index_of x < n + 1)
+  HasReadToTake n limit (TakeFirstNode h x k) = (index_of h < n + 1) × (index_of x < n + 1) × (k ≤ NULL) × (tag_of h < limit)
+  HasReadToTake n limit (GiveBack t at) = AreHeld n t.held
+
+  pub record IsTakingAt (c : Queue T) (p : Pass T (Line T)) (at : TakeAt T) : Type 0 where
+    pub line : IsAt c TakeFirst p (take_line at) (take_slots at)
+    pub read : HasReadToTake (room_of c) (limit_of c) at
+
+  abbrev pub IsTaking : Queue T → TakeOp T → Type 0
+  IsTaking c op = IsTakingAt c op.pass op.at
+
+  -- what a step gives
+  abbrev pub TakeStep : Queue T → Pass T (Line T) → TakeAt T → Stepped (TakeOp T) (Pass T (Line T)) (Result (T × ℕ) TakeRefused) → Type 0
+  TakeStep c p at (Again next) = IsTaking c next × WentOn c p next.pass (take_line at) (take_line next.at)
+  TakeStep c p at (Done q r) = IsPassOf c q × TakeGives (shape_of c) (begun_of c p) (pass_in q) r × OneLine c p q (take_line at) (ends (AnswerTake r))

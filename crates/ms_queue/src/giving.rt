@@ -1,0 +1,170 @@
+//! Giving a node and then a cell back to their free lists: the same steps for a take and for a put
+//! that is refused.
+ghost use Rattle.queue_machine.specs.declared.lines.Answer.{Answer};
+ghost use Rattle.ms_queue.specs.Giving.{IsGiving, Led};
+ghost use Rattle.ms_queue.specs.declared.giving.Give.TheVariants.{LoadNodes, LinkNode, GiveNode, LoadCells, LinkCell, GiveCell};
+
+use crate::queue::{Pass, Queue};
+use queue_table::Operation;
+use queue_table::layout::{CELLS, NODES, cell_link, node_link};
+use running::{give_step, load_tagged_step, store_step, swap_step};
+use tagged_index::Tagged;
+
+/// The node and the cell that are to be given back. The cell's slot is empty.
+#[derive(Clone, Copy)]
+pub(crate) struct Held {
+    pub(crate) cell: u32,
+    pub(crate) node: u32,
+}
+
+/// The next step of giving back, with what was read.
+#[derive(Drop)]
+pub(crate) enum Give {
+    /// Load `NODES`.
+    LoadNodes,
+    /// Link the node to the free one.
+    LinkNode(Tagged),
+    /// Exchange `NODES` for the node.
+    GiveNode(Tagged),
+    /// Load `CELLS`.
+    LoadCells,
+    /// Link the cell to the free one.
+    LinkCell(Tagged),
+    /// Exchange `CELLS` for the cell.
+    GiveCell(Tagged),
+}
+
+/// Where such a step led.
+#[derive(Drop)]
+pub(crate) enum Gave {
+    On(Give),
+    /// Both are given back.
+    Both,
+}
+
+impl<T> Queue<T> {
+    /// One step of giving back.
+    #[inline]
+    pub(crate) fn give(
+        &self,
+        by: &mut Pass<T>,
+        held: Held,
+        at: Give,
+        operation: &Operation<T>,
+    ) -> Gave
+        requires { (a : Answer T) × IsGiving self.now operation.now by.old a held at }
+        ensures { (a : Answer T) → IsGiving self.now operation.now by.old a held at → Led self.now operation.now by.old by.new a held at result }
+    {
+        match at {
+            Give::LoadNodes => self.give_load_nodes(by, held, operation),
+            Give::LinkNode(nodes) => self.give_link_node(by, held, nodes, operation),
+            Give::GiveNode(nodes) => self.give_node(by, held, nodes, operation),
+            Give::LoadCells => self.give_load_cells(by, held, operation),
+            Give::LinkCell(cells) => self.give_link_cell(by, held, cells, operation),
+            Give::GiveCell(cells) => self.give_cell(by, held, cells, operation),
+        }
+    }
+
+    #[inline]
+    fn give_load_nodes(&self, by: &mut Pass<T>, held: Held, operation: &Operation<T>) -> Gave
+        requires { (a : Answer T) × IsGiving self.now operation.now by.old a held LoadNodes }
+        ensures { (a : Answer T) → IsGiving self.now operation.now by.old a held LoadNodes → Led self.now operation.now by.old by.new a held LoadNodes result }
+    {
+        let nodes = load_tagged_step(&self.table.shared, &mut by.seat, NODES, operation);
+        Gave::On(Give::LinkNode(nodes))
+    }
+
+    #[inline]
+    fn give_link_node(
+        &self,
+        by: &mut Pass<T>,
+        held: Held,
+        nodes: Tagged,
+        operation: &Operation<T>,
+    ) -> Gave
+        requires { (a : Answer T) × IsGiving self.now operation.now by.old a held (LinkNode nodes) }
+        ensures { (a : Answer T) → IsGiving self.now operation.now by.old a held (LinkNode nodes) → Led self.now operation.now by.old by.new a held (LinkNode nodes) result }
+    {
+        let link = node_link(held.node);
+        let first = nodes.index() as u64;
+        store_step(&self.table.shared, &mut by.seat, link, first, operation);
+        Gave::On(Give::GiveNode(nodes))
+    }
+
+    #[inline]
+    fn give_node(
+        &self,
+        by: &mut Pass<T>,
+        held: Held,
+        nodes: Tagged,
+        operation: &Operation<T>,
+    ) -> Gave
+        requires { (a : Answer T) × IsGiving self.now operation.now by.old a held (GiveNode nodes) }
+        ensures { (a : Answer T) → IsGiving self.now operation.now by.old a held (GiveNode nodes) → Led self.now operation.now by.old by.new a held (GiveNode nodes) result }
+    {
+        let new = nodes.kept(held.node);
+        if swap_step(
+            &self.table.shared,
+            &mut by.seat,
+            NODES,
+            nodes,
+            new,
+            operation,
+        ) {
+            return Gave::On(Give::LoadCells);
+        }
+        Gave::On(Give::LoadNodes)
+    }
+
+    #[inline]
+    fn give_load_cells(&self, by: &mut Pass<T>, held: Held, operation: &Operation<T>) -> Gave
+        requires { (a : Answer T) × IsGiving self.now operation.now by.old a held LoadCells }
+        ensures { (a : Answer T) → IsGiving self.now operation.now by.old a held LoadCells → Led self.now operation.now by.old by.new a held LoadCells result }
+    {
+        let cells = load_tagged_step(&self.table.shared, &mut by.seat, CELLS, operation);
+        Gave::On(Give::LinkCell(cells))
+    }
+
+    #[inline]
+    fn give_link_cell(
+        &self,
+        by: &mut Pass<T>,
+        held: Held,
+        cells: Tagged,
+        operation: &Operation<T>,
+    ) -> Gave
+        requires { (a : Answer T) × IsGiving self.now operation.now by.old a held (LinkCell cells) }
+        ensures { (a : Answer T) → IsGiving self.now operation.now by.old a held (LinkCell cells) → Led self.now operation.now by.old by.new a held (LinkCell cells) result }
+    {
+        let link = cell_link(held.cell);
+        let first = cells.index() as u64;
+        store_step(&self.table.shared, &mut by.seat, link, first, operation);
+        Gave::On(Give::GiveCell(cells))
+    }
+
+    // With the cell goes its slot.
+    #[inline]
+    fn give_cell(
+        &self,
+        by: &mut Pass<T>,
+        held: Held,
+        cells: Tagged,
+        operation: &Operation<T>,
+    ) -> Gave
+        requires { (a : Answer T) × IsGiving self.now operation.now by.old a held (GiveCell cells) }
+        ensures { (a : Answer T) → IsGiving self.now operation.now by.old a held (GiveCell cells) → Led self.now operation.now by.old by.new a held (GiveCell cells) result }
+    {
+        let new = cells.kept(held.cell);
+        if give_step(
+            &self.table.shared,
+            &mut by.seat,
+            CELLS,
+            cells,
+            new,
+            operation,
+        ) {
+            return Gave::Both;
+        }
+        Gave::On(Give::LoadCells)
+    }
+}

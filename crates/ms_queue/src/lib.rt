@@ -1,0 +1,30 @@
+//! The queue of Michael and Scott (PODC 1996) over a fixed pool of nodes and cells, as
+//! Boost.Lockfree's bounded queue: tagged words, free lists of nodes and of cells, closing and
+//! shutting. No call takes memory but `Queue::new`.
+//!
+//! Promised: between any two atomic steps the words, the slots and what the passes know meet the
+//! rule of `queue_machine`. Each step of an operation is one line of that machine, from a memory and
+//! a history that meet the rule; the events that it adds and its answer are that line's. So what a
+//! pass has seen is always a legal history of one sequential queue, which only grows, and a refusal
+//! was right at some time of its call.
+//!
+//! Passes are split off a root, meet and are joined again. An operation is begun and then made step
+//! by step, or by a whole call, which retries while others interfere.
+#![tactic(auto)]
+
+mod closing;
+mod giving;
+mod looking;
+mod making;
+mod queue;
+mod rule;
+mod seeking;
+mod shutting;
+mod taking;
+
+pub use closing::CloseOp;
+pub use looking::LookOp;
+pub use queue::{Pass, Queue, Root};
+pub use rule::Queued;
+pub use shutting::ShutOp;
+pub use taking::TakeOp;

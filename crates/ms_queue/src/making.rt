@@ -1,0 +1,43 @@
+//! Making a queue.
+ghost use Rattle.std.specs.Prelude.{◌≡◌, ℕ, ◌<◌, ◌≤◌, length, slice_index, IfOk};
+ghost use Rattle.tagged_index.specs.Limits.{capacity_of, tag_limit_of};
+ghost use Rattle.tagged_index.specs.declared.word.TheConstants.{NULL};
+ghost use Rattle.bounded_model.specs.Laws.{fresh};
+ghost use Rattle.queue_machine.specs.Answers.{shape};
+ghost use Rattle.queue_table.specs.Layout.{words_for, start_at};
+ghost use Rattle.running.specs.Passes.{root_in};
+ghost use Rattle.ms_queue.specs.Queue.{shape_of, IsRootOf};
+
+use crate::queue::{Queue, Root};
+use atomic_table::Table;
+use bounded_model::MakeRefused;
+use queue_table::layout;
+use std::alloc::{AllocError, Global};
+use tagged_index::Limits;
+
+// The words of a new queue.
+fn first_words(alloc: Global, capacity: u32) -> Result<Vec<u64>, AllocError>
+    requires { capacity ≤ NULL }
+    ensures { IfOk result (λ v. (length v.items ≡ words_for capacity)
+        × ((k : ℕ) → k < words_for capacity → slice_index v.items k ≡ start_at capacity k)) }
+{
+    let mut words = Vec::new(alloc);
+    for at in 0..layout::words(capacity) {
+        words.push(layout::start(capacity, at))?;
+    }
+    Ok(words)
+}
+
+impl<T> Queue<T> {
+    /// An empty queue, open and not shut, and its root, which has given no pass. All memory is
+    /// taken here; `NoMemory` where there was none.
+    pub fn new(alloc: Global, limits: Limits) -> Result<(Queue<T>, Root<T>), MakeRefused>
+        ensures { IfOk result (λ t. IsRootOf t.0 t.1 × (root_in t.1 ≡ fresh)
+            × (shape_of t.0 ≡ shape (capacity_of limits) (tag_limit_of limits))) }
+    {
+        let words = first_words(alloc, limits.capacity())?;
+        let count = limits.capacity() as usize;
+        let (table, seat) = Table::vacant(alloc, words.as_slice(), count, &limits)?;
+        Ok((Queue { table, limits }, Root { seat, out: 0 }))
+    }
+}

@@ -1,0 +1,35 @@
+//! The queue, its passes and its root.
+ghost use Rattle.std.specs.Prelude.{◌≡◌};
+ghost use Rattle.tagged_index.specs.Limits.{capacity_of};
+ghost use Rattle.queue_table.specs.Layout.{words_for};
+
+use crate::rule::Queued;
+use atomic_table::Table;
+use machine::seats::View;
+use queue_machine::Line;
+use queue_table::Operation;
+use running::Running;
+use std::alloc::Global;
+use tagged_index::Limits;
+
+/// A bounded queue that many threads share.
+#[derive(Drop)]
+pub struct Queue<T> {
+    pub(crate) table: Table<
+        Option<T>,
+        View<T, Line<T>>,
+        Limits,
+        Running<Operation<T>, Queued>,
+        Global,
+    >,
+    pub(crate) limits: Limits,
+    pub(crate) ghost keyed: { table.shared.key ≡ limits },
+    pub(crate) ghost words: { table.shared.table_id.words ≡ words_for (capacity_of table.shared.key) },
+    pub(crate) ghost slots: { table.shared.table_id.slots ≡ capacity_of table.shared.key },
+}
+
+/// Steps on a queue. It has no bytes.
+pub type Pass<T> = running::Pass<T, Line<T>>;
+
+/// Gives passes and takes them back.
+pub type Root<T> = running::Root<T, Line<T>>;

@@ -1,0 +1,113 @@
+//! Going to the end of the chain, to link a node there, to mark it, or to see why nothing can be
+//! put: the same steps for all three.
+ghost use Rattle.queue_machine.specs.declared.lines.Seeking.{Seeking};
+ghost use Rattle.ms_queue.specs.Seeking.{IsSeeking, Led};
+ghost use Rattle.ms_queue.specs.declared.seeking.Seek.TheVariants.{LoadTail, LoadNext, CheckTail, SwingTail};
+
+use crate::queue::{Pass, Queue};
+use queue_table::Operation;
+use queue_table::layout::{TAIL, next};
+use running::{load_tagged_step, raised, swap_step};
+use tagged_index::{NULL, Tagged};
+
+/// The next step on the way to the end of the chain, with what was read.
+#[derive(Drop)]
+pub(crate) enum Seek {
+    /// Load `TAIL`.
+    LoadTail,
+    /// Load `next` of the node that it named.
+    LoadNext(Tagged),
+    /// Load `TAIL` again.
+    CheckTail(Tagged, Tagged),
+    /// The tail lags: exchange it for the next node.
+    SwingTail(Tagged, Tagged),
+}
+
+/// Where such a step led.
+#[derive(Drop)]
+pub(crate) enum Sought {
+    On(Seek),
+    /// The end has the mark.
+    Closed,
+    /// The end: the tail, and the null link of its node.
+    End(Tagged, Tagged),
+}
+
+impl<T> Queue<T> {
+    /// One step to the end of the chain.
+    #[inline]
+    pub(crate) fn seek(&self, by: &mut Pass<T>, at: Seek, operation: &Operation<T>) -> Sought
+        requires { (s : Seeking T) × IsSeeking self.now operation.now by.old s at }
+        ensures { (s : Seeking T) → IsSeeking self.now operation.now by.old s at → Led self.now operation.now by.old by.new s at result }
+    {
+        match at {
+            Seek::LoadTail => self.seek_tail(by, operation),
+            Seek::LoadNext(tail) => self.seek_next(by, tail, operation),
+            Seek::CheckTail(tail, link) => self.seek_check(by, tail, link, operation),
+            Seek::SwingTail(tail, link) => self.seek_swing(by, tail, link, operation),
+        }
+    }
+
+    #[inline]
+    fn seek_tail(&self, by: &mut Pass<T>, operation: &Operation<T>) -> Sought
+        requires { (s : Seeking T) × IsSeeking self.now operation.now by.old s LoadTail }
+        ensures { (s : Seeking T) → IsSeeking self.now operation.now by.old s LoadTail → Led self.now operation.now by.old by.new s LoadTail result }
+    {
+        let tail = load_tagged_step(&self.table.shared, &mut by.seat, TAIL, operation);
+        Sought::On(Seek::LoadNext(tail))
+    }
+
+    #[inline]
+    fn seek_next(&self, by: &mut Pass<T>, tail: Tagged, operation: &Operation<T>) -> Sought
+        requires { (s : Seeking T) × IsSeeking self.now operation.now by.old s (LoadNext tail) }
+        ensures { (s : Seeking T) → IsSeeking self.now operation.now by.old s (LoadNext tail) → Led self.now operation.now by.old by.new s (LoadNext tail) result }
+    {
+        let at = next(tail.index());
+        let link = load_tagged_step(&self.table.shared, &mut by.seat, at, operation);
+        Sought::On(Seek::CheckTail(tail, link))
+    }
+
+    // Where the tail is still the same, the link was that of its node.
+    #[inline]
+    fn seek_check(
+        &self,
+        by: &mut Pass<T>,
+        tail: Tagged,
+        link: Tagged,
+        operation: &Operation<T>,
+    ) -> Sought
+        requires { (s : Seeking T) × IsSeeking self.now operation.now by.old s (CheckTail tail link) }
+        ensures { (s : Seeking T) → IsSeeking self.now operation.now by.old s (CheckTail tail link) → Led self.now operation.now by.old by.new s (CheckTail tail link) result }
+    {
+        let again = load_tagged_step(&self.table.shared, &mut by.seat, TAIL, operation);
+        if again.word() != tail.word() {
+            return Sought::On(Seek::LoadTail);
+        }
+        if link.is_marked() {
+            return Sought::Closed;
+        }
+        if link.index() == NULL {
+            return Sought::End(tail, link);
+        }
+        Sought::On(Seek::SwingTail(tail, link))
+    }
+
+    // Whoever wins, the tail is then no longer the same.
+    #[inline]
+    fn seek_swing(
+        &self,
+        by: &mut Pass<T>,
+        tail: Tagged,
+        link: Tagged,
+        operation: &Operation<T>,
+    ) -> Sought
+        requires { (s : Seeking T) × IsSeeking self.now operation.now by.old s (SwingTail tail link) }
+        ensures { (s : Seeking T) → IsSeeking self.now operation.now by.old s (SwingTail tail link) → Led self.now operation.now by.old by.new s (SwingTail tail link) result }
+    {
+        let new = raised(tail, link.index());
+        if swap_step(&self.table.shared, &mut by.seat, TAIL, tail, new, operation) {
+            return Sought::On(Seek::LoadTail);
+        }
+        Sought::On(Seek::LoadTail)
+    }
+}

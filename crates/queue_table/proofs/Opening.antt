@@ -1,0 +1,128 @@
+-- The rule holds of a new queue.
+use Rattle.std.proofs.Common.{◌≡◌, ◌≢◌, ℕ, zero, suc, ◌+◌, ◌-◌, ◌*◌, ◌/◌, ◌%◌, ◌<◌, ◌≤◌, ◌⊎◌, inl, inr, ⊎_elim, false, cond, eqb, ltb, List, [], ◌∷◌, map, length, replicate, refl, sym, ap, ◌∙◌, subst, arith}
+use Rattle.std.proofs.lemmas.Bool.Decides.{nat_tests}
+use Rattle.std.proofs.lemmas.List.{get_or_past}
+use Rattle.std.proofs.lemmas.Nat.{div-mul-add, mod-mul-add}
+use Rattle.std.specs.Prelude.{slice_index, Option as Slot, None}
+use mathlib.Core.Option.{Option, none, some, some-ne-none}
+use lib.ListN.{get_elem?}
+use Rattle.atomic_table.specs.Table.{opening}
+use Rattle.tagged_index.specs.Fields.{fields_of}
+use Rattle.tagged_index.specs.declared.word.TheConstants.{NULL}
+use Rattle.machine.specs.Words.{start_link}
+use Rattle.machine.specs.Seats.{first_view}
+use Rattle.machine.specs.declared.seats.View.{View}
+use Rattle.machine.proofs.Tests.{cases}
+use Rattle.machine.proofs.Seating.{seated_first}
+use Rattle.queue_machine.specs.declared.lines.Line.{Line}
+use Rattle.queue_machine.specs.declared.lines.Line.TheVariants.{Idle}
+use Rattle.queue_machine.specs.Machine.{Memory, start_nlink}
+use Rattle.queue_machine.specs.Answers.{shape}
+use Rattle.queue_machine.specs.Rule.{Kept}
+use Rattle.queue_machine.proofs.Start.{IsNew, new_kept}
+use Rattle.running.specs.Rule.{Rule, who}
+use Rattle.queue_table.specs.Layout.{clink_at, nlink_at, next_at, cell_at, words_for, start_of, start_at}
+use Rattle.queue_table.specs.Memories.{memory_of, at_home}
+use Rattle.queue_table.specs.Core.{core}
+use Rattle.queue_table.proofs.Laws.{laws, queue}
+
+-- the word of index i in this part of its four
+part_of : (n i r at : ℕ) → at ≡ 64 + 4 * i + r → r < 4 → start_at n at ≡ start_of n r i
+part_of n i r at e low = cases (λ v. v ≡ start_of n r i) (ltb at 64) (cond (eqb at 16) 1 0) (start_of n ((at - 64) % 4) ((at - 64) / 4))
+    (λ b. absurd (grind (arith, nat_tests)))
+    (λ _. let apart : at - 64 ≡ i * 4 + r = omega (arith, e) in
+    ap (λ (k : ℕ). start_of n (k % 4) (k / 4)) apart
+    ∙ ap (λ (k : ℕ). start_of n k ((i * 4 + r) / 4)) (mod-mul-add i 4 r low)
+    ∙ ap (λ (k : ℕ). start_of n r k) (div-mul-add i 4 r low))
+
+link_small : (n i : ℕ) → i + 1 ≤ NULL → start_link n i ≤ NULL
+link_small n i small = cases (λ v. v ≤ NULL) (eqb (i + 1) n) NULL (i + 1) (λ _. omega arith) (λ _. omega arith)
+
+below_or_not : (i k : ℕ) → (i < k) ⊎ (k ≤ i)
+below_or_not i k = cases (λ (b : ℕ). (i < k) ⊎ (k ≤ i)) (ltb i k) 1 0 (λ b. inl (grind (arith, nat_tests))) (λ b. inr (grind (arith, nat_tests)))
+
+-- all slots are at home and empty
+abbrev empties : (T : Type 0) → ℕ → List (Option (Slot T))
+empties T n = map some (replicate n None)
+
+home_start : (T : Type 0) (n i : ℕ) → i < n → at_home (get_elem? (empties T n) i) ≡ some None
+home_start T zero i h = absurd (omega arith)
+home_start T (suc n) zero h = refl
+home_start T (suc n) (suc i) h = home_start T n i (omega arith)
+
+homes_start : (T : Type 0) (n : ℕ) → length (empties T n) ≡ n
+homes_start T zero = refl
+homes_start T (suc n) = ap suc (homes_start T n)
+
+-- the only seat is the root's
+abbrev first_who : (T : Type 0) → ℕ → Option ℕ
+first_who T = who {T = T} {L = Line T} (first_view ∷ [])
+
+nobody : (T : Type 0) (q p : ℕ) → first_who T q ≡ some p → ⊥
+nobody T zero p e = some-ne-none p (sym e)
+nobody T (suc q) p e = some-ne-none p (sym e)
+
+module _ (n : ℕ) (ws : List ℕ) (small : n < NULL) (long : length ws ≡ words_for n) (is : (k : ℕ) → k < words_for n → slice_index ws k ≡ start_at n k) where
+  -- a word of an index: that of a new queue, and 0 where there is none
+  word_of : (i r at : ℕ) → at ≡ 64 + 4 * i + r → r < 4 → ((i < n + 1) × (slice_index ws at ≡ start_of n r i)) ⊎ (slice_index ws at ≡ 0)
+  word_of i r at e low = ⊎_elim
+      (λ h. inl (h, is at (omega (arith, e)) ∙ part_of n i r at e low))
+      (λ h. inr (get_or_past ws at 0 (omega (arith, e, long))))
+      (below_or_not i (n + 1))
+
+  -- a number that was read is an index or null
+  plain : (i r at : ℕ) → at ≡ 64 + 4 * i + r → r < 4 → (i < n + 1 → start_of n r i ≤ NULL) → slice_index ws at ≤ NULL
+  plain i r at e low bound = ⊎_elim
+      (λ h. let b = bound h.0 in omega (arith, h.1))
+      (λ h. omega (arith, h))
+      (word_of i r at e low)
+
+  next_word : (j : ℕ) → (slice_index ws (next_at j) ≡ NULL) ⊎ (slice_index ws (next_at j) ≡ 0)
+  next_word j = ⊎_elim (λ h. inl h.1) (λ h. inr h) (word_of j 2 (next_at j) (omega arith) (omega arith))
+
+  nlink_small : (j : ℕ) → j < n + 1 → start_nlink n j ≤ NULL
+  nlink_small j h = cases (λ v. v ≤ NULL) (eqb j 0) NULL (start_link (n + 1) j) (λ _. omega arith) (λ _. link_small (n + 1) j (omega arith))
+
+module _ {T : Type 0} (n limit : ℕ) (ws : List ℕ) (some_cell : 0 < n) (small : n < NULL) (some_tag : 0 < limit) (long : length ws ≡ words_for n) (is : (k : ℕ) → k < words_for n → slice_index ws k ≡ start_at n k) where
+  new : IsNew n (memory_of {T = T} ws (empties T n))
+  new = record {
+    cells = ap fields_of (is 0 (omega arith));
+    nodes = ap fields_of (is 16 (omega arith));
+    head = ap fields_of (is 32 (omega arith));
+    tail = ap fields_of (is 48 (omega arith));
+    clink = λ i low. is (clink_at i) (omega arith) ∙ part_of n i 0 (clink_at i) (omega arith) (omega arith);
+    nlink = λ j low. is (nlink_at j) (omega arith) ∙ part_of n j 1 (nlink_at j) (omega arith) (omega arith);
+    dummy = ap (λ (x : ℕ). (fields_of x).index) (is (next_at 0) (omega arith) ∙ part_of n 0 2 (next_at 0) (omega arith) (omega arith));
+    unmarked = λ j. ⊎_elim (λ e. ap (λ (x : ℕ). (fields_of x).mark) e) (λ e. ap (λ (x : ℕ). (fields_of x).mark) e) (next_word n ws small long is j);
+    untagged = λ j. ⊎_elim (λ e. ap (λ (x : ℕ). (fields_of x).tag) e) (λ e. ap (λ (x : ℕ). (fields_of x).tag) e) (next_word n ws small long is j);
+    named = λ j ne. ⊎_elim
+        (λ e. absurd (ne (ap (λ (x : ℕ). (fields_of x).index) e)))
+        (λ e. subst (λ (x : ℕ). x < n + 1) (sym (ap (λ (x : ℕ). (fields_of x).index) e)) (omega arith))
+        (next_word n ws small long is j);
+    home = λ i low. home_start T n i low;
+  }
+
+  good : Kept T n limit (memory_of ws (empties T n)) (first_who T) (Idle None ∷ []) []
+  good = (laws n limit).reseats (memory_of ws (empties T n)) some (first_who T) (Idle None ∷ []) (Idle None ∷ []) [] (new_kept n limit 1 (memory_of ws (empties T n)) some_cell small some_tag new) (inl refl)
+      (λ q p l _ e. absurd (nobody T q p e))
+      (λ q r p e _. absurd (nobody T q p e))
+
+  opens_all : Rule {names = _} (queue T n limit) (opening ws (replicate n None) first_view)
+  opens_all = record {
+    history = [];
+    good = good;
+    seated = seated_first (shape n limit) (core T n limit).holding;
+    sane = record {
+      words_are = long;
+      homes_are = homes_start T n;
+      plain_clink = λ i. plain n ws small long is i 0 (clink_at i) (omega arith) (omega arith) (λ h. link_small n i (omega arith));
+      plain_nlink = λ j. plain n ws small long is j 1 (nlink_at j) (omega arith) (omega arith) (λ h. nlink_small n ws small long is j h);
+      plain_cell = λ j. plain n ws small long is j 3 (cell_at j) (omega arith) (omega arith) (λ h. omega arith);
+    };
+  }
+
+-- words that are given one after another, and a number of slots
+pub opens : (T : Type 0) (n limit : ℕ) (ws items : List ℕ) → ws ≡ items → 0 < n → n < NULL → 0 < limit → length items ≡ words_for n → ((k : ℕ) → k < words_for n → slice_index items k ≡ start_at n k) → (count : ℕ) → count ≡ n
+    → Rule {names = _} (queue T n limit) (opening ws (replicate count None) first_view)
+opens T n limit ws items e some_cell small some_tag long is count same = subst (λ (k : ℕ). Rule {names = _} (queue T n limit) (opening ws (replicate k None) first_view)) (sym same)
+    (opens_all n limit ws some_cell small some_tag (ap length e ∙ long) (λ k h. ap (λ (l : List ℕ). slice_index l k) e ∙ is k h))

@@ -1,0 +1,54 @@
+-- Which passes and roots are those of a table, and what they have seen.
+use Rattle.std.specs.Prelude.{◌≡◌, ℕ, ◌+◌, List, [], length, Option as Slot}
+use Rattle.atomic_table.specs.Seated.{TableId}
+use Rattle.bounded_model.specs.declared.views.PassView.{PassView}
+use Rattle.bounded_model.specs.declared.views.RootView.{RootView}
+use Rattle.bounded_model.specs.Laws.{IsSound}
+use Rattle.bounded_model.specs.Stepping.{Underway, OneStep}
+use Rattle.machine.specs.declared.seats.View.TheVariants.{AtRoot}
+use Rattle.machine.specs.Seats.{pass_of, root_of}
+use Rattle.running.specs.Machine.{Names, Machine}
+use Rattle.running.specs.Going.{Rests, At, IsLine, begun_in}
+use Rattle.running.specs.declared.passes.Pass.{Pass}
+use Rattle.running.specs.declared.passes.Root.{Root}
+
+module _ {T L : Type 0} where
+  abbrev pub pass_in : Pass T L → PassView T
+  pass_in p = pass_of p.seat.me.0
+
+  abbrev pub root_in : Root T L → RootView T
+  root_in r = root_of r.seat.me.0
+
+module _ {T L O : Type 0} {names : Names L O} (m : Machine T L O names) where
+  -- a pass between its operations
+  pub record IsPassOn (id : TableId) (p : Pass T L) : Type 0 where
+    pub table : p.seat.table_id ≡ id
+    pub rests : Rests m p.seat.me
+
+  -- a root between its calls
+  pub record IsRootOn (id : TableId) (r : Root T L) : Type 0 where
+    pub table : r.seat.table_id ≡ id
+    pub view : r.seat.me.0 ≡ AtRoot (root_in r) []
+    pub slots : r.seat.me.1 ≡ []
+    pub sound : IsSound m.core.shape (root_in r)
+    pub counted : (root_in r).given ≡ r.out + length (root_in r).account
+
+  -- a pass in an operation, at a line and with these slots in hand
+  pub record IsAtOn (id : TableId) (o : O) (p : Pass T L) (l : L) (slots : List (ℕ × Slot T)) : Type 0 where
+    pub table : p.seat.table_id ≡ id
+    pub at : At m o p.seat.me l slots
+
+  -- the pass as it was when its operation was begun, and the operation as it is now
+  abbrev pub begun_of : Pass T L → PassView T
+  begun_of p = begun_in m p.seat.me.0
+
+  abbrev pub underway : Pass T L → Underway T
+  underway p = record { begun = begun_of p; now = pass_in p }
+
+  -- a step of a pass, one more, was the machine's step of the line l and led to l'
+  abbrev pub OneLine : Pass T L → Pass T L → L → L → Type 0
+  OneLine p q l l' = IsLine m p.seat.me.0 q.seat.me.0 l l' × OneStep (pass_in p) (pass_in q)
+
+  -- and its operation goes on
+  abbrev pub WentOn : Pass T L → Pass T L → L → L → Type 0
+  WentOn p q l l' = (begun_of q ≡ begun_of p) × OneLine p q l l'

@@ -1,5 +1,0 @@
-use Rattle.step_core.proofs.stack.Bounded.{stack_bounded}
-use Rattle.step_core.proofs.bounds.stack_bound.Goals as goal
-
-pub returns : goal.returns
-returns g c = stack_bounded
