@@ -104,7 +104,7 @@ makes_more count v u w makes one = record {
 }
 
 pub makes_none : (v : PassView (List ℕ)) → MakesSteps 0 v v
-makes_none v = record { number = refl; steps = omega arith; seen = Later-refl v.seen; }
+makes_none v = record { number = refl; steps = omega arith; seen = Later-refl v.seen }
 
 pub since_more : (told made : ℕ) (b n w : PassView (List ℕ)) (said : ℕ) → told ≡ steps_since b n → b.steps ≤ n.steps → w.steps ≡ n.steps + made → said ≡ min (told + made) (2 ^ 64 - 1) → said ≡ steps_since b w
 since_more told made b n w said e few more is = omega (arith, e, few, more, is)

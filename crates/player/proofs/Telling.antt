@@ -1,5 +1,5 @@
 -- The lines answered so far, and those still to be answered.
-use Rattle.std.proofs.Common.{◌≡◌, ◌≢◌, ℕ, List, [], ◌∷◌, ◌++◌, map, refl, sym, ap, subst, ◌∙◌, append_assoc, IsTrue, arith}
+use Rattle.std.proofs.Common.{◌≡◌, ◌≢◌, ℕ, List, [], ◌∷◌, ◌++◌, map, refl, sym, ap, subst, ◌∙◌, append_assoc, IsTrue, arith, Result, Ok, Err, OnOk}
 use Rattle.std.specs.Prelude.{codes}
 use Rattle.std.specs.Char.{is_ascii_lowercase}
 use Rattle.std.proofs.lemmas.List.{append-nil}
@@ -47,3 +47,7 @@ meets_another name act other is good allowed =
     let lower : IsAct (Meet other) = rw is at good in
     let apart : IsTrue (is_stack_act name (Meet other)) = rw is at allowed in
     (lower, λ e. grind (arith, apart, e))
+
+pub on_ok_more : {A E : Type 0} {P Q : Type 0} (result : Result A E) → (P → Q) → OnOk result P → OnOk result Q
+on_ok_more (Ok a) more p = more p
+on_ok_more (Err e) more p = p

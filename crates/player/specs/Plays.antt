@@ -1,5 +1,5 @@
 -- A played script: each line's answer is that of the call that the line names, under the container's own laws.
-use Rattle.std.specs.Prelude.{◌≡◌, ℕ, ◌+◌, ◌-◌, ◌≤◌, ◌<◌, Bool, true, false, List, [], ◌∷◌, map, reverse, replicate, Option, Some, Result, Ok, Err, slice_set, slice_index_or}
+use Rattle.std.specs.Prelude.{◌≡◌, ℕ, ◌+◌, ◌-◌, ◌≤◌, ◌<◌, Bool, true, false, List, [], ◌∷◌, ◌++◌, codes, map, reverse, replicate, Option, Some, Result, Ok, Err, slice_set, slice_index_or}
 use Rattle.std.specs.Io.Iter.{u64_saturate}
 use Rattle.bounded_model.specs.declared.answers.TakeRefused.{TakeRefused}
 use Rattle.bounded_model.specs.declared.bulk.Ranged.{Ranged}
@@ -16,6 +16,7 @@ use Rattle.bounded_model.specs.Histories.{Later}
 use Rattle.bounded_model.specs.Laws.{PutGives, TakeGives, CloseGives, ShutGives, LookGives, FoldGives, TakesNothing, MeetGives, Splits, Joins, Leaves, IsFullOfPasses}
 use Rattle.bounded_model.specs.Machine.{Shape}
 use Rattle.bounded_model.specs.Stepping.{Underway, no_step}
+use Rattle.script.specs.AnswerTexts.{answer_text}
 use Rattle.script.specs.Words.{values_in}
 use Rattle.script.specs.declared.answer.Answer.{Answer}
 use Rattle.script.specs.declared.answer.Answer.TheVariants as answer
@@ -67,14 +68,9 @@ pub record RangeTold (c : Shape) (v w : PassView (List ℕ)) (values : List (Lis
   pub reply : said ≡ range_reply gave
   pub values_kept : kept ≡ values_in places
 
--- from the top down, or from the bottom up
-abbrev pub in_order : Bool → List (List ℕ) → List (List ℕ)
-in_order false values = values
-in_order true values = reverse values
-
--- a fold: all the values that it took, in its order
+-- a fold: it took all values at once. That the values told are those, in its order, is not said here: tests show it
 abbrev pub FoldTold : Shape → Bool → PassView (List ℕ) → PassView (List ℕ) → Result (ℕ × List (List ℕ)) TakeRefused → Type 0
-FoldTold c reversed v w (Ok (number, told)) = (values : List (List ℕ)) × FoldGives v w values number × (told ≡ in_order reversed values)
+FoldTold c reversed v w (Ok (number, told)) = (values : List (List ℕ)) × FoldGives v w values number
 FoldTold c reversed v w (Err why) = TakesNothing c v w why
 
 -- ---- single steps
@@ -206,3 +202,9 @@ Plays c world [] [] = Unit {0}
 Plays c world (Finish ∷ []) (answer.Rest values ∷ []) = Ends c world values
 Plays c world (By name act ∷ lines) (said ∷ more) = (next : World) × Acts c world name.0 act said next × Plays c next lines more
 Plays c world lines said = ⊥
+
+-- a line was done, and the text of its answer was added
+pub record Replied (c : Shape) (old : World) (letter : ℕ) (act : Act) (before after : List ℕ) (new : World) : Type 0 where
+  pub said : Answer
+  pub acts : Acts c old letter act said new
+  pub written : after ≡ before ++ (answer_text said ++ codes "\n")

@@ -9,9 +9,11 @@
 
 mod acts;
 mod place;
-mod playing;
 mod played;
+mod playing;
+mod stack;
 mod stage;
 
-pub use playing::play;
 pub use played::Played;
+pub use playing::play;
+pub use stack::play_stack;

@@ -159,7 +159,11 @@ fn meet_at<'a, C: Played<'a>>(
         (first, Place::Nobody) => (first, Place::Nobody, Answer::NoPass),
         (Place::Resting(mut pass), Place::Resting(by)) => {
             let (by, has_met) = container.meet(&mut pass, by);
-            (Place::Resting(pass), Place::Resting(by), answer_to_meet(has_met))
+            (
+                Place::Resting(pass),
+                Place::Resting(by),
+                answer_to_meet(has_met),
+            )
         }
         (Place::Resting(pass), Place::Acting(begun)) => {
             (Place::Resting(pass), Place::Acting(begun), Answer::Busy)

@@ -27,11 +27,15 @@ returns-in-Done g c call u shows =
     let w = r.pass c.in-Done.pass in
     let makes : MakesSteps (c.loop-made.made + 1) u.now w = rw shows.1 (makes_more _ _ _ _ i.makes done.1) in
     let begun : (r.made c.loop-made.operation).begun ≡ u.begun = i.begun ∙ ap (λ (v : Underway (List ℕ)). v.begun) (sym shows.1) in
-    let gives : CallGives r.shape u.begun call w c.in-Done.reply = subst (λ (v : PassView (List ℕ)). CallGives r.shape v call w c.in-Done.reply) begun done.2 in
-    (Resting w, (done.0, refl), (
-      record { made = c.loop-made.made + 1; some = omega arith; at_most = omega arith; makes = makes },
-      gives,
-      since_more _ (c.loop-made.made + 1) u.begun u.now w _ shows.2 shows.3 makes.steps c.saturating_add-steps.ensures))
+    let gives : CallGives r.shape u.begun call w c.in-Done.reply = subst (λ (v : PassView (List ℕ)). CallGives r.shape v call w c.in-Done.reply) begun done.2 in (
+      Resting w,
+      (done.0, refl),
+      (
+        record { made = c.loop-made.made + 1; some = omega arith; at_most = omega arith; makes = makes },
+        gives,
+        since_more _ (c.loop-made.made + 1) u.begun u.now w _ shows.2 shows.3 makes.steps c.saturating_add-steps.ensures,
+      ),
+    )
 
 pub returns : goal.returns
 returns g c call u shows =

@@ -18,7 +18,7 @@ invariant-loop-line g l =
       allowed : AllByRecursion (λ line. IsTrue (is_allowed Lifo line)) l.lines.items;
       finish_last : FinishesLast l.lines.items;
       playing : (world : World) × IsOn r l.stage world
-        × Told r.shape (start (r.root l.fn.root)) l.initial.lines.items world l.lines.items (string_bytes l.output);
+          × Told r.shape (start (r.root l.fn.root)) l.initial.lines.items world l.lines.items (string_bytes l.output);
     }
 
 abbrev pub decreases-loop-line : goal.decreases-loop-line

@@ -20,6 +20,6 @@ loop-place-preserved g c =
           omega arith;
       is = c.join_one.ensures.root;
       joins = λ names shows.
-        let old = at.invariant.joins names shows in
-        joins_more r names old.0 place _ _ _ _ (rw steps at old.1) c.join_one.ensures.joined old.2;
+          let old = at.invariant.joins names shows in
+          joins_more r names old.0 place _ _ _ _ (rw steps at old.1) c.join_one.ensures.joined old.2;
     }

@@ -15,6 +15,6 @@ invariant-loop-place g l =
       left : into_iter_len l.place-iterator ≡ length (into_iter_items l.place-iterator);
       is : r.is_root l.root;
       joins : (names : List Named) → ShowsAll r l.fn.places.of.items names
-        → (rest : List Named) × ShowsAll r (into_iter_items l.place-iterator) rest
-        × ((s : RootView (List ℕ)) → JoinsAll (r.root l.root) rest s → JoinsAll (r.root l.fn.root) names s);
+          → (rest : List Named) × ShowsAll r (into_iter_items l.place-iterator) rest
+          × ((s : RootView (List ℕ)) → JoinsAll (r.root l.root) rest s → JoinsAll (r.root l.fn.root) names s);
     }

@@ -17,17 +17,20 @@ returns-in-Nobody g c world on =
     let f = c.find-first.ensures world on in
     let none : f.found ≡ Nobody = is_nobody r f.found (rw c.in-Nobody.is at f.shows) in
     let finds : Finds world.root (named world c.args.name.0) f.root Nobody = subst (λ (n : Named). Finds world.root (named world c.args.name.0) f.root n) none f.finds in
-    let next : World = record { root = f.root; names = renamed world.names c.args.name.0 Nobody } in
-    (next, f.on, record {
-      between = f.root;
-      first = Nobody;
-      second = named world c.args.other.0;
-      after = Nobody;
-      finds = finds;
-      finds_other = (refl, refl);
-      told = (refl, refl);
-      names = sym (other_kept world.names i j Nobody (apart c.args.name.0 c.args.other.0 c.requires.name c.requires.other.0 c.requires.other.1));
-    })
+    let next : World = record { root = f.root; names = renamed world.names c.args.name.0 Nobody } in (
+      next,
+      f.on,
+      record {
+        between = f.root;
+        first = Nobody;
+        second = named world c.args.other.0;
+        after = Nobody;
+        finds = finds;
+        finds_other = (refl, refl);
+        told = (refl, refl);
+        names = sym (other_kept world.names i j Nobody (apart c.args.name.0 c.args.other.0 c.requires.name c.requires.other.0 c.requires.other.1));
+      },
+    )
 
 pub meet_at-first-requires : goal.meet_at-first-requires
 meet_at-first-requires g c κs =
@@ -49,18 +52,21 @@ returns g c world on =
     let names = renamed (renamed world.names c.args.name.0 m.0) c.args.other.0 s.found in
     let set-first = shows_set r _ _ i c.meet_at-first.result.0 m.0 s.on.names m.1 in
     let set-second = shows_set r _ _ j c.meet_at-first.result.1 s.found set-first m.2 in
-    let shown : ShowsAll r c.keep-2.new.stage.places.of.items names = rw (c.keep-2.ensures.places, c.keep.ensures.places, sym (set_both world.names i j Nobody m.0 s.found far)) set-second in
-    (record { root = s.root; names = names }, record {
-      is = rw (c.keep-2.ensures.root, c.keep.ensures.root) s.on.is;
-      root = rw (c.keep-2.ensures.root, c.keep.ensures.root) s.on.root;
-      names = shown;
-    }, record {
-      between = f.root;
-      first = f.found;
-      second = s.found;
-      after = m.0;
-      finds = f.finds;
-      finds_other = finds_other f.found f.root s.root (named world c.args.other.0) s.found some finds;
-      told = m.3;
-      names = refl;
-    })
+    let shown : ShowsAll r c.keep-2.new.stage.places.of.items names = rw (c.keep-2.ensures.places, c.keep.ensures.places, sym (set_both world.names i j Nobody m.0 s.found far)) set-second in (
+      record { root = s.root; names = names },
+      record {
+        is = rw (c.keep-2.ensures.root, c.keep.ensures.root) s.on.is;
+        root = rw (c.keep-2.ensures.root, c.keep.ensures.root) s.on.root;
+        names = shown;
+      },
+      record {
+        between = f.root;
+        first = f.found;
+        second = s.found;
+        after = m.0;
+        finds = f.finds;
+        finds_other = finds_other f.found f.root s.root (named world c.args.other.0) s.found some finds;
+        told = m.3;
+        names = refl;
+      },
+    )
