@@ -1,10 +1,8 @@
 -- The values of a range, and those that a fold collects.
-use Rattle.std.proofs.Common.{◌≡◌, ℕ, List, [], ◌∷◌, ◌++◌, map, Option, Some, Bool, Result, Ok, Err, refl, sym, ap, subst, ◌∙◌, append_assoc, append-nil}
+use Rattle.std.proofs.Common.{ℕ, List, [], ◌∷◌, map, Some, Bool, Result, Ok, Err, refl}
 use Rattle.std.specs.Prelude.{IsSome}
 use Rattle.std.specs.List.{AllByRecursion}
-use Rattle.std.specs.declared.alloc.AllocError.{AllocError}
 use Rattle.bounded_model.specs.Bulk.{FoldsAll}
-use Rattle.bounded_model.specs.Consumes.{Folds}
 use Rattle.bounded_model.specs.Machine.{Shape}
 use Rattle.bounded_model.specs.declared.answers.TakeRefused.{TakeRefused}
 use Rattle.bounded_model.specs.declared.bulk.Folded.{Folded}

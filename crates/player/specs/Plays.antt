@@ -1,5 +1,5 @@
 -- A played script: each line's answer is that of the call that the line names, under the container's own laws.
-use Rattle.std.specs.Prelude.{◌≡◌, ℕ, ◌+◌, ◌-◌, ◌≤◌, ◌<◌, Bool, true, false, List, [], ◌∷◌, ◌++◌, codes, map, reverse, replicate, Option, Some, Result, Ok, Err, slice_set, slice_index_or}
+use Rattle.std.specs.Prelude.{◌≡◌, ℕ, ◌+◌, ◌-◌, ◌≤◌, Bool, true, false, List, [], ◌∷◌, ◌++◌, codes, map, replicate, Option, Some, Result, Ok, Err, slice_set, slice_index_or}
 use Rattle.std.specs.Io.Iter.{u64_saturate}
 use Rattle.bounded_model.specs.declared.answers.TakeRefused.{TakeRefused}
 use Rattle.bounded_model.specs.declared.bulk.Ranged.{Ranged}

@@ -1,5 +1,5 @@
 -- The calls of a stack, as a script's lines see them.
-use Rattle.std.specs.Prelude.{◌≡◌, ℕ, ◌++◌, ◌∷◌, [], List, map, Result, Ok, Err}
+use Rattle.std.specs.Prelude.{◌≡◌, ℕ, List, map, Result, Ok, Err}
 use Rattle.bounded_model.specs.declared.commands.Command.{Command}
 use Rattle.bounded_model.specs.declared.commands.Command.TheVariants as command
 use Rattle.bounded_model.specs.declared.answers.TakeRefused.{TakeRefused}

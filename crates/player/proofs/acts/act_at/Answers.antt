@@ -1,6 +1,6 @@
 use Rattle.std.proofs.Common.{◌≡◌, refl, subst}
 use Rattle.player.specs.declared.place.Place.TheVariants as place
-use Rattle.player.specs.Plays.{Named, Nobody, Acting}
+use Rattle.player.specs.Plays.{Named, Nobody}
 use Rattle.player.specs.Shows.{Shows}
 use Rattle.player.proofs.Showing.{is_nobody, is_resting, is_acting}
 use Rattle.player.proofs.acts.act_at.Goals as goal

@@ -1,4 +1,4 @@
-use Rattle.std.proofs.Common.{◌≡◌, refl}
+use Rattle.std.proofs.Common.{refl}
 use Rattle.player.specs.Plays.{Nobody, Acting}
 use Rattle.player.proofs.Showing.{is_busy}
 use Rattle.player.proofs.acts.act_begun.Goals as goal

@@ -1,4 +1,4 @@
-use Rattle.std.proofs.Common.{◌≡◌, refl, sym, arith}
+use Rattle.std.proofs.Common.{refl, sym, arith}
 use Rattle.player.specs.Plays.{Resting, Acting}
 use Rattle.bounded_model.specs.Stepping.{no_step}
 use Rattle.player.proofs.Showing.{since_none}

@@ -1,7 +1,6 @@
 use Rattle.std.proofs.Common.{◌≡◌, ℕ, ◌+◌, ◌≤◌, List, refl, sym, ap, subst, ◌∙◌, arith}
-use Rattle.bounded_model.specs.declared.commands.Command.{Command}
 use Rattle.bounded_model.specs.declared.views.PassView.{PassView}
-use Rattle.bounded_model.specs.Stepping.{GoesOn, Underway}
+use Rattle.bounded_model.specs.Stepping.{Underway}
 use Rattle.player.specs.Plays.{Resting, Acting, CallGives, MakesSteps, steps_since}
 use Rattle.player.proofs.Showing.{makes_more, since_more}
 use Rattle.player.proofs.acts.make_steps.Goals as goal

@@ -8,7 +8,7 @@ use Rattle.script.specs.Script.{FinishesLast, IsLine, is_allowed}
 use Rattle.player.specs.Plays.{start}
 use Rattle.player.specs.Shows.{IsOn}
 use Rattle.player.proofs.Showing.{shows_none}
-use Rattle.player.proofs.Telling.{Told, told_start, told_more, told_finish, told_end, meets_another}
+use Rattle.player.proofs.Telling.{Told, told_start, told_more, told_finish, told_end}
 use Rattle.player.proofs.playing.play.Goals as goal
 
 empty : (lines : List Line) → length lines ≡ 0 → lines ≡ []

@@ -1,4 +1,3 @@
-use Rattle.std.proofs.Common.{◌≡◌}
 use Rattle.player.proofs.Telling.{on_ok_more}
 use Rattle.player.proofs.playing.play_line.Goals as goal
 

@@ -1,4 +1,4 @@
-use Rattle.std.proofs.Common.{◌≡◌, false}
+use Rattle.std.proofs.Common.{false}
 use Rattle.player.proofs.Folding.{fold_told}
 use Rattle.treiber_stack.specs.Stack.{pass_in, shape_of}
 use Rattle.player.proofs.stack.fold_down.Goals as goal

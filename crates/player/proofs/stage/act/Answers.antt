@@ -1,6 +1,3 @@
-use Rattle.std.proofs.Common.{◌≡◌, sym, IfOk}
-use Rattle.player.specs.Plays.{World}
-use Rattle.player.specs.Shows.{IsOn}
 use Rattle.player.proofs.Showing.{acts_alone, if_ok_more}
 use Rattle.player.proofs.stage.act.Goals as goal
 

@@ -1,5 +1,5 @@
-use Rattle.std.proofs.Common.{◌≡◌, ◌-◌, refl, sym, ◌∙◌}
-use Rattle.player.specs.Plays.{Nobody, World, renamed}
+use Rattle.std.proofs.Common.{◌-◌, refl, sym}
+use Rattle.player.specs.Plays.{Nobody, renamed}
 use Rattle.player.specs.Shows.{ShowsAll}
 use Rattle.player.proofs.Showing.{set_again, shows_set}
 use Rattle.player.proofs.stage.act_alone.Goals as goal

@@ -1,6 +1,6 @@
-use Rattle.std.proofs.Common.{◌≡◌, ◌-◌, refl, sym, subst, ◌∙◌, slice_set}
+use Rattle.std.proofs.Common.{◌≡◌, ◌-◌, refl, sym, ◌∙◌}
 use Rattle.player.specs.declared.place.Place.TheVariants as place
-use Rattle.player.specs.Plays.{Nobody, Resting, Finds, named, renamed}
+use Rattle.player.specs.Plays.{Nobody, Resting, named, renamed}
 use Rattle.player.specs.Shows.{Shows, ShowsAll}
 use Rattle.bounded_model.specs.Laws.{Splits, IsFullOfPasses}
 use Rattle.player.proofs.Showing.{is_nobody, finds_new, finds_none, finds_same, shows_at, shows_set}

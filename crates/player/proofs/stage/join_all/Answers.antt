@@ -1,8 +1,6 @@
-use Rattle.std.proofs.Common.{◌≡◌, ◌∷◌, List, length, refl, ap, sym, arith}
+use Rattle.std.proofs.Common.{◌≡◌, ◌∷◌, length, ap, arith}
 use Rattle.std.specs.Vec.Iter.{into_iter_items}
-use Rattle.player.specs.Plays.{Named, JoinsAll}
-use Rattle.player.specs.Shows.{ShowsAll}
-use Rattle.player.proofs.Showing.{joins_more, joins_end}
+use Rattle.player.proofs.Showing.{joins_more}
 use Rattle.player.proofs.stage.join_all.Goals as goal
 
 pub loop-place-preserved : goal.loop-place-preserved

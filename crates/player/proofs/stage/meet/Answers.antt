@@ -1,8 +1,7 @@
-use Rattle.std.proofs.Common.{◌≡◌, ◌≢◌, ◌-◌, ℕ, refl, sym, subst, ◌∙◌, arith, IsTrue}
+use Rattle.std.proofs.Common.{◌≡◌, ◌≢◌, ◌-◌, ℕ, refl, sym, subst, arith, IsTrue}
 use Rattle.std.specs.Char.{is_ascii_lowercase}
-use Rattle.bounded_model.specs.declared.views.RootView.{RootView}
-use Rattle.player.specs.Plays.{Named, Nobody, World, Finds, FindsOther, MeetTold, named, renamed}
-use Rattle.player.specs.Shows.{Shows, ShowsAll}
+use Rattle.player.specs.Plays.{Named, Nobody, World, Finds, named, renamed}
+use Rattle.player.specs.Shows.{ShowsAll}
 use Rattle.player.proofs.Showing.{is_nobody, is_somebody, finds_other, other_kept, other_named, set_both, shows_set}
 use Rattle.player.proofs.stage.meet.Goals as goal
 

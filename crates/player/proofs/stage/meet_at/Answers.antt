@@ -1,4 +1,4 @@
-use Rattle.std.proofs.Common.{◌≡◌, refl, sym}
+use Rattle.std.proofs.Common.{refl, sym}
 use Rattle.player.specs.declared.place.Place.TheVariants as place
 use Rattle.player.specs.Plays.{Resting, MeetTold}
 use Rattle.player.specs.Shows.{Shows}
