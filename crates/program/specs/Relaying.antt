@@ -1,7 +1,8 @@
 -- What is written for a relay, and what a relay of files does.
 use Rattle.std.specs.Prelude.{◌≡◌, ℕ, Bool, true, false, List, ◌++◌, Option, None, Result, Ok, Err}
 use Rattle.std.specs.Io.KnownBytes.{Appends}
-use Rattle.bounded_model.specs.declared.history.Order.TheVariants.{Lifo}
+use Rattle.bounded_model.specs.declared.history.Order.{Order}
+use Rattle.bounded_model.specs.declared.history.Order.TheVariants.{Fifo, Lifo}
 use Rattle.bounded_model.specs.Machine.{Shape}
 use Rattle.tagged_index.specs.declared.word.TheConstants.{MAX_TAG}
 use Rattle.relay.specs.declared.faults.RelayFault.{RelayFault}
@@ -10,6 +11,8 @@ use Rattle.relay.specs.declared.outcome.Relayed.{Relayed}
 use Rattle.relay.specs.Promises.{Lists, Relays, IsTooSmall, total}
 use Rattle.audit.specs.Delivered.{full_audit}
 use Rattle.audit.specs.Texts.{audit_text, list_text}
+use Rattle.program.specs.declared.words.Kind.{Kind}
+use Rattle.program.specs.declared.words.Kind.TheVariants.{Queue, Stack}
 use Rattle.program.specs.declared.words.RelayArgs.{RelayArgs}
 use Rattle.program.specs.declared.tool_fault.ToolFault.{ToolFault}
 use Rattle.program.specs.declared.tool_fault.ToolFault.TheVariants.{File, Relay, Output}
@@ -28,9 +31,14 @@ pub record GrowsByFront (text : List ℕ) (old new : Option (List ℕ)) : Type 0
   pub whole : text ≡ front ++ rest
   pub bytes : Appends old new front
 
--- a stack of the capacity that was asked for, with the largest limit of tags
+-- in which order a container of this kind gives values back
+abbrev pub order_of : Kind → Order
+order_of Queue = Fifo
+order_of Stack = Lifo
+
+-- a container of the kind and the capacity that were asked for, with the largest limit of tags
 abbrev pub shape_for : RelayArgs → Shape
-shape_for args = record { order = Lifo; capacity = args.capacity; limit = MAX_TAG }
+shape_for args = record { order = order_of args.kind; capacity = args.capacity; limit = MAX_TAG }
 
 -- no worker is to stop early
 pub record StopsNowhere (args : RelayArgs) : Type 0 where

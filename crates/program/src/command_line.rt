@@ -22,7 +22,7 @@ const EXAMPLES: &str =
 Examples:
   lockfree < script.txt
   lockfree replay script.txt
-  lockfree relay --kind stack --capacity 1024 --consumers 4 a.txt b.txt";
+  lockfree relay --kind queue --capacity 1024 --consumers 4 a.txt b.txt";
 
 const ABOUT_REPLAY: &str =
     "Replays a script of calls, and writes a reply for each line after the first";
@@ -45,7 +45,7 @@ const RELAY_EXAMPLE: &str =
     "A line has at most 1,024 bytes and ends in a line feed; a file has at most 65,535 lines.
 
 Example:
-  lockfree relay --kind stack --capacity 1024 --consumers 4 --list a.txt b.txt";
+  lockfree relay --kind queue --capacity 1024 --consumers 4 --list a.txt b.txt";
 
 /// The command line.
 pub fn command_line<'a>(alloc: Global) -> Result<Command<'a>, AllocError> {
@@ -94,8 +94,10 @@ fn kind<'a>(alloc: Global) -> Arg<'a> {
         .long("kind")
         .value_name("KIND")
         .required(true)
-        .value_parser(["stack"].as_slice())
-        .help("Which container: the last line in comes out first")
+        .value_parser(["queue", "stack"].as_slice())
+        .help(
+            "Which container: from a queue the first line in comes out first, and each file's lines in their order; from a stack the last one in",
+        )
 }
 
 fn capacity<'a>(alloc: Global) -> Arg<'a> {

@@ -1,10 +1,11 @@
 //! Files relayed through a container.
 
-ghost use Rattle.std.specs.Prelude.{◌≡◌, ◌≢◌, ◌≤◌, ◌*◌, IfErr, IfOk, List, ℕ, length};
+ghost use Rattle.std.specs.Prelude.{◌≡◌, ◌≢◌, ◌≤◌, ◌*◌, IfErr, List, ℕ, length};
 ghost use Rattle.bounded_model.specs.Laws.{fresh};
 ghost use Rattle.relay.specs.Messages.{AreInputsFrom};
 ghost use Rattle.relay.specs.Promises.{total};
-ghost use Rattle.treiber_stack.specs.Stack.{IsRootOf, root_in, shape_of};
+ghost use Rattle.tagged_index.specs.Limits.{capacity_of, tag_limit_of};
+ghost use Rattle.tagged_index.specs.declared.word.TheConstants.{MAX_TAG};
 ghost use Rattle.program.specs.declared.command_line.TheConstants.{MAX_FILES};
 ghost use Rattle.audit.specs.declared.message_file.TheConstants.{MAX_LINES};
 ghost use Rattle.program.specs.declared.tool_fault.ToolFault.TheVariants.{Output, Relay};
@@ -15,15 +16,16 @@ ghost use Rattle.program.specs.Relaying.{RelaysInputs, RelaysReaders, shape_for}
 use crate::inputs::read_inputs;
 use crate::outcome::write_outcome;
 use crate::tool_fault::ToolFault;
-use crate::words::RelayArgs;
-use bounded_model::{Container, MakeRefused};
+use crate::words::{Kind, RelayArgs};
+use bounded_model::Container;
+use ms_queue::Queue;
 use relay::{FreeGate, Message, run};
 use std::alloc::Global;
 use std::io::{Read, Write};
 use std::sync::Wait;
 use std::thread::Threads;
 use tagged_index::{Limits, MAX_TAG};
-use treiber_stack::{Root, Stack};
+use treiber_stack::Stack;
 
 /// Relays what the readers give, reader `k`, counted from 0, as sender `k`, and writes the outcome:
 /// the audit, and then the list where that is wanted.
@@ -47,20 +49,25 @@ pub fn relay_main<T: Threads + Wait + Sync, R: Read + Drop, W: Write>(
     ensures untouched { IfErr result (λ fault. fault ≢ Output → writer.new ≡ writer.old) }
 {
     let inputs = read_inputs(alloc, readers)?;
-    let (stack, root) = stack_for(alloc, args)?;
-    relay_through(rt, alloc, stack, root, args, inputs, writer)
+    match args.kind {
+        Kind::Queue => {
+            let (queue, root) = Queue::new(alloc, limits_for(args))?;
+            relay_through(rt, alloc, queue, root, args, inputs, writer)
+        }
+        Kind::Stack => {
+            let (stack, root) = Stack::new(alloc, limits_for(args))?;
+            relay_through(rt, alloc, stack, root, args, inputs, writer)
+        }
+    }
 }
 
-// The stack that is asked for.
-fn stack_for(
-    alloc: Global,
-    args: &RelayArgs,
-) -> Result<(Stack<Message>, Root<Message>), MakeRefused>
-    requires args { IsInRange args.now }
-    ensures { IfOk result (λ made. IsRootOf made.0 made.1 × (root_in made.1 ≡ fresh) × (shape_of made.0 ≡ shape_for args.now)) }
+// The limits that are asked for.
+fn limits_for(args: &RelayArgs) -> Limits
+    requires { IsInRange args.now }
+    ensures { (capacity_of result ≡ args.now.capacity) × (tag_limit_of result ≡ MAX_TAG) }
 {
     match Limits::of(args.capacity, MAX_TAG) {
-        Some(limits) => Stack::new(alloc, limits),
+        Some(limits) => limits,
         None => unreachable!(),
     }
 }

@@ -14,6 +14,8 @@ use thiserror::Error;
 /// Which container a relay runs over.
 #[derive(Clone, Copy, Debug, PartialEq, Eq)]
 pub enum Kind {
+    /// The first message in is the first out.
+    Queue,
     /// The last message in is the first out.
     Stack,
 }
@@ -115,8 +117,12 @@ fn relay_of(alloc: Global, found: &ArgMatches<'_>) -> Result<Chosen, WordsRefuse
 fn args_of(found: &ArgMatches<'_>) -> Option<RelayArgs>
     ensures { IfSome result IsInRange }
 {
+    let kind = match found.get_str("kind")? {
+        "queue" => Kind::Queue,
+        _ => Kind::Stack,
+    };
     let args = RelayArgs {
-        kind: Kind::Stack,
+        kind,
         capacity: found.get_one("capacity")?,
         consumers: found.get_one("consumers")?,
         take: found.get_one("take"),

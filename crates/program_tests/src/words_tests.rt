@@ -80,6 +80,16 @@ fn words_of_relays(rt: HostRuntime) -> Result<(), Fail> {
             2,
         ),
         (
+            "lockfree relay --kind queue --capacity 2 --consumers 2 a.txt b.txt",
+            RelayArgs {
+                kind: Kind::Queue,
+                capacity: 2,
+                consumers: 2,
+                ..PLAIN
+            },
+            2,
+        ),
+        (
             "lockfree relay --kind stack --capacity 4 --consumers 1 --take 1 --list a.txt",
             RelayArgs {
                 take: Some(1),
@@ -140,7 +150,7 @@ fn words_of_replays(rt: HostRuntime) -> Result<(), Fail> {
 fn bad_words(rt: HostRuntime) -> Result<(), Fail> {
     let lines = [
         "lockfree relay --capacity 4 --consumers 1 a.txt",
-        "lockfree relay --kind queue --capacity 4 --consumers 1 a.txt",
+        "lockfree relay --kind ring --capacity 4 --consumers 1 a.txt",
         "lockfree relay --kind stack --consumers 1 a.txt",
         "lockfree relay --kind stack --capacity 0 --consumers 1 a.txt",
         "lockfree relay --kind stack --capacity 1048574 --consumers 1 a.txt",
