@@ -12,8 +12,6 @@ pub enum BenchFault {
     Words(clap::Error),
     #[error("a value is out of its range")]
     Range,
-    #[error("there is no queue yet")]
-    NoQueue,
     #[error("no memory")]
     NoMemory,
     #[error("no pass")]

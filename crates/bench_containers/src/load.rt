@@ -13,20 +13,23 @@ const TAG_LIMIT: u64 = (1 << 42) - 1;
 #[derive(Clone, Copy)]
 pub enum Kind {
     Stack,
+    Queue,
 }
 
 impl Kind {
-    /// The container of this name.
+    /// The container of this name. `Range` where none is called so.
     pub fn of(name: &str) -> Result<Kind, BenchFault> {
         match name {
             "stack" => Ok(Kind::Stack),
-            _ => Err(BenchFault::NoQueue),
+            "queue" => Ok(Kind::Queue),
+            _ => Err(BenchFault::Range),
         }
     }
 
     pub fn name(self) -> &'static str {
         match self {
             Kind::Stack => "stack",
+            Kind::Queue => "queue",
         }
     }
 }
@@ -59,7 +62,7 @@ impl Load {
         })
     }
 
-    /// What these words ask for. `NoQueue` for a queue, `Range` where a value is not in its range.
+    /// What these words ask for. `Range` where a value is not in its range.
     pub fn of(found: &ArgMatches<'_>) -> Result<Load, BenchFault>
         ensures { IfOk result (λ l. l.producers ≡ 0 ⊎ 0 < l.consumers) }
     {

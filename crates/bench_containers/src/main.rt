@@ -59,7 +59,8 @@ fn run<R: Env + Print + Clock + AllocGlobal + Threads + Wait + Sync>(
 ) -> Result<(), BenchFault> {
     let words: Vec<String> = env::args(rt)?.collect(rt.alloc())?;
     if words.len() < 2 {
-        return try_out(rt, Kind::Stack);
+        try_out(rt, Kind::Stack)?;
+        return try_out(rt, Kind::Queue);
     }
     let mut texts = Vec::new(rt.alloc());
     for word in &words {

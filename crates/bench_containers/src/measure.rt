@@ -7,6 +7,7 @@ use crate::load::{Kind, Load};
 use crate::threads::send_through;
 use crate::work::put_and_take;
 use bounded_model::Container;
+use ms_queue::Queue;
 use std::alloc::Global;
 use std::sync::Wait;
 use std::thread::Threads;
@@ -90,6 +91,10 @@ pub fn measure<R: Threads + Wait + Clock + Sync>(
         Kind::Stack => {
             let (stack, root) = Stack::new(alloc, load.limits)?;
             work(rt, alloc, stack, root, load)
+        }
+        Kind::Queue => {
+            let (queue, root) = Queue::new(alloc, load.limits)?;
+            work(rt, alloc, queue, root, load)
         }
     }
 }

@@ -12,6 +12,10 @@ mod fills;
 #[cfg(test)]
 mod pool;
 #[cfg(test)]
+mod queue;
+#[cfg(test)]
+mod queue_steps;
+#[cfg(test)]
 mod stack;
 #[cfg(test)]
 mod stack_calls;
