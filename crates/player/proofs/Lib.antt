@@ -1,2 +1,3 @@
-pub mod Keeping
+pub mod Showing
 pub mod Telling
+pub mod Folding

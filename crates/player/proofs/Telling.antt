@@ -1,30 +1,53 @@
 -- The lines answered so far, and those still to be answered.
-use Rattle.std.proofs.Common.{◌≡◌, ℕ, List, [], ◌∷◌, ◌++◌, map, sym, ap, ◌∙◌, append_assoc}
+use Rattle.std.proofs.Common.{◌≡◌, ◌≢◌, ℕ, List, [], ◌∷◌, ◌++◌, map, sym, ap, subst, ◌∙◌, append_assoc, IsTrue, arith, Result, Ok, Err, OnOk}
 use Rattle.std.specs.Prelude.{codes}
+use Rattle.std.specs.Char.{is_ascii_lowercase}
 use Rattle.std.proofs.lemmas.List.{append-nil}
+use Rattle.bounded_model.specs.Machine.{Shape}
 use Rattle.script.specs.declared.answer.Answer.{Answer}
+use Rattle.script.specs.declared.answer.Answer.TheVariants as answer
+use Rattle.script.specs.declared.line.Act.{Act}
+use Rattle.script.specs.declared.line.Act.TheVariants.{Meet}
 use Rattle.script.specs.declared.line.Line.{Line}
-use Rattle.script.specs.Answering.{AnswersTo}
+use Rattle.script.specs.declared.line.Line.TheVariants.{By, Finish}
+use Rattle.script.specs.declared.line.PassName.{PassName}
 use Rattle.script.specs.AnswerTexts.{answer_text}
-use Rattle.script.specs.Script.{text_of}
-use Rattle.player.specs.Playing.{Says}
+use Rattle.script.specs.Script.{IsAct, is_stack_act, text_of}
+use Rattle.player.specs.Plays.{Acts, Ends, Plays, World}
 
 abbrev pub said : List Answer → List ℕ
 said answers = text_of (map answer_text answers)
 
 -- whatever answers the rest makes, with what was written, the answers to all lines
-abbrev pub Told : List Line → List Line → List ℕ → Type 0
-Told whole rest written = (more : List Answer) → AnswersTo rest more → (answers : List Answer) × AnswersTo whole answers × (said answers ≡ written ++ said more)
+abbrev pub Told : Shape → World → List Line → World → List Line → List ℕ → Type 0
+Told c first whole world rest written = (more : List Answer) → Plays c world rest more → (answers : List Answer) × Plays c first whole answers × (said answers ≡ written ++ said more)
 
-pub Told-start : (whole : List Line) (written : List ℕ) → written ≡ [] → Told whole whole written
-Told-start whole written none more answers = (more, answers, ap (λ (t : List ℕ). t ++ said more) (sym none))
+pub told_start : (c : Shape) (first : World) (whole : List Line) (written : List ℕ) → written ≡ [] → Told c first whole first whole written
+told_start c first whole written none more plays = (more, plays, ap (λ (t : List ℕ). t ++ said more) (sym none))
 
-pub Told-more : (whole : List Line) (line : Line) (rest : List Line) (written new : List ℕ) → Told whole (line ∷ rest) written → Says line written new → Told whole rest new
-Told-more whole line rest written new told says more answers =
-    let t = told (says.answer ∷ more) (says.is, answers) in
-    (t.0, t.1, t.2 ∙ sym (append_assoc written (answer_text says.answer ++ codes "\n") (said more)) ∙ ap (λ (w : List ℕ). w ++ said more) (sym says.written))
+pub told_more : (c : Shape) (first : World) (whole : List Line) (world next : World) (name : PassName) (act : Act) (rest : List Line) (written new : List ℕ) (reply : Answer) → Told c first whole world (By name act ∷ rest) written → Acts c world name.0 act reply next → new ≡ written ++ (answer_text reply ++ codes "\n") → Told c first whole next rest new
+told_more c first whole world next name act rest written new reply told acts is more plays =
+    let t = told (reply ∷ more) (next, acts, plays) in
+    (t.0, t.1, t.2 ∙ sym (append_assoc written (answer_text reply ++ codes "\n") (said more)) ∙ ap (λ (w : List ℕ). w ++ said more) (sym is))
 
-pub Told-end : (whole : List Line) (written : List ℕ) → Told whole [] written → (answers : List Answer) × AnswersTo whole answers × (written ≡ said answers)
-Told-end whole written told =
+pub told_finish : (c : Shape) (first : World) (whole : List Line) (world : World) (rest : List Line) (written new : List ℕ) (values : List (List ℕ)) → Told c first whole world (Finish ∷ rest) written → rest ≡ [] → Ends c world values → new ≡ written ++ (answer_text (answer.Rest values) ++ codes "\n") → (answers : List Answer) × Plays c first whole answers × (new ≡ said answers)
+told_finish c first whole world rest written new values told last ends is =
+    let plays : Plays c world (Finish ∷ rest) (answer.Rest values ∷ []) = subst (λ (ls : List Line). Plays c world (Finish ∷ ls) (answer.Rest values ∷ [])) (sym last) ends in
+    let t = told (answer.Rest values ∷ []) plays in
+    (t.0, t.1, is ∙ ap (λ (w : List ℕ). written ++ w) (sym (append-nil _)) ∙ sym t.2)
+
+pub told_end : (c : Shape) (first : World) (whole : List Line) (world : World) (written : List ℕ) → Told c first whole world [] written → (answers : List Answer) × Plays c first whole answers × (written ≡ said answers)
+told_end c first whole world written told =
     let t = told [] tt in
     (t.0, t.1, sym (t.2 ∙ append-nil written))
+
+-- a meet names another letter
+pub meets_another : (name : ℕ) (act : Act) (other : PassName) → act ≡ Meet other → IsAct act → IsTrue (is_stack_act name act) → IsTrue (is_ascii_lowercase other.0) × (name ≢ other.0)
+meets_another name act other is good allowed =
+    let lower : IsAct (Meet other) = rw is at good in
+    let apart : IsTrue (is_stack_act name (Meet other)) = rw is at allowed in
+    (lower, λ e. grind (arith, apart, e))
+
+pub on_ok_more : {A E : Type 0} {P Q : Type 0} (result : Result A E) → (P → Q) → OnOk result P → OnOk result Q
+on_ok_more (Ok a) more p = more p
+on_ok_more (Err e) more p = p

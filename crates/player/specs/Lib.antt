@@ -1,2 +1,3 @@
-pub mod Playing
-pub mod Ranges
+pub mod Plays
+pub mod Shows
+pub mod StackCalls

@@ -1,18 +1,19 @@
-//! Scripts played over the stack, by single atomic steps.
+//! Scripts played over a container, by single atomic steps.
 //!
-//! Promised: each line of a script is answered by one line of text, which is the text of an answer
-//! to that line (`specs/Answering.antt` of the crate of scripts): a call's own answer, the count of
-//! steps that it has made, or why nothing was done. A value that was refused is the one that the
-//! line put. All is kept in memory, so that want of it is met before anything is written.
+//! Promised (`play`, `specs/Plays.antt`): each line of a script is answered by one line of text, which
+//! is the text of the answer of the call that the line names, made on the container by the line's pass,
+//! under the container's own laws. `busy`, `nothing begun` and `no pass` come exactly where the formats
+//! say, and then nothing is done. All is kept in memory, so that want of it is met before anything is
+//! written.
 #![tactic(auto)]
 
-mod calls;
-mod chains;
-mod operation;
+mod acts;
 mod place;
-mod play;
-mod player;
-#[cfg(test)]
-mod tests;
+mod played;
+mod playing;
+mod stack;
+mod stage;
 
-pub use play::play_stack;
+pub use played::Played;
+pub use playing::play;
+pub use stack::play_stack;

@@ -100,8 +100,10 @@ fn writes_eighteen_senders(rt: HostRuntime) -> io::Result<()> {
     relayed.left.push(message(rt.alloc(), 0, 0, b"y")?)?;
     let mut text = Vec::new(rt.alloc());
     assert_eq!(rt; write_audit(&relayed, &mut text), Ok(()));
-    let first = "sender 0 read 1 delivered 0 left 1 unsent 0\nsender 1 read 0 delivered 0 left 0 unsent 0\n";
-    let last = "sender 16 read 0 delivered 0 left 0 unsent 0\nsender 17 read 2 delivered 2 left 0 unsent 0\ntotal read 3 delivered 2 left 1 unsent 0\n";
+    let first =
+        "sender 0 read 1 delivered 0 left 1 unsent 0\nsender 1 read 0 delivered 0 left 0 unsent 0\n";
+    let last =
+        "sender 16 read 0 delivered 0 left 0 unsent 0\nsender 17 read 2 delivered 2 left 0 unsent 0\ntotal read 3 delivered 2 left 1 unsent 0\n";
     assert!(rt; text.starts_with(first.as_bytes()));
     assert!(rt; text.ends_with(last.as_bytes()));
     Ok(())

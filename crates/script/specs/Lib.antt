@@ -1,5 +1,4 @@
 pub mod AnswerTexts
-pub mod Answering
 pub mod Faults
 pub mod Reading
 pub mod ReplyTexts

@@ -1,0 +1,44 @@
+use Rattle.std.proofs.Common.{refl, sym, arith}
+use Rattle.player.specs.Plays.{Resting, Acting}
+use Rattle.bounded_model.specs.Stepping.{no_step}
+use Rattle.player.proofs.Showing.{since_none}
+use Rattle.player.proofs.acts.act_resting.Goals as goal
+
+pub returns-in-Call : goal.returns-in-Call
+returns-in-Call g c =
+    let r = g.C.Played.reading c.args.container.now in
+    rw c.in-Call.is (Resting (r.pass c.call-pass.result.0), (c.call-pass.ensures.of, refl), c.call-pass.ensures.gives)
+
+pub returns-in-Begin : goal.returns-in-Begin
+returns-in-Begin g c =
+    let r = g.C.Played.reading c.args.container.now in
+    let v = r.pass c.args.pass in
+    rw c.in-Begin.is (Acting c.in-Begin.command (no_step v), (c.begin-operation.ensures.making, sym c.begin-operation.ensures.begun, since_none v, omega arith), (refl, refl))
+
+pub returns-in_ok-pass-in-Range : goal.returns-in_ok-pass-in-Range
+returns-in_ok-pass-in-Range g c =
+    let r = g.C.Played.reading c.args.container.now in
+    let done = c.in_ok-pass-in-Range in
+    rw c.in-Range.is (Resting (r.pass done.pass), (done.ensures.of, refl), done.ensures.gives)
+
+pub returns-in_ok-pass-in-Fold : goal.returns-in_ok-pass-in-Fold
+returns-in_ok-pass-in-Fold g c =
+    let r = g.C.Played.reading c.args.container.now in
+    let done = c.in_ok-pass-in-Fold in
+    rw c.in-Fold.is (Resting (r.pass done.pass), (done.ensures.of, refl), done.ensures.gives)
+
+pub returns-in_ok-pass-in-ReversedFold : goal.returns-in_ok-pass-in-ReversedFold
+returns-in_ok-pass-in-ReversedFold g c =
+    let r = g.C.Played.reading c.args.container.now in
+    let done = c.in_ok-pass-in-ReversedFold in
+    rw c.in-ReversedFold.is (Resting (r.pass done.pass), (done.ensures.of, refl), done.ensures.gives)
+
+pub returns-in-Step : goal.returns-in-Step
+returns-in-Step g c =
+    let r = g.C.Played.reading c.args.container.now in
+    rw c.in-Step.is (Resting (r.pass c.args.pass), (c.requires.pass, refl), refl)
+
+pub returns-in-Drop : goal.returns-in-Drop
+returns-in-Drop g c =
+    let r = g.C.Played.reading c.args.container.now in
+    rw c.in-Drop.is (Resting (r.pass c.args.pass), (c.requires.pass, refl), refl)

@@ -1,0 +1,19 @@
+use Rattle.std.proofs.Common.{◌≡◌, ℕ, ◌≤◌, ◌-◌, List}
+use Rattle.bounded_model.specs.declared.commands.Command.{Command}
+use Rattle.player.specs.Plays.{MakesSteps}
+use Rattle.player.proofs.acts.make_steps.Given as goal
+
+-- the same call has made so many steps more
+abbrev pub invariant-loop-made : goal.invariant-loop-made
+invariant-loop-made g l =
+    let r = g.C.Played.reading l.fn.container in
+    record {
+      few : l.made ≤ l.fn.count;
+      some : (call : Command (List ℕ)) × r.is_making call l.operation;
+      same : (call : Command (List ℕ)) → r.is_making call l.fn.begun.operation → r.is_making call l.operation;
+      begun : (r.made l.operation).begun ≡ (r.made l.fn.begun.operation).begun;
+      makes : MakesSteps l.made (r.made l.fn.begun.operation).now (r.made l.operation).now;
+    }
+
+abbrev pub decreases-loop-made : goal.decreases-loop-made
+decreases-loop-made g l = l.fn.count - l.made

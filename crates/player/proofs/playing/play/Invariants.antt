@@ -1,0 +1,25 @@
+use Rattle.std.proofs.Common.{string_bytes}
+use Rattle.std.specs.List.{AllByRecursion}
+use Rattle.std.specs.Prelude.{IsTrue}
+use Rattle.std.specs.VecDeque.{deque_len}
+use Rattle.bounded_model.specs.declared.history.Order.TheVariants.{Lifo}
+use Rattle.script.specs.Script.{FinishesLast, IsLine, is_allowed}
+use Rattle.player.specs.Plays.{World, start}
+use Rattle.player.specs.Shows.{IsOn}
+use Rattle.player.proofs.Telling.{Told}
+use Rattle.player.proofs.playing.play.Given as goal
+
+-- the lines that are left, and what was written for those before them
+abbrev pub invariant-loop-line : goal.invariant-loop-line
+invariant-loop-line g l =
+    let r = g.C.Played.reading l.fn.container in
+    record {
+      each : AllByRecursion IsLine l.lines.items;
+      allowed : AllByRecursion (λ line. IsTrue (is_allowed Lifo line)) l.lines.items;
+      finish_last : FinishesLast l.lines.items;
+      playing : (world : World) × IsOn r l.stage world
+          × Told r.shape (start (r.root l.fn.root)) l.initial.lines.items world l.lines.items (string_bytes l.output);
+    }
+
+abbrev pub decreases-loop-line : goal.decreases-loop-line
+decreases-loop-line g l = deque_len l.lines

@@ -1,0 +1,58 @@
+use Rattle.std.proofs.Common.{◌≡◌, ◌-◌, refl, sym, ◌∙◌}
+use Rattle.player.specs.declared.place.Place.TheVariants as place
+use Rattle.player.specs.Plays.{Nobody, Resting, named, renamed}
+use Rattle.player.specs.Shows.{Shows, ShowsAll}
+use Rattle.bounded_model.specs.Laws.{Splits, IsFullOfPasses}
+use Rattle.player.proofs.Showing.{is_nobody, finds_new, finds_none, finds_same, shows_at, shows_set}
+use Rattle.player.proofs.stage.find.Goals as goal
+
+pub returns-in-Some : goal.returns-in-Some
+returns-in-Some g c world on =
+    let r = g.C.Played.reading c.args.container.now in
+    let i = c.args.name.0 - 97 in
+    let e = c.exchange.ensures in
+    let gives = c.in-Some.ensures.gives in
+    let at : Shows r c.exchange.result (named world c.args.name.0) = shows_at r _ _ i c.exchange.result on.names e.within e.was in
+    let none : named world c.args.name.0 ≡ Nobody = is_nobody r _ (rw c.in-Nobody.is at at) in
+    let splits : Splits world.root (r.root c.split.new.parent) (r.pass c.in-Some.pass) = rw on.root gives.1 in
+    let names : ShowsAll r c.exchange.new.self.of.items (renamed world.names c.args.name.0 Nobody) = rw e.places (shows_set r _ _ i place.Nobody Nobody on.names tt) in
+    record {
+      found = Resting (r.pass c.in-Some.pass);
+      root = r.root c.split.new.parent;
+      shows = (gives.0, refl);
+      finds = finds_new _ _ _ _ none splits;
+      on = record { is = c.in-Some.ensures.root; root = refl; names = names };
+    }
+
+pub returns-in-None : goal.returns-in-None
+returns-in-None g c world on =
+    let r = g.C.Played.reading c.args.container.now in
+    let i = c.args.name.0 - 97 in
+    let e = c.exchange.ensures in
+    let gives = c.in-None.ensures.gives in
+    let at : Shows r c.exchange.result (named world c.args.name.0) = shows_at r _ _ i c.exchange.result on.names e.within e.was in
+    let none : named world c.args.name.0 ≡ Nobody = is_nobody r _ (rw c.in-Nobody.is at at) in
+    let full : IsFullOfPasses world.root = rw on.root gives.1 in
+    let names : ShowsAll r c.exchange.new.self.of.items (renamed world.names c.args.name.0 Nobody) = rw e.places (shows_set r _ _ i place.Nobody Nobody on.names tt) in
+    record {
+      found = Nobody;
+      root = r.root c.split.new.parent;
+      shows = tt;
+      finds = finds_none _ _ _ none full (gives.0 ∙ sym on.root);
+      on = record { is = c.in-None.ensures.root; root = refl; names = names };
+    }
+
+pub returns-in_default : goal.returns-in_default
+returns-in_default g c world on =
+    let r = g.C.Played.reading c.args.container.now in
+    let i = c.args.name.0 - 97 in
+    let e = c.exchange.ensures in
+    let at : Shows r c.exchange.result (named world c.args.name.0) = shows_at r _ _ i c.exchange.result on.names e.within e.was in
+    let names : ShowsAll r c.exchange.new.self.of.items (renamed world.names c.args.name.0 Nobody) = rw e.places (shows_set r _ _ i place.Nobody Nobody on.names tt) in
+    record {
+      found = named world c.args.name.0;
+      root = world.root;
+      shows = at;
+      finds = finds_same r _ _ world.root at c.in_default.not-Nobody;
+      on = record { is = on.is; root = on.root; names = names };
+    }

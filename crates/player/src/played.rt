@@ -1,0 +1,118 @@
+//! A container as a script's lines see it.
+
+ghost use Rattle.std.specs.Prelude.{◌≡◌, ℕ, IsTrue, IfOk, List, MatchOption, true, false};
+ghost use Rattle.bounded_model.specs.declared.commands.Command.{Command};
+ghost use Rattle.bounded_model.specs.declared.history.Order.{Order};
+ghost use Rattle.bounded_model.specs.Laws.{IsFullOfPasses, Joins, Leaves, MeetGives, Splits};
+ghost use Rattle.bounded_model.specs.Stepping.{GoesOn, MatchStepped, OneStep, no_step};
+ghost use Rattle.script.specs.Script.{is_begun};
+ghost use Rattle.player.specs.Plays.{CallGives, FoldTold, RangeTold};
+ghost use Rattle.player.specs.Shows.{Reading};
+
+use bounded_model::{Command, Leaving, Reply, Stepped, TakeRefused};
+use script::{RangeReply, Value, ValueList, Values};
+use std::alloc::{AllocError, Global};
+use std::sync::Wait;
+
+/// A container of values, by the calls that a script's lines name. Its operations have one type,
+/// where a container has one for each kind of call.
+pub trait Played<'a>: Drop {
+    type Root: Drop;
+
+    type Pass: Drop;
+
+    type Operation: Drop;
+
+    type Rest: Leaving<Value<'a>> + Drop;
+
+    /// How its roots, passes and operations are read.
+    ghost reading: { Self → Reading Self.Root Self.Pass Self.Operation };
+
+    fn split(&self, parent: &mut Self::Root) -> Option<Self::Pass>
+        requires { (reading self.now).is_root parent.old }
+        ensures root { (reading self.now).is_root parent.new }
+        ensures gives { MatchOption result
+            (((reading self.now).root parent.new ≡ (reading self.now).root parent.old)
+            × IsFullOfPasses ((reading self.now).root parent.old))
+            (λ p. (reading self.now).is_pass p × Splits ((reading self.now).root parent.old)
+            ((reading self.now).root parent.new) ((reading self.now).pass p)) };
+
+    /// A whole call.
+    fn call<R: Wait>(
+        &self,
+        rt: &R,
+        by: Self::Pass,
+        command: Command<Value<'a>>,
+    ) -> (Self::Pass, Reply<Value<'a>>)
+        requires { (reading self.now).is_pass by }
+        ensures of { (reading self.now).is_pass result.0 }
+        ensures gives { CallGives (reading self.now).shape ((reading self.now).pass by) command.entry
+            ((reading self.now).pass result.0) result.1 };
+
+    /// A call that makes no step yet.
+    fn begin(&self, by: Self::Pass, command: Command<Value<'a>>) -> Self::Operation
+        requires { (reading self.now).is_pass by }
+        ensures making { (reading self.now).is_making command.entry result }
+        ensures begun { (reading self.now).made result ≡ no_step ((reading self.now).pass by) };
+
+    /// One atomic step of a call.
+    fn step(
+        &self,
+        operation: Self::Operation,
+    ) -> Stepped<Self::Operation, Self::Pass, Reply<Value<'a>>>
+        requires { (call : Command (List ℕ)) × (reading self.now).is_making call operation }
+        ensures { (call : Command (List ℕ)) → (reading self.now).is_making call operation
+            → MatchStepped result
+            (λ next. (reading self.now).is_making call next
+            × GoesOn ((reading self.now).made operation) ((reading self.now).made next))
+            (λ back reply. (reading self.now).is_pass back
+            × OneStep ((reading self.now).made operation).now ((reading self.now).pass back)
+            × CallGives (reading self.now).shape ((reading self.now).made operation).begun call
+            ((reading self.now).pass back) reply) };
+
+    /// Puts a range of values by one exchange. Answers the values that were not put, too.
+    fn range<R: Wait>(
+        &self,
+        rt: &R,
+        alloc: Global,
+        by: Self::Pass,
+        values: Values<'a>,
+    ) -> Result<(Self::Pass, RangeReply, ValueList<'a>), AllocError>
+        requires { (reading self.now).is_pass by }
+        ensures of { IfOk result (λ done. (reading self.now).is_pass done.0) }
+        ensures gives { IfOk result (λ done. RangeTold (reading self.now).shape
+            ((reading self.now).pass by) ((reading self.now).pass done.0) values.entry done.1 done.2) };
+
+    /// Takes all values by one exchange, and answers them from the top down, or the other way round.
+    fn fold<R: Wait>(
+        &self,
+        rt: &R,
+        alloc: Global,
+        by: Self::Pass,
+        reversed: bool,
+    ) -> Result<(Self::Pass, Result<(u64, ValueList<'a>), TakeRefused>), AllocError>
+        requires { (reading self.now).is_pass by }
+        ensures of { IfOk result (λ done. (reading self.now).is_pass done.0) }
+        ensures gives { IfOk result (λ done. FoldTold (reading self.now).shape reversed
+            ((reading self.now).pass by) ((reading self.now).pass done.0) done.1) };
+
+    fn meet(&self, first: &mut Self::Pass, second: Self::Pass) -> (Self::Pass, bool)
+        requires first { (reading self.now).is_pass first.old }
+        requires second { (reading self.now).is_pass second }
+        ensures first { (reading self.now).is_pass first.new }
+        ensures second { (reading self.now).is_pass result.0
+            × ((reading self.now).pass result.0 ≡ (reading self.now).pass second) }
+        ensures gives { MeetGives ((reading self.now).pass first.old)
+            ((reading self.now).pass second) ((reading self.now).pass first.new) result.1 };
+
+    fn join(&self, parent: &mut Self::Root, by: Self::Pass)
+        requires root { (reading self.now).is_root parent.old }
+        requires pass { (reading self.now).is_pass by }
+        ensures root { (reading self.now).is_root parent.new }
+        ensures gives { Joins ((reading self.now).root parent.old) ((reading self.now).pass by)
+            ((reading self.now).root parent.new) };
+
+    fn finish(self, parent: Self::Root) -> Self::Rest
+        requires { (reading self).is_root parent }
+        ensures { Leaves (reading self).shape ((reading self).root parent) (Self.Rest.left result) };
+}

@@ -1,0 +1,251 @@
+//! The root of a container and the passes that a script names, and what each line does with them.
+
+ghost use Rattle.std.specs.Prelude.{◌≡◌, ◌≢◌, ◌-◌, if◌then◌else◌, List, IsTrue, IfOk, slice_set};
+ghost use Rattle.std.specs.Char.{is_ascii_lowercase};
+ghost use Rattle.player.specs.Plays.{Acts, Does, DoesMeet, Ends, JoinsAll, JoinsOne, MeetTold, Named, World, start};
+ghost use Rattle.player.specs.Shows.{Found, IsOn, Shows, ShowsAll};
+ghost use Rattle.script.specs.declared.answer.Answer.TheVariants.{Met, NoPass};
+ghost use Rattle.script.specs.declared.line.Act.TheVariants.{Meet};
+ghost use Rattle.script.specs.declared.line.PassName.{PassName};
+
+use crate::acts::act_at;
+use crate::place::{Place, Places};
+use crate::played::Played;
+use bounded_model::Leaving;
+use script::{Act, Answer, PassName, Value, ValueList};
+use std::alloc::{AllocError, Global};
+use std::sync::Wait;
+
+/// The root of a container, and what each letter names.
+#[derive(Drop)]
+pub struct Stage<R, P, O> {
+    pub root: R,
+    pub places: Places<P, O>,
+}
+
+impl<R: Drop, P: Drop, O: Drop> Stage<R, P, O> {
+    ghost use Rattle.std.specs.Prelude.{◌≡◌, IfOk, replicate};
+    ghost use Rattle.player.specs.declared.place.Place.TheVariants.{Nobody};
+
+    /// No letter names a pass.
+    pub fn new(alloc: Global, root: R) -> Result<Stage<R, P, O>, AllocError>
+        ensures root { IfOk result (λ stage. stage.root ≡ root) }
+        ensures places { IfOk result (λ stage. stage.places.of.items ≡ replicate 26 Nobody) }
+    {
+        let places = Places::new(alloc)?;
+        Ok(Stage { root, places })
+    }
+}
+
+/// Takes what a letter names out of its place. A letter that names nobody gets a new pass, where
+/// one can be had.
+fn find<'a, C: Played<'a>>(
+    container: &C,
+    stage: &mut Stage<C::Root, C::Pass, C::Operation>,
+    name: PassName,
+) -> Place<C::Pass, C::Operation>
+    requires on { (world : World) × IsOn (C.reading container.now) stage.old world }
+    requires name { IsTrue (is_ascii_lowercase name.0) }
+    ensures { (world : World) → IsOn (C.reading container.now) stage.old world
+        → Found (C.reading container.now) world name.0 stage.new result }
+{
+    match stage.places.exchange(name, Place::Nobody) {
+        Place::Nobody => match container.split(&mut stage.root) {
+            Some(pass) => Place::Resting(pass),
+            None => Place::Nobody,
+        },
+        place => place,
+    }
+}
+
+/// Puts back what a letter names.
+fn keep<R: Drop, P: Drop, O: Drop>(stage: &mut Stage<R, P, O>, name: PassName, place: Place<P, O>)
+    requires { IsTrue (is_ascii_lowercase name.0) }
+    ensures root { stage.new.root ≡ stage.old.root }
+    ensures places { stage.new.places.of.items ≡ slice_set stage.old.places.of.items (name.0 - 97) place }
+{
+    stage.places.exchange(name, place);
+}
+
+/// Does what a line says, and answers it.
+pub fn act<'a, C: Played<'a>, R: Wait>(
+    container: &C,
+    rt: &R,
+    alloc: Global,
+    stage: &mut Stage<C::Root, C::Pass, C::Operation>,
+    name: PassName,
+    act: Act<'a>,
+) -> Result<Answer<'a>, AllocError>
+    requires on { (world : World) × IsOn (C.reading container.now) stage.old world }
+    requires name { IsTrue (is_ascii_lowercase name.0) }
+    requires other { (other : PassName) → act ≡ Meet other
+        → IsTrue (is_ascii_lowercase other.0) × (name.0 ≢ other.0) }
+    ensures { (world : World) → IsOn (C.reading container.now) stage.old world
+        → IfOk result (λ answer. (next : World) × IsOn (C.reading container.now) stage.new next
+        × Acts (C.reading container.now).shape world name.0 act.entry answer next) }
+{
+    match act {
+        Act::Meet(other) => Ok(meet(container, stage, name, other)),
+        act => act_alone(container, rt, alloc, stage, name, act),
+    }
+}
+
+/// Does it at the place of its letter.
+fn act_alone<'a, C: Played<'a>, R: Wait>(
+    container: &C,
+    rt: &R,
+    alloc: Global,
+    stage: &mut Stage<C::Root, C::Pass, C::Operation>,
+    name: PassName,
+    act: Act<'a>,
+) -> Result<Answer<'a>, AllocError>
+    requires on { (world : World) × IsOn (C.reading container.now) stage.old world }
+    requires name { IsTrue (is_ascii_lowercase name.0) }
+    requires alone { (other : PassName) → ¬ (act ≡ Meet other) }
+    ensures { (world : World) → IsOn (C.reading container.now) stage.old world
+        → IfOk result (λ answer. (next : World) × IsOn (C.reading container.now) stage.new next
+        × Does (C.reading container.now).shape world name.0 act.entry answer next) }
+{
+    let place = find(container, stage, name);
+    let (place, answer) = act_at(container, rt, alloc, place, act)?;
+    keep(stage, name, place);
+    Ok(answer)
+}
+
+/// Two passes meet, where both are there and between their calls.
+fn meet<'a, C: Played<'a>>(
+    container: &C,
+    stage: &mut Stage<C::Root, C::Pass, C::Operation>,
+    name: PassName,
+    other: PassName,
+) -> Answer<'a>
+    requires on { (world : World) × IsOn (C.reading container.now) stage.old world }
+    requires name { IsTrue (is_ascii_lowercase name.0) }
+    requires other { IsTrue (is_ascii_lowercase other.0) × (name.0 ≢ other.0) }
+    ensures { (world : World) → IsOn (C.reading container.now) stage.old world
+        → (next : World) × IsOn (C.reading container.now) stage.new next
+        × DoesMeet (C.reading container.now).shape world name.0 other.0 result next }
+{
+    let first = find(container, stage, name);
+    if let Place::Nobody = first {
+        return Answer::NoPass;
+    }
+    let second = find(container, stage, other);
+    let (first, second, answer) = meet_at(container, first, second);
+    keep(stage, name, first);
+    keep(stage, other, second);
+    answer
+}
+
+/// Has what two letters name meet. The first names somebody.
+fn meet_at<'a, C: Played<'a>>(
+    container: &C,
+    first: Place<C::Pass, C::Operation>,
+    second: Place<C::Pass, C::Operation>,
+) -> (
+    Place<C::Pass, C::Operation>,
+    Place<C::Pass, C::Operation>,
+    Answer<'a>,
+)
+    requires first { (found : Named) × Shows (C.reading container.now) first found }
+    requires second { (found : Named) × Shows (C.reading container.now) second found }
+    ensures { (one two : Named) → Shows (C.reading container.now) first one
+        → Shows (C.reading container.now) second two
+        → (after : Named) × Shows (C.reading container.now) result.0 after
+        × Shows (C.reading container.now) result.1 two × MeetTold one two result.2 after }
+{
+    match (first, second) {
+        (Place::Nobody, second) => (Place::Nobody, second, Answer::NoPass),
+        (first, Place::Nobody) => (first, Place::Nobody, Answer::NoPass),
+        (Place::Resting(mut pass), Place::Resting(by)) => {
+            let (by, has_met) = container.meet(&mut pass, by);
+            (
+                Place::Resting(pass),
+                Place::Resting(by),
+                answer_to_meet(has_met),
+            )
+        }
+        (Place::Resting(pass), Place::Acting(begun)) => {
+            (Place::Resting(pass), Place::Acting(begun), Answer::Busy)
+        }
+        (Place::Acting(begun), Place::Resting(pass)) => {
+            (Place::Acting(begun), Place::Resting(pass), Answer::Busy)
+        }
+        (Place::Acting(begun), Place::Acting(other)) => {
+            (Place::Acting(begun), Place::Acting(other), Answer::Busy)
+        }
+    }
+}
+
+fn answer_to_meet<'a>(has_met: bool) -> Answer<'a>
+    ensures { result ≡ (if has_met then Met else NoPass) }
+{
+    if has_met { Answer::Met } else { Answer::NoPass }
+}
+
+/// Joins the passes that are between their calls, in the order of the letters. The others are
+/// dropped.
+fn join_all<'a, C: Played<'a>>(
+    container: &C,
+    root: &mut C::Root,
+    places: Places<C::Pass, C::Operation>,
+)
+    requires root { (C.reading container.now).is_root root.old }
+    requires places { (names : List Named) × ShowsAll (C.reading container.now) places.of.items names }
+    ensures root { (C.reading container.now).is_root root.new }
+    ensures joined { (names : List Named) → ShowsAll (C.reading container.now) places.of.items names
+        → JoinsAll ((C.reading container.now).root root.old) names ((C.reading container.now).root root.new) }
+{
+    let Places { of } = places;
+    for place in of {
+        join_one(container, root, place);
+    }
+}
+
+fn join_one<'a, C: Played<'a>>(
+    container: &C,
+    root: &mut C::Root,
+    place: Place<C::Pass, C::Operation>,
+)
+    requires root { (C.reading container.now).is_root root.old }
+    requires place { (name : Named) × Shows (C.reading container.now) place name }
+    ensures root { (C.reading container.now).is_root root.new }
+    ensures joined { (name : Named) → Shows (C.reading container.now) place name
+        → JoinsOne ((C.reading container.now).root root.old) name ((C.reading container.now).root root.new) }
+{
+    match place {
+        Place::Nobody => {}
+        Place::Resting(pass) => container.join(root, pass),
+        Place::Acting(_) => {}
+    }
+}
+
+/// Ends the container, and answers the values that are left.
+pub fn finish<'a, C: Played<'a>>(
+    alloc: Global,
+    container: C,
+    stage: Stage<C::Root, C::Pass, C::Operation>,
+) -> Result<ValueList<'a>, AllocError>
+    requires { (world : World) × IsOn (C.reading container) stage world }
+    ensures { (world : World) → IsOn (C.reading container) stage world
+        → IfOk result (Ends (C.reading container).shape world) }
+{
+    let Stage { mut root, places } = stage;
+    join_all(&container, &mut root, places);
+    values_left(alloc, container.finish(root))
+}
+
+/// The values that are left, in their order.
+fn values_left<'a, L: Leaving<Value<'a>> + Drop>(
+    alloc: Global,
+    rest: L,
+) -> Result<ValueList<'a>, AllocError>
+    ensures { IfOk result (λ values. values ≡ L.left rest) }
+{
+    let mut rest = rest;
+    let mut values = ValueList::new(alloc);
+    while let Some(value) = rest.next() {
+        values.push(value)?;
+    }
+    Ok(values)
+}
