@@ -1,6 +1,7 @@
 //! Tests of the containers that need none of their private names. Of any container: what a value
 //! must go through as in the test suites of crossbeam-queue's `ArrayQueue` and of Boost.Lockfree,
-//! in our own words. Of the stack beside these: single steps, ranges, folds.
+//! in our own words. Beside these the single steps of the stack and of the queue, and the stack's
+//! ranges and folds.
 #![tactic(auto)]
 
 #[cfg(test)]
@@ -15,6 +16,8 @@ mod pool;
 mod queue;
 #[cfg(test)]
 mod queue_steps;
+#[cfg(test)]
+mod queue_stops;
 #[cfg(test)]
 mod stack;
 #[cfg(test)]
