@@ -19,7 +19,7 @@ mod outcome;
 mod output;
 mod relaying;
 mod replaying;
-mod running;
+mod session;
 mod tool_fault;
 mod words;
 
@@ -29,6 +29,6 @@ pub use fault::ReplayFault;
 pub use input::MAX_READS;
 pub use relaying::relay_main;
 pub use replaying::replay;
-pub use running::{OpenFiles, run};
+pub use session::{OpenFiles, run};
 pub use tool_fault::ToolFault;
 pub use words::{Chosen, Kind, RelayArgs, WordsRefused, read_words};
