@@ -3,4 +3,5 @@ pub mod Answering
 pub mod Fronts
 pub mod Outcomes
 pub mod Readers
+pub mod Sources
 pub mod Writing

@@ -26,7 +26,7 @@ pub record IsInRange (args : RelayArgs) : Type 0 where
 abbrev pub AreInRange : Chosen → Type 0
 AreInRange (Replay file) = Unit {0}
 AreInRange (Relay args files) = IsInRange args × (1 ≤ length files.items) × (length files.items ≤ MAX_FILES)
-AreInRange (Measured args files) = AreInRange (Relay args files)
+AreInRange (Measured args files) = IsInRange args × (1 ≤ length files.items) × (length files.items ≤ MAX_FILES)
 
 -- the program is to tell of a relay on standard error
 abbrev pub IsTold : Chosen → Type 0
