@@ -19,6 +19,7 @@ mod ending;
 mod giving;
 mod looking;
 mod making;
+mod places;
 mod putting;
 mod queue;
 mod rest;
@@ -34,6 +35,7 @@ mod whole_take;
 
 pub use closing::CloseOp;
 pub use looking::LookOp;
+pub use places::queue_places;
 pub use putting::PutOp;
 pub use queue::{Pass, Queue, Root};
 pub use rest::Rest;
