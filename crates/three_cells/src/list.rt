@@ -10,8 +10,8 @@ use crate::rule::{Fresh, Three};
 use crate::view::View;
 use atomic_table::{Seat, Table};
 use index_list::{
-    Front, keep_link, load_link, load_top, move_out, put_in, store_link, try_give, try_give_chain, try_mark,
-    try_shut, try_take, try_take_all,
+    Front, keep_link, load_link, load_top, move_out, put_in, store_link, try_give, try_give_chain,
+    try_mark, try_shut, try_take, try_take_all,
 };
 use std::alloc::{AllocError, Global};
 use tagged_index::{NULL, Tagged};

@@ -7,7 +7,7 @@ use Rattle.ms_queue.proofs.Runs.{put_ran}
 use Rattle.ms_queue.proofs.queue.Queue.put_run.Goals as goal
 
 pub returns-in_default-at : goal.returns-in_default-at
-returns-in_default-at g c = λ x is. 
+returns-in_default-at g c = λ x is.
     let q = c.args.self.now in
     let i0 = is in
     let b0 : begun_of q c.args.by ≡ begun_of q c.args.by = refl in
@@ -15,7 +15,7 @@ returns-in_default-at g c = λ x is.
     (t.0, t.1.0 ∙ b0)
 
 pub returns-in_default : goal.returns-in_default
-returns-in_default g c = λ x is. 
+returns-in_default g c = λ x is.
     let q = c.args.self.now in
     let i0 = is in
     let b0 : begun_of q c.args.by ≡ begun_of q c.args.by = refl in
@@ -32,7 +32,7 @@ put_load_cell_link-requires g c = let x = c.requires.0 in let is = c.requires.1 
     (x, i1)
 
 pub returns-in_default-at-2 : goal.returns-in_default-at-2
-returns-in_default-at-2 g c = λ x is. 
+returns-in_default-at-2 g c = λ x is.
     let q = c.args.self.now in
     let i0 = is in
     let b0 : begun_of q c.args.by ≡ begun_of q c.args.by = refl in
@@ -43,7 +43,7 @@ returns-in_default-at-2 g c = λ x is.
     (t.0, t.1.0 ∙ b1)
 
 pub returns-in_default-put_load_cell_link : goal.returns-in_default-put_load_cell_link
-returns-in_default-put_load_cell_link g c = λ x is. 
+returns-in_default-put_load_cell_link g c = λ x is.
     let q = c.args.self.now in
     let i0 = is in
     let b0 : begun_of q c.args.by ≡ begun_of q c.args.by = refl in
@@ -66,7 +66,7 @@ put_take_cell-requires g c = let x = c.requires.0 in let is = c.requires.1 in
     (x, i2)
 
 pub returns-in_default-at-3 : goal.returns-in_default-at-3
-returns-in_default-at-3 g c = λ x is. 
+returns-in_default-at-3 g c = λ x is.
     let q = c.args.self.now in
     let i0 = is in
     let b0 : begun_of q c.args.by ≡ begun_of q c.args.by = refl in
@@ -80,7 +80,7 @@ returns-in_default-at-3 g c = λ x is.
     (t.0, t.1.0 ∙ b2)
 
 pub returns-in_default-put_take_cell : goal.returns-in_default-put_take_cell
-returns-in_default-put_take_cell g c = λ x is. 
+returns-in_default-put_take_cell g c = λ x is.
     let q = c.args.self.now in
     let i0 = is in
     let b0 : begun_of q c.args.by ≡ begun_of q c.args.by = refl in
@@ -109,7 +109,7 @@ put_run_node-requires g c = let x = c.requires.0 in let is = c.requires.1 in
     (x, i3)
 
 pub returns : goal.returns
-returns g c = λ x is. 
+returns g c = λ x is.
     let q = c.args.self.now in
     let i0 = is in
     let b0 : begun_of q c.args.by ≡ begun_of q c.args.by = refl in

@@ -6,7 +6,7 @@ use Rattle.ms_queue.proofs.Runs.{put_ran}
 use Rattle.ms_queue.proofs.queue.Queue.put_run_seek.Goals as goal
 
 pub returns-in_default-at : goal.returns-in_default-at
-returns-in_default-at g c = λ x is. 
+returns-in_default-at g c = λ x is.
     let q = c.args.self.now in
     let i0 = is in
     let b0 : begun_of q c.args.by ≡ begun_of q c.args.by = refl in
@@ -14,7 +14,7 @@ returns-in_default-at g c = λ x is.
     (t.0, t.1.0 ∙ b0)
 
 pub returns-in_default : goal.returns-in_default
-returns-in_default g c = λ x is. 
+returns-in_default g c = λ x is.
     let q = c.args.self.now in
     let i0 = is in
     let b0 : begun_of q c.args.by ≡ begun_of q c.args.by = refl in
@@ -31,7 +31,7 @@ put_seek-requires-2 g c = let x = c.requires.0 in let is = c.requires.1 in
     (x, i1)
 
 pub returns-in_default-at-2 : goal.returns-in_default-at-2
-returns-in_default-at-2 g c = λ x is. 
+returns-in_default-at-2 g c = λ x is.
     let q = c.args.self.now in
     let i0 = is in
     let b0 : begun_of q c.args.by ≡ begun_of q c.args.by = refl in
@@ -42,7 +42,7 @@ returns-in_default-at-2 g c = λ x is.
     (t.0, t.1.0 ∙ b1)
 
 pub returns-in_default-put_seek : goal.returns-in_default-put_seek
-returns-in_default-put_seek g c = λ x is. 
+returns-in_default-put_seek g c = λ x is.
     let q = c.args.self.now in
     let i0 = is in
     let b0 : begun_of q c.args.by ≡ begun_of q c.args.by = refl in
@@ -65,7 +65,7 @@ put_seek-requires-3 g c = let x = c.requires.0 in let is = c.requires.1 in
     (x, i2)
 
 pub returns-in_default-at-3 : goal.returns-in_default-at-3
-returns-in_default-at-3 g c = λ x is. 
+returns-in_default-at-3 g c = λ x is.
     let q = c.args.self.now in
     let i0 = is in
     let b0 : begun_of q c.args.by ≡ begun_of q c.args.by = refl in
@@ -79,7 +79,7 @@ returns-in_default-at-3 g c = λ x is.
     (t.0, t.1.0 ∙ b2)
 
 pub returns-in_default-put_seek-2 : goal.returns-in_default-put_seek-2
-returns-in_default-put_seek-2 g c = λ x is. 
+returns-in_default-put_seek-2 g c = λ x is.
     let q = c.args.self.now in
     let i0 = is in
     let b0 : begun_of q c.args.by ≡ begun_of q c.args.by = refl in
@@ -108,7 +108,7 @@ put_link_next-requires g c = let x = c.requires.0 in let is = c.requires.1 in
     (x, i3)
 
 pub returns-in_default-at-4 : goal.returns-in_default-at-4
-returns-in_default-at-4 g c = λ x is. 
+returns-in_default-at-4 g c = λ x is.
     let q = c.args.self.now in
     let i0 = is in
     let b0 : begun_of q c.args.by ≡ begun_of q c.args.by = refl in
@@ -125,7 +125,7 @@ returns-in_default-at-4 g c = λ x is.
     (t.0, t.1.0 ∙ b3)
 
 pub returns-in_default-put_link_next : goal.returns-in_default-put_link_next
-returns-in_default-put_link_next g c = λ x is. 
+returns-in_default-put_link_next g c = λ x is.
     let q = c.args.self.now in
     let i0 = is in
     let b0 : begun_of q c.args.by ≡ begun_of q c.args.by = refl in
@@ -160,7 +160,7 @@ put_swing_tail-requires g c = let x = c.requires.0 in let is = c.requires.1 in
     (x, i4)
 
 pub returns : goal.returns
-returns g c = λ x is. 
+returns g c = λ x is.
     let q = c.args.self.now in
     let i0 = is in
     let b0 : begun_of q c.args.by ≡ begun_of q c.args.by = refl in

@@ -6,7 +6,7 @@ use Rattle.ms_queue.proofs.Runs.{take_ran}
 use Rattle.ms_queue.proofs.queue.Queue.take_run_free.Goals as goal
 
 pub returns-in_default-at : goal.returns-in_default-at
-returns-in_default-at g c = let is = c.requires in 
+returns-in_default-at g c = let is = c.requires in
     let q = c.args.self.now in
     let i0 = is in
     let b0 : begun_of q c.args.by ≡ begun_of q c.args.by = refl in
@@ -14,7 +14,7 @@ returns-in_default-at g c = let is = c.requires in
     (t.0, t.1.0 ∙ b0)
 
 pub returns-in_default : goal.returns-in_default
-returns-in_default g c = let is = c.requires in 
+returns-in_default g c = let is = c.requires in
     let q = c.args.self.now in
     let i0 = is in
     let b0 : begun_of q c.args.by ≡ begun_of q c.args.by = refl in
@@ -31,7 +31,7 @@ take_give_back-requires-2 g c = let is = c.requires in
     i1
 
 pub returns-in_default-at-2 : goal.returns-in_default-at-2
-returns-in_default-at-2 g c = let is = c.requires in 
+returns-in_default-at-2 g c = let is = c.requires in
     let q = c.args.self.now in
     let i0 = is in
     let b0 : begun_of q c.args.by ≡ begun_of q c.args.by = refl in
@@ -42,7 +42,7 @@ returns-in_default-at-2 g c = let is = c.requires in
     (t.0, t.1.0 ∙ b1)
 
 pub returns-in_default-take_give_back : goal.returns-in_default-take_give_back
-returns-in_default-take_give_back g c = let is = c.requires in 
+returns-in_default-take_give_back g c = let is = c.requires in
     let q = c.args.self.now in
     let i0 = is in
     let b0 : begun_of q c.args.by ≡ begun_of q c.args.by = refl in
@@ -65,7 +65,7 @@ take_give_back-requires-3 g c = let is = c.requires in
     i2
 
 pub returns : goal.returns
-returns g c = let is = c.requires in 
+returns g c = let is = c.requires in
     let q = c.args.self.now in
     let i0 = is in
     let b0 : begun_of q c.args.by ≡ begun_of q c.args.by = refl in

@@ -7,7 +7,7 @@ use Rattle.ms_queue.proofs.Runs.{take_ran}
 use Rattle.ms_queue.proofs.queue.Queue.take_run_give.Goals as goal
 
 pub returns-in_default-at : goal.returns-in_default-at
-returns-in_default-at g c = let is = c.requires in 
+returns-in_default-at g c = let is = c.requires in
     let q = c.args.self.now in
     let i0 = is in
     let b0 : begun_of q c.args.by ≡ begun_of q c.args.by = refl in
@@ -15,7 +15,7 @@ returns-in_default-at g c = let is = c.requires in
     (t.0, t.1.0 ∙ b0)
 
 pub returns-in_default : goal.returns-in_default
-returns-in_default g c = let is = c.requires in 
+returns-in_default g c = let is = c.requires in
     let q = c.args.self.now in
     let i0 = is in
     let b0 : begun_of q c.args.by ≡ begun_of q c.args.by = refl in
@@ -32,7 +32,7 @@ take_give_back-requires-2 g c = let is = c.requires in
     i1
 
 pub returns-in_default-at-2 : goal.returns-in_default-at-2
-returns-in_default-at-2 g c = let is = c.requires in 
+returns-in_default-at-2 g c = let is = c.requires in
     let q = c.args.self.now in
     let i0 = is in
     let b0 : begun_of q c.args.by ≡ begun_of q c.args.by = refl in
@@ -43,7 +43,7 @@ returns-in_default-at-2 g c = let is = c.requires in
     (t.0, t.1.0 ∙ b1)
 
 pub returns-in_default-take_give_back : goal.returns-in_default-take_give_back
-returns-in_default-take_give_back g c = let is = c.requires in 
+returns-in_default-take_give_back g c = let is = c.requires in
     let q = c.args.self.now in
     let i0 = is in
     let b0 : begun_of q c.args.by ≡ begun_of q c.args.by = refl in
@@ -66,7 +66,7 @@ take_give_back-requires-3 g c = let is = c.requires in
     i2
 
 pub returns-in_default-at-3 : goal.returns-in_default-at-3
-returns-in_default-at-3 g c = let is = c.requires in 
+returns-in_default-at-3 g c = let is = c.requires in
     let q = c.args.self.now in
     let i0 = is in
     let b0 : begun_of q c.args.by ≡ begun_of q c.args.by = refl in
@@ -80,7 +80,7 @@ returns-in_default-at-3 g c = let is = c.requires in
     (t.0, t.1.0 ∙ b2)
 
 pub returns-in_default-take_give_back-2 : goal.returns-in_default-take_give_back-2
-returns-in_default-take_give_back-2 g c = let is = c.requires in 
+returns-in_default-take_give_back-2 g c = let is = c.requires in
     let q = c.args.self.now in
     let i0 = is in
     let b0 : begun_of q c.args.by ≡ begun_of q c.args.by = refl in
@@ -109,7 +109,7 @@ take_run_free-requires g c = let is = c.requires in
     i3
 
 pub returns : goal.returns
-returns g c = let is = c.requires in 
+returns g c = let is = c.requires in
     let q = c.args.self.now in
     let i0 = is in
     let b0 : begun_of q c.args.by ≡ begun_of q c.args.by = refl in

@@ -26,4 +26,4 @@ pub returns-in_default : goal.returns-in_default
 returns-in_default g c = λ call begun.
     let q = c.args.on.now in
     let op = c.args.self in
-    put_ran q op.pass call.1 begun.1 call.0 op.operation c.in_default.at c.step.result (c.step.ensures call.0 (subst (λ a. IsPuttingAt q call.0 op.operation op.pass a) c.in_default.at-is begun.0))
+    put_ran q op.pass call.1 begun.1 call.0 op.operation op.at c.step.result (c.step.ensures call.0 begun.0)
