@@ -1,5 +1,5 @@
 -- Machines that are nearly the queue's, and for each a schedule in which it breaks the law.
-use Rattle.std.proofs.Common.{◌≡◌, ⊎_elim, ℕ, ◌+◌, if◌then◌else◌, ◌==◌, true, List, [], ◌∷◌, ◌++◌, map, replicate, length, refl, sym, ap, None, arith}
+use Rattle.std.proofs.Common.{◌≡◌, ⊎_elim, ℕ, ◌+◌, ◌<◌, if◌then◌else◌, ◌==◌, true, List, [], ◌∷◌, ◌++◌, map, replicate, length, refl, sym, ap, Some, None, Option as Slot, arith}
 use Rattle.std.proofs.lemmas.Bool.{false≢true}
 use mathlib.Core.Option.{Option, none, some}
 use lib.ListN.{get_elem?}
@@ -186,6 +186,25 @@ dummy_free-unlawful law = twice law.lists.nodes law.once.free_nodes (law.once.no
     twice : (list : List ℕ) → Stands dummy_free.memory.nlink 1 list → times 1 list + times 1 (1 ∷ law.lists.behind) + 0 ≡ 1 → ⊥
     twice [] s e = absurd (omega (arith, s))
     twice (i ∷ is) s e = absurd (omega (arith, e, ap (λ (k : ℕ). times 1 (k ∷ is)) s.0))
+
+-- A take leaves its value in the cell, and so does the give: the cell is free and not empty
+abbrev leaves_values : Steps
+leaves_values m p (TakeHead h y k) = let o = step (shape 1 15) m p (TakeHead h y k) in record o { memory = record o.memory { home = m.home } }
+leaves_values m p (GiveCell give w) = let o = step (shape 1 15) m p (GiveCell give w) in record o { memory = record o.memory { home = m.home } }
+leaves_values m p l = step (shape 1 15) m p l
+
+abbrev left_there : State ℕ
+left_there = runs leaves_values (puts 0 10 ++ steps 0 14 ++ takes 0 ++ steps 0 12) (first_state 1 1)
+
+left_there-unlawful : ¬ Lawful ℕ 1 15 left_there
+left_there-unlawful law = free law.lists.cells law.once.free_cells (law.once.empty 0)
+  where
+    full : ◌≡◌ {A = Option (Slot ℕ)} (some (Some 10)) (some None) → ⊥
+    full e = cc
+
+    free : (list : List ℕ) → Stands left_there.memory.clink 0 list → (0 < times 0 list → left_there.memory.home 0 ≡ some None) → ⊥
+    free [] s empty = absurd (omega (arith, s))
+    free (i ∷ is) s empty = full (empty (omega (arith, ap (λ (k : ℕ). times 0 (k ∷ is)) s.0, times_here 0 is)))
 
 -- A take leaves out the comparison with the tail, so the head overtakes it
 abbrev overtakes_tail : Steps
