@@ -20,25 +20,25 @@ impl<'a, C: Ranges<'a>> Played<'a> for C {
     type Rest = <C as Container<Value<'a>>>::Rest;
 
     ghost reading = { λ c. record {
-        shape = C.shape c;
-        is_root = C.is_root c;
-        root = C.root;
-        is_pass = C.is_pass c;
-        pass = C.pass;
-        is_making = IsMaking (record {
-            is_putting = C.is_putting c;
-            is_taking = C.is_taking c;
-            is_closing = C.is_closing c;
-            is_shutting = C.is_shutting c;
-            is_looking = C.is_looking c;
-        });
-        made = made_in (record {
-            putting = C.putting;
-            taking = C.taking;
-            closing = C.closing;
-            shutting = C.shutting;
-            looking = C.looking;
-        });
+      shape = C.shape c;
+      is_root = C.is_root c;
+      root = C.root;
+      is_pass = C.is_pass c;
+      pass = C.pass;
+      is_making = IsMaking (record {
+        is_putting = C.is_putting c;
+        is_taking = C.is_taking c;
+        is_closing = C.is_closing c;
+        is_shutting = C.is_shutting c;
+        is_looking = C.is_looking c;
+      });
+      made = made_in (record {
+        putting = C.putting;
+        taking = C.taking;
+        closing = C.closing;
+        shutting = C.shutting;
+        looking = C.looking;
+      });
     } };
 
     fn split(&self, parent: &mut Self::Root) -> Option<Self::Pass> {
