@@ -3,4 +3,3 @@ pub mod Inputs
 pub mod Outcome
 pub mod Ranges
 pub mod Relaying
-pub mod Replies
