@@ -18,6 +18,7 @@ mod ending;
 mod giving;
 mod looking;
 mod making;
+mod places;
 mod putting;
 mod queue;
 mod rest;
@@ -29,6 +30,7 @@ mod taking;
 
 pub use closing::CloseOp;
 pub use looking::LookOp;
+pub use places::queue_places;
 pub use putting::PutOp;
 pub use queue::{Pass, Queue, Root};
 pub use rest::Rest;

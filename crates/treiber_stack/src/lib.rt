@@ -20,6 +20,7 @@ mod layout;
 mod making;
 mod operation;
 mod pause;
+mod places;
 mod putting;
 mod ranging;
 mod rest;
@@ -30,6 +31,7 @@ mod stepwise;
 mod taking;
 
 pub use closing::{CloseOp, ShutOp};
+pub use places::stack_places;
 pub use putting::PutOp;
 pub use rest::Rest;
 pub use stack::{Pass, Root, Stack};

@@ -18,6 +18,7 @@ use Rattle.queue_machine.specs.declared.lines.Call.TheVariants.{Put as CallPut, 
 use Rattle.machine.specs.Schedule.{Act, Begin, Step, run, start}
 use Rattle.queue_machine.specs.Machine.{Memory, Pass, State, Outcome, queue, step, held_cells, held_nodes, found_back, frees, after_free, after_clink, after_nlink, goes_on, wins, wins_value, null_word, with_cell, with_node, after_node_give, after_next, after_take, ends, next_of}
 use Rattle.queue_machine.specs.Answers.{shape}
+use Rattle.queue_machine.specs.Places.{NothingTwice}
 use Rattle.step_core.specs.queue.Law.{Lawful}
 
 -- how a machine makes a step, in place of the queue's
@@ -69,6 +70,14 @@ two_hands_on_it = refl
 cell_held_twice-unlawful : ¬ Lawful ℕ 3 15 cell_held_twice
 cell_held_twice-unlawful law = once (times 1 law.lists.cells) (times 1 (map cell_held_twice.memory.cell law.lists.behind)) (law.once.cells 1)
 
+cell_held_by_two : ¬ NothingTwice 3 cell_held_twice.memory (map (λ (v : Pass ℕ). v.line) cell_held_twice.passes)
+cell_held_by_two apart = absurd (omega (
+  arith,
+  apart.cells.one_hand 1
+      (record { pass = 1; line = _; at = refl; has = omega arith })
+      (record { pass = 2; line = _; at = refl; has = omega arith }),
+))
+
 -- A node is taken and `NODES` keeps its tag: pass 0 has read node 1 and its link, node 2; node 2 goes
 -- to pass 2, node 1 goes out and comes back, and pass 0's exchange wins. So node 2 is free while pass 2
 -- holds it, and pass 1 takes it a second time
@@ -86,6 +95,14 @@ two_hands = refl
 
 held_twice-unlawful : ¬ Lawful ℕ 3 15 held_twice
 held_twice-unlawful law = once (times 2 law.lists.nodes) (times 2 (held_twice.memory.head.index ∷ law.lists.behind)) (law.once.nodes 2)
+
+held_by_two : ¬ NothingTwice 3 held_twice.memory (map (λ (v : Pass ℕ). v.line) held_twice.passes)
+held_by_two apart = absurd (omega (
+  arith,
+  apart.nodes.one_hand 2
+      (record { pass = 1; line = _; at = refl; has = omega arith })
+      (record { pass = 2; line = _; at = refl; has = omega arith }),
+))
 
 -- A value is taken and the head keeps its tag: the take's number comes again
 abbrev takes_with_old_tag : Steps

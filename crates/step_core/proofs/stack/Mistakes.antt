@@ -1,5 +1,5 @@
 -- Machines that are nearly the stack's, and for each a schedule in which it breaks the law.
-use Rattle.std.proofs.Common.{◌≡◌, ℕ, ◌+◌, ◌==◌, if◌then◌else◌, true, false, List, [], ◌∷◌, ◌++◌, replicate, refl, sym, ap, ◌∙◌, arith, Some, None, Option as Slot}
+use Rattle.std.proofs.Common.{◌≡◌, ℕ, ◌+◌, ◌==◌, if◌then◌else◌, true, false, List, [], ◌∷◌, ◌++◌, map, replicate, refl, sym, ap, ◌∙◌, arith, Some, None, Option as Slot}
 use Rattle.std.proofs.lemmas.Bool.{false≢true}
 use mathlib.Core.Option.{Option, none, some}
 use Rattle.tagged_index.specs.declared.word.TheConstants.{NULL}
@@ -17,7 +17,8 @@ use Rattle.stack_machine.specs.declared.lines.Call.{Call}
 use Rattle.stack_machine.specs.Machine.{Memory, Pass, State, Outcome, stack, step, held, goes_on, wins, wins_value, after_hold, after_store, at_take_free, at_load_top, at_load_top_to_take, ends}
 use Rattle.machine.specs.Chains.{with_home, HasValues}
 use Rattle.stack_machine.specs.Answers.{shape}
-use Rattle.step_core.specs.stack.Law.{Lawful, NoNodeTwice}
+use Rattle.step_core.specs.stack.Law.{Lawful}
+use Rattle.stack_machine.specs.Places.{NoNodeTwice}
 use Rattle.machine.proofs.OneList.{none_there}
 
 -- how a machine makes a step, in place of the stack's
@@ -65,8 +66,13 @@ held_twice-unlawful law = once (times 1 law.frees) (times 1 law.stack) (law.once
     once : (a b : ℕ) → a + b + 2 ≡ 1 → ⊥
     once a b e = absurd (omega arith)
 
-held_by_two : ¬ NoNodeTwice held_twice
-held_by_two apart = apart.held_by_two 1 1 2 _ _ (λ e. absurd (omega (arith, e))) refl refl (omega arith) (omega arith)
+held_by_two : ¬ NoNodeTwice 3 held_twice.memory (map (λ (v : Pass ℕ). v.line) held_twice.passes)
+held_by_two apart = absurd (omega (
+  arith,
+  apart.nodes.one_hand 1
+      (record { pass = 1; line = _; at = refl; has = omega arith })
+      (record { pass = 2; line = _; at = refl; has = omega arith }),
+))
 
 -- A value is taken and the top keeps its tag: the take's number comes again
 abbrev keeps : Memory ℕ → Tagged → ℕ → Outcome ℕ → Outcome ℕ

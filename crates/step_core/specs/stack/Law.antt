@@ -1,5 +1,5 @@
 -- What the stack's machine keeps in every schedule.
-use Rattle.std.specs.Prelude.{◌≡◌, ◌≢◌, ℕ, ◌+◌, ◌<◌, ◌≤◌, ltb, if◌then◌else◌, List, length, Some, None}
+use Rattle.std.specs.Prelude.{◌≡◌, ℕ, ◌+◌, ◌<◌, ◌≤◌, ltb, if◌then◌else◌, List, length, Some, None}
 use mathlib.Core.Option.{some}
 use lib.ListN.{get_elem?}
 use Rattle.bounded_model.specs.Machine.{Shape, Legal}
@@ -42,25 +42,6 @@ pub record Lawful (T : Type 0) (n limit : ℕ) (s : State T) : Type 0 where
   pub knows : (p : ℕ) (v : Pass T) → IsPass s p v → Knows p v s.history
   pub answered : (p : ℕ) (v : Pass T) (a : Answer T) → IsPass s p v → v.line ≡ Idle (Some a) →
       IsRight n limit v.begun v.seen a
-
--- node i is one of these
-abbrev pub Has : List ℕ → ℕ → Type 0
-Has nodes i = 0 < times i nodes
-
--- No node is in two places: not free and on the stack, not on one of them and in a hand, and not in the
--- hands of two passes
-pub record NoNodeTwice {T : Type 0} (s : State T) : Type 0 where
-  pub frees : List ℕ
-  pub stack : List ℕ
-  pub free_stands : Stands s.memory.link s.memory.free.index frees
-  pub top_stands : Stands s.memory.link s.memory.top.index stack
-  pub free_and_stacked : (i : ℕ) → Has frees i → Has stack i → ⊥
-  pub free_and_held : (i p : ℕ) (v : Pass T) → IsPass s p v →
-      Has frees i → Has (held v.line) i → ⊥
-  pub stacked_and_held : (i p : ℕ) (v : Pass T) → IsPass s p v →
-      Has stack i → Has (held v.line) i → ⊥
-  pub held_by_two : (i p q : ℕ) (v u : Pass T) → p ≢ q → IsPass s p v → IsPass s q u →
-      Has (held v.line) i → Has (held u.line) i → ⊥
 
 -- a pass has answered the call that its operation was begun with, and has done what it answered
 pub record HasAnswered {T : Type 0} (c : Shape) (p : ℕ) (v : Pass T) (a : Answer T) : Type 0 where
