@@ -1,7 +1,7 @@
 use Rattle.std.proofs.Common.{arith, refl}
 use Rattle.std.proofs.lemmas.List.Elements.{All-rest}
 use Rattle.relay.proofs.Joins.{Joining_more}
-use Rattle.relay.proofs.running.join_takers.Goals as goal
+use Rattle.relay.proofs.running.join_done.Goals as goal
 
 pub loop-one-preserved : goal.loop-one-preserved
 loop-one-preserved g c =
