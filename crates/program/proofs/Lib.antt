@@ -1,5 +1,4 @@
 pub mod AllDelivered
-pub mod Answering
 pub mod Fronts
 pub mod Outcomes
 pub mod Readers

@@ -4,6 +4,5 @@ pub mod Measuring
 pub mod Outcome
 pub mod Ranges
 pub mod Relaying
-pub mod Replies
 pub mod Sources
 pub mod Stats
