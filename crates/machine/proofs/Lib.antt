@@ -11,3 +11,4 @@ pub mod Seating
 pub mod SeatedEnds
 pub mod SeatedCalls
 pub mod Ahead
+pub mod Places

@@ -5,3 +5,4 @@ pub mod Schedule
 pub mod Bound
 pub mod Seen
 pub mod Seats
+pub mod Places

@@ -12,4 +12,5 @@ pub mod Tells
 pub mod Doing
 pub mod Raises
 pub mod Seats
+pub mod Places
 pub mod Start

@@ -19,6 +19,7 @@ use Rattle.queue_machine.specs.Machine.{Memory, is_idle, held_cells, held_nodes,
 use Rattle.queue_machine.specs.Answers.{shape, state}
 use Rattle.queue_machine.specs.Rule.{Lists, IsFine, bare, wanting, putting, Tells, Good, Kept}
 use Rattle.queue_machine.specs.Deeds.{Deeds}
+use Rattle.queue_machine.proofs.Places.{wins_unheld}
 use Rattle.queue_machine.proofs.StepKinds.{Alike, steady, good_goes}
 use Rattle.queue_machine.proofs.Step.{step_kept}
 use Rattle.queue_machine.proofs.Tells.{tells_kept, step_apart}
@@ -188,6 +189,7 @@ module _ {T : Type 0} (n limit : ℕ) where
     tells = λ m of lines h q l p b k e before saw t. tells_kept k.good q p.number b p.seen before saw.seen l e t;
     first_deeds = λ p h o. begins p h (call_of o);
     first_tells = first_tells n limit;
+    unheld = λ m of lines h q p l k e. wins_unheld k.good q p l e;
     does = λ words homes of lines h q p l sane k e is. does n limit words homes sane p of lines h q k is l e;
   }
 

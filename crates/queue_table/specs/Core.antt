@@ -6,6 +6,7 @@ use Rattle.queue_machine.specs.Machine.{Memory, step, held_cells}
 use Rattle.queue_machine.specs.Answers.{shape}
 use Rattle.queue_machine.specs.Rule.{Kept, Tells}
 use Rattle.queue_machine.specs.Deeds.{Deeds}
+use Rattle.queue_machine.specs.Places.{WinsUnheld}
 use Rattle.running.specs.Machine.{Core}
 use Rattle.queue_table.specs.declared.operation.Operation.{Operation}
 use Rattle.queue_table.specs.Layout.{next_at}
@@ -27,6 +28,7 @@ core T n limit = record {
   Good = λ m who lines h. Kept T n limit m who lines h;
   Deeds = λ o p l b seen. Deeds p (call_of o) l b seen;
   Tells = λ b seen l. Tells n limit b seen l;
+  WinsUnheld = WinsUnheld;
   read = memory_of;
   Sane = Sane n;
   access = access;

@@ -8,3 +8,4 @@ pub mod Tells
 pub mod Doing
 pub mod Made
 pub mod Start
+pub mod Places

@@ -19,6 +19,7 @@ use Rattle.stack_machine.specs.Answers.{shape, state}
 use Rattle.stack_machine.specs.Rule.{Lists, IsFine, putting, Tells, Good}
 use Rattle.stack_machine.specs.Deeds.{Deeds}
 use Rattle.stack_machine.proofs.Moves.{Kept, good_goes}
+use Rattle.stack_machine.proofs.Places.{wins_unheld}
 use Rattle.stack_machine.proofs.Start.{reads_good}
 use Rattle.stack_machine.proofs.Step.{step_kept}
 use Rattle.stack_machine.proofs.Tells.{tells_kept, step_apart}
@@ -145,6 +146,7 @@ module _ {T : Type 0} (n limit : ℕ) where
     tells = λ m of lines h q l p b k e before saw t. tells_kept k.good p.number b p.seen before saw.seen l t;
     first_deeds = λ p h o. begins (shape n limit) p h (call_of o);
     first_tells = first_tells n limit;
+    unheld = λ m of lines h q p l k e. wins_unheld k.good q p l e;
     does = λ words homes of lines h q p l sane k e is. does n limit words homes sane p of lines h q k l e;
   }
 

@@ -6,6 +6,7 @@ use Rattle.stack_machine.specs.Machine.{Memory, step, held}
 use Rattle.stack_machine.specs.Answers.{shape}
 use Rattle.stack_machine.specs.Rule.{Tells}
 use Rattle.stack_machine.specs.Deeds.{Deeds}
+use Rattle.stack_machine.specs.Places.{WinsUnheld}
 use Rattle.stack_machine.proofs.Moves.{Kept}
 use Rattle.running.specs.Machine.{Core}
 use Rattle.stack_table.specs.declared.operation.Operation.{Operation}
@@ -23,6 +24,7 @@ core T n limit = record {
   Good = λ m who lines h. Kept T n limit m who lines h;
   Deeds = λ o p l b seen. Deeds (shape n limit) p (call_of o) l b seen;
   Tells = λ b seen l. Tells n limit b seen l;
+  WinsUnheld = WinsUnheld;
   read = memory_of;
   Sane = Sane n;
   access = access;

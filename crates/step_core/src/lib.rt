@@ -10,5 +10,5 @@ mod queue_laws;
 mod stack_laws;
 
 pub use list_laws::list_core;
-pub use queue_laws::{queue_answers, queue_bound, queue_core, queue_order};
+pub use queue_laws::{queue_answers, queue_bound, queue_core, queue_nodes, queue_order};
 pub use stack_laws::{stack_answers, stack_bound, stack_core, stack_nodes};

@@ -2,6 +2,7 @@
 use Rattle.std.proofs.Common.{◌≡◌, ℕ, ◌+◌, ◌<◌, ◌≤◌, false, List, [], ◌++◌, refl, sym, ap, ◌∙◌, subst, append_assoc, arith}
 use Rattle.std.proofs.lemmas.Bool.{false≢true}
 use Rattle.std.specs.Prelude.{Option as Slot, Some}
+use mathlib.Core.Option.{some}
 use Rattle.bounded_model.specs.declared.history.Event.{Event}
 use Rattle.bounded_model.specs.declared.views.PassView.{PassView}
 use Rattle.bounded_model.specs.Histories.{Later, own}
@@ -20,6 +21,8 @@ use Rattle.stack_machine.specs.declared.lines.Line.TheVariants.{Idle}
 use Rattle.machine.specs.declared.seats.View.{View}
 use Rattle.machine.specs.declared.seats.View.TheVariants.{AtPass}
 use Rattle.stack_machine.specs.Machine.{Outcome, is_idle, step}
+use Rattle.stack_machine.specs.Places.{WinsUnheld}
+use Rattle.stack_machine.proofs.Places.{wins_unheld}
 use Rattle.stack_machine.specs.Answers.{shape}
 use Rattle.stack_machine.specs.Rule.{Tells}
 use Rattle.stack_machine.specs.Deeds.{Deeds}
@@ -92,14 +95,24 @@ module _ {T : Type 0} where
           seen = subst (λ (p : PassView T). Later p.seen (pass_of v').seen) (sym mine) (subst (λ (p : PassView T). Later d.pass.seen p.seen) (sym now) after);
         }
 
+    met : Meets n limit d.memory d.history d.pass.number l
+    met = subst (Meets n limit d.memory d.history d.pass.number) same_now d.meets
+
+    abbrev met_so : Meets n limit d.memory d.history (pass_of v).number l
+    met_so = record { lists = met.lists; who = met.who; lines = met.lines; seat = met.seat; is = met.is ∙ ap (λ (p : PassView T). some p.number) (sym mine); here = met.here; good = met.good }
+
+    leads_so : (l' : Line T) → d.out.line ≡ l' → (step (shape n limit) d.memory (pass_of v).number l).line ≡ l'
+    leads_so l' e = ap (λ (x : Outcome T). x.line) (sym out_is) ∙ e
+
     line_so : (l' : Line T) → d.out.line ≡ l' → IsLine n limit v v' l l'
     line_so l' e = record {
       memory = d.memory;
       history = d.history;
-      meets = subst (Meets n limit d.memory d.history (pass_of v).number) same_now (subst (λ (p : PassView T). Meets n limit d.memory d.history p.number (line_now o d.at)) (sym mine) d.meets);
+      meets = met_so;
       saw = subst (λ (p : PassView T). Saw d.history p) (sym mine) d.saw;
       seen = ap (λ (x : View T (Line T)). (pass_of x).seen) d.becomes ∙ ap (λ (x : Outcome T). x.events ++ d.history) out_is;
-      leads = ap (λ (x : Outcome T). x.line) (sym out_is) ∙ e;
+      leads = leads_so l' e;
+      unheld = subst (WinsUnheld d.memory met.lines l) (leads_so l' e) (wins_unheld met.good met.seat (pass_of v).number l met.here);
       one = one;
     }
 

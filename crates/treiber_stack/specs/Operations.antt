@@ -16,6 +16,7 @@ use Rattle.stack_machine.specs.Answers.{shape}
 use Rattle.stack_machine.specs.Rule.{Tells}
 use Rattle.stack_machine.specs.Deeds.{Deeds}
 use Rattle.stack_machine.specs.Machine.{Memory, step}
+use Rattle.stack_machine.specs.Places.{WinsUnheld}
 use Rattle.machine.specs.Seats.{Saw, at_rest, pass_of}
 use Rattle.treiber_stack.specs.declared.layout.TheConstants.{TOP}
 use Rattle.treiber_stack.specs.Rule.{idle, Meets}
@@ -56,7 +57,8 @@ module _ {T : Type 0} where
     pub tells : Tells n limit begun.seen (pass_of v).seen (Idle (Some a))
 
   -- A step of a pass, whose view was v and is v', was the core's step of the line l, from a memory and a history that meet the core's rule, and led to l'.
-  -- The pass has now seen that history with the step's events on top, and made one step more
+  -- The pass has now seen that history with the step's events on top, and made one step more. What the step brought into its hand,
+  -- no pass had in hand at that step (`unheld`)
   pub record IsLine (n limit : ℕ) (v v' : View T (Line T)) (l l' : Line T) : Type 0 where
     pub memory : Memory T
     pub history : List (Event T)
@@ -64,6 +66,7 @@ module _ {T : Type 0} where
     pub saw : Saw history (pass_of v)
     pub seen : (pass_of v').seen ≡ (step (shape n limit) memory (pass_of v).number l).events ++ history
     pub leads : (step (shape n limit) memory (pass_of v).number l).line ≡ l'
+    pub unheld : WinsUnheld memory meets.lines l l'
     pub one : OneStep (pass_of v) (pass_of v')
 
   -- an operation that was at l goes on at l', or answers

@@ -9,7 +9,7 @@ use Rattle.tagged_index.specs.declared.word.TheConstants.{NULL}
 use Rattle.machine.specs.Words.{same}
 use Rattle.queue_machine.specs.declared.lines.Seeking.TheVariants.{ToRefuse}
 use Rattle.queue_machine.specs.declared.lines.Line.{Line}
-use Rattle.queue_machine.specs.declared.lines.Line.TheVariants.{LoadCells, LoadNext, PrepareNext, LoadTail, CheckTail, LoadHead, LoadTailToTake, CheckHead, SwingTailToTake, TakeHead, CheckHeadToLook, MarkNext, ShutHead}
+use Rattle.queue_machine.specs.declared.lines.Line.TheVariants.{LoadCells, LoadNext, PrepareNext, LoadTail, CheckTail, SwingTail, LoadHead, LoadTailToTake, CheckHead, SwingTailToTake, TakeHead, CheckHeadToLook, MarkNext, LoadHeadToShut, ShutHead}
 use Rattle.queue_machine.specs.Machine.{queue, Memory, Outcome, step, goes_on, wins_value, ends, found_cells, found_back, back_null, back_closed, found_front}
 use Rattle.step_core.proofs.Scripts.{Fails, calls, begins, steps, answers, begun, again, ended}
 use Rattle.queue_machine.specs.Answers.{shape}
@@ -101,6 +101,43 @@ link_before_tail-fails : Fails (player link_before_tail (shape 2 9))
     (steps a 2, again 3) (ended (Close false) 3)
 link_before_tail-fails = refl
 
+-- and takes null for the end before comparing with the tail: a close marks a node that another put has
+-- in hand
+abbrev null_before_tail : Machines
+null_before_tail s = record (queue s) { step = moves s }
+  where
+    moves : Shape → Memory ℕ → ℕ → Line ℕ → Outcome ℕ
+    moves s m p (CheckTail seek w n) = goes_on m (if n.mark then back_closed seek else if n.index == NULL then back_null seek w n else if same m.tail w then found_back seek w n else LoadTail seek)
+    moves s m p l = step s m p l
+
+null_before_tail-fails : Fails (player null_before_tail (shape 2 9))
+    ((begins a CloseCall, begun)
+    ∷ (steps a 1, again 1)
+    ∷ (calls b (put x), answers (put_is 0))
+    ∷ (calls b take, answers (take_is 0 x))
+    ∷ (begins c (put y), begun)
+    ∷ (steps c 9, again 9)
+    ∷ (steps a 2, again 3)
+    ∷ [])
+    (steps a 20, ended (Close true) 7) (ended (Close true) 4)
+null_before_tail-fails = refl
+
+-- and moves the tail on before comparing with it: it makes an exchange that can only lose
+abbrev node_before_tail : Machines
+node_before_tail s = record (queue s) { step = moves s }
+  where
+    moves : Shape → Memory ℕ → ℕ → Line ℕ → Outcome ℕ
+    moves s m p (CheckTail seek w n) = goes_on m (if n.index == NULL then (if same m.tail w then found_back seek w n else LoadTail seek) else SwingTail seek w n)
+    moves s m p l = step s m p l
+
+node_before_tail-fails : Fails (player node_before_tail (shape 2 9))
+    ((begins a CloseCall, begun)
+    ∷ (steps a 1, again 1)
+    ∷ (calls b (put x), answers (put_is 0))
+    ∷ [])
+    (steps a 20, ended (Close true) 7) (ended (Close true) 8)
+node_before_tail-fails = refl
+
 -- a take that looks whether the queue is shut when it has found a value
 abbrev shut_last : Machines
 shut_last s = record (queue s) { step = moves s }
@@ -183,6 +220,25 @@ tail_before_null-fails : Fails (player tail_before_null (shape 1 15))
     (steps a 4, ended (no_take Empty) 4) (again 4)
 tail_before_null-fails = refl
 
+-- a take that looks where the tail was before it compares with the head: it makes an exchange that can
+-- only lose
+abbrev tail_before_head : Machines
+tail_before_head s = record (queue s) { step = moves s }
+  where
+    moves : Shape → Memory ℕ → ℕ → Line ℕ → Outcome ℕ
+    moves s m p (CheckHead h w n) = goes_on m (if n.index == NULL then (if same m.head h then found_front h w n else LoadHead) else if w.index == h.index then SwingTailToTake w n else if same m.head h then found_front h w n else LoadHead)
+    moves s m p l = step s m p l
+
+tail_before_head-fails : Fails (player tail_before_head (shape 2 9))
+    ((begins c (put x), begun)
+    ∷ (steps c 13, again 13)
+    ∷ (begins a take, begun)
+    ∷ (steps a 3, again 3)
+    ∷ (calls b take, answers (take_is 0 x))
+    ∷ [])
+    (steps a 20, ended (no_take Empty) 8) (ended (no_take Empty) 9)
+tail_before_head-fails = refl
+
 -- a look that answers without comparing with the head
 abbrev link_before_answer : Machines
 link_before_answer s = record (queue s) { step = moves s }
@@ -243,3 +299,19 @@ marks_anyway-shuts : Fails (player marks_anyway (shape 2 7))
     ∷ [])
     (steps a 9, ended (ShutAnswer false) 3) (ended (ShutAnswer true) 2)
 marks_anyway-shuts = refl
+
+-- a shut whose exchange compares no second mark: two passes have shut the queue
+abbrev second_overlooked : Machines
+second_overlooked s = record (queue s) { step = moves s }
+  where
+    moves : Shape → Memory ℕ → ℕ → Line ℕ → Outcome ℕ
+    moves s m p (ShutHead h) = if m.head.index == h.index && m.head.tag == h.tag then step s (record m { head = h }) p (ShutHead h) else goes_on m LoadHeadToShut
+    moves s m p l = step s m p l
+
+second_overlooked-fails : Fails (player second_overlooked (shape 2 7))
+    ((begins a ShutCall, begun)
+    ∷ (steps a 1, again 1)
+    ∷ (calls b ShutCall, answers (ShutAnswer true))
+    ∷ [])
+    (steps a 9, ended (ShutAnswer false) 3) (ended (ShutAnswer true) 2)
+second_overlooked-fails = refl

@@ -123,6 +123,13 @@ looks : Plays (plays (shape 1 7))
     ∷ [])
 looks = refl
 
+-- the largest queue, with the greatest limit
+largest : Plays (plays (shape 1048573 4398046511103))
+    ((calls a (put x), answers (put_is 0))
+    ∷ (calls a take, answers (take_is 0 x))
+    ∷ [])
+largest = refl
+
 -- the tag of the free cells is looked at before the end of the chain
 spent_before_closed : Plays (plays (shape 2 2))
     ((calls a (put x), answers (put_is 0))
@@ -180,6 +187,39 @@ tail_before_link : Plays (plays (shape 2 9))
     ∷ (steps a 20, ended (Close false) 6)
     ∷ [])
 tail_before_link = refl
+
+-- nor a null link, which another put has prepared by now
+tail_before_null_link : Plays (plays (shape 2 9))
+    ((begins a CloseCall, begun)
+    ∷ (steps a 1, again 1)
+    ∷ (calls b (put x), answers (put_is 0))
+    ∷ (calls b take, answers (take_is 0 x))
+    ∷ (begins c (put y), begun)
+    ∷ (steps c 9, again 9)
+    ∷ (steps a 2, again 3)
+    ∷ (steps a 20, ended (Close true) 7)
+    ∷ [])
+tail_before_null_link = refl
+
+-- nor a link to a node: it has nothing to move on
+tail_before_node : Plays (plays (shape 2 9))
+    ((begins a CloseCall, begun)
+    ∷ (steps a 1, again 1)
+    ∷ (calls b (put x), answers (put_is 0))
+    ∷ (steps a 20, ended (Close true) 7)
+    ∷ [])
+tail_before_node = refl
+
+-- a take whose head is gone moves no tail
+head_before_tail : Plays (plays (shape 2 9))
+    ((begins c (put x), begun)
+    ∷ (steps c 13, again 13)
+    ∷ (begins a take, begun)
+    ∷ (steps a 3, again 3)
+    ∷ (calls b take, answers (take_is 0 x))
+    ∷ (steps a 20, ended (no_take Empty) 8)
+    ∷ [])
+head_before_tail = refl
 
 -- a take finds another head, and so takes no link of the old one to be the first
 head_before_link : Plays (plays (shape 2 9))

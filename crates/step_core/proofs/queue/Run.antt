@@ -31,6 +31,8 @@ use Rattle.queue_machine.proofs.Answers.{node_there, node_below}
 use Rattle.queue_machine.proofs.Tells.{tells_kept, step_apart}
 use Rattle.queue_machine.proofs.Doing.{meanwhile, begins, step_does}
 use Rattle.step_core.specs.queue.Bound.{MeetsRule}
+use Rattle.queue_machine.specs.Places.{NothingTwice}
+use Rattle.queue_machine.proofs.Places.{nothing_twice}
 use Rattle.step_core.specs.queue.Law.{Lawful, HasAnswered, AllDone}
 
 module _ {T : Type 0} (n limit : ℕ) where
@@ -157,3 +159,8 @@ module _ {T : Type 0} (n limit : ℕ) where
   pub all_done : (passes : ℕ) (schedule : List (ℕ × Act (Call T))) → 0 < n → n < NULL → 0 < limit → AllDone (run (queue (shape n limit)) schedule (start (queue (shape n limit)) passes))
   all_done passes schedule some_cell small some_tags p v a e idle =
       answered p v a v.call refl (subst (λ (l : Line T). IsDoing p v.call l v.begun v.seen) idle ((run_stays passes schedule some_cell small some_tags).story p v e).1)
+
+  -- between any two acts no cell and no node is in two places
+  pub queue_nodes_once : (passes : ℕ) (schedule : List (ℕ × Act (Call T))) → 0 < n → n < NULL → 0 < limit
+      → (let s = run (queue (shape n limit)) schedule (start (queue (shape n limit)) passes) in NothingTwice n s.memory (map (λ (v : Pass T). v.line) s.passes))
+  queue_nodes_once passes schedule h small some_tags = nothing_twice (run_stays passes schedule h small some_tags).rule.good

@@ -1,5 +1,5 @@
 -- The stack's machine in every schedule.
-use Rattle.std.proofs.Common.{◌≡◌, ℕ, ◌<◌, ◌≤◌, true, false, List, [], length, set, refl, sym, ap, ◌∙◌, subst, arith, Some, None, ◌++◌}
+use Rattle.std.proofs.Common.{◌≡◌, ℕ, ◌<◌, ◌≤◌, true, false, List, [], length, map, set, refl, sym, ap, ◌∙◌, subst, arith, Some, None, ◌++◌}
 use Rattle.std.proofs.lemmas.Bool.{false≢true}
 use mathlib.Core.Option.{Option, none, some}
 use lib.ListN.{get_elem?}
@@ -25,7 +25,9 @@ use Rattle.stack_machine.proofs.Moves.{Kept, good_goes}
 use Rattle.stack_machine.proofs.Step.{step_kept}
 use Rattle.stack_machine.proofs.Tells.{tells_kept, step_apart}
 use Rattle.stack_machine.proofs.Doing.{begins, meanwhile, step_does}
-use Rattle.step_core.specs.stack.Law.{Lawful, NoNodeTwice, HasAnswered, AllDone}
+use Rattle.step_core.specs.stack.Law.{Lawful, HasAnswered, AllDone}
+use Rattle.stack_machine.specs.Places.{NoNodeTwice}
+use Rattle.stack_machine.proofs.Places.{no_node_twice}
 
 module _ {T : Type 0} (n limit : ℕ) where
   -- between any two acts the words, slots and lines are right for the history
@@ -129,18 +131,7 @@ module _ {T : Type 0} (n limit : ℕ) where
       answered none is at = cc
       answered (some call) is at = record { call = call; of = is; done = record { between = at.between; is = at.is; made = at.made; all = at.all } }
 
-  -- in a lawful state no node is in two places
-  pub no_node_twice : (s : State T) → Lawful T n limit s → NoNodeTwice s
-  no_node_twice s law = record {
-    frees = law.frees;
-    stack = law.stack;
-    free_stands = law.free_stands;
-    top_stands = law.top_stands;
-    free_and_stacked = λ i f t. absurd (omega (arith, law.once i, at_most_one i n));
-    free_and_held = λ i p v at f h. absurd (omega (arith, law.once i, at_most_one i n, total_one (λ (u : Pass T). times i (held u.line)) s.passes p v at));
-    stacked_and_held = λ i p v at t h. absurd (omega (arith, law.once i, at_most_one i n, total_one (λ (u : Pass T). times i (held u.line)) s.passes p v at));
-    held_by_two = λ i p q v u ne at at' h h'. absurd (omega (arith, law.once i, at_most_one i n, total_two (λ (w : Pass T). times i (held w.line)) s.passes p q v u (λ e. ne (sym e)) at at'));
-  }
-
-  pub stack_nodes_once : (passes : ℕ) (schedule : List (ℕ × Act (Call T))) → 0 < n → n ≤ NULL → NoNodeTwice (run (stack (shape n limit)) schedule (start (stack (shape n limit)) passes))
-  stack_nodes_once passes schedule h small = no_node_twice (run (stack (shape n limit)) schedule (start (stack (shape n limit)) passes)) (stack_lawful passes schedule h small)
+  -- between any two acts no node is in two places
+  pub stack_nodes_once : (passes : ℕ) (schedule : List (ℕ × Act (Call T))) → 0 < n → n ≤ NULL
+      → (let s = run (stack (shape n limit)) schedule (start (stack (shape n limit)) passes) in NoNodeTwice n s.memory (map (λ (v : Pass T). v.line) s.passes))
+  stack_nodes_once passes schedule h small = no_node_twice (run_stays passes schedule h small).rule.good

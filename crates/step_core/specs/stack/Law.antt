@@ -1,21 +1,32 @@
 -- What the stack's machine keeps in every schedule.
-use Rattle.std.specs.Prelude.{◌≡◌, ◌≢◌, ℕ, ◌+◌, ◌<◌, ◌≤◌, ltb, if◌then◌else◌, List, length, Some, None}
+use Rattle.std.specs.Prelude.{◌≡◌, ℕ, ◌+◌, ◌<◌, ◌≤◌, ltb, if◌then◌else◌, List, length, map, Some, None}
 use mathlib.Core.Option.{some}
 use lib.ListN.{get_elem?}
 use Rattle.bounded_model.specs.Machine.{Shape, Legal}
 use Rattle.machine.specs.Words.{times, total, Stands}
 use Rattle.stack_machine.specs.declared.lines.Answer.{Answer}
 use Rattle.stack_machine.specs.declared.lines.Call.{Call}
+use Rattle.stack_machine.specs.declared.lines.Line.{Line}
 use Rattle.stack_machine.specs.declared.lines.Line.TheVariants.{Idle}
 use Rattle.machine.specs.Chains.{HasValues}
 use Rattle.machine.specs.Seen.{Knows}
 use Rattle.stack_machine.specs.Answers.{shape, state, IsRight}
 use Rattle.stack_machine.specs.Deeds.{HasDone}
 use Rattle.stack_machine.specs.Machine.{Pass, State, held}
+use Rattle.stack_machine.specs.Rule.{Lists, Good}
 
 -- v is pass p
 abbrev pub IsPass : {T : Type 0} → State T → ℕ → Pass T → Type 0
 IsPass s p v = get_elem? s.passes p ≡ some v
+
+-- the lines of all passes
+abbrev pub lines_of : {T : Type 0} → State T → List (Line T)
+lines_of s = map (λ v. v.line) s.passes
+
+-- the rule holds of the words, of the lines of all passes, and of the history
+pub record MeetsRule {T : Type 0} (n limit : ℕ) (s : State T) : Type 0 where
+  pub lists : Lists
+  pub good : Good T n limit s.memory lists some (lines_of s) s.history
 
 -- The history is one of a bounded stack, with room for n values. The words and slots stand for it: the
 -- top for its values, the first mark for closed, the second for shut, the tags for its numbers. Each
@@ -42,25 +53,6 @@ pub record Lawful (T : Type 0) (n limit : ℕ) (s : State T) : Type 0 where
   pub knows : (p : ℕ) (v : Pass T) → IsPass s p v → Knows p v s.history
   pub answered : (p : ℕ) (v : Pass T) (a : Answer T) → IsPass s p v → v.line ≡ Idle (Some a) →
       IsRight n limit v.begun v.seen a
-
--- node i is one of these
-abbrev pub Has : List ℕ → ℕ → Type 0
-Has nodes i = 0 < times i nodes
-
--- No node is in two places: not free and on the stack, not on one of them and in a hand, and not in the
--- hands of two passes
-pub record NoNodeTwice {T : Type 0} (s : State T) : Type 0 where
-  pub frees : List ℕ
-  pub stack : List ℕ
-  pub free_stands : Stands s.memory.link s.memory.free.index frees
-  pub top_stands : Stands s.memory.link s.memory.top.index stack
-  pub free_and_stacked : (i : ℕ) → Has frees i → Has stack i → ⊥
-  pub free_and_held : (i p : ℕ) (v : Pass T) → IsPass s p v →
-      Has frees i → Has (held v.line) i → ⊥
-  pub stacked_and_held : (i p : ℕ) (v : Pass T) → IsPass s p v →
-      Has stack i → Has (held v.line) i → ⊥
-  pub held_by_two : (i p q : ℕ) (v u : Pass T) → p ≢ q → IsPass s p v → IsPass s q u →
-      Has (held v.line) i → Has (held u.line) i → ⊥
 
 -- a pass has answered the call that its operation was begun with, and has done what it answered
 pub record HasAnswered {T : Type 0} (c : Shape) (p : ℕ) (v : Pass T) (a : Answer T) : Type 0 where

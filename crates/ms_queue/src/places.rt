@@ -1,0 +1,20 @@
+//! That no cell and no node is in two places.
+ghost use Rattle.std.specs.Prelude.{ℕ, map, Option as Slot};
+ghost use Rattle.atomic_table.specs.Table.{State};
+ghost use Rattle.machine.specs.declared.seats.View.{View};
+ghost use Rattle.queue_machine.specs.declared.lines.Line.{Line};
+ghost use Rattle.queue_machine.specs.Places.{NothingTwice};
+ghost use Rattle.queue_table.specs.Lines.{names};
+ghost use Rattle.queue_table.specs.Memories.{memory_of};
+ghost use Rattle.queue_table.proofs.Laws.{queue};
+ghost use Rattle.running.specs.Rule.{Rule, line_in};
+
+/// In any table that meets the rule of a queue for `n` values, as each queue's does between any two
+/// atomic steps of any threads, no cell and no node is in two places: each is free, in the chain, or
+/// in the hand of one pass. What a step brings into its pass's hand no pass had: that is the clause
+/// `unheld` of `IsLine`, which the contract of each step has.
+pub fn queue_places<T>()
+    ensures { (n limit : ℕ) (s : State (Slot T) (View T (Line T))) →
+        Rule (queue T n limit) s →
+        NothingTwice n (memory_of s.words s.homes) (map (line_in names) s.views) }
+{}
