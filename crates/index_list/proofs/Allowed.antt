@@ -3,7 +3,11 @@ use Rattle.std.proofs.Common.{◌≡◌, ◌≢◌, ℕ, ◌+◌, List, [], refl
 use Rattle.std.proofs.lemmas.List.{set-get_or}
 use prog.Atomic.{either}
 use Rattle.atomic_table.specs.Table.{State, Me, Act, keeps, Valid, stepped, carried_after, Allows}
-use Rattle.atomic_table.proofs.Lists.{exchanged}
+use Rattle.atomic_table.proofs.Lists.{exchanged, set_again}
+use mathlib.Core.Logic.{dite}
+use native.Mathlib.Decide.{ℕ_discrete}
+use mathlib.Core.Option.{some}
+use lib.ListN.{get_elem?}
 use Rattle.index_list.specs.Lists.{word}
 use Rattle.index_list.specs.Steps.{looked, changed, Before, Goes}
 use Rattle.index_list.specs.Results.{Made, Lost}
@@ -124,3 +128,38 @@ module _ {S V : Type 0} (holds : State S V → Type 0) (steps : V → ℕ) where
   tries_at slots i at old w new m id me won did lists ei eo en wins loses effect =
       subst (λ (t : ℕ × ℕ × ℕ). Allows holds slots id me t.0 (λ n. either (eqb n t.1) t.2 n) (Tried w won (Lost holds id at w did lists me) me)) (λ k. (sym ei k, sym eo k, sym en k))
       (tries slots at w m id me won did lists wins loses effect)
+
+  -- a load that finds the word as a store would leave it is that store; else it changes nothing
+  pub record Kept (id at new : ℕ) (did : V → Type 0) (lists : State S V → State S V → Type 0) (me : Me S V) (n : ℕ) (me' : Me S V) : Type 0 where
+    pub hit : n ≡ new → Stored id at new did lists me me'
+    pub miss : n ≢ new → me' ≡ me
+
+  -- a seat that keeps its view, and a word that keeps its number
+  same_view : (s : State S V) (at id : ℕ) (v : V) → get_elem? s.views id ≡ some v → holds s → holds (changed s at (word s at) s.homes id v)
+  same_view s at id v mine rule = same_words s at id v (subst (λ (vs : List V). holds (record { words = s.words; homes = s.homes; views = vs })) (sym (set_again s.views id v mine)) rule)
+
+  keeps_stored : (slots at id new : ℕ) (me : Me S V) (did : V → Type 0) (lists : State S V → State S V → Type 0)
+      → ((s : State S V) → Before holds id me.0 at s → Goes holds steps me.0 (changed s at new s.homes id) did)
+      → ((s : State S V) (v : V) → holds s → lists s (changed s at new s.homes id v))
+      → Allows holds slots id me at (λ n. n) (Kept id at new did lists me)
+  keeps_stored slots at id new me did lists law effect s rule wide mine fits =
+      let before : Before holds id me.0 at s = record { rule = rule; mine = mine; fits = fits } in
+      dite (ℕ_discrete (word s at) new)
+      (λ hit. let g = law s before in (
+        g.view,
+        keeps,
+        tt,
+        subst (λ (n : ℕ). holds (changed s at n s.homes id g.view)) (sym hit) g.rule,
+        record {
+          hit = λ _. record { unmoved = refl; said = g.told; counted = g.counted; found = word s at; step = record { table = s; before = before; hit = refl; after = g.rule; effect = effect s g.view rule } };
+          miss = λ n. absurd (n hit);
+        },
+      ))
+      (λ ne. (me.0, keeps, tt, same_view s at id me.0 mine rule, record { hit = λ is. absurd (ne is); miss = λ _. refl }))
+
+  pub keeps_stored_at : (slots i at id new : ℕ) (me : Me S V) (did : V → Type 0) (lists : State S V → State S V → Type 0) → i ≡ at
+      → ((s : State S V) → Before holds id me.0 at s → Goes holds steps me.0 (changed s at new s.homes id) did)
+      → ((s : State S V) (v : V) → holds s → lists s (changed s at new s.homes id v))
+      → Allows holds slots id me i (λ n. n) (Kept id at new did lists me)
+  keeps_stored_at slots i at id new me did lists e law effect =
+      subst (λ k. Allows holds slots id me k (λ n. n) (Kept id at new did lists me)) (sym e) (keeps_stored slots at id new me did lists law effect)

@@ -20,7 +20,7 @@ mod told;
 pub use front::Front;
 pub use gives::{try_give, try_give_chain};
 pub use host::ListHost;
-pub use links::{load_link, load_top, store_link};
+pub use links::{keep_link, load_link, load_top, store_link};
 pub use marks::{try_mark, try_shut};
 pub use slots::{move_out, put_in};
 pub use takes::{raised, try_take, try_take_all};

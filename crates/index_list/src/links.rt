@@ -1,5 +1,5 @@
-//! Loads of a list's top and of a link, and the store into a link.
-ghost use Rattle.std.specs.Prelude.{◌≡◌, ◌+◌, ◌<◌, ◌≤◌, []};
+//! Loads of a list's top and of a link, and the store into a link, also by a load.
+ghost use Rattle.std.specs.Prelude.{◌≡◌, ◌+◌, ◌<◌, ◌≤◌, [], IsTrue, IsFalse};
 ghost use Rattle.tagged_index.specs.declared.word.TheConstants.{NULL};
 ghost use Rattle.index_list.specs.Lists.{Holds};
 ghost use Rattle.index_list.specs.Steps.{read_top, read_link, write_link};
@@ -90,4 +90,38 @@ pub fn store_link<S, V, K, P: ListHost<S, V, K, L>, const L: usize>(
         (list, index),
         line,
     );
+}
+
+/// Loads the link of a held index, and answers whether it is `next`. Where it is, this was the
+/// store of `next`, which would leave the link as it is. Else nothing was done, and the store is
+/// still to be made.
+#[inline]
+pub fn keep_link<S, V, K, P: ListHost<S, V, K, L>, const L: usize>(
+    table: &Shared<S, V, K, P>,
+    seat: &mut Seat<S, V>,
+    list: usize,
+    index: u32,
+    next: u64,
+    line: &P::Line,
+) -> bool
+    requires table { seat.old.table_id ≡ table.now.table_id }
+    requires list { (list < L) × (index ≤ NULL)
+        × (P.layout.link list index < table.now.table_id.words) }
+    requires may { P.may table.now.key line.now list (write_link index next) seat.old.me.0 }
+    requires held { Holds (P.held list seat.old.me.0) index }
+    ensures seat { (seat.new.table_id ≡ seat.old.table_id) × (seat.new.id ≡ seat.old.id) }
+    ensures slots { seat.new.me.1 ≡ seat.old.me.1 }
+    ensures counted { IsTrue result → P.steps seat.new.me.0 ≡ P.steps seat.old.me.0 + 1 }
+    ensures said { IsTrue result → P.did table.now.key line.now list (write_link index next) next []
+        seat.old.me.0 seat.new.me.0 }
+    ensures step { IsTrue result → Written P.layout P.held (P.holds table.now.key) seat.old.id list
+        (P.layout.link list index) next seat.old.me seat.new.me }
+    ensures other { IsFalse result → seat.new.me ≡ seat.old.me }
+{
+    let link = P::link(list, index);
+    let about = (list, index, next);
+    let found = load_as::<S, V, K, P, (usize, u32, u64), P::Line, Brand>(
+        table, seat, link, about, line,
+    );
+    found == next
 }

@@ -5,4 +5,5 @@ pub mod Leftover
 pub mod Crossing
 pub mod Takes
 pub mod Puts
+pub mod Runs
 pub mod Stepping

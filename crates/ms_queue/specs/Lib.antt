@@ -8,3 +8,4 @@ pub mod Shutting
 pub mod Looking
 pub mod Putting
 pub mod Stepwise
+pub mod Whole

@@ -44,7 +44,7 @@ impl<T> Queue<T> {
     }
 
     #[inline]
-    fn close_seek(&self, by: Pass<T>, at: Seek) -> Stepped<CloseOp<T>, Pass<T>, bool>
+    pub(crate) fn close_seek(&self, by: Pass<T>, at: Seek) -> Stepped<CloseOp<T>, Pass<T>, bool>
         requires { IsClosingAt self.now by (Seeking at) }
         ensures { CloseStep self.now by (Seeking at) result }
     {
@@ -64,7 +64,7 @@ impl<T> Queue<T> {
 
     // The close has its effect here.
     #[inline]
-    fn close_mark(
+    pub(crate) fn close_mark(
         &self,
         by: Pass<T>,
         tail: Tagged,

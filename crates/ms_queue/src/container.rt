@@ -1,7 +1,8 @@
-//! A queue as a container. A whole call makes an operation's steps until it answers.
+//! A queue as a container. A whole call runs an operation until it answers.
 use crate::queue::{Pass, Queue, Root};
 use crate::rest::Rest;
-use bounded_model::{Container, Order, PutRefused, Stepped, TakeRefused};
+use bounded_model::{Container, Order, PutRefused, TakeRefused};
+use running::whole_call;
 use std::sync::Wait;
 
 impl<T: Drop + Send> Container<T> for Queue<T> {
@@ -47,47 +48,19 @@ impl<T: Drop + Send> Container<T> for Queue<T> {
     }
 
     fn put<R: Wait>(&self, rt: &R, by: Pass<T>, value: T) -> (Pass<T>, Result<u64, PutRefused<T>>) {
-        let mut op = self.begin_put(by, value);
-        for _ in rt.forever() {
-            match op.step(self) {
-                Stepped::Again(next) => op = next,
-                Stepped::Done(pass, answer) => return (pass, answer),
-            }
-        }
-        unreachable!()
+        whole_call(rt, self, self.begin_put(by, value))
     }
 
     fn take<R: Wait>(&self, rt: &R, by: Pass<T>) -> (Pass<T>, Result<(T, u64), TakeRefused>) {
-        let mut op = self.begin_take(by);
-        for _ in rt.forever() {
-            match op.step(self) {
-                Stepped::Again(next) => op = next,
-                Stepped::Done(pass, answer) => return (pass, answer),
-            }
-        }
-        unreachable!()
+        whole_call(rt, self, self.begin_take(by))
     }
 
     fn close<R: Wait>(&self, rt: &R, by: Pass<T>) -> (Pass<T>, bool) {
-        let mut op = self.begin_close(by);
-        for _ in rt.forever() {
-            match op.step(self) {
-                Stepped::Again(next) => op = next,
-                Stepped::Done(pass, closed) => return (pass, closed),
-            }
-        }
-        unreachable!()
+        whole_call(rt, self, self.begin_close(by))
     }
 
     fn shut<R: Wait>(&self, rt: &R, by: Pass<T>) -> (Pass<T>, bool) {
-        let mut op = self.begin_shut(by);
-        for _ in rt.forever() {
-            match op.step(self) {
-                Stepped::Again(next) => op = next,
-                Stepped::Done(pass, shut) => return (pass, shut),
-            }
-        }
-        unreachable!()
+        whole_call(rt, self, self.begin_shut(by))
     }
 
     /// The answer is always true, since the table never lacks a seat.

@@ -7,7 +7,7 @@ ghost use Rattle.ms_queue.specs.declared.giving.Give.TheVariants.{LoadNodes, Lin
 use crate::queue::{Pass, Queue};
 use queue_table::Operation;
 use queue_table::layout::{CELLS, NODES, cell_link, node_link};
-use running::{give_step, load_tagged_step, store_step, swap_step};
+use running::{give_step, keep_step, load_tagged_step, swap_step};
 use tagged_index::Tagged;
 
 /// The node and the cell that are to be given back. The cell's slot is empty.
@@ -87,7 +87,7 @@ impl<T> Queue<T> {
     {
         let link = node_link(held.node);
         let first = nodes.index() as u64;
-        store_step(&self.table.shared, &mut by.seat, link, first, operation);
+        keep_step(&self.table.shared, &mut by.seat, link, first, operation);
         Gave::On(Give::GiveNode(nodes))
     }
 
@@ -138,7 +138,7 @@ impl<T> Queue<T> {
     {
         let link = cell_link(held.cell);
         let first = cells.index() as u64;
-        store_step(&self.table.shared, &mut by.seat, link, first, operation);
+        keep_step(&self.table.shared, &mut by.seat, link, first, operation);
         Gave::On(Give::GiveCell(cells))
     }
 

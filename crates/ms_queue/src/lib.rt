@@ -6,10 +6,11 @@
 //! rule of `queue_machine`. Each step of an operation is one line of that machine, from a memory and
 //! a history that meet the rule; the events that it adds and its answer are that line's. So what a
 //! pass has seen is always a legal history of one sequential queue, which only grows, and a refusal
-//! was right at some time of its call.
+//! was right at some time between the pass's last step before the call and the answer.
 //!
 //! Passes are split off a root, meet and are joined again. An operation is begun and then made step
-//! by step, or by a whole call, which retries while others interfere.
+//! by step, or by a whole call, which is straight code over the same steps, and retries, with a wait,
+//! while others interfere.
 #![tactic(auto)]
 
 mod closing;
@@ -26,7 +27,11 @@ mod rule;
 mod seeking;
 mod shutting;
 mod stepwise;
+mod straight;
 mod taking;
+mod whole_calls;
+mod whole_put;
+mod whole_take;
 
 pub use closing::CloseOp;
 pub use looking::LookOp;

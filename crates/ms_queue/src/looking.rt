@@ -45,7 +45,7 @@ impl<T> Queue<T> {
     }
 
     #[inline]
-    fn look_load_head(&self, by: Pass<T>) -> Stepped<LookOp<T>, Pass<T>, bool>
+    pub(crate) fn look_load_head(&self, by: Pass<T>) -> Stepped<LookOp<T>, Pass<T>, bool>
         requires { IsLookingAt self.now by LoadHead }
         ensures { LookStep self.now by LoadHead result }
     {
@@ -58,7 +58,11 @@ impl<T> Queue<T> {
     }
 
     #[inline]
-    fn look_load_next(&self, by: Pass<T>, head: Tagged) -> Stepped<LookOp<T>, Pass<T>, bool>
+    pub(crate) fn look_load_next(
+        &self,
+        by: Pass<T>,
+        head: Tagged,
+    ) -> Stepped<LookOp<T>, Pass<T>, bool>
         requires { IsLookingAt self.now by (LoadNext head) }
         ensures { LookStep self.now by (LoadNext head) result }
     {
@@ -73,7 +77,7 @@ impl<T> Queue<T> {
 
     // Where the head is still the same, the link was that of the dummy.
     #[inline]
-    fn look_check_head(
+    pub(crate) fn look_check_head(
         &self,
         by: Pass<T>,
         head: Tagged,

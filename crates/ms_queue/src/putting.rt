@@ -16,7 +16,9 @@ use bounded_model::{PutRefused, Stepped, Word};
 use index_list::{move_out, put_in};
 use queue_table::Operation;
 use queue_table::layout::{CELLS, NODES, TAIL, cell, cell_link, next, node_link};
-use running::{give_step, load_step, load_tagged_step, raised, store_step, swap_step, take_step};
+use running::{
+    give_step, keep_step, load_step, load_tagged_step, raised, store_step, swap_step, take_step,
+};
 use std::snapshot::Snapshot;
 use tagged_index::{NULL, Tagged};
 
@@ -62,7 +64,7 @@ pub(crate) enum PutAt<T> {
     GiveBack(PutRefused<T>, Held, Give),
 }
 
-type Step<T> = Stepped<PutOp<T>, Pass<T>, Result<u64, PutRefused<T>>>;
+pub(crate) type Step<T> = Stepped<PutOp<T>, Pass<T>, Result<u64, PutRefused<T>>>;
 
 // Null with this tag.
 #[inline]
@@ -94,7 +96,7 @@ impl<T> Queue<T> {
 
     // The free cell, or why none can be had.
     #[inline]
-    fn put_load_cells(&self, by: Pass<T>, operation: Operation<T>, value: T) -> Step<T>
+    pub(crate) fn put_load_cells(&self, by: Pass<T>, operation: Operation<T>, value: T) -> Step<T>
         requires { (x : T) × IsPuttingAt self.now x operation by (LoadCells value) }
         ensures { (x : T) → IsPuttingAt self.now x operation by (LoadCells value) → PutStep self.now x operation by (LoadCells value) result }
     {
@@ -119,7 +121,7 @@ impl<T> Queue<T> {
     }
 
     #[inline]
-    fn put_load_cell_link(
+    pub(crate) fn put_load_cell_link(
         &self,
         by: Pass<T>,
         operation: Operation<T>,
@@ -142,7 +144,7 @@ impl<T> Queue<T> {
 
     // With the cell comes its slot, and the value moves in.
     #[inline]
-    fn put_take_cell(
+    pub(crate) fn put_take_cell(
         &self,
         by: Pass<T>,
         operation: Operation<T>,
@@ -173,7 +175,13 @@ impl<T> Queue<T> {
     }
 
     #[inline]
-    fn put_refuse(&self, by: Pass<T>, operation: Operation<T>, value: T, at: Seek) -> Step<T>
+    pub(crate) fn put_refuse(
+        &self,
+        by: Pass<T>,
+        operation: Operation<T>,
+        value: T,
+        at: Seek,
+    ) -> Step<T>
         requires { (x : T) × IsPuttingAt self.now x operation by (Refusing value at) }
         ensures { (x : T) → IsPuttingAt self.now x operation by (Refusing value at) → PutStep self.now x operation by (Refusing value at) result }
     {
@@ -191,7 +199,7 @@ impl<T> Queue<T> {
 
     // A put that has a cell always finds a node with room; else the cell would be given back.
     #[inline]
-    fn put_load_nodes(&self, by: Pass<T>, operation: Operation<T>, cell: u32) -> Step<T>
+    pub(crate) fn put_load_nodes(&self, by: Pass<T>, operation: Operation<T>, cell: u32) -> Step<T>
         requires { (x : T) × IsPuttingAt self.now x operation by (LoadNodes cell) }
         ensures { (x : T) → IsPuttingAt self.now x operation by (LoadNodes cell) → PutStep self.now x operation by (LoadNodes cell) result }
     {
@@ -224,7 +232,7 @@ impl<T> Queue<T> {
 
     // Moves the value out of the slot of the cell in hand.
     #[inline]
-    fn put_value_back(&self, by: &mut Pass<T>, cell: u32) -> T
+    pub(crate) fn put_value_back(&self, by: &mut Pass<T>, cell: u32) -> T
         requires table { by.old.seat.table_id ≡ self.now.table.shared.table_id }
         requires full { (x : T) × (by.old.seat.me.1 ≡ (cell, Some x) ∷ []) }
         ensures table { by.new.seat.table_id ≡ by.old.seat.table_id }
@@ -235,7 +243,7 @@ impl<T> Queue<T> {
     }
 
     #[inline]
-    fn put_load_node_link(
+    pub(crate) fn put_load_node_link(
         &self,
         by: Pass<T>,
         operation: Operation<T>,
@@ -257,7 +265,7 @@ impl<T> Queue<T> {
     }
 
     #[inline]
-    fn put_take_node(
+    pub(crate) fn put_take_node(
         &self,
         by: Pass<T>,
         operation: Operation<T>,
@@ -287,14 +295,14 @@ impl<T> Queue<T> {
     }
 
     #[inline]
-    fn put_store_cell(&self, by: Pass<T>, operation: Operation<T>, held: Held) -> Step<T>
+    pub(crate) fn put_store_cell(&self, by: Pass<T>, operation: Operation<T>, held: Held) -> Step<T>
         requires { (x : T) × IsPuttingAt self.now x operation by (StoreCell held) }
         ensures { (x : T) → IsPuttingAt self.now x operation by (StoreCell held) → PutStep self.now x operation by (StoreCell held) result }
     {
         let mut pass = by;
         let at = cell(held.node);
         let number = held.cell as u64;
-        store_step(&self.table.shared, &mut pass.seat, at, number, &operation);
+        keep_step(&self.table.shared, &mut pass.seat, at, number, &operation);
         Stepped::Again(PutOp {
             pass,
             operation,
@@ -304,7 +312,7 @@ impl<T> Queue<T> {
 
     // Both the preparation and the link raise the tag.
     #[inline]
-    fn put_load_next(&self, by: Pass<T>, operation: Operation<T>, held: Held) -> Step<T>
+    pub(crate) fn put_load_next(&self, by: Pass<T>, operation: Operation<T>, held: Held) -> Step<T>
         requires { (x : T) × IsPuttingAt self.now x operation by (LoadNext held) }
         ensures { (x : T) → IsPuttingAt self.now x operation by (LoadNext held) → PutStep self.now x operation by (LoadNext held) result }
     {
@@ -328,7 +336,7 @@ impl<T> Queue<T> {
     }
 
     #[inline]
-    fn put_prepare_next(
+    pub(crate) fn put_prepare_next(
         &self,
         by: Pass<T>,
         operation: Operation<T>,
@@ -350,7 +358,13 @@ impl<T> Queue<T> {
     }
 
     #[inline]
-    fn put_seek(&self, by: Pass<T>, operation: Operation<T>, held: Held, at: Seek) -> Step<T>
+    pub(crate) fn put_seek(
+        &self,
+        by: Pass<T>,
+        operation: Operation<T>,
+        held: Held,
+        at: Seek,
+    ) -> Step<T>
         requires { (x : T) × IsPuttingAt self.now x operation by (Seeking held at) }
         ensures { (x : T) → IsPuttingAt self.now x operation by (Seeking held at) → PutStep self.now x operation by (Seeking held at) result }
     {
@@ -380,7 +394,7 @@ impl<T> Queue<T> {
 
     // The put has its effect here.
     #[inline]
-    fn put_link_next(
+    pub(crate) fn put_link_next(
         &self,
         by: Pass<T>,
         operation: Operation<T>,
@@ -417,7 +431,7 @@ impl<T> Queue<T> {
 
     // Whoever wins, the tail is then no longer behind this put.
     #[inline]
-    fn put_swing_tail(
+    pub(crate) fn put_swing_tail(
         &self,
         by: Pass<T>,
         operation: Operation<T>,
@@ -437,7 +451,7 @@ impl<T> Queue<T> {
     }
 
     #[inline]
-    fn put_give_back(
+    pub(crate) fn put_give_back(
         &self,
         by: Pass<T>,
         operation: Operation<T>,

@@ -43,7 +43,7 @@ impl<T> Queue<T> {
     }
 
     #[inline]
-    fn shut_load_head(&self, by: Pass<T>) -> Stepped<ShutOp<T>, Pass<T>, bool>
+    pub(crate) fn shut_load_head(&self, by: Pass<T>) -> Stepped<ShutOp<T>, Pass<T>, bool>
         requires { IsShuttingAt self.now by LoadHead }
         ensures { ShutStep self.now by LoadHead result }
     {
@@ -60,7 +60,7 @@ impl<T> Queue<T> {
 
     // The shut has its effect here.
     #[inline]
-    fn shut_mark(&self, by: Pass<T>, head: Tagged) -> Stepped<ShutOp<T>, Pass<T>, bool>
+    pub(crate) fn shut_mark(&self, by: Pass<T>, head: Tagged) -> Stepped<ShutOp<T>, Pass<T>, bool>
         requires { IsShuttingAt self.now by (Mark head) }
         ensures { ShutStep self.now by (Mark head) result }
     {

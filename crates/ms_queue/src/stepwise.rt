@@ -13,6 +13,7 @@ use crate::queue::{Pass, Queue};
 use crate::shutting::ShutOp;
 use crate::taking::TakeOp;
 use bounded_model::{PutRefused, Stepped, Stepwise, TakeRefused};
+use running::whole_call;
 use std::sync::Wait;
 
 impl<T: Drop + Send> Stepwise<T> for Queue<T> {
@@ -100,13 +101,6 @@ impl<T: Drop + Send> Stepwise<T> for Queue<T> {
     }
 
     fn look<R: Wait>(&self, rt: &R, by: Pass<T>) -> (Pass<T>, bool) {
-        let mut op = self.begin_look(by);
-        for _ in rt.forever() {
-            match op.step(self) {
-                Stepped::Again(next) => op = next,
-                Stepped::Done(pass, is_empty) => return (pass, is_empty),
-            }
-        }
-        unreachable!()
+        whole_call(rt, self, self.begin_look(by))
     }
 }

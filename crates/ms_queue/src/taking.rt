@@ -50,7 +50,7 @@ pub(crate) struct Taken<T> {
     pub(crate) held: Held,
 }
 
-type Step<T> = Stepped<TakeOp<T>, Pass<T>, Result<(T, u64), TakeRefused>>;
+pub(crate) type Step<T> = Stepped<TakeOp<T>, Pass<T>, Result<(T, u64), TakeRefused>>;
 
 impl<T> Queue<T> {
     /// A take that makes no step yet.
@@ -67,7 +67,7 @@ impl<T> Queue<T> {
     }
 
     #[inline]
-    fn take_load_head(&self, by: Pass<T>) -> Step<T>
+    pub(crate) fn take_load_head(&self, by: Pass<T>) -> Step<T>
         requires { IsTakingAt self.now by LoadHead }
         ensures { TakeStep self.now by LoadHead result }
     {
@@ -83,7 +83,7 @@ impl<T> Queue<T> {
     }
 
     #[inline]
-    fn take_load_tail(&self, by: Pass<T>, head: Tagged) -> Step<T>
+    pub(crate) fn take_load_tail(&self, by: Pass<T>, head: Tagged) -> Step<T>
         requires { IsTakingAt self.now by (LoadTail head) }
         ensures { TakeStep self.now by (LoadTail head) result }
     {
@@ -96,7 +96,7 @@ impl<T> Queue<T> {
     }
 
     #[inline]
-    fn take_load_next(&self, by: Pass<T>, head: Tagged, tail: Tagged) -> Step<T>
+    pub(crate) fn take_load_next(&self, by: Pass<T>, head: Tagged, tail: Tagged) -> Step<T>
         requires { IsTakingAt self.now by (LoadNext head tail) }
         ensures { TakeStep self.now by (LoadNext head tail) result }
     {
@@ -111,7 +111,13 @@ impl<T> Queue<T> {
 
     // Where the head is still the same, the link was that of the dummy.
     #[inline]
-    fn take_check_head(&self, by: Pass<T>, head: Tagged, tail: Tagged, link: Tagged) -> Step<T>
+    pub(crate) fn take_check_head(
+        &self,
+        by: Pass<T>,
+        head: Tagged,
+        tail: Tagged,
+        link: Tagged,
+    ) -> Step<T>
         requires { IsTakingAt self.now by (CheckHead head tail link) }
         ensures { TakeStep self.now by (CheckHead head tail link) result }
     {
@@ -143,7 +149,7 @@ impl<T> Queue<T> {
 
     // Whoever wins, the tail is then no longer at the dummy.
     #[inline]
-    fn take_swing_tail(&self, by: Pass<T>, tail: Tagged, link: Tagged) -> Step<T>
+    pub(crate) fn take_swing_tail(&self, by: Pass<T>, tail: Tagged, link: Tagged) -> Step<T>
         requires { IsTakingAt self.now by (SwingTail tail link) }
         ensures { TakeStep self.now by (SwingTail tail link) result }
     {
@@ -163,7 +169,7 @@ impl<T> Queue<T> {
     }
 
     #[inline]
-    fn take_load_cell(&self, by: Pass<T>, head: Tagged, link: Tagged) -> Step<T>
+    pub(crate) fn take_load_cell(&self, by: Pass<T>, head: Tagged, link: Tagged) -> Step<T>
         requires { IsTakingAt self.now by (LoadCell head link) }
         ensures { TakeStep self.now by (LoadCell head link) result }
     {
@@ -179,7 +185,7 @@ impl<T> Queue<T> {
 
     // The take has its effect here; the value moves out with the cell's slot.
     #[inline]
-    fn take_head(&self, by: Pass<T>, head: Tagged, link: Tagged, cell: u32) -> Step<T>
+    pub(crate) fn take_head(&self, by: Pass<T>, head: Tagged, link: Tagged, cell: u32) -> Step<T>
         requires { IsTakingAt self.now by (TakeHead head link cell) }
         ensures { TakeStep self.now by (TakeHead head link cell) result }
     {
@@ -209,7 +215,7 @@ impl<T> Queue<T> {
     }
 
     #[inline]
-    fn take_give_back(&self, by: Pass<T>, taken: Taken<T>, at: Give) -> Step<T>
+    pub(crate) fn take_give_back(&self, by: Pass<T>, taken: Taken<T>, at: Give) -> Step<T>
         requires { IsTakingAt self.now by (GiveBack taken at) }
         ensures { TakeStep self.now by (GiveBack taken at) result }
     {

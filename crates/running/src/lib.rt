@@ -6,11 +6,16 @@
 
 mod lists;
 mod passes;
+mod pause;
 mod rule;
 mod seats;
 mod steps;
+mod whole;
 
 pub use lists::{ListMachine, take_first};
 pub use passes::{Pass, Root, join, meet, split};
 pub use rule::{Machine, Running};
-pub use steps::{give_step, load_step, load_tagged_step, raised, store_step, swap_step, take_step};
+pub use steps::{
+    give_step, keep_step, load_step, load_tagged_step, raised, store_step, swap_step, take_step,
+};
+pub use whole::{Whole, whole_call};

@@ -10,8 +10,8 @@ use crate::rule::{Fresh, Three};
 use crate::view::View;
 use atomic_table::{Seat, Table};
 use index_list::{
-    Front, load_link, load_top, move_out, put_in, store_link, try_give, try_give_chain, try_mark,
-    try_shut, try_take, try_take_all,
+    Front, keep_link, load_link, load_top, move_out, put_in, store_link, try_give, try_give_chain,
+    try_mark, try_shut, try_take, try_take_all,
 };
 use std::alloc::{AllocError, Global};
 use tagged_index::{NULL, Tagged};
@@ -104,7 +104,10 @@ impl ThreeCells {
     {
         let top = self.top(pass);
         let next = top.index() as u64;
-        store_link::<Option<u8>, View, (), Three, 1>(&self.table.shared, pass, 0, index, next, &());
+        let table = &self.table.shared;
+        if !keep_link::<Option<u8>, View, (), Three, 1>(table, pass, 0, index, next, &()) {
+            store_link::<Option<u8>, View, (), Three, 1>(table, pass, 0, index, next, &());
+        }
         try_give::<Option<u8>, View, (), Three, 1>(&self.table.shared, pass, 0, top, index, &())
     }
 

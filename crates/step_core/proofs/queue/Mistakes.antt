@@ -1,7 +1,8 @@
 -- Machines that are nearly the queue's, and for each a schedule in which it breaks the law.
-use Rattle.std.proofs.Common.{◌≡◌, ℕ, ◌+◌, if◌then◌else◌, ◌==◌, true, List, [], ◌∷◌, ◌++◌, map, replicate, length, refl, sym, ap, arith}
+use Rattle.std.proofs.Common.{◌≡◌, ⊎_elim, ℕ, ◌+◌, ◌<◌, if◌then◌else◌, ◌==◌, true, List, [], ◌∷◌, ◌++◌, map, replicate, length, refl, sym, ap, Some, None, Option as Slot, arith}
 use Rattle.std.proofs.lemmas.Bool.{false≢true}
-use mathlib.Core.Option.{some}
+use mathlib.Core.Option.{Option, none, some}
+use lib.ListN.{get_elem?}
 use Rattle.tagged_index.specs.declared.word.TheConstants.{NULL}
 use Rattle.bounded_model.specs.declared.history.Event.{Event}
 use Rattle.bounded_model.specs.declared.history.Event.TheVariants.{Hold, Put, Take, Free, Close, Shut}
@@ -12,13 +13,13 @@ use Rattle.queue_machine.specs.declared.lines.Seeking.TheVariants.{ToLink}
 use Rattle.queue_machine.specs.declared.lines.Giving.{Giving}
 use Rattle.queue_machine.specs.declared.lines.Answer.TheVariants.{Close as AnswerClose, Shut as AnswerShut}
 use Rattle.queue_machine.specs.declared.lines.Line.{Line}
-use Rattle.queue_machine.specs.declared.lines.Line.TheVariants.{LoadCells, TakeCell, CheckTail, LinkToNodes, LoadCellsToGive, LinkToCells, GiveCell, LoadNodes, TakeNode, StoreCell, PrepareNext, LoadTail, MarkNext, LoadHead, CheckHead, SwingTailToTake, LoadCell, TakeHead, LoadNodesToGive, GiveNode, ShutHead}
+use Rattle.queue_machine.specs.declared.lines.Line.TheVariants.{Idle, LoadCells, TakeCell, CheckTail, LinkToNodes, LoadCellsToGive, LinkToCells, GiveCell, LoadNodes, TakeNode, StoreCell, PrepareNext, LoadTail, MarkNext, LoadHead, CheckHead, SwingTailToTake, LoadCell, TakeHead, LoadNodesToGive, GiveNode, ShutHead}
 use Rattle.queue_machine.specs.declared.lines.Call.{Call}
 use Rattle.queue_machine.specs.declared.lines.Call.TheVariants.{Put as CallPut, Take as CallTake, Close as CallClose, Shut as CallShut}
 use Rattle.machine.specs.Schedule.{Act, Begin, Step, run, start}
 use Rattle.queue_machine.specs.Machine.{Memory, Pass, State, Outcome, queue, step, held_cells, held_nodes, found_back, frees, after_free, after_clink, after_nlink, goes_on, wins, wins_value, null_word, with_cell, with_node, after_node_give, after_next, after_take, ends, next_of}
 use Rattle.queue_machine.specs.Answers.{shape}
-use Rattle.queue_machine.specs.Places.{NothingTwice}
+use Rattle.queue_machine.specs.Places.{NothingTwice, WinsUnheld}
 use Rattle.step_core.specs.queue.Law.{Lawful}
 
 -- how a machine makes a step, in place of the queue's
@@ -50,6 +51,17 @@ takes p = (p, Begin CallTake) ∷ []
 once : (a b : ℕ) → a + b + 2 ≡ 1 → ⊥
 once a b e = absurd (omega arith)
 
+-- the lines of all passes, and that of one
+abbrev lines_of : State ℕ → List (Line ℕ)
+lines_of s = map (λ (v : Pass ℕ). v.line) s.passes
+
+abbrev line_or_idle : Option (Line ℕ) → Line ℕ
+line_or_idle none = Idle None
+line_or_idle (some l) = l
+
+abbrev line_of : State ℕ → ℕ → Line ℕ
+line_of s p = line_or_idle (get_elem? (lines_of s) p)
+
 -- A cell is taken and `CELLS` keeps its tag: pass 0 has read cell 0 and its link, cell 1; cell 1 goes
 -- to pass 2, cell 0 goes out and comes back, and pass 0's exchange wins. So cell 1 is free while pass 2
 -- holds it, and pass 1 takes it a second time
@@ -70,13 +82,25 @@ two_hands_on_it = refl
 cell_held_twice-unlawful : ¬ Lawful ℕ 3 15 cell_held_twice
 cell_held_twice-unlawful law = once (times 1 law.lists.cells) (times 1 (map cell_held_twice.memory.cell law.lists.behind)) (law.once.cells 1)
 
-cell_held_by_two : ¬ NothingTwice 3 cell_held_twice.memory (map (λ (v : Pass ℕ). v.line) cell_held_twice.passes)
+cell_held_by_two : ¬ NothingTwice 3 cell_held_twice.memory (lines_of cell_held_twice)
 cell_held_by_two apart = absurd (omega (
   arith,
   apart.cells.one_hand 1
       (record { pass = 1; line = _; at = refl; has = omega arith })
       (record { pass = 2; line = _; at = refl; has = omega arith }),
 ))
+
+-- and pass 1's step won a cell that pass 2 had in hand
+abbrev before_second_hold : State ℕ
+before_second_hold = runs takes_cell_with_old_tag
+    (puts 0 10 ++ steps 0 2 ++ puts 1 11 ++ steps 1 14 ++ puts 2 12 ++ steps 2 3 ++ takes 1 ++ steps 1 12 ++ steps 0 1 ++ puts 1 13 ++ steps 1 2)
+    (first_state 3 3)
+
+wins_held_cell : ¬ WinsUnheld before_second_hold.memory (lines_of before_second_hold) (line_of before_second_hold 1) (line_of cell_held_twice 1)
+wins_held_cell won = ⊎_elim
+    (λ had. absurd (omega arith))
+    (λ was. was.unheld (record { pass = 2; line = _; at = refl; has = omega arith }))
+    (won.cells 1 (omega arith))
 
 -- A node is taken and `NODES` keeps its tag: pass 0 has read node 1 and its link, node 2; node 2 goes
 -- to pass 2, node 1 goes out and comes back, and pass 0's exchange wins. So node 2 is free while pass 2
@@ -96,13 +120,25 @@ two_hands = refl
 held_twice-unlawful : ¬ Lawful ℕ 3 15 held_twice
 held_twice-unlawful law = once (times 2 law.lists.nodes) (times 2 (held_twice.memory.head.index ∷ law.lists.behind)) (law.once.nodes 2)
 
-held_by_two : ¬ NothingTwice 3 held_twice.memory (map (λ (v : Pass ℕ). v.line) held_twice.passes)
+held_by_two : ¬ NothingTwice 3 held_twice.memory (lines_of held_twice)
 held_by_two apart = absurd (omega (
   arith,
   apart.nodes.one_hand 2
       (record { pass = 1; line = _; at = refl; has = omega arith })
       (record { pass = 2; line = _; at = refl; has = omega arith }),
 ))
+
+-- and pass 1's step won a node that pass 2 had in hand
+abbrev before_second_node : State ℕ
+before_second_node = runs takes_node_with_old_tag
+    (puts 0 10 ++ steps 0 5 ++ puts 1 11 ++ steps 1 14 ++ puts 2 12 ++ steps 2 6 ++ takes 1 ++ steps 1 12 ++ puts 1 13 ++ steps 1 14 ++ takes 1 ++ steps 1 12 ++ steps 0 1 ++ puts 1 14 ++ steps 1 5)
+    (first_state 3 3)
+
+wins_held_node : ¬ WinsUnheld before_second_node.memory (lines_of before_second_node) (line_of before_second_node 1) (line_of held_twice 1)
+wins_held_node won = ⊎_elim
+    (λ had. absurd (omega arith))
+    (λ was. was.unheld (record { pass = 2; line = _; at = refl; has = omega arith }))
+    (won.nodes 2 (omega arith))
 
 -- A value is taken and the head keeps its tag: the take's number comes again
 abbrev takes_with_old_tag : Steps
@@ -150,6 +186,25 @@ dummy_free-unlawful law = twice law.lists.nodes law.once.free_nodes (law.once.no
     twice : (list : List ℕ) → Stands dummy_free.memory.nlink 1 list → times 1 list + times 1 (1 ∷ law.lists.behind) + 0 ≡ 1 → ⊥
     twice [] s e = absurd (omega (arith, s))
     twice (i ∷ is) s e = absurd (omega (arith, e, ap (λ (k : ℕ). times 1 (k ∷ is)) s.0))
+
+-- A take leaves its value in the cell, and so does the give: the cell is free and not empty
+abbrev leaves_values : Steps
+leaves_values m p (TakeHead h y k) = let o = step (shape 1 15) m p (TakeHead h y k) in record o { memory = record o.memory { home = m.home } }
+leaves_values m p (GiveCell give w) = let o = step (shape 1 15) m p (GiveCell give w) in record o { memory = record o.memory { home = m.home } }
+leaves_values m p l = step (shape 1 15) m p l
+
+abbrev left_there : State ℕ
+left_there = runs leaves_values (puts 0 10 ++ steps 0 14 ++ takes 0 ++ steps 0 12) (first_state 1 1)
+
+left_there-unlawful : ¬ Lawful ℕ 1 15 left_there
+left_there-unlawful law = free law.lists.cells law.once.free_cells (law.once.empty 0)
+  where
+    full : ◌≡◌ {A = Option (Slot ℕ)} (some (Some 10)) (some None) → ⊥
+    full e = cc
+
+    free : (list : List ℕ) → Stands left_there.memory.clink 0 list → (0 < times 0 list → left_there.memory.home 0 ≡ some None) → ⊥
+    free [] s empty = absurd (omega (arith, s))
+    free (i ∷ is) s empty = full (empty (omega (arith, ap (λ (k : ℕ). times 0 (k ∷ is)) s.0, times_here 0 is)))
 
 -- A take leaves out the comparison with the tail, so the head overtakes it
 abbrev overtakes_tail : Steps

@@ -123,6 +123,13 @@ looks : Plays (plays (shape 1 7))
     ∷ [])
 looks = refl
 
+-- the largest queue, with the greatest limit
+largest : Plays (plays (shape 1048573 4398046511103))
+    ((calls a (put x), answers (put_is 0))
+    ∷ (calls a take, answers (take_is 0 x))
+    ∷ [])
+largest = refl
+
 -- the tag of the free cells is looked at before the end of the chain
 spent_before_closed : Plays (plays (shape 2 2))
     ((calls a (put x), answers (put_is 0))

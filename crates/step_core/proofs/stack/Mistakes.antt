@@ -1,7 +1,8 @@
 -- Machines that are nearly the stack's, and for each a schedule in which it breaks the law.
-use Rattle.std.proofs.Common.{◌≡◌, ℕ, ◌+◌, ◌==◌, if◌then◌else◌, true, false, List, [], ◌∷◌, ◌++◌, map, replicate, refl, sym, ap, ◌∙◌, arith, Some, None, Option as Slot}
+use Rattle.std.proofs.Common.{◌≡◌, ⊎_elim, ℕ, ◌+◌, ◌==◌, if◌then◌else◌, true, false, List, [], ◌∷◌, ◌++◌, map, replicate, refl, sym, ap, ◌∙◌, arith, Some, None, Option as Slot}
 use Rattle.std.proofs.lemmas.Bool.{false≢true}
 use mathlib.Core.Option.{Option, none, some}
+use lib.ListN.{get_elem?}
 use Rattle.tagged_index.specs.declared.word.TheConstants.{NULL}
 use Rattle.bounded_model.specs.declared.history.Event.TheVariants.{Hold, Put, Take, Free, Close, Shut}
 use Rattle.bounded_model.specs.Machine.{Legal}
@@ -10,7 +11,7 @@ use Rattle.stack_machine.specs.declared.lines.Direction.TheVariants.{Down}
 use Rattle.stack_machine.specs.declared.lines.Taking.TheVariants.{One, Whole}
 use Rattle.stack_machine.specs.declared.lines.Answer.TheVariants.{Close as AnswerClose, Shut as AnswerShut}
 use Rattle.stack_machine.specs.declared.lines.Line.{Line}
-use Rattle.stack_machine.specs.declared.lines.Line.TheVariants.{LoadFree, TakeFree, LoadTop, SwapTop, LoadTopToTake, TakeTop, LoadLinkToFold, LoadTopToClose, MarkTop, LoadTopToShut, ShutTop, GiveBack}
+use Rattle.stack_machine.specs.declared.lines.Line.TheVariants.{Idle, LoadFree, TakeFree, LoadTop, SwapTop, LoadTopToTake, TakeTop, LoadLinkToFold, LoadTopToClose, MarkTop, LoadTopToShut, ShutTop, GiveBack}
 use Rattle.stack_machine.specs.declared.lines.Call.TheVariants.{Put as CallPut, Take as CallTake, Close as CallClose, Shut as CallShut}
 use Rattle.machine.specs.Schedule.{Act, Begin, Step, run, start}
 use Rattle.stack_machine.specs.declared.lines.Call.{Call}
@@ -18,7 +19,7 @@ use Rattle.stack_machine.specs.Machine.{Memory, Pass, State, Outcome, stack, ste
 use Rattle.machine.specs.Chains.{with_home, HasValues}
 use Rattle.stack_machine.specs.Answers.{shape}
 use Rattle.step_core.specs.stack.Law.{Lawful}
-use Rattle.stack_machine.specs.Places.{NoNodeTwice}
+use Rattle.stack_machine.specs.Places.{NoNodeTwice, WinsUnheld}
 use Rattle.machine.proofs.OneList.{none_there}
 
 -- how a machine makes a step, in place of the stack's
@@ -45,6 +46,17 @@ puts p v = (p, Begin (CallPut v [])) ∷ []
 abbrev takes : ℕ → Acts
 takes p = (p, Begin (CallTake One)) ∷ []
 
+-- the lines of all passes, and that of one
+abbrev lines_of : State ℕ → List (Line ℕ)
+lines_of s = map (λ (v : Pass ℕ). v.line) s.passes
+
+abbrev line_or_idle : Option (Line ℕ) → Line ℕ
+line_or_idle none = Idle None
+line_or_idle (some l) = l
+
+abbrev line_of : State ℕ → ℕ → Line ℕ
+line_of s p = line_or_idle (get_elem? (lines_of s) p)
+
 -- A node is taken from the free list and its top keeps the tag: pass 0 has read node 0 and its link, node 1; node 1 goes to
 -- pass 2, node 0 goes out and comes back, and pass 0's exchange wins. So node 1 is free while pass 2 holds it, and pass 1
 -- takes it a second time
@@ -66,13 +78,25 @@ held_twice-unlawful law = once (times 1 law.frees) (times 1 law.stack) (law.once
     once : (a b : ℕ) → a + b + 2 ≡ 1 → ⊥
     once a b e = absurd (omega arith)
 
-held_by_two : ¬ NoNodeTwice 3 held_twice.memory (map (λ (v : Pass ℕ). v.line) held_twice.passes)
+held_by_two : ¬ NoNodeTwice 3 held_twice.memory (lines_of held_twice)
 held_by_two apart = absurd (omega (
   arith,
   apart.nodes.one_hand 1
       (record { pass = 1; line = _; at = refl; has = omega arith })
       (record { pass = 2; line = _; at = refl; has = omega arith }),
 ))
+
+-- and pass 1's step won a node that pass 2 had in hand
+abbrev before_second_hold : State ℕ
+before_second_hold = runs holds_with_old_tag
+    (puts 0 10 ++ steps 0 2 ++ puts 1 11 ++ steps 1 6 ++ puts 2 12 ++ steps 2 3 ++ takes 1 ++ steps 1 6 ++ steps 0 1 ++ puts 1 13 ++ steps 1 2)
+    (first_state 3 3)
+
+wins_held_node : ¬ WinsUnheld before_second_hold.memory (lines_of before_second_hold) (line_of before_second_hold 1) (line_of held_twice 1)
+wins_held_node won = ⊎_elim
+    (λ had. absurd (omega arith))
+    (λ was. was.unheld (record { pass = 2; line = _; at = refl; has = omega arith }))
+    (won.nodes 1 (omega arith))
 
 -- A value is taken and the top keeps its tag: the take's number comes again
 abbrev keeps : Memory ℕ → Tagged → ℕ → Outcome ℕ → Outcome ℕ

@@ -1,0 +1,11 @@
+use Rattle.running.specs.Passes.{pass_in}
+use Rattle.ms_queue.proofs.container.QueueContainer.put.Goals as goal
+
+pub whole_call-requires : goal.whole_call-requires
+whole_call-requires g c = ((c.args.value, pass_in c.args.by), (c.begin_put.ensures.0, c.begin_put.ensures.1))
+
+pub returns-clause-of : goal.returns-clause-of
+returns-clause-of g c = (c.whole_call.ensures (c.args.value, pass_in c.args.by) (c.begin_put.ensures.0, c.begin_put.ensures.1)).0
+
+pub returns-clause-gives : goal.returns-clause-gives
+returns-clause-gives g c = (c.whole_call.ensures (c.args.value, pass_in c.args.by) (c.begin_put.ensures.0, c.begin_put.ensures.1)).1

@@ -1,0 +1,70 @@
+-- Operations that several steps are made of: each was begun as its pass was then, and is still under way or has answered.
+use Rattle.std.specs.Prelude.{◌≡◌, ℕ, Bool, Result}
+use Rattle.bounded_model.specs.declared.answers.Stepped.{Stepped}
+use Rattle.bounded_model.specs.declared.answers.PutRefused.{PutRefused}
+use Rattle.bounded_model.specs.declared.answers.TakeRefused.{TakeRefused}
+use Rattle.bounded_model.specs.declared.views.PassView.{PassView}
+use Rattle.bounded_model.specs.Laws.{PutGives, TakeGives, CloseGives, ShutGives, LookGives}
+use Rattle.bounded_model.specs.Stepping.{MatchStepped}
+use Rattle.queue_machine.specs.declared.lines.Line.{Line}
+use Rattle.running.specs.Passes.{pass_in}
+use Rattle.running.specs.declared.passes.Pass.{Pass}
+use Rattle.ms_queue.specs.declared.closing.CloseOp.{CloseOp}
+use Rattle.ms_queue.specs.declared.looking.LookOp.{LookOp}
+use Rattle.ms_queue.specs.declared.putting.PutOp.{PutOp}
+use Rattle.ms_queue.specs.declared.queue.Queue.{Queue}
+use Rattle.ms_queue.specs.declared.shutting.ShutOp.{ShutOp}
+use Rattle.ms_queue.specs.declared.taking.TakeOp.{TakeOp}
+use Rattle.ms_queue.specs.Closing.{IsClosing}
+use Rattle.ms_queue.specs.Looking.{IsLooking}
+use Rattle.ms_queue.specs.Putting.{IsPutting}
+use Rattle.ms_queue.specs.Queue.{shape_of, begun_of, IsPassOf}
+use Rattle.ms_queue.specs.Shutting.{IsShutting}
+use Rattle.ms_queue.specs.Taking.{IsTaking}
+
+module _ {T : Type 0} (c : Queue T) (begun : PassView T) where
+  -- a put of x
+  abbrev pub PutSince : T → PutOp T → Type 0
+  PutSince x op = IsPutting c x op × (begun_of c op.pass ≡ begun)
+
+  abbrev pub PutGave : T → Pass T (Line T) → Result ℕ (PutRefused T) → Type 0
+  PutGave x back answer = IsPassOf c back × PutGives (shape_of c) begun x (pass_in back) answer
+
+  abbrev pub PutRun : T → Stepped (PutOp T) (Pass T (Line T)) (Result ℕ (PutRefused T)) → Type 0
+  PutRun x made = MatchStepped made (PutSince x) (PutGave x)
+
+  abbrev pub TakeSince : TakeOp T → Type 0
+  TakeSince op = IsTaking c op × (begun_of c op.pass ≡ begun)
+
+  abbrev pub TakeGave : Pass T (Line T) → Result (T × ℕ) TakeRefused → Type 0
+  TakeGave back answer = IsPassOf c back × TakeGives (shape_of c) begun (pass_in back) answer
+
+  abbrev pub TakeRun : Stepped (TakeOp T) (Pass T (Line T)) (Result (T × ℕ) TakeRefused) → Type 0
+  TakeRun made = MatchStepped made TakeSince TakeGave
+
+  abbrev pub CloseSince : CloseOp T → Type 0
+  CloseSince op = IsClosing c op × (begun_of c op.pass ≡ begun)
+
+  abbrev pub CloseGave : Pass T (Line T) → Bool → Type 0
+  CloseGave back closed = IsPassOf c back × CloseGives (shape_of c) begun (pass_in back) closed
+
+  abbrev pub CloseRun : Stepped (CloseOp T) (Pass T (Line T)) Bool → Type 0
+  CloseRun made = MatchStepped made CloseSince CloseGave
+
+  abbrev pub ShutSince : ShutOp T → Type 0
+  ShutSince op = IsShutting c op × (begun_of c op.pass ≡ begun)
+
+  abbrev pub ShutGave : Pass T (Line T) → Bool → Type 0
+  ShutGave back shut = IsPassOf c back × ShutGives (shape_of c) begun (pass_in back) shut
+
+  abbrev pub ShutRun : Stepped (ShutOp T) (Pass T (Line T)) Bool → Type 0
+  ShutRun made = MatchStepped made ShutSince ShutGave
+
+  abbrev pub LookSince : LookOp T → Type 0
+  LookSince op = IsLooking c op × (begun_of c op.pass ≡ begun)
+
+  abbrev pub LookGave : Pass T (Line T) → Bool → Type 0
+  LookGave back empty = IsPassOf c back × LookGives (shape_of c) begun (pass_in back) empty
+
+  abbrev pub LookRun : Stepped (LookOp T) (Pass T (Line T)) Bool → Type 0
+  LookRun made = MatchStepped made LookSince LookGave

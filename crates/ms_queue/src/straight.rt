@@ -1,0 +1,17 @@
+//! How a whole call goes straight on from one step to the next.
+
+/// What the operation has at the line that its step leads to. Where the step leads elsewhere, the
+/// function returns what it gave.
+macro_rules! straight {
+    ($step:expr, $op:ident { $($kept:ident),+ }, $line:pat => $($read:ident),*) => {
+        match $step {
+            Stepped::Again($op { $($kept,)+ at }) => match at {
+                $line => ($($kept,)+ $($read,)*),
+                at => return Stepped::Again($op { $($kept,)+ at }),
+            },
+            done => return done,
+        }
+    };
+}
+
+pub(crate) use straight;

@@ -1,0 +1,50 @@
+//! Whole calls, for all machines: an operation is run until it answers, with a wait after each
+//! exchange that it has lost.
+ghost use Rattle.bounded_model.specs.Stepping.{MatchStepped};
+
+use crate::pause::Pause;
+use bounded_model::Stepped;
+use std::sync::Wait;
+
+/// An operation on a `C` that was begun with a pass `P`; its answer is an `A`.
+pub trait Whole<C, P, A> {
+    /// What the operation was begun with.
+    ghost Call: { Type 0 };
+
+    /// Whether this is an operation on this container, begun so and under way.
+    ghost is_under_way: { C → Self.Call → Self → Type 0 };
+
+    /// What the pass that is back and the answer say of it.
+    ghost gives: { C → Self.Call → P → A → Type 0 };
+
+    /// Makes one or more steps: until the operation answers, or is to be run again.
+    fn run(self, on: &C) -> Stepped<Self, P, A>
+        requires { (call : Self.Call) × is_under_way on.now call self }
+        ensures { (call : Self.Call) → is_under_way on.now call self → MatchStepped result
+            (λ next. is_under_way on.now call next) (λ back answer. gives on.now call back answer) };
+
+    /// Whether another was faster: an exchange was lost, or a word that was read has changed.
+    fn has_lost(&self) -> bool;
+}
+
+/// Runs an operation until it answers.
+#[inline]
+pub fn whole_call<R: Wait, C, P, A, O: Whole<C, P, A>>(rt: &R, on: &C, begun: O) -> (P, A)
+    requires { (call : O.Call) × O.is_under_way on.now call begun }
+    ensures { (call : O.Call) → O.is_under_way on.now call begun → O.gives on.now call result.0 result.1 }
+{
+    let mut made = begun.run(on);
+    let mut pause = Pause::new();
+    for _ in rt.forever() {
+        match made {
+            Stepped::Done(back, answer) => return (back, answer),
+            Stepped::Again(next) => {
+                if next.has_lost() {
+                    pause.wait();
+                }
+                made = next.run(on);
+            }
+        }
+    }
+    unreachable!()
+}
