@@ -60,6 +60,13 @@ class FreeList:
                 return seen.index, seen
             yield
 
+    def count(self):
+        """How many indexes are free."""
+        count, index = 0, self.top.load().index
+        while index != NULL:
+            count, index = count + 1, self.links[index]
+        return count
+
     def give(self, first, last):
         """Gives a chain back, whose own links stand already."""
         while True:
@@ -227,6 +234,10 @@ class Stack:
     def left(self):
         return [self.values[node] for node in self.chain(self.top.load().index)]
 
+    def room(self):
+        """How many more values it has room for."""
+        return self.free.count()
+
 
 class Queue:
     """The queue: cells with the values, nodes with the name of a cell each, a head and a tail that may lag."""
@@ -365,6 +376,19 @@ class Queue:
             node = self.next[node].load().index
         return values
 
+    def room(self):
+        """How many more values it has room for."""
+        return self.cells.count()
+
+
+def place_of(operation):
+    """Where an operation stands: the lines of this file at which it, and each part of it, goes on."""
+    lines = []
+    while operation is not None:
+        lines.append(operation.gi_frame.f_lineno)
+        operation = operation.gi_yieldfrom
+    return tuple(lines)
+
 
 def finished(operation):
     """The answer of an operation that runs to its end."""
@@ -412,10 +436,15 @@ class Player:
         return f"again {begun[1]}"
 
 
+def player_of(line):
+    """A player of the container that this first line makes."""
+    kind, capacity, limit = line.split(" ")
+    return Player({"stack": Stack, "queue": Queue}[kind](int(capacity), int(limit)))
+
+
 def replies(lines):
     """The replies to a script, the line that makes the container first."""
-    kind, capacity, limit = lines[0].split(" ")
-    player = Player({"stack": Stack, "queue": Queue}[kind](int(capacity), int(limit)))
+    player = player_of(lines[0])
     return [player.reply(line) for line in lines[1:]]
 
 
@@ -423,8 +452,8 @@ def script(kind, random):
     """A script of this container, by chance: short of room and of tags, with many operations under way."""
     limit = random.choice((2, 3, 4, 5, 7, 9, 15, 60, 4398046511103))
     lines = [f"{kind} {random.choice((1, 1, 2, 2, 3, 4))} {limit}"]
-    container = {"stack": Stack, "queue": Queue}[kind]
-    player = Player(container(*map(int, lines[0].split(" ")[1:])))
+    player = player_of(lines[0])
+    container = type(player.container)
     passes = "abcd"[: random.choice((1, 2, 3, 3, 4))]
     values = (f"v{number}" for number in range(1, 1 << 20))
     for _ in range(random.randrange(4, 60)):

@@ -1,7 +1,9 @@
 /* Stands between the program and the C library, where a test asks for it by the environment:
    REFUSED_ALLOCATION=N refuses the Nth allocation, REFUSED_FROM=N that and all later ones, REFUSED_THREAD=N the Nth
-   thread; SEEN=FILE gets one byte for each of these calls: 'm' an allocation, 't' a thread, '1' and '2' a write to
-   standard output and error, and 'x' behind a call that was refused. */
+   thread, REFUSED_READ=N the Nth read, REFUSED_WRITE=N the Nth write to standard output and all later ones; IN_PIECES=1
+   interrupts every other one of these reads and writes, and has the others move one byte. SEEN=FILE gets one byte for
+   each of these calls: 'm' an allocation, 't' a thread, 'r' a read, '1' and '2' a write to standard output and error,
+   and 'x' behind a call that was refused. */
 #define _GNU_SOURCE
 #include <dlfcn.h>
 #include <errno.h>
@@ -16,8 +18,8 @@
 extern void *__libc_malloc(size_t);
 extern void *__libc_realloc(void *, size_t);
 
-static atomic_long allocations, threads;
-static long refused_allocation, refused_from, refused_thread;
+static atomic_long allocations, threads, reads, writes;
+static long refused_allocation, refused_from, refused_thread, refused_read, refused_write, in_pieces;
 static int seen = -1;
 
 static long number_in(const char *name) {
@@ -29,6 +31,9 @@ __attribute__((constructor)) static void start(void) {
     refused_allocation = number_in("REFUSED_ALLOCATION");
     refused_from = number_in("REFUSED_FROM");
     refused_thread = number_in("REFUSED_THREAD");
+    refused_read = number_in("REFUSED_READ");
+    refused_write = number_in("REFUSED_WRITE");
+    in_pieces = number_in("IN_PIECES");
     if (getenv("SEEN"))
         seen = open(getenv("SEEN"), O_WRONLY | O_CREAT | O_APPEND, 0600);
 }
@@ -68,10 +73,36 @@ int pthread_create(pthread_t *thread, const pthread_attr_t *how, void *(*start)(
     return create(thread, how, start, given);
 }
 
-ssize_t write(int to, const void *bytes, size_t count) {
+/* How many bytes call number `count` of a kind may move; -1 where it is refused or interrupted. */
+static ssize_t room(long count, int refused, size_t wanted) {
+    if (refused) {
+        tell('x');
+        errno = EIO;
+        return -1;
+    }
+    if (in_pieces && count % 2) {
+        errno = EINTR;
+        return -1;
+    }
+    return in_pieces && wanted ? 1 : (ssize_t)wanted;
+}
+
+ssize_t read(int from, void *bytes, size_t wanted) {
+    tell('r');
+    long number = atomic_fetch_add(&reads, 1) + 1;
+    ssize_t count = room(number, number == refused_read, wanted);
+    return count < 0 ? count : syscall(SYS_read, from, bytes, (size_t)count);
+}
+
+ssize_t write(int to, const void *bytes, size_t wanted) {
+    ssize_t count = (ssize_t)wanted;
     if (to == 1 || to == 2)
         tell(to == 1 ? '1' : '2');
-    return syscall(SYS_write, to, bytes, count);
+    if (to == 1) {
+        long number = atomic_fetch_add(&writes, 1) + 1;
+        count = room(number, refused_write && number >= refused_write, wanted);
+    }
+    return count < 0 ? count : syscall(SYS_write, to, bytes, (size_t)count);
 }
 
 ssize_t __write(int to, const void *bytes, size_t count) {

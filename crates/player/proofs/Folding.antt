@@ -8,7 +8,7 @@ use Rattle.bounded_model.specs.declared.answers.TakeRefused.{TakeRefused}
 use Rattle.bounded_model.specs.declared.bulk.Folded.{Folded}
 use Rattle.bounded_model.specs.declared.views.PassView.{PassView}
 use Rattle.player.specs.Plays.{FoldTold}
-use Rattle.player.specs.StackCalls.{numbered}
+use Rattle.player.specs.Calls.{numbered}
 
 pub all_some : (values : List (List ℕ)) → AllByRecursion (λ place. IsSome place) (map (λ value. Some value) values)
 all_some [] = tt

@@ -1,19 +1,21 @@
 -- The lines answered so far, and those still to be answered.
-use Rattle.std.proofs.Common.{◌≡◌, ◌≢◌, ℕ, List, [], ◌∷◌, ◌++◌, map, sym, ap, subst, ◌∙◌, append_assoc, IsTrue, arith, Result, Ok, Err, OnOk}
+use Rattle.std.proofs.Common.{◌≡◌, ◌≢◌, ℕ, List, [], ◌∷◌, ◌++◌, map, refl, sym, ap, subst, ◌∙◌, append_assoc, IsTrue, arith, Result, Ok, Err, OnOk}
 use Rattle.std.specs.Prelude.{codes}
 use Rattle.std.specs.Char.{is_ascii_lowercase}
 use Rattle.std.proofs.lemmas.List.{append-nil}
+use Rattle.bounded_model.specs.declared.history.Order.{Order}
+use Rattle.bounded_model.specs.declared.history.Order.TheVariants.{Fifo, Lifo}
 use Rattle.bounded_model.specs.Machine.{Shape}
 use Rattle.script.specs.declared.answer.Answer.{Answer}
 use Rattle.script.specs.declared.answer.Answer.TheVariants as answer
 use Rattle.script.specs.declared.line.Act.{Act}
-use Rattle.script.specs.declared.line.Act.TheVariants.{Meet}
+use Rattle.script.specs.declared.line.Act.TheVariants.{Call, Begin, Step, Range, Fold, ReversedFold, Meet, Drop}
 use Rattle.script.specs.declared.line.Line.{Line}
 use Rattle.script.specs.declared.line.Line.TheVariants.{By, Finish}
 use Rattle.script.specs.declared.line.PassName.{PassName}
 use Rattle.script.specs.AnswerTexts.{answer_text}
-use Rattle.script.specs.Script.{IsAct, is_stack_act, text_of}
-use Rattle.player.specs.Plays.{Acts, Ends, Plays, World}
+use Rattle.script.specs.Script.{IsAct, is_act, is_bulk, text_of}
+use Rattle.player.specs.Plays.{Acts, Ends, IsFor, Plays, World}
 
 abbrev pub said : List Answer → List ℕ
 said answers = text_of (map answer_text answers)
@@ -42,11 +44,26 @@ told_end c first whole world written told =
     (t.0, t.1, sym (t.2 ∙ append-nil written))
 
 -- a meet names another letter
-pub meets_another : (name : ℕ) (act : Act) (other : PassName) → act ≡ Meet other → IsAct act → IsTrue (is_stack_act name act) → IsTrue (is_ascii_lowercase other.0) × (name ≢ other.0)
-meets_another name act other is good allowed =
+pub meets_another : (order : Order) (name : ℕ) (act : Act) (other : PassName) → act ≡ Meet other → IsAct act → IsTrue (is_act order name act) → IsTrue (is_ascii_lowercase other.0) × (name ≢ other.0)
+meets_another order name act other is good allowed =
     let lower : IsAct (Meet other) = rw is at good in
-    let apart : IsTrue (is_stack_act name (Meet other)) = rw is at allowed in
+    let apart : IsTrue (is_act order name (Meet other)) = rw is at allowed in
     (lower, λ e. grind (arith, apart, e))
+
+-- a script with ranges or folds is a stack's
+is_lifo : (order : Order) → IsTrue (is_bulk order) → order ≡ Lifo
+is_lifo Fifo bulk = absurd cc
+is_lifo Lifo bulk = refl
+
+pub is_for : (order : Order) (name : ℕ) (act : Act) → IsTrue (is_act order name act) → IsFor order act
+is_for order name (Call command) allowed = tt
+is_for order name (Begin command) allowed = tt
+is_for order name (Step count) allowed = tt
+is_for order name (Range values) allowed = is_lifo order allowed
+is_for order name Fold allowed = is_lifo order allowed
+is_for order name ReversedFold allowed = is_lifo order allowed
+is_for order name (Meet other) allowed = tt
+is_for order name Drop allowed = tt
 
 pub on_ok_more : {A E : Type 0} {P Q : Type 0} (result : Result A E) → (P → Q) → OnOk result P → OnOk result Q
 on_ok_more (Ok a) more p = more p

@@ -9,6 +9,8 @@ use Rattle.bounded_model.specs.declared.commands.Command.{Command}
 use Rattle.bounded_model.specs.declared.commands.Command.TheVariants as command
 use Rattle.bounded_model.specs.declared.commands.Reply.{Reply}
 use Rattle.bounded_model.specs.declared.commands.Reply.TheVariants as reply
+use Rattle.bounded_model.specs.declared.history.Order.{Order}
+use Rattle.bounded_model.specs.declared.history.Order.TheVariants.{Lifo}
 use Rattle.bounded_model.specs.declared.views.PassView.{PassView}
 use Rattle.bounded_model.specs.declared.views.RootView.{RootView}
 use Rattle.bounded_model.specs.Bulk.{PutsRange}
@@ -99,6 +101,13 @@ StepsTold c call u count (answer.Ended said told) (Resting w) = MakesUpTo count 
 StepsTold c call u count said after = ⊥
 
 -- ---- one line of one pass
+
+-- ranges and folds are a stack's
+abbrev pub IsFor : Order → Act → Type 0
+IsFor order (Range values) = order ≡ Lifo
+IsFor order Fold = order ≡ Lifo
+IsFor order ReversedFold = order ≡ Lifo
+IsFor order act = Unit {0}
 
 -- of a pass between its calls
 abbrev pub RestingTold : Shape → PassView (List ℕ) → Act → Answer → Named → Type 0

@@ -3,7 +3,7 @@
 ghost use Rattle.std.specs.Prelude.{◌≡◌, ℕ, IfOk, List};
 ghost use Rattle.bounded_model.specs.declared.commands.Command.{Command};
 ghost use Rattle.bounded_model.specs.Stepping.{Underway};
-ghost use Rattle.player.specs.Plays.{Acting, ActingTold, Named, RestingTold, StepsTold, Told};
+ghost use Rattle.player.specs.Plays.{Acting, ActingTold, IsFor, Named, RestingTold, StepsTold, Told};
 ghost use Rattle.player.specs.Shows.{Shows};
 ghost use Rattle.player.specs.declared.place.Place.TheVariants.{Acting as AtWork};
 ghost use Rattle.script.specs.declared.line.Act.TheVariants.{Meet};
@@ -26,6 +26,7 @@ pub fn act_at<'a, C: Played<'a>, R: Wait>(
 ) -> Result<(Place<C::Pass, C::Operation>, Answer<'a>), AllocError>
     requires place { (found : Named) × Shows (C.reading container.now) place found }
     requires alone { (other : PassName) → ¬ (act ≡ Meet other) }
+    requires fits { IsFor (C.reading container.now).shape.order act }
     ensures { (found : Named) → Shows (C.reading container.now) place found
         → IfOk result (λ done. (after : Named) × Shows (C.reading container.now) done.0 after
         × Told (C.reading container.now).shape found act.entry done.1 after) }
@@ -47,6 +48,7 @@ fn act_resting<'a, C: Played<'a>, R: Wait>(
 ) -> Result<(Place<C::Pass, C::Operation>, Answer<'a>), AllocError>
     requires pass { (C.reading container.now).is_pass pass }
     requires alone { (other : PassName) → ¬ (act ≡ Meet other) }
+    requires fits { IsFor (C.reading container.now).shape.order act }
     ensures { IfOk result (λ done. (after : Named) × Shows (C.reading container.now) done.0 after
         × RestingTold (C.reading container.now).shape ((C.reading container.now).pass pass) act.entry done.1 after) }
 {

@@ -2,10 +2,9 @@
 
 ghost use Rattle.std.specs.Prelude.{◌≡◌, ℕ, IsTrue, IfOk, List, MatchOption, true, false};
 ghost use Rattle.bounded_model.specs.declared.commands.Command.{Command};
-ghost use Rattle.bounded_model.specs.declared.history.Order.{Order};
+ghost use Rattle.bounded_model.specs.declared.history.Order.TheVariants.{Lifo};
 ghost use Rattle.bounded_model.specs.Laws.{IsFullOfPasses, Joins, Leaves, MeetGives, Splits};
 ghost use Rattle.bounded_model.specs.Stepping.{GoesOn, MatchStepped, OneStep, no_step};
-ghost use Rattle.script.specs.Script.{is_begun};
 ghost use Rattle.player.specs.Plays.{CallGives, FoldTold, RangeTold};
 ghost use Rattle.player.specs.Shows.{Reading};
 
@@ -70,7 +69,8 @@ pub trait Played<'a>: Drop {
             × CallGives (reading self.now).shape ((reading self.now).made operation).begun call
             ((reading self.now).pass back) reply) };
 
-    /// Puts a range of values by one exchange. Answers the values that were not put, too.
+    /// Puts a range of values by one exchange, where it is a stack. Answers the values that were not
+    /// put, too.
     fn range<R: Wait>(
         &self,
         rt: &R,
@@ -78,12 +78,14 @@ pub trait Played<'a>: Drop {
         by: Self::Pass,
         values: Values<'a>,
     ) -> Result<(Self::Pass, RangeReply, ValueList<'a>), AllocError>
-        requires { (reading self.now).is_pass by }
+        requires order { (reading self.now).shape.order ≡ Lifo }
+        requires pass { (reading self.now).is_pass by }
         ensures of { IfOk result (λ done. (reading self.now).is_pass done.0) }
         ensures gives { IfOk result (λ done. RangeTold (reading self.now).shape
             ((reading self.now).pass by) ((reading self.now).pass done.0) values.entry done.1 done.2) };
 
-    /// Takes all values by one exchange, and answers them from the top down, or the other way round.
+    /// Takes all values by one exchange, where it is a stack, and answers them from the top down, or
+    /// the other way round.
     fn fold<R: Wait>(
         &self,
         rt: &R,
@@ -91,7 +93,8 @@ pub trait Played<'a>: Drop {
         by: Self::Pass,
         reversed: bool,
     ) -> Result<(Self::Pass, Result<(u64, ValueList<'a>), TakeRefused>), AllocError>
-        requires { (reading self.now).is_pass by }
+        requires order { (reading self.now).shape.order ≡ Lifo }
+        requires pass { (reading self.now).is_pass by }
         ensures of { IfOk result (λ done. (reading self.now).is_pass done.0) }
         ensures gives { IfOk result (λ done. FoldTold (reading self.now).shape reversed
             ((reading self.now).pass by) ((reading self.now).pass done.0) done.1) };

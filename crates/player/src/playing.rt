@@ -3,8 +3,7 @@
 ghost use Rattle.std.specs.Prelude.{◌≡◌, ◌≢◌, ◌++◌, ℕ, IfOk, OnOk, IsTrue, List, codes, map, string_bytes};
 ghost use Rattle.std.specs.Char.{is_ascii_lowercase};
 ghost use Rattle.std.specs.List.{AllByRecursion};
-ghost use Rattle.bounded_model.specs.declared.history.Order.TheVariants.{Lifo};
-ghost use Rattle.player.specs.Plays.{Ends, Plays, Replied, World, start};
+ghost use Rattle.player.specs.Plays.{Ends, IsFor, Plays, Replied, World, start};
 ghost use Rattle.player.specs.Shows.{IsOn};
 ghost use Rattle.script.specs.AnswerTexts.{answer_text};
 ghost use Rattle.script.specs.Script.{FinishesLast, IsLine, is_allowed, text_of};
@@ -32,7 +31,8 @@ pub fn play<'a, C: Played<'a>, R: Wait>(
 ) -> Result<String, AllocError>
     requires root { (C.reading container).is_root root }
     requires each { AllByRecursion IsLine lines.items }
-    requires allowed { AllByRecursion (λ line. IsTrue (is_allowed Lifo line)) lines.items }
+    requires allowed { AllByRecursion
+        (λ line. IsTrue (is_allowed (C.reading container).shape.order line)) lines.items }
     requires finish_last { FinishesLast lines.items }
     ensures { IfOk result (λ output. (answers : List Answer)
         × Plays (C.reading container).shape (start ((C.reading container).root root)) lines.entry.items answers
@@ -69,6 +69,7 @@ fn play_line<'a, C: Played<'a>, R: Wait>(
     requires name { IsTrue (is_ascii_lowercase name.0) }
     requires other { (other : PassName) → what ≡ Meet other
         → IsTrue (is_ascii_lowercase other.0) × (name.0 ≢ other.0) }
+    requires fits { IsFor (C.reading container.now).shape.order what }
     ensures { (world : World) → IsOn (C.reading container.now) stage.old world
         → OnOk result ((next : World) × IsOn (C.reading container.now) stage.new next
         × Replied (C.reading container.now).shape world name.0 what.entry (string_bytes output.old) (string_bytes output.new) next) }

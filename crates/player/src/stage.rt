@@ -2,7 +2,7 @@
 
 ghost use Rattle.std.specs.Prelude.{◌≡◌, ◌≢◌, ◌-◌, if◌then◌else◌, List, IsTrue, IfOk, slice_set};
 ghost use Rattle.std.specs.Char.{is_ascii_lowercase};
-ghost use Rattle.player.specs.Plays.{Acts, Does, DoesMeet, Ends, JoinsAll, JoinsOne, MeetTold, Named, World, start};
+ghost use Rattle.player.specs.Plays.{Acts, Does, DoesMeet, Ends, IsFor, JoinsAll, JoinsOne, MeetTold, Named, World, start};
 ghost use Rattle.player.specs.Shows.{Found, IsOn, Shows, ShowsAll};
 ghost use Rattle.script.specs.declared.answer.Answer.TheVariants.{Met, NoPass};
 ghost use Rattle.script.specs.declared.line.Act.TheVariants.{Meet};
@@ -80,6 +80,7 @@ pub fn act<'a, C: Played<'a>, R: Wait>(
     requires name { IsTrue (is_ascii_lowercase name.0) }
     requires other { (other : PassName) → act ≡ Meet other
         → IsTrue (is_ascii_lowercase other.0) × (name.0 ≢ other.0) }
+    requires fits { IsFor (C.reading container.now).shape.order act }
     ensures { (world : World) → IsOn (C.reading container.now) stage.old world
         → IfOk result (λ answer. (next : World) × IsOn (C.reading container.now) stage.new next
         × Acts (C.reading container.now).shape world name.0 act.entry answer next) }
@@ -102,6 +103,7 @@ fn act_alone<'a, C: Played<'a>, R: Wait>(
     requires on { (world : World) × IsOn (C.reading container.now) stage.old world }
     requires name { IsTrue (is_ascii_lowercase name.0) }
     requires alone { (other : PassName) → ¬ (act ≡ Meet other) }
+    requires fits { IsFor (C.reading container.now).shape.order act }
     ensures { (world : World) → IsOn (C.reading container.now) stage.old world
         → IfOk result (λ answer. (next : World) × IsOn (C.reading container.now) stage.new next
         × Does (C.reading container.now).shape world name.0 act.entry answer next) }

@@ -1,6 +1,6 @@
 pub mod AllDelivered
-pub mod Answering
 pub mod Fronts
 pub mod Outcomes
 pub mod Readers
+pub mod Sources
 pub mod Writing

@@ -4,7 +4,6 @@ use Rattle.std.specs.Io.KnownBytes.{Appends}
 use Rattle.program.specs.declared.fault.ReplayFault.{ReplayFault}
 use Rattle.program.specs.declared.fault.ReplayFault.TheVariants.{NoMemory, Device, NoFinalNewline, TooLong, BadLine, Output}
 use Rattle.bounded_model.specs.declared.history.Order.{Order}
-use Rattle.bounded_model.specs.declared.history.Order.TheVariants.{Fifo, Lifo}
 use Rattle.script.specs.declared.answer.Answer.{Answer}
 use Rattle.script.specs.declared.line.Line.{Line}
 use Rattle.bounded_model.specs.Laws.{fresh}
@@ -12,14 +11,12 @@ use Rattle.player.specs.Plays.{Plays, start}
 use Rattle.script.specs.AnswerTexts.{answer_text}
 use Rattle.script.specs.Faults.{IsUnended, IsFirstBad, IsAccepted}
 use Rattle.script.specs.Reading.{split_lines}
-use Rattle.program.specs.Replies.{output_of}
 use Rattle.script.specs.Script.{Head, IsScript, text_of}
 
--- what is written for a script: over a sequential list exactly the bounded machine's replies, over a
--- stack the answers of its calls, each under the stack's own laws
+-- what is written for a script, which is played over a new container of this order: the answers of its calls, each under
+-- the container's own laws
 abbrev pub IsOutputIn : Order → Head → List Line → List ℕ → Type 0
-IsOutputIn Fifo head lines output = output ≡ output_of head lines
-IsOutputIn Lifo head lines output = (answers : List Answer) × Plays (record { order = Lifo; capacity = head.capacity; limit = head.tag_limit }) (start fresh) lines answers × (output ≡ text_of (map answer_text answers))
+IsOutputIn order head lines output = (answers : List Answer) × Plays (record { order = order; capacity = head.capacity; limit = head.tag_limit }) (start fresh) lines answers × (output ≡ text_of (map answer_text answers))
 
 abbrev pub IsOutputOf : Head → List Line → List ℕ → Type 0
 IsOutputOf head lines output = IsOutputIn head.order head lines output

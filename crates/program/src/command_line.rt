@@ -13,11 +13,17 @@ pub const MAX_COUNT: u32 = 65_535;
 /// The most files of a relay.
 pub const MAX_FILES: usize = 16;
 
-const ABOUT: &str =
-    "Runs bounded lock-free containers: relays the lines of files through one, or replays a script of its calls";
+/// The program's version.
+pub const VERSION: &str = "0.1.0";
 
-const EXAMPLES: &str =
-    "Without words, a script is read from standard input. `lockfree relay --help` tells the rest.
+// The parser breaks no lines: these texts stay within 80 columns.
+const ABOUT: &str = "Runs bounded lock-free containers: replays a script of calls on one,
+or relays the lines of files through one";
+
+const EXAMPLES: &str = "A container is a queue, from which the first value in comes out first, or a
+stack, from which the last value in comes out first. Without words, a script is
+read from standard input. `lockfree relay --help` and `lockfree replay --help`
+tell the rest.
 
 Examples:
   lockfree < script.txt
@@ -27,30 +33,37 @@ Examples:
 const ABOUT_REPLAY: &str =
     "Replays a script of calls, and writes a reply for each line after the first";
 
-const REPLAY_EXAMPLE: &str = "Example:
-  lockfree replay script.txt
-
-A script that starts
-  stack 1 7
-  a put x
-  a put y
-is answered with
-  put 0
-  full y";
-
-const ABOUT_RELAY: &str =
-    "Relays the lines of files through one container, a producer thread for each file, and writes how many lines of each were delivered, left and unsent";
-
-const RELAY_EXAMPLE: &str =
-    "A line has at most 1,024 bytes and ends in a line feed; a file has at most 65,535 lines.
+const REPLAY_EXAMPLE: &str =
+    "A queue gives its values in the order of their puts, a stack the last one first.
 
 Example:
-  lockfree relay --kind queue --capacity 1024 --consumers 4 --list a.txt b.txt";
+  printf 'stack 2 7\\na put x\\na put y\\na take\\n' | lockfree replay -
+
+is answered with
+  put 0
+  put 1
+  take 2 y";
+
+const ABOUT_RELAY: &str =
+    "Relays the lines of files through one container: a thread for each file puts
+its lines in, others take lines out. Writes how many lines of each file were
+delivered, left and unsent";
+
+const RELAY_EXAMPLE: &str =
+    "A queue delivers the lines of each file in their order. A stack delivers the
+last line in first, so only the lines' numbers tell in which order they went in.
+A line has at most 1,024 bytes and ends in a line feed; a file has at most
+65,535 lines.
+
+Examples:
+  lockfree relay --kind queue --capacity 1024 --consumers 4 --list a.txt b.txt
+  seq 1000 | lockfree relay --kind stack --capacity 8 --consumers 2 --stats -";
 
 /// The command line.
 pub fn command_line<'a>(alloc: Global) -> Result<Command<'a>, AllocError> {
     Command::new(alloc, "lockfree")
         .bin_name("lockfree")?
+        .version(VERSION)
         .about(ABOUT)
         .after_help(EXAMPLES)
         .subcommand(replay(alloc)?)?
@@ -62,7 +75,7 @@ fn replay<'a>(alloc: Global) -> Result<Command<'a>, AllocError> {
         .value_name("FILE")
         .required(true)
         .action(ArgAction::Set)
-        .help("The script");
+        .help("The script; - is standard input");
     Command::new(alloc, "replay")
         .about(ABOUT_REPLAY)
         .after_help(REPLAY_EXAMPLE)
@@ -75,7 +88,7 @@ fn relay<'a>(alloc: Global) -> Result<Command<'a>, AllocError> {
         .required(true)
         .num_args(1..=MAX_FILES)
         .action(ArgAction::Append)
-        .help("The files, 1 to 16 of them; file 1 is sender 0");
+        .help("The files, 1 to 16 of them; file 1 is sender 0.\n- is standard input, once");
     Command::new(alloc, "relay")
         .about(ABOUT_RELAY)
         .after_help(RELAY_EXAMPLE)
@@ -86,6 +99,7 @@ fn relay<'a>(alloc: Global) -> Result<Command<'a>, AllocError> {
         .arg(close_after(alloc))?
         .arg(shut_after(alloc))?
         .arg(list(alloc))?
+        .arg(stats(alloc))?
         .arg(files)
 }
 
@@ -96,7 +110,7 @@ fn kind<'a>(alloc: Global) -> Arg<'a> {
         .required(true)
         .value_parser(["queue", "stack"].as_slice())
         .help(
-            "Which container: from a queue the first line in comes out first, and each file's lines in their order; from a stack the last one in",
+            "Which container: from a queue the first line in comes\nout first, from a stack the last one",
         )
 }
 
@@ -124,7 +138,7 @@ fn take<'a>(alloc: Global) -> Arg<'a> {
         .value_name("K")
         .value_parser(value_parser!(u32).range(0..=i64::from(MAX_COUNT)))
         .help(
-            "Each consumer ends after K lines, 0 to 65,535; then N + C * K lines have to be room for all",
+            "Each consumer ends after K lines, 0 to 65,535; the\nfiles then have N + C * K lines at most",
         )
 }
 
@@ -134,7 +148,7 @@ fn close_after<'a>(alloc: Global) -> Arg<'a> {
         .value_name("M")
         .value_parser(value_parser!(u32).range(0..=i64::from(MAX_COUNT)))
         .help(
-            "The first file's producer closes the container after M lines, 0 to 65,535; no line gets in afterwards",
+            "The first file's producer closes the container after\nM lines, 0 to 65,535; no line gets in afterwards",
         )
 }
 
@@ -144,7 +158,7 @@ fn shut_after<'a>(alloc: Global) -> Arg<'a> {
         .value_name("M")
         .value_parser(value_parser!(u32).range(0..=i64::from(MAX_COUNT)))
         .help(
-            "The first consumer shuts the container after M lines, 0 to 65,535; no line gets out afterwards",
+            "The first consumer shuts the container after M lines,\n0 to 65,535; no line gets out afterwards",
         )
 }
 
@@ -152,5 +166,14 @@ fn list<'a>(alloc: Global) -> Arg<'a> {
     Arg::new(alloc, "list")
         .long("list")
         .action(ArgAction::SetTrue)
-        .help("Also writes a line for each line of the files: taken, left or unsent")
+        .help("Also writes a line for each line of the files: taken,\nleft or unsent")
+}
+
+fn stats<'a>(alloc: Global) -> Arg<'a> {
+    Arg::new(alloc, "stats")
+        .long("stats")
+        .action(ArgAction::SetTrue)
+        .help(
+            "Tells on standard error how long it took, how many\nlines each consumer took, and how often the container\nwas full or empty",
+        )
 }

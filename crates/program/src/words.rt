@@ -1,7 +1,7 @@
 //! What the words of the command line ask for.
 
-ghost use Rattle.std.specs.Prelude.{◌≡◌, ◌↔◌, ◌≤◌, IsTrue, IfOk, IfSome};
-ghost use Rattle.program.specs.Ranges.{AreInRange, IsInRange, plan_of};
+ghost use Rattle.std.specs.Prelude.{◌≡◌, ◌↔◌, ◌≤◌, Contains, IsTrue, IfOk, IfSome, codes, map};
+ghost use Rattle.program.specs.Ranges.{AreInRange, IsInRange, IsTold, plan_of};
 
 use crate::command_line::{MAX_CONSUMERS, MAX_COUNT, MAX_FILES, command_line};
 use clap::ArgMatches;
@@ -45,12 +45,14 @@ pub enum Chosen {
     Replay(Option<String>),
     /// Relay these files.
     Relay(RelayArgs, Vec<String>),
+    /// Relay these files, and tell of it on standard error.
+    Measured(RelayArgs, Vec<String>),
 }
 
 /// Why the words ask for nothing that the program does.
 #[derive(Debug, Drop, Error)]
 pub enum WordsRefused {
-    /// They ask for help, which is this error's text.
+    /// They ask for help or for the version, which is this error's text.
     #[error("{0}")]
     Help(clap::Error),
     /// They are not understood, a value is out of its range, or the allocator had no memory.
@@ -71,9 +73,13 @@ impl<T: Drop> From<AllocFailed<T>> for WordsRefused {
 }
 
 impl From<clap::Error> for WordsRefused {
+    ghost use Rattle.program.specs.Ranges.{IsRefusalOf};
+
+    ghost from_gives = { IsRefusalOf };
+
     fn from(error: clap::Error) -> WordsRefused {
         match error.kind() {
-            ErrorKind::DisplayHelp => WordsRefused::Help(error),
+            ErrorKind::DisplayHelp | ErrorKind::DisplayVersion => WordsRefused::Help(error),
             _ => WordsRefused::Bad,
         }
     }
@@ -81,11 +87,13 @@ impl From<clap::Error> for WordsRefused {
 
 /// Reads the words of the command line, the program's name first.
 ///
-/// `Help` where they ask for it; `Bad` where they are not understood, a value is not in its range,
-/// or the allocator had no memory.
+/// `Help` where they ask for it or for the version; `Bad` where they are not understood, a value is
+/// not in its range, or the allocator had no memory.
 pub fn read_words<'a>(alloc: Global, words: &'a [&'a str]) -> Result<Chosen, WordsRefused>
     // Every value lies in its range, and a relay has 1 to 16 files.
-    ensures { IfOk result AreInRange }
+    ensures ranges { IfOk result AreInRange }
+    // A relay is told of only where the words ask for it.
+    ensures asked { IfOk result (λ chosen. IsTold chosen → Contains (map (λ word. word.now) words.now) (codes "--stats")) }
 {
     let matches = command_line(alloc)?.try_get_matches_from(words)?;
     match matches.subcommand() {
@@ -94,13 +102,29 @@ pub fn read_words<'a>(alloc: Global, words: &'a [&'a str]) -> Result<Chosen, Wor
             let file = found.get_str("file").ok_or(WordsRefused::Bad)?;
             Ok(Chosen::Replay(Some(String::from_str(alloc, file)?)))
         }
-        Some((_, found)) => relay_of(alloc, found),
+        Some((_, found)) => {
+            let is_told = found.get_flag("stats") && has_stats(words);
+            relay_of(alloc, found, is_told)
+        }
     }
 }
 
-// The relay that these words ask for.
-fn relay_of(alloc: Global, found: &ArgMatches<'_>) -> Result<Chosen, WordsRefused>
-    ensures { IfOk result AreInRange }
+// Whether a word asks for stats.
+fn has_stats(words: &[&str]) -> bool
+    ensures { IsTrue result → Contains (map (λ word. word.now) words.now) (codes "--stats") }
+{
+    for word in words {
+        if *word == "--stats" {
+            return true;
+        }
+    }
+    false
+}
+
+// The relay that these words ask for, and whether it is told of.
+fn relay_of(alloc: Global, found: &ArgMatches<'_>, is_told: bool) -> Result<Chosen, WordsRefused>
+    ensures ranges { IfOk result AreInRange }
+    ensures told { IfOk result (λ chosen. IsTold chosen → IsTrue is_told) }
 {
     let args = args_of(found).ok_or(WordsRefused::Bad)?;
     let mut files = Vec::new(alloc);
@@ -109,6 +133,9 @@ fn relay_of(alloc: Global, found: &ArgMatches<'_>) -> Result<Chosen, WordsRefuse
     }
     if files.is_empty() || files.len() > MAX_FILES {
         return Err(WordsRefused::Bad);
+    }
+    if is_told {
+        return Ok(Chosen::Measured(args, files));
     }
     Ok(Chosen::Relay(args, files))
 }

@@ -145,9 +145,42 @@ fn whole_calls(rt: HostRuntime) {
         ),
         ("queue 1 2\n", ""),
         ("stack 1 2\na look\n", "look empty\n"),
+    ];
+    for (script, replies) in cases {
+        assert_replies(&rt, script, replies);
+    }
+}
+
+#[test]
+fn single_steps(rt: HostRuntime) {
+    let cases = [
         (
             "stack 1 7\na begin put x\na step 5\na put y\na step 9\na drop\n",
             "begun\nagain 5\nbusy\nput 0 steps 6\nnothing begun\n",
+        ),
+        // A put and a take of a queue alone: 14 steps and 12.
+        (
+            "queue 2 7\na begin put x\na step 13\na step 1\na begin take\na step 11\na step 1\n",
+            "begun\nagain 13\nput 0 steps 14\nbegun\nagain 11\ntake 0 x steps 12\n",
+        ),
+        // The tail lags behind a put that has linked its node, and the take helps it.
+        (
+            "queue 2 7\na begin put x\na step 13\nb begin take\nb step 20\na step 1\n",
+            "begun\nagain 13\nbegun\ntake 0 x steps 17\nput 0 steps 14\n",
+        ),
+        // A value that is linked is left, though its put was stopped for good.
+        (
+            "queue 2 7\na put x\nb begin put y\nb step 13\nfinish\n",
+            "put 0\nbegun\nagain 13\nrest x y\n",
+        ),
+        (
+            "queue 1 7\na look\na put x\na look\nc look\na begin look\na step 3\nb step 1\nb meet a\n",
+            "look empty\nput 0\nlook some\nlook some\nbegun\nlook some steps 3\nnothing begun\nmet\n",
+        ),
+        // A put that is dropped with a cell in its hand leaves no room, and nothing else.
+        (
+            "queue 1 7\na begin put x\na step 3\na drop\na drop\nb put y\nb take\nb close\nb put y\nfinish\n",
+            "begun\nagain 3\ndropped\nnothing begun\nfull y\nempty\nclose true\nclosed y\nrest\n",
         ),
     ];
     for (script, replies) in cases {
@@ -163,7 +196,7 @@ fn bad_scripts(rt: HostRuntime) {
     assert_refused(&rt, b"queue 1 7", ReplayFault::NoFinalNewline);
     assert_refused(
         &rt,
-        b"queue 1 7\na put x\na step 1\n",
+        b"queue 1 7\na put x\na range y\n",
         ReplayFault::BadLine(3),
     );
     assert_refused(

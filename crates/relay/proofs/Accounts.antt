@@ -17,15 +17,15 @@ use Rattle.relay.specs.declared.workers.ProducerEnd.TheVariants.{SentAll, Closed
 use Rattle.relay.specs.declared.workers.ConsumerEnd.TheVariants.{TookEnough, ShutIt, FoundClosed, FoundShut, FoundSpent, NoRoom}
 use Rattle.relay.specs.declared.messages.Message.{Message}
 use Rattle.relay.specs.declared.plan.Orders.{Orders}
-use Rattle.relay.specs.declared.workers.Sent.{Sent}
-use Rattle.relay.specs.declared.workers.Took.{Took}
 use Rattle.relay.specs.Promises.{Lists, total}
 use Rattle.relay.specs.Passes.{gave, JoinsAll}
 use Rattle.relay.specs.Parts.{MayUse}
 use Rattle.relay.specs.Workers.{Worker, Producer, Consumer, Closer, DidIn, Did, DidBy, Once, Unused, Ran, items_of, moves_of}
 use Rattle.relay.proofs.Lists.{EachFrom_append, Every_front, Every_back}
 use Rattle.relay.proofs.Joins.{JoinsAll_append, JoinsAll_more}
-use Rattle.relay.specs.Worked.{TookAs, ClosedAs, EachSent}
+use Rattle.relay.specs.Worked.{TookAs, ClosedAs, EachSentFrom}
+use Rattle.relay.specs.Jobs.{Sent, Took}
+use Rattle.relay.specs.Pools.{PoolView}
 
 abbrev pub sender_of : Message → ℕ
 sender_of m = m.sender
@@ -73,34 +73,34 @@ did_at c plan r a v w sound number joined d =
     subst (λ n. DidIn sender_of c plan r.seen n (own n r.seen) w) number
     (subst (λ es. DidIn sender_of c plan r.seen v.number es w) (sym (own-joined c sound joined)) later)
 
-module _ {P : Type 0} (is_pass : P → Type 0) (view : P → PassView Message) (c : Shape) (orders : Orders) where
+module _ {P : Type 0} (pool : PoolView P) (orders : Orders) where
   abbrev pub senders : Lists → List (Sent P) → List (Worker Message)
   senders [] ss = []
   senders (l ∷ ls) [] = []
-  senders (l ∷ ls) (s ∷ ss) = Producer l.items s.unsent.items s.end ∷ senders ls ss
+  senders (l ∷ ls) (s ∷ ss) = Producer l.items s.list.items s.end ∷ senders ls ss
 
   abbrev pub taker : Took P → Worker Message
-  taker t = Consumer (moves_of orders.producers t.taken.items) t.end
+  taker t = Consumer (moves_of orders.producers t.list.items) t.end
 
   abbrev pub workers : Lists → List (Sent P) → List (Took P) → Bool → List (Worker Message)
   workers inputs sent took used = (senders inputs sent ++ map taker took) ++ Closer used ∷ []
 
   abbrev pub views : List (Sent P) → List (Took P) → P → List (PassView Message)
-  views sent took closer = (map (λ s. view s.pass) sent ++ map (λ t. view t.pass) took) ++ view closer ∷ []
+  views sent took closer = (map (λ s. pool.view s.pass) sent ++ map (λ t. pool.view t.pass) took) ++ pool.view closer ∷ []
 
-  pub senders_long : (a : ℕ) (inputs : Lists) (sent : List (Sent P)) → EachSent is_pass view c orders a inputs sent → length (senders inputs sent) ≡ length inputs
+  pub senders_long : (a : ℕ) (inputs : Lists) (sent : List (Sent P)) → EachSentFrom pool orders a inputs sent → length (senders inputs sent) ≡ length inputs
   senders_long a [] [] h = refl
   senders_long a [] (s ∷ ss) h = absurd h
   senders_long a (l ∷ ls) [] h = absurd h
   senders_long a (l ∷ ls) (s ∷ ss) h = ap suc (senders_long (suc a) ls ss h.1)
 
-  pub sent_long : (a : ℕ) (inputs : Lists) (sent : List (Sent P)) → EachSent is_pass view c orders a inputs sent → length sent ≡ length inputs
+  pub sent_long : (a : ℕ) (inputs : Lists) (sent : List (Sent P)) → EachSentFrom pool orders a inputs sent → length sent ≡ length inputs
   sent_long a [] [] h = refl
   sent_long a [] (s ∷ ss) h = absurd h
   sent_long a (l ∷ ls) [] h = absurd h
   sent_long a (l ∷ ls) (s ∷ ss) h = ap suc (sent_long (suc a) ls ss h.1)
 
-  senders_items : (a : ℕ) (inputs : Lists) (sent : List (Sent P)) → EachSent is_pass view c orders a inputs sent → length (flat_map items_of (senders inputs sent)) ≡ total inputs
+  senders_items : (a : ℕ) (inputs : Lists) (sent : List (Sent P)) → EachSentFrom pool orders a inputs sent → length (flat_map items_of (senders inputs sent)) ≡ total inputs
   senders_items a [] [] h = refl
   senders_items a [] (s ∷ ss) h = absurd h
   senders_items a (l ∷ ls) [] h = absurd h
@@ -114,31 +114,31 @@ module _ {P : Type 0} (is_pass : P → Type 0) (view : P → PassView Message) (
   unused_takers a used [] = tt
   unused_takers a used (t ∷ ts) = (tt, unused_takers (suc a) used ts)
 
-  unused_senders : (a : ℕ) (used : Bool) (inputs : Lists) (sent : List (Sent P)) → EachSent is_pass view c orders a inputs sent → Every (MayUse used) sent → EachFrom (λ n w. Unused used w) a (senders inputs sent)
+  unused_senders : (a : ℕ) (used : Bool) (inputs : Lists) (sent : List (Sent P)) → EachSentFrom pool orders a inputs sent → Every (MayUse used) sent → EachFrom (λ n w. Unused used w) a (senders inputs sent)
   unused_senders a used [] [] h m = tt
   unused_senders a used [] (s ∷ ss) h m = absurd h
   unused_senders a used (l ∷ ls) [] h m = absurd h
   unused_senders a used (l ∷ ls) (s ∷ ss) h m = (m.0, unused_senders (suc a) used ls ss h.1 m.1)
 
-  module _ (r : RootView Message) (sound : IsSound c r) where
-    senders_did : (a : ℕ) (inputs : Lists) (sent : List (Sent P)) → EachSent is_pass view c orders a inputs sent → Every (HasJoined r) (map (λ s. view s.pass) sent) → EachFrom (Did sender_of c orders r.seen) a (senders inputs sent)
+  module _ (r : RootView Message) (sound : IsSound pool.shape r) where
+    senders_did : (a : ℕ) (inputs : Lists) (sent : List (Sent P)) → EachSentFrom pool orders a inputs sent → Every (HasJoined r) (map (λ s. pool.view s.pass) sent) → EachFrom (Did sender_of pool.shape orders r.seen) a (senders inputs sent)
     senders_did a [] [] h j = tt
     senders_did a [] (s ∷ ss) h j = absurd h
     senders_did a (l ∷ ls) [] h j = absurd h
-    senders_did a (l ∷ ls) (s ∷ ss) h j = (did_at c orders r a (view s.pass) (Producer l.items s.unsent.items s.end) sound h.0.number j.0 h.0.did, senders_did (suc a) ls ss h.1 j.1)
+    senders_did a (l ∷ ls) (s ∷ ss) h j = (did_at pool.shape orders r a (pool.view s.pass) (Producer l.items s.list.items s.end) sound h.0.number j.0 h.0.did, senders_did (suc a) ls ss h.1 j.1)
 
-    takers_did : (a k : ℕ) (took : List (Took P)) → orders.producers + k ≡ a → EachFrom (TookAs is_pass view c orders) k took → Every (HasJoined r) (map (λ t. view t.pass) took) → EachFrom (Did sender_of c orders r.seen) a (map taker took)
+    takers_did : (a k : ℕ) (took : List (Took P)) → orders.producers + k ≡ a → EachFrom (TookAs pool orders) k took → Every (HasJoined r) (map (λ t. pool.view t.pass) took) → EachFrom (Did sender_of pool.shape orders r.seen) a (map taker took)
     takers_did a k [] e h j = tt
-    takers_did a k (t ∷ ts) e h j = (did_at c orders r a (view t.pass) (taker t) sound (h.0.number ∙ e) j.0 h.0.did, takers_did (suc a) (suc k) ts (omega (arith, e)) h.1 j.1)
+    takers_did a k (t ∷ ts) e h j = (did_at pool.shape orders r a (pool.view t.pass) (taker t) sound (h.0.number ∙ e) j.0 h.0.did, takers_did (suc a) (suc k) ts (omega (arith, e)) h.1 j.1)
 
   -- a relay whose workers have ended, and whose passes are all joined
   pub record Ends (inputs : Lists) (sent : List (Sent P)) (took : List (Took P)) (closer : P) (used : Bool) (r : RootView Message) : Type 0 where
-    pub senders_are : EachSent is_pass view c orders 0 inputs sent
-    pub takers_are : EachFrom (TookAs is_pass view c orders) 0 took
-    pub closer_is : ClosedAs is_pass view (length inputs + length took) closer used
+    pub senders_are : EachSentFrom pool orders 0 inputs sent
+    pub takers_are : EachFrom (TookAs pool orders) 0 took
+    pub closer_is : ClosedAs pool (length inputs + length took) closer used
     pub may : Every (MayUse used) sent
     pub joined : JoinsAll (gave (length inputs + length took + 1)) (views sent took closer) r
-    pub sound : IsSound c r
+    pub sound : IsSound pool.shape r
     pub producers : orders.producers ≡ length inputs
     pub messages : orders.messages ≡ total inputs
 
@@ -160,26 +160,26 @@ module _ {P : Type 0} (is_pass : P → Type 0) (view : P → PassView Message) (
           given,
           joined_account (gave (length inputs + length took + 1)) r (views sent took closer) e.joined,
           sent_long 0 inputs sent e.senders_are,
-          length-append (map (λ (s : Sent P). view s.pass) sent ++ map (λ (t : Took P). view t.pass) took) (view closer ∷ []),
-          length-append (map (λ (s : Sent P). view s.pass) sent) (map (λ (t : Took P). view t.pass) took),
-          length-map sent (λ (s : Sent P). view s.pass),
-          length-map took (λ (t : Took P). view t.pass),
+          length-append (map (λ (s : Sent P). pool.view s.pass) sent ++ map (λ (t : Took P). pool.view t.pass) took) (pool.view closer ∷ []),
+          length-append (map (λ (s : Sent P). pool.view s.pass) sent) (map (λ (t : Took P). pool.view t.pass) took),
+          length-map sent (λ (s : Sent P). pool.view s.pass),
+          length-map took (λ (t : Took P). pool.view t.pass),
         )
 
     everyone : Every (HasJoined r) (views sent took closer)
     everyone = all_joined (gave (length inputs + length took + 1)) r (views sent took closer) e.joined
 
-    did_all : EachFrom (Did sender_of c orders r.seen) 0 (workers inputs sent took used)
+    did_all : EachFrom (Did sender_of pool.shape orders r.seen) 0 (workers inputs sent took used)
     did_all =
-        let ss = map (λ (s : Sent P). view s.pass) sent in
-        let ts = map (λ (t : Took P). view t.pass) took in
-        let both = Every_front (HasJoined r) (ss ++ ts) (view closer ∷ []) everyone in
-        let last = Every_back (HasJoined r) (ss ++ ts) (view closer ∷ []) everyone in
+        let ss = map (λ (s : Sent P). pool.view s.pass) sent in
+        let ts = map (λ (t : Took P). pool.view t.pass) took in
+        let both = Every_front (HasJoined r) (ss ++ ts) (pool.view closer ∷ []) everyone in
+        let last = Every_back (HasJoined r) (ss ++ ts) (pool.view closer ∷ []) everyone in
         let one = senders_did r e.sound 0 inputs sent e.senders_are (Every_front (HasJoined r) ss ts both) in
         let two = takers_did r e.sound (length inputs) 0 took (omega (arith, e.producers)) e.takers_are (Every_back (HasJoined r) ss ts both) in
-        let three = did_at c orders r (length inputs + length took) (view closer) (Closer used) e.sound e.closer_is.is last.0 e.closer_is.did in
-        EachFrom_append (Did sender_of c orders r.seen) 0 (length inputs + length took) (senders inputs sent ++ map taker took) (Closer used ∷ []) both_long
-        (EachFrom_append (Did sender_of c orders r.seen) 0 (length inputs) (senders inputs sent) (map taker took) (omega (arith, senders_long 0 inputs sent e.senders_are)) one two) (three, tt)
+        let three = did_at pool.shape orders r (length inputs + length took) (pool.view closer) (Closer used) e.sound e.closer_is.is last.0 e.closer_is.did in
+        EachFrom_append (Did sender_of pool.shape orders r.seen) 0 (length inputs + length took) (senders inputs sent ++ map taker took) (Closer used ∷ []) both_long
+        (EachFrom_append (Did sender_of pool.shape orders r.seen) 0 (length inputs) (senders inputs sent) (map taker took) (omega (arith, senders_long 0 inputs sent e.senders_are)) one two) (three, tt)
 
     unused_all : EachFrom (λ n w. Unused used w) 0 (workers inputs sent took used)
     unused_all = EachFrom_append (λ n w. Unused used w) 0 (length inputs + length took) (senders inputs sent ++ map taker took) (Closer used ∷ []) both_long
@@ -196,7 +196,7 @@ module _ {P : Type 0} (is_pass : P → Type 0) (view : P → PassView Message) (
         ))
 
     -- it was a run as the promises want it
-    pub ran : Ran sender_of c orders r.seen (workers inputs sent took used) used
+    pub ran : Ran sender_of pool.shape orders r.seen (workers inputs sent took used) used
     ran = record {
       legal = e.sound.legal;
       known = subst (λ n. Every (λ (v : Event Message). pass_of v < n) r.seen) (given ∙ sym workers_long) e.sound.known;
@@ -205,22 +205,22 @@ module _ {P : Type 0} (is_pass : P → Type 0) (view : P → PassView Message) (
       messages = e.messages ∙ sym all_items;
     }
 
-module _ {P : Type 0} (is_pass : P → Type 0) (view : P → PassView Message) (c : Shape) (orders : Orders) (inputs : Lists) (sent : List (Sent P)) (took : List (Took P)) (closer : P) (used : Bool) where
+module _ {P : Type 0} (pool : PoolView P) (orders : Orders) (inputs : Lists) (sent : List (Sent P)) (took : List (Took P)) (closer : P) (used : Bool) where
   -- from what each step of the relay says
-  pub ends_from : (p q : ℕ) (r₀ r₁ r₂ r : RootView Message) → length inputs ≡ p → length took ≡ q → EachSent is_pass view c orders 0 inputs sent → EachFrom (TookAs is_pass view c orders) 0 took
-      → ClosedAs is_pass view (p + q) closer used → All (MayUse used) sent → r₀ ≡ gave (p + q + 1) → JoinsAll r₀ (map (λ s. view s.pass) sent) r₁ → JoinsAll r₁ (map (λ t. view t.pass) took) r₂
-      → Joins r₂ (view closer) r → IsSound c r → orders.producers ≡ p → orders.messages ≡ total inputs → Ends is_pass view c orders inputs sent took closer used r
+  pub ends_from : (p q : ℕ) (r₀ r₁ r₂ r : RootView Message) → length inputs ≡ p → length took ≡ q → EachSentFrom pool orders 0 inputs sent → EachFrom (TookAs pool orders) 0 took
+      → ClosedAs pool (p + q) closer used → All (MayUse used) sent → r₀ ≡ gave (p + q + 1) → JoinsAll r₀ (map (λ s. pool.view s.pass) sent) r₁ → JoinsAll r₁ (map (λ t. pool.view t.pass) took) r₂
+      → Joins r₂ (pool.view closer) r → IsSound pool.shape r → orders.producers ≡ p → orders.messages ≡ total inputs → Ends pool orders inputs sent took closer used r
   ends_from p q r₀ r₁ r₂ r is_p is_q senders' takers' closer' may given one two three sound producers messages =
       let both : p + q ≡ length inputs + length took = omega (arith, is_p, is_q) in
-      let ss = map (λ (s : Sent P). view s.pass) sent in
-      let ts = map (λ (t : Took P). view t.pass) took in
+      let ss = map (λ (s : Sent P). pool.view s.pass) sent in
+      let ts = map (λ (t : Took P). pool.view t.pass) took in
       record {
         senders_are = senders';
         takers_are = takers';
-        closer_is = subst (λ n. ClosedAs is_pass view n closer used) both closer';
+        closer_is = subst (λ n. ClosedAs pool n closer used) both closer';
         may = recursion_from_All (MayUse used) sent may;
-        joined = subst (λ n. JoinsAll (gave (n + 1)) (views is_pass view c orders sent took closer) r) both
-            (subst (λ s. JoinsAll s (views is_pass view c orders sent took closer) r) given (JoinsAll_more r₀ r₂ r (ss ++ ts) (view closer) (JoinsAll_append r₀ r₁ r₂ ss ts one two) three));
+        joined = subst (λ n. JoinsAll (gave (n + 1)) (views pool orders sent took closer) r) both
+            (subst (λ s. JoinsAll s (views pool orders sent took closer) r) given (JoinsAll_more r₀ r₂ r (ss ++ ts) (pool.view closer) (JoinsAll_append r₀ r₁ r₂ ss ts one two) three));
         sound = sound;
         producers = producers ∙ sym is_p;
         messages = messages;

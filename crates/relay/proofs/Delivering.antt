@@ -9,19 +9,18 @@ use Rattle.std.proofs.lemmas.Bool.Decides.{nat_tests}
 use Rattle.std.proofs.lemmas.List.Sums.{sum_by-cons, sum_by-append}
 use Rattle.bounded_model.specs.declared.history.Event.{Event}
 use Rattle.bounded_model.specs.declared.history.Event.TheVariants.{Hold, Put, Take, TakeAll, Free, Close, Shut}
-use Rattle.bounded_model.specs.declared.views.PassView.{PassView}
-use Rattle.bounded_model.specs.Machine.{Shape}
 use Rattle.bounded_model.specs.Histories.{own, pass_of}
 use Rattle.bounded_model.specs.Gathers.{gather, took_of, moved_by, values_of, Rises, Counts, EachFrom}
 use Rattle.bounded_model.proofs.Histories.{own-mine, own-other}
 use Rattle.relay.specs.declared.messages.Message.{Message}
 use Rattle.relay.specs.declared.outcome.Taken.{Taken}
 use Rattle.relay.specs.declared.plan.Orders.{Orders}
-use Rattle.relay.specs.declared.workers.Took.{Took}
 use Rattle.relay.specs.Promises.{messages_of, taken_by}
 use Rattle.relay.specs.Workers.{moves_of}
 use Rattle.relay.specs.Worked.{TookAs}
 use Rattle.relay.proofs.Lists.{same_or_not, Every_append, Every_front, Every_back}
+use Rattle.relay.specs.Jobs.{Took}
+use Rattle.relay.specs.Pools.{PoolView}
 
 -- Numbers and messages of the moves
 
@@ -72,14 +71,14 @@ named : (producers k n : ℕ) (ts : List Taken) → n ≡ producers + k → Ever
 named producers k n [] e h = tt
 named producers k n (t ∷ ts) e h = (omega (arith, h.0, e), named producers k n ts e h.1)
 
-module _ {P : Type 0} (is_pass : P → Type 0) (view : P → PassView Message) (c : Shape) (orders : Orders) where
+module _ {P : Type 0} (pool : PoolView P) (orders : Orders) where
   abbrev Theirs : ℕ → Took P → Type 0
-  Theirs k t = Every (λ u. u.consumer ≡ k) t.taken.items
+  Theirs k t = Every (λ u. u.consumer ≡ k) t.list.items
 
-  theirs : (k : ℕ) (t : Took P) → TookAs is_pass view c orders k t → Theirs k t
-  theirs k t h = named orders.producers k (view t.pass).number t.taken.items h.number (subst (Every (λ m. m.by ≡ (view t.pass).number)) h.did.takes (own_takes (view t.pass).number (view t.pass).seen))
+  theirs : (k : ℕ) (t : Took P) → TookAs pool orders k t → Theirs k t
+  theirs k t h = named orders.producers k (pool.view t.pass).number t.list.items h.number (subst (Every (λ m. m.by ≡ (pool.view t.pass).number)) h.did.takes (own_takes (pool.view t.pass).number (pool.view t.pass).seen))
 
-  pub each_theirs : (k : ℕ) (took : List (Took P)) → EachFrom (TookAs is_pass view c orders) k took → EachFrom Theirs k took
+  pub each_theirs : (k : ℕ) (took : List (Took P)) → EachFrom (TookAs pool orders) k took → EachFrom Theirs k took
   each_theirs k [] h = tt
   each_theirs k (t ∷ ts) h = (theirs k t h.0, each_theirs (suc k) ts h.1)
 
@@ -87,9 +86,9 @@ module _ {P : Type 0} (is_pass : P → Type 0) (view : P → PassView Message) (
   below k n [] l h = tt
   below k n (u ∷ us) l h = (omega (arith, h.0, l), below k n us l h.1)
 
-  pub all_below : (k n : ℕ) (took : List (Took P)) → k + length took ≤ n → EachFrom Theirs k took → Every (λ u. u.consumer < n) (flat_map (λ t. t.taken.items) took)
+  pub all_below : (k n : ℕ) (took : List (Took P)) → k + length took ≤ n → EachFrom Theirs k took → Every (λ u. u.consumer < n) (flat_map (λ t. t.list.items) took)
   all_below k n [] l h = tt
-  all_below k n (t ∷ ts) l h = Every_append (λ u. u.consumer < n) t.taken.items (flat_map (λ u. u.taken.items) ts) (below k n t.taken.items (omega (arith, l)) h.0) (all_below (suc k) n ts (omega (arith, l)) h.1)
+  all_below k n (t ∷ ts) l h = Every_append (λ u. u.consumer < n) t.list.items (flat_map (λ u. u.list.items) ts) (below k n t.list.items (omega (arith, l)) h.0) (all_below (suc k) n ts (omega (arith, l)) h.1)
 
   abbrev is_by : ℕ → Taken → ℕ
   is_by n t = cond (t.consumer == n) 1 0
@@ -112,27 +111,27 @@ module _ {P : Type 0} (is_pass : P → Type 0) (view : P → PassView Message) (
   split_count : (n : ℕ) (us vs : List Taken) → taken_by n (us ++ vs) ≡ taken_by n us + taken_by n vs
   split_count n us vs = sum_by-append (is_by n) us vs
 
-  count_past : (n k : ℕ) (took : List (Took P)) → n < k → EachFrom Theirs k took → taken_by n (flat_map (λ t. t.taken.items) took) ≡ 0
+  count_past : (n k : ℕ) (took : List (Took P)) → n < k → EachFrom Theirs k took → taken_by n (flat_map (λ t. t.list.items) took) ≡ 0
   count_past n k [] l h = refl
   count_past n k (t ∷ ts) l h =
       let other : k ≢ n = λ e. absurd (omega (arith, l, e)) in
-      omega (arith, split_count n t.taken.items (flat_map (λ (u : Took P). u.taken.items) ts), count_no k n t.taken.items other h.0, count_past n (suc k) ts (omega (arith, l)) h.1)
+      omega (arith, split_count n t.list.items (flat_map (λ (u : Took P). u.list.items) ts), count_no k n t.list.items other h.0, count_past n (suc k) ts (omega (arith, l)) h.1)
 
   -- a consumer's count is the length of its list, of which Q holds; nobody else took anything
   pub count_at : (Q : ℕ → Took P → Type 0) (n k : ℕ) (took : List (Took P)) → k ≤ n → EachFrom Theirs k took → EachFrom Q k took
-      → ((taken_by n (flat_map (λ t. t.taken.items) took) ≡ 0) × (k + length took ≤ n)) ⊎ ((t : Took P) × Q n t × (taken_by n (flat_map (λ t. t.taken.items) took) ≡ length t.taken.items))
+      → ((taken_by n (flat_map (λ t. t.list.items) took) ≡ 0) × (k + length took ≤ n)) ⊎ ((t : Took P) × Q n t × (taken_by n (flat_map (λ t. t.list.items) took) ≡ length t.list.items))
   count_at Q n k [] l h q = inl (refl, omega (arith, l))
   count_at Q n k (t ∷ ts) l h q =
-      let both = split_count n t.taken.items (flat_map (λ (u : Took P). u.taken.items) ts) in
+      let both = split_count n t.list.items (flat_map (λ (u : Took P). u.list.items) ts) in
       elim (same_or_not k n) [
-        | inl e ↦ inr (t, subst (λ j. Q j t) e q.0, omega (arith, both, count_yes n t.taken.items (subst (λ j. Theirs j t) e h.0), count_past n (suc k) ts (omega (arith, e)) h.1))
+        | inl e ↦ inr (t, subst (λ j. Q j t) e q.0, omega (arith, both, count_yes n t.list.items (subst (λ j. Theirs j t) e h.0), count_past n (suc k) ts (omega (arith, e)) h.1))
         | inr o ↦ elim (count_at Q n (suc k) ts (omega (arith, o, l)) h.1 q.1) [
-          | inl f ↦ inl (omega (arith, both, count_no k n t.taken.items o h.0, f.0), omega (arith, f.1))
-          | inr f ↦ inr (f.0, f.1, omega (arith, both, count_no k n t.taken.items o h.0, f.2))
+          | inl f ↦ inl (omega (arith, both, count_no k n t.list.items o h.0, f.0), omega (arith, f.1))
+          | inr f ↦ inr (f.0, f.1, omega (arith, both, count_no k n t.list.items o h.0, f.2))
         ]
       ]
 
-pub lists_items : {P : Type 0} (took : List (Took P)) (lists : List (Vec Taken Global)) → AllZip (λ t l. l ≡ t.taken) took lists → flat_map (λ l. l.items) lists ≡ flat_map (λ t. t.taken.items) took
+pub lists_items : {P : Type 0} (took : List (Took P)) (lists : List (Vec Taken Global)) → AllZip (λ t l. l ≡ t.list) took lists → flat_map (λ l. l.items) lists ≡ flat_map (λ t. t.list.items) took
 lists_items [] [] h = refl
 lists_items [] (l ∷ ls) h = absurd h
 lists_items (t ∷ ts) [] h = absurd h

@@ -3,6 +3,8 @@ pub mod Merge
 pub mod KeepsMessages
 pub mod Workers
 pub mod Rooms
+pub mod Pools
+pub mod Jobs
 pub mod Parts
 pub mod Promises
 pub mod Passes

@@ -4,8 +4,7 @@ use Rattle.bounded_model.specs.declared.views.PassView.{PassView}
 use Rattle.bounded_model.specs.declared.views.RootView.{RootView}
 use Rattle.bounded_model.specs.Laws.{Joins}
 use Rattle.relay.specs.declared.messages.Message.{Message}
-use Rattle.relay.specs.declared.workers.Sender.{Sender}
-use Rattle.relay.specs.declared.workers.Taker.{Taker}
+use Rattle.relay.specs.declared.workers.Job.{Job}
 
 -- a root that has given n passes and has seen nothing
 abbrev pub gave : ℕ → RootView Message
@@ -15,17 +14,11 @@ gave n = record { seen = []; given = n; account = [] }
 abbrev pub new_pass : ℕ → PassView Message
 new_pass n = record { number = n; seen = []; steps = 0 }
 
-module _ {P : Type 0} (is_pass : P → Type 0) (view : P → PassView Message) where
-  pub record IsNewSender (who : ℕ) (s : Sender P) : Type 0 where
-    pub of : is_pass s.pass
-    pub pass : view s.pass ≡ new_pass who
-    pub number : s.who ≡ who
-
-  -- consumers' passes follow those of so many producers
-  pub record IsNewTaker (producers consumer : ℕ) (t : Taker P) : Type 0 where
-    pub of : is_pass t.pass
-    pub pass : view t.pass ≡ new_pass (producers + consumer)
-    pub number : t.consumer ≡ consumer
+-- a job of this place among those of its kind, whose passes begin at this number
+pub record IsNewJob {P T : Type 0} (is_pass : P → Type 0) (view : P → PassView Message) (first place : ℕ) (job : Job P T) : Type 0 where
+  pub of : is_pass job.pass
+  pub pass : view job.pass ≡ new_pass (first + place)
+  pub number : job.place ≡ place
 
 -- these passes are joined, one after another
 abbrev pub JoinsAll : RootView Message → List (PassView Message) → RootView Message → Type 0

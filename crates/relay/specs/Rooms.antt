@@ -2,6 +2,7 @@
 use Rattle.std.specs.Prelude.{◌≡◌, ℕ, ◌+◌, ◌≤◌, min, Option, None, Some, [], Vec, All, vec_len, vec_capacity}
 use Rattle.std.specs.declared.alloc.Global.{Global}
 use Rattle.relay.specs.declared.memory.WorkRoom.{WorkRoom}
+use Rattle.relay.specs.declared.threads.Room.{Room}
 use Rattle.relay.specs.declared.memory.OutcomeRoom.{OutcomeRoom}
 
 -- an empty list that takes n elements and no memory
@@ -14,16 +15,20 @@ abbrev pub most_taken : Option ℕ → ℕ → ℕ
 most_taken None messages = messages + 1
 most_taken (Some share) messages = min share (messages + 1)
 
+-- room for the threads of so many workers, and for what they give back
+pub record IsThreadRoom {C Pass : Type 0} (producers consumers : ℕ) (r : Room C Pass) : Type 0 where
+  pub senders : IsRoomFor producers r.senders
+  pub takers : IsRoomFor consumers r.takers
+  pub sent : IsRoomFor producers r.sent
+  pub took : IsRoomFor consumers r.took
+
 -- room for so many workers, and for each consumer for `most` messages
 pub record IsWorkRoom {C Root Pass Rest : Type 0} (producers consumers most : ℕ) (r : WorkRoom C Root Pass Rest) : Type 0 where
   pub senders : IsRoomFor producers r.senders
   pub takers : IsRoomFor consumers r.takers
   pub consumers_are : vec_len r.taken ≡ consumers
   pub taken : All (IsRoomFor most) r.taken.items
-  pub sender_threads : IsRoomFor producers r.threads.senders
-  pub taker_threads : IsRoomFor consumers r.threads.takers
-  pub sent : IsRoomFor producers r.threads.sent
-  pub took : IsRoomFor consumers r.threads.took
+  pub threads : IsThreadRoom producers consumers r.threads
 
 -- room for what comes of so many messages
 pub record IsOutcomeRoom (producers consumers messages : ℕ) (r : OutcomeRoom) : Type 0 where

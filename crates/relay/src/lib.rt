@@ -2,17 +2,18 @@
 //! threads take them out, and nothing is lost, doubled, or put out of a sender's order.
 //!
 //! [`run`] promises, from the laws of a container alone: every message of every input is delivered,
-//! left in the container, or unsent, each once; over a queue each sender's messages keep their order;
-//! numbers rise, over a queue 0, 1, 2, ..; nothing is unsent or left that the plan did not ask for; no
-//! consumer takes more than its share, and each takes just that where something is left. A relay that
-//! is too small for its messages is refused before anything starts. [`run_freely`] promises the same,
-//! and holds no thread at a gate.
+//! left in the container, or unsent, each once; over a queue each sender's messages keep their
+//! order; numbers rise, over a queue 0, 1, 2, ..; nothing is unsent or left that the plan did not
+//! ask for; no consumer takes more than its share, and each takes just that where something is
+//! left. A relay that is too small for its messages is refused before anything starts.
+//! [`run_freely`] promises the same, and holds no thread at a gate.
 //!
 //! [`numbered`] tells whether inputs are numbered as a relay wants them, and a [`Gate`] lets a test
 //! hold threads where it wants them.
 //!
-//! A relay is told in `running`: its `plan` and its `memory` are looked at first, then `threads` start the
-//! `workers`, which see the container as a `pool`, and `merge` puts together what they took.
+//! A relay is told in `running`: its `plan` and its `memory` are looked at first, then `threads`
+//! start the `workers`, which see the container as a `pool`, and `merge` puts together what they
+//! took.
 #![tactic(auto)]
 
 mod faults;

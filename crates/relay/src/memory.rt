@@ -79,8 +79,8 @@ impl OutcomeRoom {
     }
 }
 
-// How many messages a consumer needs room for. It has room for one message more than there are, since
-// it cannot know that it takes no more, and for no more than its share.
+// How many messages a consumer needs room for. It has room for one message more than there are,
+// since it cannot know that it takes no more, and for no more than its share.
 fn most_each(take: Option<u32>, messages: usize) -> Option<usize>
     ensures most { IfSome result (λ most. most ≡ most_taken take messages) }
     ensures none { IfNone result (2 ^ 64 ≤ messages + 1) }
@@ -100,7 +100,8 @@ pub(crate) fn make_room<C: Container<Message>>(
     messages: u128,
 ) -> Result<(WorkRoom<C>, OutcomeRoom), AllocError>
     ensures fits { IfOk result (λ r. messages < 2 ^ 64) }
-    ensures work { IfOk result (λ r. IsWorkRoom producers plan.now.consumers (most_taken plan.now.take messages) r.0) }
+    ensures work { IfOk result (λ r. let most = most_taken plan.now.take messages in
+        IsWorkRoom producers plan.now.consumers most r.0) }
     ensures outcome { IfOk result (λ r. IsOutcomeRoom producers plan.now.consumers messages r.1) }
 {
     let Ok(messages) = usize::try_from(messages) else {

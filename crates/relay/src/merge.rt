@@ -23,8 +23,8 @@ pub(crate) fn drain<L: Leaving<Message> + Drop>(rest: L, room: Vec<Message>) -> 
     left
 }
 
-/// Puts lists in which the numbers rise together by their numbers: the greatest first, and in the end
-/// the whole is turned round.
+/// Puts lists in which the numbers rise together by their numbers: the greatest first, and in the
+/// end the whole is turned round.
 pub(crate) fn merge(lists: Vec<Vec<Taken>>, room: Vec<Taken>) -> Vec<Taken>
     requires some { 0 < vec_len lists }
     requires up { All IsUp lists.items }

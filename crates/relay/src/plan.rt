@@ -28,7 +28,7 @@ pub(crate) fn is_reached(limit: Option<u32>, count: u64) -> bool
 }
 
 /// A limit that only the first worker of its kind is told.
-pub(crate) fn told_first(limit: Option<u32>, place: u64) -> Option<u32>
+pub(crate) fn told_first(limit: Option<u32>, place: u32) -> Option<u32>
     ensures first { place ≡ 0 → result ≡ limit }
     ensures others { (most : ℕ) → result ≡ Some most → place ≡ 0 }
 {
@@ -46,8 +46,8 @@ pub(crate) fn count(inputs: &[Vec<Message>]) -> u128
     messages
 }
 
-/// Whether a limit is set under which the takers and a full container hold fewer messages than there
-/// are.
+/// Whether a limit is set under which the takers and a full container hold fewer messages than
+/// there are.
 fn has_no_place(limit: Option<u32>, takers: u32, capacity: u32, messages: u128) -> bool
     ensures { Decides result (HasNoPlace limit takers capacity messages) }
 {

@@ -1,9 +1,7 @@
 //! A container as its workers see it.
 
-ghost use Rattle.bounded_model.specs.declared.views.PassView.{PassView};
-ghost use Rattle.bounded_model.specs.Machine.{Shape};
 ghost use Rattle.bounded_model.specs.Laws.{PutGives, TakeGives, CloseGives, ShutGives};
-ghost use Rattle.relay.specs.declared.messages.Message.{Message};
+ghost use Rattle.relay.specs.Pools.{PoolView, pool_of};
 
 use crate::Message;
 use bounded_model::{Container, PutRefused, TakeRefused};
@@ -14,11 +12,8 @@ use std::sync::Wait;
 pub(crate) trait Pool: Drop {
     type Pass: Drop + Send;
 
-    ghost shape: { Self → Shape };
-
-    ghost is_pass: { Self → Self.Pass → Type 0 };
-
-    ghost pass: { Self.Pass → PassView Message };
+    /// Which passes are its own, what each has seen, and its shape.
+    ghost view: { Self → PoolView Self.Pass };
 
     fn put<W: Wait>(
         &self,
@@ -26,38 +21,38 @@ pub(crate) trait Pool: Drop {
         by: Self::Pass,
         message: Message,
     ) -> (Self::Pass, Result<u64, PutRefused<Message>>)
-        requires { is_pass self.now by }
-        ensures of { is_pass self.now result.0 }
-        ensures gives { PutGives (shape self.now) (pass by) message (pass result.0) result.1 };
+        requires { (view self.now).is_pass by }
+        ensures of { (view self.now).is_pass result.0 }
+        ensures gives { let pool = view self.now in
+            PutGives pool.shape (pool.view by) message (pool.view result.0) result.1 };
 
     fn take<W: Wait>(
         &self,
         rt: &W,
         by: Self::Pass,
     ) -> (Self::Pass, Result<(Message, u64), TakeRefused>)
-        requires { is_pass self.now by }
-        ensures of { is_pass self.now result.0 }
-        ensures gives { TakeGives (shape self.now) (pass by) (pass result.0) result.1 };
+        requires { (view self.now).is_pass by }
+        ensures of { (view self.now).is_pass result.0 }
+        ensures gives { let pool = view self.now in
+            TakeGives pool.shape (pool.view by) (pool.view result.0) result.1 };
 
     fn close<W: Wait>(&self, rt: &W, by: Self::Pass) -> (Self::Pass, bool)
-        requires { is_pass self.now by }
-        ensures of { is_pass self.now result.0 }
-        ensures gives { CloseGives (shape self.now) (pass by) (pass result.0) result.1 };
+        requires { (view self.now).is_pass by }
+        ensures of { (view self.now).is_pass result.0 }
+        ensures gives { let pool = view self.now in
+            CloseGives pool.shape (pool.view by) (pool.view result.0) result.1 };
 
     fn shut<W: Wait>(&self, rt: &W, by: Self::Pass) -> (Self::Pass, bool)
-        requires { is_pass self.now by }
-        ensures of { is_pass self.now result.0 }
-        ensures gives { ShutGives (shape self.now) (pass by) (pass result.0) result.1 };
+        requires { (view self.now).is_pass by }
+        ensures of { (view self.now).is_pass result.0 }
+        ensures gives { let pool = view self.now in
+            ShutGives pool.shape (pool.view by) (pool.view result.0) result.1 };
 }
 
 impl<C: Container<Message>> Pool for C {
     type Pass = C::Pass;
 
-    ghost shape = { C.shape };
-
-    ghost is_pass = { C.is_pass };
-
-    ghost pass = { C.pass };
+    ghost view = { λ c. pool_of (C.is_pass c) C.pass (C.shape c) };
 
     fn put<W: Wait>(
         &self,

@@ -5,9 +5,10 @@ ghost use Rattle.bounded_model.specs.Gathers.{EachFrom};
 ghost use Rattle.bounded_model.specs.Laws.{fresh};
 ghost use Rattle.relay.specs.Messages.{AreInputsFrom};
 ghost use Rattle.relay.specs.Rooms.{IsWorkRoom, most_taken, IsRoomFor};
-ghost use Rattle.relay.specs.Passes.{gave, IsNewSender, IsNewTaker, JoinsAll};
-ghost use Rattle.relay.specs.Parts.{DidSend, DidTake, DidClose, MayUse};
-ghost use Rattle.relay.specs.Worked.{SentAs, TookAs, ClosedAs, EachSent};
+ghost use Rattle.relay.specs.Passes.{gave, IsNewJob, JoinsAll};
+ghost use Rattle.relay.specs.Parts.{MayUse};
+ghost use Rattle.relay.specs.Pools.{pool_of};
+ghost use Rattle.relay.specs.Worked.{TookAs, ClosedAs, EachSent};
 ghost use Rattle.relay.specs.Promises.{total, IsTooSmall, Relays, LosesNothing, KeepsOrder, SendsAll, SendsFirst, LeavesNothing, NumbersRise, NumbersCount, NamesConsumers, TakesNoMore, FirstTakesNoMore, TakesShares, FirstTakesShare};
 ghost use Rattle.relay.specs.declared.faults.RelayFault.TheVariants.{TooSmall, NoPass, NoThread};
 ghost use Rattle.bounded_model.specs.declared.container.TheConstants.{MAX_PASSES};
@@ -16,12 +17,11 @@ ghost use Rattle.std.specs.List.{AllZip};
 use crate::memory::{WorkRoom, make_room};
 use crate::merge::{drain, merge};
 use crate::plan::{Orders, count, is_too_small};
-use crate::threads::{Ended, run_workers};
-use crate::workers::{Sender, Sent, Site, Taker, Took};
-use crate::{FreeGate, Gate, Message, Plan, RelayFault, Relayed, Taken};
+use crate::threads::{Ended, Team, run_workers};
+use crate::workers::{Done, Job, Site};
+use crate::{FreeGate, Gate, Message, Plan, RelayFault, Relayed};
 use bounded_model::Container;
 use std::alloc::Global;
-use std::collections::VecDeque;
 use std::sync::Wait;
 use std::thread::Threads;
 
@@ -38,14 +38,21 @@ fn work<C: Container<Message> + Sync, G: Gate + Sync, R: Threads + Wait + Sync>(
     requires fresh { C.root root.old ≡ fresh }
     requires numbered { AreInputsFrom 0 inputs.items }
     requires producers { site.now.orders.producers ≡ vec_len inputs }
-    requires few { vec_len room.taken < 2 ^ 32 }
-    requires room { IsWorkRoom (vec_len inputs) (vec_len room.taken) (most_taken site.now.orders.take site.now.orders.messages) room }
+    requires room { let most = most_taken site.now.orders.take site.now.orders.messages in
+        IsWorkRoom (vec_len inputs) (vec_len room.taken) most room }
     ensures root { C.is_root site.now.container root.new }
-    ensures given { IfOk result (λ e. C.root root.new ≡ gave (vec_len inputs + vec_len room.taken + 1)) }
-    ensures senders { IfOk result (λ e. EachSent (C.is_pass site.now.container) C.pass (C.shape site.now.container) site.now.orders 0 inputs.items e.sent.items) }
-    ensures takers { IfOk result (λ e. EachFrom (TookAs (C.is_pass site.now.container) C.pass (C.shape site.now.container) site.now.orders) 0 e.took.items) }
+    ensures given { IfOk result (λ e.
+        C.root root.new ≡ gave (vec_len inputs + vec_len room.taken + 1)) }
+    ensures senders { IfOk result (λ e. let c = site.now.container in
+        let pool = pool_of (C.is_pass c) C.pass (C.shape c) in
+        EachSent pool site.now.orders inputs.items e.sent.items) }
+    ensures takers { IfOk result (λ e. let c = site.now.container in
+        let pool = pool_of (C.is_pass c) C.pass (C.shape c) in
+        EachFrom (TookAs pool site.now.orders) 0 e.took.items) }
     ensures consumers { IfOk result (λ e. vec_len e.took ≡ vec_len room.taken) }
-    ensures closer { IfOk result (λ e. ClosedAs (C.is_pass site.now.container) C.pass (vec_len inputs + vec_len room.taken) e.closer e.used) }
+    ensures closer { IfOk result (λ e. let c = site.now.container in
+        let number = vec_len inputs + vec_len room.taken in
+        ClosedAs (pool_of (C.is_pass c) C.pass (C.shape c)) number e.closer e.used) }
     ensures used { IfOk result (λ e. All (MayUse e.used) e.sent.items) }
     ensures never { (result ≡ Err TooSmall) → ⊥ }
     ensures no_pass { result ≡ Err NoPass → MAX_PASSES ≤ vec_len inputs + vec_len room.taken }
@@ -58,33 +65,38 @@ fn work<C: Container<Message> + Sync, G: Gate + Sync, R: Threads + Wait + Sync>(
         taken,
         threads,
     } = room;
-    let Some(senders) = split_senders(&site.container, root, inputs, senders) else {
+    let Some(senders) = split_jobs(&site.container, root, inputs, senders) else {
         return Err(RelayFault::NoPass);
     };
-    let Some(takers) = split_takers(&site.container, root, taken, takers) else {
+    let Some(takers) = split_jobs(&site.container, root, taken, takers) else {
         return Err(RelayFault::NoPass);
     };
     let Some(closer) = site.container.split(root) else {
         return Err(RelayFault::NoPass);
     };
-    match run_workers(rt, site, gate, senders, takers, closer, threads) {
+    let team = Team {
+        senders,
+        takers,
+        closer,
+    };
+    match run_workers(rt, site, gate, team, threads) {
         Some(ended) => Ok(ended),
         None => Err(RelayFault::NoThread),
     }
 }
 
-/// Relays all messages: one thread for each input puts its messages in their order, and each consumer
-/// takes messages in a thread of its own. Answers where each message ended up.
+/// Relays all messages: one thread for each input puts its messages in their order, and each
+/// consumer takes messages in a thread of its own. Answers where each message ended up.
 ///
-/// The promises hold if it returns. A container whose tags may rise to no more than twice the number
-/// of messages can refuse a put or a take for good; only then may messages stay unsent or left that
-/// the plan did not ask to stay.
+/// The promises hold if it returns. A container whose tags may rise to no more than twice the
+/// number of messages can refuse a put or a take for good; only then may messages stay unsent or
+/// left that the plan did not ask to stay.
 ///
 /// `TooSmall` comes exactly where some message could never be put, and is looked for first; then
 /// `NoMemory`, where there is no room for the outcome; `NoPass`, exactly where more than
 /// [`MAX_PASSES`](bounded_model::MAX_PASSES) would be needed, one for each worker and one to close;
-/// `NoThread`, where a worker's thread could not be started. A fault consumes the
-/// container and the inputs, and no worker runs on.
+/// `NoThread`, where a worker's thread could not be started. A fault consumes the container and the
+/// inputs, and no worker runs on.
 pub fn run<C: Container<Message> + Sync, G: Gate + Sync, R: Threads + Wait + Sync>(
     rt: &R,
     alloc: Global,
@@ -112,7 +124,8 @@ pub fn run<C: Container<Message> + Sync, G: Gate + Sync, R: Threads + Wait + Syn
     ensures shares { IfOk result (TakesShares (C.shape container) plan inputs.items) }
     ensures first_share { IfOk result (FirstTakesShare (C.shape container) plan inputs.items) }
     ensures all { IfOk result (Relays (C.shape container) plan inputs.items) }
-    ensures too_small { (result ≡ Err TooSmall) ↔ IsTooSmall plan (C.shape container).capacity (total inputs.items) }
+    ensures too_small { (result ≡ Err TooSmall)
+        ↔ IsTooSmall plan (C.shape container).capacity (total inputs.items) }
     ensures no_pass { result ≡ Err NoPass → MAX_PASSES ≤ length inputs.items + plan.consumers }
     ensures no_thread { result ≡ Err NoThread → length inputs.items + plan.consumers < MAX_PASSES }
     ensures passes { IfOk result (λ r. length inputs.items + plan.consumers < MAX_PASSES) }
@@ -140,8 +153,8 @@ pub fn run<C: Container<Message> + Sync, G: Gate + Sync, R: Threads + Wait + Syn
         closer,
         used: _,
     } = work(rt, &site, &mut root, gate, inputs, work_room)?;
-    let unsent = join_senders(&site.container, &mut root, sent, outcome.unsent);
-    let lists = join_takers(&site.container, &mut root, took, outcome.taken);
+    let unsent = join_done(&site.container, &mut root, sent, outcome.unsent);
+    let lists = join_done(&site.container, &mut root, took, outcome.taken);
     site.container.join(&mut root, closer);
     let delivered = merge(lists, outcome.delivered);
     let left = drain(site.container.finish(root), outcome.left);
@@ -166,7 +179,8 @@ pub fn run_freely<C: Container<Message> + Sync, R: Threads + Wait + Sync>(
     requires consumers { 1 ≤ plan.consumers }
     requires numbered { AreInputsFrom 0 inputs.items }
     ensures all { IfOk result (Relays (C.shape container) plan inputs.items) }
-    ensures too_small { (result ≡ Err TooSmall) ↔ IsTooSmall plan (C.shape container).capacity (total inputs.items) }
+    ensures too_small { (result ≡ Err TooSmall)
+        ↔ IsTooSmall plan (C.shape container).capacity (total inputs.items) }
     ensures no_pass { result ≡ Err NoPass → MAX_PASSES ≤ length inputs.items + plan.consumers }
     ensures no_thread { result ≡ Err NoThread → length inputs.items + plan.consumers < MAX_PASSES }
     ensures passes { IfOk result (λ r. length inputs.items + plan.consumers < MAX_PASSES) }
@@ -174,131 +188,56 @@ pub fn run_freely<C: Container<Message> + Sync, R: Threads + Wait + Sync>(
     run(rt, alloc, container, root, inputs, plan, &FreeGate)
 }
 
-/// A producer for each input, with the passes from 0 on. `None` where there are not so many passes.
-pub(crate) fn split_senders<C: Container<Message>>(
+/// A job for each list, in order, with the passes after those given. `None` where there are not so
+/// many passes.
+pub(crate) fn split_jobs<C: Container<Message>, T: Drop>(
     container: &C,
     root: &mut C::Root,
-    inputs: Vec<Vec<Message>>,
-    room: Vec<Sender<C::Pass>>,
-) -> Option<Vec<Sender<C::Pass>>>
-    requires root { C.is_root container.now root.old }
-    requires fresh { C.root root.old ≡ gave 0 }
-    requires room { IsRoomFor (vec_len inputs) room }
-    ensures root { C.is_root container.now root.new }
-    ensures given { IfSome result (λ v. C.root root.new ≡ gave (vec_len inputs)) }
-    ensures new { IfSome result (λ v. EachFrom (IsNewSender (C.is_pass container.now) C.pass) 0 v.items) }
-    ensures messages { IfSome result (λ v. AllZip (λ l s. s.messages.items ≡ l.items) inputs.items v.items) }
-    ensures none { IfNone result (MAX_PASSES ≤ vec_len inputs) }
-{
-    let mut senders = room;
-    for messages in inputs {
-        let who = senders.len() as u64;
-        let Some(pass) = container.split(root) else {
-            return None;
-        };
-        senders.push_reserved(Sender {
-            pass,
-            who,
-            messages: VecDeque::from(messages),
-        });
-    }
-    Some(senders)
-}
-
-/// A consumer for each room, with the passes after those given. `None` where there are not so many
-/// passes.
-pub(crate) fn split_takers<C: Container<Message>>(
-    container: &C,
-    root: &mut C::Root,
-    rooms: Vec<Vec<Taken>>,
-    room: Vec<Taker<C::Pass>>,
-) -> Option<Vec<Taker<C::Pass>>>
+    lists: Vec<Vec<T>>,
+    room: Vec<Job<C::Pass, T>>,
+) -> Option<Vec<Job<C::Pass, T>>>
     requires root { C.is_root container.now root.old }
     requires fresh { C.root root.old ≡ gave (C.root root.old).given }
-    requires room { IsRoomFor (vec_len rooms) room }
-    requires few { vec_len rooms < 2 ^ 32 }
+    requires room { IsRoomFor (vec_len lists) room }
     ensures root { C.is_root container.now root.new }
-    ensures given { IfSome result (λ v. C.root root.new ≡ gave ((C.root root.old).given + vec_len rooms)) }
-    ensures new { IfSome result (λ v. EachFrom (IsNewTaker (C.is_pass container.now) C.pass (C.root root.old).given) 0 v.items) }
-    ensures rooms { IfSome result (λ v. AllZip (λ l t. t.room ≡ l) rooms.items v.items) }
-    ensures none { IfNone result (MAX_PASSES ≤ (C.root root.old).given + vec_len rooms) }
+    ensures given { IfSome result (λ v.
+        C.root root.new ≡ gave ((C.root root.old).given + vec_len lists)) }
+    ensures new { IfSome result (λ v. let first = (C.root root.old).given in
+        EachFrom (IsNewJob (C.is_pass container.now) C.pass first) 0 v.items) }
+    ensures lists { IfSome result (λ v. AllZip (λ l j. j.list ≡ l) lists.items v.items) }
+    ensures none { IfNone result (MAX_PASSES ≤ (C.root root.old).given + vec_len lists) }
 {
-    let mut takers = room;
-    for taken in rooms {
-        let consumer = takers.len() as u32;
+    let mut jobs = room;
+    for list in lists {
         let Some(pass) = container.split(root) else {
             return None;
         };
-        takers.push_reserved(Taker {
-            pass,
-            consumer,
-            room: taken,
-        });
+        let place = jobs.len() as u32;
+        jobs.push_reserved(Job { pass, place, list });
     }
-    Some(takers)
+    Some(jobs)
 }
 
-// The messages as a list. The memory of a list without messages is given back.
-fn list_of(unsent: VecDeque<Message>) -> Vec<Message>
-    ensures { result.items ≡ unsent.items }
-{
-    let mut list = Vec::from(unsent);
-    if list.is_empty() {
-        list.shrink_to_fit();
-    }
-    list
-}
-
-/// Takes the producers' passes back; answers what each did not put.
-pub(crate) fn join_senders<C: Container<Message>>(
+/// Takes the passes of workers that have ended back; answers their lists.
+pub(crate) fn join_done<C: Container<Message>, T: Drop, E: Drop>(
     container: &C,
     root: &mut C::Root,
-    sent: Vec<Sent<C::Pass>>,
-    room: Vec<Vec<Message>>,
-) -> Vec<Vec<Message>>
+    done: Vec<Done<C::Pass, T, E>>,
+    room: Vec<Vec<T>>,
+) -> Vec<Vec<T>>
     requires root { C.is_root container.now root.old }
-    requires passes { All (λ s. C.is_pass container.now s.pass) sent.items }
-    requires room { IsRoomFor (vec_len sent) room }
+    requires passes { All (λ d. C.is_pass container.now d.pass) done.items }
+    requires room { IsRoomFor (vec_len done) room }
     ensures root { C.is_root container.now root.new }
-    ensures joined { JoinsAll (C.root root.old) (map (λ s. C.pass s.pass) sent.items) (C.root root.new) }
-    ensures unsent { AllZip (λ s l. l.items ≡ s.unsent.items) sent.items result.items }
+    ensures joined { let passes = map (λ d. C.pass d.pass) done.items in
+        JoinsAll (C.root root.old) passes (C.root root.new) }
+    ensures lists { AllZip (λ d l. l ≡ d.list) done.items result.items }
 {
     let mut lists = room;
-    for one in sent {
-        let Sent {
-            pass,
-            unsent,
-            end: _,
-        } = one;
+    for one in done {
+        let Done { pass, list, end: _ } = one;
         container.join(root, pass);
-        lists.push_reserved(list_of(unsent));
-    }
-    lists
-}
-
-/// Takes the consumers' passes back; answers what each took.
-pub(crate) fn join_takers<C: Container<Message>>(
-    container: &C,
-    root: &mut C::Root,
-    took: Vec<Took<C::Pass>>,
-    room: Vec<Vec<Taken>>,
-) -> Vec<Vec<Taken>>
-    requires root { C.is_root container.now root.old }
-    requires passes { All (λ t. C.is_pass container.now t.pass) took.items }
-    requires room { IsRoomFor (vec_len took) room }
-    ensures root { C.is_root container.now root.new }
-    ensures joined { JoinsAll (C.root root.old) (map (λ t. C.pass t.pass) took.items) (C.root root.new) }
-    ensures taken { AllZip (λ t l. l ≡ t.taken) took.items result.items }
-{
-    let mut lists = room;
-    for one in took {
-        let Took {
-            pass,
-            taken,
-            end: _,
-        } = one;
-        container.join(root, pass);
-        lists.push_reserved(taken);
+        lists.push_reserved(list);
     }
     lists
 }

@@ -3,68 +3,41 @@
 ghost use Rattle.std.specs.Prelude.{◌≡◌, All, [], IfSome, IfOk, true, false, vec_len};
 ghost use Rattle.std.specs.List.{AllZip};
 ghost use Rattle.bounded_model.specs.Histories.{own};
-ghost use Rattle.relay.specs.Parts.{IsSender, IsTaker, DidSend, DidTake, MayUse, DidClose};
-ghost use Rattle.relay.specs.Rooms.{IsRoomFor};
+ghost use Rattle.relay.specs.Parts.{IsSender, IsTaker, IsTeam, DidSend, DidTake, DidClose, HaveEnded, MayUse};
+ghost use Rattle.relay.specs.Rooms.{IsRoomFor, IsThreadRoom};
 
-use crate::Gate;
 use crate::pool::Pool;
-use crate::workers::{Sender, Sent, Site, Taker, Took, receive, send};
+use crate::workers::{Job, Sender, Sent, Site, Taker, Took, has_met_closed, receive, send};
+use crate::{Gate, Message, Taken};
 use std::alloc::{AllocError, Global};
 use std::snapshot::Snapshot;
 use std::sync::Wait;
 use std::thread;
-use std::thread::{Promise, PromisedHandle, Threads};
+use std::thread::{Promise, PromisedHandle, Scope, Threads};
 
-/// What a producer's thread gives back.
+/// What a worker's thread was started with.
 #[derive(Drop)]
-pub(crate) struct Sends<C: Pool> {
+pub(crate) struct Part<C: Pool, T> {
     site: Snapshot<Site<C>>,
-    sender: Snapshot<Sender<C::Pass>>,
+    job: Snapshot<Job<C::Pass, T>>,
 }
 
-impl<C: Pool> Promise<Sent<C::Pass>> for Sends<C> {
-    ghost kept_by = { λ p r. DidSend (C.is_pass p.site.value.container) C.pass (C.shape p.site.value.container) p.site.value.orders p.sender.value r };
+impl<C: Pool> Promise<Sent<C::Pass>> for Part<C, Message> {
+    ghost kept_by = { λ p r.
+        DidSend (C.view p.site.value.container) p.site.value.orders p.job.value r };
 }
 
-/// What a consumer's thread gives back.
+impl<C: Pool> Promise<Took<C::Pass>> for Part<C, Taken> {
+    ghost kept_by = { λ p r.
+        DidTake (C.view p.site.value.container) p.site.value.orders p.job.value r };
+}
+
+/// All workers of a relay, and the pass that closes.
 #[derive(Drop)]
-pub(crate) struct Takes<C: Pool> {
-    site: Snapshot<Site<C>>,
-    taker: Snapshot<Taker<C::Pass>>,
-}
-
-impl<C: Pool> Promise<Took<C::Pass>> for Takes<C> {
-    ghost kept_by = { λ p r. DidTake (C.is_pass p.site.value.container) C.pass (C.shape p.site.value.container) p.site.value.orders p.taker.value r };
-}
-
-/// Room for the threads and for what they give back.
-#[derive(Drop)]
-pub(crate) struct Room<C: Pool> {
-    senders: Vec<PromisedHandle<Sent<C::Pass>, Sends<C>>>,
-    takers: Vec<PromisedHandle<Took<C::Pass>, Takes<C>>>,
-    sent: Vec<Sent<C::Pass>>,
-    took: Vec<Took<C::Pass>>,
-}
-
-impl<C: Pool> Room<C> {
-    /// Room for so many of each kind.
-    pub(crate) fn new(
-        alloc: Global,
-        producers: usize,
-        consumers: usize,
-    ) -> Result<Room<C>, AllocError>
-        ensures senders { IfOk result (λ r. IsRoomFor producers r.senders) }
-        ensures takers { IfOk result (λ r. IsRoomFor consumers r.takers) }
-        ensures sent { IfOk result (λ r. IsRoomFor producers r.sent) }
-        ensures took { IfOk result (λ r. IsRoomFor consumers r.took) }
-    {
-        Ok(Room {
-            senders: Vec::with_capacity(alloc, producers)?,
-            takers: Vec::with_capacity(alloc, consumers)?,
-            sent: Vec::with_capacity(alloc, producers)?,
-            took: Vec::with_capacity(alloc, consumers)?,
-        })
-    }
+pub(crate) struct Team<P> {
+    pub(crate) senders: Vec<Sender<P>>,
+    pub(crate) takers: Vec<Taker<P>>,
+    pub(crate) closer: P,
 }
 
 /// A relay's workers when they have ended, and the closing pass.
@@ -75,6 +48,33 @@ pub(crate) struct Ended<P> {
     pub(crate) closer: P,
     /// Whether the closing pass was used.
     pub(crate) used: bool,
+}
+
+/// Room for the threads and for what they give back.
+#[derive(Drop)]
+pub(crate) struct Room<C: Pool> {
+    pub(crate) senders: Vec<PromisedHandle<Sent<C::Pass>, Part<C, Message>>>,
+    pub(crate) takers: Vec<PromisedHandle<Took<C::Pass>, Part<C, Taken>>>,
+    pub(crate) sent: Vec<Sent<C::Pass>>,
+    pub(crate) took: Vec<Took<C::Pass>>,
+}
+
+impl<C: Pool> Room<C> {
+    /// Room for so many of each kind.
+    pub(crate) fn new(
+        alloc: Global,
+        producers: usize,
+        consumers: usize,
+    ) -> Result<Room<C>, AllocError>
+        ensures { IfOk result (λ r. IsThreadRoom producers consumers r) }
+    {
+        Ok(Room {
+            senders: Vec::with_capacity(alloc, producers)?,
+            takers: Vec::with_capacity(alloc, consumers)?,
+            sent: Vec::with_capacity(alloc, producers)?,
+            took: Vec::with_capacity(alloc, consumers)?,
+        })
+    }
 }
 
 /// Joins each thread.
@@ -98,7 +98,7 @@ fn some_met_closed<P>(sent: &[Sent<P>]) -> bool
     ensures { result ≡ false → All (MayUse true) sent.now }
 {
     for one in sent {
-        if one.has_met_closed() {
+        if has_met_closed(one) {
             return true;
         }
     }
@@ -110,18 +110,21 @@ fn some_met_closed<P>(sent: &[Sent<P>]) -> bool
 fn join_workers<C: Pool, R: Threads + Wait>(
     rt: &R,
     site: &Site<C>,
-    senders: Vec<PromisedHandle<Sent<C::Pass>, Sends<C>>>,
-    takers: Vec<PromisedHandle<Took<C::Pass>, Takes<C>>>,
+    senders: Vec<PromisedHandle<Sent<C::Pass>, Part<C, Message>>>,
+    takers: Vec<PromisedHandle<Took<C::Pass>, Part<C, Taken>>>,
     closer: C::Pass,
     room: (Vec<Sent<C::Pass>>, Vec<Took<C::Pass>>),
 ) -> Ended<C::Pass>
-    requires closer { C.is_pass site.now.container closer }
-    requires new { own (C.pass closer).number (C.pass closer).seen ≡ [] }
+    requires closer { (C.view site.now.container).is_pass closer }
+    requires new { let view = (C.view site.now.container).view closer in
+        own view.number view.seen ≡ [] }
     requires sent { IsRoomFor (vec_len senders) room.0 }
     requires took { IsRoomFor (vec_len takers) room.1 }
-    ensures sent { AllZip (λ h r. DidSend (C.is_pass h.promise.site.value.container) C.pass (C.shape h.promise.site.value.container) h.promise.site.value.orders h.promise.sender.value r) senders.items result.sent.items }
-    ensures took { AllZip (λ h r. DidTake (C.is_pass h.promise.site.value.container) C.pass (C.shape h.promise.site.value.container) h.promise.site.value.orders h.promise.taker.value r) takers.items result.took.items }
-    ensures closed { DidClose (C.is_pass site.now.container) C.pass closer result.closer result.used }
+    ensures sent { AllZip (λ h r. DidSend (C.view h.promise.site.value.container)
+        h.promise.site.value.orders h.promise.job.value r) senders.items result.sent.items }
+    ensures took { AllZip (λ h r. DidTake (C.view h.promise.site.value.container)
+        h.promise.site.value.orders h.promise.job.value r) takers.items result.took.items }
+    ensures closed { DidClose (C.view site.now.container) closer result.closer result.used }
     ensures used { All (MayUse result.used) result.sent.items }
 {
     let (sent_room, took_room) = room;
@@ -141,95 +144,135 @@ fn join_workers<C: Pool, R: Threads + Wait>(
     }
 }
 
+// Starts a thread for each producer; `None` where one could not be started.
+fn start_senders<'s, E, C: Pool + Sync, G: Gate + Sync, R: Wait + Sync>(
+    scope: &Scope<'s, E>,
+    rt: &'s R,
+    site: &'s Site<C>,
+    gate: &'s G,
+    jobs: Vec<Sender<C::Pass>>,
+    room: Vec<PromisedHandle<Sent<C::Pass>, Part<C, Message>>>,
+) -> Option<Vec<PromisedHandle<Sent<C::Pass>, Part<C, Message>>>>
+    requires ready { All (IsSender (C.view site.now.container)) jobs.items }
+    requires room { IsRoomFor (vec_len jobs) room }
+    ensures { IfSome result (λ v. AllZip (λ j h. (h.promise.job.value ≡ j)
+        × (h.promise.site.value ≡ site.now)) jobs.items v.items) }
+{
+    let mut started = room;
+    for job in jobs {
+        let part = Part {
+            site: Snapshot::of(site),
+            job: Snapshot::of(&job),
+        };
+        match scope.spawn_with(
+            part,
+            move || -> Sent<C::Pass>
+                requires { IsSender (C.view site.now.container) job }
+                ensures { let pool = C.view site.entry.now.container in
+                    DidSend pool site.entry.now.orders job result }
+            { send(rt, site, gate, job) },
+        ) {
+            Ok(child) => started.push_reserved(child),
+            Err(_) => return None,
+        }
+    }
+    Some(started)
+}
+
+// Starts a thread for each consumer; `None` where one could not be started.
+fn start_takers<'s, E, C: Pool + Sync, G: Gate + Sync, R: Wait + Sync>(
+    scope: &Scope<'s, E>,
+    rt: &'s R,
+    site: &'s Site<C>,
+    gate: &'s G,
+    jobs: Vec<Taker<C::Pass>>,
+    room: Vec<PromisedHandle<Took<C::Pass>, Part<C, Taken>>>,
+) -> Option<Vec<PromisedHandle<Took<C::Pass>, Part<C, Taken>>>>
+    requires ready { All (IsTaker (C.view site.now.container) site.now.orders) jobs.items }
+    requires room { IsRoomFor (vec_len jobs) room }
+    ensures { IfSome result (λ v. AllZip (λ j h. (h.promise.job.value ≡ j)
+        × (h.promise.site.value ≡ site.now)) jobs.items v.items) }
+{
+    let mut started = room;
+    for job in jobs {
+        let part = Part {
+            site: Snapshot::of(site),
+            job: Snapshot::of(&job),
+        };
+        match scope.spawn_with(
+            part,
+            move || -> Took<C::Pass>
+                requires { IsTaker (C.view site.now.container) site.now.orders job }
+                ensures { let pool = C.view site.entry.now.container in
+                    DidTake pool site.entry.now.orders job result }
+            { receive(rt, site, gate, job) },
+        ) {
+            Ok(child) => started.push_reserved(child),
+            Err(_) => return None,
+        }
+    }
+    Some(started)
+}
+
+// Starts the threads of a team, and joins them.
+fn work_as_team<'s, E, C: Pool + Sync, G: Gate + Sync, R: Threads + Wait + Sync>(
+    scope: &Scope<'s, E>,
+    rt: &'s R,
+    site: &'s Site<C>,
+    gate: &'s G,
+    team: Team<C::Pass>,
+    room: Room<C>,
+) -> Option<Ended<C::Pass>>
+    requires ready { IsTeam (C.view site.now.container) site.now.orders team }
+    requires room { IsThreadRoom (vec_len team.senders) (vec_len team.takers) room }
+    ensures { IfSome result (λ e.
+        HaveEnded (C.view site.now.container) site.now.orders team e) }
+{
+    let Team {
+        senders,
+        takers,
+        closer,
+    } = team;
+    let Room {
+        senders: sender_room,
+        takers: taker_room,
+        sent,
+        took,
+    } = room;
+    let Some(producing) = start_senders(scope, rt, site, gate, senders, sender_room) else {
+        let _ = site.container.close(rt, closer);
+        return None;
+    };
+    let Some(consuming) = start_takers(scope, rt, site, gate, takers, taker_room) else {
+        let _ = site.container.close(rt, closer);
+        return None;
+    };
+    Some(join_workers(rt, site, producing, consuming, closer, (sent, took)))
+}
+
 /// Does each worker's part in a thread of its own, and closes the container when the producers have
-/// ended. `None` where a thread could not be started: the container is closed at once, so those that
-/// were started have ended.
+/// ended. `None` where a thread could not be started: the container is closed at once, so those
+/// that were started have ended.
 pub(crate) fn run_workers<C: Pool + Sync, G: Gate + Sync, R: Threads + Wait + Sync>(
     rt: &R,
     site: &Site<C>,
     gate: &G,
-    senders: Vec<Sender<C::Pass>>,
-    takers: Vec<Taker<C::Pass>>,
-    closer: C::Pass,
+    team: Team<C::Pass>,
     room: Room<C>,
 ) -> Option<Ended<C::Pass>>
-    requires senders { All (λ s. IsSender (C.is_pass site.now.container) C.pass s) senders.items }
-    requires takers { All (λ t. IsTaker (C.is_pass site.now.container) C.pass site.now.orders t) takers.items }
-    requires closer { C.is_pass site.now.container closer }
-    requires new { own (C.pass closer).number (C.pass closer).seen ≡ [] }
-    requires producing { IsRoomFor (vec_len senders) room.senders }
-    requires consuming { IsRoomFor (vec_len takers) room.takers }
-    requires sent { IsRoomFor (vec_len senders) room.sent }
-    requires took { IsRoomFor (vec_len takers) room.took }
-    ensures sent { IfSome result (λ e. AllZip (λ p q. DidSend (C.is_pass site.now.container) C.pass (C.shape site.now.container) site.now.orders p q) senders.items e.sent.items) }
-    ensures took { IfSome result (λ e. AllZip (λ p q. DidTake (C.is_pass site.now.container) C.pass (C.shape site.now.container) site.now.orders p q) takers.items e.took.items) }
-    ensures closed { IfSome result (λ e. DidClose (C.is_pass site.now.container) C.pass closer e.closer e.used) }
-    ensures used { IfSome result (λ e. All (MayUse e.used) e.sent.items) }
+    requires ready { IsTeam (C.view site.now.container) site.now.orders team }
+    requires room { IsThreadRoom (vec_len team.senders) (vec_len team.takers) room }
+    ensures { IfSome result (λ e.
+        HaveEnded (C.view site.now.container) site.now.orders team e) }
 {
     thread::scope(
         thread::scope_env(),
         rt,
         |scope| -> Option<Ended<C::Pass>>
-            requires senders { All (λ s. IsSender (C.is_pass site.now.container) C.pass s) senders.items }
-            requires takers { All (λ t. IsTaker (C.is_pass site.now.container) C.pass site.now.orders t) takers.items }
-            requires closer { C.is_pass site.now.container closer }
-            requires new { own (C.pass closer).number (C.pass closer).seen ≡ [] }
-            requires producing { IsRoomFor (vec_len senders) room.senders }
-            requires consuming { IsRoomFor (vec_len takers) room.takers }
-            requires sent { IsRoomFor (vec_len senders) room.sent }
-            requires took { IsRoomFor (vec_len takers) room.took }
-            ensures sent { IfSome result (λ e. AllZip (λ p q. DidSend (C.is_pass site.entry.now.container) C.pass (C.shape site.entry.now.container) site.entry.now.orders p q) senders.items e.sent.items) }
-            ensures took { IfSome result (λ e. AllZip (λ p q. DidTake (C.is_pass site.entry.now.container) C.pass (C.shape site.entry.now.container) site.entry.now.orders p q) takers.items e.took.items) }
-            ensures closed { IfSome result (λ e. DidClose (C.is_pass site.entry.now.container) C.pass closer e.closer e.used) }
-            ensures used { IfSome result (λ e. All (MayUse e.used) e.sent.items) }
-        {
-            let Room {
-                senders: sender_room,
-                takers: taker_room,
-                sent,
-                took,
-            } = room;
-            let mut producing = sender_room;
-            for sender in senders {
-                let promise = Sends {
-                    site: Snapshot::of(site),
-                    sender: Snapshot::of(&sender),
-                };
-                match scope.spawn_with(
-                    promise,
-                    move || -> Sent<C::Pass>
-                        requires { IsSender (C.is_pass site.now.container) C.pass sender }
-                        ensures { DidSend (C.is_pass site.entry.now.container) C.pass (C.shape site.entry.now.container) site.entry.now.orders sender result }
-                    { send(rt, site, gate, sender) },
-                ) {
-                    Ok(child) => producing.push_reserved(child),
-                    Err(_) => {
-                        let _ = site.container.close(rt, closer);
-                        return None;
-                    }
-                }
-            }
-            let mut consuming = taker_room;
-            for taker in takers {
-                let promise = Takes {
-                    site: Snapshot::of(site),
-                    taker: Snapshot::of(&taker),
-                };
-                match scope.spawn_with(
-                    promise,
-                    move || -> Took<C::Pass>
-                        requires { IsTaker (C.is_pass site.now.container) C.pass site.now.orders taker }
-                        ensures { DidTake (C.is_pass site.entry.now.container) C.pass (C.shape site.entry.now.container) site.entry.now.orders taker result }
-                    { receive(rt, site, gate, taker) },
-                ) {
-                    Ok(child) => consuming.push_reserved(child),
-                    Err(_) => {
-                        let _ = site.container.close(rt, closer);
-                        return None;
-                    }
-                }
-            }
-            Some(join_workers(rt, site, producing, consuming, closer, (sent, took)))
-        },
+            requires ready { IsTeam (C.view site.now.container) site.now.orders team }
+            requires room { IsThreadRoom (vec_len team.senders) (vec_len team.takers) room }
+            ensures { IfSome result (λ e.
+                HaveEnded (C.view site.entry.now.container) site.entry.now.orders team e) }
+        { work_as_team(scope, rt, site, gate, team, room) },
     )
 }

@@ -1,11 +1,7 @@
 //! What the workers of a relay do, and how they end.
 
-ghost use Rattle.std.specs.Prelude.{◌≡◌, true, false, [], ◌+◌, ◌<◌, ◌≤◌, ◌^◌, vec_capacity};
-ghost use Rattle.relay.specs.Parts.{IsSender, IsTaker, DidSend, DidTake, MayUse};
-ghost use Rattle.std.specs.List.{AllByRecursion as Every};
-ghost use Rattle.bounded_model.specs.Histories.{own};
-ghost use Rattle.relay.specs.Workers.{Producer, DidBy, Consumer, moves_of};
-ghost use Rattle.relay.specs.Rooms.{most_taken};
+ghost use Rattle.std.specs.Prelude.{◌≡◌, true, false, ◌+◌};
+ghost use Rattle.relay.specs.Parts.{IsSender, IsTaker, DidSend, DidTake, HasSent, HasTaken, MayUse};
 
 use crate::plan::{Orders, is_reached, told_first};
 use crate::pool::Pool;
@@ -52,132 +48,75 @@ pub(crate) struct Site<C: Drop> {
     pub(crate) orders: Orders,
 }
 
-/// A producer: its pass, its number, and the messages that it is to put.
+/// What a worker is to do: its pass, its place among those of its kind, and its list: the messages
+/// that a producer is to put, or the room for those that a consumer takes.
 #[derive(Drop)]
-pub(crate) struct Sender<P> {
+pub(crate) struct Job<P, T> {
     pub(crate) pass: P,
-    pub(crate) who: u64,
-    pub(crate) messages: VecDeque<Message>,
+    pub(crate) place: u32,
+    pub(crate) list: Vec<T>,
 }
 
-/// The messages that a producer did not put, and how it ended.
+/// What a worker did: the messages that a producer did not put, or those that a consumer took, and
+/// how it ended.
 #[derive(Drop)]
-pub(crate) struct Sent<P> {
+pub(crate) struct Done<P, T, E> {
     pub(crate) pass: P,
-    pub(crate) unsent: VecDeque<Message>,
-    pub(crate) end: ProducerEnd,
+    pub(crate) list: Vec<T>,
+    pub(crate) end: E,
 }
 
-/// A consumer: its pass, its number, and room for what it takes.
-#[derive(Drop)]
-pub(crate) struct Taker<P> {
-    pub(crate) pass: P,
-    pub(crate) consumer: u32,
-    pub(crate) room: Vec<Taken>,
-}
+/// A producer, before and after its work.
+pub(crate) type Sender<P> = Job<P, Message>;
 
-/// The messages that a consumer took, and how it ended.
-#[derive(Drop)]
-pub(crate) struct Took<P> {
-    pub(crate) pass: P,
-    pub(crate) taken: Vec<Taken>,
-    pub(crate) end: ConsumerEnd,
-}
+pub(crate) type Sent<P> = Done<P, Message, ProducerEnd>;
 
-impl<P> Sent<P> {
-    /// Whether it found the container closed.
-    pub(crate) fn has_met_closed(&self) -> bool
-        ensures { result ≡ false → MayUse true self.now }
-    {
-        match self.end {
-            ProducerEnd::MetClosed => true,
-            ProducerEnd::SentAll => false,
-            ProducerEnd::ClosedIt => false,
-            ProducerEnd::MetSpent => false,
-        }
+/// A consumer, before and after its work.
+pub(crate) type Taker<P> = Job<P, Taken>;
+
+pub(crate) type Took<P> = Done<P, Taken, ConsumerEnd>;
+
+/// Whether a producer found the container closed.
+pub(crate) fn has_met_closed<P>(sent: &Sent<P>) -> bool
+    ensures { result ≡ false → MayUse true sent.now }
+{
+    match sent.end {
+        ProducerEnd::MetClosed => true,
+        ProducerEnd::SentAll => false,
+        ProducerEnd::ClosedIt => false,
+        ProducerEnd::MetSpent => false,
     }
 }
 
-/// Does a producer's part.
+/// Does a producer's part: puts its messages in their order, and gives their memory back.
 pub(crate) fn send<C: Pool, G: Gate, W: Wait>(
     rt: &W,
     site: &Site<C>,
     gate: &G,
-    sender: Sender<C::Pass>,
+    job: Sender<C::Pass>,
 ) -> Sent<C::Pass>
-    requires ready { IsSender (C.is_pass site.now.container) C.pass sender }
-    ensures { DidSend (C.is_pass site.now.container) C.pass (C.shape site.now.container) site.now.orders sender result }
+    requires ready { IsSender (C.view site.now.container) job }
+    ensures of { (C.view site.now.container).is_pass result.pass }
+    ensures number { ((C.view site.now.container).view result.pass).number ≡ job.place }
+    ensures did { HasSent (C.view site.now.container) site.now.orders job result }
 {
-    let Sender {
-        pass,
-        who,
-        messages,
-    } = sender;
-    let (pass, unsent, end) = produce(rt, &site.container, gate, &site.orders, who, pass, messages);
-    Sent { pass, unsent, end }
-}
-
-/// Does a consumer's part.
-pub(crate) fn receive<C: Pool, G: Gate, W: Wait>(
-    rt: &W,
-    site: &Site<C>,
-    gate: &G,
-    taker: Taker<C::Pass>,
-) -> Took<C::Pass>
-    requires ready { IsTaker (C.is_pass site.now.container) C.pass site.now.orders taker }
-    ensures { DidTake (C.is_pass site.now.container) C.pass (C.shape site.now.container) site.now.orders taker result }
-{
-    let Taker {
-        pass,
-        consumer,
-        room,
-    } = taker;
-    let (pass, taken, end) = consume(
-        rt,
-        &site.container,
-        gate,
-        &site.orders,
-        consumer,
-        pass,
-        room,
-    );
-    Took { pass, taken, end }
-}
-
-/// Puts its messages in their order, and gives their memory back; answers those that were not put, and how it ended.
-pub(crate) fn produce<C: Pool, G: Gate, W: Wait>(
-    rt: &W,
-    container: &C,
-    gate: &G,
-    orders: &Orders,
-    who: u64,
-    by: C::Pass,
-    messages: VecDeque<Message>,
-) -> (C::Pass, VecDeque<Message>, ProducerEnd)
-    requires pass { C.is_pass container.now by }
-    requires number { (C.pass by).number ≡ who }
-    requires new { own (C.pass by).number (C.pass by).seen ≡ [] }
-    requires from { Every (λ m. m.sender ≡ who) messages.items }
-    ensures of { C.is_pass container.now result.0 }
-    ensures number { (C.pass result.0).number ≡ who }
-    ensures did { DidBy (λ m. m.sender) (C.shape container.now) orders.now (C.pass result.0) (Producer messages.items result.1.items result.2) }
-{
-    let last = told_first(orders.close_after, who);
-    let mut pass = by;
-    let mut rest = messages;
+    let Job { pass, place, list } = job;
+    let last = told_first(site.orders.close_after, place);
+    let mut pass = pass;
+    let mut rest = VecDeque::from(list);
     let mut put: u64 = 0;
     let mut call: u64 = 0;
     for _ in rt.forever() {
         if is_reached(last, put) {
-            let (pass, _) = container.close(rt, pass);
-            return (pass, rest, ProducerEnd::ClosedIt);
+            let (pass, _) = site.container.close(rt, pass);
+            return stopped(pass, rest, ProducerEnd::ClosedIt);
         }
         let Some(message) = rest.pop_front() else {
-            return (pass, rest, ProducerEnd::SentAll);
+            return stopped(pass, rest, ProducerEnd::SentAll);
         };
-        gate.pass(who, call);
+        gate.pass(u64::from(place), call);
         call = call.saturating_add(1);
-        let (back, answer) = container.put(rt, pass, message);
+        let (back, answer) = site.container.put(rt, pass, message);
         pass = back;
         match answer {
             Ok(_) => {
@@ -190,11 +129,11 @@ pub(crate) fn produce<C: Pool, G: Gate, W: Wait>(
             }
             Err(PutRefused::Closed(message)) => {
                 rest.push_front_reserved(message);
-                return (pass, rest, ProducerEnd::MetClosed);
+                return stopped(pass, rest, ProducerEnd::MetClosed);
             }
             Err(PutRefused::Spent(message, _, _)) => {
                 rest.push_front_reserved(message);
-                return (pass, rest, ProducerEnd::MetSpent);
+                return stopped(pass, rest, ProducerEnd::MetSpent);
             }
         }
     }
@@ -212,58 +151,74 @@ fn shrunk(messages: VecDeque<Message>) -> VecDeque<Message>
     messages
 }
 
-/// Takes messages, as many as it is told; answers them in the order of taking, and how it ended.
-pub(crate) fn consume<C: Pool, G: Gate, W: Wait>(
-    rt: &W,
-    container: &C,
-    gate: &G,
-    orders: &Orders,
-    consumer: u32,
-    by: C::Pass,
-    room: Vec<Taken>,
-) -> (C::Pass, Vec<Taken>, ConsumerEnd)
-    requires pass { C.is_pass container.now by }
-    requires number { (C.pass by).number ≡ orders.now.producers + consumer }
-    requires few { orders.now.producers < 2 ^ 63 }
-    requires new { own (C.pass by).number (C.pass by).seen ≡ [] }
-    requires room { most_taken orders.now.take orders.now.messages ≤ vec_capacity room }
-    requires empty { room.items ≡ [] }
-    ensures of { C.is_pass container.now result.0 }
-    ensures number { (C.pass result.0).number ≡ orders.now.producers + consumer }
-    ensures did { DidBy (λ m. m.sender) (C.shape container.now) orders.now (C.pass result.0) (Consumer (moves_of orders.now.producers result.1.items) result.2) }
+// A producer that has ended. The memory of a list without messages is given back.
+fn stopped<P>(pass: P, rest: VecDeque<Message>, end: ProducerEnd) -> Sent<P>
+    ensures pass { result.pass ≡ pass }
+    ensures rest { result.list.items ≡ rest.items }
+    ensures end { result.end ≡ end }
 {
-    let who = orders.producers + u64::from(consumer);
-    let last = told_first(orders.shut_after, u64::from(consumer));
-    let mut pass = by;
-    let mut taken = room;
+    let mut list = Vec::from(rest);
+    if list.is_empty() {
+        list.shrink_to_fit();
+    }
+    Done { pass, list, end }
+}
+
+/// Does a consumer's part: takes messages, as many as it is told.
+pub(crate) fn receive<C: Pool, G: Gate, W: Wait>(
+    rt: &W,
+    site: &Site<C>,
+    gate: &G,
+    job: Taker<C::Pass>,
+) -> Took<C::Pass>
+    requires ready { IsTaker (C.view site.now.container) site.now.orders job }
+    ensures of { (C.view site.now.container).is_pass result.pass }
+    ensures number { ((C.view site.now.container).view result.pass).number
+        ≡ site.now.orders.producers + job.place }
+    ensures did { HasTaken (C.view site.now.container) site.now.orders result }
+{
+    let Job { pass, place, list } = job;
+    let who = site.orders.producers + u64::from(place);
+    let last = told_first(site.orders.shut_after, place);
+    let mut pass = pass;
+    let mut taken = list;
     let mut call: u64 = 0;
     for _ in rt.forever() {
         let count = taken.len() as u64;
         if is_reached(last, count) {
-            let (pass, _) = container.shut(rt, pass);
-            return (pass, taken, ConsumerEnd::ShutIt);
+            let (pass, _) = site.container.shut(rt, pass);
+            return ended(pass, taken, ConsumerEnd::ShutIt);
         }
-        if is_reached(orders.take, count) {
-            return (pass, taken, ConsumerEnd::TookEnough);
+        if is_reached(site.orders.take, count) {
+            return ended(pass, taken, ConsumerEnd::TookEnough);
         }
-        if count > orders.messages {
-            return (pass, taken, ConsumerEnd::NoRoom);
+        if count > site.orders.messages {
+            return ended(pass, taken, ConsumerEnd::NoRoom);
         }
         gate.pass(who, call);
         call = call.saturating_add(1);
-        let (back, answer) = container.take(rt, pass);
+        let (back, answer) = site.container.take(rt, pass);
         pass = back;
         match answer {
             Ok((message, number)) => taken.push_reserved(Taken {
                 message,
                 number,
-                consumer,
+                consumer: place,
             }),
             Err(TakeRefused::Empty) => thread::yield_now(),
-            Err(TakeRefused::Closed) => return (pass, taken, ConsumerEnd::FoundClosed),
-            Err(TakeRefused::Shut) => return (pass, taken, ConsumerEnd::FoundShut),
-            Err(TakeRefused::Spent(_, _)) => return (pass, taken, ConsumerEnd::FoundSpent),
+            Err(TakeRefused::Closed) => return ended(pass, taken, ConsumerEnd::FoundClosed),
+            Err(TakeRefused::Shut) => return ended(pass, taken, ConsumerEnd::FoundShut),
+            Err(TakeRefused::Spent(_, _)) => return ended(pass, taken, ConsumerEnd::FoundSpent),
         }
     }
     unreachable!()
+}
+
+// A consumer that has ended.
+fn ended<P>(pass: P, list: Vec<Taken>, end: ConsumerEnd) -> Took<P>
+    ensures pass { result.pass ≡ pass }
+    ensures list { result.list ≡ list }
+    ensures end { result.end ≡ end }
+{
+    Done { pass, list, end }
 }

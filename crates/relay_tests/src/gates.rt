@@ -3,7 +3,8 @@
 
 use crate::kinds::{KINDS, Kind, MOST, plan, relay_over};
 use crate::tallies::{counts, seqs_of, taken_by};
-use relay::{Gate, Plan};
+use relay::{Gate, Plan, Relayed};
+use std::alloc::{AllocError, Global};
 use std::process::Abort;
 use std::sync::Wait;
 use std::sync::atomic::{AtomicU64, Ordering};
@@ -121,37 +122,77 @@ fn each_worker_enters_each_try_under_its_own_number(rt: HostRuntime) -> Result<(
     Ok(())
 }
 
-/// Holds the consumer's first try until the producer's fourth.
-#[derive(Drop)]
-struct ProducerFirst {
-    entries: Entries,
+/// A worker's try waits until another worker has entered one of its own.
+#[derive(Clone, Copy)]
+pub(crate) struct Hold {
+    pub(crate) who: u64,
+    pub(crate) call: u64,
+    pub(crate) other: usize,
+    pub(crate) entered: u64,
 }
 
-impl Gate for ProducerFirst {
+/// Counts, and holds workers.
+#[derive(Drop)]
+pub(crate) struct Holding {
+    pub(crate) entries: Entries,
+    holds: Vec<Hold>,
+}
+
+impl Holding {
+    pub(crate) fn new(alloc: Global, holds: &[Hold]) -> Result<Holding, AllocError> {
+        Ok(Holding {
+            entries: Entries::new(),
+            holds: Vec::from_slice(alloc, holds)?,
+        })
+    }
+}
+
+impl Gate for Holding {
     fn pass(&self, who: u64, call: u64) {
         self.entries.enter(who, call);
-        if who == 1 && call == 0 {
-            self.entries.wait_for(0, 3);
+        for hold in &self.holds {
+            if hold.who == who && hold.call == call {
+                self.entries.wait_for(hold.other, hold.entered);
+            }
         }
     }
 }
 
-// Two messages fill the container, and the third finds it full: only then the consumer tries, once.
-fn holds_a_consumer<R: Abort + AllocGlobal + Threads + Wait + Sync>(
+/// The outcome over a container with room for two, with workers that are held, and their entries.
+fn relay_held<R: Abort + AllocGlobal + Threads + Wait + Sync>(
+    rt: &R,
+    kind: Kind,
+    holds: &[Hold],
+    lengths: &[u32],
+    plan: Plan,
+) -> Result<(Relayed, Entries), Fail> {
+    let gate = Holding::new(rt.alloc(), holds)?;
+    let relayed = relay_over(rt, kind, (2, MOST), lengths, plan, &gate)?;
+    let Holding { entries, holds: _ } = gate;
+    assert!(rt; entries.were_in_turn());
+    Ok((relayed, entries))
+}
+
+// Worker 0 is the producer, and worker 1 the consumer, which takes one message.
+fn holds_a_worker<R: Abort + AllocGlobal + Threads + Wait + Sync>(
     rt: &R,
     kind: Kind,
 ) -> Result<(), Fail> {
-    let gate = ProducerFirst {
-        entries: Entries::new(),
-    };
     let takes_one = Plan {
         take: Some(1),
         ..plan(1)
     };
-    let relayed = relay_over(rt, kind, (2, MOST), &[3], takes_one, &gate)?;
-    assert!(rt; gate.entries.were_in_turn());
-    assert_eq!(rt; gate.entries.of(1), 1);
+    // Two messages fill the container, and the third finds it full: only then the consumer tries, once.
+    let consumer = Hold {
+        who: 1,
+        call: 0,
+        other: 0,
+        entered: 3,
+    };
+    let (relayed, entries) = relay_held(rt, kind, &[consumer], &[3], takes_one)?;
+    assert_eq!(rt; entries.of(1), 1);
     let taken: u32 = match kind {
+        Kind::Queue => 0,
         Kind::Stack => 1,
     };
     assert_eq!(rt;
@@ -159,137 +200,73 @@ fn holds_a_consumer<R: Abort + AllocGlobal + Threads + Wait + Sync>(
         [taken].as_slice()
     );
     assert_eq!(rt; counts(&relayed, 0), (1u64, 2u64, 0u64));
-    Ok(())
-}
-
-#[test]
-fn a_consumer_that_is_held_takes_nothing(rt: HostRuntime) -> Result<(), Fail> {
-    for kind in KINDS {
-        holds_a_consumer(&rt, kind)?;
-    }
-    Ok(())
-}
-
-/// Holds the producer's first try until the consumer's fourth.
-#[derive(Drop)]
-struct ConsumerFirst {
-    entries: Entries,
-}
-
-impl Gate for ConsumerFirst {
-    fn pass(&self, who: u64, call: u64) {
-        self.entries.enter(who, call);
-        if who == 0 && call == 0 {
-            self.entries.wait_for(1, 3);
-        }
-    }
-}
-
-// Three tries find nothing: only then the producer puts.
-fn holds_a_producer<R: Abort + AllocGlobal + Threads + Wait + Sync>(
-    rt: &R,
-    kind: Kind,
-) -> Result<(), Fail> {
-    let gate = ConsumerFirst {
-        entries: Entries::new(),
+    // Three tries find nothing: only then the producer puts.
+    let producer = Hold {
+        who: 0,
+        call: 0,
+        other: 1,
+        entered: 3,
     };
-    let takes_one = Plan {
-        take: Some(1),
-        ..plan(1)
-    };
-    let relayed = relay_over(rt, kind, (2, MOST), &[2], takes_one, &gate)?;
-    assert!(rt; gate.entries.were_in_turn());
-    assert_eq!(rt; gate.entries.of(0), 2);
-    assert!(rt; gate.entries.of(1) >= 4);
+    let (relayed, entries) = relay_held(rt, kind, &[producer], &[2], takes_one)?;
+    assert_eq!(rt; entries.of(0), 2);
+    assert!(rt; entries.of(1) >= 4);
     assert_eq!(rt; counts(&relayed, 0), (1u64, 1u64, 0u64));
     Ok(())
 }
 
 #[test]
-fn a_producer_that_is_held_puts_nothing(rt: HostRuntime) -> Result<(), Fail> {
+fn a_worker_that_is_held_does_nothing(rt: HostRuntime) -> Result<(), Fail> {
     for kind in KINDS {
-        holds_a_producer(&rt, kind)?;
+        holds_a_worker(&rt, kind)?;
     }
     Ok(())
 }
 
-/// Holds the producer's first put until the consumer's second take, and that take until the
-/// producer's second put: the first take finds nothing.
-#[derive(Drop)]
-struct InTurns {
-    entries: Entries,
-}
-
-impl Gate for InTurns {
-    fn pass(&self, who: u64, call: u64) {
-        self.entries.enter(who, call);
-        if who == 0 && call == 0 {
-            self.entries.wait_for(1, 1);
-        }
-        if who == 1 && call == 1 {
-            self.entries.wait_for(0, 1);
-        }
-    }
-}
-
-fn runs_both<R: Abort + AllocGlobal + Threads + Wait + Sync>(
+// Each of two workers waits for the other.
+fn runs_at_once<R: Abort + AllocGlobal + Threads + Wait + Sync>(
     rt: &R,
     kind: Kind,
 ) -> Result<(), Fail> {
-    let gate = InTurns {
-        entries: Entries::new(),
+    // The producer's first put waits for the consumer's second take, and that take for the producer's
+    // second put: the first take finds nothing.
+    let put = Hold {
+        who: 0,
+        call: 0,
+        other: 1,
+        entered: 1,
     };
-    let relayed = relay_over(rt, kind, (2, MOST), &[2], plan(1), &gate)?;
-    assert!(rt; gate.entries.were_in_turn());
-    assert!(rt; gate.entries.of(1) >= 4);
+    let take = Hold {
+        who: 1,
+        call: 1,
+        other: 0,
+        entered: 1,
+    };
+    let (relayed, entries) = relay_held(rt, kind, &[put, take], &[2], plan(1))?;
+    assert!(rt; entries.of(1) >= 4);
     assert_eq!(rt; counts(&relayed, 0), (2u64, 0u64, 0u64));
-    Ok(())
-}
-
-#[test]
-fn a_producer_and_a_consumer_run_at_once(rt: HostRuntime) -> Result<(), Fail> {
-    for kind in KINDS {
-        runs_both(&rt, kind)?;
-    }
-    Ok(())
-}
-
-/// Holds the first put of each of two producers until the other's.
-#[derive(Drop)]
-struct Together {
-    entries: Entries,
-}
-
-impl Gate for Together {
-    fn pass(&self, who: u64, call: u64) {
-        self.entries.enter(who, call);
-        if who == 0 && call == 0 {
-            self.entries.wait_for(1, 0);
-        }
-        if who == 1 && call == 0 {
-            self.entries.wait_for(0, 0);
-        }
-    }
-}
-
-fn runs_two_producers<R: Abort + AllocGlobal + Threads + Wait + Sync>(
-    rt: &R,
-    kind: Kind,
-) -> Result<(), Fail> {
-    let gate = Together {
-        entries: Entries::new(),
+    // The first put of each of two producers waits for the other's.
+    let first = Hold {
+        who: 0,
+        call: 0,
+        other: 1,
+        entered: 0,
     };
-    let relayed = relay_over(rt, kind, (2, MOST), &[1, 1], plan(1), &gate)?;
-    assert!(rt; gate.entries.were_in_turn());
-    assert_eq!(rt; (gate.entries.of(0), gate.entries.of(1)), (1u64, 1u64));
+    let second = Hold {
+        who: 1,
+        call: 0,
+        other: 0,
+        entered: 0,
+    };
+    let (relayed, entries) = relay_held(rt, kind, &[first, second], &[1, 1], plan(1))?;
+    assert_eq!(rt; (entries.of(0), entries.of(1)), (1u64, 1u64));
     assert_eq!(rt; relayed.delivered.len(), 2);
     Ok(())
 }
 
 #[test]
-fn two_producers_run_at_once(rt: HostRuntime) -> Result<(), Fail> {
+fn workers_that_wait_for_each_other_run_at_once(rt: HostRuntime) -> Result<(), Fail> {
     for kind in KINDS {
-        runs_two_producers(&rt, kind)?;
+        runs_at_once(&rt, kind)?;
     }
     Ok(())
 }

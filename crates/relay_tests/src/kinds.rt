@@ -3,24 +3,36 @@
 ghost use Rattle.std.specs.Prelude.{◌≤◌};
 ghost use Rattle.relay.specs.Messages.{AreInputsFrom};
 
-use relay::{Gate, Message, Plan, RelayFault, Relayed, numbered, run};
+use crate::tallies::numbers;
+use audit::{check_queue, check_stack};
+use ms_queue::Queue;
+use relay::{Gate, Message, Plan, RelayFault, Relayed, numbered, run, run_freely};
 use std::alloc::{AllocError, Global};
 use std::sync::Wait;
 use std::thread::Threads;
-use tagged_index::Limits;
+use tagged_index::{Limits, MAX_TAG};
 use treiber_stack::Stack;
 
 /// The highest limit of a tag, which no test comes near.
-pub(crate) const MOST: u64 = 4_398_046_511_103;
+pub(crate) const MOST: u64 = MAX_TAG;
 
 /// A kind of container.
 #[derive(Clone, Copy, Debug, PartialEq, Eq)]
 pub(crate) enum Kind {
+    Queue,
     Stack,
 }
 
 /// Each kind.
-pub(crate) const KINDS: [Kind; 1] = [Kind::Stack];
+pub(crate) const KINDS: [Kind; 2] = [Kind::Queue, Kind::Stack];
+
+/// Whether a container of this kind allows this outcome.
+pub(crate) fn is_allowed(alloc: Global, kind: Kind, relayed: &Relayed) -> Result<bool, AllocError> {
+    match kind {
+        Kind::Queue => Ok(check_queue(relayed)),
+        Kind::Stack => Ok(check_stack(&numbers(alloc, relayed)?)),
+    }
+}
 
 /// So many consumers, and nothing else asked for.
 pub(crate) fn plan(consumers: u32) -> Plan {
@@ -86,7 +98,44 @@ pub(crate) fn relay_inputs<G: Gate + Sync, R: AllocGlobal + Threads + Wait + Syn
         return Err(RelayFault::TooSmall);
     }
     match kind {
+        Kind::Queue => through_a_queue(rt, limits, inputs, plan, gate),
         Kind::Stack => through_a_stack(rt, limits, inputs, plan, gate),
+    }
+}
+
+/// Relays inputs of these lengths over a queue of this capacity, with no gate.
+pub(crate) fn relay_freely<R: AllocGlobal + Threads + Wait + Sync>(
+    rt: &R,
+    capacity: u32,
+    lengths: &[u32],
+    plan: Plan,
+) -> Result<Relayed, RelayFault> {
+    let inputs = inputs(rt.alloc(), lengths, 1)?;
+    let Some(limits) = Limits::of(capacity, MOST) else {
+        return Err(RelayFault::TooSmall);
+    };
+    if plan.consumers == 0 || !numbered(&inputs) {
+        return Err(RelayFault::TooSmall);
+    }
+    match Queue::<Message>::new(rt.alloc(), limits) {
+        Ok((queue, root)) => run_freely(rt, rt.alloc(), queue, root, inputs, plan),
+        Err(_) => Err(RelayFault::NoMemory),
+    }
+}
+
+fn through_a_queue<G: Gate + Sync, R: AllocGlobal + Threads + Wait + Sync>(
+    rt: &R,
+    limits: Limits,
+    inputs: Vec<Vec<Message>>,
+    plan: Plan,
+    gate: &G,
+) -> Result<Relayed, RelayFault>
+    requires consumers { 1 ≤ plan.consumers }
+    requires numbered { AreInputsFrom 0 inputs.items }
+{
+    match Queue::<Message>::new(rt.alloc(), limits) {
+        Ok((queue, root)) => run(rt, rt.alloc(), queue, root, inputs, plan, gate),
+        Err(_) => Err(RelayFault::NoMemory),
     }
 }
 

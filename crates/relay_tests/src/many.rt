@@ -1,8 +1,7 @@
 //! Many workers: more of them than cores, long lines, and a container that one of them shuts.
 
-use crate::kinds::{KINDS, Kind, MOST, inputs, letter, plan, relay_inputs, relay_over};
-use crate::tallies::{counts, numbers, taken_by};
-use audit::check_stack;
+use crate::kinds::{KINDS, Kind, MOST, inputs, is_allowed, letter, plan, relay_inputs, relay_over};
+use crate::tallies::{counts, taken_by};
 use relay::{FreeGate, Message, Plan};
 use std::process::Abort;
 use std::sync::Wait;
@@ -21,7 +20,7 @@ fn delivers_all<R: Abort + AllocGlobal + Threads + Wait + Sync>(
         assert_eq!(rt; counts(&relayed, sender), (u64::from(*length), 0u64, 0u64));
     }
     assert_eq!(rt; relayed.unsent.len(), lengths.len());
-    assert!(rt; check_stack(&numbers(rt.alloc(), &relayed)?));
+    assert!(rt; is_allowed(rt.alloc(), kind, &relayed)?);
     Ok(())
 }
 
@@ -63,7 +62,7 @@ fn delivers_long_lines<R: Abort + AllocGlobal + Threads + Wait + Sync>(
         assert!(rt; !seen[place], "at {place}");
         seen[place] = true;
     }
-    assert!(rt; check_stack(&numbers(rt.alloc(), &relayed)?));
+    assert!(rt; is_allowed(rt.alloc(), kind, &relayed)?);
     Ok(())
 }
 

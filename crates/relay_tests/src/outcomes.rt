@@ -1,8 +1,7 @@
 //! The outcomes of worked examples.
 
-use crate::kinds::{KINDS, Kind, MOST, plan, relay_over};
-use crate::tallies::{counts, numbers, seqs};
-use audit::check_stack;
+use crate::kinds::{KINDS, Kind, MOST, is_allowed, plan, relay_freely, relay_over};
+use crate::tallies::{counts, seqs};
 use relay::{FreeGate, Plan, RelayFault};
 use std::process::Abort;
 use std::sync::Wait;
@@ -58,7 +57,7 @@ fn ends_as_worked_out<R: Abort + AllocGlobal + Threads + Wait + Sync>(
         assert_eq!(rt; counts(&relayed, 0), first, "at capacity {capacity}");
         assert_eq!(rt; counts(&relayed, 1), second, "at capacity {capacity}");
         assert_eq!(rt; relayed.unsent.len(), 2);
-        assert!(rt; check_stack(&numbers(rt.alloc(), &relayed)?));
+        assert!(rt; is_allowed(rt.alloc(), kind, &relayed)?);
     }
     Ok(())
 }
@@ -94,5 +93,14 @@ fn the_last_messages_of_a_closing_sender_stay_unsent(rt: HostRuntime) -> Result<
     for kind in KINDS {
         keeps_the_last_messages(&rt, kind)?;
     }
+    Ok(())
+}
+
+#[test]
+fn a_relay_without_a_gate_delivers_all(rt: HostRuntime) -> Result<(), Fail> {
+    let relayed = relay_freely(&rt, 2, &[3, 2], plan(2))?;
+    assert_eq!(rt; counts(&relayed, 0), (3u64, 0u64, 0u64));
+    assert_eq!(rt; counts(&relayed, 1), (2u64, 0u64, 0u64));
+    assert!(rt; is_allowed(rt.alloc(), Kind::Queue, &relayed)?);
     Ok(())
 }

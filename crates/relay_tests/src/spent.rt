@@ -1,24 +1,33 @@
 //! Relays through a container whose tags end early. What is left and unsent shows that the messages
 //! go through the container.
 
-use crate::gates::Entries;
-use crate::kinds::{Kind, plan, relay_over};
+use crate::gates::{Hold, Holding};
+use crate::kinds::{KINDS, Kind, plan, relay_over};
 use crate::tallies::{seqs, seqs_of};
-use relay::{FreeGate, Gate, Plan};
+use relay::{FreeGate, Plan};
+use std::process::Abort;
+use std::sync::Wait;
 use std::test::Fail;
+use std::thread::Threads;
 
 // The tags allow two puts.
-#[test]
-fn a_spent_stack_keeps_what_it_has(rt: HostRuntime) -> Result<(), Fail> {
+fn keeps_what_it_has<R: Abort + AllocGlobal + Threads + Wait + Sync>(
+    rt: &R,
+    kind: Kind,
+) -> Result<(), Fail> {
     let takes_none = Plan {
         take: Some(0),
         ..plan(1)
     };
-    let relayed = relay_over(&rt, Kind::Stack, (4, 2), &[3], takes_none, &FreeGate)?;
+    let relayed = relay_over(rt, kind, (4, 2), &[3], takes_none, &FreeGate)?;
     assert_eq!(rt; relayed.delivered.len(), 0);
+    let left = match kind {
+        Kind::Queue => [0u32, 1],
+        Kind::Stack => [1, 0],
+    };
     assert_eq!(rt;
         seqs(rt.alloc(), &relayed.left)?.as_slice(),
-        [1u32, 0].as_slice()
+        left.as_slice()
     );
     let Some(unsent) = relayed.unsent.first() else {
         panic!(rt; "no list for the sender")
@@ -27,28 +36,26 @@ fn a_spent_stack_keeps_what_it_has(rt: HostRuntime) -> Result<(), Fail> {
     Ok(())
 }
 
-/// Holds each consumer's first try until the producer's fourth.
-#[derive(Drop)]
-struct ProducerFirst {
-    entries: Entries,
-}
-
-impl Gate for ProducerFirst {
-    fn pass(&self, who: u64, call: u64) {
-        self.entries.enter(who, call);
-        if who > 0 && call == 0 {
-            self.entries.wait_for(0, 3);
-        }
+#[test]
+fn a_spent_container_keeps_what_it_has(rt: HostRuntime) -> Result<(), Fail> {
+    for kind in KINDS {
+        keeps_what_it_has(&rt, kind)?;
     }
+    Ok(())
 }
 
 // The tags allow two puts and a take. Two messages fill the stack, and one of them is taken: then the
 // other consumer, and the producer, find the tags spent.
 #[test]
 fn consumers_meet_a_spent_stack(rt: HostRuntime) -> Result<(), Fail> {
-    let gate = ProducerFirst {
-        entries: Entries::new(),
+    // Each consumer's first try waits for the producer's fourth.
+    let hold = |who: u64| Hold {
+        who,
+        call: 0,
+        other: 0,
+        entered: 3,
     };
+    let gate = Holding::new(rt.alloc(), &[hold(1), hold(2)])?;
     let relayed = relay_over(&rt, Kind::Stack, (2, 3), &[3], plan(2), &gate)?;
     assert!(rt; gate.entries.were_in_turn());
     assert_eq!(rt;

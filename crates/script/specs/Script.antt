@@ -90,38 +90,32 @@ line_text Finish = codes "finish"
 -- ---- which script may have which line
 
 -- a stack's look is one load, so it isn't begun
-abbrev pub is_begun : Command (List ℕ) → Bool
-is_begun Look = false
-is_begun (Put value) = true
-is_begun Take = true
-is_begun Close = true
-is_begun Shut = true
+abbrev pub is_begun : Order → Command (List ℕ) → Bool
+is_begun Fifo call = true
+is_begun Lifo Look = false
+is_begun Lifo (Put value) = true
+is_begun Lifo Take = true
+is_begun Lifo Close = true
+is_begun Lifo Shut = true
+
+-- a stack puts many values and takes all of them by one exchange; a queue can't
+abbrev pub is_bulk : Order → Bool
+is_bulk Fifo = false
+is_bulk Lifo = true
 
 -- no pass meets itself
-abbrev pub is_stack_act : ℕ → Act → Bool
-is_stack_act pass (Call command) = true
-is_stack_act pass (Begin command) = is_begun command
-is_stack_act pass (Step count) = true
-is_stack_act pass (Range values) = true
-is_stack_act pass Fold = true
-is_stack_act pass ReversedFold = true
-is_stack_act pass (Meet other) = not (pass == other.0)
-is_stack_act pass Drop = true
-
--- a queue's calls are whole
-abbrev pub is_queue_act : Act → Bool
-is_queue_act (Call command) = true
-is_queue_act (Begin command) = false
-is_queue_act (Step count) = false
-is_queue_act (Range values) = false
-is_queue_act Fold = false
-is_queue_act ReversedFold = false
-is_queue_act (Meet other) = false
-is_queue_act Drop = false
+abbrev pub is_act : Order → ℕ → Act → Bool
+is_act order pass (Call command) = true
+is_act order pass (Begin command) = is_begun order command
+is_act order pass (Step count) = true
+is_act order pass (Range values) = is_bulk order
+is_act order pass Fold = is_bulk order
+is_act order pass ReversedFold = is_bulk order
+is_act order pass (Meet other) = not (pass == other.0)
+is_act order pass Drop = true
 
 abbrev pub is_allowed : Order → Line → Bool
-is_allowed Fifo (By pass act) = is_queue_act act
-is_allowed Lifo (By pass act) = is_stack_act pass.0 act
+is_allowed order (By pass act) = is_act order pass.0 act
 is_allowed order Finish = true
 
 -- ---- the whole text

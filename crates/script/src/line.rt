@@ -56,17 +56,16 @@ impl<'a> Line<'a> {
     ghost use Rattle.std.specs.Prelude.{◌≡◌};
     ghost use Rattle.script.specs.Script.{is_allowed};
 
-    /// Whether the script of a container of this order may have the line. A queue's calls are whole,
-    /// a stack's look has no steps, and no pass meets itself.
+    /// Whether the script of a container of this order may have the line. Ranges and folds are a
+    /// stack's, a stack's look has no steps, and no pass meets itself.
     pub fn is_allowed(&self, order: Order) -> bool
         ensures { result ≡ is_allowed order self.now }
     {
         match (order, self) {
-            (_, Line::Finish | Line::By(_, Act::Call(_))) => true,
-            (Order::Fifo, Line::By(..)) => false,
+            (_, Line::By(pass, Act::Meet(other))) => pass.0 != other.0,
+            (Order::Fifo, Line::By(_, Act::Range(_) | Act::Fold | Act::ReversedFold)) => false,
             (Order::Lifo, Line::By(_, Act::Begin(Command::Look))) => false,
-            (Order::Lifo, Line::By(pass, Act::Meet(other))) => pass.0 != other.0,
-            (Order::Lifo, Line::By(..)) => true,
+            (_, Line::Finish | Line::By(..)) => true,
         }
     }
 }

@@ -1,3 +1,5 @@
+ghost use Rattle.std.specs.Prelude.{◌<◌, length};
+
 use crate::{MAX_SCRIPT_LEN, ScriptFault, parse};
 use std::alloc::AllocError;
 use std::process::Abort;
@@ -73,6 +75,13 @@ fn bad_second_lines(rt: HostRuntime) {
         "queue 1 7\nfinish \n",
         "queue 1 7\nfinish\nfinish\n",
         "queue 1 7\n\na take\n",
+        "queue 1 7\na begin\n",
+        "queue 1 7\na begin  look\n",
+        "queue 1 7\na begin range x\n",
+        "queue 1 7\na step 0\n",
+        "queue 1 7\na step 65536\n",
+        "queue 1 7\na meet a\n",
+        "queue 1 7\na drop b\n",
     ];
     for text in texts {
         assert_refused(&rt, text.as_bytes(), ScriptFault::BadLine(2));
@@ -115,31 +124,47 @@ fn bad_lines_of_a_stack(rt: HostRuntime) {
     }
 }
 
-// A queue's calls are whole: it has no steps yet, and never ranges and folds.
+/// Reads a line in the script of a stack and in that of a queue, where each should have it or not.
+fn assert_allowed(rt: &(impl Abort + AllocGlobal), line: &str, stack: bool, queue: bool)
+    requires { length line.now < 20 }
+{
+    for (kind, is_allowed) in [("stack", stack), ("queue", queue)] {
+        let text = format!(in rt.alloc(); "{kind} 1 7\na {line}\nfinish\n").expect(rt, "memory");
+        if is_allowed {
+            assert_read(rt, text.as_bytes(), 2);
+        } else {
+            assert_refused(rt, text.as_bytes(), ScriptFault::BadLine(2));
+        }
+    }
+}
+
 #[test]
-fn lines_of_a_stack_alone(rt: HostRuntime) {
-    let lines = [
+fn lines_of_each_container(rt: HostRuntime) {
+    let both = [
+        "put x",
+        "take",
+        "close",
+        "shut",
+        "look",
         "begin put x",
         "begin take",
         "begin close",
         "begin shut",
         "step 1",
         "step 65535",
-        "range",
-        "range x",
-        "range x 9 yZ",
-        "fold",
-        "rfold",
         "meet b",
         "drop",
     ];
-    for line in lines {
+    for line in both {
         assert!(rt; line.len() < 20);
-        let stack = format!(in rt.alloc(); "stack 1 7\na {line}\nfinish\n").expect(&rt, "memory");
-        assert_read(&rt, stack.as_bytes(), 2);
-        let queue = format!(in rt.alloc(); "queue 1 7\na {line}\nfinish\n").expect(&rt, "memory");
-        assert_refused(&rt, queue.as_bytes(), ScriptFault::BadLine(2));
+        assert_allowed(&rt, line, true, true);
     }
+    for line in ["range", "range x", "range x 9 yZ", "fold", "rfold"] {
+        assert!(rt; line.len() < 20);
+        assert_allowed(&rt, line, true, false);
+    }
+    assert_allowed(&rt, "begin look", false, true);
+    assert_allowed(&rt, "meet a", false, false);
 }
 
 /// A script that puts a value of so many bytes.

@@ -1,19 +1,17 @@
 //! The laws of the queue's machine.
-ghost use Rattle.std.specs.Prelude.{◌≡◌, ℕ, ◌<◌, ◌≤◌, ◌++◌, List, map};
-ghost use mathlib.Core.Option.{Option, some};
+ghost use Rattle.std.specs.Prelude.{◌≡◌, ℕ, ◌<◌, ◌≤◌, ◌++◌};
+ghost use mathlib.Core.Option.{some};
 ghost use lib.ListN.{get_elem?};
 ghost use Rattle.tagged_index.specs.declared.word.TheConstants.{NULL};
-ghost use Rattle.bounded_model.specs.declared.history.Event.{Event};
 ghost use Rattle.bounded_model.specs.Gathers.{gather, sent_of, took_of, values_of, Counts};
 ghost use Rattle.machine.specs.Schedule.{Schedule, after};
 ghost use Rattle.machine.specs.Bound.{IsStretch, own_steps};
 ghost use Rattle.queue_machine.specs.declared.lines.Call.{Call};
 ghost use Rattle.queue_machine.specs.declared.lines.Line.{Line};
-ghost use Rattle.queue_machine.specs.Machine.{Memory, State, queue, step};
+ghost use Rattle.queue_machine.specs.Machine.{State, queue, step};
 ghost use Rattle.queue_machine.specs.Answers.{shape};
 ghost use Rattle.queue_machine.specs.Places.{NothingTwice, WinsUnheld};
-ghost use Rattle.queue_machine.specs.Rule.{Kept};
-ghost use Rattle.step_core.specs.queue.Law.{Lawful, AllDone, values_left};
+ghost use Rattle.step_core.specs.queue.Law.{Lawful, AllDone, lines_of, values_left};
 ghost use Rattle.step_core.specs.queue.Bound.{MeetsRule};
 
 /// In every schedule of puts, takes, closes, shuts and looks at a queue of `n` value cells, whose
@@ -30,17 +28,15 @@ pub fn queue_core<T>()
 /// pass. And whatever cell or node a step brings into its pass's hand, no pass had it: a put's was free
 /// and not in the chain, a take's was in the chain, and no other step brings any.
 pub fn queue_nodes<T>()
-    ensures wherever_the_rule_holds { (n limit : ℕ) (m : Memory T)
-        (who : ℕ → Option ℕ) (lines : List (Line T)) (h : List (Event T)) →
-        Kept T n limit m who lines h → NothingTwice n m lines }
-    ensures wins_unheld { (n limit : ℕ) (m : Memory T)
-        (who : ℕ → Option ℕ) (lines : List (Line T)) (h : List (Event T)) →
-        Kept T n limit m who lines h → (q p : ℕ) (l : Line T) → get_elem? lines q ≡ some l →
-        WinsUnheld m lines l (step (shape n limit) m p l).line }
+    ensures wherever_the_rule_holds { (n limit : ℕ) (s : State T) →
+        MeetsRule n limit s → NothingTwice n s.memory (lines_of s) }
+    ensures wins_unheld { (n limit p : ℕ) (s : State T) (l : Line T) →
+        MeetsRule n limit s → get_elem? (lines_of s) p ≡ some l →
+        WinsUnheld s.memory (lines_of s) l (step (shape n limit) s.memory p l).line }
     ensures in_every_schedule { (n limit passes : ℕ) (schedule : Schedule (Call T)) →
         0 < n → n < NULL → 0 < limit →
         let s = after (queue (shape n limit)) passes schedule in
-        NothingTwice n s.memory (map (λ v. v.line) s.passes) }
+        NothingTwice n s.memory (lines_of s) }
 {}
 
 /// In every schedule of a queue, each pass answers the call that it began, and the events that it adds

@@ -1,20 +1,18 @@
 //! The laws of the stack's machine.
-ghost use Rattle.std.specs.Prelude.{◌≡◌, ℕ, ◌<◌, ◌≤◌, List, map};
-ghost use mathlib.Core.Option.{Option, some};
+ghost use Rattle.std.specs.Prelude.{◌≡◌, ℕ, ◌<◌, ◌≤◌};
+ghost use mathlib.Core.Option.{some};
 ghost use lib.ListN.{get_elem?};
 ghost use Rattle.tagged_index.specs.declared.word.TheConstants.{NULL};
-ghost use Rattle.bounded_model.specs.declared.history.Event.{Event};
 ghost use Rattle.bounded_model.specs.Machine.{Shape};
 ghost use Rattle.machine.specs.Schedule.{Schedule, after};
 ghost use Rattle.machine.specs.Bound.{AtLine, IsStretch, own_steps};
 ghost use Rattle.stack_machine.specs.declared.lines.Call.{Call};
 ghost use Rattle.stack_machine.specs.declared.lines.Line.{Line};
 ghost use Rattle.stack_machine.specs.Answers.{shape};
-ghost use Rattle.stack_machine.specs.Machine.{Memory, State, stack, step};
+ghost use Rattle.stack_machine.specs.Machine.{State, stack, step};
 ghost use Rattle.stack_machine.specs.Places.{NoNodeTwice, WinsUnheld};
-ghost use Rattle.stack_machine.specs.Rule.{Lists, Good};
 ghost use Rattle.step_core.specs.stack.Bound.{IsSingle};
-ghost use Rattle.step_core.specs.stack.Law.{Lawful, AllDone};
+ghost use Rattle.step_core.specs.stack.Law.{Lawful, AllDone, MeetsRule, lines_of};
 
 /// In every schedule of puts of one or more values, takes, folds, closes, shuts and looks at a stack
 /// of `n` nodes: the history is legal for a bounded stack, the words and slots stand for it, each
@@ -30,16 +28,15 @@ pub fn stack_core<T>()
 /// whatever node a step brings into its pass's hand, no pass had it: a put's was free and not on the
 /// stack, a take's or a fold's was on the stack, and no other step brings any.
 pub fn stack_nodes<T>()
-    ensures wherever_the_rule_holds { (n limit : ℕ) (m : Memory T) (g : Lists)
-        (who : ℕ → Option ℕ) (lines : List (Line T)) (h : List (Event T)) →
-        Good T n limit m g who lines h → NoNodeTwice n m lines }
-    ensures wins_unheld { (n limit : ℕ) (m : Memory T) (g : Lists)
-        (who : ℕ → Option ℕ) (lines : List (Line T)) (h : List (Event T)) →
-        Good T n limit m g who lines h → (q p : ℕ) (l : Line T) → get_elem? lines q ≡ some l →
-        WinsUnheld m lines l (step (shape n limit) m p l).line }
-    ensures in_every_schedule { (n limit passes : ℕ) (schedule : Schedule (Call T)) → 0 < n → n ≤ NULL →
+    ensures wherever_the_rule_holds { (n limit : ℕ) (s : State T) →
+        MeetsRule n limit s → NoNodeTwice n s.memory (lines_of s) }
+    ensures wins_unheld { (n limit p : ℕ) (s : State T) (l : Line T) →
+        MeetsRule n limit s → get_elem? (lines_of s) p ≡ some l →
+        WinsUnheld s.memory (lines_of s) l (step (shape n limit) s.memory p l).line }
+    ensures in_every_schedule { (n limit passes : ℕ) (schedule : Schedule (Call T)) →
+        0 < n → n ≤ NULL →
         let s = after (stack (shape n limit)) passes schedule in
-        NoNodeTwice n s.memory (map (λ v. v.line) s.passes) }
+        NoNodeTwice n s.memory (lines_of s) }
 {}
 
 /// In every schedule of a stack, each pass answers the call that it began, and the events that it adds

@@ -10,10 +10,15 @@ use Rattle.machine.specs.Chains.{last, HasValues, chain_from, values_in}
 use Rattle.queue_machine.specs.declared.lines.Placing.{Placing}
 use Rattle.queue_machine.specs.declared.lines.Answer.{Answer}
 use Rattle.queue_machine.specs.declared.lines.Call.{Call}
+use Rattle.queue_machine.specs.declared.lines.Line.{Line}
 use Rattle.queue_machine.specs.declared.lines.Line.TheVariants.{Idle, LoadNodes}
 use Rattle.queue_machine.specs.Machine.{Memory, Pass, State, next_of, held_cells, held_nodes}
 use Rattle.queue_machine.specs.Answers.{shape, state, IsRight}
 use Rattle.queue_machine.specs.Deeds.{HasDone}
+
+-- the lines of all passes
+abbrev pub lines_of : {T : Type 0} → State T → List (Line T)
+lines_of s = map (λ v. v.line) s.passes
 
 -- the free cells and the free nodes; the nodes of the chain behind its first, which is the dummy; and
 -- the parts of the whole chain before and after the node that the tail names

@@ -1,21 +1,32 @@
 -- What the stack's machine keeps in every schedule.
-use Rattle.std.specs.Prelude.{◌≡◌, ℕ, ◌+◌, ◌<◌, ◌≤◌, ltb, if◌then◌else◌, List, length, Some, None}
+use Rattle.std.specs.Prelude.{◌≡◌, ℕ, ◌+◌, ◌<◌, ◌≤◌, ltb, if◌then◌else◌, List, length, map, Some, None}
 use mathlib.Core.Option.{some}
 use lib.ListN.{get_elem?}
 use Rattle.bounded_model.specs.Machine.{Shape, Legal}
 use Rattle.machine.specs.Words.{times, total, Stands}
 use Rattle.stack_machine.specs.declared.lines.Answer.{Answer}
 use Rattle.stack_machine.specs.declared.lines.Call.{Call}
+use Rattle.stack_machine.specs.declared.lines.Line.{Line}
 use Rattle.stack_machine.specs.declared.lines.Line.TheVariants.{Idle}
 use Rattle.machine.specs.Chains.{HasValues}
 use Rattle.machine.specs.Seen.{Knows}
 use Rattle.stack_machine.specs.Answers.{shape, state, IsRight}
 use Rattle.stack_machine.specs.Deeds.{HasDone}
 use Rattle.stack_machine.specs.Machine.{Pass, State, held}
+use Rattle.stack_machine.specs.Rule.{Lists, Good}
 
 -- v is pass p
 abbrev pub IsPass : {T : Type 0} → State T → ℕ → Pass T → Type 0
 IsPass s p v = get_elem? s.passes p ≡ some v
+
+-- the lines of all passes
+abbrev pub lines_of : {T : Type 0} → State T → List (Line T)
+lines_of s = map (λ v. v.line) s.passes
+
+-- the rule holds of the words, of the lines of all passes, and of the history
+pub record MeetsRule {T : Type 0} (n limit : ℕ) (s : State T) : Type 0 where
+  pub lists : Lists
+  pub good : Good T n limit s.memory lists some (lines_of s) s.history
 
 -- The history is one of a bounded stack, with room for n values. The words and slots stand for it: the
 -- top for its values, the first mark for closed, the second for shut, the tags for its numbers. Each

@@ -1,7 +1,6 @@
 use Rattle.std.proofs.Common.{◌≡◌, List, [], ◌∷◌, string_bytes, length, refl, sym, ap, subst, ◌∙◌, arith}
 use Rattle.std.specs.List.{AllByRecursion}
 use Rattle.std.specs.Prelude.{IsTrue}
-use Rattle.bounded_model.specs.declared.history.Order.TheVariants.{Lifo}
 use Rattle.script.specs.declared.line.Line.{Line}
 use Rattle.script.specs.declared.line.Line.TheVariants.{By, Finish}
 use Rattle.script.specs.Script.{FinishesLast, IsLine, is_allowed}
@@ -42,7 +41,7 @@ loop-line-preserved g c =
     let told = subst (λ (ls : List Line). Told r.shape (start (r.root c.args.root)) c.args.lines.items i.playing.0 ls (string_bytes c.loop-line.output)) left i.playing.2 in
     record {
       each = (subst (λ (ls : List Line). AllByRecursion IsLine ls) left i.each).1;
-      allowed = (subst (λ (ls : List Line). AllByRecursion (λ line. IsTrue (is_allowed Lifo line)) ls) left i.allowed).1;
+      allowed = (subst (λ (ls : List Line). AllByRecursion (λ line. IsTrue (is_allowed r.shape.order line)) ls) left i.allowed).1;
       finish_last = (subst FinishesLast left i.finish_last).1;
       playing = (next.0, next.1, told_more r.shape _ c.args.lines.items i.playing.0 next.0 c.in-By.name c.in-By.what rest _ _ next.2.said told next.2.acts next.2.written);
     }

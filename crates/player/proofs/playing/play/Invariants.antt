@@ -2,7 +2,6 @@ use Rattle.std.proofs.Common.{string_bytes}
 use Rattle.std.specs.List.{AllByRecursion}
 use Rattle.std.specs.Prelude.{IsTrue}
 use Rattle.std.specs.VecDeque.{deque_len}
-use Rattle.bounded_model.specs.declared.history.Order.TheVariants.{Lifo}
 use Rattle.script.specs.Script.{FinishesLast, IsLine, is_allowed}
 use Rattle.player.specs.Plays.{World, start}
 use Rattle.player.specs.Shows.{IsOn}
@@ -15,7 +14,7 @@ invariant-loop-line g l =
     let r = g.C.Played.reading l.fn.container in
     record {
       each : AllByRecursion IsLine l.lines.items;
-      allowed : AllByRecursion (λ line. IsTrue (is_allowed Lifo line)) l.lines.items;
+      allowed : AllByRecursion (λ line. IsTrue (is_allowed r.shape.order line)) l.lines.items;
       finish_last : FinishesLast l.lines.items;
       playing : (world : World) × IsOn r l.stage world
           × Told r.shape (start (r.root l.fn.root)) l.initial.lines.items world l.lines.items (string_bytes l.output);

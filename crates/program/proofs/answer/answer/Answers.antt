@@ -9,6 +9,10 @@ use Rattle.program.specs.Outcome.{IsOutputIn, IsOutputOf}
 use Rattle.program.proofs.Outcomes.{if_ok}
 use Rattle.program.proofs.answer.answer.Goals as goal
 
+pub play_queue-requires-clause-allowed : goal.play_queue-requires-clause-allowed
+play_queue-requires-clause-allowed g c =
+    subst (λ (order : Order). AllByRecursion (λ line. IsTrue (is_allowed order line)) c.args.script.lines.items) c.in-Fifo.is c.requires.allowed
+
 pub play_stack-requires-clause-allowed : goal.play_stack-requires-clause-allowed
 play_stack-requires-clause-allowed g c =
     subst (λ (order : Order). AllByRecursion (λ line. IsTrue (is_allowed order line)) c.args.script.lines.items) c.in-Lifo.is c.requires.allowed
@@ -17,7 +21,7 @@ pub returns-in-Fifo : goal.returns-in-Fifo
 returns-in-Fifo g c =
     let head = head_view c.args.script.header in
     let lines = c.args.script.lines.items in
-    if_ok c.answer_list.result (λ output. IsOutputIn Fifo head lines (string_bytes output)) (λ output. IsOutputOf head lines (string_bytes output)) c.answer_list.ensures
+    if_ok c.play_queue.result (λ output. IsOutputIn Fifo head lines (string_bytes output)) (λ output. IsOutputOf head lines (string_bytes output)) c.play_queue.ensures
     (λ output is. subst (λ (order : Order). IsOutputIn order head lines (string_bytes output)) (sym c.in-Fifo.is) is)
 
 pub returns-in-Lifo : goal.returns-in-Lifo

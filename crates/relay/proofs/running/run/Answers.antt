@@ -1,84 +1,89 @@
 -- Each answer has the same step first: what the workers did, and the joins, make a run of the relay.
 use Rattle.std.proofs.Common.{arith, refl, sym, ◌∙◌, ap, length}
 use Rattle.bounded_model.proofs.Joining.{left_is}
+use Rattle.relay.specs.Pools.{pool_of}
 use Rattle.relay.specs.Promises.{total, Relays}
 use Rattle.relay.proofs.Accounts.{ends_from, none_out, sent_long}
 use Rattle.relay.proofs.Ended.{sent_passes, took_passes, fits_within}
 use Rattle.relay.proofs.Promised.{few_taken, few_there, lists_of, lists_up, relays}
-use Rattle.relay.proofs.Starting.{zip_long}
+use Rattle.relay.proofs.Starting.{zip_items, zip_long}
 use Rattle.relay.proofs.running.run.Given as given
 use Rattle.relay.proofs.running.run.Goals as goal
 
-pub join_senders-unsent-requires-clause-passes : goal.join_senders-unsent-requires-clause-passes
-join_senders-unsent-requires-clause-passes g c κs within = sent_passes _ _ _ _ 0 c.args.inputs.items _ c.in_ok-sent.ensures.senders
+pub join_done-unsent-requires-clause-passes : goal.join_done-unsent-requires-clause-passes
+join_done-unsent-requires-clause-passes g c κs within = sent_passes (pool_of (g.C.Container.is_pass c.args.container) g.C.Container.pass (g.C.Container.shape c.args.container)) _ 0 c.args.inputs.items _ c.in_ok-sent.ensures.senders
 
-pub join_senders-unsent-requires-clause-room : goal.join_senders-unsent-requires-clause-room
-join_senders-unsent-requires-clause-room g c κs within =
-    let long = sent_long _ _ _ _ 0 c.args.inputs.items _ c.in_ok-sent.ensures.senders in
+pub join_done-unsent-requires-clause-room : goal.join_done-unsent-requires-clause-room
+join_done-unsent-requires-clause-room g c κs within =
+    let long = sent_long (pool_of (g.C.Container.is_pass c.args.container) g.C.Container.pass (g.C.Container.shape c.args.container)) _ 0 c.args.inputs.items _ c.in_ok-sent.ensures.senders in
     fits_within (omega (arith, long, c.len.ensures, c.args.inputs.ok.0, c.in_ok-sent.field-0.sent.ok.0)) c.in-Ok.ensures.outcome.unsent
 
-pub join_takers-lists-requires-clause-passes : goal.join_takers-lists-requires-clause-passes
-join_takers-lists-requires-clause-passes g c κs within = took_passes _ _ _ _ 0 _ c.in_ok-sent.ensures.takers
+pub join_done-lists-requires-clause-passes : goal.join_done-lists-requires-clause-passes
+join_done-lists-requires-clause-passes g c κs within = took_passes (pool_of (g.C.Container.is_pass c.args.container) g.C.Container.pass (g.C.Container.shape c.args.container)) _ 0 _ c.in_ok-sent.ensures.takers
 
 pub merge-delivered-requires-clause-some : goal.merge-delivered-requires-clause-some
 merge-delivered-requires-clause-some g c =
-    let lists = c.join_takers-lists.result in
-    let long = zip_long _ _ _ c.join_takers-lists.ensures.taken in
+    let lists = c.join_done-lists.result in
+    let long = zip_long _ _ _ c.join_done-lists.ensures.lists in
     let took = c.in_ok-sent.field-0.took in
     omega (arith, lists.ok.0, long, took.ok.0, c.in_ok-sent.ensures.consumers, c.in-Ok.ensures.work.consumers_are, c.requires.consumers)
 
 pub merge-delivered-requires-clause-up : goal.merge-delivered-requires-clause-up
 merge-delivered-requires-clause-up g c =
     let C = g.C.Container in
+    let pool = pool_of (C.is_pass c.args.container) C.pass (C.shape c.args.container) in
     let laws = g.met.C.Container g.world.𝓛 g.world.𝓜 g.world.𝓡 ((λ s x. x), (λ x. x), (λ x. x), λ x. x) in
     let did = c.in_ok-sent.ensures in
     let ended = c.in_ok-sent.field-0 in
     let messages = c.count-messages.ensures ∙ ap total c.deref.ensures.value in
     let e =
-    ends_from _ _ _ _ c.args.inputs.items ended.sent.items ended.took.items ended.closer ended.used _ _ _ _ _ _ (sym c.args.inputs.ok.0) (sym ended.took.ok.0 ∙ did.consumers) did.senders did.takers did.closer did.used did.given
-    c.join_senders-unsent.ensures.joined c.join_takers-lists.ensures.joined c.join.ensures.gives (laws.root_law c.args.container c.join.new.parent c.join.ensures.root) c.len-2.ensures messages in
-    lists_up _ _ _ _ _ _ _ _ _ _ e c.join_takers-lists.result.items c.join_takers-lists.ensures.taken
+    ends_from pool _ c.args.inputs.items ended.sent.items ended.took.items ended.closer ended.used _ _ _ _ _ _ (sym c.args.inputs.ok.0) (sym ended.took.ok.0 ∙ did.consumers) did.senders did.takers did.closer did.used did.given
+    c.join_done-unsent.ensures.joined c.join_done-lists.ensures.joined c.join.ensures.gives (laws.root_law c.args.container c.join.new.parent c.join.ensures.root) c.len-2.ensures messages in
+    lists_up pool _ _ _ _ _ _ _ e c.join_done-lists.result.items c.join_done-lists.ensures.lists
 
 pub merge-delivered-requires-clause-room : goal.merge-delivered-requires-clause-room
 merge-delivered-requires-clause-room g c =
     let C = g.C.Container in
+    let pool = pool_of (C.is_pass c.args.container) C.pass (C.shape c.args.container) in
     let laws = g.met.C.Container g.world.𝓛 g.world.𝓜 g.world.𝓡 ((λ s x. x), (λ x. x), (λ x. x), λ x. x) in
     let did = c.in_ok-sent.ensures in
     let ended = c.in_ok-sent.field-0 in
     let messages = c.count-messages.ensures ∙ ap total c.deref.ensures.value in
     let e =
-    ends_from _ _ _ _ c.args.inputs.items ended.sent.items ended.took.items ended.closer ended.used _ _ _ _ _ _ (sym c.args.inputs.ok.0) (sym ended.took.ok.0 ∙ did.consumers) did.senders did.takers did.closer did.used did.given
-    c.join_senders-unsent.ensures.joined c.join_takers-lists.ensures.joined c.join.ensures.gives (laws.root_law c.args.container c.join.new.parent c.join.ensures.root) c.len-2.ensures messages in
-    let few = few_taken _ _ _ _ _ _ _ _ _ _ e in
-    let same = lists_of _ _ _ _ _ _ _ _ _ _ e c.join_takers-lists.result.items c.join_takers-lists.ensures.taken in
+    ends_from pool _ c.args.inputs.items ended.sent.items ended.took.items ended.closer ended.used _ _ _ _ _ _ (sym c.args.inputs.ok.0) (sym ended.took.ok.0 ∙ did.consumers) did.senders did.takers did.closer did.used did.given
+    c.join_done-unsent.ensures.joined c.join_done-lists.ensures.joined c.join.ensures.gives (laws.root_law c.args.container c.join.new.parent c.join.ensures.root) c.len-2.ensures messages in
+    let few = few_taken pool _ _ _ _ _ _ _ e in
+    let same = lists_of pool _ _ _ _ _ _ _ e c.join_done-lists.result.items c.join_done-lists.ensures.lists in
     fits_within (omega (arith, few, same, messages)) c.in-Ok.ensures.outcome.delivered
 
 pub drain-left-requires : goal.drain-left-requires
 drain-left-requires g c =
     let C = g.C.Container in
+    let pool = pool_of (C.is_pass c.args.container) C.pass (C.shape c.args.container) in
     let laws = g.met.C.Container g.world.𝓛 g.world.𝓜 g.world.𝓡 ((λ s x. x), (λ x. x), (λ x. x), λ x. x) in
     let did = c.in_ok-sent.ensures in
     let ended = c.in_ok-sent.field-0 in
     let messages = c.count-messages.ensures ∙ ap total c.deref.ensures.value in
     let e =
-    ends_from _ _ _ _ c.args.inputs.items ended.sent.items ended.took.items ended.closer ended.used _ _ _ _ _ _ (sym c.args.inputs.ok.0) (sym ended.took.ok.0 ∙ did.consumers) did.senders did.takers did.closer did.used did.given
-    c.join_senders-unsent.ensures.joined c.join_takers-lists.ensures.joined c.join.ensures.gives (laws.root_law c.args.container c.join.new.parent c.join.ensures.root) c.len-2.ensures messages in
-    let few = few_there _ _ _ _ _ _ _ _ _ _ e in
-    let left = left_is _ _ _ (none_out _ _ _ _ _ _ _ _ _ _ e) c.finish.ensures in
+    ends_from pool _ c.args.inputs.items ended.sent.items ended.took.items ended.closer ended.used _ _ _ _ _ _ (sym c.args.inputs.ok.0) (sym ended.took.ok.0 ∙ did.consumers) did.senders did.takers did.closer did.used did.given
+    c.join_done-unsent.ensures.joined c.join_done-lists.ensures.joined c.join.ensures.gives (laws.root_law c.args.container c.join.new.parent c.join.ensures.root) c.len-2.ensures messages in
+    let few = few_there pool _ _ _ _ _ _ _ e in
+    let left = left_is _ _ _ (none_out pool _ _ _ _ _ _ _ e) c.finish.ensures in
     fits_within (omega (arith, few, ap length left, messages)) c.in-Ok.ensures.outcome.left
 
-all : (g : given.Over) (c : goal.After-drain-left g) → Relays (g.C.Container.shape c.args.container) c.args.plan c.args.inputs.items (record { delivered = c.merge-delivered.result; left = c.drain-left.result; unsent = c.join_senders-unsent.result })
+all : (g : given.Over) (c : goal.After-drain-left g) → Relays (g.C.Container.shape c.args.container) c.args.plan c.args.inputs.items (record { delivered = c.merge-delivered.result; left = c.drain-left.result; unsent = c.join_done-unsent.result })
 all g c =
     let C = g.C.Container in
+    let pool = pool_of (C.is_pass c.args.container) C.pass (C.shape c.args.container) in
     let laws = g.met.C.Container g.world.𝓛 g.world.𝓜 g.world.𝓡 ((λ s x. x), (λ x. x), (λ x. x), λ x. x) in
     let did = c.in_ok-sent.ensures in
     let ended = c.in_ok-sent.field-0 in
     let messages = c.count-messages.ensures ∙ ap total c.deref.ensures.value in
     let e =
-    ends_from _ _ _ _ c.args.inputs.items ended.sent.items ended.took.items ended.closer ended.used _ _ _ _ _ _ (sym c.args.inputs.ok.0) (sym ended.took.ok.0 ∙ did.consumers) did.senders did.takers did.closer did.used did.given
-    c.join_senders-unsent.ensures.joined c.join_takers-lists.ensures.joined c.join.ensures.gives (laws.root_law c.args.container c.join.new.parent c.join.ensures.root) c.len-2.ensures messages in
-    let left = left_is _ _ _ (none_out _ _ _ _ _ _ _ _ _ _ e) c.finish.ensures in
-    relays _ _ _ _ _ _ _ _ _ _ e c.join_takers-lists.result.items c.args.plan _ c.join_takers-lists.ensures.taken c.merge-delivered.ensures.same c.merge-delivered.ensures.sorted c.join_senders-unsent.ensures.unsent
+    ends_from pool _ c.args.inputs.items ended.sent.items ended.took.items ended.closer ended.used _ _ _ _ _ _ (sym c.args.inputs.ok.0) (sym ended.took.ok.0 ∙ did.consumers) did.senders did.takers did.closer did.used did.given
+    c.join_done-unsent.ensures.joined c.join_done-lists.ensures.joined c.join.ensures.gives (laws.root_law c.args.container c.join.new.parent c.join.ensures.root) c.len-2.ensures messages in
+    let left = left_is _ _ _ (none_out pool _ _ _ _ _ _ _ e) c.finish.ensures in
+    relays pool _ _ _ _ _ _ _ e c.join_done-lists.result.items c.args.plan _ c.join_done-lists.ensures.lists c.merge-delivered.ensures.same c.merge-delivered.ensures.sorted (zip_items _ _ c.join_done-unsent.ensures.lists)
     (c.drain-left.ensures ∙ left) refl refl refl c.requires.consumers (sym ended.took.ok.0 ∙ (did.consumers ∙ c.in-Ok.ensures.work.consumers_are))
 
 pub returns-clause-lists : goal.returns-clause-lists

@@ -4,9 +4,8 @@ use Rattle.relay.proofs.threads.join_workers.Goals as goal
 
 pub returns-clause-closed : goal.returns-clause-closed
 returns-clause-closed g c =
-    let C = g.C.Pool in
-    let is = C.is_pass c.args.site.now.container in
+    let pool = g.C.Pool.view c.args.site.now.container in
     elim c.if-used.branch [
-      | then-used w ↦ rw (w.closer-is, w.if-used.true) (DidClose_by is C.pass (C.shape c.args.site.now.container) c.args.closer c.requires.new w.close.result.0 w.close.result.1 w.close.ensures.of w.close.ensures.gives)
-      | else-used w ↦ rw (w.closer-is, w.if-used.false) (DidClose_not is C.pass (C.shape c.args.site.now.container) c.args.closer c.requires.new c.requires.closer)
+      | then-used w ↦ rw (w.closer-is, w.if-used.true) (DidClose_by pool c.args.closer c.requires.new w.close.result.0 w.close.result.1 w.close.ensures.of w.close.ensures.gives)
+      | else-used w ↦ rw (w.closer-is, w.if-used.false) (DidClose_not pool c.args.closer c.requires.new c.requires.closer)
     ]

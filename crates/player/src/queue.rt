@@ -1,0 +1,50 @@
+//! Scripts of a queue, which has no ranges and folds.
+
+ghost use Rattle.std.specs.Prelude.{◌≡◌, IfOk, IsTrue, string_bytes};
+ghost use Rattle.std.specs.List.{AllByRecursion};
+ghost use Rattle.bounded_model.specs.declared.history.Order.TheVariants.{Fifo};
+ghost use Rattle.player.specs.Calls.{PlaysNew};
+ghost use Rattle.script.specs.Script.{FinishesLast, IsLine, is_allowed};
+
+use crate::playing::play;
+use crate::ranges::Ranges;
+use bounded_model::{MakeRefused, TakeRefused};
+use ms_queue::{Pass, Queue};
+use script::{RangeReply, Script, Value, ValueList, Values};
+use std::alloc::{AllocError, Global};
+use std::sync::Wait;
+
+/// No script of a queue has a range or a fold, so neither is ever called.
+impl<'a> Ranges<'a> for Queue<Value<'a>> {
+    fn range<R: Wait>(
+        &self,
+        _rt: &R,
+        _alloc: Global,
+        _by: Pass<Value<'a>>,
+        _values: Values<'a>,
+    ) -> Result<(Pass<Value<'a>>, RangeReply, ValueList<'a>), AllocError> {
+        unreachable!()
+    }
+
+    fn fold<R: Wait>(
+        &self,
+        _rt: &R,
+        _alloc: Global,
+        _by: Pass<Value<'a>>,
+        _reversed: bool,
+    ) -> Result<(Pass<Value<'a>>, Result<(u64, ValueList<'a>), TakeRefused>), AllocError> {
+        unreachable!()
+    }
+}
+
+/// Plays a queue's script. `NoMemory` where there was no room for the queue or for the lines.
+pub fn play_queue<R: Wait>(rt: &R, alloc: Global, script: Script<'_>) -> Result<String, MakeRefused>
+    requires each { AllByRecursion IsLine script.lines.items }
+    requires allowed { AllByRecursion (λ line. IsTrue (is_allowed Fifo line)) script.lines.items }
+    requires finish_last { FinishesLast script.lines.items }
+    ensures { IfOk result (λ output. PlaysNew Fifo script.entry.header.limits script.entry.lines.items (string_bytes output)) }
+{
+    let Script { header, lines } = script;
+    let (queue, root) = Queue::new(alloc, header.limits)?;
+    Ok(play(rt, alloc, queue, root, lines)?)
+}
