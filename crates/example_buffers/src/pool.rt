@@ -34,8 +34,7 @@ fn fill<R: Wait>(
     let mut pass = by;
     for _ in 0..buffers {
         let buffer = Buffer::new(alloc)?;
-        let (back, _) = give(rt, pool, pass, buffer);
-        pass = back;
+        pass = give(rt, pool, pass, buffer);
     }
     Ok(pass)
 }
