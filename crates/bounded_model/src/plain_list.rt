@@ -66,9 +66,22 @@ impl<T> Model for PlainList<T> {
 
     ghost Value = { Plain T };
 
-    ghost view = { λ l. record { order = l.order; capacity = l.capacity; values = l.values.items; closed = l.closed; shut = l.shut; puts = l.puts; takes = l.takes } };
+    ghost view = { λ l. record {
+      order = l.order;
+      capacity = l.capacity;
+      values = l.values.items;
+      closed = l.closed;
+      shut = l.shut;
+      puts = l.puts;
+      takes = l.takes;
+    } };
 
-    ghost invariant = { λ l. record { room : l.capacity ≤ deque_capacity l.values; puts : l.puts ≤ COUNT_LIMIT; takes : l.takes ≤ COUNT_LIMIT } };
+    ghost invariant = { λ l. record {
+      room : l.capacity ≤ deque_capacity l.values;
+      puts : l.puts ≤
+          COUNT_LIMIT;
+      takes : l.takes ≤ COUNT_LIMIT;
+    } };
 }
 
 impl<T> PlainList<T> {

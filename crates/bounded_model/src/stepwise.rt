@@ -126,5 +126,6 @@ pub trait Stepwise<T>: Container<T> {
     fn look<R: Wait>(&self, rt: &R, by: Self::Pass) -> (Self::Pass, bool)
         requires { Self.is_pass self.now by }
         ensures of { Self.is_pass self.now result.0 }
-        ensures gives { LookGives (Self.shape self.now) (Self.pass by) (Self.pass result.0) result.1 };
+        ensures gives { LookGives (Self.shape self.now) (Self.pass by)
+            (Self.pass result.0) result.1 };
 }

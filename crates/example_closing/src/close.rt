@@ -40,7 +40,8 @@ fn two_ends<R: Threads + Wait + Sync>(
 ) -> Option<(Moved<Pass<u64>>, Moved<Pass<u64>>)>
     requires putter { IsPassOf stack.now putter }
     requires taker { IsPassOf stack.now taker }
-    ensures { IfSome result (λ ends. IsPassOf stack.now ends.0.pass × IsPassOf stack.now ends.1.pass) }
+    ensures { IfSome result (λ ends. IsPassOf stack.now ends.0.pass
+        × IsPassOf stack.now ends.1.pass) }
 {
     thread::scope(
         thread::scope_env(),
@@ -48,7 +49,8 @@ fn two_ends<R: Threads + Wait + Sync>(
         |scope| -> Option<(Moved<Pass<u64>>, Moved<Pass<u64>>)>
             requires putter { IsPassOf stack.now putter }
             requires taker { IsPassOf stack.now taker }
-            ensures { IfSome result (λ ends. IsPassOf stack.entry.now ends.0.pass × IsPassOf stack.entry.now ends.1.pass) }
+            ensures { IfSome result (λ ends. IsPassOf stack.entry.now ends.0.pass
+                × IsPassOf stack.entry.now ends.1.pass) }
         {
             let promise = PassOf(Snapshot::of(stack));
             let putting = scope

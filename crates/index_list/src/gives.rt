@@ -71,7 +71,8 @@ pub fn try_give_chain<S, V, K, P: ListHost<S, V, K, L>, const L: usize>(
         (Brings (P.rests list seat.old.me.0) seat.old.me.1) }
     ensures seat { (seat.new.table_id ≡ seat.old.table_id) × (seat.new.id ≡ seat.old.id) }
     ensures counted { P.steps seat.new.me.0 ≡ P.steps seat.old.me.0 + 1 }
-    ensures won { IsTrue result → GivenChain P.layout P.held (P.holds table.now.key) seat.old.id list
+    ensures won { IsTrue result
+        → GivenChain P.layout P.held (P.holds table.now.key) seat.old.id list
         seen first (P.did table.now.key line.now list (give_chain seen first))
         seat.old.me seat.new.me }
     ensures lost { IsFalse result → Missed P.layout P.held (P.holds table.now.key) seat.old.id list

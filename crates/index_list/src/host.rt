@@ -96,7 +96,8 @@ pub trait ListHost<S, V, K, const L: usize>: TableRule<S, V, K> {
         (did key line l (write_link i n) n [] v) };
 
     // An exchange of any kind that finds another word than it expects.
-    ghost loses: { (line : Self.Line) (key : K) (l id : ℕ) (v : V) (s : State S V) (k : Kind) (w : ℕ)
+    ghost loses: { (line : Self.Line) (key : K) (l id : ℕ) (v : V) (s : State S V) (k : Kind)
+        (w : ℕ)
         → l < L → may key line l k v → Expects k w
         → Before (Self.holds key) id v (layout.top l) s → word s (layout.top l) ≢ w
         → Goes (Self.holds key) steps v (looked s id) (did key line l k (word s (layout.top l)) [] v) };
@@ -126,7 +127,8 @@ pub trait ListHost<S, V, K, const L: usize>: TableRule<S, V, K> {
         (changed s (layout.top l) (top_after_give layout l w i) (filled s.homes zs) id)
         (did key line l (give_chain w i) w zs v)) };
 
-    ghost takes_all: { (line : Self.Line) (key : K) (l id : ℕ) (v : V) (s : State S V) (w : ℕ) (xs : List ℕ)
+    ghost takes_all: { (line : Self.Line) (key : K) (l id : ℕ) (v : V) (s : State S V) (w : ℕ)
+        (xs : List ℕ)
         → l < L → may key line l (take_all w) v → index_of w < NULL → tag_of w < MAX_TAG
         → Before (Self.holds key) id v (layout.top l) s → word s (layout.top l) ≡ w
         → Stands layout held l s xs

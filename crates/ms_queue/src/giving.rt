@@ -53,7 +53,8 @@ impl<T> Queue<T> {
         operation: &Operation<T>,
     ) -> Gave
         requires { (a : Answer T) × IsGiving self.now operation.now by.old a held at }
-        ensures { (a : Answer T) → IsGiving self.now operation.now by.old a held at → Led self.now operation.now by.old by.new a held at result }
+        ensures { (a : Answer T) → IsGiving self.now operation.now by.old a held at
+            → Led self.now operation.now by.old by.new a held at result }
     {
         match at {
             Give::LoadNodes => self.give_load_nodes(by, held, operation),
@@ -68,7 +69,8 @@ impl<T> Queue<T> {
     #[inline]
     fn give_load_nodes(&self, by: &mut Pass<T>, held: Held, operation: &Operation<T>) -> Gave
         requires { (a : Answer T) × IsGiving self.now operation.now by.old a held LoadNodes }
-        ensures { (a : Answer T) → IsGiving self.now operation.now by.old a held LoadNodes → Led self.now operation.now by.old by.new a held LoadNodes result }
+        ensures { (a : Answer T) → IsGiving self.now operation.now by.old a held LoadNodes
+            → Led self.now operation.now by.old by.new a held LoadNodes result }
     {
         let nodes = load_tagged_step(&self.table.shared, &mut by.seat, NODES, operation);
         Gave::On(Give::LinkNode(nodes))
@@ -83,7 +85,8 @@ impl<T> Queue<T> {
         operation: &Operation<T>,
     ) -> Gave
         requires { (a : Answer T) × IsGiving self.now operation.now by.old a held (LinkNode nodes) }
-        ensures { (a : Answer T) → IsGiving self.now operation.now by.old a held (LinkNode nodes) → Led self.now operation.now by.old by.new a held (LinkNode nodes) result }
+        ensures { (a : Answer T) → IsGiving self.now operation.now by.old a held (LinkNode nodes)
+            → Led self.now operation.now by.old by.new a held (LinkNode nodes) result }
     {
         let link = node_link(held.node);
         let first = nodes.index() as u64;
@@ -100,7 +103,8 @@ impl<T> Queue<T> {
         operation: &Operation<T>,
     ) -> Gave
         requires { (a : Answer T) × IsGiving self.now operation.now by.old a held (GiveNode nodes) }
-        ensures { (a : Answer T) → IsGiving self.now operation.now by.old a held (GiveNode nodes) → Led self.now operation.now by.old by.new a held (GiveNode nodes) result }
+        ensures { (a : Answer T) → IsGiving self.now operation.now by.old a held (GiveNode nodes)
+            → Led self.now operation.now by.old by.new a held (GiveNode nodes) result }
     {
         let new = nodes.kept(held.node);
         if swap_step(
@@ -119,7 +123,8 @@ impl<T> Queue<T> {
     #[inline]
     fn give_load_cells(&self, by: &mut Pass<T>, held: Held, operation: &Operation<T>) -> Gave
         requires { (a : Answer T) × IsGiving self.now operation.now by.old a held LoadCells }
-        ensures { (a : Answer T) → IsGiving self.now operation.now by.old a held LoadCells → Led self.now operation.now by.old by.new a held LoadCells result }
+        ensures { (a : Answer T) → IsGiving self.now operation.now by.old a held LoadCells
+            → Led self.now operation.now by.old by.new a held LoadCells result }
     {
         let cells = load_tagged_step(&self.table.shared, &mut by.seat, CELLS, operation);
         Gave::On(Give::LinkCell(cells))
@@ -134,7 +139,8 @@ impl<T> Queue<T> {
         operation: &Operation<T>,
     ) -> Gave
         requires { (a : Answer T) × IsGiving self.now operation.now by.old a held (LinkCell cells) }
-        ensures { (a : Answer T) → IsGiving self.now operation.now by.old a held (LinkCell cells) → Led self.now operation.now by.old by.new a held (LinkCell cells) result }
+        ensures { (a : Answer T) → IsGiving self.now operation.now by.old a held (LinkCell cells)
+            → Led self.now operation.now by.old by.new a held (LinkCell cells) result }
     {
         let link = cell_link(held.cell);
         let first = cells.index() as u64;
@@ -152,7 +158,8 @@ impl<T> Queue<T> {
         operation: &Operation<T>,
     ) -> Gave
         requires { (a : Answer T) × IsGiving self.now operation.now by.old a held (GiveCell cells) }
-        ensures { (a : Answer T) → IsGiving self.now operation.now by.old a held (GiveCell cells) → Led self.now operation.now by.old by.new a held (GiveCell cells) result }
+        ensures { (a : Answer T) → IsGiving self.now operation.now by.old a held (GiveCell cells)
+            → Led self.now operation.now by.old by.new a held (GiveCell cells) result }
     {
         let new = cells.kept(held.cell);
         if give_step(

@@ -19,7 +19,8 @@ impl<T> Queue<T> {
     #[inline]
     pub(crate) fn put_load_cells(&self, by: Pass<T>, operation: Operation<T>, value: T) -> Step<T>
         requires { (x : T) × IsPuttingAt self.now x operation by (LoadCells value) }
-        ensures { (x : T) → IsPuttingAt self.now x operation by (LoadCells value) → PutStep self.now x operation by (LoadCells value) result }
+        ensures { (x : T) → IsPuttingAt self.now x operation by (LoadCells value)
+            → PutStep self.now x operation by (LoadCells value) result }
     {
         let mut pass = by;
         let cells = load_tagged_step(&self.table.shared, &mut pass.seat, CELLS, &operation);
@@ -50,7 +51,8 @@ impl<T> Queue<T> {
         cells: Tagged,
     ) -> Step<T>
         requires { (x : T) × IsPuttingAt self.now x operation by (LoadCellLink value cells) }
-        ensures { (x : T) → IsPuttingAt self.now x operation by (LoadCellLink value cells) → PutStep self.now x operation by (LoadCellLink value cells) result }
+        ensures { (x : T) → IsPuttingAt self.now x operation by (LoadCellLink value cells)
+            → PutStep self.now x operation by (LoadCellLink value cells) result }
     {
         let mut pass = by;
         let at = cell_link(cells.index());
@@ -74,7 +76,8 @@ impl<T> Queue<T> {
         link: u32,
     ) -> Step<T>
         requires { (x : T) × IsPuttingAt self.now x operation by (TakeCell value cells link) }
-        ensures { (x : T) → IsPuttingAt self.now x operation by (TakeCell value cells link) → PutStep self.now x operation by (TakeCell value cells link) result }
+        ensures { (x : T) → IsPuttingAt self.now x operation by (TakeCell value cells link)
+            → PutStep self.now x operation by (TakeCell value cells link) result }
     {
         let mut pass = by;
         let new = raised(cells, link);
@@ -99,7 +102,8 @@ impl<T> Queue<T> {
     #[inline]
     pub(crate) fn put_load_nodes(&self, by: Pass<T>, operation: Operation<T>, cell: u32) -> Step<T>
         requires { (x : T) × IsPuttingAt self.now x operation by (LoadNodes cell) }
-        ensures { (x : T) → IsPuttingAt self.now x operation by (LoadNodes cell) → PutStep self.now x operation by (LoadNodes cell) result }
+        ensures { (x : T) → IsPuttingAt self.now x operation by (LoadNodes cell)
+            → PutStep self.now x operation by (LoadNodes cell) result }
     {
         let mut pass = by;
         let nodes = load_tagged_step(&self.table.shared, &mut pass.seat, NODES, &operation);
@@ -149,7 +153,8 @@ impl<T> Queue<T> {
         nodes: Tagged,
     ) -> Step<T>
         requires { (x : T) × IsPuttingAt self.now x operation by (LoadNodeLink cell nodes) }
-        ensures { (x : T) → IsPuttingAt self.now x operation by (LoadNodeLink cell nodes) → PutStep self.now x operation by (LoadNodeLink cell nodes) result }
+        ensures { (x : T) → IsPuttingAt self.now x operation by (LoadNodeLink cell nodes)
+            → PutStep self.now x operation by (LoadNodeLink cell nodes) result }
     {
         let mut pass = by;
         let at = node_link(nodes.index());
@@ -172,7 +177,8 @@ impl<T> Queue<T> {
         link: u32,
     ) -> Step<T>
         requires { (x : T) × IsPuttingAt self.now x operation by (TakeNode cell nodes link) }
-        ensures { (x : T) → IsPuttingAt self.now x operation by (TakeNode cell nodes link) → PutStep self.now x operation by (TakeNode cell nodes link) result }
+        ensures { (x : T) → IsPuttingAt self.now x operation by (TakeNode cell nodes link)
+            → PutStep self.now x operation by (TakeNode cell nodes link) result }
     {
         let mut pass = by;
         let new = raised(nodes, link);

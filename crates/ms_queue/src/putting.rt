@@ -100,7 +100,8 @@ impl<T> Queue<T> {
         at: Seek,
     ) -> Step<T>
         requires { (x : T) × IsPuttingAt self.now x operation by (Refusing value at) }
-        ensures { (x : T) → IsPuttingAt self.now x operation by (Refusing value at) → PutStep self.now x operation by (Refusing value at) result }
+        ensures { (x : T) → IsPuttingAt self.now x operation by (Refusing value at)
+            → PutStep self.now x operation by (Refusing value at) result }
     {
         let mut pass = by;
         match self.seek(&mut pass, at, &operation) {
@@ -117,7 +118,8 @@ impl<T> Queue<T> {
     #[inline]
     pub(crate) fn put_store_cell(&self, by: Pass<T>, operation: Operation<T>, held: Held) -> Step<T>
         requires { (x : T) × IsPuttingAt self.now x operation by (StoreCell held) }
-        ensures { (x : T) → IsPuttingAt self.now x operation by (StoreCell held) → PutStep self.now x operation by (StoreCell held) result }
+        ensures { (x : T) → IsPuttingAt self.now x operation by (StoreCell held)
+            → PutStep self.now x operation by (StoreCell held) result }
     {
         let mut pass = by;
         let at = cell(held.node);
@@ -134,7 +136,8 @@ impl<T> Queue<T> {
     #[inline]
     pub(crate) fn put_load_next(&self, by: Pass<T>, operation: Operation<T>, held: Held) -> Step<T>
         requires { (x : T) × IsPuttingAt self.now x operation by (LoadNext held) }
-        ensures { (x : T) → IsPuttingAt self.now x operation by (LoadNext held) → PutStep self.now x operation by (LoadNext held) result }
+        ensures { (x : T) → IsPuttingAt self.now x operation by (LoadNext held)
+            → PutStep self.now x operation by (LoadNext held) result }
     {
         let mut pass = by;
         let at = next(held.node);
@@ -164,7 +167,8 @@ impl<T> Queue<T> {
         link: Tagged,
     ) -> Step<T>
         requires { (x : T) × IsPuttingAt self.now x operation by (PrepareNext held link) }
-        ensures { (x : T) → IsPuttingAt self.now x operation by (PrepareNext held link) → PutStep self.now x operation by (PrepareNext held link) result }
+        ensures { (x : T) → IsPuttingAt self.now x operation by (PrepareNext held link)
+            → PutStep self.now x operation by (PrepareNext held link) result }
     {
         let mut pass = by;
         let at = next(held.node);
@@ -186,7 +190,8 @@ impl<T> Queue<T> {
         at: Seek,
     ) -> Step<T>
         requires { (x : T) × IsPuttingAt self.now x operation by (Seeking held at) }
-        ensures { (x : T) → IsPuttingAt self.now x operation by (Seeking held at) → PutStep self.now x operation by (Seeking held at) result }
+        ensures { (x : T) → IsPuttingAt self.now x operation by (Seeking held at)
+            → PutStep self.now x operation by (Seeking held at) result }
     {
         let mut pass = by;
         match self.seek(&mut pass, at, &operation) {
@@ -223,7 +228,8 @@ impl<T> Queue<T> {
         link: Tagged,
     ) -> Step<T>
         requires { (x : T) × IsPuttingAt self.now x operation by (LinkNext held tail link) }
-        ensures { (x : T) → IsPuttingAt self.now x operation by (LinkNext held tail link) → PutStep self.now x operation by (LinkNext held tail link) result }
+        ensures { (x : T) → IsPuttingAt self.now x operation by (LinkNext held tail link)
+            → PutStep self.now x operation by (LinkNext held tail link) result }
     {
         let mut pass = by;
         let at = next(tail.index());
@@ -259,7 +265,8 @@ impl<T> Queue<T> {
         link: Tagged,
     ) -> Step<T>
         requires { (x : T) × IsPuttingAt self.now x operation by (SwingTail tail link) }
-        ensures { (x : T) → IsPuttingAt self.now x operation by (SwingTail tail link) → PutStep self.now x operation by (SwingTail tail link) result }
+        ensures { (x : T) → IsPuttingAt self.now x operation by (SwingTail tail link)
+            → PutStep self.now x operation by (SwingTail tail link) result }
     {
         let mut pass = by;
         let new = raised(tail, link.index());
@@ -278,7 +285,8 @@ impl<T> Queue<T> {
         at: Give,
     ) -> Step<T>
         requires { (x : T) × IsPuttingAt self.now x operation by (GiveBack why held at) }
-        ensures { (x : T) → IsPuttingAt self.now x operation by (GiveBack why held at) → PutStep self.now x operation by (GiveBack why held at) result }
+        ensures { (x : T) → IsPuttingAt self.now x operation by (GiveBack why held at)
+            → PutStep self.now x operation by (GiveBack why held at) result }
     {
         let mut pass = by;
         match self.give(&mut pass, held, at, &operation) {
@@ -298,7 +306,8 @@ impl<T> PutOp<T> {
     #[inline]
     pub fn step(self, queue: &Queue<T>) -> Stepped<PutOp<T>, Pass<T>, Result<u64, PutRefused<T>>>
         requires { (x : T) × IsPutting queue.now x self }
-        ensures { (x : T) → IsPutting queue.now x self → PutStep queue.now x self.operation self.pass self.at result }
+        ensures { (x : T) → IsPutting queue.now x self
+            → PutStep queue.now x self.operation self.pass self.at result }
     {
         let PutOp {
             pass,

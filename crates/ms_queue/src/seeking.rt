@@ -38,7 +38,8 @@ impl<T> Queue<T> {
     #[inline]
     pub(crate) fn seek(&self, by: &mut Pass<T>, at: Seek, operation: &Operation<T>) -> Sought
         requires { (s : Seeking T) × IsSeeking self.now operation.now by.old s at }
-        ensures { (s : Seeking T) → IsSeeking self.now operation.now by.old s at → Led self.now operation.now by.old by.new s at result }
+        ensures { (s : Seeking T) → IsSeeking self.now operation.now by.old s at
+            → Led self.now operation.now by.old by.new s at result }
     {
         match at {
             Seek::LoadTail => self.seek_tail(by, operation),
@@ -51,7 +52,8 @@ impl<T> Queue<T> {
     #[inline]
     fn seek_tail(&self, by: &mut Pass<T>, operation: &Operation<T>) -> Sought
         requires { (s : Seeking T) × IsSeeking self.now operation.now by.old s LoadTail }
-        ensures { (s : Seeking T) → IsSeeking self.now operation.now by.old s LoadTail → Led self.now operation.now by.old by.new s LoadTail result }
+        ensures { (s : Seeking T) → IsSeeking self.now operation.now by.old s LoadTail
+            → Led self.now operation.now by.old by.new s LoadTail result }
     {
         let tail = load_tagged_step(&self.table.shared, &mut by.seat, TAIL, operation);
         Sought::On(Seek::LoadNext(tail))
@@ -60,7 +62,8 @@ impl<T> Queue<T> {
     #[inline]
     fn seek_next(&self, by: &mut Pass<T>, tail: Tagged, operation: &Operation<T>) -> Sought
         requires { (s : Seeking T) × IsSeeking self.now operation.now by.old s (LoadNext tail) }
-        ensures { (s : Seeking T) → IsSeeking self.now operation.now by.old s (LoadNext tail) → Led self.now operation.now by.old by.new s (LoadNext tail) result }
+        ensures { (s : Seeking T) → IsSeeking self.now operation.now by.old s (LoadNext tail)
+            → Led self.now operation.now by.old by.new s (LoadNext tail) result }
     {
         let at = next(tail.index());
         let link = load_tagged_step(&self.table.shared, &mut by.seat, at, operation);
@@ -76,8 +79,11 @@ impl<T> Queue<T> {
         link: Tagged,
         operation: &Operation<T>,
     ) -> Sought
-        requires { (s : Seeking T) × IsSeeking self.now operation.now by.old s (CheckTail tail link) }
-        ensures { (s : Seeking T) → IsSeeking self.now operation.now by.old s (CheckTail tail link) → Led self.now operation.now by.old by.new s (CheckTail tail link) result }
+        requires { (s : Seeking T)
+            × IsSeeking self.now operation.now by.old s (CheckTail tail link) }
+        ensures { (s : Seeking T)
+            → IsSeeking self.now operation.now by.old s (CheckTail tail link)
+            → Led self.now operation.now by.old by.new s (CheckTail tail link) result }
     {
         let again = load_tagged_step(&self.table.shared, &mut by.seat, TAIL, operation);
         if again.word() != tail.word() {
@@ -101,8 +107,11 @@ impl<T> Queue<T> {
         link: Tagged,
         operation: &Operation<T>,
     ) -> Sought
-        requires { (s : Seeking T) × IsSeeking self.now operation.now by.old s (SwingTail tail link) }
-        ensures { (s : Seeking T) → IsSeeking self.now operation.now by.old s (SwingTail tail link) → Led self.now operation.now by.old by.new s (SwingTail tail link) result }
+        requires { (s : Seeking T)
+            × IsSeeking self.now operation.now by.old s (SwingTail tail link) }
+        ensures { (s : Seeking T)
+            → IsSeeking self.now operation.now by.old s (SwingTail tail link)
+            → Led self.now operation.now by.old by.new s (SwingTail tail link) result }
     {
         let new = raised(tail, link.index());
         attempt_step(&self.table.shared, &mut by.seat, TAIL, tail, new, operation);

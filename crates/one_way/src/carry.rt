@@ -38,7 +38,8 @@ pub fn carry_all<T: Drop, C: Container<T>, W: Wait>(
     requires fresh { C.root root ≡ fresh }
 
     // Each item is taken, left or unsent, once.
-    ensures each_once { IfOk result (λ r. IsPermutation items.items (all_of r.taken.items r.left.items r.unsent.items)) }
+    ensures each_once { IfOk result
+        (λ r. IsPermutation items.items (all_of r.taken.items r.left.items r.unsent.items)) }
 
     // Over a queue, in their order.
     ensures in_order { C.ORDER ≡ Fifo

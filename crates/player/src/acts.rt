@@ -89,7 +89,8 @@ fn act_begun<'a, C: Played<'a>>(
     begun: Begun<C::Operation>,
     act: Act<'a>,
 ) -> (Place<C::Pass, C::Operation>, Answer<'a>)
-    requires { (call : Command (List ℕ)) × (C.reading container.now).is_making call begun.operation }
+    requires { (call : Command (List ℕ))
+        × (C.reading container.now).is_making call begun.operation }
     ensures { (call : Command (List ℕ)) (u : Underway (List ℕ))
         → Shows (C.reading container.now) (AtWork begun) (Acting call u)
         → (after : Named) × Shows (C.reading container.now) result.0 after
@@ -108,7 +109,8 @@ fn make_steps<'a, C: Played<'a>>(
     begun: Begun<C::Operation>,
     count: u16,
 ) -> (Place<C::Pass, C::Operation>, Answer<'a>)
-    requires { (call : Command (List ℕ)) × (C.reading container.now).is_making call begun.operation }
+    requires { (call : Command (List ℕ))
+        × (C.reading container.now).is_making call begun.operation }
     ensures { (call : Command (List ℕ)) (u : Underway (List ℕ))
         → Shows (C.reading container.now) (AtWork begun) (Acting call u)
         → (after : Named) × Shows (C.reading container.now) result.0 after

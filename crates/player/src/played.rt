@@ -45,7 +45,8 @@ pub trait Played<'a>: Drop {
     ) -> (Self::Pass, Reply<Value<'a>>)
         requires { (reading self.now).is_pass by }
         ensures of { (reading self.now).is_pass result.0 }
-        ensures gives { CallGives (reading self.now).shape ((reading self.now).pass by) command.entry
+        ensures gives { CallGives (reading self.now).shape
+            ((reading self.now).pass by) command.entry
             ((reading self.now).pass result.0) result.1 };
 
     /// A call that makes no step yet.
@@ -117,5 +118,6 @@ pub trait Played<'a>: Drop {
 
     fn finish(self, parent: Self::Root) -> Self::Rest
         requires { (reading self).is_root parent }
-        ensures { Leaves (reading self).shape ((reading self).root parent) (Self.Rest.left result) };
+        ensures { Leaves (reading self).shape ((reading self).root parent)
+            (Self.Rest.left result) };
 }

@@ -42,7 +42,8 @@ pub fn play_queue<R: Wait>(rt: &R, alloc: Global, script: Script<'_>) -> Result<
     requires each { AllByRecursion IsLine script.lines.items }
     requires allowed { AllByRecursion (λ line. IsTrue (is_allowed Fifo line)) script.lines.items }
     requires finish_last { FinishesLast script.lines.items }
-    ensures { IfOk result (λ output. PlaysNew Fifo script.entry.header.limits script.entry.lines.items (string_bytes output)) }
+    ensures { IfOk result (λ output. PlaysNew Fifo script.entry.header.limits
+        script.entry.lines.items (string_bytes output)) }
 {
     let Script { header, lines } = script;
     let (queue, root) = Queue::new(alloc, header.limits)?;

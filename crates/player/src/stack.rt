@@ -90,7 +90,8 @@ fn fold_down<'a, R: Wait>(
 ) -> Result<(Pass<Value<'a>>, Result<(u64, ValueList<'a>), TakeRefused>), AllocError>
     requires { IsPassOf stack.now by }
     ensures of { IfOk result (λ done. IsPassOf stack.now done.0) }
-    ensures gives { IfOk result (λ done. FoldTold (shape_of stack.now) false (pass_in by.entry) (pass_in done.0) done.1) }
+    ensures gives { IfOk result
+        (λ done. FoldTold (shape_of stack.now) false (pass_in by.entry) (pass_in done.0) done.1) }
 {
     let (pass, values, answer) = stack.fold_all_atomic(rt, by, Ok(ValueList::new(alloc)), pushed);
     Ok((pass, numbered(values?, answer)))
@@ -105,7 +106,8 @@ fn fold_up<'a, R: Wait>(
 ) -> Result<(Pass<Value<'a>>, Result<(u64, ValueList<'a>), TakeRefused>), AllocError>
     requires { IsPassOf stack.now by }
     ensures of { IfOk result (λ done. IsPassOf stack.now done.0) }
-    ensures gives { IfOk result (λ done. FoldTold (shape_of stack.now) true (pass_in by.entry) (pass_in done.0) done.1) }
+    ensures gives { IfOk result
+        (λ done. FoldTold (shape_of stack.now) true (pass_in by.entry) (pass_in done.0) done.1) }
 {
     let (pass, values, answer) = stack.fold_all_atomic_reversed(
         rt,
@@ -122,7 +124,8 @@ pub fn play_stack<R: Wait>(rt: &R, alloc: Global, script: Script<'_>) -> Result<
     requires each { AllByRecursion IsLine script.lines.items }
     requires allowed { AllByRecursion (λ line. IsTrue (is_allowed Lifo line)) script.lines.items }
     requires finish_last { FinishesLast script.lines.items }
-    ensures { IfOk result (λ output. PlaysNew Lifo script.entry.header.limits script.entry.lines.items (string_bytes output)) }
+    ensures { IfOk result (λ output. PlaysNew Lifo script.entry.header.limits
+        script.entry.lines.items (string_bytes output)) }
 {
     let Script { header, lines } = script;
     let (stack, root) = Stack::new(alloc, header.limits)?;

@@ -62,7 +62,8 @@ fn find<'a, C: Played<'a>>(
 fn keep<R: Drop, P: Drop, O: Drop>(stage: &mut Stage<R, P, O>, name: PassName, place: Place<P, O>)
     requires { IsTrue (is_ascii_lowercase name.0) }
     ensures root { stage.new.root ≡ stage.old.root }
-    ensures places { stage.new.places.of.items ≡ slice_set stage.old.places.of.items (name.0 - 97) place }
+    ensures places { stage.new.places.of.items
+        ≡ slice_set stage.old.places.of.items (name.0 - 97) place }
 {
     stage.places.exchange(name, place);
 }
@@ -193,7 +194,8 @@ fn join_all<'a, C: Played<'a>>(
     places: Places<C::Pass, C::Operation>,
 )
     requires root { (C.reading container.now).is_root root.old }
-    requires places { (names : List Named) × ShowsAll (C.reading container.now) places.of.items names }
+    requires places { (names : List Named)
+        × ShowsAll (C.reading container.now) places.of.items names }
     ensures root { (C.reading container.now).is_root root.new }
     ensures joined { (names : List Named) → ShowsAll (C.reading container.now) places.of.items names
         → JoinsAll ((C.reading container.now).root root.old) names ((C.reading container.now).root root.new) }

@@ -16,9 +16,11 @@ use std::sync::Wait;
 /// here, so that no writer is touched before the whole output stands.
 pub fn answer<S: Wait>(rt: &S, alloc: Global, script: Script<'_>) -> Result<String, MakeRefused>
     requires each { AllByRecursion IsLine script.lines.items }
-    requires allowed { AllByRecursion (λ line. IsTrue (is_allowed script.header.order line)) script.lines.items }
+    requires allowed { AllByRecursion
+        (λ line. IsTrue (is_allowed script.header.order line)) script.lines.items }
     requires finish_last { FinishesLast script.lines.items }
-    ensures { IfOk result (λ output. IsOutputOf (head_view script.entry.header) script.entry.lines.items (string_bytes output)) }
+    ensures { IfOk result (λ output. IsOutputOf
+        (head_view script.entry.header) script.entry.lines.items (string_bytes output)) }
 {
     match script.header.order {
         Order::Fifo => play_queue(rt, alloc, script),

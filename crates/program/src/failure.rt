@@ -45,7 +45,8 @@ impl Failure {
         ensures script_unopened { self ≡ ScriptUnopened → result ≡ 3 }
         ensures script { (fault : ReplayFault) → self ≡ Script fault → result ≡ 3 }
         ensures file_unopened { (number : ℕ) → self ≡ FileUnopened number → result ≡ 3 }
-        ensures file { (number : ℕ) (fault : ReadFault) → self ≡ FileFailed number fault → result ≡ 3 }
+        ensures file { (number : ℕ) (fault : ReadFault) → self ≡ FileFailed number fault
+            → result ≡ 3 }
         ensures relay { (fault : RelayFault) → self ≡ RelayFailed fault → result ≡ 4 }
         ensures output { self ≡ OutputFailed → result ≡ 5 }
     {

@@ -18,9 +18,11 @@ const BUFFER_LEN: usize = 4096;
 ///
 /// `Device` where a read fails, `TooLong` past `MAX_SCRIPT_LEN` bytes or `MAX_READS` reads.
 pub fn read_text<R: Read>(alloc: Global, reader: &mut R) -> Result<Vec<u8>, ReplayFault>
-    ensures all { IfOk result (λ text. IfSome (R.remaining reader.old) (λ bytes. text.items ≡ bytes)) }
+    ensures all { IfOk result (λ text. IfSome (R.remaining reader.old)
+        (λ bytes. text.items ≡ bytes)) }
     ensures short { IfOk result (λ text. vec_len text ≤ MAX_SCRIPT_LEN) }
-    ensures fault { IfErr result (λ fault. (fault ≡ NoMemory) ⊎ ((fault ≡ Device) ⊎ (fault ≡ TooLong))) }
+    ensures fault { IfErr result
+        (λ fault. (fault ≡ NoMemory) ⊎ ((fault ≡ Device) ⊎ (fault ≡ TooLong))) }
 {
     let mut text = Vec::new(alloc);
     let mut buffer = [0; BUFFER_LEN];

@@ -22,7 +22,8 @@ pub fn read_inputs<R: Read + Drop>(
 ) -> Result<Vec<Vec<Message>>, ToolFault>
     requires { length readers.items < 2 ^ 32 }
     ensures read { IfOk result (λ inputs. AreRead R.remaining 0 readers.items inputs.items) }
-    ensures fault { IfErr result (λ fault. (number : ℕ) × (cause : ReadFault) × (fault ≡ File number cause)
+    ensures fault { IfErr result
+        (λ fault. (number : ℕ) × (cause : ReadFault) × (fault ≡ File number cause)
         × IsFileFault R.remaining readers.items number cause) }
 {
     let mut inputs = Vec::new(alloc);

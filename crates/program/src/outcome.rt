@@ -18,9 +18,11 @@ pub fn write_outcome<W: Write>(
     list: bool,
     writer: &mut W,
 ) -> Result<(), ToolFault>
-    ensures all { OnOk result (Appends (W.contents writer.old) (W.contents writer.new) (outcome_text list relayed.now)) }
+    ensures all { OnOk result (Appends (W.contents writer.old) (W.contents writer.new)
+        (outcome_text list relayed.now)) }
     ensures fault { IfErr result (λ fault. fault ≡ Output) }
-    ensures front { GrowsByFront (outcome_text list relayed.now) (W.contents writer.old) (W.contents writer.new) }
+    ensures front { GrowsByFront (outcome_text list relayed.now) (W.contents writer.old)
+        (W.contents writer.new) }
 {
     write_audit(relayed, writer)?;
     if list {

@@ -45,7 +45,8 @@ pub fn relay_main<T: Threads + Wait + Sync, R: Read + Drop, W: Write>(
     requires some { 1 ≤ length readers.items }
     requires few { length readers.items ≤ MAX_FILES }
     // What is written is the outcome of a relay of the messages that were read.
-    ensures relays { RelaysReaders R.remaining args.now readers.items (W.contents writer.old) (W.contents writer.new) result }
+    ensures relays { RelaysReaders R.remaining args.now readers.items (W.contents writer.old)
+        (W.contents writer.new) result }
     ensures untouched { IfErr result (λ fault. fault ≢ Output → writer.new ≡ writer.old) }
 {
     let inputs = read_inputs(alloc, readers)?;
@@ -88,7 +89,8 @@ fn relay_through<T: Threads + Wait + Sync, C: Container<Message> + Sync, W: Writ
     requires shape { C.shape container ≡ shape_for args.now }
     requires inputs { AreInputsFrom 0 inputs.items }
     requires few { total inputs.items ≤ MAX_FILES * MAX_LINES }
-    ensures relays { RelaysInputs args.now inputs.items (W.contents writer.old) (W.contents writer.new) result }
+    ensures relays { RelaysInputs args.now inputs.items (W.contents writer.old)
+        (W.contents writer.new) result }
     ensures untouched { IfErr result (λ fault. fault ≢ Output → writer.new ≡ writer.old) }
 {
     let relayed = run(rt, alloc, container, root, inputs, args.plan(), &FreeGate)?;

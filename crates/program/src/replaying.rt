@@ -22,10 +22,12 @@ fn output_for<S: Wait, R: Read>(
 ) -> Result<String, ReplayFault>
     ensures output { IfOk result (λ output. IfSome (R.remaining reader.old)
         (λ text. IsOutputFor text (string_bytes output))) }
-    ensures fault { IfErr result (λ fault. IfSome (R.remaining reader.old) (λ text. IsFaultOf fault text)) }
+    ensures fault { IfErr result
+        (λ fault. IfSome (R.remaining reader.old) (λ text. IsFaultOf fault text)) }
     ensures only { IfErr result (λ fault. IfSome (R.remaining reader.old)
         (λ text. IsAccepted text → IsOutside fault)) }
-    ensures short { OnOk result (IfSome (R.remaining reader.old) (λ text. length text ≤ MAX_SCRIPT_LEN)) }
+    ensures short { OnOk result
+        (IfSome (R.remaining reader.old) (λ text. length text ≤ MAX_SCRIPT_LEN)) }
     ensures unwritten { IfErr result (λ fault. fault ≢ Output) }
 {
     let text = read_text(alloc, reader)?;
@@ -48,12 +50,14 @@ pub fn replay<S: Wait, R: Read, W: Write>(
 ) -> Result<(), ReplayFault>
     // What is accepted is a script.
     ensures accepted { OnOk result (IfSome (R.remaining reader.old) IsAccepted) }
-    ensures short { OnOk result (IfSome (R.remaining reader.old) (λ text. length text ≤ MAX_SCRIPT_LEN)) }
+    ensures short { OnOk result
+        (IfSome (R.remaining reader.old) (λ text. length text ≤ MAX_SCRIPT_LEN)) }
     // What is written is a line for each line of it after the first, and nothing else.
     ensures replies { OnOk result (IfSome (R.remaining reader.old)
         (λ text. Wrote text (W.contents writer.old) (W.contents writer.new))) }
     // A fault of the text is in the text, and a script has none.
-    ensures fault { IfErr result (λ fault. IfSome (R.remaining reader.old) (λ text. IsFaultOf fault text)) }
+    ensures fault { IfErr result
+        (λ fault. IfSome (R.remaining reader.old) (λ text. IsFaultOf fault text)) }
     ensures only { IfErr result (λ fault. IfSome (R.remaining reader.old)
         (λ text. IsAccepted text → IsOutside fault)) }
     // Nothing is written before the script was read and checked whole, nor after want of memory.

@@ -31,7 +31,8 @@ pub trait Whole<C, P, A> {
 #[inline]
 pub fn whole_call<R: Wait, C, P, A, O: Whole<C, P, A>>(rt: &R, on: &C, begun: O) -> (P, A)
     requires { (call : O.Call) × O.is_under_way on.now call begun }
-    ensures { (call : O.Call) → O.is_under_way on.now call begun → O.gives on.now call result.0 result.1 }
+    ensures { (call : O.Call) → O.is_under_way on.now call begun
+        → O.gives on.now call result.0 result.1 }
 {
     let mut made = begun.run(on);
     let mut pause = Pause::new();

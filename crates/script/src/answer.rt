@@ -60,7 +60,8 @@ impl<'a> Answer<'a> {
 
     /// Adds the line that says the answer to a text.
     pub fn write_line(&self, output: &mut String) -> Result<(), AllocError>
-        ensures { OnOk result (string_bytes output.new ≡ string_bytes output.old ++ (answer_text self.now ++ codes "\n")) }
+        ensures { OnOk result (string_bytes output.new ≡ string_bytes output.old
+            ++ (answer_text self.now ++ codes "\n")) }
     {
         self.write(output)?;
         output.push_str("\n")
@@ -68,7 +69,8 @@ impl<'a> Answer<'a> {
 
     /// Adds the words that say the answer to a text.
     fn write(&self, output: &mut String) -> Result<(), AllocError>
-        ensures { OnOk result (string_bytes output.new ≡ string_bytes output.old ++ answer_text self.now) }
+        ensures { OnOk result (string_bytes output.new ≡ string_bytes output.old
+            ++ answer_text self.now) }
     {
         match self {
             Answer::Call(reply) => write_reply(output, reply),
@@ -96,7 +98,8 @@ impl<'a> Answer<'a> {
 
 /// Adds the words of a call's reply to a text.
 fn write_reply(output: &mut String, reply: &Reply<Value<'_>>) -> Result<(), AllocError>
-    ensures { OnOk result (string_bytes output.new ≡ string_bytes output.old ++ reply_text reply.now) }
+    ensures { OnOk result (string_bytes output.new ≡ string_bytes output.old
+        ++ reply_text reply.now) }
 {
     let reply = ReplyText(reply);
     write!(output, "{reply}")
@@ -108,7 +111,8 @@ fn write_range(
     reply: RangeReply,
     kept: &ValueList<'_>,
 ) -> Result<(), AllocError>
-    ensures { OnOk result (string_bytes output.new ≡ string_bytes output.old ++ range_text reply kept.now) }
+    ensures { OnOk result (string_bytes output.new ≡ string_bytes output.old
+        ++ range_text reply kept.now) }
 {
     match reply {
         RangeReply::Put(number, count) => write!(output, "range {number} {count} kept")?,
@@ -129,7 +133,8 @@ fn write_fold(
     name: &str,
     answer: &Result<(u64, ValueList<'_>), TakeRefused>,
 ) -> Result<(), AllocError>
-    ensures { OnOk result (string_bytes output.new ≡ string_bytes output.old ++ fold_text name.now answer.now) }
+    ensures { OnOk result (string_bytes output.new ≡ string_bytes output.old
+        ++ fold_text name.now answer.now) }
 {
     match answer {
         Ok((number, values)) => {

@@ -65,7 +65,8 @@ fn line_before<'a>(order: Order, text: &'a [u8], after: &[u8]) -> Option<Line<'a
 fn lines_of(alloc: Global, order: Order, text: &[u8]) -> Result<VecDeque<Line<'_>>, ScriptFault>
     requires ended { is_ended text.now ≡ true }
     requires short { length text.now ≤ MAX_SCRIPT_LEN }
-    ensures { Gives NoMemory (λ lines. lines.items) result (numbered (lines_from order (split_lines text.now))) }
+    ensures { Gives NoMemory (λ lines. lines.items) result
+        (numbered (lines_from order (split_lines text.now))) }
 {
     let mut lines = VecDeque::new(alloc);
     let mut rest = text;
@@ -106,7 +107,8 @@ fn read_script(alloc: Global, text: &[u8]) -> Result<Script<'_>, ScriptFault>
 pub fn parse(alloc: Global, text: &[u8]) -> Result<Script<'_>, ScriptFault>
     requires { length text.now ≤ MAX_SCRIPT_LEN }
     // What is read is the text's script.
-    ensures script { IfOk result (λ script. IsScript text.now (head_view script.header) script.lines.items) }
+    ensures script { IfOk result
+        (λ script. IsScript text.now (head_view script.header) script.lines.items) }
     // A fault of the text is in the text, and a script has none.
     ensures fault { IfErr result (λ fault. IsTextFault fault text.now) }
     ensures only { IfErr result (λ fault. IsAccepted text.now → fault ≡ NoMemory) }

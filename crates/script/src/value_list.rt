@@ -55,7 +55,8 @@ impl<'a> ValueList<'a> {
 
     /// Adds the values to a text, a space before each.
     pub fn write(&self, output: &mut String) -> Result<(), AllocError>
-        ensures { OnOk result (string_bytes output.new ≡ string_bytes output.old ++ spaced self.now) }
+        ensures { OnOk result (string_bytes output.new ≡ string_bytes output.old
+            ++ spaced self.now) }
     {
         write_values(output, &self.places)
     }
@@ -63,7 +64,8 @@ impl<'a> ValueList<'a> {
 
 /// Adds the values in these places to a text, a space before each.
 fn write_values(output: &mut String, places: &[Option<Value<'_>>]) -> Result<(), AllocError>
-    ensures { OnOk result (string_bytes output.new ≡ string_bytes output.old ++ spaced (values_in places.now)) }
+    ensures { OnOk result (string_bytes output.new ≡ string_bytes output.old
+        ++ spaced (values_in places.now)) }
 {
     for place in places {
         if let Some(value) = place {

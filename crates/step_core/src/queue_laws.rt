@@ -64,11 +64,14 @@ pub fn queue_bound<T>()
 /// what stands in the cells along the chain. Puts and takes are numbered 0, 1, 2, .. each: so the take
 /// numbered k gives the value of the put numbered k, and what is left are the untaken puts in order.
 pub fn queue_order<T>()
-    ensures values { (n limit passes : ℕ) (schedule : Schedule (Call T)) → 0 < n → n < NULL → 0 < limit →
+    ensures values { (n limit passes : ℕ) (schedule : Schedule (Call T)) → 0 < n → n < NULL
+        → 0 < limit →
         let s = after (queue (shape n limit)) passes schedule in
         values_of (gather sent_of s.history) ≡ values_of (gather took_of s.history) ++ values_left n s.memory }
-    ensures puts { (n limit passes : ℕ) (schedule : Schedule (Call T)) → 0 < n → n < NULL → 0 < limit →
+    ensures puts { (n limit passes : ℕ) (schedule : Schedule (Call T)) → 0 < n → n < NULL
+        → 0 < limit →
         Counts (λ m. m.number) 0 (gather sent_of (after (queue (shape n limit)) passes schedule).history) }
-    ensures takes { (n limit passes : ℕ) (schedule : Schedule (Call T)) → 0 < n → n < NULL → 0 < limit →
+    ensures takes { (n limit passes : ℕ) (schedule : Schedule (Call T)) → 0 < n → n < NULL
+        → 0 < limit →
         Counts (λ m. m.number) 0 (gather took_of (after (queue (shape n limit)) passes schedule).history) }
 {}

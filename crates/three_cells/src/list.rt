@@ -57,7 +57,8 @@ impl ThreeCells {
     }
 
     pub fn next(&self, pass: &mut Pass, top: Tagged) -> u64
-        requires { (pass.old.table_id ≡ self.now.table.shared.table_id) × (pass.old.me.0.stage ≡ SawTop top) × (index_of top < 3) }
+        requires { (pass.old.table_id ≡ self.now.table.shared.table_id)
+            × (pass.old.me.0.stage ≡ SawTop top) × (index_of top < 3) }
         ensures same { (pass.new.table_id ≡ pass.old.table_id) × IsSame pass.old.me pass.new.me }
         ensures saw { pass.new.me.0.stage ≡ SawNext top result }
     {
@@ -67,7 +68,8 @@ impl ThreeCells {
     /// Answers whether the first cell is now the pass's.
     pub fn take_seen(&self, pass: &mut Pass, top: Tagged, next: u64) -> bool
         requires pass { (pass.old.table_id ≡ self.now.table.shared.table_id) × IsFree pass.old.me }
-        requires saw { (pass.old.me.0.stage ≡ SawNext top next) × (index_of top < 3) × (tag_of top < limit) }
+        requires saw { (pass.old.me.0.stage ≡ SawNext top next) × (index_of top < 3)
+            × (tag_of top < limit) }
         ensures same { pass.new.table_id ≡ pass.old.table_id }
         ensures won { IsTrue result → (x : Option ℕ) × HasCell (index_of top) x pass.new.me }
         ensures lost { IsFalse result → IsFree pass.new.me }
@@ -97,7 +99,8 @@ impl ThreeCells {
 
     /// One attempt to give the cell back.
     pub fn give(&self, pass: &mut Pass, index: u32) -> bool
-        requires { (pass.old.table_id ≡ self.now.table.shared.table_id) × ((x : Option ℕ) × HasCell index x pass.old.me) }
+        requires { (pass.old.table_id ≡ self.now.table.shared.table_id)
+            × ((x : Option ℕ) × HasCell index x pass.old.me) }
         ensures same { pass.new.table_id ≡ pass.old.table_id }
         ensures won { IsTrue result → IsFree pass.new.me }
         ensures lost { IsFalse result → (x : Option ℕ) × HasCell index x pass.new.me }
@@ -113,7 +116,8 @@ impl ThreeCells {
 
     /// What the cell had, which now has `value`.
     pub fn replace(&self, pass: &mut Pass, index: u32, value: Option<u8>) -> Option<u8>
-        requires { (pass.old.table_id ≡ self.now.table.shared.table_id) × ((x : Option ℕ) × HasCell index x pass.old.me) }
+        requires { (pass.old.table_id ≡ self.now.table.shared.table_id)
+            × ((x : Option ℕ) × HasCell index x pass.old.me) }
         ensures same { pass.new.table_id ≡ pass.old.table_id }
         ensures old { HasCell index result pass.old.me }
         ensures new { HasCell index value pass.new.me }
@@ -123,7 +127,8 @@ impl ThreeCells {
 
     /// Puts the value into the empty cell.
     pub fn put(&self, pass: &mut Pass, index: u32, value: u8)
-        requires { (pass.old.table_id ≡ self.now.table.shared.table_id) × HasCell index None pass.old.me }
+        requires { (pass.old.table_id ≡ self.now.table.shared.table_id)
+            × HasCell index None pass.old.me }
         ensures same { pass.new.table_id ≡ pass.old.table_id }
         ensures put { HasCell index (Some value) pass.new.me }
     {
@@ -132,7 +137,8 @@ impl ThreeCells {
 
     /// Takes the value out of the cell.
     pub fn out(&self, pass: &mut Pass, index: u32) -> u8
-        requires { (pass.old.table_id ≡ self.now.table.shared.table_id) × ((x : ℕ) × HasCell index (Some x) pass.old.me) }
+        requires { (pass.old.table_id ≡ self.now.table.shared.table_id)
+            × ((x : ℕ) × HasCell index (Some x) pass.old.me) }
         ensures same { pass.new.table_id ≡ pass.old.table_id }
         ensures value { HasCell index (Some result) pass.old.me }
         ensures empty { HasCell index None pass.new.me }
@@ -167,7 +173,8 @@ impl ThreeCells {
 
     /// One attempt to give a chain to the list while it is empty.
     pub fn give_all(&self, pass: &mut Pass, index: u32) -> bool
-        requires { (pass.old.table_id ≡ self.now.table.shared.table_id) × HasChain First index pass.old.me }
+        requires { (pass.old.table_id ≡ self.now.table.shared.table_id)
+            × HasChain First index pass.old.me }
         ensures same { pass.new.table_id ≡ pass.old.table_id }
         ensures won { IsTrue result → IsFree pass.new.me }
         ensures lost { IsFalse result → HasChain First index pass.new.me }

@@ -117,7 +117,8 @@ impl<T> Stack<T> {
     // Why a pass that has read this top takes nothing.
     #[inline]
     fn refused(&self, top: Tagged) -> Option<TakeRefused>
-        ensures { MatchOption result (AllowsTake (tag_limit_of self.now.limits) top) (RefusesTake T (tag_limit_of self.now.limits) top) }
+        ensures { MatchOption result (AllowsTake (tag_limit_of self.now.limits) top)
+            (RefusesTake T (tag_limit_of self.now.limits) top) }
     {
         if top.has_second() {
             return Some(TakeRefused::Shut);
@@ -212,7 +213,8 @@ impl<T> Stack<T> {
         requires full { (x : T) × (by.old.seat.me.1 ≡ (index, Some x) ∷ rest by.old.seat.me.1) }
         ensures table { by.new.seat.table_id ≡ by.old.seat.table_id }
         ensures value { by.old.seat.me.1 ≡ (index, Some result) ∷ rest by.old.seat.me.1 }
-        ensures out { by.new.seat.me ≡ (by.old.seat.me.0, rest by.old.seat.me.1 ++ (index, None) ∷ []) }
+        ensures out { by.new.seat.me
+            ≡ (by.old.seat.me.0, rest by.old.seat.me.1 ++ (index, None) ∷ []) }
     {
         let value = move_out::<T, View<T, Line<T>>, Limits, Stacked<T>>(
             &self.table.shared,

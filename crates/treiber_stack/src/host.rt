@@ -44,33 +44,44 @@ impl<T> ListHost<Option<T>, View<T, Line<T>>, Limits, 2> for Stacked<T> {
         list == layout::FREE
     }
 
-    ghost stands = { λ key l s h rule. giving.stands_law (capacity_of key) (tag_limit_of key) s rule l h };
+    ghost stands = { λ key l s h rule. giving.stands_law (capacity_of key)
+        (tag_limit_of key) s rule l h };
 
-    ghost placed = { λ key l s h rule. host.placed_law (capacity_of key) (tag_limit_of key) l s h rule };
+    ghost placed = { λ key l s h rule. host.placed_law (capacity_of key)
+        (tag_limit_of key) l s h rule };
 
     ghost link_not_top = { host.link_off_top };
 
-    ghost follows = { λ line key l id v s w n h may some met hit. taking.follows_law (capacity_of key) (tag_limit_of key) line l id v s w n h may met hit };
+    ghost follows = { λ line key l id v s w n h may some met hit. taking.follows_law
+        (capacity_of key) (tag_limit_of key) line l id v s w n h may met hit };
 
     ghost links = { λ line key l id v s w i h may met. absurd (host.no_give line l w i v may) };
 
-    ghost links_chain = { λ line key l id v s w i h may met. giving.links_chain_law (capacity_of key) (tag_limit_of key) line l id v s w i h may met };
+    ghost links_chain = { λ line key l id v s w i h may met. giving.links_chain_law
+        (capacity_of key) (tag_limit_of key) line l id v s w i h may met };
 
     ghost reads_top = { λ line key. reads.reads_top_law (capacity_of key) (tag_limit_of key) line };
 
-    ghost reads_link = { λ line key. reads.reads_link_law (capacity_of key) (tag_limit_of key) line };
+    ghost reads_link = { λ line key. reads.reads_link_law (capacity_of key)
+        (tag_limit_of key) line };
 
-    ghost writes_link = { λ line key. reads.writes_link_law (capacity_of key) (tag_limit_of key) line };
+    ghost writes_link = { λ line key. reads.writes_link_law (capacity_of key)
+        (tag_limit_of key) line };
 
     ghost loses = { λ line key. marking.loses_law (capacity_of key) (tag_limit_of key) line };
 
-    ghost takes = { λ line key l id v s w n h may some below met hit. taking.takes_law (capacity_of key) (tag_limit_of key) line l id v s w n h may met hit };
+    ghost takes = { λ line key l id v s w n h may some below met hit. taking.takes_law
+        (capacity_of key) (tag_limit_of key) line l id v s w n h may met hit };
 
     ghost gives = { λ line key l id v s w i h may. absurd (host.no_give line l w i v may) };
 
-    ghost gives_chain = { λ line key l id v s w i others h may mine low met hit. giving.gives_chain_law (capacity_of key) (tag_limit_of key) line l id v s w i h may low met hit };
+    ghost gives_chain = { λ line key l id v s w i others h may mine low met hit.
+        giving.gives_chain_law (capacity_of key)
+        (tag_limit_of key) line l id v s w i h may low met hit };
 
-    ghost takes_all = { λ line key l id v s w xs h may some below met hit stands. whole.takes_all_law (capacity_of key) (tag_limit_of key) line l id v s w xs h may met hit stands };
+    ghost takes_all = { λ line key l id v s w xs h may some below met hit stands.
+        whole.takes_all_law (capacity_of key)
+        (tag_limit_of key) line l id v s w xs h may met hit stands };
 
     ghost marks = { λ line key. marking.marks_law (capacity_of key) (tag_limit_of key) line };
 

@@ -23,7 +23,8 @@ use tagged_index::Limits;
 // The words of a new stack.
 fn first_words(alloc: Global, capacity: u32) -> Result<Vec<u64>, AllocError>
     requires { capacity ≤ NULL }
-    ensures { IfOk result (λ v. (length v.items ≡ words_for capacity) × ((k : ℕ) → k < words_for capacity → slice_index v.items k ≡ start_at capacity k)) }
+    ensures { IfOk result (λ v. (length v.items ≡ words_for capacity)
+        × ((k : ℕ) → k < words_for capacity → slice_index v.items k ≡ start_at capacity k)) }
 {
     let mut words = Vec::new(alloc);
     for at in 0..layout::words(capacity) {
@@ -36,7 +37,8 @@ impl<T> Stack<T> {
     /// An empty stack, open and not shut, and its root, which has given no pass. All memory is
     /// taken here; `NoMemory` where there was none.
     pub fn new(alloc: Global, limits: Limits) -> Result<(Stack<T>, Root<T>), MakeRefused>
-        ensures { IfOk result (λ t. IsRootOf t.0 t.1 × (root_in t.1 ≡ fresh) × (shape_of t.0 ≡ shape (capacity_of limits) (tag_limit_of limits))) }
+        ensures { IfOk result (λ t. IsRootOf t.0 t.1 × (root_in t.1 ≡ fresh)
+            × (shape_of t.0 ≡ shape (capacity_of limits) (tag_limit_of limits))) }
     {
         let words = first_words(alloc, limits.capacity())?;
         let count = limits.capacity() as usize;
@@ -48,7 +50,8 @@ impl<T> Stack<T> {
     #[inline]
     pub(crate) fn look_round(&self, seat: &mut Seat<Option<T>, View<T, Line<T>>>)
         requires { seat.old.table_id ≡ self.now.table.shared.table_id }
-        ensures seat { (seat.new.table_id ≡ seat.old.table_id) × (seat.new.id ≡ seat.old.id) × (seat.new.me.1 ≡ seat.old.me.1) }
+        ensures seat { (seat.new.table_id ≡ seat.old.table_id) × (seat.new.id ≡ seat.old.id)
+            × (seat.new.me.1 ≡ seat.old.me.1) }
         ensures looks { Looks (shape_of self.now) seat.old.me.0 seat.new.me.0 }
     {
         load_as::<Option<T>, View<T, Line<T>>, Limits, Stacked<T>, (), (), Brand>(

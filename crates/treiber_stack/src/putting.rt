@@ -81,7 +81,8 @@ impl<T> Stack<T> {
         value: T,
     ) -> Stepped<PutOp<T>, Pass<T>, Result<u64, PutRefused<T>>>
         requires { (x : T) × IsPuttingAt self.now x by (LoadFree value) }
-        ensures { (x : T) → IsPuttingAt self.now x by (LoadFree value) → PutStep self.now x by (LoadFree value) result }
+        ensures { (x : T) → IsPuttingAt self.now x by (LoadFree value)
+            → PutStep self.now x by (LoadFree value) result }
     {
         let mut pass = by;
         let operation = Operation::Put(Snapshot::of(&value));
@@ -110,7 +111,8 @@ impl<T> Stack<T> {
         free: Tagged,
     ) -> Stepped<PutOp<T>, Pass<T>, Result<u64, PutRefused<T>>>
         requires { (x : T) × IsPuttingAt self.now x by (Link value free) }
-        ensures { (x : T) → IsPuttingAt self.now x by (Link value free) → PutStep self.now x by (Link value free) result }
+        ensures { (x : T) → IsPuttingAt self.now x by (Link value free)
+            → PutStep self.now x by (Link value free) result }
     {
         let mut pass = by;
         let next = self.load_next(&mut pass, FREE, free.index(), &Operation::Underway);
@@ -130,7 +132,8 @@ impl<T> Stack<T> {
         next: u32,
     ) -> Stepped<PutOp<T>, Pass<T>, Result<u64, PutRefused<T>>>
         requires { (x : T) × IsPuttingAt self.now x by (Hold value free next) }
-        ensures { (x : T) → IsPuttingAt self.now x by (Hold value free next) → PutStep self.now x by (Hold value free next) result }
+        ensures { (x : T) → IsPuttingAt self.now x by (Hold value free next)
+            → PutStep self.now x by (Hold value free next) result }
     {
         let mut pass = by;
         if self.take_node(&mut pass, FREE, free, next, &Operation::Underway) {
@@ -172,7 +175,8 @@ impl<T> Stack<T> {
         index: u32,
     ) -> Stepped<PutOp<T>, Pass<T>, Result<u64, PutRefused<T>>>
         requires { (x : T) × IsPuttingAt self.now x by (Load index) }
-        ensures { (x : T) → IsPuttingAt self.now x by (Load index) → PutStep self.now x by (Load index) result }
+        ensures { (x : T) → IsPuttingAt self.now x by (Load index)
+            → PutStep self.now x by (Load index) result }
     {
         let mut pass = by;
         let top = self.load(&mut pass, TOP, &Operation::Underway);
@@ -206,7 +210,8 @@ impl<T> Stack<T> {
         top: Tagged,
     ) -> Stepped<PutOp<T>, Pass<T>, Result<u64, PutRefused<T>>>
         requires { (x : T) × IsPuttingAt self.now x by (LinkTo index top) }
-        ensures { (x : T) → IsPuttingAt self.now x by (LinkTo index top) → PutStep self.now x by (LinkTo index top) result }
+        ensures { (x : T) → IsPuttingAt self.now x by (LinkTo index top)
+            → PutStep self.now x by (LinkTo index top) result }
     {
         let mut pass = by;
         self.link_to(&mut pass, TOP, index, top.index(), &Operation::Underway);
@@ -225,7 +230,8 @@ impl<T> Stack<T> {
         top: Tagged,
     ) -> Stepped<PutOp<T>, Pass<T>, Result<u64, PutRefused<T>>>
         requires { (x : T) × IsPuttingAt self.now x by (Exchange index top) }
-        ensures { (x : T) → IsPuttingAt self.now x by (Exchange index top) → PutStep self.now x by (Exchange index top) result }
+        ensures { (x : T) → IsPuttingAt self.now x by (Exchange index top)
+            → PutStep self.now x by (Exchange index top) result }
     {
         let mut pass = by;
         if self.put_node(&mut pass, top, index, &Operation::Underway) {
@@ -245,7 +251,8 @@ impl<T> Stack<T> {
         value: T,
     ) -> Stepped<PutOp<T>, Pass<T>, Result<u64, PutRefused<T>>>
         requires { (x : T) × IsPuttingAt self.now x by (Refuse value) }
-        ensures { (x : T) → IsPuttingAt self.now x by (Refuse value) → PutStep self.now x by (Refuse value) result }
+        ensures { (x : T) → IsPuttingAt self.now x by (Refuse value)
+            → PutStep self.now x by (Refuse value) result }
     {
         let mut pass = by;
         let top = self.load(&mut pass, TOP, &Operation::Underway);
@@ -266,7 +273,8 @@ impl<T> Stack<T> {
         refusal: Refusal<T>,
     ) -> Stepped<PutOp<T>, Pass<T>, Result<u64, PutRefused<T>>>
         requires { (x : T) × IsPuttingAt self.now x by (LoadBack refusal) }
-        ensures { (x : T) → IsPuttingAt self.now x by (LoadBack refusal) → PutStep self.now x by (LoadBack refusal) result }
+        ensures { (x : T) → IsPuttingAt self.now x by (LoadBack refusal)
+            → PutStep self.now x by (LoadBack refusal) result }
     {
         let mut pass = by;
         let free = self.load(&mut pass, FREE, &Operation::Underway);
@@ -284,7 +292,8 @@ impl<T> Stack<T> {
         free: Tagged,
     ) -> Stepped<PutOp<T>, Pass<T>, Result<u64, PutRefused<T>>>
         requires { (x : T) × IsPuttingAt self.now x by (LinkBack refusal free) }
-        ensures { (x : T) → IsPuttingAt self.now x by (LinkBack refusal free) → PutStep self.now x by (LinkBack refusal free) result }
+        ensures { (x : T) → IsPuttingAt self.now x by (LinkBack refusal free)
+            → PutStep self.now x by (LinkBack refusal free) result }
     {
         let mut pass = by;
         self.link_to(
@@ -308,7 +317,8 @@ impl<T> Stack<T> {
         free: Tagged,
     ) -> Stepped<PutOp<T>, Pass<T>, Result<u64, PutRefused<T>>>
         requires { (x : T) × IsPuttingAt self.now x by (GiveBack refusal free) }
-        ensures { (x : T) → IsPuttingAt self.now x by (GiveBack refusal free) → PutStep self.now x by (GiveBack refusal free) result }
+        ensures { (x : T) → IsPuttingAt self.now x by (GiveBack refusal free)
+            → PutStep self.now x by (GiveBack refusal free) result }
     {
         let mut pass = by;
         if self.give_node(&mut pass, free, refusal.index, &Operation::Underway) {
@@ -329,7 +339,8 @@ impl<T> Stack<T> {
         value: T,
     ) -> Stepped<PutOp<T>, Pass<T>, Result<u64, PutRefused<T>>>
         requires { (x : T) × IsPuttingAt self.now x by (LoadFree value) }
-        ensures { (x : T) → IsPuttingAt self.now x by (LoadFree value) → PutRun self.now x (begun_in by) result }
+        ensures { (x : T) → IsPuttingAt self.now x by (LoadFree value)
+            → PutRun self.now x (begun_in by) result }
     {
         match self.put_load_free(by, value) {
             Stepped::Done(pass, answer) => Stepped::Done(pass, answer),
@@ -348,7 +359,8 @@ impl<T> Stack<T> {
         free: Tagged,
     ) -> Stepped<PutOp<T>, Pass<T>, Result<u64, PutRefused<T>>>
         requires { (x : T) × IsPuttingAt self.now x by (Link value free) }
-        ensures { (x : T) → IsPuttingAt self.now x by (Link value free) → PutRun self.now x (begun_in by) result }
+        ensures { (x : T) → IsPuttingAt self.now x by (Link value free)
+            → PutRun self.now x (begun_in by) result }
     {
         match self.put_link(by, value, free) {
             Stepped::Done(pass, answer) => Stepped::Done(pass, answer),
@@ -368,7 +380,8 @@ impl<T> Stack<T> {
         next: u32,
     ) -> Stepped<PutOp<T>, Pass<T>, Result<u64, PutRefused<T>>>
         requires { (x : T) × IsPuttingAt self.now x by (Hold value free next) }
-        ensures { (x : T) → IsPuttingAt self.now x by (Hold value free next) → PutRun self.now x (begun_in by) result }
+        ensures { (x : T) → IsPuttingAt self.now x by (Hold value free next)
+            → PutRun self.now x (begun_in by) result }
     {
         match self.put_hold(by, value, free, next) {
             Stepped::Done(pass, answer) => Stepped::Done(pass, answer),
@@ -386,7 +399,8 @@ impl<T> Stack<T> {
         index: u32,
     ) -> Stepped<PutOp<T>, Pass<T>, Result<u64, PutRefused<T>>>
         requires { (x : T) × IsPuttingAt self.now x by (Load index) }
-        ensures { (x : T) → IsPuttingAt self.now x by (Load index) → PutRun self.now x (begun_in by) result }
+        ensures { (x : T) → IsPuttingAt self.now x by (Load index)
+            → PutRun self.now x (begun_in by) result }
     {
         match self.put_load(by, index) {
             Stepped::Done(pass, answer) => Stepped::Done(pass, answer),
@@ -405,7 +419,8 @@ impl<T> Stack<T> {
         top: Tagged,
     ) -> Stepped<PutOp<T>, Pass<T>, Result<u64, PutRefused<T>>>
         requires { (x : T) × IsPuttingAt self.now x by (LinkTo index top) }
-        ensures { (x : T) → IsPuttingAt self.now x by (LinkTo index top) → PutRun self.now x (begun_in by) result }
+        ensures { (x : T) → IsPuttingAt self.now x by (LinkTo index top)
+            → PutRun self.now x (begun_in by) result }
     {
         match self.put_link_to(by, index, top) {
             Stepped::Done(pass, answer) => Stepped::Done(pass, answer),
@@ -424,7 +439,8 @@ impl<T> Stack<T> {
         top: Tagged,
     ) -> Stepped<PutOp<T>, Pass<T>, Result<u64, PutRefused<T>>>
         requires { (x : T) × IsPuttingAt self.now x by (Exchange index top) }
-        ensures { (x : T) → IsPuttingAt self.now x by (Exchange index top) → PutRun self.now x (begun_in by) result }
+        ensures { (x : T) → IsPuttingAt self.now x by (Exchange index top)
+            → PutRun self.now x (begun_in by) result }
     {
         self.put_exchange(by, index, top)
     }
@@ -438,7 +454,8 @@ impl<T> PutOp<T> {
     #[inline]
     pub fn step(self, stack: &Stack<T>) -> Stepped<PutOp<T>, Pass<T>, Result<u64, PutRefused<T>>>
         requires { (x : T) × IsPutting stack.now x self }
-        ensures { (x : T) → IsPutting stack.now x self → PutStep stack.now x self.pass self.at result }
+        ensures { (x : T) → IsPutting stack.now x self
+            → PutStep stack.now x self.pass self.at result }
     {
         let PutOp { pass, at } = self;
         match at {
@@ -468,7 +485,8 @@ impl<T> PutOp<T> {
         stack: &Stack<T>,
     ) -> Stepped<PutOp<T>, Pass<T>, Result<u64, PutRefused<T>>>
         requires { (x : T) × IsPutting stack.now x self }
-        ensures { (x : T) → IsPutting stack.now x self → PutRun stack.now x (begun_in self.pass) result }
+        ensures { (x : T) → IsPutting stack.now x self
+            → PutRun stack.now x (begun_in self.pass) result }
     {
         let PutOp { pass, at } = self;
         match at {

@@ -91,7 +91,8 @@ impl<T> Stack<T> {
     ) -> (Pass<T>, Result<Held, RangeRefused>)
         requires pass { IsPassOf self.now by }
         requires values { (vs : List T) × (values.old ≡ map Some vs) × (0 < length vs) }
-        ensures { (vs : List T) → values.old ≡ map Some vs → 0 < length vs → Collects self.now (pass_in by) vs values.new result.0 result.1 }
+        ensures { (vs : List T) → values.old ≡ map Some vs → 0 < length vs
+            → Collects self.now (pass_in by) vs values.new result.0 result.1 }
     {
         let operation = Operation::Range(Listed::of(values));
         self.collect_as(rt, by, values, &operation)
@@ -105,7 +106,8 @@ impl<T> Stack<T> {
         operation: &Operation<T>,
     ) -> (Pass<T>, Result<Held, RangeRefused>)
         requires start { (vs : List T) × IsStart self.now operation.now by vs values.old }
-        ensures { (vs : List T) → IsStart self.now operation.now by vs values.old → Collects self.now (begun_in by) vs values.new result.0 result.1 }
+        ensures { (vs : List T) → IsStart self.now operation.now by vs values.old
+            → Collects self.now (begun_in by) vs values.new result.0 result.1 }
     {
         let mut pass = by;
         let mut first = NULL;
@@ -147,7 +149,8 @@ impl<T> Stack<T> {
         operation: &Operation<T>,
     ) -> (Pass<T>, Result<u32, NoNode>)
         requires { (put : Putting T) × IsCollecting self.now operation.now by put }
-        ensures { (put : Putting T) → IsCollecting self.now operation.now by put → TakesFree self.now operation.now (begun_in by) put result.0 result.1 }
+        ensures { (put : Putting T) → IsCollecting self.now operation.now by put
+            → TakesFree self.now operation.now (begun_in by) put result.0 result.1 }
     {
         let mut pass = by;
         let mut pause = Pause::new();
@@ -177,7 +180,8 @@ impl<T> Stack<T> {
         requires empty { by.old.seat.me.1 ≡ (index, None) ∷ rest by.old.seat.me.1 }
         requires value { (x : T) × (place.old ≡ Some x) }
         ensures table { by.new.seat.table_id ≡ by.old.seat.table_id }
-        ensures filled { (x : T) → place.old ≡ Some x → by.new.seat.me ≡ (by.old.seat.me.0, (index, Some x) ∷ rest by.old.seat.me.1) }
+        ensures filled { (x : T) → place.old ≡ Some x → by.new.seat.me
+            ≡ (by.old.seat.me.0, (index, Some x) ∷ rest by.old.seat.me.1) }
         ensures place { place.new ≡ None }
     {
         match place.take() {
@@ -194,7 +198,9 @@ impl<T> Stack<T> {
     // Why a range is refused that has no node.
     fn refuse_range(&self, by: Pass<T>, why: NoNode) -> (Pass<T>, RangeRefused)
         requires { (v : PassView T) × (vs : List T) × Stops self.now v by [] vs why }
-        ensures { (v : PassView T) (vs : List T) → Stops self.now v by [] vs why → IsPassOf self.now result.0 × NotPut (shape_of self.now) v (length vs) (pass_in result.0) result.1 }
+        ensures { (v : PassView T) (vs : List T) → Stops self.now v by [] vs why
+            → IsPassOf self.now result.0
+            × NotPut (shape_of self.now) v (length vs) (pass_in result.0) result.1 }
     {
         let mut pass = by;
         match why {
@@ -222,7 +228,8 @@ impl<T> Stack<T> {
         held: Held,
     ) -> (Pass<T>, Result<u64, RangeRefused>)
         requires { (vs : List T) × IsHolding self.now by vs held }
-        ensures { (vs : List T) → IsHolding self.now by vs held → Places self.now by vs held result.0 result.1 }
+        ensures { (vs : List T) → IsHolding self.now by vs held
+            → Places self.now by vs held result.0 result.1 }
     {
         let mut pass = by;
         let mut pause = Pause::new();
@@ -252,8 +259,11 @@ impl<T> Stack<T> {
 
     // Moves the values of a refused range back to their places, the last first.
     fn restore(&self, by: Pass<T>, held: Held, values: &mut [Option<T>]) -> Pass<T>
-        requires { (vs : List T) × (why : RangeRefused) × IsRefused self.now by vs held why × (values.old ≡ places_from held.count vs) }
-        ensures { (vs : List T) (why : RangeRefused) → IsRefused self.now by vs held why → values.old ≡ places_from held.count vs → Restores self.now by vs held why values.new result }
+        requires { (vs : List T) × (why : RangeRefused) × IsRefused self.now by vs held why
+            × (values.old ≡ places_from held.count vs) }
+        ensures { (vs : List T) (why : RangeRefused) → IsRefused self.now by vs held why
+            → values.old ≡ places_from held.count vs
+            → Restores self.now by vs held why values.new result }
     {
         let mut pass = by;
         let mut index = held.chain.first;
@@ -274,7 +284,8 @@ impl<T> Stack<T> {
     // Reads a link of the chain that is given back next, by a load that belongs to no line.
     #[inline]
     fn read_again(&self, by: &mut Pass<T>, index: u32) -> u32
-        requires { (by.old.seat.table_id ≡ self.now.table.shared.table_id) × (index < capacity_of self.now.limits) }
+        requires { (by.old.seat.table_id ≡ self.now.table.shared.table_id)
+            × (index < capacity_of self.now.limits) }
         ensures same { IsSame by.old by.new }
         ensures looks { Looks (shape_of self.now) by.old.seat.me.0 by.new.seat.me.0 }
         ensures link { ReadsAgain by.old.seat.me.0 index result }

@@ -49,7 +49,8 @@ impl<T> Stack<T> {
         index: u32,
         operation: &Operation<T>,
     ) -> u32
-        requires table { (by.old.seat.table_id ≡ self.now.table.shared.table_id) × (list < 2) × (index < capacity_of self.now.limits) }
+        requires table { (by.old.seat.table_id ≡ self.now.table.shared.table_id) × (list < 2)
+            × (index < capacity_of self.now.limits) }
         requires may { may_step operation.now list (read_link index) by.old.seat.me.0 }
         ensures same { IsSame by.old by.new }
         ensures told { Told self.now operation.now list (read_link index) result [] by.old by.new }
@@ -75,11 +76,13 @@ impl<T> Stack<T> {
         next: u32,
         operation: &Operation<T>,
     )
-        requires table { (by.old.seat.table_id ≡ self.now.table.shared.table_id) × (list < 2) × (index < capacity_of self.now.limits) }
+        requires table { (by.old.seat.table_id ≡ self.now.table.shared.table_id) × (list < 2)
+            × (index < capacity_of self.now.limits) }
         requires may { may_step operation.now list (write_link index next) by.old.seat.me.0 }
         requires held { Holds (held (line_in by.old.seat.me.0)) index }
         ensures same { IsSame by.old by.new }
-        ensures told { Told self.now operation.now list (write_link index next) next [] by.old by.new }
+        ensures told { Told self.now operation.now list
+            (write_link index next) next [] by.old by.new }
     {
         store_link::<Option<T>, View<T, Line<T>>, Limits, Stacked<T>, 2>(
             &self.table.shared,
@@ -106,7 +109,8 @@ impl<T> Stack<T> {
         requires word { (index_of seen < NULL) × (tag_of seen < MAX_TAG) × (next ≤ NULL) }
         ensures table { by.new.seat.table_id ≡ by.old.seat.table_id }
         ensures won { IsTrue result → Takes self.now operation.now list seen next by.old by.new }
-        ensures lost { IsFalse result → (by.new.seat.me.1 ≡ by.old.seat.me.1) × Lost self.now operation.now list (take seen next) seen by.old by.new }
+        ensures lost { IsFalse result → (by.new.seat.me.1 ≡ by.old.seat.me.1)
+            × Lost self.now operation.now list (take seen next) seen by.old by.new }
     {
         try_take::<Option<T>, View<T, Line<T>>, Limits, Stacked<T>, 2>(
             &self.table.shared,
@@ -129,10 +133,12 @@ impl<T> Stack<T> {
     ) -> bool
         requires table { by.old.seat.table_id ≡ self.now.table.shared.table_id }
         requires may { may_step operation.now 0 (give_chain seen index) by.old.seat.me.0 }
-        requires held { (held (line_in by.old.seat.me.0) ≡ index ∷ []) × (by.old.seat.me.1 ≡ (index, None) ∷ []) × (index < NULL) }
+        requires held { (held (line_in by.old.seat.me.0) ≡ index ∷ [])
+            × (by.old.seat.me.1 ≡ (index, None) ∷ []) × (index < NULL) }
         ensures table { by.new.seat.table_id ≡ by.old.seat.table_id }
         ensures won { IsTrue result → Gives self.now operation.now 0 seen index by.old by.new }
-        ensures lost { IsFalse result → (by.new.seat.me.1 ≡ by.old.seat.me.1) × Lost self.now operation.now 0 (give_chain seen index) seen by.old by.new }
+        ensures lost { IsFalse result → (by.new.seat.me.1 ≡ by.old.seat.me.1)
+            × Lost self.now operation.now 0 (give_chain seen index) seen by.old by.new }
     {
         try_give_chain::<Option<T>, View<T, Line<T>>, Limits, Stacked<T>, 2>(
             &self.table.shared,
@@ -156,11 +162,14 @@ impl<T> Stack<T> {
     ) -> bool
         requires table { by.old.seat.table_id ≡ self.now.table.shared.table_id }
         requires may { may_step operation.now 1 (give_chain seen index) by.old.seat.me.0 }
-        requires held { (held (line_in by.old.seat.me.0) ≡ index ∷ []) × (index < NULL) × (tag_of seen < MAX_TAG) }
-        requires value { (x : T) × (by.old.seat.me.1 ≡ (index, Some x) ∷ []) × Bears (line_in by.old.seat.me.0) index (Some x) }
+        requires held { (held (line_in by.old.seat.me.0) ≡ index ∷ []) × (index < NULL)
+            × (tag_of seen < MAX_TAG) }
+        requires value { (x : T) × (by.old.seat.me.1 ≡ (index, Some x) ∷ [])
+            × Bears (line_in by.old.seat.me.0) index (Some x) }
         ensures table { by.new.seat.table_id ≡ by.old.seat.table_id }
         ensures won { IsTrue result → Gives self.now operation.now 1 seen index by.old by.new }
-        ensures lost { IsFalse result → (by.new.seat.me.1 ≡ by.old.seat.me.1) × Lost self.now operation.now 1 (give_chain seen index) seen by.old by.new }
+        ensures lost { IsFalse result → (by.new.seat.me.1 ≡ by.old.seat.me.1)
+            × Lost self.now operation.now 1 (give_chain seen index) seen by.old by.new }
     {
         try_give_chain::<Option<T>, View<T, Line<T>>, Limits, Stacked<T>, 2>(
             &self.table.shared,
@@ -187,7 +196,8 @@ impl<T> Stack<T> {
         requires word { (index_of seen < NULL) × (tag_of seen < MAX_TAG) }
         ensures table { by.new.seat.table_id ≡ by.old.seat.table_id }
         ensures won { IsTrue result → TakesAll self.now operation.now front seen by.old by.new }
-        ensures lost { IsFalse result → (by.new.seat.me.1 ≡ by.old.seat.me.1) × Lost self.now operation.now 1 (take_all seen) seen by.old by.new }
+        ensures lost { IsFalse result → (by.new.seat.me.1 ≡ by.old.seat.me.1)
+            × Lost self.now operation.now 1 (take_all seen) seen by.old by.new }
     {
         try_take_all::<Option<T>, View<T, Line<T>>, Limits, Stacked<T>, 2>(
             &self.table.shared,
@@ -211,10 +221,12 @@ impl<T> Stack<T> {
         requires table { by.old.seat.table_id ≡ self.now.table.shared.table_id }
         requires may { may_step operation.now 0 (give_chain seen first) by.old.seat.me.0 }
         requires held { (others : List ℕ) × (held (line_in by.old.seat.me.0) ≡ first ∷ others) }
-        requires slots { (by.old.seat.me.1 ≡ vacant (held (line_in by.old.seat.me.0))) × (first < NULL) }
+        requires slots { (by.old.seat.me.1 ≡ vacant (held (line_in by.old.seat.me.0)))
+            × (first < NULL) }
         ensures table { by.new.seat.table_id ≡ by.old.seat.table_id }
         ensures won { IsTrue result → Gives self.now operation.now 0 seen first by.old by.new }
-        ensures lost { IsFalse result → (by.new.seat.me.1 ≡ by.old.seat.me.1) × Lost self.now operation.now 0 (give_chain seen first) seen by.old by.new }
+        ensures lost { IsFalse result → (by.new.seat.me.1 ≡ by.old.seat.me.1)
+            × Lost self.now operation.now 0 (give_chain seen first) seen by.old by.new }
     {
         try_give_chain::<Option<T>, View<T, Line<T>>, Limits, Stacked<T>, 2>(
             &self.table.shared,
@@ -240,10 +252,12 @@ impl<T> Stack<T> {
         requires may { may_step operation.now 1 (give_chain seen first) by.old.seat.me.0 }
         requires held { (others : List ℕ) × (held (line_in by.old.seat.me.0) ≡ first ∷ others) }
         requires word { (first < NULL) × (tag_of seen < MAX_TAG) }
-        requires slots { (numbers by.old.seat.me.1 ≡ held (line_in by.old.seat.me.0)) × Each (Bears (line_in by.old.seat.me.0)) by.old.seat.me.1 }
+        requires slots { (numbers by.old.seat.me.1 ≡ held (line_in by.old.seat.me.0))
+            × Each (Bears (line_in by.old.seat.me.0)) by.old.seat.me.1 }
         ensures table { by.new.seat.table_id ≡ by.old.seat.table_id }
         ensures won { IsTrue result → Gives self.now operation.now 1 seen first by.old by.new }
-        ensures lost { IsFalse result → (by.new.seat.me.1 ≡ by.old.seat.me.1) × Lost self.now operation.now 1 (give_chain seen first) seen by.old by.new }
+        ensures lost { IsFalse result → (by.new.seat.me.1 ≡ by.old.seat.me.1)
+            × Lost self.now operation.now 1 (give_chain seen first) seen by.old by.new }
     {
         try_give_chain::<Option<T>, View<T, Line<T>>, Limits, Stacked<T>, 2>(
             &self.table.shared,
@@ -261,8 +275,10 @@ impl<T> Stack<T> {
         requires table { by.old.seat.table_id ≡ self.now.table.shared.table_id }
         requires may { may_step operation.now 1 (mark seen) by.old.seat.me.0 }
         ensures same { IsSame by.old by.new }
-        ensures won { IsTrue result → Told self.now operation.now 1 (mark seen) seen [] by.old by.new }
-        ensures lost { IsFalse result → Lost self.now operation.now 1 (mark seen) seen by.old by.new }
+        ensures won { IsTrue result
+            → Told self.now operation.now 1 (mark seen) seen [] by.old by.new }
+        ensures lost { IsFalse result
+            → Lost self.now operation.now 1 (mark seen) seen by.old by.new }
     {
         try_mark::<Option<T>, View<T, Line<T>>, Limits, Stacked<T>, 2>(
             &self.table.shared,
@@ -284,8 +300,10 @@ impl<T> Stack<T> {
         requires table { by.old.seat.table_id ≡ self.now.table.shared.table_id }
         requires may { may_step operation.now 1 (shut seen) by.old.seat.me.0 }
         ensures same { IsSame by.old by.new }
-        ensures won { IsTrue result → Told self.now operation.now 1 (shut seen) seen [] by.old by.new }
-        ensures lost { IsFalse result → Lost self.now operation.now 1 (shut seen) seen by.old by.new }
+        ensures won { IsTrue result
+            → Told self.now operation.now 1 (shut seen) seen [] by.old by.new }
+        ensures lost { IsFalse result
+            → Lost self.now operation.now 1 (shut seen) seen by.old by.new }
     {
         try_shut::<Option<T>, View<T, Line<T>>, Limits, Stacked<T>, 2>(
             &self.table.shared,
