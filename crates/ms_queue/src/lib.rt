@@ -20,6 +20,7 @@ mod giving;
 mod looking;
 mod making;
 mod places;
+mod placing;
 mod putting;
 mod queue;
 mod rest;

@@ -1,24 +1,21 @@
 //! Putting one value, by steps. While the put has a cell, the value is in the cell's slot; the name
 //! of its operation shows it to proofs.
-ghost use Rattle.std.specs.Prelude.{◌≡◌, ◌≤◌, [], ◌∷◌, Some, None};
+ghost use Rattle.std.specs.Prelude.{◌≡◌, ◌≤◌};
 ghost use Rattle.tagged_index.specs.Fields.{number};
 ghost use Rattle.tagged_index.specs.declared.word.TheConstants.{MAX_TAG};
 ghost use Rattle.queue_machine.specs.Machine.{null_word};
 ghost use Rattle.running.specs.Passes.{pass_in};
 ghost use Rattle.ms_queue.specs.Queue.{IsPassOf, begun_of};
 ghost use Rattle.ms_queue.specs.Putting.{IsPutting, IsPuttingAt, PutStep};
-ghost use Rattle.ms_queue.specs.declared.putting.PutAt.TheVariants.{LoadCells, LoadCellLink, TakeCell, Refusing, LoadNodes, LoadNodeLink, TakeNode, StoreCell, LoadNext, PrepareNext, Seeking, LinkNext, SwingTail, GiveBack};
+ghost use Rattle.ms_queue.specs.declared.putting.PutAt.TheVariants.{Refusing, StoreCell, LoadNext, PrepareNext, Seeking, LinkNext, SwingTail, GiveBack};
 
 use crate::giving::{Gave, Give, Held};
 use crate::queue::{Pass, Queue};
 use crate::seeking::{Seek, Sought};
 use bounded_model::{PutRefused, Stepped, Word};
-use index_list::{move_out, put_in};
 use queue_table::Operation;
-use queue_table::layout::{CELLS, NODES, TAIL, cell, cell_link, next, node_link};
-use running::{
-    give_step, keep_step, load_step, load_tagged_step, raised, store_step, swap_step, take_step,
-};
+use queue_table::layout::{TAIL, cell, next};
+use running::{attempt_step, give_step, keep_step, load_tagged_step, raised, store_step};
 use std::snapshot::Snapshot;
 use tagged_index::{NULL, Tagged};
 
@@ -94,86 +91,6 @@ impl<T> Queue<T> {
         }
     }
 
-    // The free cell, or why none can be had.
-    #[inline]
-    pub(crate) fn put_load_cells(&self, by: Pass<T>, operation: Operation<T>, value: T) -> Step<T>
-        requires { (x : T) × IsPuttingAt self.now x operation by (LoadCells value) }
-        ensures { (x : T) → IsPuttingAt self.now x operation by (LoadCells value) → PutStep self.now x operation by (LoadCells value) result }
-    {
-        let mut pass = by;
-        let cells = load_tagged_step(&self.table.shared, &mut pass.seat, CELLS, &operation);
-        if cells.index() == NULL {
-            return Stepped::Again(PutOp {
-                pass,
-                operation,
-                at: PutAt::Refusing(value, Seek::LoadTail),
-            });
-        }
-        if cells.tag() >= self.limits.tag_limit() {
-            let why = PutRefused::Spent(value, Word::Cells, cells.tag());
-            return Stepped::Done(pass, Err(why));
-        }
-        Stepped::Again(PutOp {
-            pass,
-            operation,
-            at: PutAt::LoadCellLink(value, cells),
-        })
-    }
-
-    #[inline]
-    pub(crate) fn put_load_cell_link(
-        &self,
-        by: Pass<T>,
-        operation: Operation<T>,
-        value: T,
-        cells: Tagged,
-    ) -> Step<T>
-        requires { (x : T) × IsPuttingAt self.now x operation by (LoadCellLink value cells) }
-        ensures { (x : T) → IsPuttingAt self.now x operation by (LoadCellLink value cells) → PutStep self.now x operation by (LoadCellLink value cells) result }
-    {
-        let mut pass = by;
-        let at = cell_link(cells.index());
-        let found = load_step(&self.table.shared, &mut pass.seat, at, &operation);
-        let link = found as u32;
-        Stepped::Again(PutOp {
-            pass,
-            operation,
-            at: PutAt::TakeCell(value, cells, link),
-        })
-    }
-
-    // With the cell comes its slot, and the value moves in.
-    #[inline]
-    pub(crate) fn put_take_cell(
-        &self,
-        by: Pass<T>,
-        operation: Operation<T>,
-        value: T,
-        cells: Tagged,
-        link: u32,
-    ) -> Step<T>
-        requires { (x : T) × IsPuttingAt self.now x operation by (TakeCell value cells link) }
-        ensures { (x : T) → IsPuttingAt self.now x operation by (TakeCell value cells link) → PutStep self.now x operation by (TakeCell value cells link) result }
-    {
-        let mut pass = by;
-        let new = raised(cells, link);
-        let table = &self.table.shared;
-        if take_step(table, &mut pass.seat, CELLS, cells, new, &operation) {
-            let cell = cells.index();
-            put_in(table, &mut pass.seat, cell, value);
-            return Stepped::Again(PutOp {
-                pass,
-                operation,
-                at: PutAt::LoadNodes(cell),
-            });
-        }
-        Stepped::Again(PutOp {
-            pass,
-            operation,
-            at: PutAt::LoadCells(value),
-        })
-    }
-
     #[inline]
     pub(crate) fn put_refuse(
         &self,
@@ -195,103 +112,6 @@ impl<T> Queue<T> {
             Sought::Closed => Stepped::Done(pass, Err(PutRefused::Closed(value))),
             Sought::End(_, _) => Stepped::Done(pass, Err(PutRefused::Full(value))),
         }
-    }
-
-    // A put that has a cell always finds a node with room; else the cell would be given back.
-    #[inline]
-    pub(crate) fn put_load_nodes(&self, by: Pass<T>, operation: Operation<T>, cell: u32) -> Step<T>
-        requires { (x : T) × IsPuttingAt self.now x operation by (LoadNodes cell) }
-        ensures { (x : T) → IsPuttingAt self.now x operation by (LoadNodes cell) → PutStep self.now x operation by (LoadNodes cell) result }
-    {
-        let mut pass = by;
-        let nodes = load_tagged_step(&self.table.shared, &mut pass.seat, NODES, &operation);
-        if nodes.index() == NULL {
-            let value = self.put_value_back(&mut pass, cell);
-            let why = PutRefused::Spent(value, Word::Nodes, nodes.tag());
-            return Stepped::Again(PutOp {
-                pass,
-                operation,
-                at: PutAt::GiveBack(why, Held { cell, node: 0 }, Give::LoadCells),
-            });
-        }
-        if nodes.tag() >= self.limits.tag_limit() {
-            let value = self.put_value_back(&mut pass, cell);
-            let why = PutRefused::Spent(value, Word::Nodes, nodes.tag());
-            return Stepped::Again(PutOp {
-                pass,
-                operation,
-                at: PutAt::GiveBack(why, Held { cell, node: 0 }, Give::LoadCells),
-            });
-        }
-        Stepped::Again(PutOp {
-            pass,
-            operation,
-            at: PutAt::LoadNodeLink(cell, nodes),
-        })
-    }
-
-    // Moves the value out of the slot of the cell in hand.
-    #[inline]
-    pub(crate) fn put_value_back(&self, by: &mut Pass<T>, cell: u32) -> T
-        requires table { by.old.seat.table_id ≡ self.now.table.shared.table_id }
-        requires full { (x : T) × (by.old.seat.me.1 ≡ (cell, Some x) ∷ []) }
-        ensures table { by.new.seat.table_id ≡ by.old.seat.table_id }
-        ensures value { by.old.seat.me.1 ≡ (cell, Some result) ∷ [] }
-        ensures out { by.new.seat.me ≡ (by.old.seat.me.0, (cell, None) ∷ []) }
-    {
-        move_out(&self.table.shared, &mut by.seat, cell)
-    }
-
-    #[inline]
-    pub(crate) fn put_load_node_link(
-        &self,
-        by: Pass<T>,
-        operation: Operation<T>,
-        cell: u32,
-        nodes: Tagged,
-    ) -> Step<T>
-        requires { (x : T) × IsPuttingAt self.now x operation by (LoadNodeLink cell nodes) }
-        ensures { (x : T) → IsPuttingAt self.now x operation by (LoadNodeLink cell nodes) → PutStep self.now x operation by (LoadNodeLink cell nodes) result }
-    {
-        let mut pass = by;
-        let at = node_link(nodes.index());
-        let found = load_step(&self.table.shared, &mut pass.seat, at, &operation);
-        let link = found as u32;
-        Stepped::Again(PutOp {
-            pass,
-            operation,
-            at: PutAt::TakeNode(cell, nodes, link),
-        })
-    }
-
-    #[inline]
-    pub(crate) fn put_take_node(
-        &self,
-        by: Pass<T>,
-        operation: Operation<T>,
-        cell: u32,
-        nodes: Tagged,
-        link: u32,
-    ) -> Step<T>
-        requires { (x : T) × IsPuttingAt self.now x operation by (TakeNode cell nodes link) }
-        ensures { (x : T) → IsPuttingAt self.now x operation by (TakeNode cell nodes link) → PutStep self.now x operation by (TakeNode cell nodes link) result }
-    {
-        let mut pass = by;
-        let new = raised(nodes, link);
-        let table = &self.table.shared;
-        if swap_step(table, &mut pass.seat, NODES, nodes, new, &operation) {
-            let node = nodes.index();
-            return Stepped::Again(PutOp {
-                pass,
-                operation,
-                at: PutAt::StoreCell(Held { cell, node }),
-            });
-        }
-        Stepped::Again(PutOp {
-            pass,
-            operation,
-            at: PutAt::LoadNodes(cell),
-        })
     }
 
     #[inline]
@@ -444,9 +264,7 @@ impl<T> Queue<T> {
         let mut pass = by;
         let new = raised(tail, link.index());
         let table = &self.table.shared;
-        if swap_step(table, &mut pass.seat, TAIL, tail, new, &operation) {
-            return Stepped::Done(pass, Ok(tail.tag()));
-        }
+        attempt_step(table, &mut pass.seat, TAIL, tail, new, &operation);
         Stepped::Done(pass, Ok(tail.tag()))
     }
 

@@ -7,7 +7,7 @@ ghost use Rattle.ms_queue.specs.declared.seeking.Seek.TheVariants.{LoadTail, Loa
 use crate::queue::{Pass, Queue};
 use queue_table::Operation;
 use queue_table::layout::{TAIL, next};
-use running::{load_tagged_step, raised, swap_step};
+use running::{attempt_step, load_tagged_step, raised};
 use tagged_index::{NULL, Tagged};
 
 /// The next step on the way to the end of the chain, with what was read.
@@ -105,9 +105,7 @@ impl<T> Queue<T> {
         ensures { (s : Seeking T) → IsSeeking self.now operation.now by.old s (SwingTail tail link) → Led self.now operation.now by.old by.new s (SwingTail tail link) result }
     {
         let new = raised(tail, link.index());
-        if swap_step(&self.table.shared, &mut by.seat, TAIL, tail, new, operation) {
-            return Sought::On(Seek::LoadTail);
-        }
+        attempt_step(&self.table.shared, &mut by.seat, TAIL, tail, new, operation);
         Sought::On(Seek::LoadTail)
     }
 }

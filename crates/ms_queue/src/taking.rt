@@ -11,7 +11,7 @@ use bounded_model::{Stepped, TakeRefused};
 use index_list::move_out;
 use queue_table::Operation;
 use queue_table::layout::{HEAD, TAIL, cell, next};
-use running::{load_step, load_tagged_step, raised, swap_step, take_step};
+use running::{attempt_step, load_step, load_tagged_step, raised, take_step};
 use tagged_index::{NULL, Tagged};
 
 /// A take that was begun.
@@ -156,12 +156,7 @@ impl<T> Queue<T> {
         let mut pass = by;
         let new = raised(tail, link.index());
         let table = &self.table.shared;
-        if swap_step(table, &mut pass.seat, TAIL, tail, new, &Operation::Take) {
-            return Stepped::Again(TakeOp {
-                pass,
-                at: TakeAt::LoadHead,
-            });
-        }
+        attempt_step(table, &mut pass.seat, TAIL, tail, new, &Operation::Take);
         Stepped::Again(TakeOp {
             pass,
             at: TakeAt::LoadHead,

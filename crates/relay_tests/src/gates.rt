@@ -168,8 +168,9 @@ fn relay_held<R: Abort + AllocGlobal + Threads + Wait + Sync>(
 ) -> Result<(Relayed, Entries), Fail> {
     let gate = Holding::new(rt.alloc(), holds)?;
     let relayed = relay_over(rt, kind, (2, MOST), lengths, plan, &gate)?;
-    assert!(rt; gate.entries.were_in_turn());
-    Ok((relayed, gate.entries))
+    let Holding { entries, holds: _ } = gate;
+    assert!(rt; entries.were_in_turn());
+    Ok((relayed, entries))
 }
 
 // Worker 0 is the producer, and worker 1 the consumer, which takes one message.

@@ -3,10 +3,10 @@
 ghost use Rattle.std.specs.Prelude.{◌≤◌};
 ghost use Rattle.relay.specs.Messages.{AreInputsFrom};
 
+use crate::tallies::numbers;
 use audit::{check_queue, check_stack};
 use ms_queue::Queue;
 use relay::{Gate, Message, Plan, RelayFault, Relayed, numbered, run, run_freely};
-use crate::tallies::numbers;
 use std::alloc::{AllocError, Global};
 use std::sync::Wait;
 use std::thread::Threads;
@@ -27,11 +27,7 @@ pub(crate) enum Kind {
 pub(crate) const KINDS: [Kind; 2] = [Kind::Queue, Kind::Stack];
 
 /// Whether a container of this kind allows this outcome.
-pub(crate) fn is_allowed(
-    alloc: Global,
-    kind: Kind,
-    relayed: &Relayed,
-) -> Result<bool, AllocError> {
+pub(crate) fn is_allowed(alloc: Global, kind: Kind, relayed: &Relayed) -> Result<bool, AllocError> {
     match kind {
         Kind::Queue => Ok(check_queue(relayed)),
         Kind::Stack => Ok(check_stack(&numbers(alloc, relayed)?)),

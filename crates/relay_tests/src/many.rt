@@ -1,8 +1,6 @@
 //! Many workers: more of them than cores, long lines, and a container that one of them shuts.
 
-use crate::kinds::{
-    KINDS, Kind, MOST, inputs, is_allowed, letter, plan, relay_inputs, relay_over,
-};
+use crate::kinds::{KINDS, Kind, MOST, inputs, is_allowed, letter, plan, relay_inputs, relay_over};
 use crate::tallies::{counts, taken_by};
 use relay::{FreeGate, Message, Plan};
 use std::process::Abort;

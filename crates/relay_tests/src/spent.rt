@@ -25,7 +25,10 @@ fn keeps_what_it_has<R: Abort + AllocGlobal + Threads + Wait + Sync>(
         Kind::Queue => [0u32, 1],
         Kind::Stack => [1, 0],
     };
-    assert_eq!(rt; seqs(rt.alloc(), &relayed.left)?.as_slice(), left.as_slice());
+    assert_eq!(rt;
+        seqs(rt.alloc(), &relayed.left)?.as_slice(),
+        left.as_slice()
+    );
     let Some(unsent) = relayed.unsent.first() else {
         panic!(rt; "no list for the sender")
     };

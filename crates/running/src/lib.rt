@@ -16,6 +16,7 @@ pub use lists::{ListMachine, take_first};
 pub use passes::{Pass, Root, join, meet, split};
 pub use rule::{Machine, Running};
 pub use steps::{
-    give_step, keep_step, load_step, load_tagged_step, raised, store_step, swap_step, take_step,
+    attempt_step, give_step, keep_step, load_step, load_tagged_step, raised, store_step, swap_step,
+    take_step,
 };
 pub use whole::{Whole, whole_call};

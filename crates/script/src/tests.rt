@@ -1,5 +1,3 @@
-ghost use Rattle.std.specs.Prelude.{◌<◌, length};
-
 use crate::{MAX_SCRIPT_LEN, ScriptFault, parse};
 use std::alloc::AllocError;
 use std::process::Abort;
@@ -124,23 +122,9 @@ fn bad_lines_of_a_stack(rt: HostRuntime) {
     }
 }
 
-/// Reads a line in the script of a stack and in that of a queue, where each should have it or not.
-fn assert_allowed(rt: &(impl Abort + AllocGlobal), line: &str, stack: bool, queue: bool)
-    requires { length line.now < 20 }
-{
-    for (kind, is_allowed) in [("stack", stack), ("queue", queue)] {
-        let text = format!(in rt.alloc(); "{kind} 1 7\na {line}\nfinish\n").expect(rt, "memory");
-        if is_allowed {
-            assert_read(rt, text.as_bytes(), 2);
-        } else {
-            assert_refused(rt, text.as_bytes(), ScriptFault::BadLine(2));
-        }
-    }
-}
-
 #[test]
-fn lines_of_each_container(rt: HostRuntime) {
-    let both = [
+fn lines_of_both(rt: HostRuntime) {
+    let lines = [
         "put x",
         "take",
         "close",
@@ -155,16 +139,35 @@ fn lines_of_each_container(rt: HostRuntime) {
         "meet b",
         "drop",
     ];
-    for line in both {
+    for line in lines {
         assert!(rt; line.len() < 20);
-        assert_allowed(&rt, line, true, true);
+        let stack = format!(in rt.alloc(); "stack 1 7\na {line}\nfinish\n").expect(&rt, "memory");
+        assert_read(&rt, stack.as_bytes(), 2);
+        let queue = format!(in rt.alloc(); "queue 1 7\na {line}\nfinish\n").expect(&rt, "memory");
+        assert_read(&rt, queue.as_bytes(), 2);
     }
-    for line in ["range", "range x", "range x 9 yZ", "fold", "rfold"] {
+}
+
+#[test]
+fn lines_of_a_stack_alone(rt: HostRuntime) {
+    let lines = ["range", "range x", "range x 9 yZ", "fold", "rfold"];
+    for line in lines {
         assert!(rt; line.len() < 20);
-        assert_allowed(&rt, line, true, false);
+        let stack = format!(in rt.alloc(); "stack 1 7\na {line}\nfinish\n").expect(&rt, "memory");
+        assert_read(&rt, stack.as_bytes(), 2);
+        let queue = format!(in rt.alloc(); "queue 1 7\na {line}\nfinish\n").expect(&rt, "memory");
+        assert_refused(&rt, queue.as_bytes(), ScriptFault::BadLine(2));
     }
-    assert_allowed(&rt, "begin look", false, true);
-    assert_allowed(&rt, "meet a", false, false);
+}
+
+#[test]
+fn a_line_of_a_queue_alone(rt: HostRuntime) {
+    assert_read(&rt, b"queue 1 7\na begin look\nfinish\n", 2);
+    assert_refused(
+        &rt,
+        b"stack 1 7\na begin look\nfinish\n",
+        ScriptFault::BadLine(2),
+    );
 }
 
 /// A script that puts a value of so many bytes.

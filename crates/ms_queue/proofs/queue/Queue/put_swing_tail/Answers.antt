@@ -7,20 +7,10 @@ use Rattle.ms_queue.specs.Queue.{machine_of}
 use Rattle.ms_queue.proofs.Puts.{put_gives}
 use Rattle.ms_queue.proofs.queue.Queue.put_swing_tail.Goals as goal
 
-pub returns-then-swap_step : goal.returns-then-swap_step
-returns-then-swap_step g c = λ x is.
-    let q = c.args.self.now in
-    let s = c.swap_step in
-    let w : ℕ = c.args.tail in
-    let k : ℕ = c.tag.result in
-    let e = ends_so (machine_of q) is.line (record { seat = s.new.seat }) w [] (c.if-swap_step.ensures.won refl) s.ensures.seat.0 (ends (Answer (Ok k))) (s.ensures.seat.1 ∙ is.line.at.has) (ap (λ (j : ℕ). ends (Answer (Ok j))) (sym c.tag.ensures.field)) refl in
-    (e.0, put_gives q x c.args.operation is.of (Ok k) e.1, e.2)
-
 pub returns : goal.returns
 returns g c = λ x is.
     let q = c.args.self.now in
-    let s = c.swap_step in
-    let lost = c.if-swap_step.ensures.lost refl in
-    let k : ℕ = c.tag-2.result in
-    let e = ends_so (machine_of q) is.line (record { seat = s.new.seat }) lost.found [] lost.steps s.ensures.seat.0 (ends (Answer (Ok k))) (s.ensures.seat.1 ∙ is.line.at.has) (ap (λ (j : ℕ). ends (Answer (Ok j))) (sym c.tag-2.ensures.field)) refl in
+    let s = c.attempt_step in
+    let k : ℕ = c.tag.result in
+    let e = ends_so (machine_of q) is.line (record { seat = s.new.seat }) s.ensures.steps.0 [] s.ensures.steps.1 s.ensures.seat.0 (ends (Answer (Ok k))) (s.ensures.seat.1 ∙ is.line.at.has) (ap (λ (j : ℕ). ends (Answer (Ok j))) (sym c.tag.ensures.field)) refl in
     (e.0, put_gives q x c.args.operation is.of (Ok k) e.1, e.2)

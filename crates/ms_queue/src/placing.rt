@@ -1,0 +1,194 @@
+//! Taking a cell and then a node for a value that is put, by steps.
+ghost use Rattle.std.specs.Prelude.{◌≡◌, [], ◌∷◌, Some, None};
+ghost use Rattle.ms_queue.specs.Putting.{IsPuttingAt, PutStep};
+ghost use Rattle.ms_queue.specs.declared.putting.PutAt.TheVariants.{LoadCells, LoadCellLink, TakeCell, LoadNodes, LoadNodeLink, TakeNode};
+
+use crate::giving::{Give, Held};
+use crate::putting::{PutAt, PutOp, Step};
+use crate::queue::{Pass, Queue};
+use crate::seeking::Seek;
+use bounded_model::{PutRefused, Stepped, Word};
+use index_list::{move_out, put_in};
+use queue_table::Operation;
+use queue_table::layout::{CELLS, NODES, cell_link, node_link};
+use running::{load_step, load_tagged_step, raised, swap_step, take_step};
+use tagged_index::{NULL, Tagged};
+
+impl<T> Queue<T> {
+    // The free cell, or why none can be had.
+    #[inline]
+    pub(crate) fn put_load_cells(&self, by: Pass<T>, operation: Operation<T>, value: T) -> Step<T>
+        requires { (x : T) × IsPuttingAt self.now x operation by (LoadCells value) }
+        ensures { (x : T) → IsPuttingAt self.now x operation by (LoadCells value) → PutStep self.now x operation by (LoadCells value) result }
+    {
+        let mut pass = by;
+        let cells = load_tagged_step(&self.table.shared, &mut pass.seat, CELLS, &operation);
+        if cells.index() == NULL {
+            return Stepped::Again(PutOp {
+                pass,
+                operation,
+                at: PutAt::Refusing(value, Seek::LoadTail),
+            });
+        }
+        if cells.tag() >= self.limits.tag_limit() {
+            let why = PutRefused::Spent(value, Word::Cells, cells.tag());
+            return Stepped::Done(pass, Err(why));
+        }
+        Stepped::Again(PutOp {
+            pass,
+            operation,
+            at: PutAt::LoadCellLink(value, cells),
+        })
+    }
+
+    #[inline]
+    pub(crate) fn put_load_cell_link(
+        &self,
+        by: Pass<T>,
+        operation: Operation<T>,
+        value: T,
+        cells: Tagged,
+    ) -> Step<T>
+        requires { (x : T) × IsPuttingAt self.now x operation by (LoadCellLink value cells) }
+        ensures { (x : T) → IsPuttingAt self.now x operation by (LoadCellLink value cells) → PutStep self.now x operation by (LoadCellLink value cells) result }
+    {
+        let mut pass = by;
+        let at = cell_link(cells.index());
+        let found = load_step(&self.table.shared, &mut pass.seat, at, &operation);
+        let link = found as u32;
+        Stepped::Again(PutOp {
+            pass,
+            operation,
+            at: PutAt::TakeCell(value, cells, link),
+        })
+    }
+
+    // With the cell comes its slot, and the value moves in.
+    #[inline]
+    pub(crate) fn put_take_cell(
+        &self,
+        by: Pass<T>,
+        operation: Operation<T>,
+        value: T,
+        cells: Tagged,
+        link: u32,
+    ) -> Step<T>
+        requires { (x : T) × IsPuttingAt self.now x operation by (TakeCell value cells link) }
+        ensures { (x : T) → IsPuttingAt self.now x operation by (TakeCell value cells link) → PutStep self.now x operation by (TakeCell value cells link) result }
+    {
+        let mut pass = by;
+        let new = raised(cells, link);
+        let table = &self.table.shared;
+        if take_step(table, &mut pass.seat, CELLS, cells, new, &operation) {
+            let cell = cells.index();
+            put_in(table, &mut pass.seat, cell, value);
+            return Stepped::Again(PutOp {
+                pass,
+                operation,
+                at: PutAt::LoadNodes(cell),
+            });
+        }
+        Stepped::Again(PutOp {
+            pass,
+            operation,
+            at: PutAt::LoadCells(value),
+        })
+    }
+
+    // A put that has a cell always finds a node with room; else the cell would be given back.
+    #[inline]
+    pub(crate) fn put_load_nodes(&self, by: Pass<T>, operation: Operation<T>, cell: u32) -> Step<T>
+        requires { (x : T) × IsPuttingAt self.now x operation by (LoadNodes cell) }
+        ensures { (x : T) → IsPuttingAt self.now x operation by (LoadNodes cell) → PutStep self.now x operation by (LoadNodes cell) result }
+    {
+        let mut pass = by;
+        let nodes = load_tagged_step(&self.table.shared, &mut pass.seat, NODES, &operation);
+        if nodes.index() == NULL {
+            let value = self.put_value_back(&mut pass, cell);
+            let why = PutRefused::Spent(value, Word::Nodes, nodes.tag());
+            return Stepped::Again(PutOp {
+                pass,
+                operation,
+                at: PutAt::GiveBack(why, Held { cell, node: 0 }, Give::LoadCells),
+            });
+        }
+        if nodes.tag() >= self.limits.tag_limit() {
+            let value = self.put_value_back(&mut pass, cell);
+            let why = PutRefused::Spent(value, Word::Nodes, nodes.tag());
+            return Stepped::Again(PutOp {
+                pass,
+                operation,
+                at: PutAt::GiveBack(why, Held { cell, node: 0 }, Give::LoadCells),
+            });
+        }
+        Stepped::Again(PutOp {
+            pass,
+            operation,
+            at: PutAt::LoadNodeLink(cell, nodes),
+        })
+    }
+
+    // Moves the value out of the slot of the cell in hand.
+    #[inline]
+    pub(crate) fn put_value_back(&self, by: &mut Pass<T>, cell: u32) -> T
+        requires table { by.old.seat.table_id ≡ self.now.table.shared.table_id }
+        requires full { (x : T) × (by.old.seat.me.1 ≡ (cell, Some x) ∷ []) }
+        ensures table { by.new.seat.table_id ≡ by.old.seat.table_id }
+        ensures value { by.old.seat.me.1 ≡ (cell, Some result) ∷ [] }
+        ensures out { by.new.seat.me ≡ (by.old.seat.me.0, (cell, None) ∷ []) }
+    {
+        move_out(&self.table.shared, &mut by.seat, cell)
+    }
+
+    #[inline]
+    pub(crate) fn put_load_node_link(
+        &self,
+        by: Pass<T>,
+        operation: Operation<T>,
+        cell: u32,
+        nodes: Tagged,
+    ) -> Step<T>
+        requires { (x : T) × IsPuttingAt self.now x operation by (LoadNodeLink cell nodes) }
+        ensures { (x : T) → IsPuttingAt self.now x operation by (LoadNodeLink cell nodes) → PutStep self.now x operation by (LoadNodeLink cell nodes) result }
+    {
+        let mut pass = by;
+        let at = node_link(nodes.index());
+        let found = load_step(&self.table.shared, &mut pass.seat, at, &operation);
+        let link = found as u32;
+        Stepped::Again(PutOp {
+            pass,
+            operation,
+            at: PutAt::TakeNode(cell, nodes, link),
+        })
+    }
+
+    #[inline]
+    pub(crate) fn put_take_node(
+        &self,
+        by: Pass<T>,
+        operation: Operation<T>,
+        cell: u32,
+        nodes: Tagged,
+        link: u32,
+    ) -> Step<T>
+        requires { (x : T) × IsPuttingAt self.now x operation by (TakeNode cell nodes link) }
+        ensures { (x : T) → IsPuttingAt self.now x operation by (TakeNode cell nodes link) → PutStep self.now x operation by (TakeNode cell nodes link) result }
+    {
+        let mut pass = by;
+        let new = raised(nodes, link);
+        let table = &self.table.shared;
+        if swap_step(table, &mut pass.seat, NODES, nodes, new, &operation) {
+            let node = nodes.index();
+            return Stepped::Again(PutOp {
+                pass,
+                operation,
+                at: PutAt::StoreCell(Held { cell, node }),
+            });
+        }
+        Stepped::Again(PutOp {
+            pass,
+            operation,
+            at: PutAt::LoadNodes(cell),
+        })
+    }
+}
