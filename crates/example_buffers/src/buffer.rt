@@ -1,9 +1,5 @@
 //! A buffer that is lent to one thread after another, and what a thread does with it.
 
-ghost use Rattle.std.specs.Prelude.{◌≡◌, IfOk, length};
-ghost use Rattle.example_buffers.specs.Lending.{Gives};
-ghost use Rattle.example_buffers.specs.declared.buffer.TheConstants.{SIZE};
-
 use bounded_model::{Container, PutRefused, TakeRefused};
 use std::alloc::{AllocError, Global};
 use std::sync::Wait;
@@ -20,18 +16,13 @@ pub struct Buffer {
 }
 
 impl Buffer {
-    /// A buffer that was never used.
-    pub fn new(alloc: Global) -> Result<Buffer, AllocError>
-        ensures { IfOk result (λ buffer. (length buffer.bytes.items ≡ SIZE) × (buffer.uses ≡ 0)) }
-    {
+    pub fn new(alloc: Global) -> Result<Buffer, AllocError> {
         let bytes = vec![in alloc; 0u8; SIZE]?;
         Ok(Buffer { bytes, uses: 0 })
     }
 
     /// How often it was used.
-    pub fn uses(&self) -> u64
-        ensures { result ≡ self.now.uses }
-    {
+    pub fn uses(&self) -> u64 {
         self.uses
     }
 
@@ -59,16 +50,10 @@ fn borrow<C: Container<Buffer>, R: Wait>(rt: &R, pool: &C, by: C::Pass) -> (C::P
     unreachable!()
 }
 
-/// Gives a buffer to the pool, however often that is full; answers whether it went in.
-pub fn give<C: Container<Buffer>, R: Wait>(
-    rt: &R,
-    pool: &C,
-    by: C::Pass,
-    buffer: Buffer,
-) -> (C::Pass, bool)
+/// Gives a buffer to the pool, however often that is full.
+pub fn give<C: Container<Buffer>, R: Wait>(rt: &R, pool: &C, by: C::Pass, buffer: Buffer) -> C::Pass
     requires { C.is_pass pool.now by }
-    ensures of { C.is_pass pool.now result.0 }
-    ensures gives { Gives (C.shape pool.now) (C.pass by) buffer (C.pass result.0) result.1 }
+    ensures { C.is_pass pool.now result }
 {
     let mut pass = by;
     let mut given = buffer;
@@ -76,12 +61,11 @@ pub fn give<C: Container<Buffer>, R: Wait>(
         let (back, answer) = pool.put(rt, pass, given);
         pass = back;
         match answer {
-            Ok(_) => return (pass, true),
             Err(PutRefused::Full(refused)) => {
                 given = refused;
                 thread::yield_now();
             }
-            Err(_) => return (pass, false),
+            _ => return pass,
         }
     }
     unreachable!()
@@ -99,7 +83,7 @@ pub fn use_pool<C: Container<Buffer>, R: Wait>(rt: &R, pool: &C, by: C::Pass, ti
             return back;
         };
         buffer.fill();
-        pass = give(rt, pool, back, buffer).0;
+        pass = give(rt, pool, back, buffer);
     }
     pass
 }

@@ -34,7 +34,7 @@ fn fill<R: Wait>(
     let mut pass = by;
     for _ in 0..buffers {
         let buffer = Buffer::new(alloc)?;
-        pass = give(rt, pool, pass, buffer).0;
+        pass = give(rt, pool, pass, buffer);
     }
     Ok(pass)
 }
