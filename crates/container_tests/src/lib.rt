@@ -15,6 +15,8 @@ mod pool;
 #[cfg(test)]
 mod queue;
 #[cfg(test)]
+mod queue_drops;
+#[cfg(test)]
 mod queue_steps;
 #[cfg(test)]
 mod queue_stops;
