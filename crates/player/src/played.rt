@@ -79,10 +79,10 @@ pub trait Played<'a>: Drop {
         by: Self::Pass,
         values: Values<'a>,
     ) -> Result<(Self::Pass, RangeReply, ValueList<'a>), AllocError>
-        requires order { (reading self.now).shape.order ≡ Lifo }
-        requires pass { (reading self.now).is_pass by }
+        requires { (reading self.now).is_pass by }
         ensures of { IfOk result (λ done. (reading self.now).is_pass done.0) }
-        ensures gives { IfOk result (λ done. RangeTold (reading self.now).shape
+        ensures gives { (reading self.now).shape.order ≡ Lifo
+            → IfOk result (λ done. RangeTold (reading self.now).shape
             ((reading self.now).pass by) ((reading self.now).pass done.0) values.entry done.1 done.2) };
 
     /// Takes all values by one exchange, where it is a stack, and answers them from the top down, or
@@ -94,10 +94,10 @@ pub trait Played<'a>: Drop {
         by: Self::Pass,
         reversed: bool,
     ) -> Result<(Self::Pass, Result<(u64, ValueList<'a>), TakeRefused>), AllocError>
-        requires order { (reading self.now).shape.order ≡ Lifo }
-        requires pass { (reading self.now).is_pass by }
+        requires { (reading self.now).is_pass by }
         ensures of { IfOk result (λ done. (reading self.now).is_pass done.0) }
-        ensures gives { IfOk result (λ done. FoldTold (reading self.now).shape reversed
+        ensures gives { (reading self.now).shape.order ≡ Lifo
+            → IfOk result (λ done. FoldTold (reading self.now).shape reversed
             ((reading self.now).pass by) ((reading self.now).pass done.0) done.1) };
 
     fn meet(&self, first: &mut Self::Pass, second: Self::Pass) -> (Self::Pass, bool)

@@ -14,26 +14,28 @@ use script::{RangeReply, Script, Value, ValueList, Values};
 use std::alloc::{AllocError, Global};
 use std::sync::Wait;
 
-/// No script of a queue has a range or a fold, so neither is ever called.
+/// A queue has no ranges and no folds, and no line of its script asks for one: the values come back,
+/// and nothing is taken.
 impl<'a> Ranges<'a> for Queue<Value<'a>> {
     fn range<R: Wait>(
         &self,
         _rt: &R,
-        _alloc: Global,
-        _by: Pass<Value<'a>>,
-        _values: Values<'a>,
+        alloc: Global,
+        by: Pass<Value<'a>>,
+        values: Values<'a>,
     ) -> Result<(Pass<Value<'a>>, RangeReply, ValueList<'a>), AllocError> {
-        unreachable!()
+        let places = values.to_places(alloc)?;
+        Ok((by, RangeReply::Nothing, ValueList::left_in(places)))
     }
 
     fn fold<R: Wait>(
         &self,
         _rt: &R,
         _alloc: Global,
-        _by: Pass<Value<'a>>,
+        by: Pass<Value<'a>>,
         _reversed: bool,
     ) -> Result<(Pass<Value<'a>>, Result<(u64, ValueList<'a>), TakeRefused>), AllocError> {
-        unreachable!()
+        Ok((by, Err(TakeRefused::Empty)))
     }
 }
 

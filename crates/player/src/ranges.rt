@@ -10,7 +10,7 @@ use std::alloc::{AllocError, Global};
 use std::sync::Wait;
 
 /// A container of values whose calls are made by single steps, with the ranges and folds that a
-/// script's lines name where it is a stack.
+/// script's lines name where it is a stack. No line of a queue's script asks for one.
 pub trait Ranges<'a>: Stepwise<Value<'a>> {
     /// Puts a range of values by one exchange. Answers the values that were not put, too.
     fn range<R: Wait>(
@@ -20,10 +20,10 @@ pub trait Ranges<'a>: Stepwise<Value<'a>> {
         by: Self::Pass,
         values: Values<'a>,
     ) -> Result<(Self::Pass, RangeReply, ValueList<'a>), AllocError>
-        requires order { (Self.shape self.now).order ≡ Lifo }
-        requires pass { Self.is_pass self.now by }
+        requires { Self.is_pass self.now by }
         ensures of { IfOk result (λ done. Self.is_pass self.now done.0) }
-        ensures gives { IfOk result (λ done. RangeTold (Self.shape self.now)
+        ensures gives { (Self.shape self.now).order ≡ Lifo
+            → IfOk result (λ done. RangeTold (Self.shape self.now)
             (Self.pass by) (Self.pass done.0) values.entry done.1 done.2) };
 
     /// Takes all values by one exchange, and answers them from the top down, or the other way round.
@@ -34,9 +34,9 @@ pub trait Ranges<'a>: Stepwise<Value<'a>> {
         by: Self::Pass,
         reversed: bool,
     ) -> Result<(Self::Pass, Result<(u64, ValueList<'a>), TakeRefused>), AllocError>
-        requires order { (Self.shape self.now).order ≡ Lifo }
-        requires pass { Self.is_pass self.now by }
+        requires { Self.is_pass self.now by }
         ensures of { IfOk result (λ done. Self.is_pass self.now done.0) }
-        ensures gives { IfOk result (λ done. FoldTold (Self.shape self.now) reversed
+        ensures gives { (Self.shape self.now).order ≡ Lifo
+            → IfOk result (λ done. FoldTold (Self.shape self.now) reversed
             (Self.pass by) (Self.pass done.0) done.1) };
 }

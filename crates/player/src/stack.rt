@@ -4,7 +4,7 @@ ghost use Rattle.std.specs.Prelude.{◌≡◌, IfOk, IsTrue, string_bytes, true,
 ghost use Rattle.std.specs.List.{AllByRecursion};
 ghost use Rattle.bounded_model.specs.declared.history.Order.TheVariants.{Lifo};
 ghost use Rattle.player.specs.Calls.{PlaysNew, numbered};
-ghost use Rattle.player.specs.Plays.{FoldTold, range_reply};
+ghost use Rattle.player.specs.Plays.{FoldTold, RangeTold, range_reply};
 ghost use Rattle.script.specs.Script.{FinishesLast, IsLine, is_allowed};
 ghost use Rattle.treiber_stack.specs.Stack.{IsPassOf, pass_in, shape_of};
 
@@ -24,10 +24,7 @@ impl<'a> Ranges<'a> for Stack<Value<'a>> {
         by: Pass<Value<'a>>,
         values: Values<'a>,
     ) -> Result<(Pass<Value<'a>>, RangeReply, ValueList<'a>), AllocError> {
-        let mut places = values.to_places(alloc)?;
-        let (pass, answer) = self.put_range(rt, by, &mut places);
-        let reply = reply_of(answer);
-        Ok((pass, reply, ValueList::left_in(places)))
+        put_values(self, rt, alloc, by, values)
     }
 
     fn fold<R: Wait>(
@@ -56,6 +53,25 @@ fn reply_of(answer: Result<Ranged, RangeRefused>) -> RangeReply
         Err(RangeRefused::Closed) => RangeReply::Closed,
         Err(RangeRefused::Spent(word, tag)) => RangeReply::Spent(word, tag),
     }
+}
+
+/// Puts a range of values by one exchange, and answers those that were not put, too.
+fn put_values<'a, R: Wait>(
+    stack: &Stack<Value<'a>>,
+    rt: &R,
+    alloc: Global,
+    by: Pass<Value<'a>>,
+    values: Values<'a>,
+) -> Result<(Pass<Value<'a>>, RangeReply, ValueList<'a>), AllocError>
+    requires { IsPassOf stack.now by }
+    ensures of { IfOk result (λ done. IsPassOf stack.now done.0) }
+    ensures gives { IfOk result (λ done. RangeTold (shape_of stack.now)
+        (pass_in by.entry) (pass_in done.0) values.entry done.1 done.2) }
+{
+    let mut places = values.to_places(alloc)?;
+    let (pass, answer) = stack.put_range(rt, by, &mut places);
+    let reply = reply_of(answer);
+    Ok((pass, reply, ValueList::left_in(places)))
 }
 
 /// The values with one more at the end, unless there was no memory for one of them.

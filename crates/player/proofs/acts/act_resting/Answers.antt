@@ -1,5 +1,5 @@
-use Rattle.std.proofs.Common.{refl, sym, arith}
-use Rattle.player.specs.Plays.{Resting, Acting}
+use Rattle.std.proofs.Common.{refl, sym, subst, arith}
+use Rattle.player.specs.Plays.{Resting, Acting, IsFor}
 use Rattle.bounded_model.specs.Stepping.{no_step}
 use Rattle.player.proofs.Showing.{since_none}
 use Rattle.player.proofs.acts.act_resting.Goals as goal
@@ -19,19 +19,22 @@ pub returns-in_ok-pass-in-Range : goal.returns-in_ok-pass-in-Range
 returns-in_ok-pass-in-Range g c =
     let r = g.C.Played.reading c.args.container.now in
     let done = c.in_ok-pass-in-Range in
-    rw c.in-Range.is (Resting (r.pass done.pass), (done.ensures.of, refl), done.ensures.gives)
+    let fits = subst (IsFor r.shape.order) c.in-Range.is c.requires.fits in
+    rw c.in-Range.is (Resting (r.pass done.pass), (done.ensures.of, refl), done.ensures.gives fits)
 
 pub returns-in_ok-pass-in-Fold : goal.returns-in_ok-pass-in-Fold
 returns-in_ok-pass-in-Fold g c =
     let r = g.C.Played.reading c.args.container.now in
     let done = c.in_ok-pass-in-Fold in
-    rw c.in-Fold.is (Resting (r.pass done.pass), (done.ensures.of, refl), done.ensures.gives)
+    let fits = subst (IsFor r.shape.order) c.in-Fold.is c.requires.fits in
+    rw c.in-Fold.is (Resting (r.pass done.pass), (done.ensures.of, refl), done.ensures.gives fits)
 
 pub returns-in_ok-pass-in-ReversedFold : goal.returns-in_ok-pass-in-ReversedFold
 returns-in_ok-pass-in-ReversedFold g c =
     let r = g.C.Played.reading c.args.container.now in
     let done = c.in_ok-pass-in-ReversedFold in
-    rw c.in-ReversedFold.is (Resting (r.pass done.pass), (done.ensures.of, refl), done.ensures.gives)
+    let fits = subst (IsFor r.shape.order) c.in-ReversedFold.is c.requires.fits in
+    rw c.in-ReversedFold.is (Resting (r.pass done.pass), (done.ensures.of, refl), done.ensures.gives fits)
 
 pub returns-in-Step : goal.returns-in-Step
 returns-in-Step g c =

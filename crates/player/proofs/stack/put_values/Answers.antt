@@ -2,7 +2,7 @@ use Rattle.std.proofs.Common.{ℕ, List, Option, subst, sym, ◌∙◌}
 use Rattle.std.specs.Prelude.{IsSome}
 use Rattle.std.specs.List.{AllByRecursion}
 use Rattle.player.proofs.Folding.{all_some}
-use Rattle.player.proofs.stack.StackValueRanges.range.Goals as goal
+use Rattle.player.proofs.stack.put_values.Goals as goal
 
 pub put_range-pass-requires-clause-values : goal.put_range-pass-requires-clause-values
 put_range-pass-requires-clause-values g c =
