@@ -9,7 +9,7 @@ use Rattle.stack_machine.specs.Machine.{is_idle, ends}
 use Rattle.stack_table.specs.declared.operation.Operation.{Operation}
 use Rattle.stack_table.specs.Lines.{access, next}
 use Rattle.stack_table.specs.Slots.{vacant}
-use Rattle.running.specs.Going.{Found, Steps, AtAccess, Ended, Missed}
+use Rattle.running.specs.Going.{Found, Steps, AtAccess, Going, Ended, Missed, begun_in}
 use Rattle.running.specs.Machine.{Access}
 use Rattle.running.specs.declared.passes.Pass.{Pass}
 use Rattle.running.proofs.Ways.{goes_on, ends_so, hits, misses}
@@ -75,3 +75,17 @@ one_node n i nodes e low = record {
   first_low = subst (λ (k : ℕ). k < n) (sym (ap (λ (x : Chain). x.first) e)) low;
   last_low = subst (λ (k : ℕ). k < n) (sym (ap (λ (x : Chain). x.last) e)) low;
 }
+
+-- a slot in hand has another value: the pass is where it was
+pub moved : {T : Type 0} (c : Stack T) (o : Operation T) (p q : Pass T (Line T)) (l : Line T) (had has : List (ℕ × Slot T)) → IsAt c o p l had → q.seat.table_id ≡ p.seat.table_id → q.seat.me ≡ (p.seat.me.0, has) → IsAt c o q l has × (begun_of c q ≡ begun_of c p)
+moved c o p q l had has at table me =
+    let view : q.seat.me.0 ≡ p.seat.me.0 = ap (λ x. x.0) me in (
+      record {
+        table = table ∙ at.table;
+        at = record {
+          has = ap (λ x. x.1) me;
+          going = subst (λ v. Going (machine_of c) o v (begun_in (machine_of c) v) l) (sym view) at.at.going;
+        };
+      },
+      ap (begun_in (machine_of c)) view,
+    )

@@ -4,3 +4,5 @@ pub mod Refusals
 pub mod Closes
 pub mod Gives
 pub mod Takes
+pub mod Places
+pub mod Puts

@@ -5,3 +5,5 @@ pub mod Closing
 pub mod Left
 pub mod Stepwise
 pub mod Taking
+pub mod Nodes
+pub mod Putting

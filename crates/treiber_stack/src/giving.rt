@@ -1,4 +1,5 @@
 //! Giving a chain of nodes back to the free list: after a take, a fold, or a put that is refused.
+ghost use Rattle.std.specs.Prelude.{◌≡◌};
 ghost use Rattle.stack_machine.specs.declared.lines.Giving.{Giving};
 ghost use Rattle.treiber_stack.specs.Giving.{IsGiving, Led, GaveBack};
 ghost use Rattle.treiber_stack.specs.declared.giving.Give.TheVariants.{Load, Link, Exchange};

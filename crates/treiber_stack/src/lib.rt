@@ -6,7 +6,9 @@ mod closing;
 mod ending;
 mod giving;
 mod making;
+mod nodes;
 mod pause;
+mod putting;
 mod refusing;
 mod rest;
 mod rule;
@@ -14,6 +16,7 @@ mod stack;
 mod taking;
 
 pub use closing::{CloseOp, ShutOp};
+pub use putting::PutOp;
 pub use rest::Rest;
 pub use rule::Stacked;
 pub use stack::{Pass, Root, Stack};

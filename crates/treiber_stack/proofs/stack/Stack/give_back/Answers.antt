@@ -36,7 +36,7 @@ give_step-requires-clause-access g c =
     let w : ℕ = s.result in
     let a = linked c.args.self.now c.args.operation.now c.loop.pass c.requires.0 c.args.chain i (record { seat = s.new.seat }) w s.ensures.steps s.ensures.seat.0 s.ensures.seat.1 (record { seat = t.new.seat }) _ t.ensures.steps t.ensures.seat.0 t.ensures.seat.1 in
     ready c.args.self.now c.args.operation.now (record { seat = t.new.seat }) (give_line c.requires.0 (Exchange w)) (vacant c.requires.0.chain) _ a.0.line
-    (λ k. swaps 0 (fields_of w) ((ap (λ (x : ℕ). kept (fields_of w) x) i.are.begins ∙ sym c.kept-new.ensures.fields) k) returns)
+    (λ k. swaps 0 (fields_of w) ((ap (λ (x : ℕ). kept (fields_of w) x) i.are.begins ∙ sym c.kept-new.ensures) k) returns)
 
 pub give_step-requires-clause-fits : goal.give_step-requires-clause-fits
 give_step-requires-clause-fits g c =
