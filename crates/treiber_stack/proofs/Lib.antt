@@ -6,3 +6,7 @@ pub mod Gives
 pub mod Takes
 pub mod Places
 pub mod Puts
+pub mod Stepping
+pub mod Folds
+pub mod Walking
+pub mod Turning

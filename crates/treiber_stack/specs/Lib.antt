@@ -7,3 +7,4 @@ pub mod Stepwise
 pub mod Taking
 pub mod Nodes
 pub mod Putting
+pub mod Folding

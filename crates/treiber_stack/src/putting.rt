@@ -1,12 +1,18 @@
 //! Putting one value: by steps, and by a whole call. While the put has a node, the value is in the
 //! node's slot; the name of its operation shows it to proofs.
-ghost use Rattle.std.specs.Prelude.{◌≡◌};
+ghost use Rattle.std.specs.Prelude.{◌≡◌, ◌<◌, [], ◌∷◌, None};
 ghost use Rattle.bounded_model.specs.Laws.{PutGives};
-ghost use Rattle.treiber_stack.specs.Stack.{IsPassOf, shape_of, pass_in, begun_of};
-ghost use Rattle.treiber_stack.specs.Putting.{IsPutting, IsPuttingAt, PutStep};
+ghost use Rattle.stack_machine.specs.declared.lines.Call.TheVariants.{Put as CallPut};
+ghost use Rattle.stack_machine.specs.declared.lines.Line.TheVariants.{LoadTop};
+ghost use Rattle.stack_table.specs.Lines.{call_of};
+ghost use Rattle.treiber_stack.specs.Stack.{IsPassOf, IsAt, room_of, shape_of, pass_in, begun_of};
+ghost use Rattle.treiber_stack.specs.Putting.{IsPutting, IsPuttingAt, PutStep, bearing, wanting};
+ghost use Rattle.treiber_stack.specs.Nodes.{Stops};
+ghost use Rattle.bounded_model.specs.declared.views.PassView.{PassView};
 ghost use Rattle.treiber_stack.specs.declared.putting.PutAt.TheVariants.{LoadFree, Link, Hold, Load, LinkTo, Exchange, Refuse, GiveBack};
 
 use crate::giving::{Chain, Gave, Give};
+use crate::nodes::NoNode;
 use crate::stack::{Pass, Stack};
 use bounded_model::{PutRefused, Stepped, Word};
 use index_list::{move_out, put_in};
@@ -14,6 +20,7 @@ use running::{give_step, load_step, load_tagged_step, raised, store_step, take_s
 use stack_table::layout::{FREE, TOP, link};
 use stack_table::{Listed, Operation};
 use std::snapshot::Snapshot;
+use std::sync::Wait;
 use tagged_index::{NULL, Tagged};
 
 /// A put that was begun.
@@ -234,6 +241,84 @@ impl<T> Stack<T> {
                 at: PutAt::GiveBack(why, index, at),
             }),
             Gave::All => Stepped::Done(pass, Err(why)),
+        }
+    }
+
+    // Puts the value into this node, which goes onto the top.
+    #[inline]
+    fn put_in_node<R: Wait>(
+        &self,
+        rt: &R,
+        by: Pass<T>,
+        index: u32,
+        value: T,
+        operation: &Operation<T>,
+    ) -> (Pass<T>, Result<u64, PutRefused<T>>)
+        requires of { call_of operation.now ≡ CallPut value [] }
+        requires at { IsAt self.now operation.now by (LoadTop (bearing value index)) ((index, None) ∷ []) × (index < room_of self.now) }
+        ensures { IsPassOf self.now result.0
+            × PutGives (shape_of self.now) (begun_of self.now by) value (pass_in result.0) result.1 }
+    {
+        let mut pass = by;
+        let table = &self.table.shared;
+        put_in(table, &mut pass.seat, index, value);
+        let chain = Chain::of(index);
+        let (pass, placed) = self.place(rt, pass, chain, operation);
+        match placed {
+            Ok(number) => (pass, Ok(number)),
+            Err(why) => {
+                let mut pass = pass;
+                let value = move_out(table, &mut pass.seat, index);
+                let pass = self.give_back(rt, pass, chain, operation);
+                (pass, Err(why.of_put(value)))
+            }
+        }
+    }
+
+    /// Puts a value by a whole call.
+    #[inline]
+    pub(crate) fn put_one<R: Wait>(
+        &self,
+        rt: &R,
+        by: Pass<T>,
+        value: T,
+    ) -> (Pass<T>, Result<u64, PutRefused<T>>)
+        requires { IsPassOf self.now by }
+        ensures { IsPassOf self.now result.0
+            × PutGives (shape_of self.now) (pass_in by) value (pass_in result.0) result.1 }
+    {
+        let operation = Operation::Put(Snapshot::of(&value), Listed::End);
+        let (pass, node) = self.take_free(rt, by, &operation);
+        match node {
+            Ok(index) => self.put_in_node(rt, pass, index, value, &operation),
+            Err(why) => self.put_without(pass, value, why, &operation),
+        }
+    }
+
+    // Why a put is refused that found no node.
+    #[inline]
+    fn put_without(
+        &self,
+        by: Pass<T>,
+        value: T,
+        why: NoNode,
+        operation: &Operation<T>,
+    ) -> (Pass<T>, Result<u64, PutRefused<T>>)
+        requires of { call_of operation.now ≡ CallPut value [] }
+        requires stops { (begun : PassView T) × Stops self.now operation.now begun by [] (wanting value) why }
+        ensures { (begun : PassView T) → Stops self.now operation.now begun by [] (wanting value) why → IsPassOf self.now result.0
+            × PutGives (shape_of self.now) begun value (pass_in result.0) result.1 }
+    {
+        let mut pass = by;
+        match why {
+            NoNode::Spent(tag) => (pass, Err(PutRefused::Spent(value, Word::Free, tag))),
+            NoNode::NoneFree => {
+                let top = load_tagged_step(&self.table.shared, &mut pass.seat, TOP, operation);
+                match self.bars_put(top) {
+                    Some(why) => (pass, Err(why.of_put(value))),
+                    None => (pass, Err(PutRefused::Full(value))),
+                }
+            }
         }
     }
 }

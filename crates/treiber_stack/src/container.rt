@@ -1,0 +1,80 @@
+//! A stack as a container. A whole call makes an operation's steps straight on, and again after each
+//! exchange that was lost.
+use crate::closing::Mark;
+use crate::rest::Rest;
+use crate::stack::{Pass, Root, Stack};
+use bounded_model::{Container, Order, PutRefused, TakeRefused};
+use std::sync::Wait;
+
+impl<T: Drop + Send> Container<T> for Stack<T> {
+    ghost use Rattle.std.proofs.Common.{refl};
+    ghost use Rattle.bounded_model.specs.declared.history.Order.TheVariants.{Lifo};
+    ghost use Rattle.treiber_stack.specs.Stack.{shape_of, IsPassOf, IsRootOf, pass_in, root_in};
+
+    type Root = Root<T>;
+
+    type Pass = Pass<T>;
+
+    type Rest = Rest<T>;
+
+    const ORDER: Order = Order::Lifo;
+
+    ghost ORDER = { Lifo };
+
+    ghost shape = { shape_of };
+
+    ghost is_pass = { IsPassOf };
+
+    ghost is_root = { IsRootOf };
+
+    ghost pass = { pass_in };
+
+    ghost root = { root_in };
+
+    ghost order_law = { λ c. refl };
+
+    ghost pass_law = { λ c p is. is.rests.rests };
+
+    ghost root_law = { λ c r is. is.sound };
+
+    #[inline]
+    fn capacity(&self) -> u32 {
+        self.limits.capacity()
+    }
+
+    /// The new pass has seen what the root has.
+    fn split(&self, parent: &mut Root<T>) -> Option<Pass<T>> {
+        running::split(&self.table.shared, parent)
+    }
+
+    fn put<R: Wait>(&self, rt: &R, by: Pass<T>, value: T) -> (Pass<T>, Result<u64, PutRefused<T>>) {
+        self.put_one(rt, by, value)
+    }
+
+    fn take<R: Wait>(&self, rt: &R, by: Pass<T>) -> (Pass<T>, Result<(T, u64), TakeRefused>) {
+        self.take_one(rt, by)
+    }
+
+    fn close<R: Wait>(&self, rt: &R, by: Pass<T>) -> (Pass<T>, bool) {
+        self.set_mark(rt, by, Mark::Closed)
+    }
+
+    fn shut<R: Wait>(&self, rt: &R, by: Pass<T>) -> (Pass<T>, bool) {
+        self.set_mark(rt, by, Mark::Shut)
+    }
+
+    /// The answer is always true, since the table never lacks a seat.
+    fn meet(&self, first: &mut Pass<T>, second: Pass<T>) -> (Pass<T>, bool) {
+        running::meet(&self.table.shared, first, second)
+    }
+
+    fn join(&self, parent: &mut Root<T>, by: Pass<T>) {
+        running::join(&self.table.shared, parent, by)
+    }
+
+    /// From the top down. A value that was out with a pass which stopped in mid-operation is not
+    /// among what is left, and is dropped with the rest.
+    fn finish(self, parent: Root<T>) -> Rest<T> {
+        self.end(parent)
+    }
+}
