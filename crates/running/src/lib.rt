@@ -13,4 +13,5 @@ mod steps;
 pub use lists::{ListMachine, take_first};
 pub use passes::{Pass, Root, join, meet, split};
 pub use rule::{Machine, Running};
+pub use seats::peek;
 pub use steps::{give_step, load_step, load_tagged_step, raised, store_step, swap_step, take_step};

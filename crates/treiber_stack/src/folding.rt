@@ -79,14 +79,20 @@ impl<T> Stack<T> {
         let mut pass = by;
         let mut pause = Pause::new();
         let table = &self.table.shared;
-        let operation = Operation::Fold(front);
         for _ in rt.forever() {
-            let top = load_tagged_step(table, &mut pass.seat, TOP, &operation);
+            let top = load_tagged_step(table, &mut pass.seat, TOP, &Operation::Fold(front));
             if let Some(why) = self.bars_take(top) {
                 return (pass, Err(why));
             }
             let new = raised(top, NULL);
-            if take_step(table, &mut pass.seat, TOP, top, new, &operation) {
+            if take_step(
+                table,
+                &mut pass.seat,
+                TOP,
+                top,
+                new,
+                &Operation::Fold(front),
+            ) {
                 return (pass, Ok(top));
             }
             pause.wait();
@@ -114,12 +120,18 @@ impl<T> Stack<T> {
         let mut above = NULL;
         let mut index = top.index();
         let table = &self.table.shared;
-        let operation = Operation::Fold(Front::Last);
         for _ in 0..self.limits.capacity() {
-            let found = load_step(table, &mut pass.seat, link(index), &operation);
+            let at = link(index);
+            let found = load_step(table, &mut pass.seat, at, &Operation::Fold(Front::Last));
             let below = found as u32;
             let upper = above as u64;
-            store_step(table, &mut pass.seat, link(index), upper, &operation);
+            store_step(
+                table,
+                &mut pass.seat,
+                at,
+                upper,
+                &Operation::Fold(Front::Last),
+            );
             if below == NULL {
                 return (pass, index);
             }
@@ -160,11 +172,12 @@ impl<T> Stack<T> {
         let mut pass = by;
         let mut folded = state;
         let mut index = first;
-        let operation = Operation::Fold(front);
+        let table = &self.table.shared;
         for before in 0..self.limits.capacity() {
             let value = self.take_out(&mut pass, index);
             folded = f(folded, value);
-            let found = load_step(&self.table.shared, &mut pass.seat, link(index), &operation);
+            let at = link(index);
+            let found = load_step(table, &mut pass.seat, at, &Operation::Fold(front));
             let next = found as u32;
             if next == NULL {
                 return Walked {

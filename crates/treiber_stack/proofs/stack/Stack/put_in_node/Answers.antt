@@ -54,6 +54,21 @@ returns-in-Ok g c =
     let e = subst (Places stack o (begun_of stack (record { seat = c.put_in.new.seat })) put c.place-pass.result.0) c.in-Ok.is (c.place-pass.ensures put is) in
     (e.0, subst (λ (v : PassView _). PutGives (shape_of stack) v x (pass_in c.place-pass.result.0) (Ok c.in-Ok.number)) at.1 (put_gives stack x o c.requires.of (Ok c.in-Ok.number) e.1))
 
+pub move_out-value-requires-clause-table : goal.move_out-value-requires-clause-table
+move_out-value-requires-clause-table g c =
+    let stack = c.args.self.now in
+    let o = c.args.operation.now in
+    let i : ℕ = c.args.index in
+    let x = c.args.value in
+    let put = bearing x i in
+    let p = c.requires.at.0 in
+    let low = c.requires.at.1 in
+    let q = c.put_in.new.seat in
+    let at = moved stack o c.args.by (record { seat = c.put_in.new.seat }) (LoadTop put) ((i, None) ∷ []) ((i, Some x) ∷ []) p c.put_in.ensures.seat.0 (c.put_in.ensures.put ∙ ap (λ (zs : List (ℕ × Slot _)). (c.args.by.seat.me.0, (i, Some x) ∷ rest zs)) p.at.has) in
+    let is : IsPlacing stack o (record { seat = c.put_in.new.seat }) put c.of-chain.result = record { at = at.0; are = one_node (room_of stack) i c.of-chain.result c.of-chain.ensures low } in
+    let e = subst (Places stack o (begun_of stack (record { seat = c.put_in.new.seat })) put c.place-pass.result.0) c.in-Err.is (c.place-pass.ensures put is) in
+    e.0.table
+
 pub move_out-value-requires-clause-full : goal.move_out-value-requires-clause-full
 move_out-value-requires-clause-full g c =
     let stack = c.args.self.now in

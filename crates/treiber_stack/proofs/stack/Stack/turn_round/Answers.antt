@@ -14,8 +14,8 @@ use Rattle.treiber_stack.proofs.stack.Stack.turn_round.Goals as goal
 pub loop-init : goal.loop-init
 loop-init g c = (turn_start c.args.self.now c.args.top c.args.by c.index-index.result c.index-index.ensures.field c.requires, refl)
 
-pub link-requires : goal.link-requires
-link-requires g c = let low = turn_low c.args.self.now c.args.top c.loop.pass c.loop.counter c.loop.above c.loop.index c.loop.invariant.0 in let most = c.args.self.now.table.shared.key.capacity_in_range in omega arith
+pub link-at-requires : goal.link-at-requires
+link-at-requires g c = let low = turn_low c.args.self.now c.args.top c.loop.pass c.loop.counter c.loop.above c.loop.index c.loop.invariant.0 in let most = c.args.self.now.table.shared.key.capacity_in_range in omega arith
 
 pub load_step-found-requires-clause-table : goal.load_step-found-requires-clause-table
 load_step-found-requires-clause-table g c =
@@ -23,13 +23,13 @@ load_step-found-requires-clause-table g c =
     let t = c.loop.invariant.0 in
     let low = turn_low stack c.args.top c.loop.pass c.loop.counter c.loop.above c.loop.index t in
     let words = stack.words in
-    let at = c.link.ensures in
+    let at = c.link-at.ensures in
     (t.at.table, omega arith)
 
 pub load_step-found-requires-clause-access : goal.load_step-found-requires-clause-access
 load_step-found-requires-clause-access g c =
     let t = c.loop.invariant.0 in
-    ready c.args.self.now (FoldFirst Last) c.loop.pass (LoadLinkToTurn (folding t.chain (reverse t.values) c.args.top) c.loop.above c.loop.index) (full (reverse t.chain) (reverse t.values)) _ t.at (λ y. loads (sym c.link.ensures y))
+    ready c.args.self.now (FoldFirst Last) c.loop.pass (LoadLinkToTurn (folding t.chain (reverse t.values) c.args.top) c.loop.above c.loop.index) (full (reverse t.chain) (reverse t.values)) _ t.at (λ y. loads (sym c.link-at.ensures y))
 
 pub overflow_cast-below : goal.overflow_cast-below
 overflow_cast-below g c =
@@ -40,6 +40,15 @@ overflow_cast-below g c =
     let low = below_low stack w c.loop.pass c.loop.counter c.loop.above c.loop.index t (record { seat = s.new.seat }) s.result s.ensures.steps s.ensures.seat.0 s.ensures.seat.1 in
     omega arith
 
+pub store_step-requires-clause-table : goal.store_step-requires-clause-table
+store_step-requires-clause-table g c =
+    let stack = c.args.self.now in
+    let t = c.loop.invariant.0 in
+    let low = turn_low stack c.args.top c.loop.pass c.loop.counter c.loop.above c.loop.index t in
+    let words = stack.words in
+    let at = c.link-at.ensures in
+    (c.load_step-found.ensures.seat.0 ∙ t.at.table, omega arith)
+
 pub store_step-requires-clause-access : goal.store_step-requires-clause-access
 store_step-requires-clause-access g c =
     let stack = c.args.self.now in
@@ -47,7 +56,7 @@ store_step-requires-clause-access g c =
     let t = c.loop.invariant.0 in
     let s = c.load_step-found in
     let a = seen_link stack w c.loop.pass c.loop.counter c.loop.above c.loop.index t (record { seat = s.new.seat }) s.result s.ensures.steps s.ensures.seat.0 s.ensures.seat.1 in
-    ready stack (FoldFirst Last) (record { seat = s.new.seat }) (TurnLink (folding t.chain (reverse t.values) w) c.loop.above c.loop.index s.result) (full (reverse t.chain) (reverse t.values)) _ a.0 (λ y. stores (sym c.link-2.ensures y) c.loop.above)
+    ready stack (FoldFirst Last) (record { seat = s.new.seat }) (TurnLink (folding t.chain (reverse t.values) w) c.loop.above c.loop.index s.result) (full (reverse t.chain) (reverse t.values)) _ a.0 (λ y. stores (sym c.link-at.ensures y) c.loop.above)
 
 pub store_step-requires-clause-plain : goal.store_step-requires-clause-plain
 store_step-requires-clause-plain g c = c.loop.invariant.0.small

@@ -20,8 +20,8 @@ take_out-value-requires-clause-full g c =
     let i = c.loop-before.invariant in
     front_full c.args.self.now c.args.front c.args.top c.loop-before.pass i.0 c.args.first c.loop-before.before c.loop-before.index i.1
 
-pub link-requires : goal.link-requires
-link-requires g c = let i = c.loop-before.invariant in let low = index_low c.args.self.now c.args.front c.args.top c.loop-before.pass i.0 c.args.first c.loop-before.before c.loop-before.index i.1 in let most = c.args.self.now.table.shared.key.capacity_in_range in omega arith
+pub link-at-requires : goal.link-at-requires
+link-at-requires g c = let i = c.loop-before.invariant in let low = index_low c.args.self.now c.args.front c.args.top c.loop-before.pass i.0 c.args.first c.loop-before.before c.loop-before.index i.1 in let most = c.args.self.now.table.shared.key.capacity_in_range in omega arith
 
 pub load_step-found-requires-clause-table : goal.load_step-found-requires-clause-table
 load_step-found-requires-clause-table g c =
@@ -33,7 +33,7 @@ load_step-found-requires-clause-table g c =
     let x = c.take_out-value.result in
     let low = index_low stack front w c.loop-before.pass i.0 c.args.first c.loop-before.before c.loop-before.index i.1 in
     let words = stack.words in
-    let at = c.link.ensures in
+    let at = c.link-at.ensures in
     (e.table ∙ i.1.at.table, omega arith)
 
 pub load_step-found-requires-clause-access : goal.load_step-found-requires-clause-access
@@ -45,7 +45,7 @@ load_step-found-requires-clause-access g c =
     let e = c.take_out-value.ensures in
     let x = c.take_out-value.result in
     let a = taken_out stack front w c.loop-before.pass i.0 c.args.first c.loop-before.before c.loop-before.index i.1 c.take_out-value.new.by x e.table e.value e.out in
-    ready stack (FoldFirst front) c.take_out-value.new.by (LoadLinkToFold (folding i.1.chain i.1.folded w) c.loop-before.index) _ _ a.0 (λ y. loads (sym c.link.ensures y))
+    ready stack (FoldFirst front) c.take_out-value.new.by (LoadLinkToFold (folding i.1.chain i.1.folded w) c.loop-before.index) _ _ a.0 (λ y. loads (sym c.link-at.ensures y))
 
 pub overflow_cast-next : goal.overflow_cast-next
 overflow_cast-next g c =
