@@ -6,6 +6,7 @@ use Rattle.bounded_model.specs.declared.answers.TakeRefused.{TakeRefused}
 use Rattle.bounded_model.specs.declared.history.Event.TheVariants.{TakeAll, Free}
 use Rattle.bounded_model.specs.declared.views.PassView.{PassView}
 use Rattle.bounded_model.specs.Histories.{own}
+use Rattle.bounded_model.specs.Consumes.{Folds}
 use Rattle.bounded_model.specs.Laws.{TakesNothing, FoldGives}
 use Rattle.index_list.specs.declared.front.Front.{Front}
 use Rattle.index_list.specs.Steps.{numbers}
@@ -30,8 +31,9 @@ use Rattle.stack_table.proofs.Slots.{in_order_twice, length_in_order, numbers_fu
 use Rattle.running.specs.Going.{Ended, Found, Missed, Brings}
 use Rattle.running.specs.declared.passes.Pass.{Pass}
 use Rattle.running.proofs.Ways.{goes_on, ends_so, hits, misses}
+use Rattle.treiber_stack.specs.declared.folding.Walked.{Walked}
 use Rattle.treiber_stack.specs.declared.stack.Stack.{Stack}
-use Rattle.treiber_stack.specs.Folding.{IsTaken}
+use Rattle.treiber_stack.specs.Folding.{IsTaken, Walks}
 use Rattle.treiber_stack.specs.Refusing.{AllowsTake, RefusesTake}
 use Rattle.treiber_stack.specs.Stack.{room_of, limit_of, machine_of, shape_of, pass_in, begun_of, IsPassOf, IsAt, WentOn}
 use Rattle.treiber_stack.proofs.Closes.{adds_of}
@@ -106,3 +108,6 @@ module _ {T : Type 0} (c : Stack T) (front : Front) where
         no_more : (zs : List (ℕ × Slot T)) → zs ++ [] ≡ zs
         no_more [] = refl
         no_more (z ∷ zs) = ap (λ (ys : List (ℕ × Slot T)). z ∷ ys) (no_more zs)
+
+pub folds_in_order : {T S : Type 0} {c : Stack T} {front : Front} {w : ℕ} {Gives : S → T → S → Type 0} {p : Pass T (Line T)} {s : S} {r : Walked T S} (told : Walks c front w Gives p s r) (values : List T) → told.folded ≡ in_order (direction front) values → Folds Gives s (in_order (direction front) values) r.state
+folds_in_order {Gives = Gives} {s = s} {r = r} told values e = subst (λ (us : List _). Folds Gives s us r.state) e told.folds

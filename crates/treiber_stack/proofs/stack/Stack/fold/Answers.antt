@@ -1,12 +1,12 @@
 use Rattle.std.proofs.Common.{◌≡◌, ℕ, List, length, sym, ap, ◌∙◌, subst}
 use Rattle.bounded_model.specs.declared.views.PassView.{PassView}
 use Rattle.bounded_model.specs.Laws.{FoldGives}
-use Rattle.bounded_model.specs.Consumes.{Folds}
 use Rattle.stack_table.specs.Lines.{direction}
 use Rattle.stack_table.proofs.Slots.{length_in_order}
 use Rattle.treiber_stack.specs.Folding.{folding, TakesChain}
 use Rattle.treiber_stack.specs.Stack.{pass_in, begun_of}
-use Rattle.treiber_stack.proofs.Folds.{fold_gives}
+use Rattle.tagged_index.specs.Fields.{tag_of}
+use Rattle.treiber_stack.proofs.Folds.{fold_gives, folds_in_order}
 use Rattle.treiber_stack.proofs.stack.Stack.fold.Goals as goal
 
 pub give_back-pass-requires : goal.give_back-pass-requires
@@ -30,9 +30,9 @@ returns-in-Ok-clause-gives g c =
     let taken = subst (TakesChain stack front c.args.by c.take_chain-pass.result.0) c.in-Ok.is c.take_chain-pass.ensures in
     let begun : begun_of stack walked.pass ≡ pass_in c.args.by = told.begun ∙ c.first_of-pass.ensures.1 ∙ taken.1 in
     let e = (c.give_back-pass.ensures (folding told.chain told.folded w) told.emptied).1 in
-    let r = fold_gives stack front told.folded _ e in (
+    let r = fold_gives stack front told.folded (tag_of w) e in (
       r.values,
-      subst (λ (k : ℕ). FoldGives (pass_in c.args.by) (pass_in end) r.values k) (sym c.tag-number.ensures.field) (subst (λ (v : PassView _). FoldGives v (pass_in end) r.values _) begun r.gives),
+      subst (λ (k : ℕ). FoldGives (pass_in c.args.by) (pass_in end) r.values k) (sym c.tag-number.ensures.field) (subst (λ (v : PassView _). FoldGives v (pass_in end) r.values (tag_of w)) begun r.gives),
       told.counted ∙ ap length r.order ∙ length_in_order (direction front) r.values,
-      subst (λ (us : List _). Folds _ _ us walked.state) r.order told.folds,
+      folds_in_order told r.values r.order,
     )
