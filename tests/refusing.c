@@ -1,7 +1,9 @@
 /* Stands between the program and the C library, where a test asks for it by the environment:
    REFUSED_ALLOCATION=N refuses the Nth allocation, REFUSED_FROM=N that and all later ones, REFUSED_THREAD=N the Nth
-   thread; SEEN=FILE gets one byte for each of these calls: 'm' an allocation, 't' a thread, '1' and '2' a write to
-   standard output and error, and 'x' behind a call that was refused. */
+   thread, REFUSED_READ=N the Nth read, REFUSED_WRITE=N the Nth write to standard output; IN_PIECES=1 interrupts every
+   other one of these reads and writes, and has the others move one byte. SEEN=FILE gets one byte for each of these
+   calls: 'm' an allocation, 't' a thread, 'r' a read, '1' and '2' a write to standard output and error, 'x' behind a
+   call that was refused, and at the end a 'k' for each block of memory that is kept. */
 #define _GNU_SOURCE
 #include <dlfcn.h>
 #include <errno.h>
@@ -9,15 +11,17 @@
 #include <pthread.h>
 #include <stdatomic.h>
 #include <stddef.h>
+#include <stdint.h>
 #include <stdlib.h>
 #include <sys/syscall.h>
 #include <unistd.h>
 
 extern void *__libc_malloc(size_t);
 extern void *__libc_realloc(void *, size_t);
+extern void __libc_free(void *);
 
-static atomic_long allocations, threads;
-static long refused_allocation, refused_from, refused_thread;
+static atomic_long allocations, threads, reads, writes;
+static long refused_allocation, refused_from, refused_thread, refused_read, refused_write, in_pieces;
 static int seen = -1;
 
 static long number_in(const char *name) {
@@ -29,6 +33,9 @@ __attribute__((constructor)) static void start(void) {
     refused_allocation = number_in("REFUSED_ALLOCATION");
     refused_from = number_in("REFUSED_FROM");
     refused_thread = number_in("REFUSED_THREAD");
+    refused_read = number_in("REFUSED_READ");
+    refused_write = number_in("REFUSED_WRITE");
+    in_pieces = number_in("IN_PIECES");
     if (getenv("SEEN"))
         seen = open(getenv("SEEN"), O_WRONLY | O_CREAT | O_APPEND, 0600);
 }
@@ -36,6 +43,42 @@ __attribute__((constructor)) static void start(void) {
 static void tell(char what) {
     if (seen >= 0)
         syscall(SYS_write, seen, &what, 1);
+}
+
+/* The blocks that are kept: a table of addresses, in which a block that was given back leaves a mark. */
+enum { PLACES = 1 << 16 };
+static _Atomic(uintptr_t) kept[PLACES];
+static const uintptr_t LEFT = 1;
+
+static size_t place_of(uintptr_t block, size_t tries) {
+    return (block / 16 + tries) % PLACES;
+}
+
+static void *keep(void *block) {
+    for (size_t tries = 0; block && tries < PLACES; tries++) {
+        _Atomic(uintptr_t) *place = &kept[place_of((uintptr_t)block, tries)];
+        uintptr_t found = atomic_load(place);
+        if (found <= LEFT && atomic_compare_exchange_strong(place, &found, (uintptr_t)block))
+            break;
+    }
+    return block;
+}
+
+static void leave(void *block) {
+    for (size_t tries = 0; block && tries < PLACES; tries++) {
+        _Atomic(uintptr_t) *place = &kept[place_of((uintptr_t)block, tries)];
+        uintptr_t found = atomic_load(place);
+        if (found == (uintptr_t)block)
+            atomic_store(place, LEFT);
+        if (found == (uintptr_t)block || !found)
+            break;
+    }
+}
+
+__attribute__((destructor)) static void end(void) {
+    for (size_t place = 0; place < PLACES; place++)
+        if (kept[place] > LEFT)
+            tell('k');
 }
 
 static int is_refused(void) {
@@ -49,11 +92,19 @@ static int is_refused(void) {
 }
 
 void *malloc(size_t size) {
-    return is_refused() ? NULL : __libc_malloc(size);
+    return is_refused() ? NULL : keep(__libc_malloc(size));
 }
 
 void *realloc(void *old, size_t size) {
-    return is_refused() ? NULL : __libc_realloc(old, size);
+    if (is_refused())
+        return NULL;
+    leave(old);
+    return keep(__libc_realloc(old, size));
+}
+
+void free(void *block) {
+    leave(block);
+    __libc_free(block);
 }
 
 int pthread_create(pthread_t *thread, const pthread_attr_t *how, void *(*start)(void *), void *given) {
@@ -68,10 +119,33 @@ int pthread_create(pthread_t *thread, const pthread_attr_t *how, void *(*start)(
     return create(thread, how, start, given);
 }
 
-ssize_t write(int to, const void *bytes, size_t count) {
+/* How many bytes call number `count` of a kind may move; -1 where it is refused or interrupted. */
+static ssize_t room(long count, long refused, size_t wanted) {
+    if (count == refused) {
+        tell('x');
+        errno = EIO;
+        return -1;
+    }
+    if (in_pieces && count % 2) {
+        errno = EINTR;
+        return -1;
+    }
+    return in_pieces && wanted ? 1 : (ssize_t)wanted;
+}
+
+ssize_t read(int from, void *bytes, size_t wanted) {
+    tell('r');
+    ssize_t count = room(atomic_fetch_add(&reads, 1) + 1, refused_read, wanted);
+    return count < 0 ? count : syscall(SYS_read, from, bytes, (size_t)count);
+}
+
+ssize_t write(int to, const void *bytes, size_t wanted) {
+    ssize_t count = (ssize_t)wanted;
     if (to == 1 || to == 2)
         tell(to == 1 ? '1' : '2');
-    return syscall(SYS_write, to, bytes, count);
+    if (to == 1)
+        count = room(atomic_fetch_add(&writes, 1) + 1, refused_write, wanted);
+    return count < 0 ? count : syscall(SYS_write, to, bytes, (size_t)count);
 }
 
 ssize_t __write(int to, const void *bytes, size_t count) {

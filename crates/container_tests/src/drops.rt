@@ -1,8 +1,10 @@
-//! Each value is dropped once, whether it was taken or left.
+//! Each value is dropped once: whether it was taken or left, and wherever a pass stops that has it.
 
 ghost use Rattle.std.specs.Prelude.{IfOk};
 
-use bounded_model::Container;
+use crate::made::{Made, empty_one};
+use crate::steps::{put_on, take_on};
+use bounded_model::{Container, Leaving};
 use std::process::Abort;
 use std::sync::{Arc, Wait};
 use std::test::Fail;
@@ -48,35 +50,133 @@ fn fill<C: Container<Arc<u8>>, R: Abort + Wait>(
     Ok(pass)
 }
 
-/// Values go in and out, a few stay, and the container is dropped with them: each is dropped once.
-pub(crate) fn each_value_once<C: Container<Arc<u8>>, R: Abort + Wait>(
+/// Values go in and out, a few stay, and the container is dropped with them.
+pub(crate) fn each_value_once<C: Made<Arc<u8>>, R: AllocGlobal + Abort + Wait>(
     rt: &R,
-    container: C,
-    root: C::Root,
-    value: &Arc<u8>,
     dice: &mut Dice,
-) -> Result<(), Fail>
-    requires { C.is_root container root }
-{
-    let mut root = root;
+) -> Result<(), Fail> {
+    let value = Arc::new(rt.alloc(), 7u8)?;
+    let (container, mut root) = empty_one::<Arc<u8>, C>(rt.alloc(), 50)?;
     let mut pass = container.split(&mut root).ok_or("no pass")?;
-    let room = u64::from(container.capacity());
-    let through = dice.below(room);
-    pass = fill(rt, &container, pass, value, through)?;
-    assert_eq!(rt; Arc::strong_count(value) as u64, through.saturating_add(1));
+    let through = dice.below(50);
+    pass = fill(rt, &container, pass, &value, through)?;
+    assert_eq!(rt; Arc::strong_count(&value) as u64, through.saturating_add(1));
     for _ in 0..through {
         let (back, taken) = container.take(rt, pass);
         assert!(rt; taken.is_ok());
         drop(taken);
         pass = back;
     }
-    assert_eq!(rt; Arc::strong_count(value), 1);
-    let left = dice.below(room);
-    pass = fill(rt, &container, pass, value, left)?;
-    assert_eq!(rt; Arc::strong_count(value) as u64, left.saturating_add(1));
+    assert_eq!(rt; Arc::strong_count(&value), 1);
+    let left = dice.below(50);
+    pass = fill(rt, &container, pass, &value, left)?;
+    assert_eq!(rt; Arc::strong_count(&value) as u64, left.saturating_add(1));
     drop(pass);
     drop(root);
     drop(container);
-    assert_eq!(rt; Arc::strong_count(value), 1);
+    assert_eq!(rt; Arc::strong_count(&value), 1);
     Ok(())
+}
+
+/// A refused put hands its value back, and a take hands one out: each drops it there.
+pub(crate) fn in_use<C: Made<Arc<u8>>, R: AllocGlobal + Abort + Wait>(rt: &R) -> Result<(), Fail> {
+    let value = Arc::new(rt.alloc(), 7u8)?;
+    let (container, mut root) = empty_one::<Arc<u8>, C>(rt.alloc(), 2)?;
+    let pass = container.split(&mut root).ok_or("no pass")?;
+    let pass = fill(rt, &container, pass, &value, 2)?;
+    let (pass, full) = container.put(rt, pass, Arc::try_clone(&value)?);
+    assert_eq!(rt; Arc::strong_count(&value), 4);
+    drop(full);
+    assert_eq!(rt; Arc::strong_count(&value), 3);
+    let (_, taken) = container.take(rt, pass);
+    assert_eq!(rt; Arc::strong_count(&value), 3);
+    drop(taken);
+    assert_eq!(rt; Arc::strong_count(&value), 2);
+    drop(root);
+    drop(container);
+    assert_eq!(rt; Arc::strong_count(&value), 1);
+    Ok(())
+}
+
+/// What is left is read by one value, and the rest is dropped with the others.
+pub(crate) fn half_read<C: Made<Arc<u8>>, R: AllocGlobal + Abort + Wait>(
+    rt: &R,
+) -> Result<(), Fail> {
+    let value = Arc::new(rt.alloc(), 7u8)?;
+    let (container, mut root) = empty_one::<Arc<u8>, C>(rt.alloc(), 3)?;
+    let pass = container.split(&mut root).ok_or("no pass")?;
+    let pass = fill(rt, &container, pass, &value, 3)?;
+    container.join(&mut root, pass);
+    let mut rest = container.finish(root);
+    let first = rest.next();
+    assert!(rt; first.is_some());
+    assert_eq!(rt; Arc::strong_count(&value), 4);
+    drop(first);
+    assert_eq!(rt; Arc::strong_count(&value), 3);
+    drop(rest);
+    assert_eq!(rt; Arc::strong_count(&value), 1);
+    Ok(())
+}
+
+/// A put is dropped after so many steps, and then the container. Answers how many owners its value
+/// has between the two, beside the test.
+pub(crate) fn dropped_put<C: Made<Arc<u8>>, R: AllocGlobal + Abort>(
+    rt: &R,
+    steps: u32,
+) -> Result<usize, Fail> {
+    let value = Arc::new(rt.alloc(), 7u8)?;
+    let (container, mut root) = empty_one::<Arc<u8>, C>(rt.alloc(), 2)?;
+    let pass = container.split(&mut root).ok_or("no pass")?;
+    let begun = container.begin_put(pass, Arc::try_clone(&value)?);
+    let op = put_on::<Arc<u8>, C, R>(rt, &container, begun, steps);
+    assert_eq!(rt; Arc::strong_count(&value), 2);
+    drop(op);
+    let kept = Arc::strong_count(&value).saturating_sub(1);
+    drop(root);
+    drop(container);
+    assert_eq!(rt; Arc::strong_count(&value), 1);
+    Ok(kept)
+}
+
+/// The same of a put that is overtaken by a close after its first steps, and of what is left in the
+/// place of the container.
+pub(crate) fn dropped_late_put<C: Made<Arc<u8>>, R: AllocGlobal + Abort + Wait>(
+    rt: &R,
+    before: u32,
+    after: u32,
+) -> Result<usize, Fail> {
+    let value = Arc::new(rt.alloc(), 7u8)?;
+    let (container, mut root) = empty_one::<Arc<u8>, C>(rt.alloc(), 2)?;
+    let pass = container.split(&mut root).ok_or("no pass")?;
+    let closer = container.split(&mut root).ok_or("no pass")?;
+    let begun = container.begin_put(pass, Arc::try_clone(&value)?);
+    let op = put_on::<Arc<u8>, C, R>(rt, &container, begun, before);
+    let (_, closed) = container.close(rt, closer);
+    assert!(rt; closed);
+    let op = put_on::<Arc<u8>, C, R>(rt, &container, op, after);
+    assert_eq!(rt; Arc::strong_count(&value), 2);
+    drop(op);
+    let kept = Arc::strong_count(&value).saturating_sub(1);
+    drop(container.finish(root));
+    assert_eq!(rt; Arc::strong_count(&value), 1);
+    Ok(kept)
+}
+
+/// The same of a take of the only value, and of what is left.
+pub(crate) fn dropped_take<C: Made<Arc<u8>>, R: AllocGlobal + Abort + Wait>(
+    rt: &R,
+    steps: u32,
+) -> Result<usize, Fail> {
+    let value = Arc::new(rt.alloc(), 7u8)?;
+    let (container, mut root) = empty_one::<Arc<u8>, C>(rt.alloc(), 2)?;
+    let pass = container.split(&mut root).ok_or("no pass")?;
+    let pass = fill(rt, &container, pass, &value, 1)?;
+    let begun = container.begin_take(pass);
+    let op = take_on::<Arc<u8>, C, R>(rt, &container, begun, steps);
+    assert_eq!(rt; Arc::strong_count(&value), 2);
+    drop(op);
+    let kept = Arc::strong_count(&value).saturating_sub(1);
+    drop(container.finish(root));
+    assert_eq!(rt; Arc::strong_count(&value), 1);
+    Ok(kept)
 }

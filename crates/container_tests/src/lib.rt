@@ -5,21 +5,23 @@
 #![tactic(auto)]
 
 #[cfg(test)]
+mod both;
+#[cfg(test)]
 mod crowd;
 #[cfg(test)]
 mod drops;
 #[cfg(test)]
 mod fills;
 #[cfg(test)]
-mod pool;
+mod log;
 #[cfg(test)]
-mod queue;
+mod made;
+#[cfg(test)]
+mod pool;
 #[cfg(test)]
 mod queue_steps;
 #[cfg(test)]
 mod queue_stops;
-#[cfg(test)]
-mod stack;
 #[cfg(test)]
 mod stack_calls;
 #[cfg(test)]
@@ -28,3 +30,5 @@ mod stack_crowd;
 mod stack_folds;
 #[cfg(test)]
 mod stack_ranges;
+#[cfg(test)]
+mod steps;

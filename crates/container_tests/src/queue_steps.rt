@@ -99,6 +99,45 @@ pub(crate) fn end_take<T: Drop + Send, R: Abort>(
     (pass, answer)
 }
 
+/// The most steps of a call while no other pass wins an exchange.
+const MOST_STEPS: u32 = 32;
+
+/// Makes the steps of a put up to its end, and tells its answer.
+pub(crate) fn put_within_32_steps<T: Drop + Send, R: Abort>(
+    rt: &R,
+    queue: &Queue<T>,
+    op: PutOp<T>,
+) -> Result<u64, PutRefused<T>>
+    requires { (x : T) × IsPutting queue.now x op }
+{
+    let mut op = op;
+    for _ in 0..MOST_STEPS {
+        match op.step(queue) {
+            Stepped::Again(next) => op = next,
+            Stepped::Done(_, answer) => return answer,
+        }
+    }
+    panic!(rt; "the put goes on")
+}
+
+/// The same of a take.
+pub(crate) fn take_within_32_steps<T: Drop + Send, R: Abort>(
+    rt: &R,
+    queue: &Queue<T>,
+    op: TakeOp<T>,
+) -> Result<(T, u64), TakeRefused>
+    requires { IsTaking queue.now op }
+{
+    let mut op = op;
+    for _ in 0..MOST_STEPS {
+        match op.step(queue) {
+            Stepped::Again(next) => op = next,
+            Stepped::Done(_, answer) => return answer,
+        }
+    }
+    panic!(rt; "the take goes on")
+}
+
 #[test]
 fn a_put_makes_14_steps_and_a_take_12(rt: HostRuntime) -> Result<(), Fail> {
     let (queue, mut root) = queue_of(rt.alloc(), 2, 7)?;
@@ -211,10 +250,27 @@ fn a_spent_cell_list_refuses_in_one_step(rt: HostRuntime) -> Result<(), Fail> {
     assert!(rt; put == Err(PutRefused::Spent('z', Word::Cells, 2)));
     let (pass, taken) = queue.take(&rt, pass);
     assert!(rt; taken == Ok(('x', 0)));
+    let (pass, taken) = queue.take(&rt, pass);
+    assert!(rt; taken == Ok(('y', 1)));
+    let (_, taken) = queue.take(&rt, pass);
+    assert!(rt; taken == Err(TakeRefused::Empty));
+    Ok(())
+}
+
+#[test]
+fn spent_cells_come_before_a_close(rt: HostRuntime) -> Result<(), Fail> {
+    let (queue, mut root) = queue_of(rt.alloc(), 2, 2)?;
+    let pass = queue.split(&mut root).ok_or("no pass")?;
+    let (pass, put) = queue.put(&rt, pass, 'x');
+    assert!(rt; put == Ok(0));
+    let (pass, put) = queue.put(&rt, pass, 'y');
+    assert!(rt; put == Ok(1));
+    let (pass, taken) = queue.take(&rt, pass);
+    assert!(rt; taken == Ok(('x', 0)));
     let (pass, closed) = queue.close(&rt, pass);
     assert!(rt; closed);
-    let (pass, put) = queue.put(&rt, pass, 'u');
-    assert!(rt; put == Err(PutRefused::Spent('u', Word::Cells, 2)));
+    let (pass, put) = queue.put(&rt, pass, 'z');
+    assert!(rt; put == Err(PutRefused::Spent('z', Word::Cells, 2)));
     let (pass, taken) = queue.take(&rt, pass);
     assert!(rt; taken == Ok(('y', 1)));
     let (_, taken) = queue.take(&rt, pass);
