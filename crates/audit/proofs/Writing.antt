@@ -6,16 +6,16 @@ use Rattle.std.proofs.KnownBytes.{Appends-trans}
 use Rattle.std.specs.Io.KnownBytes.{Appends}
 use Rattle.audit.specs.declared.faults.AuditFault.{AuditFault}
 use Rattle.audit.specs.declared.faults.AuditFault.TheVariants.{Write}
-use Rattle.audit.specs.Output.{Sends, Stops, Puts, Writes}
+use Rattle.audit.specs.Output.{Sent, sent as out_to, Sends, Stops, Puts, Writes}
 
-module _ (a b c : Option (List ℕ)) (m n k : ℕ) where
-  pub Sends-trans : (o p : List ℕ) → Sends o a b m n → Sends p b c n k → Sends (o ++ p) a c m k
+module _ (a b c : Sent) where
+  pub Sends-trans : (o p : List ℕ) → Sends o a b → Sends p b c → Sends (o ++ p) a c
   Sends-trans o p first second = record {
-    bytes = Appends-trans a b c o p first.bytes second.bytes;
+    bytes = Appends-trans a.bytes b.bytes c.bytes o p first.bytes second.bytes;
     count = omega (arith, first.count, second.count, length-append o p);
   }
 
-  Stops-after : (o t : List ℕ) → Sends o a b m n → Stops t b c n k → Stops (o ++ t) a c m k
+  Stops-after : (o t : List ℕ) → Sends o a b → Stops t b c → Stops (o ++ t) a c
   Stops-after o t sent stopped = record {
     out = o ++ stopped.out;
     rest = stopped.rest;
@@ -24,8 +24,8 @@ module _ (a b c : Option (List ℕ)) (m n k : ℕ) where
     sends = Sends-trans o stopped.out sent stopped.sends;
   }
 
-module _ (a b : Option (List ℕ)) (m n : ℕ) where
-  Stops-before : (t u : List ℕ) → Stops t a b m n → Stops (t ++ u) a b m n
+module _ (a b : Sent) where
+  Stops-before : (t u : List ℕ) → Stops t a b → Stops (t ++ u) a b
   Stops-before t u stopped = record {
     out = stopped.out;
     rest = stopped.rest ++ u;
@@ -34,11 +34,11 @@ module _ (a b : Option (List ℕ)) (m n : ℕ) where
     sends = stopped.sends;
   }
 
-module _ (T U : Type 0) (a b c : Option (List ℕ)) (m n k : ℕ) where
+module _ (T U : Type 0) (a b c : Sent) where
   -- what went out before a writer failed, the text at which it failed, and what was to follow
-  pub Puts-stopped : (whole o t u : List ℕ) (fault : AuditFault) → whole ≡ o ++ (t ++ u) → Sends o a b m n → Puts {T = T} t b c n k (Err fault) → Puts {T = U} whole a c m k (Err fault)
+  pub Puts-stopped : (whole o t u : List ℕ) (fault : AuditFault) → whole ≡ o ++ (t ++ u) → Sends o a b → Puts {T = T} t b c (Err fault) → Puts {T = U} whole a c (Err fault)
   Puts-stopped whole o t u (Write w) e sent stopped =
-      (subst (λ l. Stops l a c m k) (append_assoc o t u ∙ sym e) (Stops-before a c m k (o ++ t) u (Stops-after a b c m n k o t sent stopped.0)), stopped.1)
+      (subst (λ l. Stops l a c) (append_assoc o t u ∙ sym e) (Stops-before a c (o ++ t) u (Stops-after a b c o t sent stopped.0)), stopped.1)
 
 -- a list of texts in three parts: those before a place, the one there, and those after it
 pub flat_map-at : {X : Type 0} (f : X → List ℕ) (xs : List X) (i : ℕ) (d : X) → i < length xs
@@ -63,24 +63,24 @@ pub moves_front : (all done rest : List ℕ) (n : ℕ) → all ≡ done ++ rest 
 moves_front all done rest n e =
     e ∙ ap (λ l. done ++ l) (sym (take-append-drop n rest)) ∙ sym (append_assoc done (take n rest) (drop n rest)) ∙ ap (λ l. (done ++ take n rest) ++ l) (sym (take_rest rest n))
 
-pub Sends-more : (a b c : Option (List ℕ)) (m n : ℕ) (o rest : List ℕ) (taken : ℕ) → Sends o a b m n → Appends b c (take taken rest) → taken ≤ length rest
-    → Sends (o ++ take taken rest) a c m (min (n + taken) (2 ^ 64 - 1))
-Sends-more a b c m n o rest taken sent more within = Sends-trans a b c m n _ o (take taken rest) sent (record { bytes = more; count = omega (arith, length-take-le taken rest within) })
+pub Sends-more : (a b : Sent) (c : Option (List ℕ)) (o rest : List ℕ) (taken : ℕ) → Sends o a b → Appends b.bytes c (take taken rest) → taken ≤ length rest
+    → Sends (o ++ take taken rest) a (out_to c (min (b.count + taken) (2 ^ 64 - 1)))
+Sends-more a b c o rest taken sent more within = Sends-trans a b _ o (take taken rest) sent (record { bytes = more; count = omega (arith, length-take-le taken rest within) })
 
 -- a call's count starts at 0
-pub from-start : {text : List ℕ} {a b : Option (List ℕ)} {m n : ℕ} → m ≡ 0 → Sends text a b m n → Sends text a b 0 n
-from-start {text} {a} {b} {m} {n} e sent = subst (λ w. Sends text a b w n) e sent
+pub from-start : {text : List ℕ} {a b : Sent} → a.count ≡ 0 → Sends text a b → Sends text (out_to a.bytes 0) b
+from-start {text} {a} {b} e sent = subst (λ n. Sends text (out_to a.bytes n) b) e sent
 
-module _ (a b c : Option (List ℕ)) (n k : ℕ) where
+module _ (a : Option (List ℕ)) (b c : Sent) where
   -- the last of the text
-  pub Writes-whole : (whole o t : List ℕ) (r : Result (Unit {0}) AuditFault) → whole ≡ o ++ t → Sends o a b 0 n → Puts t b c n k r → Writes whole a c r
-  Writes-whole whole o t (Ok u) e sent puts = subst (Appends a c) (sym e) (Sends-trans a b c 0 n k o t sent puts).bytes
+  pub Writes-whole : (whole o t : List ℕ) (r : Result (Unit {0}) AuditFault) → whole ≡ o ++ t → Sends o (out_to a 0) b → Puts t b c r → Writes whole a c.bytes r
+  Writes-whole whole o t (Ok u) e sent puts = subst (Appends a c.bytes) (sym e) (Sends-trans (out_to a 0) b c o t sent puts).bytes
   Writes-whole whole o t (Err (Write w)) e sent puts =
-      rw (puts.1) (subst (λ l. Stops l a c 0 k) (sym e) (Stops-after a b c 0 n k o t sent puts.0))
+      rw (puts.1) (subst (λ l. Stops l (out_to a 0) c) (sym e) (Stops-after (out_to a 0) b c o t sent puts.0))
 
-module _ (T : Type 0) (a b c : Option (List ℕ)) (n k : ℕ) where
+module _ (T : Type 0) (a : Option (List ℕ)) (b c : Sent) where
   -- what went out before a writer failed, the text at which it failed, and what was to follow
-  pub Writes-stopped : (whole o t u : List ℕ) (fault : AuditFault) → whole ≡ o ++ (t ++ u) → Sends o a b 0 n → Puts {T = T} t b c n k (Err fault) → Writes whole a c (Err fault)
+  pub Writes-stopped : (whole o t u : List ℕ) (fault : AuditFault) → whole ≡ o ++ (t ++ u) → Sends o (out_to a 0) b → Puts {T = T} t b c (Err fault) → Writes whole a c.bytes (Err fault)
   Writes-stopped whole o t u (Write w) e sent puts =
-      let (stopped, count) = Puts-stopped T T a b c 0 n k whole o t u (Write w) e sent puts in
+      let (stopped, count) = Puts-stopped T T (out_to a 0) b c whole o t u (Write w) e sent puts in
       rw count stopped

@@ -2,7 +2,7 @@
 
 ghost use Rattle.std.specs.Prelude.{◌≡◌, ◌+◌, ◌^◌, ◌<◌, ◌++◌, IfOk};
 ghost use Rattle.audit.specs.Counting.{counts_from, total};
-ghost use Rattle.audit.specs.Output.{Puts, Writes};
+ghost use Rattle.audit.specs.Output.{Puts, Writes, sent};
 ghost use Rattle.audit.specs.Texts.{counts_line, sender_lines, audit_text};
 
 use crate::AuditFault;
@@ -21,7 +21,8 @@ use std::io::Write;
 /// no byte, and where it is interrupted for the [`MAX_INTERRUPTIONS`](crate::MAX_INTERRUPTIONS)th
 /// time. Then so many bytes of the audit went out; the count stays at `u64::MAX`.
 pub fn write_audit<W: Write>(relayed: &Relayed, writer: &mut W) -> Result<(), AuditFault>
-    ensures { Writes (audit_text relayed.now) (W.contents writer.old) (W.contents writer.new) result }
+    ensures { Writes (audit_text relayed.now) (W.contents writer.old)
+        (W.contents writer.new) result }
 {
     let mut progress = Progress::new();
     let sums = put_senders(relayed, writer, &mut progress)?;
@@ -34,8 +35,11 @@ fn put_senders<W: Write>(
     writer: &mut W,
     progress: &mut Progress,
 ) -> Result<Counts, AuditFault>
-    ensures text { Puts (sender_lines 0 (counts_from relayed.now 0 relayed.now.unsent.items)) (W.contents writer.old) (W.contents writer.new) progress.old.written progress.new.written result }
-    ensures sums { IfOk result (λ sums. sums ≡ total (counts_from relayed.now 0 relayed.now.unsent.items)) }
+    ensures text { Puts (sender_lines 0 (counts_from relayed.now 0 relayed.now.unsent.items))
+        (sent (W.contents writer.old) progress.old.written)
+        (sent (W.contents writer.new) progress.new.written) result }
+    ensures sums { IfOk result
+        (λ sums. sums ≡ total (counts_from relayed.now 0 relayed.now.unsent.items)) }
     ensures small { IfOk result (λ sums. sums.delivered + sums.left + sums.unsent < 2 ^ 128) }
 {
     let mut sums = Counts {
@@ -62,7 +66,9 @@ fn put_counts<W: Write>(
     counts: Counts,
 ) -> Result<(), AuditFault>
     requires { counts.delivered + counts.left + counts.unsent < 2 ^ 128 }
-    ensures { Puts (counts_line (name.now ++ number.now) counts) (W.contents writer.old) (W.contents writer.new) progress.old.written progress.new.written result }
+    ensures { Puts (counts_line (name.now ++ number.now) counts)
+        (sent (W.contents writer.old) progress.old.written)
+        (sent (W.contents writer.new) progress.new.written) result }
 {
     let read = Digits::of(counts.delivered + counts.left + counts.unsent);
     let delivered = Digits::of(counts.delivered);

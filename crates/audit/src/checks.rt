@@ -61,7 +61,9 @@ fn has_known_senders(relayed: &Relayed) -> bool
 
 // Whether each sender's messages have the seqs 0, 1, 2, ..
 fn has_all_seqs(relayed: &Relayed) -> bool
-    ensures { IsTrue result ↔ AllSent (messages_of relayed.now.delivered.items ++ relayed.now.left.items) 0 relayed.now.unsent.items }
+    ensures { IsTrue result ↔ AllSent
+        (messages_of relayed.now.delivered.items ++ relayed.now.left.items) 0
+        relayed.now.unsent.items }
 {
     for (sender, unsent) in relayed.unsent.iter().enumerate() {
         if !is_all_sent(&relayed.delivered, &relayed.left, unsent, sender) {
@@ -73,7 +75,8 @@ fn has_all_seqs(relayed: &Relayed) -> bool
 
 // Whether this sender's messages have the seqs 0, 1, 2, ..
 fn is_all_sent(delivered: &[Taken], left: &[Message], unsent: &[Message], sender: usize) -> bool
-    ensures { IsTrue result ↔ GoOnFrom sender 0 (sent_by sender (messages_of delivered.now ++ left.now) ++ unsent.now) }
+    ensures { IsTrue result ↔ GoOnFrom sender 0
+        (sent_by sender (messages_of delivered.now ++ left.now) ++ unsent.now) }
 {
     let Some(next) = seq_after_delivered(delivered, sender) else {
         return false;
@@ -87,7 +90,9 @@ fn is_all_sent(delivered: &[Taken], left: &[Message], unsent: &[Message], sender
 // The seq that follows those of the sender's delivered messages, which are 0, 1, 2, ..
 fn seq_after_delivered(delivered: &[Taken], sender: usize) -> Option<u64>
     ensures small { IfSome result (λ next. next ≤ 2 ^ 32) }
-    ensures next { (more : List Message) → GoOnFrom sender 0 (sent_by sender (messages_of delivered.now) ++ more) ↔ IsSomeAnd result (λ next. GoOnFrom sender next more) }
+    ensures next { (more : List Message)
+        → GoOnFrom sender 0 (sent_by sender (messages_of delivered.now) ++ more)
+        ↔ IsSomeAnd result (λ next. GoOnFrom sender next more) }
 {
     let mut next = 0;
     for taken in delivered {
@@ -100,7 +105,8 @@ fn seq_after_delivered(delivered: &[Taken], sender: usize) -> Option<u64>
 fn seq_after_left(left: &[Message], sender: usize, first: u64) -> Option<u64>
     requires { first ≤ 2 ^ 32 }
     ensures small { IfSome result (λ next. next ≤ 2 ^ 32) }
-    ensures next { (more : List Message) → GoOnFrom sender first (sent_by sender left.now ++ more) ↔ IsSomeAnd result (λ next. GoOnFrom sender next more) }
+    ensures next { (more : List Message) → GoOnFrom sender first (sent_by sender left.now ++ more)
+        ↔ IsSomeAnd result (λ next. GoOnFrom sender next more) }
 {
     let mut next = first;
     for message in left {
@@ -114,7 +120,9 @@ fn seq_after_left(left: &[Message], sender: usize, first: u64) -> Option<u64>
 fn seq_after(message: &Message, sender: usize, next: u64) -> Option<u64>
     requires { next ≤ 2 ^ 32 }
     ensures small { IfSome result (λ after. after ≤ 2 ^ 32) }
-    ensures next { (others more : List Message) → GoOnFrom sender next (sent_by sender (message.now ∷ others) ++ more) ↔ IsSomeAnd result (λ after. GoOnFrom sender after (sent_by sender others ++ more)) }
+    ensures next { (others more : List Message)
+        → GoOnFrom sender next (sent_by sender (message.now ∷ others) ++ more)
+        ↔ IsSomeAnd result (λ after. GoOnFrom sender after (sent_by sender others ++ more)) }
 {
     if message.sender as usize != sender {
         return Some(next);

@@ -1,7 +1,7 @@
 //! Writes the list of an outcome.
 
 ghost use Rattle.std.specs.Prelude.{◌++◌, flat_map, codes};
-ghost use Rattle.audit.specs.Output.{Puts, Writes};
+ghost use Rattle.audit.specs.Output.{Puts, Writes, sent};
 ghost use Rattle.audit.specs.Texts.{message_line, take_line, list_text};
 
 use crate::AuditFault;
@@ -16,7 +16,8 @@ use std::io::Write;
 /// When the writer has failed is said at [`write_audit`](crate::write_audit). Then so many bytes of
 /// the list went out; the count stays at `u64::MAX`.
 pub fn write_list<W: Write>(relayed: &Relayed, writer: &mut W) -> Result<(), AuditFault>
-    ensures { Writes (list_text relayed.now) (W.contents writer.old) (W.contents writer.new) result }
+    ensures { Writes (list_text relayed.now) (W.contents writer.old)
+        (W.contents writer.new) result }
 {
     let mut progress = Progress::new();
     put_delivered(writer, &mut progress, &relayed.delivered)?;
@@ -30,7 +31,9 @@ fn put_delivered<W: Write>(
     progress: &mut Progress,
     delivered: &[Taken],
 ) -> Result<(), AuditFault>
-    ensures { Puts (flat_map take_line delivered.now) (W.contents writer.old) (W.contents writer.new) progress.old.written progress.new.written result }
+    ensures { Puts (flat_map take_line delivered.now)
+        (sent (W.contents writer.old) progress.old.written)
+        (sent (W.contents writer.new) progress.new.written) result }
 {
     for taken in delivered {
         let number = Digits::of(taken.number as u128);
@@ -51,7 +54,10 @@ fn put_unsent<W: Write>(
     progress: &mut Progress,
     unsent: &[Vec<Message>],
 ) -> Result<(), AuditFault>
-    ensures { Puts (flat_map (λ messages. flat_map (message_line (codes "unsent")) messages.items) unsent.now) (W.contents writer.old) (W.contents writer.new) progress.old.written progress.new.written result }
+    ensures { Puts (flat_map (λ messages. flat_map (message_line (codes "unsent")) messages.items)
+        unsent.now)
+        (sent (W.contents writer.old) progress.old.written)
+        (sent (W.contents writer.new) progress.new.written) result }
 {
     for messages in unsent {
         put_messages(writer, progress, b"unsent", messages)?;
@@ -66,7 +72,9 @@ fn put_messages<W: Write>(
     word: &[u8],
     messages: &[Message],
 ) -> Result<(), AuditFault>
-    ensures { Puts (flat_map (message_line word.now) messages.now) (W.contents writer.old) (W.contents writer.new) progress.old.written progress.new.written result }
+    ensures { Puts (flat_map (message_line word.now) messages.now)
+        (sent (W.contents writer.old) progress.old.written)
+        (sent (W.contents writer.new) progress.new.written) result }
 {
     for message in messages {
         put_message(writer, progress, word, b"", message)?;
@@ -82,7 +90,9 @@ fn put_message<'a, W: Write>(
     number: &'a [u8],
     message: &'a Message,
 ) -> Result<(), AuditFault>
-    ensures { Puts (message_line (word.now ++ number.now) message.now) (W.contents writer.old) (W.contents writer.new) progress.old.written progress.new.written result }
+    ensures { Puts (message_line (word.now ++ number.now) message.now)
+        (sent (W.contents writer.old) progress.old.written)
+        (sent (W.contents writer.new) progress.new.written) result }
 {
     let sender = Digits::of(message.sender as u128);
     let seq = Digits::of(message.seq as u128);

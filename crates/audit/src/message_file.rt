@@ -36,11 +36,15 @@ pub fn read_messages<R: Read>(
     sender: u32,
 ) -> Result<Vec<Message>, ReadFault>
     // The reader gave some bytes, and they are the answer's file, or hold its fault.
-    ensures bytes { (bytes : List ℕ) × Consumes (R.remaining reader.old) (R.remaining reader.new) bytes × Answers sender bytes result }
+    ensures bytes { (bytes : List ℕ)
+        × Consumes (R.remaining reader.old) (R.remaining reader.new) bytes
+        × Answers sender bytes result }
     // A file is read to its end, and so is one that ends within a line.
     ensures end { ReachesEnd result → IsAtEnd (R.remaining reader.new) }
     // Each message file is accepted, with its own lines, but where memory, the reader or the count of reads is at fault.
-    ensures accepts { (lines : List (List ℕ)) → IfSome (R.remaining reader.old) (λ text. IsMessageFile text lines → ReadsAll lines result) }
+    ensures accepts { (lines : List (List ℕ))
+        → IfSome (R.remaining reader.old)
+        (λ text. IsMessageFile text lines → ReadsAll lines result) }
 {
     let mut lines = Lines::new(alloc, sender);
     let mut buffer = [0u8; 4096];
@@ -95,7 +99,8 @@ impl Lines {
     fn read_byte(&mut self, alloc: Global, byte: u8) -> Result<(), ReadFault>
         ensures ok { OnOk result (bytes_of self.new ≡ bytes_of self.old ++ byte ∷ []) }
         ensures sender { self.new.sender ≡ self.old.sender }
-        ensures err { IfErr result (λ fault. (more : List ℕ) → IsFirstFault fault (bytes_of self.old ++ byte ∷ more)) }
+        ensures err { IfErr result
+            (λ fault. (more : List ℕ) → IsFirstFault fault (bytes_of self.old ++ byte ∷ more)) }
         ensures within { IfErr result (λ fault. fault ≢ ReadFault.NoFinalNewline) }
     {
         if self.messages.len() == MAX_LINES {

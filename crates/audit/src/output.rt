@@ -2,7 +2,7 @@
 
 ghost use Rattle.std.specs.Prelude.{◌≡◌, ◌<◌, flat_map};
 ghost use Rattle.audit.specs.declared.output.TheConstants.{MAX_INTERRUPTIONS};
-ghost use Rattle.audit.specs.Output.{Puts};
+ghost use Rattle.audit.specs.Output.{Puts, sent};
 
 use crate::AuditFault;
 use std::io::{ErrorKind, Write};
@@ -38,7 +38,9 @@ pub(crate) fn put_all<W: Write>(
     progress: &mut Progress,
     parts: &[&[u8]],
 ) -> Result<(), AuditFault>
-    ensures { Puts (flat_map (λ part. part.now) parts.now) (W.contents writer.old) (W.contents writer.new) progress.old.written progress.new.written result }
+    ensures { Puts (flat_map (λ part. part.now) parts.now)
+        (sent (W.contents writer.old) progress.old.written)
+        (sent (W.contents writer.new) progress.new.written) result }
 {
     for part in parts {
         put(writer, progress, part)?;
@@ -49,7 +51,9 @@ pub(crate) fn put_all<W: Write>(
 // Writes these bytes. The writer has failed where a write answers an error other than an interruption,
 // where it takes nothing, and where it is interrupted for the `MAX_INTERRUPTIONS`th time.
 fn put<W: Write>(writer: &mut W, progress: &mut Progress, bytes: &[u8]) -> Result<(), AuditFault>
-    ensures { Puts bytes.now (W.contents writer.old) (W.contents writer.new) progress.old.written progress.new.written result }
+    ensures { Puts bytes.now
+        (sent (W.contents writer.old) progress.old.written)
+        (sent (W.contents writer.new) progress.new.written) result }
 {
     let mut rest = bytes;
     while !rest.is_empty() {

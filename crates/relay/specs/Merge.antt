@@ -1,5 +1,5 @@
 -- What merging lists by their numbers asks and gives.
-use Rattle.std.specs.Prelude.{◌≡◌, ℕ, ◌+◌, ◌<◌, ◌≤◌, List, [], ◌∷◌, ◌++◌, All, flat_map, Vec, IsPermutation}
+use Rattle.std.specs.Prelude.{◌≡◌, ℕ, ◌+◌, ◌<◌, ◌≤◌, List, [], ◌∷◌, ◌++◌, length, All, flat_map, get_or, Vec, IsPermutation}
 use Rattle.std.specs.List.Sorted.{IsNonDecreasingBy}
 use Rattle.std.specs.declared.alloc.Global.{Global}
 use Rattle.relay.specs.declared.outcome.Taken.{Taken}
@@ -23,7 +23,16 @@ pub record IsTop (lists : List (Vec Taken Global)) (l : Vec Taken Global) : Type
   pub is : IsHeight l height
   pub below : All (λ m. All (λ t. t.number < height) m.items) lists
 
--- t is taken out of what was there before, and nothing there has a greater number
-pub record TakesGreatest (before after : List Taken) (t : Taken) : Type 0 where
-  pub same : IsPermutation before (t ∷ after)
-  pub most : All (λ u. u.number ≤ t.number) before
+-- no number of these lists is above the last of that one
+abbrev pub IsAbove : Vec Taken Global → List (Vec Taken Global) → Type 0
+IsAbove l lists = (front : List Taken) (t : Taken) → l.items ≡ front ++ t ∷ [] → All (λ m. All (λ u. u.number ≤ t.number) m.items) lists
+
+-- along the list no number is above one before it
+abbrev pub Falls : List Taken → Type 0
+Falls ts = (i j : ℕ) (d : Taken) → i ≤ j → j < length ts → (get_or ts j d).number ≤ (get_or ts i d).number
+
+-- of what was there at the start these are moved, the greatest first, and those lists hold the rest
+pub record Merging (start moved : List Taken) (lists : List (Vec Taken Global)) : Type 0 where
+  pub same : IsPermutation start (moved ++ all_of lists)
+  pub falls : Falls moved
+  pub above : All (λ t. All (λ u. u.number ≤ t.number) (all_of lists)) moved

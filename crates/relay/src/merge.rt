@@ -1,11 +1,11 @@
 //! What came through and what is left, put together.
 
-ghost use Rattle.std.specs.Prelude.{◌≡◌, ◌≤◌, ◌<◌, ◌++◌, [], length, vec_len, vec_capacity, All, IsPermutation, MatchOption, slice_index_or, Vec};
+ghost use Rattle.std.specs.Prelude.{◌≡◌, ◌≤◌, ◌<◌, ◌+◌, ◌++◌, ◌∷◌, [], List, length, vec_len, vec_capacity, All, IsPermutation, IfSome, IfNone, slice_index_or, Vec};
 ghost use Rattle.std.specs.List.Sorted.{IsNonDecreasingBy};
 ghost use Rattle.std.specs.declared.alloc.Global.{Global};
 ghost use Rattle.relay.specs.declared.outcome.Taken.{Taken};
 ghost use Rattle.relay.specs.Rooms.{IsRoomFor};
-ghost use Rattle.relay.specs.Merge.{all_of, IsUp, IsHeight, IsTop, TakesGreatest};
+ghost use Rattle.relay.specs.Merge.{all_of, IsUp, IsHeight, IsTop, IsAbove, Merging};
 
 use crate::{Message, Taken};
 use bounded_model::Leaving;
@@ -34,28 +34,59 @@ pub(crate) fn merge(lists: Vec<Vec<Taken>>, room: Vec<Taken>) -> Vec<Taken>
 {
     let mut lists = lists;
     let mut all = room;
-    while let Some(taken) = take_greatest(&mut lists) {
-        all.push_reserved(taken);
+    while let Some(list) = take_greatest(&mut lists) {
+        let (rest, more) = move_run(list, &lists, all);
+        lists.push_reserved(shrunk(rest));
+        all = more;
     }
     all.reverse();
     all
 }
 
-// Takes the message of the greatest number out of the lists; `None` where they are empty.
-fn take_greatest(lists: &mut Vec<Vec<Taken>>) -> Option<Taken>
+// Takes the list with the greatest number out of the lists; `None` where they are empty.
+fn take_greatest(lists: &mut Vec<Vec<Taken>>) -> Option<Vec<Taken>>
     requires some { 0 < vec_len lists.old }
     requires up { All IsUp lists.old.items }
-    ensures some { vec_len lists.new ≡ vec_len lists.old }
-    ensures up { All IsUp lists.new.items }
-    ensures gives { MatchOption result
-        (all_of lists.old.items ≡ [])
-        (TakesGreatest (all_of lists.old.items) (all_of lists.new.items)) }
+    ensures none { IfNone result (all_of lists.old.items ≡ []) }
+    ensures len { IfSome result (λ l. vec_len lists.new + 1 ≡ vec_len lists.old) }
+    ensures capacity { IfSome result (λ l. vec_len lists.new < vec_capacity lists.new) }
+    ensures up { IfSome result (λ l. IsUp l × All IsUp lists.new.items) }
+    ensures above { IfSome result (λ l. (0 < vec_len l) × IsAbove l lists.new.items) }
+    ensures same { IfSome result (λ l. IsPermutation (all_of lists.old.items)
+        (all_of (lists.new.items ++ l ∷ []))) }
 {
     let place = greatest(lists);
-    let mut list = lists.remove(place);
-    let taken = list.pop();
-    lists.push_reserved(shrunk(list));
-    taken
+    if lists[place].is_empty() {
+        return None;
+    }
+    Some(lists.remove(place))
+}
+
+// Moves the messages at the list's end, the last first, while no other list has a greater number.
+// Answers what is left of the list, and all that was moved.
+fn move_run(list: Vec<Taken>, others: &[Vec<Taken>], moved: Vec<Taken>) -> (Vec<Taken>, Vec<Taken>)
+    requires some { 0 < vec_len list }
+    requires up { IsUp list × All IsUp others.now }
+    requires above { IsAbove list others.now }
+    requires room { vec_len moved + vec_len list ≤ vec_capacity moved }
+    ensures up { IsUp result.0 }
+    ensures fewer { vec_len result.0 < vec_len list }
+    ensures room { vec_len result.1 + vec_len result.0 ≡ vec_len moved + vec_len list }
+    ensures capacity { vec_capacity result.1 ≡ vec_capacity moved }
+    ensures merging { (start : List Taken)
+        → Merging start moved.items (others.now ++ list ∷ [])
+        → Merging start result.1.items (others.now ++ result.0 ∷ []) }
+{
+    let bound = bound(others);
+    let mut rest = list;
+    let mut all = moved;
+    while let Some(taken) = rest.pop() {
+        all.push_reserved(taken);
+        if height(&rest) < bound {
+            return (rest, all);
+        }
+    }
+    (rest, all)
 }
 
 // The list; memory that has become free is given back, an eighth of it at a time.
@@ -74,7 +105,8 @@ fn greatest(lists: &[Vec<Taken>]) -> usize
     requires some { 0 < length lists.now }
     requires up { All IsUp lists.now }
     ensures place { result < length lists.now }
-    ensures top { (l : Vec Taken Global) → l ≡ slice_index_or lists.now result l → IsTop lists.now l }
+    ensures top { (l : Vec Taken Global) → l ≡ slice_index_or lists.now result l
+        → IsTop lists.now l }
 {
     let mut best = 0;
     let mut most = height(&lists[0]);
@@ -86,6 +118,18 @@ fn greatest(lists: &[Vec<Taken>]) -> usize
         }
     }
     best
+}
+
+// A number above all of the lists.
+fn bound(lists: &[Vec<Taken>]) -> u128
+    requires { All IsUp lists.now }
+    ensures { All (λ l. All (λ t. t.number < result) l.items) lists.now }
+{
+    let mut most = 0;
+    for list in lists {
+        most = height(list).max(most);
+    }
+    most
 }
 
 // One above the list's last number, or 0 where it is empty.

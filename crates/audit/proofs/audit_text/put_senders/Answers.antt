@@ -20,7 +20,7 @@ returns-in_err-put_counts-clause-text g c =
     ∙ ap (λ n. n ∷ counts_from c.args.relayed.now (i + 1) (drop (i + 1) lists)) (sym c.of_sender-counts.ensures.value) in
     let here : counts_line (codes "sender " ++ c.as_slice.result.now) c.of_sender-counts.result ++ sender_lines (i + 1) (counts_from c.args.relayed.now (i + 1) (drop (i + 1) lists)) ≡ sender_lines i (counts_from c.args.relayed.now i (drop i lists)) =
     rw (c.as_slice.ensures, c.of-number.ensures) (sym (ap (sender_lines i) next)) in
-    rw (p.1, p.2) (Puts-stopped (Unit {0}) Counts _ _ _ _ _ _ _ inv.0 _ _ c.in_err-put_counts.field-0.0 (sym inv.1 ∙ ap (λ l. inv.0 ++ l) (sym here)) inv.2 c.in_err-put_counts.ensures)
+    rw (p.1, p.2) (Puts-stopped (Unit {0}) Counts _ _ _ _ inv.0 _ _ c.in_err-put_counts.field-0.0 (sym inv.1 ∙ ap (λ l. inv.0 ++ l) (sym here)) inv.2 c.in_err-put_counts.ensures)
 
 pub loop-sender-preserved : goal.loop-sender-preserved
 loop-sender-preserved g c =
@@ -38,7 +38,7 @@ loop-sender-preserved g c =
     let rest = total (counts_from c.args.relayed.now (i + 1) (drop (i + 1) lists)) in (
       inv.0 ++ line,
       append_assoc inv.0 line _ ∙ ap (λ l. inv.0 ++ l) here ∙ inv.1,
-      Sends-trans _ _ _ _ _ _ inv.0 line inv.2 c.in_ok-put_counts.ensures,
+      Sends-trans _ _ _ inv.0 line inv.2 c.in_ok-put_counts.ensures,
       ap (λ x. sum_of x rest) c.plus-sums.ensures ∙ sum_of-assoc c.loop-sender.sums c.of_sender-counts.result rest ∙ ap (sum_of c.loop-sender.sums) (sym (total-cons c.of_sender-counts.result (counts_from c.args.relayed.now (i + 1) (drop (i + 1) lists)))) ∙ ap (λ l. sum_of c.loop-sender.sums (total l)) (sym next) ∙ inv.3,
       c.of_sender-counts.ensures.of,
       omega (arith, ap (λ (x : Counts). x.delivered) c.plus-sums.ensures, c.of_sender-counts.ensures.small),

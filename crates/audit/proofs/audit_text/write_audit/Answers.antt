@@ -8,4 +8,4 @@ pub returns : goal.returns
 returns g c =
     let lines = sender_lines 0 (counts_from c.args.relayed.now 0 c.args.relayed.now.unsent.items) in
     let sent = from-start c.new-progress.ensures c.in_ok-sums.ensures.text in
-    Writes-whole _ _ _ _ _ _ lines _ _ (ap (λ s. lines ++ counts_line (codes "total") s) (sym c.in_ok-sums.ensures.sums)) sent c.put_counts.ensures
+    Writes-whole _ _ _ _ lines _ _ (ap (λ s. lines ++ counts_line (codes "total") s) (sym c.in_ok-sums.ensures.sums)) sent c.put_counts.ensures

@@ -11,7 +11,7 @@ returns-in_err-put_message g c =
     let message = c.message-item.result in
     let line = ap (λ w. message_line w message) (append-nil word) in
     let whole = flat_map-split (message_line word) c.args.messages.now c.loop-message.message-index message _ c.loop-message-test.true c.message-item.is line in
-    rw (p.1, p.2) (Puts-stopped (Unit {0}) (Unit {0}) _ _ _ _ _ _ _ _ _ _ c.in_err-put_message.field-0.0 whole c.loop-message.invariant c.in_err-put_message.ensures)
+    rw (p.1, p.2) (Puts-stopped (Unit {0}) (Unit {0}) _ _ _ _ _ _ _ c.in_err-put_message.field-0.0 whole c.loop-message.invariant c.in_err-put_message.ensures)
 
 pub loop-message-preserved : goal.loop-message-preserved
 loop-message-preserved g c =
@@ -19,4 +19,4 @@ loop-message-preserved g c =
     let message = c.message-item.result in
     let line = ap (λ w. message_line w message) (append-nil word) in
     let next = flat_map-next (message_line word) c.args.messages.now c.loop-message.message-index message _ c.loop-message-test.true c.message-item.is line in
-    rw next (Sends-trans _ _ _ _ _ _ _ _ c.loop-message.invariant c.in_ok-put_message.ensures)
+    rw next (Sends-trans _ _ _ _ _ c.loop-message.invariant c.in_ok-put_message.ensures)

@@ -10,4 +10,4 @@ returns-in_err-put_messages g c =
     let lines = ap (flat_map (message_line (codes "unsent"))) c.deref.ensures.value in
     let whole = flat_map-split (λ messages. flat_map (message_line (codes "unsent")) messages.items) c.args.unsent.now c.loop-messages.messages-index c.messages-item.result _
     c.loop-messages-test.true c.messages-item.is lines in
-    rw (p.1, p.2) (Puts-stopped (Unit {0}) (Unit {0}) _ _ _ _ _ _ _ _ _ _ c.in_err-put_messages.field-0.0 whole c.loop-messages.invariant c.in_err-put_messages.ensures)
+    rw (p.1, p.2) (Puts-stopped (Unit {0}) (Unit {0}) _ _ _ _ _ _ _ c.in_err-put_messages.field-0.0 whole c.loop-messages.invariant c.in_err-put_messages.ensures)

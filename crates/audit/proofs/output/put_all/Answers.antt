@@ -8,4 +8,4 @@ returns-in_err-put g c =
     let parts = c.args.parts.now in
     let i = c.loop-part.part-index in
     let whole = flat_map-at (λ part. part.now) parts i _ c.loop-part-test.true in
-    rw (p.1, p.2) (Puts-stopped (Unit {0}) (Unit {0}) _ _ _ _ _ _ _ _ _ _ c.in_err-put.field-0.0 whole c.loop-part.invariant c.in_err-put.ensures)
+    rw (p.1, p.2) (Puts-stopped (Unit {0}) (Unit {0}) _ _ _ _ _ _ _ c.in_err-put.field-0.0 whole c.loop-part.invariant c.in_err-put.ensures)

@@ -1,11 +1,10 @@
 -- What was moved falls, and nothing that is still to come is above it.
 use Rattle.std.proofs.Common.{◌<◌, ◌≤◌, ◌+◌, All, length, vec_len, vec_items, vec_capacity}
-use Rattle.relay.specs.Merge.{all_of, IsUp}
-use Rattle.relay.proofs.Tops.{Merging}
+use Rattle.relay.specs.Merge.{all_of, IsUp, Merging}
 use Rattle.relay.proofs.merge.merge.Given as goal
 
-abbrev pub invariant-loop-taken : goal.invariant-loop-taken
-invariant-loop-taken l =
+abbrev pub invariant-loop-list : goal.invariant-loop-list
+invariant-loop-list l =
     record {
       some : 0 < vec_len l.lists;
       up : All IsUp (vec_items l.lists);
@@ -13,5 +12,5 @@ invariant-loop-taken l =
       room : vec_len l.all + length (all_of (vec_items l.lists)) ≤ vec_capacity l.all;
     }
 
-abbrev pub decreases-loop-taken : goal.decreases-loop-taken
-decreases-loop-taken l = length (all_of (vec_items l.lists))
+abbrev pub decreases-loop-list : goal.decreases-loop-list
+decreases-loop-list l = length (all_of (vec_items l.lists))

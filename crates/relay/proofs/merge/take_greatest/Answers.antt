@@ -1,38 +1,43 @@
-use Rattle.std.proofs.Common.{◌≡◌, ◌++◌, ◌∷◌, [], ◌<◌, slice_index_or, arith, ap, sym, ◌∙◌, subst, None, option_to_list, remove, length}
-use Rattle.std.proofs.lemmas.List.Elements.{All-append, All-cons, All-nil}
-use Rattle.relay.specs.Merge.{IsUp, IsTop}
+use Rattle.std.proofs.Common.{◌≡◌, ◌<◌, ℕ, List, Vec, slice_index_or, arith, ap, sym, subst, length, vec_len, ◌∙◌}
+use Rattle.std.proofs.lemmas.Bool.Decides.{nat_tests}
+use Rattle.std.proofs.lemmas.List.{get_or_default}
+use Rattle.std.specs.declared.alloc.Global.{Global}
+use Rattle.relay.specs.declared.outcome.Taken.{Taken}
+use Rattle.relay.specs.Merge.{IsTop, IsUp, IsAbove}
 use Rattle.relay.proofs.Zips.{is_nil}
-use Rattle.relay.proofs.Tops.{up_front, gives, All-remove}
+use Rattle.relay.proofs.Tops.{All-remove, above_others, all_empty, taken_out}
 use Rattle.relay.proofs.merge.take_greatest.Goals as goal
 
-at : (c : goal.After-push_reserved) → c.remove-list.result ≡ slice_index_or c.args.lists.now.items c.greatest-place.result c.remove-list.result
-at c = c.remove-list.ensures.value
+-- what `greatest` says of the slice holds of the list
+top_of : (slice lists : List (Vec Taken Global)) (place : ℕ) (l : Vec Taken Global) → slice ≡ lists → ((m : Vec Taken Global) → m ≡ slice_index_or slice place m → IsTop slice m) → l ≡ slice_index_or lists place l → IsTop lists l
+top_of slice lists place l e top at = subst (λ ls. IsTop ls l) e (top l (subst (λ ls. l ≡ slice_index_or ls place l) (sym e) at))
 
-within : (c : goal.After-push_reserved) → c.greatest-place.result < length c.args.lists.now.items
-within c = omega (arith, c.greatest-place.ensures.place, c.deref.ensures.len, ap length c.deref.ensures.value)
-
--- what `pop` took was the end of the list
-popped : (c : goal.After-push_reserved) → c.remove-list.result.items ≡ c.shrunk.result.items ++ option_to_list c.pop-taken.result
-popped c = c.pop-taken.ensures.items ∙ ap (λ l. l ++ option_to_list c.pop-taken.result) (sym c.shrunk.ensures)
-
-emptied : (c : goal.After-push_reserved) → c.pop-taken.result ≡ None → c.shrunk.result.items ≡ []
-emptied c e =
-    let none = rw e at c.pop-taken.ensures.cases in
-    c.shrunk.ensures ∙ is_nil c.pop-taken.new.self.items (sym c.pop-taken.new.self.ok.0 ∙ none.1)
+pub returns-then-is_empty-clause-none : goal.returns-then-is_empty-clause-none
+returns-then-is_empty-clause-none c =
+    let list = c.index.result.now in
+    let none : vec_len list ≡ 0 = grind (arith, nat_tests) in
+    let top = top_of c.deref.result.now c.args.lists.now.items c.greatest-place.result list c.deref.ensures.value c.greatest-place.ensures.top c.index.ensures in
+    all_empty c.args.lists.now.items list top (is_nil list.items (omega (arith, none, list.ok.0)))
 
 pub returns-clause-up : goal.returns-clause-up
 returns-clause-up c =
     let lists = c.args.lists.now.items in
-    let list = c.remove-list.result in
-    let up = All-remove IsUp lists c.greatest-place.result c.requires.up in
-    let here : IsUp list = subst IsUp (sym (at c)) (c.requires.up c.greatest-place.result list (within c)) in
-    let left = up_front list c.shrunk.result c.pop-taken.result (popped c) here in
-    rw c.push_reserved.ensures.items (rw c.remove-list.ensures.items (All-append IsUp (remove lists c.greatest-place.result) (c.shrunk.result ∷ []) up (All-cons IsUp c.shrunk.result [] left (All-nil IsUp))))
+    let within : c.greatest-place.result < length lists = omega (arith, c.greatest-place.ensures.place, c.deref.ensures.len, ap length c.deref.ensures.value) in
+    let own : IsUp c.remove.result = subst IsUp (sym c.remove.ensures.value) (c.requires.up c.greatest-place.result c.remove.result within) in
+    (own, rw c.remove.ensures.items (All-remove IsUp lists c.greatest-place.result c.requires.up))
 
-pub returns-clause-gives : goal.returns-clause-gives
-returns-clause-gives c =
+pub returns-clause-above : goal.returns-clause-above
+returns-clause-above c =
     let lists = c.args.lists.now.items in
-    let list = c.remove-list.result in
-    let top : IsTop lists list = subst (λ ls. IsTop ls list) c.deref.ensures.value (c.greatest-place.ensures.top list (subst (λ ls. list ≡ slice_index_or ls c.greatest-place.result list) (sym c.deref.ensures.value) (at c))) in
-    let g = gives lists c.greatest-place.result list c.shrunk.result c.pop-taken.result (within c) (at c) top (popped c) (emptied c) in
-    rw c.push_reserved.ensures.items (rw c.remove-list.ensures.items g)
+    let list = c.remove.result in
+    let within : c.greatest-place.result < length lists = omega (arith, c.greatest-place.ensures.place, c.deref.ensures.len, ap length c.deref.ensures.value) in
+    let same : c.index.result.now ≡ list = c.index.ensures ∙ (get_or_default lists c.greatest-place.result c.index.result.now list within ∙ sym c.remove.ensures.value) in
+    let seen : 0 < vec_len c.index.result.now = grind (arith, nat_tests) in
+    let some : 0 < vec_len list = subst (λ l. 0 < vec_len l) same seen in
+    let top = top_of c.deref.result.now lists c.greatest-place.result list c.deref.ensures.value c.greatest-place.ensures.top c.remove.ensures.value in
+    (some, subst (IsAbove list) (sym c.remove.ensures.items) (above_others lists c.greatest-place.result list top))
+
+pub returns-clause-same : goal.returns-clause-same
+returns-clause-same c =
+    let within : c.greatest-place.result < length c.args.lists.now.items = omega (arith, c.greatest-place.ensures.place, c.deref.ensures.len, ap length c.deref.ensures.value) in
+    rw c.remove.ensures.items (taken_out c.args.lists.now.items c.greatest-place.result c.remove.result within c.remove.ensures.value)

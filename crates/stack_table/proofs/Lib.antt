@@ -1,0 +1,6 @@
+pub mod Memories
+pub mod Slots
+pub mod Moves
+pub mod Does
+pub mod Laws
+pub mod Opening

@@ -1,0 +1,131 @@
+-- The rule holds of a new stack.
+use Rattle.std.proofs.Common.{◌≡◌, ℕ, zero, suc, ◌+◌, ◌-◌, ◌<◌, ◌≤◌, ◌⊎◌, inl, inr, ⊎_elim, cond, eqb, ltb, List, [], ◌∷◌, map, length, replicate, refl, sym, ap, ◌∙◌, subst, arith}
+use Rattle.std.proofs.lemmas.Bool.Decides.{nat_tests}
+use Rattle.std.proofs.lemmas.List.{get_or_past}
+use Rattle.std.specs.Prelude.{slice_index, Option as Slot, None}
+use mathlib.Core.Option.{Option, some, some-injective, some-ne-none}
+use lib.ListN.{get_elem?}
+use Rattle.atomic_table.specs.Table.{opening}
+use Rattle.tagged_index.specs.Fields.{fields_of}
+use Rattle.tagged_index.specs.declared.word.TheConstants.{NULL}
+use Rattle.bounded_model.specs.declared.history.Event.{Event}
+use Rattle.machine.specs.Words.{times, start_link, start_word, Stands}
+use Rattle.stack_machine.specs.declared.lines.Line.{Line}
+use Rattle.stack_machine.specs.declared.lines.Line.TheVariants.{Idle}
+use Rattle.stack_machine.specs.Machine.{Memory, start}
+use Rattle.stack_machine.specs.Answers.{shape, state}
+use Rattle.stack_machine.specs.Rule.{Lists, IsFine, Told, Good}
+use Rattle.machine.specs.Seats.{first_view}
+use Rattle.machine.specs.declared.seats.View.{View}
+use Rattle.machine.proofs.Tests.{cases}
+use Rattle.machine.proofs.Lists.{leads_frame}
+use Rattle.machine.proofs.Chains.{values_frame}
+use Rattle.machine.proofs.Seating.{seated_first}
+use Rattle.stack_machine.proofs.Moves.{Kept}
+use Rattle.stack_machine.proofs.Start.{start_kept}
+use Rattle.running.specs.Rule.{Rule, who}
+use Rattle.stack_table.specs.Layout.{link_at, words_for, start_at}
+use Rattle.stack_table.specs.Memories.{at_home, memory_of}
+use Rattle.stack_table.specs.Core.{core}
+use Rattle.stack_table.proofs.Laws.{laws, stack}
+
+start_links : (n i : ℕ) → start_at n (link_at i) ≡ start_link n i
+start_links n i = cases (λ v. v ≡ start_link n i) (eqb (32 + i) 16) NULL (cond (ltb (32 + i) 32) 0 (cond (eqb (32 + i) (31 + n)) NULL (32 + i - 31)))
+    (λ b. absurd (grind (arith, nat_tests)))
+    (λ _. cases (λ v. v ≡ start_link n i) (ltb (32 + i) 32) 0 (cond (eqb (32 + i) (31 + n)) NULL (32 + i - 31))
+    (λ b. absurd (grind (arith, nat_tests)))
+    (λ _. cases (λ v. v ≡ start_link n i) (eqb (32 + i) (31 + n)) NULL (32 + i - 31)
+    (λ b. cases (λ v. NULL ≡ v) (eqb (i + 1) n) NULL (i + 1) (λ _. refl) (λ c. absurd (grind (arith, nat_tests))))
+    (λ b. cases (λ v. 32 + i - 31 ≡ v) (eqb (i + 1) n) NULL (i + 1) (λ c. absurd (grind (arith, nat_tests))) (λ _. omega arith))))
+
+start_small : (n i : ℕ) → i < n → n ≤ NULL → start_link n i ≤ NULL
+start_small n i h small = cases (λ v. v ≤ NULL) (eqb (i + 1) n) NULL (i + 1) (λ _. omega arith) (λ _. omega arith)
+
+below : (n i k : ℕ) → k ≡ cond (ltb i n) 1 0 → 0 < k → i < n
+below n i k e h = cases (λ v. k ≡ v → i < n) (ltb i n) 1 0 (λ b _. grind (arith, nat_tests)) (λ b z. absurd (omega arith)) e
+
+-- all slots are at home and empty
+abbrev empties : (T : Type 0) → ℕ → List (Option (Slot T))
+empties T n = map some (replicate n None)
+
+abbrev empty : (T : Type 0) → Option (Slot T)
+empty T = some None
+
+home_start : (T : Type 0) (n i : ℕ) → i < n → at_home (get_elem? (empties T n) i) ≡ empty T
+home_start T zero i h = absurd (omega arith)
+home_start T (suc n) zero h = refl
+home_start T (suc n) (suc i) h = home_start T n i (omega arith)
+
+homes_start : (T : Type 0) (n : ℕ) → length (empties T n) ≡ n
+homes_start T zero = refl
+homes_start T (suc n) = ap suc (homes_start T n)
+
+-- the only seat is the root's
+abbrev first_who : (T : Type 0) → ℕ → Option ℕ
+first_who T = who {T = T} {L = Line T} (first_view ∷ [])
+
+nobody : (T : Type 0) (q p : ℕ) → first_who T q ≡ some p → ⊥
+nobody T zero p e = some-ne-none p (sym e)
+nobody T (suc q) p e = some-ne-none p (sym e)
+
+module _ {T : Type 0} (n limit : ℕ) where
+  -- only links and slots of nodes matter
+  same_nodes : (m m' : Memory T) (g : Lists) (of : ℕ → Option ℕ) (lines : List (Line T)) (h : List (Event T)) → m'.free ≡ m.free → m'.top ≡ m.top → ((j : ℕ) → j < n → m'.link j ≡ m.link j) → ((j : ℕ) → j < n → m'.home j ≡ m.home j)
+      → ((q : ℕ) (l : Line T) → get_elem? lines q ≡ some l → IsFine limit m' g l) → Good T n limit m g of lines h → Good T n limit m' g of lines h
+  same_nodes m m' g of lines h free top link home fine x =
+      let free_node : (j : ℕ) → 0 < times j g.frees → j < n = λ j there. below n j (times j g.frees + times j g.stack + _) (x.linked.once j) (omega arith) in
+      let top_node : (j : ℕ) → 0 < times j g.stack → j < n = λ j there. below n j (times j g.frees + times j g.stack + _) (x.linked.once j) (omega arith) in
+      record {
+        linked = record {
+          small = x.linked.small;
+          free_stands = subst (λ (i : ℕ). Stands m'.link i g.frees) (ap (λ w. w.index) (sym free)) (leads_frame m.link m'.link g.frees m.free.index NULL (λ j there. link j (free_node j there)) x.linked.free_stands);
+          top_stands = subst (λ (i : ℕ). Stands m'.link i g.stack) (ap (λ w. w.index) (sym top)) (leads_frame m.link m'.link g.stack m.top.index NULL (λ j there. link j (top_node j there)) x.linked.top_stands);
+          once = x.linked.once;
+          fine = fine;
+        };
+        filled = record {
+          empty = λ i there. home i (free_node i there) ∙ x.filled.empty i there;
+          stored = values_frame m.home m'.home g.stack (state n limit h).values (λ j there. home j (top_node j there)) x.filled.stored;
+        };
+        told = subst (λ w. Told T n limit w m'.top g of lines h) (sym free) (subst (λ w. Told T n limit m.free w g of lines h) (sym top) x.told);
+      }
+
+  opens_all : (ws items : List ℕ) → ws ≡ items → 0 < n → n ≤ NULL → length items ≡ words_for n → ((k : ℕ) → k < words_for n → slice_index items k ≡ start_at n k) → Rule {names = _} (stack T n limit) (opening ws (replicate n None) first_view)
+  opens_all ws items e some_node small long_items items_are =
+      let long : length ws ≡ words_for n = ap length e ∙ long_items in
+      let is : (k : ℕ) → k < words_for n → slice_index ws k ≡ start_at n k = λ k h. ap (λ (l : List ℕ). slice_index l k) e ∙ items_are k h in
+      let m : Memory T = start (shape n limit) in
+      let homes : List (Option (Slot T)) = empties T n in
+      let kept : Kept T n limit m some (Idle None ∷ []) [] = start_kept n limit 1 some_node small in
+      let free : fields_of (slice_index ws 0) ≡ start_word 0 = ap fields_of (is 0 (omega arith)) in
+      let top : fields_of (slice_index ws 16) ≡ start_word NULL = ap fields_of (is 16 (omega arith)) in
+      let good = same_nodes m (memory_of ws homes) kept.lists some (Idle None ∷ []) [] free top
+      (λ j low. is (link_at j) (omega arith) ∙ start_links n j)
+      (λ j low. home_start T n j low)
+      (λ q l e. fine_idle (memory_of ws homes) kept.lists q l e)
+      kept.good in
+      record {
+        history = [];
+        good = (laws n limit).reseats (memory_of ws homes) some (first_who T) (Idle None ∷ []) (Idle None ∷ []) [] (record { lists = kept.lists; good = good }) (inl refl)
+            (λ q p l _ e. absurd (nobody T q p e))
+            (λ q r p e _. absurd (nobody T q p e));
+        seated = seated_first (shape n limit) (core T n limit).holding;
+        sane = record {
+          words_are = long;
+          homes_are = homes_start T n;
+          plain = λ i. ⊎_elim
+              (λ low. subst (λ (k : ℕ). k ≤ NULL) (sym (is (link_at i) (omega arith) ∙ start_links n i)) (start_small n i low small))
+              (λ high. subst (λ (k : ℕ). k ≤ NULL) (sym (get_or_past ws (link_at i) 0 (omega arith))) (omega arith))
+              (below_or_not i n);
+        };
+      }
+    where
+      below_or_not : (i k : ℕ) → (i < k) ⊎ (k ≤ i)
+      below_or_not i k = cases (λ (b : ℕ). (i < k) ⊎ (k ≤ i)) (ltb i k) 1 0 (λ b. inl (grind (arith, nat_tests))) (λ b. inr (grind (arith, nat_tests)))
+
+      fine_idle : (m : Memory T) (g : Lists) (q : ℕ) (l : Line T) → get_elem? (Idle None ∷ []) q ≡ some l → IsFine limit m g l
+      fine_idle m g zero l e = subst (IsFine limit m g) (some-injective (Idle None) l e) tt
+      fine_idle m g (suc q) l e = absurd (some-ne-none l (sym e))
+
+  pub opens : (ws items : List ℕ) → ws ≡ items → 0 < n → n ≤ NULL → length items ≡ words_for n → ((k : ℕ) → k < words_for n → slice_index items k ≡ start_at n k) → (count : ℕ) → count ≡ n → Rule {names = _} (stack T n limit) (opening ws (replicate count None) first_view)
+  opens ws items e some_node small long is count same = subst (λ (k : ℕ). Rule {names = _} (stack T n limit) (opening ws (replicate k None) first_view)) (sym same) (opens_all ws items e some_node small long is)

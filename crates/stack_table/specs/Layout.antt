@@ -1,0 +1,21 @@
+-- Where the words of a stack lie: the two tops, 16 words apart so that each has cache lines of its own,
+-- and then one link for each node.
+use Rattle.std.specs.Prelude.{ℕ, ◌+◌, ◌-◌, ◌==◌, ltb, if◌then◌else◌}
+use Rattle.tagged_index.specs.declared.word.TheConstants.{NULL}
+
+abbrev pub free_at : ℕ
+free_at = 0
+
+abbrev pub top_at : ℕ
+top_at = 16
+
+-- one link serves whichever list the node is on
+abbrev pub link_at : ℕ → ℕ
+link_at i = 32 + i
+
+abbrev pub words_for : ℕ → ℕ
+words_for n = 32 + n
+
+-- the words of a new stack of n nodes: all nodes are free, each linked to the next
+abbrev pub start_at : ℕ → ℕ → ℕ
+start_at n k = if k == 16 then NULL else if ltb k 32 then 0 else if k == 31 + n then NULL else k - 31

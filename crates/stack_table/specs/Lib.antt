@@ -1,0 +1,5 @@
+pub mod Layout
+pub mod Slots
+pub mod Lines
+pub mod Memories
+pub mod Core
