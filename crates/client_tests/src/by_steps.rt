@@ -1,6 +1,7 @@
 ghost use Rattle.bounded_model.specs.Laws.{PutGives, TakeGives};
 
 use bounded_model::{Container, PutRefused, Stepped, Stepwise, TakeRefused};
+use ms_queue::Queue;
 use std::sync::Wait;
 use std::test::Fail;
 use tagged_index::{Limits, MAX_TAG};
@@ -65,6 +66,22 @@ fn steps_of_any_container_are_counted(rt: HostRuntime) -> Result<(), Fail> {
     assert_eq!(rt; (answer, steps), (Ok((7, 1)), 6));
     let (_, answer, steps) = take_by_steps(&rt, &stack, pass);
     assert_eq!(rt; (answer, steps), (Err(TakeRefused::Empty), 1));
+    Ok(())
+}
+
+#[test]
+fn steps_of_a_queue_are_counted(rt: HostRuntime) -> Result<(), Fail> {
+    let limits = Limits::of(1, MAX_TAG).ok_or("limits")?;
+    let (queue, mut root) = Queue::<u32>::new(rt.alloc(), limits)?;
+    let pass = queue.split(&mut root).ok_or("no pass")?;
+    let (pass, answer, steps) = put_by_steps(&rt, &queue, pass, 7);
+    assert_eq!(rt; (answer, steps), (Ok(0), 14));
+    let (pass, answer, steps) = put_by_steps(&rt, &queue, pass, 8);
+    assert_eq!(rt; (answer, steps), (Err(PutRefused::Full(8)), 4));
+    let (pass, answer, steps) = take_by_steps(&rt, &queue, pass);
+    assert_eq!(rt; (answer, steps), (Ok((7, 0)), 12));
+    let (_, answer, steps) = take_by_steps(&rt, &queue, pass);
+    assert_eq!(rt; (answer, steps), (Err(TakeRefused::Empty), 4));
     Ok(())
 }
 

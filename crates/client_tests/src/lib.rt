@@ -1,5 +1,5 @@
-//! Code that knows a container by its traits alone, run over the stack: calls made by single steps,
-//! ranges and folds, and the carry of items from one pass to another.
+//! Code that knows a container by its traits alone, run over the stack and the queue: calls made by
+//! single steps, the carry of items from one pass to another, and over the stack ranges and folds.
 #![tactic(auto)]
 
 #[cfg(test)]
