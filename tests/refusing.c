@@ -1,9 +1,9 @@
 /* Stands between the program and the C library, where a test asks for it by the environment:
    REFUSED_ALLOCATION=N refuses the Nth allocation, REFUSED_FROM=N that and all later ones, REFUSED_THREAD=N the Nth
-   thread, REFUSED_READ=N the Nth read, REFUSED_WRITE=N the Nth write to standard output; IN_PIECES=1 interrupts every
-   other one of these reads and writes, and has the others move one byte. SEEN=FILE gets one byte for each of these
-   calls: 'm' an allocation, 't' a thread, 'r' a read, '1' and '2' a write to standard output and error, 'x' behind a
-   call that was refused, and at the end a 'k' for each block of memory that is kept. */
+   thread, REFUSED_READ=N the Nth read, REFUSED_WRITE=N the Nth write to standard output and all later ones; IN_PIECES=1
+   interrupts every other one of these reads and writes, and has the others move one byte. SEEN=FILE gets one byte for
+   each of these calls: 'm' an allocation, 't' a thread, 'r' a read, '1' and '2' a write to standard output and error,
+   'x' behind a call that was refused, and at the end a 'k' for each block of memory that is kept. */
 #define _GNU_SOURCE
 #include <dlfcn.h>
 #include <errno.h>
@@ -120,8 +120,8 @@ int pthread_create(pthread_t *thread, const pthread_attr_t *how, void *(*start)(
 }
 
 /* How many bytes call number `count` of a kind may move; -1 where it is refused or interrupted. */
-static ssize_t room(long count, long refused, size_t wanted) {
-    if (count == refused) {
+static ssize_t room(long count, int refused, size_t wanted) {
+    if (refused) {
         tell('x');
         errno = EIO;
         return -1;
@@ -135,7 +135,8 @@ static ssize_t room(long count, long refused, size_t wanted) {
 
 ssize_t read(int from, void *bytes, size_t wanted) {
     tell('r');
-    ssize_t count = room(atomic_fetch_add(&reads, 1) + 1, refused_read, wanted);
+    long number = atomic_fetch_add(&reads, 1) + 1;
+    ssize_t count = room(number, number == refused_read, wanted);
     return count < 0 ? count : syscall(SYS_read, from, bytes, (size_t)count);
 }
 
@@ -143,8 +144,10 @@ ssize_t write(int to, const void *bytes, size_t wanted) {
     ssize_t count = (ssize_t)wanted;
     if (to == 1 || to == 2)
         tell(to == 1 ? '1' : '2');
-    if (to == 1)
-        count = room(atomic_fetch_add(&writes, 1) + 1, refused_write, wanted);
+    if (to == 1) {
+        long number = atomic_fetch_add(&writes, 1) + 1;
+        count = room(number, refused_write && number >= refused_write, wanted);
+    }
     return count < 0 ? count : syscall(SYS_write, to, bytes, (size_t)count);
 }
 
