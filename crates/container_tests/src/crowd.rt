@@ -2,68 +2,22 @@
 
 ghost use Rattle.std.specs.Prelude.{All};
 
+use crate::log::Log;
 use crate::pool::Pool;
 use bounded_model::{PutRefused, TakeRefused};
-use std::alloc::{AllocFailed, Global};
 use std::sync::Wait;
-use std::sync::atomic::{AtomicU64, Ordering};
 use std::thread;
 use std::thread::Threads;
 
-/// What the threads of a run have found.
-#[derive(Drop)]
-pub(crate) struct Tally {
-    /// How often each value came out.
-    pub(crate) found: Vec<AtomicU64>,
-    /// How many values came out that nobody put.
-    pub(crate) strange: AtomicU64,
-    /// How often a pass got a number that is not above its last one.
-    pub(crate) falls: AtomicU64,
-    /// How often a pass got a value that is below its last one.
-    pub(crate) descents: AtomicU64,
-    /// How often a pass was refused what must be there.
-    pub(crate) refusals: AtomicU64,
-}
-
-impl Tally {
-    /// Of a run with this many values, 0, 1, 2, ..
-    pub(crate) fn of(alloc: Global, values: u64) -> Result<Tally, AllocFailed<AtomicU64>> {
-        let mut found = Vec::new(alloc);
-        for _ in 0..values {
-            found.push(AtomicU64::new(0))?;
-        }
-        Ok(Tally {
-            found,
-            strange: AtomicU64::new(0),
-            falls: AtomicU64::new(0),
-            descents: AtomicU64::new(0),
-            refusals: AtomicU64::new(0),
-        })
-    }
-
-    /// Whether each value came out once, and nothing else did.
-    pub(crate) fn is_each_once(&self) -> bool {
-        self.strange.load(Ordering::SeqCst) == 0
-            && self
-                .found
-                .iter()
-                .all(|times| times.load(Ordering::SeqCst) == 1)
-    }
-
-    /// Counts a value that came out.
-    pub(crate) fn count(&self, value: u64) {
-        let times = match usize::try_from(value) {
-            Ok(place) => self.found.get(place).unwrap_or(&self.strange),
-            Err(_) => &self.strange,
-        };
-        times.fetch_add(1, Ordering::SeqCst);
-    }
-}
-
 /// Puts one value, however often the container is full.
-pub(crate) fn put<P: Pool, R: Wait>(rt: &R, pool: &P, by: P::Pass, value: u64) -> P::Pass
+pub(crate) fn put<P: Pool, R: Wait>(
+    rt: &R,
+    pool: &P,
+    by: P::Pass,
+    value: u64,
+) -> (P::Pass, Result<u64, PutRefused<u64>>)
     requires { P.is_pass pool.now by }
-    ensures { P.is_pass pool.now result }
+    ensures { P.is_pass pool.now result.0 }
 {
     let mut pass = by;
     for _ in rt.forever() {
@@ -71,41 +25,44 @@ pub(crate) fn put<P: Pool, R: Wait>(rt: &R, pool: &P, by: P::Pass, value: u64) -
         pass = back;
         match answer {
             Err(PutRefused::Full(_)) => thread::yield_now(),
-            _ => return pass,
+            _ => return (pass, answer),
         }
     }
     unreachable!()
 }
 
 // Puts so many values from the first on.
-fn put_from<P: Pool, R: Wait>(rt: &R, pool: &P, by: P::Pass, first: u64, count: u64)
+fn put_from<P: Pool, R: Wait>(rt: &R, pool: &P, by: P::Pass, first: u64, count: u64, log: &Log)
     requires { P.is_pass pool.now by }
 {
     let mut pass = by;
     for k in 0..count {
-        pass = put(rt, pool, pass, first.saturating_add(k));
+        let value = first.saturating_add(k);
+        let (back, answer) = put(rt, pool, pass, value);
+        pass = back;
+        match answer {
+            Ok(number) => log.note_put(value, number),
+            Err(_) => log.note_fault(),
+        }
     }
 }
 
-/// Takes until the container is closed and empty, and counts what it took.
-pub(crate) fn take_until_closed<P: Pool, R: Wait>(rt: &R, pool: &P, by: P::Pass, tally: &Tally)
+// Takes until the container is closed and empty. A pass's numbers rise.
+fn take_until_closed<P: Pool, R: Wait>(rt: &R, pool: &P, by: P::Pass, log: &Log)
     requires { P.is_pass pool.now by }
 {
     let mut pass = by;
-    let mut last: Option<(u64, u64)> = None;
+    let mut last: Option<u64> = None;
     for _ in rt.forever() {
         let (back, answer) = pool.take(rt, pass);
         pass = back;
         match answer {
             Ok((value, number)) => {
-                tally.count(value);
-                if last.is_some_and(|before| number <= before.1) {
-                    tally.falls.fetch_add(1, Ordering::SeqCst);
+                log.note_take(value, number);
+                if last.is_some_and(|before| number <= before) {
+                    log.note_fault();
                 }
-                if last.is_some_and(|before| value <= before.0) {
-                    tally.descents.fetch_add(1, Ordering::SeqCst);
-                }
-                last = Some((value, number));
+                last = Some(number);
             }
             Err(TakeRefused::Empty) => thread::yield_now(),
             Err(_) => return,
@@ -120,6 +77,7 @@ fn put_at_once<P: Pool + Sync, R: Threads + Wait + Sync>(
     pool: &P,
     producers: Vec<P::Pass>,
     each: u64,
+    log: &Log,
 ) -> bool
     requires { All (P.is_pass pool.now) producers.items }
 {
@@ -136,7 +94,7 @@ fn put_at_once<P: Pool + Sync, R: Threads + Wait + Sync>(
                 let producer = scope.spawn(
                     move ||
                         requires { P.is_pass pool.now pass }
-                    { put_from(rt, pool, pass, from, each) },
+                    { put_from(rt, pool, pass, from, each, log) },
                 );
                 started &= producer.is_ok();
                 first = first.saturating_add(each);
@@ -155,7 +113,7 @@ pub(crate) fn exchange<P: Pool + Sync, R: Threads + Wait + Sync>(
     consumers: Vec<P::Pass>,
     closer: P::Pass,
     each: u64,
-    tally: &Tally,
+    log: &Log,
 ) -> bool
     requires producers { All (P.is_pass pool.now) producers.items }
     requires consumers { All (P.is_pass pool.now) consumers.items }
@@ -174,12 +132,12 @@ pub(crate) fn exchange<P: Pool + Sync, R: Threads + Wait + Sync>(
                 let consumer = scope.spawn(
                     move ||
                         requires { P.is_pass pool.now pass }
-                    { take_until_closed(rt, pool, pass, tally) },
+                    { take_until_closed(rt, pool, pass, log) },
                 );
                 started &= consumer.is_ok();
             }
             if started {
-                started = put_at_once(rt, pool, producers, each);
+                started = put_at_once(rt, pool, producers, each, log);
             }
             let _ = pool.close(rt, closer);
             started
@@ -187,17 +145,17 @@ pub(crate) fn exchange<P: Pool + Sync, R: Threads + Wait + Sync>(
     )
 }
 
-// Puts a value and takes one, in turn, so many times, and counts the takes that are refused.
-fn put_then_take<P: Pool, R: Wait>(rt: &R, pool: &P, by: P::Pass, times: u64, tally: &Tally)
+// Puts a value and takes one, in turn, so many times.
+fn put_then_take<P: Pool, R: Wait>(rt: &R, pool: &P, by: P::Pass, times: u64, log: &Log)
     requires { P.is_pass pool.now by }
 {
     let mut pass = by;
     for value in 0..times {
-        pass = put(rt, pool, pass, value);
-        let (back, answer) = pool.take(rt, pass);
+        let (back, _) = put(rt, pool, pass, value);
+        let (back, answer) = pool.take(rt, back);
         pass = back;
         if answer.is_err() {
-            tally.refusals.fetch_add(1, Ordering::SeqCst);
+            log.note_fault();
         }
     }
 }
@@ -209,7 +167,7 @@ pub(crate) fn take_after_own_put<P: Pool + Sync, R: Threads + Wait + Sync>(
     pool: &P,
     passes: Vec<P::Pass>,
     times: u64,
-    tally: &Tally,
+    log: &Log,
 ) -> bool
     requires { All (P.is_pass pool.now) passes.items }
 {
@@ -224,7 +182,7 @@ pub(crate) fn take_after_own_put<P: Pool + Sync, R: Threads + Wait + Sync>(
                 let both = scope.spawn(
                     move ||
                         requires { P.is_pass pool.now pass }
-                    { put_then_take(rt, pool, pass, times, tally) },
+                    { put_then_take(rt, pool, pass, times, log) },
                 );
                 started &= both.is_ok();
             }

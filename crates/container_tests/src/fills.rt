@@ -2,17 +2,25 @@
 
 ghost use Rattle.std.specs.Prelude.{All, IfOk};
 
-use crate::crowd::{Tally, exchange, take_after_own_put};
-use bounded_model::{Container, PutRefused, TakeRefused};
+use crate::crowd::{exchange, take_after_own_put};
+use crate::log::Log;
+use bounded_model::{Container, Order, PutRefused, TakeRefused};
 use std::alloc::Global;
 use std::process::Abort;
 use std::sync::Wait;
-use std::sync::atomic::Ordering;
 use std::test::Fail;
 use std::thread::Threads;
 
-/// So many passes.
-pub(crate) fn passes<C: Container<u64>>(
+/// Threads that put and threads that take, and how many values each of the former puts.
+#[derive(Clone, Copy)]
+pub(crate) struct Crowd {
+    pub(crate) producers: u32,
+    pub(crate) consumers: u32,
+    pub(crate) each: u64,
+}
+
+// So many passes.
+fn passes<C: Container<u64>>(
     alloc: Global,
     container: &C,
     root: &mut C::Root,
@@ -104,27 +112,38 @@ pub(crate) fn room_for_its_capacity<C: Container<u64>, R: Abort + Wait>(
     Ok(())
 }
 
-/// Producers and consumers at once, each value put by one of the producers: each comes out once,
-/// and each consumer's numbers rise. Answers what they found.
+/// Producers and consumers at once. Each value comes out once, the calls are numbered without a
+/// gap, in the order of their numbers they are those of a container of one thread, and each
+/// producer's values are put in its order.
 pub(crate) fn each_value_once<C: Container<u64> + Sync, R: Abort + Threads + Wait + Sync>(
     rt: &R,
     alloc: Global,
     container: &C,
     root: &mut C::Root,
-    producers: u32,
-    consumers: u32,
-    each: u64,
-) -> Result<Tally, Fail>
+    crowd: Crowd,
+) -> Result<(), Fail>
     requires { C.is_root container.now root.old }
 {
-    let tally = Tally::of(alloc, each.saturating_mul(u64::from(producers)))?;
-    let producers = passes(alloc, container, root, producers)?;
-    let consumers = passes(alloc, container, root, consumers)?;
+    let values = crowd.each.saturating_mul(u64::from(crowd.producers));
+    let log = match C::ORDER {
+        Order::Fifo => Log::of(alloc, values)?,
+        Order::Lifo => Log::of(alloc, values.saturating_mul(2))?,
+    };
+    let producers = passes(alloc, container, root, crowd.producers)?;
+    let consumers = passes(alloc, container, root, crowd.consumers)?;
     let closer = container.split(root).ok_or("no pass")?;
-    assert!(rt; exchange(rt, container, producers, consumers, closer, each, &tally));
-    assert!(rt; tally.is_each_once());
-    assert_eq!(rt; tally.falls.load(Ordering::SeqCst), 0);
-    Ok(tally)
+    assert!(rt;
+        exchange(
+            rt, container, producers, consumers, closer, crowd.each, &log
+        )
+    );
+    assert!(rt; log.is_sound());
+    assert!(rt; log.has_puts_of(alloc, crowd.producers, crowd.each)?);
+    match C::ORDER {
+        Order::Fifo => assert!(rt; log.is_of_a_queue()),
+        Order::Lifo => assert!(rt; log.is_of_a_stack(alloc)?),
+    }
+    Ok(())
 }
 
 /// Threads that each put and take in turn: no take is refused.
@@ -138,9 +157,9 @@ pub(crate) fn own_puts_suffice<C: Container<u64> + Sync, R: Abort + Threads + Wa
 ) -> Result<(), Fail>
     requires { C.is_root container.now root.old }
 {
-    let tally = Tally::of(alloc, 0)?;
+    let log = Log::of(alloc, 0)?;
     let passes = passes(alloc, container, root, threads)?;
-    assert!(rt; take_after_own_put(rt, container, passes, times, &tally));
-    assert_eq!(rt; tally.refusals.load(Ordering::SeqCst), 0);
+    assert!(rt; take_after_own_put(rt, container, passes, times, &log));
+    assert!(rt; log.is_sound());
     Ok(())
 }

@@ -11,6 +11,8 @@ mod drops;
 #[cfg(test)]
 mod fills;
 #[cfg(test)]
+mod log;
+#[cfg(test)]
 mod pool;
 #[cfg(test)]
 mod queue;

@@ -1,11 +1,12 @@
 //! The tests of every container, at the queue.
 
 use crate::drops::{self, Dice};
-use crate::fills::{each_value_once, one_value_at_a_time, own_puts_suffice, room_for_its_capacity};
+use crate::fills::{
+    Crowd, each_value_once, one_value_at_a_time, own_puts_suffice, room_for_its_capacity,
+};
 use crate::stack::MOST;
 use ms_queue::Queue;
 use std::sync::Arc;
-use std::sync::atomic::Ordering;
 use std::test::Fail;
 use tagged_index::Limits;
 
@@ -28,21 +29,42 @@ fn a_queue_has_room_for_its_capacity(rt: HostRuntime) -> Result<(), Fail> {
 
 #[test]
 fn one_producer_and_one_consumer_of_a_queue(rt: HostRuntime) -> Result<(), Fail> {
+    let crowd = Crowd {
+        producers: 1,
+        consumers: 1,
+        each: 20_000,
+    };
     for capacity in [1, 3] {
         let limits = Limits::of(capacity, MOST).ok_or("limits")?;
         let (queue, mut root) = Queue::<u64>::new(rt.alloc(), limits)?;
-        let tally = each_value_once(&rt, rt.alloc(), &queue, &mut root, 1, 1, 20_000)?;
-        assert_eq!(rt; tally.descents.load(Ordering::SeqCst), 0);
+        each_value_once(&rt, rt.alloc(), &queue, &mut root, crowd)?;
     }
     Ok(())
 }
 
 #[test]
+fn two_producers_and_two_consumers_of_a_queue(rt: HostRuntime) -> Result<(), Fail> {
+    let crowd = Crowd {
+        producers: 2,
+        consumers: 2,
+        each: 20_000,
+    };
+    let limits = Limits::of(8, MOST).ok_or("limits")?;
+    let (queue, mut root) = Queue::<u64>::new(rt.alloc(), limits)?;
+    each_value_once(&rt, rt.alloc(), &queue, &mut root, crowd)
+}
+
+#[test]
 fn many_producers_and_consumers_of_a_queue(rt: HostRuntime) -> Result<(), Fail> {
+    let crowd = Crowd {
+        producers: 4,
+        consumers: 4,
+        each: 5_000,
+    };
     for capacity in [1, 3, 64] {
         let limits = Limits::of(capacity, MOST).ok_or("limits")?;
         let (queue, mut root) = Queue::<u64>::new(rt.alloc(), limits)?;
-        let _ = each_value_once(&rt, rt.alloc(), &queue, &mut root, 4, 4, 5_000)?;
+        each_value_once(&rt, rt.alloc(), &queue, &mut root, crowd)?;
     }
     Ok(())
 }

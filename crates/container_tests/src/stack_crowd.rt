@@ -2,17 +2,57 @@
 
 ghost use Rattle.treiber_stack.specs.Stack.{IsPassOf};
 
-use crate::crowd::Tally;
-use crate::stack::MOST;
 use bounded_model::{Container, PutRefused, TakeRefused};
+use std::alloc::{AllocFailed, Global};
 use std::sync::Wait;
+use std::sync::atomic::{AtomicU64, Ordering};
 use std::test::Fail;
 use std::thread;
-use tagged_index::Limits;
+use tagged_index::{Limits, MAX_TAG};
 use treiber_stack::{Pass, Stack};
 
 /// How many ranges of three values each of the two putting threads has.
 const RANGES: u64 = 3_000;
+
+/// How often each of the values 0, 1, 2, .. came out.
+#[derive(Drop)]
+struct Tally {
+    found: Vec<AtomicU64>,
+    /// How many values came out that nobody put.
+    strange: AtomicU64,
+}
+
+impl Tally {
+    /// Of so many values.
+    fn of(alloc: Global, values: u64) -> Result<Tally, AllocFailed<AtomicU64>> {
+        let mut found = Vec::new(alloc);
+        for _ in 0..values {
+            found.push(AtomicU64::new(0))?;
+        }
+        Ok(Tally {
+            found,
+            strange: AtomicU64::new(0),
+        })
+    }
+
+    /// Whether each value came out once, and nothing else did.
+    fn is_each_once(&self) -> bool {
+        self.strange.load(Ordering::SeqCst) == 0
+            && self
+                .found
+                .iter()
+                .all(|times| times.load(Ordering::SeqCst) == 1)
+    }
+
+    /// Counts a value that came out.
+    fn count(&self, value: u64) {
+        let times = match usize::try_from(value) {
+            Ok(place) => self.found.get(place).unwrap_or(&self.strange),
+            Err(_) => &self.strange,
+        };
+        times.fetch_add(1, Ordering::SeqCst);
+    }
+}
 
 // Puts one value, however often the stack is full.
 fn put<R: Wait>(rt: &R, stack: &Stack<u64>, by: Pass<u64>, value: u64) -> Pass<u64>
@@ -102,7 +142,7 @@ fn fold_each<R: Wait>(rt: &R, stack: &Stack<u64>, by: Pass<u64>, tally: &Tally)
 
 #[test]
 fn ranges_and_folds_beside_takes_keep_each_value(rt: HostRuntime) -> Result<(), Fail> {
-    let limits = Limits::of(8, MOST).ok_or("limits")?;
+    let limits = Limits::of(8, MAX_TAG).ok_or("limits")?;
     let (stack, mut root) = Stack::<u64>::new(rt.alloc(), limits)?;
     let whole = Tally::of(rt.alloc(), 6 * RANGES)?;
     let (shared, tally) = (&stack, &whole);
