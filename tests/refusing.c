@@ -3,7 +3,7 @@
    thread, REFUSED_READ=N the Nth read, REFUSED_WRITE=N the Nth write to standard output and all later ones; IN_PIECES=1
    interrupts every other one of these reads and writes, and has the others move one byte. SEEN=FILE gets one byte for
    each of these calls: 'm' an allocation, 't' a thread, 'r' a read, '1' and '2' a write to standard output and error,
-   and 'x' behind a call that was refused. */
+   'x' behind a call that was refused, and at the end a 'k' for each block of memory that is kept. */
 #define _GNU_SOURCE
 #include <dlfcn.h>
 #include <errno.h>
@@ -11,12 +11,14 @@
 #include <pthread.h>
 #include <stdatomic.h>
 #include <stddef.h>
+#include <stdint.h>
 #include <stdlib.h>
 #include <sys/syscall.h>
 #include <unistd.h>
 
 extern void *__libc_malloc(size_t);
 extern void *__libc_realloc(void *, size_t);
+extern void __libc_free(void *);
 
 static atomic_long allocations, threads, reads, writes;
 static long refused_allocation, refused_from, refused_thread, refused_read, refused_write, in_pieces;
@@ -43,6 +45,42 @@ static void tell(char what) {
         syscall(SYS_write, seen, &what, 1);
 }
 
+/* The blocks that are kept: a table of addresses, in which a block that was given back leaves a mark. */
+enum { PLACES = 1 << 16 };
+static _Atomic(uintptr_t) kept[PLACES];
+static const uintptr_t LEFT = 1;
+
+static size_t place_of(uintptr_t block, size_t tries) {
+    return (block / 16 + tries) % PLACES;
+}
+
+static void *keep(void *block) {
+    for (size_t tries = 0; block && tries < PLACES; tries++) {
+        _Atomic(uintptr_t) *place = &kept[place_of((uintptr_t)block, tries)];
+        uintptr_t found = atomic_load(place);
+        if (found <= LEFT && atomic_compare_exchange_strong(place, &found, (uintptr_t)block))
+            break;
+    }
+    return block;
+}
+
+static void leave(void *block) {
+    for (size_t tries = 0; block && tries < PLACES; tries++) {
+        _Atomic(uintptr_t) *place = &kept[place_of((uintptr_t)block, tries)];
+        uintptr_t found = atomic_load(place);
+        if (found == (uintptr_t)block)
+            atomic_store(place, LEFT);
+        if (found == (uintptr_t)block || !found)
+            break;
+    }
+}
+
+__attribute__((destructor)) static void end(void) {
+    for (size_t place = 0; place < PLACES; place++)
+        if (kept[place] > LEFT)
+            tell('k');
+}
+
 static int is_refused(void) {
     long count = atomic_fetch_add(&allocations, 1) + 1;
     tell('m');
@@ -54,11 +92,19 @@ static int is_refused(void) {
 }
 
 void *malloc(size_t size) {
-    return is_refused() ? NULL : __libc_malloc(size);
+    return is_refused() ? NULL : keep(__libc_malloc(size));
 }
 
 void *realloc(void *old, size_t size) {
-    return is_refused() ? NULL : __libc_realloc(old, size);
+    if (is_refused())
+        return NULL;
+    leave(old);
+    return keep(__libc_realloc(old, size));
+}
+
+void free(void *block) {
+    leave(block);
+    __libc_free(block);
 }
 
 int pthread_create(pthread_t *thread, const pthread_attr_t *how, void *(*start)(void *), void *given) {
