@@ -1,5 +1,5 @@
 -- A container's calls by single steps, as a script's lines see them.
-use Rattle.std.specs.Prelude.{◌≡◌, ℕ, List, map, Result, Ok, Err}
+use Rattle.std.specs.Prelude.{◌≡◌, ℕ, List, [], ◌∷◌, ◌++◌, map, Result, Ok, Err}
 use Rattle.bounded_model.specs.declared.commands.Command.{Command}
 use Rattle.bounded_model.specs.declared.commands.Command.TheVariants as command
 use Rattle.bounded_model.specs.declared.answers.TakeRefused.{TakeRefused}
@@ -53,6 +53,12 @@ made_in views (Look op) = views.looking op
 abbrev pub numbered : List (List ℕ) → Result Folded TakeRefused → Result (ℕ × List (List ℕ)) TakeRefused
 numbered values (Ok folded) = Ok (folded.number, values)
 numbered values (Err refused) = Err refused
+
+-- one value more, at the end, unless there was no memory for one of them
+abbrev pub AddsOne : {E : Type 0} → Result (List (List ℕ)) E → List ℕ → Result (List (List ℕ)) E → Type 0
+AddsOne (Ok values) value (Ok more) = more ≡ values ++ value ∷ []
+AddsOne (Err why) value (Ok more) = ⊥
+AddsOne values value (Err why) = Unit {0}
 
 -- a script was played over a new container, and this is the text of the answers
 abbrev pub PlaysNew : Order → Limits → List Line → List ℕ → Type 0

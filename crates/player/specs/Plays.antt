@@ -1,5 +1,5 @@
 -- A played script: each line's answer is that of the call that the line names, under the container's own laws.
-use Rattle.std.specs.Prelude.{◌≡◌, ℕ, ◌+◌, ◌-◌, ◌≤◌, Bool, true, false, List, [], ◌∷◌, ◌++◌, codes, map, replicate, Option, Some, Result, Ok, Err, slice_set, slice_index_or}
+use Rattle.std.specs.Prelude.{◌≡◌, ℕ, ◌+◌, ◌-◌, ◌≤◌, Bool, true, false, List, [], ◌∷◌, ◌++◌, codes, map, replicate, reverse, Option, Some, Result, Ok, Err, slice_set, slice_index_or}
 use Rattle.std.specs.Io.Iter.{u64_saturate}
 use Rattle.bounded_model.specs.declared.answers.TakeRefused.{TakeRefused}
 use Rattle.bounded_model.specs.declared.bulk.Ranged.{Ranged}
@@ -70,9 +70,14 @@ pub record RangeTold (c : Shape) (v w : PassView (List ℕ)) (values : List (Lis
   pub reply : said ≡ range_reply gave
   pub values_kept : kept ≡ values_in places
 
--- a fold: it took all values at once. That the values told are those, in its order, is not said here: tests show it
+-- the values that a fold took, as it tells them: from the top down, or the other way round
+abbrev pub in_direction : Bool → List (List ℕ) → List (List ℕ)
+in_direction false values = values
+in_direction true values = reverse values
+
+-- a fold: it took all values at once, and told each of them, in its direction
 abbrev pub FoldTold : Shape → Bool → PassView (List ℕ) → PassView (List ℕ) → Result (ℕ × List (List ℕ)) TakeRefused → Type 0
-FoldTold c reversed v w (Ok (number, told)) = (values : List (List ℕ)) × FoldGives v w values number
+FoldTold c reversed v w (Ok (number, told)) = (values : List (List ℕ)) × FoldGives v w values number × (told ≡ in_direction reversed values)
 FoldTold c reversed v w (Err why) = TakesNothing c v w why
 
 -- ---- single steps

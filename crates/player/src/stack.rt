@@ -3,7 +3,7 @@
 ghost use Rattle.std.specs.Prelude.{◌≡◌, IfOk, IsTrue, string_bytes, true, false};
 ghost use Rattle.std.specs.List.{AllByRecursion};
 ghost use Rattle.bounded_model.specs.declared.history.Order.TheVariants.{Lifo};
-ghost use Rattle.player.specs.Calls.{PlaysNew, numbered};
+ghost use Rattle.player.specs.Calls.{AddsOne, PlaysNew, numbered};
 ghost use Rattle.player.specs.Plays.{FoldTold, RangeTold, range_reply};
 ghost use Rattle.script.specs.Script.{FinishesLast, IsLine, is_allowed};
 ghost use Rattle.treiber_stack.specs.Stack.{IsPassOf, pass_in, shape_of};
@@ -78,7 +78,9 @@ fn put_values<'a, R: Wait>(
 fn pushed<'a>(
     values: Result<ValueList<'a>, AllocError>,
     value: Value<'a>,
-) -> Result<ValueList<'a>, AllocError> {
+) -> Result<ValueList<'a>, AllocError>
+    ensures { AddsOne values.entry value.entry result }
+{
     let mut values = values?;
     values.push(value)?;
     Ok(values)
