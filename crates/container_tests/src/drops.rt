@@ -1,8 +1,9 @@
-//! Each value is dropped once, whether it was taken or left.
+//! Each value is dropped once: whether it was taken or left, and wherever a pass stops that has it.
 
 ghost use Rattle.std.specs.Prelude.{IfOk};
 
-use bounded_model::Container;
+use crate::steps::{put_on, take_on};
+use bounded_model::{Container, Leaving, Stepwise};
 use std::process::Abort;
 use std::sync::{Arc, Wait};
 use std::test::Fail;
@@ -79,4 +80,129 @@ pub(crate) fn each_value_once<C: Container<Arc<u8>>, R: Abort + Wait>(
     drop(container);
     assert_eq!(rt; Arc::strong_count(value), 1);
     Ok(())
+}
+
+/// A refused put hands its value back, and a take hands one out: each is dropped where it is. The
+/// container has room for two.
+pub(crate) fn in_use<C: Container<Arc<u8>>, R: Abort + Wait>(
+    rt: &R,
+    container: C,
+    root: C::Root,
+    value: &Arc<u8>,
+) -> Result<(), Fail>
+    requires { C.is_root container root }
+{
+    let mut root = root;
+    let pass = container.split(&mut root).ok_or("no pass")?;
+    let pass = fill(rt, &container, pass, value, 2)?;
+    let (pass, full) = container.put(rt, pass, Arc::try_clone(value)?);
+    assert_eq!(rt; Arc::strong_count(value), 4);
+    drop(full);
+    assert_eq!(rt; Arc::strong_count(value), 3);
+    let (_, taken) = container.take(rt, pass);
+    assert_eq!(rt; Arc::strong_count(value), 3);
+    drop(taken);
+    assert_eq!(rt; Arc::strong_count(value), 2);
+    drop(root);
+    drop(container);
+    assert_eq!(rt; Arc::strong_count(value), 1);
+    Ok(())
+}
+
+/// Of three values that are left one is read, and the rest is dropped with the others.
+pub(crate) fn half_read<C: Container<Arc<u8>>, R: Abort + Wait>(
+    rt: &R,
+    container: C,
+    root: C::Root,
+    value: &Arc<u8>,
+) -> Result<(), Fail>
+    requires { C.is_root container root }
+{
+    let mut root = root;
+    let pass = container.split(&mut root).ok_or("no pass")?;
+    let pass = fill(rt, &container, pass, value, 3)?;
+    container.join(&mut root, pass);
+    let mut rest = container.finish(root);
+    let first = rest.next();
+    assert!(rt; first.is_some());
+    assert_eq!(rt; Arc::strong_count(value), 4);
+    drop(first);
+    assert_eq!(rt; Arc::strong_count(value), 3);
+    drop(rest);
+    assert_eq!(rt; Arc::strong_count(value), 1);
+    Ok(())
+}
+
+/// A put is dropped after so many steps, and then the container. Answers whether the container has
+/// its value between the two.
+pub(crate) fn dropped_put<C: Stepwise<Arc<u8>>, R: Abort>(
+    rt: &R,
+    container: C,
+    root: C::Root,
+    value: &Arc<u8>,
+    steps: u32,
+) -> Result<bool, Fail>
+    requires { C.is_root container root }
+{
+    let mut root = root;
+    let pass = container.split(&mut root).ok_or("no pass")?;
+    let begun = container.begin_put(pass, Arc::try_clone(value)?);
+    let op = put_on(rt, &container, begun, steps);
+    assert_eq!(rt; Arc::strong_count(value), 2);
+    drop(op);
+    let kept = Arc::strong_count(value) == 2;
+    drop(root);
+    drop(container);
+    assert_eq!(rt; Arc::strong_count(value), 1);
+    Ok(kept)
+}
+
+/// The same of a put that a close overtakes after its first steps, and of what is left in the place
+/// of the container.
+pub(crate) fn dropped_late_put<C: Stepwise<Arc<u8>>, R: Abort + Wait>(
+    rt: &R,
+    container: C,
+    root: C::Root,
+    value: &Arc<u8>,
+    before: u32,
+    after: u32,
+) -> Result<bool, Fail>
+    requires { C.is_root container root }
+{
+    let mut root = root;
+    let pass = container.split(&mut root).ok_or("no pass")?;
+    let closer = container.split(&mut root).ok_or("no pass")?;
+    let begun = container.begin_put(pass, Arc::try_clone(value)?);
+    let op = put_on(rt, &container, begun, before);
+    let (_, closed) = container.close(rt, closer);
+    assert!(rt; closed);
+    let op = put_on(rt, &container, op, after);
+    assert_eq!(rt; Arc::strong_count(value), 2);
+    drop(op);
+    let kept = Arc::strong_count(value) == 2;
+    drop(container.finish(root));
+    assert_eq!(rt; Arc::strong_count(value), 1);
+    Ok(kept)
+}
+
+/// The same of a take of the only value.
+pub(crate) fn dropped_take<C: Stepwise<Arc<u8>>, R: Abort + Wait>(
+    rt: &R,
+    container: C,
+    root: C::Root,
+    value: &Arc<u8>,
+    steps: u32,
+) -> Result<bool, Fail>
+    requires { C.is_root container root }
+{
+    let mut root = root;
+    let pass = container.split(&mut root).ok_or("no pass")?;
+    let pass = fill(rt, &container, pass, value, 1)?;
+    let op = take_on(rt, &container, container.begin_take(pass), steps);
+    assert_eq!(rt; Arc::strong_count(value), 2);
+    drop(op);
+    let kept = Arc::strong_count(value) == 2;
+    drop(container.finish(root));
+    assert_eq!(rt; Arc::strong_count(value), 1);
+    Ok(kept)
 }

@@ -29,6 +29,10 @@ mod stack_calls;
 #[cfg(test)]
 mod stack_crowd;
 #[cfg(test)]
+mod stack_drops;
+#[cfg(test)]
 mod stack_folds;
 #[cfg(test)]
 mod stack_ranges;
+#[cfg(test)]
+mod steps;

@@ -1,7 +1,6 @@
 use bounded_model::{
     Container, Leaving, PutRefused, Stepped, TakeRefused, Word, consume_all, consume_one,
 };
-use std::sync::Arc;
 use std::test::Fail;
 use tagged_index::Limits;
 use treiber_stack::Stack;
@@ -275,82 +274,6 @@ fn values_are_consumed_from_the_top(rt: HostRuntime) -> Result<(), Fail> {
     let digits = |state: u32, value: u32| state.wrapping_mul(10).wrapping_add(value);
     let (_, folded, why) = consume_all(&stack, &rt, pass, 0, digits);
     assert!(rt; (folded, why) == (21, TakeRefused::Empty));
-    Ok(())
-}
-
-#[test]
-fn values_are_dropped_once_each(rt: HostRuntime) -> Result<(), Fail> {
-    let value = Arc::new(rt.alloc(), 7u8)?;
-    let limits = Limits::of(2, 100).ok_or("limits")?;
-    let (stack, mut root) = Stack::<Arc<u8>>::new(rt.alloc(), limits)?;
-    let pass = stack.split(&mut root).ok_or("no pass")?;
-    let (pass, _) = stack.put(&rt, pass, Arc::try_clone(&value)?);
-    let (pass, _) = stack.put(&rt, pass, Arc::try_clone(&value)?);
-    let (pass, full) = stack.put(&rt, pass, Arc::try_clone(&value)?);
-    assert_eq!(rt; Arc::strong_count(&value), 4);
-    drop(full);
-    assert_eq!(rt; Arc::strong_count(&value), 3);
-    let (pass, taken) = stack.take(&rt, pass);
-    assert_eq!(rt; Arc::strong_count(&value), 3);
-    drop(taken);
-    assert_eq!(rt; Arc::strong_count(&value), 2);
-    drop(pass);
-    drop(root);
-    drop(stack);
-    assert_eq!(rt; Arc::strong_count(&value), 1);
-    Ok(())
-}
-
-#[test]
-fn a_dropped_operation_drops_its_value(rt: HostRuntime) -> Result<(), Fail> {
-    let value = Arc::new(rt.alloc(), 7u8)?;
-    let limits = Limits::of(2, 100).ok_or("limits")?;
-    let (stack, mut root) = Stack::<Arc<u8>>::new(rt.alloc(), limits)?;
-    let first = stack.split(&mut root).ok_or("no pass")?;
-    let second = stack.split(&mut root).ok_or("no pass")?;
-    let put = stack.begin_put(first, Arc::try_clone(&value)?).step(&stack);
-    assert_eq!(rt; Arc::strong_count(&value), 2);
-    drop(put);
-    assert_eq!(rt; Arc::strong_count(&value), 1);
-    let put = stack
-        .begin_put(second, Arc::try_clone(&value)?)
-        .step(&stack);
-    let Stepped::Again(put) = put else {
-        panic!(rt; "LoadFree")
-    };
-    let Stepped::Again(put) = put.step(&stack) else {
-        panic!(rt; "LoadFreeLink")
-    };
-    let Stepped::Again(put) = put.step(&stack) else {
-        panic!(rt; "TakeFree")
-    };
-    drop(put);
-    assert_eq!(rt; Arc::strong_count(&value), 2);
-    let mut rest = stack.finish(root);
-    assert!(rt; rest.next().is_none());
-    drop(rest);
-    assert_eq!(rt; Arc::strong_count(&value), 1);
-    Ok(())
-}
-
-#[test]
-fn what_is_left_is_dropped_half_read(rt: HostRuntime) -> Result<(), Fail> {
-    let value = Arc::new(rt.alloc(), 7u8)?;
-    let limits = Limits::of(3, 100).ok_or("limits")?;
-    let (stack, mut root) = Stack::<Arc<u8>>::new(rt.alloc(), limits)?;
-    let pass = stack.split(&mut root).ok_or("no pass")?;
-    let (pass, _) = stack.put(&rt, pass, Arc::try_clone(&value)?);
-    let (pass, _) = stack.put(&rt, pass, Arc::try_clone(&value)?);
-    let (pass, _) = stack.put(&rt, pass, Arc::try_clone(&value)?);
-    stack.join(&mut root, pass);
-    let mut rest = stack.finish(root);
-    let top = rest.next();
-    assert!(rt; top.is_some());
-    assert_eq!(rt; Arc::strong_count(&value), 4);
-    drop(top);
-    assert_eq!(rt; Arc::strong_count(&value), 3);
-    drop(rest);
-    assert_eq!(rt; Arc::strong_count(&value), 1);
     Ok(())
 }
 
