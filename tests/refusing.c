@@ -75,10 +75,17 @@ static void leave(void *block) {
     }
 }
 
-__attribute__((destructor)) static void end(void) {
+static void end(void) {
     for (size_t place = 0; place < PLACES; place++)
         if (kept[place] > LEFT)
             tell('k');
+}
+
+/* The program ends by this call, so that no destructor of a library would run. */
+void _exit(int status) {
+    end();
+    syscall(SYS_exit_group, status);
+    __builtin_unreachable();
 }
 
 static int is_refused(void) {
