@@ -15,6 +15,8 @@ use tagged_index::Tagged;
 pub(crate) struct Held {
     pub(crate) cell: u32,
     pub(crate) node: u32,
+    /// Nothing: it starts the pair at a multiple of 8 bytes, so that it is moved as one word.
+    pub(crate) aligned: [u64; 0],
 }
 
 /// The next step of giving back, with what was read.
@@ -44,7 +46,7 @@ pub(crate) enum Gave {
 
 impl<T> Queue<T> {
     /// One step of giving back.
-    #[inline]
+    #[inline(always)]
     pub(crate) fn give(
         &self,
         by: &mut Pass<T>,
@@ -66,7 +68,7 @@ impl<T> Queue<T> {
         }
     }
 
-    #[inline]
+    #[inline(always)]
     fn give_load_nodes(&self, by: &mut Pass<T>, held: Held, operation: &Operation<T>) -> Gave
         requires { (a : Answer T) × IsGiving self.now operation.now by.old a held LoadNodes }
         ensures { (a : Answer T) → IsGiving self.now operation.now by.old a held LoadNodes
@@ -76,7 +78,7 @@ impl<T> Queue<T> {
         Gave::On(Give::LinkNode(nodes))
     }
 
-    #[inline]
+    #[inline(always)]
     fn give_link_node(
         &self,
         by: &mut Pass<T>,
@@ -94,7 +96,7 @@ impl<T> Queue<T> {
         Gave::On(Give::GiveNode(nodes))
     }
 
-    #[inline]
+    #[inline(always)]
     fn give_node(
         &self,
         by: &mut Pass<T>,
@@ -120,7 +122,7 @@ impl<T> Queue<T> {
         Gave::On(Give::LoadNodes)
     }
 
-    #[inline]
+    #[inline(always)]
     fn give_load_cells(&self, by: &mut Pass<T>, held: Held, operation: &Operation<T>) -> Gave
         requires { (a : Answer T) × IsGiving self.now operation.now by.old a held LoadCells }
         ensures { (a : Answer T) → IsGiving self.now operation.now by.old a held LoadCells
@@ -130,7 +132,7 @@ impl<T> Queue<T> {
         Gave::On(Give::LinkCell(cells))
     }
 
-    #[inline]
+    #[inline(always)]
     fn give_link_cell(
         &self,
         by: &mut Pass<T>,
@@ -149,7 +151,7 @@ impl<T> Queue<T> {
     }
 
     // With the cell goes its slot.
-    #[inline]
+    #[inline(always)]
     fn give_cell(
         &self,
         by: &mut Pass<T>,

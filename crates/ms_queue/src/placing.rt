@@ -16,7 +16,7 @@ use tagged_index::{NULL, Tagged};
 
 impl<T> Queue<T> {
     // The free cell, or why none can be had.
-    #[inline]
+    #[inline(always)]
     pub(crate) fn put_load_cells(&self, by: Pass<T>, operation: Operation<T>, value: T) -> Step<T>
         requires { (x : T) × IsPuttingAt self.now x operation by (LoadCells value) }
         ensures { (x : T) → IsPuttingAt self.now x operation by (LoadCells value)
@@ -42,7 +42,7 @@ impl<T> Queue<T> {
         })
     }
 
-    #[inline]
+    #[inline(always)]
     pub(crate) fn put_load_cell_link(
         &self,
         by: Pass<T>,
@@ -66,7 +66,7 @@ impl<T> Queue<T> {
     }
 
     // With the cell comes its slot, and the value moves in.
-    #[inline]
+    #[inline(always)]
     pub(crate) fn put_take_cell(
         &self,
         by: Pass<T>,
@@ -99,7 +99,7 @@ impl<T> Queue<T> {
     }
 
     // A put that has a cell always finds a node with room; else the cell would be given back.
-    #[inline]
+    #[inline(always)]
     pub(crate) fn put_load_nodes(&self, by: Pass<T>, operation: Operation<T>, cell: u32) -> Step<T>
         requires { (x : T) × IsPuttingAt self.now x operation by (LoadNodes cell) }
         ensures { (x : T) → IsPuttingAt self.now x operation by (LoadNodes cell)
@@ -113,7 +113,15 @@ impl<T> Queue<T> {
             return Stepped::Again(PutOp {
                 pass,
                 operation,
-                at: PutAt::GiveBack(why, Held { cell, node: 0 }, Give::LoadCells),
+                at: PutAt::GiveBack(
+                    why,
+                    Held {
+                        cell,
+                        node: 0,
+                        aligned: [],
+                    },
+                    Give::LoadCells,
+                ),
             });
         }
         if nodes.tag() >= self.limits.tag_limit() {
@@ -122,7 +130,15 @@ impl<T> Queue<T> {
             return Stepped::Again(PutOp {
                 pass,
                 operation,
-                at: PutAt::GiveBack(why, Held { cell, node: 0 }, Give::LoadCells),
+                at: PutAt::GiveBack(
+                    why,
+                    Held {
+                        cell,
+                        node: 0,
+                        aligned: [],
+                    },
+                    Give::LoadCells,
+                ),
             });
         }
         Stepped::Again(PutOp {
@@ -133,7 +149,7 @@ impl<T> Queue<T> {
     }
 
     // Moves the value out of the slot of the cell in hand.
-    #[inline]
+    #[inline(always)]
     pub(crate) fn put_value_back(&self, by: &mut Pass<T>, cell: u32) -> T
         requires table { by.old.seat.table_id ≡ self.now.table.shared.table_id }
         requires full { (x : T) × (by.old.seat.me.1 ≡ (cell, Some x) ∷ []) }
@@ -144,7 +160,7 @@ impl<T> Queue<T> {
         move_out(&self.table.shared, &mut by.seat, cell)
     }
 
-    #[inline]
+    #[inline(always)]
     pub(crate) fn put_load_node_link(
         &self,
         by: Pass<T>,
@@ -167,7 +183,7 @@ impl<T> Queue<T> {
         })
     }
 
-    #[inline]
+    #[inline(always)]
     pub(crate) fn put_take_node(
         &self,
         by: Pass<T>,
@@ -188,7 +204,11 @@ impl<T> Queue<T> {
             return Stepped::Again(PutOp {
                 pass,
                 operation,
-                at: PutAt::StoreCell(Held { cell, node }),
+                at: PutAt::StoreCell(Held {
+                    cell,
+                    node,
+                    aligned: [],
+                }),
             });
         }
         Stepped::Again(PutOp {

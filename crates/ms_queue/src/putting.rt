@@ -64,7 +64,7 @@ pub(crate) enum PutAt<T> {
 pub(crate) type Step<T> = Stepped<PutOp<T>, Pass<T>, Result<u64, PutRefused<T>>>;
 
 // Null with this tag.
-#[inline]
+#[inline(always)]
 fn null_word(tag: u64) -> u64
     requires { tag ≤ MAX_TAG }
     ensures { result ≡ number (null_word tag) }
@@ -77,7 +77,7 @@ fn null_word(tag: u64) -> u64
 
 impl<T> Queue<T> {
     /// A put that makes no step yet.
-    #[inline]
+    #[inline(always)]
     pub fn begin_put(&self, by: Pass<T>, value: T) -> PutOp<T>
         requires { IsPassOf self.now by }
         ensures { IsPutting self.now value result
@@ -91,7 +91,7 @@ impl<T> Queue<T> {
         }
     }
 
-    #[inline]
+    #[inline(always)]
     pub(crate) fn put_refuse(
         &self,
         by: Pass<T>,
@@ -115,7 +115,7 @@ impl<T> Queue<T> {
         }
     }
 
-    #[inline]
+    #[inline(always)]
     pub(crate) fn put_store_cell(&self, by: Pass<T>, operation: Operation<T>, held: Held) -> Step<T>
         requires { (x : T) × IsPuttingAt self.now x operation by (StoreCell held) }
         ensures { (x : T) → IsPuttingAt self.now x operation by (StoreCell held)
@@ -133,7 +133,7 @@ impl<T> Queue<T> {
     }
 
     // Both the preparation and the link raise the tag.
-    #[inline]
+    #[inline(always)]
     pub(crate) fn put_load_next(&self, by: Pass<T>, operation: Operation<T>, held: Held) -> Step<T>
         requires { (x : T) × IsPuttingAt self.now x operation by (LoadNext held) }
         ensures { (x : T) → IsPuttingAt self.now x operation by (LoadNext held)
@@ -158,7 +158,7 @@ impl<T> Queue<T> {
         })
     }
 
-    #[inline]
+    #[inline(always)]
     pub(crate) fn put_prepare_next(
         &self,
         by: Pass<T>,
@@ -181,7 +181,7 @@ impl<T> Queue<T> {
         })
     }
 
-    #[inline]
+    #[inline(always)]
     pub(crate) fn put_seek(
         &self,
         by: Pass<T>,
@@ -218,7 +218,7 @@ impl<T> Queue<T> {
     }
 
     // The put has its effect here.
-    #[inline]
+    #[inline(always)]
     pub(crate) fn put_link_next(
         &self,
         by: Pass<T>,
@@ -256,7 +256,7 @@ impl<T> Queue<T> {
     }
 
     // Whoever wins, the tail is then no longer behind this put.
-    #[inline]
+    #[inline(always)]
     pub(crate) fn put_swing_tail(
         &self,
         by: Pass<T>,
@@ -275,7 +275,7 @@ impl<T> Queue<T> {
         Stepped::Done(pass, Ok(tail.tag()))
     }
 
-    #[inline]
+    #[inline(always)]
     pub(crate) fn put_give_back(
         &self,
         by: Pass<T>,
@@ -303,7 +303,7 @@ impl<T> Queue<T> {
 impl<T> PutOp<T> {
     /// One atomic step. The answer is the put's number, or a refusal, which hands the value back:
     /// `Spent` where the tag of `CELLS` or of a node's `next` is at its limit, `Closed`, or `Full`.
-    #[inline]
+    #[inline(always)]
     pub fn step(self, queue: &Queue<T>) -> Stepped<PutOp<T>, Pass<T>, Result<u64, PutRefused<T>>>
         requires { (x : T) × IsPutting queue.now x self }
         ensures { (x : T) → IsPutting queue.now x self

@@ -35,7 +35,7 @@ pub(crate) enum Sought {
 
 impl<T> Queue<T> {
     /// One step to the end of the chain.
-    #[inline]
+    #[inline(always)]
     pub(crate) fn seek(&self, by: &mut Pass<T>, at: Seek, operation: &Operation<T>) -> Sought
         requires { (s : Seeking T) × IsSeeking self.now operation.now by.old s at }
         ensures { (s : Seeking T) → IsSeeking self.now operation.now by.old s at
@@ -49,7 +49,7 @@ impl<T> Queue<T> {
         }
     }
 
-    #[inline]
+    #[inline(always)]
     fn seek_tail(&self, by: &mut Pass<T>, operation: &Operation<T>) -> Sought
         requires { (s : Seeking T) × IsSeeking self.now operation.now by.old s LoadTail }
         ensures { (s : Seeking T) → IsSeeking self.now operation.now by.old s LoadTail
@@ -59,7 +59,7 @@ impl<T> Queue<T> {
         Sought::On(Seek::LoadNext(tail))
     }
 
-    #[inline]
+    #[inline(always)]
     fn seek_next(&self, by: &mut Pass<T>, tail: Tagged, operation: &Operation<T>) -> Sought
         requires { (s : Seeking T) × IsSeeking self.now operation.now by.old s (LoadNext tail) }
         ensures { (s : Seeking T) → IsSeeking self.now operation.now by.old s (LoadNext tail)
@@ -71,7 +71,7 @@ impl<T> Queue<T> {
     }
 
     // Where the tail is still the same, the link was that of its node.
-    #[inline]
+    #[inline(always)]
     fn seek_check(
         &self,
         by: &mut Pass<T>,
@@ -99,7 +99,7 @@ impl<T> Queue<T> {
     }
 
     // Whoever wins, the tail is then no longer the same.
-    #[inline]
+    #[inline(always)]
     fn seek_swing(
         &self,
         by: &mut Pass<T>,

@@ -54,7 +54,7 @@ pub(crate) type Step<T> = Stepped<TakeOp<T>, Pass<T>, Result<(T, u64), TakeRefus
 
 impl<T> Queue<T> {
     /// A take that makes no step yet.
-    #[inline]
+    #[inline(always)]
     pub fn begin_take(&self, by: Pass<T>) -> TakeOp<T>
         requires { IsPassOf self.now by }
         ensures { IsTaking self.now result
@@ -66,7 +66,7 @@ impl<T> Queue<T> {
         }
     }
 
-    #[inline]
+    #[inline(always)]
     pub(crate) fn take_load_head(&self, by: Pass<T>) -> Step<T>
         requires { IsTakingAt self.now by LoadHead }
         ensures { TakeStep self.now by LoadHead result }
@@ -82,7 +82,7 @@ impl<T> Queue<T> {
         })
     }
 
-    #[inline]
+    #[inline(always)]
     pub(crate) fn take_load_tail(&self, by: Pass<T>, head: Tagged) -> Step<T>
         requires { IsTakingAt self.now by (LoadTail head) }
         ensures { TakeStep self.now by (LoadTail head) result }
@@ -95,7 +95,7 @@ impl<T> Queue<T> {
         })
     }
 
-    #[inline]
+    #[inline(always)]
     pub(crate) fn take_load_next(&self, by: Pass<T>, head: Tagged, tail: Tagged) -> Step<T>
         requires { IsTakingAt self.now by (LoadNext head tail) }
         ensures { TakeStep self.now by (LoadNext head tail) result }
@@ -110,7 +110,7 @@ impl<T> Queue<T> {
     }
 
     // Where the head is still the same, the link was that of the dummy.
-    #[inline]
+    #[inline(always)]
     pub(crate) fn take_check_head(
         &self,
         by: Pass<T>,
@@ -148,7 +148,7 @@ impl<T> Queue<T> {
     }
 
     // Whoever wins, the tail is then no longer at the dummy.
-    #[inline]
+    #[inline(always)]
     pub(crate) fn take_swing_tail(&self, by: Pass<T>, tail: Tagged, link: Tagged) -> Step<T>
         requires { IsTakingAt self.now by (SwingTail tail link) }
         ensures { TakeStep self.now by (SwingTail tail link) result }
@@ -163,7 +163,7 @@ impl<T> Queue<T> {
         })
     }
 
-    #[inline]
+    #[inline(always)]
     pub(crate) fn take_load_cell(&self, by: Pass<T>, head: Tagged, link: Tagged) -> Step<T>
         requires { IsTakingAt self.now by (LoadCell head link) }
         ensures { TakeStep self.now by (LoadCell head link) result }
@@ -179,7 +179,7 @@ impl<T> Queue<T> {
     }
 
     // The take has its effect here; the value moves out with the cell's slot.
-    #[inline]
+    #[inline(always)]
     pub(crate) fn take_head(&self, by: Pass<T>, head: Tagged, link: Tagged, cell: u32) -> Step<T>
         requires { IsTakingAt self.now by (TakeHead head link cell) }
         ensures { TakeStep self.now by (TakeHead head link cell) result }
@@ -197,7 +197,11 @@ impl<T> Queue<T> {
                     Taken {
                         value,
                         number,
-                        held: Held { cell, node },
+                        held: Held {
+                            cell,
+                            node,
+                            aligned: [],
+                        },
                     },
                     Give::LoadNodes,
                 ),
@@ -209,7 +213,7 @@ impl<T> Queue<T> {
         })
     }
 
-    #[inline]
+    #[inline(always)]
     pub(crate) fn take_give_back(&self, by: Pass<T>, taken: Taken<T>, at: Give) -> Step<T>
         requires { IsTakingAt self.now by (GiveBack taken at) }
         ensures { TakeStep self.now by (GiveBack taken at) result }
@@ -235,7 +239,7 @@ impl<T> Queue<T> {
 impl<T> TakeOp<T> {
     /// One atomic step. The answer is the value with its number, or why none was taken: `Shut`,
     /// then `Closed` or `Empty` where there is none.
-    #[inline]
+    #[inline(always)]
     pub fn step(
         self,
         queue: &Queue<T>,

@@ -16,7 +16,7 @@ use running::Whole;
 
 impl<T> Queue<T> {
     // Takes a cell, and goes on.
-    #[inline]
+    #[inline(always)]
     fn put_run(&self, by: Pass<T>, operation: Operation<T>, value: T) -> Step<T>
         requires { (x : T) × IsPuttingAt self.now x operation by (LoadCells value) }
         ensures { (x : T) → IsPuttingAt self.now x operation by (LoadCells value)
@@ -32,7 +32,7 @@ impl<T> Queue<T> {
     }
 
     // Takes a node, and goes on.
-    #[inline]
+    #[inline(always)]
     fn put_run_node(&self, by: Pass<T>, operation: Operation<T>, cell: u32) -> Step<T>
         requires { (x : T) × IsPuttingAt self.now x operation by (LoadNodes cell) }
         ensures { (x : T) → IsPuttingAt self.now x operation by (LoadNodes cell)
@@ -48,7 +48,7 @@ impl<T> Queue<T> {
     }
 
     // Prepares the node, and goes on.
-    #[inline]
+    #[inline(always)]
     fn put_run_prepare(&self, by: Pass<T>, operation: Operation<T>, held: Held) -> Step<T>
         requires { (x : T) × IsPuttingAt self.now x operation by (StoreCell held) }
         ensures { (x : T) → IsPuttingAt self.now x operation by (StoreCell held)
@@ -64,7 +64,7 @@ impl<T> Queue<T> {
     }
 
     // Goes to the end of the chain, links the node there and swings the tail.
-    #[inline]
+    #[inline(always)]
     fn put_run_seek(&self, by: Pass<T>, operation: Operation<T>, held: Held, at: Seek) -> Step<T>
         requires { (x : T) × IsPuttingAt self.now x operation by (Seeking held at) }
         ensures { (x : T) → IsPuttingAt self.now x operation by (Seeking held at)
@@ -92,7 +92,7 @@ impl<T> Whole<Queue<T>, Pass<T>, Result<u64, PutRefused<T>>> for PutOp<T> {
 
     ghost gives = { λ c call back answer. PutGave c call.1 call.0 back answer };
 
-    #[inline(always)]
+    #[inline]
     fn run(self, on: &Queue<T>) -> Stepped<PutOp<T>, Pass<T>, Result<u64, PutRefused<T>>> {
         let PutOp {
             pass,
@@ -103,6 +103,24 @@ impl<T> Whole<Queue<T>, Pass<T>, Result<u64, PutRefused<T>>> for PutOp<T> {
             PutAt::LoadCells(value) => on.put_run(pass, operation, value),
             PutAt::LoadNodes(cell) => on.put_run_node(pass, operation, cell),
             PutAt::Seeking(held, at) => on.put_run_seek(pass, operation, held, at),
+            at => PutOp {
+                pass,
+                operation,
+                at,
+            }
+            .step(on),
+        }
+    }
+
+    #[inline(always)]
+    fn straight(self, on: &Queue<T>) -> Stepped<PutOp<T>, Pass<T>, Result<u64, PutRefused<T>>> {
+        let PutOp {
+            pass,
+            operation,
+            at,
+        } = self;
+        match at {
+            PutAt::LoadCells(value) => on.put_run(pass, operation, value),
             at => PutOp {
                 pass,
                 operation,

@@ -15,7 +15,7 @@ use tagged_index::Tagged;
 
 impl<T> Queue<T> {
     // Reads the head, the tail and the first node, and goes on.
-    #[inline]
+    #[inline(always)]
     fn take_run(&self, by: Pass<T>) -> Step<T>
         requires { IsTakingAt self.now by LoadHead }
         ensures { TakeRun self.now (begun_of self.now by) result }
@@ -32,7 +32,7 @@ impl<T> Queue<T> {
     }
 
     // Takes the first value, and goes on.
-    #[inline]
+    #[inline(always)]
     fn take_run_first(&self, by: Pass<T>, head: Tagged, link: Tagged) -> Step<T>
         requires { IsTakingAt self.now by (LoadCell head link) }
         ensures { TakeRun self.now (begun_of self.now by) result }
@@ -45,7 +45,7 @@ impl<T> Queue<T> {
     }
 
     // Gives the old dummy back, three steps, and goes on.
-    #[inline]
+    #[inline(always)]
     fn take_run_give(&self, by: Pass<T>, taken: Taken<T>, at: Give) -> Step<T>
         requires { IsTakingAt self.now by (GiveBack taken at) }
         ensures { TakeRun self.now (begun_of self.now by) result }
@@ -60,7 +60,7 @@ impl<T> Queue<T> {
     }
 
     // Gives the cell back, three steps.
-    #[inline]
+    #[inline(always)]
     fn take_run_free(&self, by: Pass<T>, taken: Taken<T>, at: Give) -> Step<T>
         requires { IsTakingAt self.now by (GiveBack taken at) }
         ensures { TakeRun self.now (begun_of self.now by) result }
@@ -73,7 +73,7 @@ impl<T> Queue<T> {
     }
 
     // Goes on from a step of giving back.
-    #[inline]
+    #[inline(always)]
     fn take_run_back(&self, by: Pass<T>, taken: Taken<T>, at: Give) -> Step<T>
         requires { IsTakingAt self.now by (GiveBack taken at) }
         ensures { TakeRun self.now (begun_of self.now by) result }
@@ -96,12 +96,21 @@ impl<T> Whole<Queue<T>, Pass<T>, Result<(T, u64), TakeRefused>> for TakeOp<T> {
 
     ghost gives = { TakeGave };
 
-    #[inline(always)]
+    #[inline]
     fn run(self, on: &Queue<T>) -> Stepped<TakeOp<T>, Pass<T>, Result<(T, u64), TakeRefused>> {
         let TakeOp { pass, at } = self;
         match at {
             TakeAt::LoadHead => on.take_run(pass),
             TakeAt::GiveBack(taken, at) => on.take_run_back(pass, taken, at),
+            at => TakeOp { pass, at }.step(on),
+        }
+    }
+
+    #[inline(always)]
+    fn straight(self, on: &Queue<T>) -> Stepped<TakeOp<T>, Pass<T>, Result<(T, u64), TakeRefused>> {
+        let TakeOp { pass, at } = self;
+        match at {
+            TakeAt::LoadHead => on.take_run(pass),
             at => TakeOp { pass, at }.step(on),
         }
     }

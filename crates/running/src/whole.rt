@@ -7,7 +7,7 @@ use bounded_model::Stepped;
 use std::sync::Wait;
 
 /// An operation on a `C` that was begun with a pass `P`; its answer is an `A`.
-pub trait Whole<C, P, A> {
+pub trait Whole<C, P, A>: Sized {
     /// What the operation was begun with.
     ghost Call: { Type 0 };
 
@@ -23,6 +23,17 @@ pub trait Whole<C, P, A> {
         ensures { (call : Self.Call) → is_under_way on.now call self → MatchStepped result
             (λ next. is_under_way on.now call next) (λ back answer. gives on.now call back answer) };
 
+    /// The same for an operation that was just begun: its steps straight on, as they are made where
+    /// no exchange is lost.
+    #[inline]
+    fn straight(self, on: &C) -> Stepped<Self, P, A>
+        requires { (call : Self.Call) × is_under_way on.now call self }
+        ensures { (call : Self.Call) → is_under_way on.now call self → MatchStepped result
+            (λ next. is_under_way on.now call next) (λ back answer. gives on.now call back answer) }
+    {
+        self.run(on)
+    }
+
     /// Whether another was faster: an exchange was lost, or a word that was read has changed.
     fn has_lost(&self) -> bool;
 }
@@ -34,7 +45,21 @@ pub fn whole_call<R: Wait, C, P, A, O: Whole<C, P, A>>(rt: &R, on: &C, begun: O)
     ensures { (call : O.Call) → O.is_under_way on.now call begun
         → O.gives on.now call result.0 result.1 }
 {
-    let mut made = begun.run(on);
+    match begun.straight(on) {
+        Stepped::Done(back, answer) => (back, answer),
+        Stepped::Again(next) => run_on(rt, on, next),
+    }
+}
+
+// Runs an operation that is under way until it answers, with a wait after each exchange that it has
+// lost. A function of its own, so that the way straight on is all that a caller's code has.
+#[inline(never)]
+fn run_on<R: Wait, C, P, A, O: Whole<C, P, A>>(rt: &R, on: &C, under_way: O) -> (P, A)
+    requires { (call : O.Call) × O.is_under_way on.now call under_way }
+    ensures { (call : O.Call) → O.is_under_way on.now call under_way
+        → O.gives on.now call result.0 result.1 }
+{
+    let mut made = Stepped::Again(under_way);
     let mut pause = Pause::new();
     for _ in rt.forever() {
         match made {

@@ -38,7 +38,7 @@ returns-then-take_step g c =
     let slots = c.take_step.new.seat.me.1 in
     let value = same_value slots [] (rest slots) k k v.0 c.move_out-value.result has moved.value in
     let steps = subst (λ u. Found (machine_of q) First c.args.by.seat.me.0 u w won.slots) (sym (ap (λ m. m.0) moved.out)) won.steps in
-    let taken : Taken _ = record { value = c.move_out-value.result; number = c.tag-number.result; held = record { cell = k; node = c.index-node.result } } in
+    let taken : Taken _ = record { value = c.move_out-value.result; number = c.tag-number.result; held = record { cell = k; node = c.index-node.result; aligned = [] } } in
     let r = goes_on (machine_of q) at (record { seat = c.move_out-value.new.seat }) w won.slots steps (moved.seat.0 ∙ c.take_step.ensures.seat) ((k, None) ∷ [])
     (take_line (GiveBack taken LoadNodes))
     (ap (λ m. m.1) moved.out ∙ ap (λ (zs : List (ℕ × Slot _)). (k, None) ∷ rest zs) has)
