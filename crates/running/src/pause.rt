@@ -19,10 +19,10 @@ impl Pause {
     /// put or take no more than these before they need the one that does, so a small container's
     /// waits are short.
     pub(crate) fn of(room: u32) -> Pause {
-        let longest = (u32::BITS - room.leading_zeros()).min(LONGEST);
+        let bits = u32::BITS - room.leading_zeros();
         Pause {
-            rounds: FIRST.min(longest),
-            longest,
+            rounds: FIRST.min(bits + 1),
+            longest: LONGEST.min(bits + 5),
         }
     }
 
