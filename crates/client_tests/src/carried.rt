@@ -1,20 +1,39 @@
+use ms_queue::Queue;
 use one_way::{Carried, carry_all};
+use std::alloc::Global;
 use std::collections::VecDeque;
 use std::sync::Wait;
 use std::test::Fail;
 use tagged_index::{Limits, MAX_TAG};
 use treiber_stack::Stack;
 
-/// Items 0, 1, .. carried over a stack with this much room.
-fn carried<R: AllocGlobal + Wait>(rt: &R, capacity: u32, items: u32) -> Result<Carried<u32>, Fail> {
+/// The items 0, 1, .., so many.
+fn items(alloc: Global, count: u32) -> Result<VecDeque<u32>, Fail> {
+    let mut items = VecDeque::new(alloc);
+    for item in 0..count {
+        items.push_back(item)?;
+    }
+    Ok(items)
+}
+
+/// So many items carried over a stack with this much room.
+fn carried<R: AllocGlobal + Wait>(rt: &R, capacity: u32, count: u32) -> Result<Carried<u32>, Fail> {
     let alloc = rt.alloc();
     let limits = Limits::of(capacity, MAX_TAG).ok_or("limits")?;
     let (stack, root) = Stack::new(alloc, limits)?;
-    let mut queue = VecDeque::new(alloc);
-    for item in 0..items {
-        queue.push_back(item)?;
-    }
-    Ok(carry_all(rt, alloc, stack, root, queue)?)
+    Ok(carry_all(rt, alloc, stack, root, items(alloc, count)?)?)
+}
+
+/// The same over a queue.
+fn carried_in_order<R: AllocGlobal + Wait>(
+    rt: &R,
+    capacity: u32,
+    count: u32,
+) -> Result<Carried<u32>, Fail> {
+    let alloc = rt.alloc();
+    let limits = Limits::of(capacity, MAX_TAG).ok_or("limits")?;
+    let (queue, root) = Queue::new(alloc, limits)?;
+    Ok(carry_all(rt, alloc, queue, root, items(alloc, count)?)?)
 }
 
 #[test]
@@ -30,6 +49,17 @@ fn a_stack_carries_all_items_from_the_top(rt: HostRuntime) -> Result<(), Fail> {
 fn items_without_room_are_handed_back_in_order(rt: HostRuntime) -> Result<(), Fail> {
     let mut carried = carried(&rt, 3, 5)?;
     assert_eq!(rt; carried.taken.as_slice(), [2, 1, 0].as_slice());
+    assert!(rt; carried.left.is_empty());
+    assert_eq!(rt; carried.unsent.pop_front(), Some(3));
+    assert_eq!(rt; carried.unsent.pop_front(), Some(4));
+    assert_eq!(rt; carried.unsent.pop_front(), None);
+    Ok(())
+}
+
+#[test]
+fn a_queue_carries_items_in_their_order(rt: HostRuntime) -> Result<(), Fail> {
+    let mut carried = carried_in_order(&rt, 3, 5)?;
+    assert_eq!(rt; carried.taken.as_slice(), [0, 1, 2].as_slice());
     assert!(rt; carried.left.is_empty());
     assert_eq!(rt; carried.unsent.pop_front(), Some(3));
     assert_eq!(rt; carried.unsent.pop_front(), Some(4));

@@ -1,5 +1,5 @@
-//! Code that knows a container by its traits alone, run over the stack: calls made by single steps,
-//! ranges and folds, and the carry of items from one pass to another.
+//! Code that knows a container by its traits alone: calls made by single steps, ranges and folds,
+//! run over the stack, and the carry of items from one pass to another, over the queue as well.
 #![tactic(auto)]
 
 #[cfg(test)]
