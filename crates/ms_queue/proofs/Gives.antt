@@ -1,5 +1,5 @@
 -- Where a step of giving back leads.
-use Rattle.std.proofs.Common.{◌≡◌, ℕ, false, refl, subst, List}
+use Rattle.std.proofs.Common.{◌≡◌, ℕ, false, refl, sym, subst, List}
 use Rattle.std.specs.Prelude.{Option as Slot}
 use Rattle.queue_machine.specs.declared.lines.Answer.{Answer}
 use Rattle.queue_machine.specs.declared.lines.Line.{Line}
@@ -14,7 +14,7 @@ use Rattle.ms_queue.specs.declared.giving.Give.{Give}
 use Rattle.ms_queue.specs.declared.giving.Give.TheVariants.{LoadNodes, LinkNode, GiveNode, LoadCells, LinkCell, GiveCell}
 use Rattle.ms_queue.specs.declared.giving.Gave.{Gave}
 use Rattle.ms_queue.specs.Queue.{limit_of, machine_of, begun_of}
-use Rattle.ms_queue.specs.Giving.{give_line, gave_line, left_slots, IsGiving, Led}
+use Rattle.ms_queue.specs.Giving.{give_line, gave_line, left_slots, IsGiving, Led, Way, way}
 
 pub busy_giving : {T : Type 0} (a : Answer T) (held : Held) (at : Give) → is_idle (give_line a held at) ≡ false
 busy_giving a held LoadNodes = refl
@@ -24,11 +24,15 @@ busy_giving a held LoadCells = refl
 busy_giving a held (LinkCell w) = refl
 busy_giving a held (GiveCell w) = refl
 
-module _ {T : Type 0} {c : Queue T} {o : Operation T} {p : Pass T (Line T)} {a : Answer T} {held : Held} {at : Give} (is : IsGiving c o p a held at) (q : Pass T (Line T)) (found : ℕ) (zs : List (ℕ × Slot T)) (steps : Found (machine_of c) o p.seat.me.0 q.seat.me.0 found zs) (table : q.seat.table_id ≡ p.seat.table_id) where
+module _ {T : Type 0} {c : Queue T} {w : Way T} (is : IsGiving c w) (q : Pass T (Line T)) (found : ℕ) (zs : List (ℕ × Slot T)) (steps : Found (machine_of c) w.operation w.pass.seat.me.0 q.seat.me.0 found zs) (table : q.seat.table_id ≡ w.pass.seat.table_id) where
   -- the step leads on as the machine's does
-  pub gives_led : (gave : Gave) → q.seat.me.1 ≡ left_slots held gave → next (limit_of c) (give_line a held at) found zs ≡ gave_line a held gave → Led c o p q a held at gave
+  pub gives_led : (gave : Gave) → q.seat.me.1 ≡ left_slots w.held gave → next (limit_of c) (give_line w.answer w.held w.at) found zs ≡ gave_line w.answer w.held gave → Led c w q gave
   gives_led gave slots to = record {
     table = table;
     slots = slots;
-    steps = subst (λ (l : Line T). Steps (machine_of c) o p.seat.me.0 q.seat.me.0 (begun_of c p) (give_line a held at) l) to (steps (begun_of c p) (give_line a held at) is.line.at.going).0;
+    steps = subst (λ (l : Line T). Steps (machine_of c) w.operation w.pass.seat.me.0 q.seat.me.0 (begun_of c w.pass) (give_line w.answer w.held w.at) l) to (steps (begun_of c w.pass) (give_line w.answer w.held w.at) is.line.at.going).0;
   }
+
+-- the step of one that gives them back is that at its line
+pub give_at : {T : Type 0} {c : Queue T} {o : Operation T} {p : Pass T (Line T)} {held : Held} {at l : Give} → at ≡ l → (q : Pass T (Line T)) (r : Gave) → ((a : Answer T) → IsGiving c (way o p (a, held) l) → Led c (way o p (a, held) l) q r) → (a : Answer T) → IsGiving c (way o p (a, held) at) → Led c (way o p (a, held) at) q r
+give_at {T} {c} {o} {p} {held} to q r made = subst (λ (at : Give). (a : Answer T) → IsGiving c (way o p (a, held) at) → Led c (way o p (a, held) at) q r) (sym to) made

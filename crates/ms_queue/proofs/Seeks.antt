@@ -1,6 +1,6 @@
 -- Where a step on the way to the end of the chain leads.
 use Rattle.std.specs.Prelude.{Option as Slot}
-use Rattle.std.proofs.Common.{◌≡◌, ◌≢◌, ℕ, true, false, List, [], refl, ap, ◌∙◌, subst, eq-eqb, ne_eqb}
+use Rattle.std.proofs.Common.{◌≡◌, ◌≢◌, ℕ, true, false, List, [], refl, sym, ap, ◌∙◌, subst, eq-eqb, ne_eqb}
 use Rattle.tagged_index.specs.Fields.{fields_of, index_of, mark_of}
 use Rattle.tagged_index.specs.declared.word.TheConstants.{NULL}
 use Rattle.queue_machine.specs.declared.lines.Seeking.{Seeking}
@@ -17,10 +17,10 @@ use Rattle.ms_queue.specs.declared.seeking.Seek.{Seek}
 use Rattle.ms_queue.specs.declared.seeking.Seek.TheVariants.{LoadTail as SeekTail, LoadNext as SeekNext, CheckTail as SeekCheck, SwingTail as SeekSwing}
 use Rattle.ms_queue.specs.declared.seeking.Sought.{Sought}
 use Rattle.ms_queue.specs.Queue.{room_of, limit_of, machine_of, begun_of, IsAt}
-use Rattle.ms_queue.specs.Seeking.{seek_line, led_line, IsRead, HasRead, IsSeeking, Led}
+use Rattle.ms_queue.specs.Seeking.{seek_line, led_line, IsRead, HasRead, IsSeeking, Led, Way, way}
 
 -- an operation that is on this way, whatever it has in hand
-pub seeking : {T : Type 0} {c : Queue T} {o : Operation T} {p : Pass T (Line T)} {slots : List (ℕ × Slot T)} (s : Seeking T) (at : Seek) → IsAt c o p (seek_line s at) slots → IsRead (room_of c) (limit_of c) at → IsSeeking c o p s at
+pub seeking : {T : Type 0} {c : Queue T} {o : Operation T} {p : Pass T (Line T)} {slots : List (ℕ × Slot T)} (s : Seeking T) (at : Seek) → IsAt c o p (seek_line s at) slots → IsRead (room_of c) (limit_of c) at → IsSeeking c (way o p s at)
 seeking s at line read = record { line = record { table = line.table; at = record { has = refl; going = line.at.going } }; read = read }
 
 pub busy : {T : Type 0} (s : Seeking T) (at : Seek) → is_idle (seek_line s at) ≡ false
@@ -29,17 +29,21 @@ busy s (SeekNext w) = refl
 busy s (SeekCheck w x) = refl
 busy s (SeekSwing w x) = refl
 
-module _ {T : Type 0} {c : Queue T} {o : Operation T} {p : Pass T (Line T)} {s : Seeking T} {at : Seek} (is : IsSeeking c o p s at) (q : Pass T (Line T)) (found : ℕ) (steps : Found (machine_of c) o p.seat.me.0 q.seat.me.0 found []) (table : q.seat.table_id ≡ p.seat.table_id) (slots : q.seat.me.1 ≡ p.seat.me.1) where
+module _ {T : Type 0} {c : Queue T} {w : Way T} (is : IsSeeking c w) (q : Pass T (Line T)) (found : ℕ) (steps : Found (machine_of c) w.operation w.pass.seat.me.0 q.seat.me.0 found []) (table : q.seat.table_id ≡ w.pass.seat.table_id) (slots : q.seat.me.1 ≡ w.pass.seat.me.1) where
   -- the step leads on as the machine's does
-  pub led : (sought : Sought) → next (limit_of c) (seek_line s at) found [] ≡ led_line s sought → (Says (room_of c) (limit_of c) (seek_line s at) found → HasRead (room_of c) (limit_of c) s sought) → Led c o p q s at sought
+  pub led : (sought : Sought) → next (limit_of c) (seek_line w.aim w.at) found [] ≡ led_line w.aim sought → (Says (room_of c) (limit_of c) (seek_line w.aim w.at) found → HasRead (room_of c) (limit_of c) w.aim sought) → Led c w q sought
   led sought to read =
-      let told = steps (begun_of c p) (seek_line s at) is.line.at.going in
+      let told = steps (begun_of c w.pass) (seek_line w.aim w.at) is.line.at.going in
       record {
         table = table;
         slots = slots;
-        steps = subst (λ (l : Line T). Steps (machine_of c) o p.seat.me.0 q.seat.me.0 (begun_of c p) (seek_line s at) l) to told.0;
+        steps = subst (λ (l : Line T). Steps (machine_of c) w.operation w.pass.seat.me.0 q.seat.me.0 (begun_of c w.pass) (seek_line w.aim w.at) l) to told.0;
         read = read told.1;
       }
+
+-- the step of one on this way is that at its line
+pub seek_at : {T : Type 0} {c : Queue T} {o : Operation T} {p : Pass T (Line T)} {at l : Seek} → at ≡ l → (q : Pass T (Line T)) (r : Sought) → ((s : Seeking T) → IsSeeking c (way o p s l) → Led c (way o p s l) q r) → (s : Seeking T) → IsSeeking c (way o p s at) → Led c (way o p s at) q r
+seek_at {T} {c} {o} {p} to q r made = subst (λ (at : Seek). (s : Seeking T) → IsSeeking c (way o p s at) → Led c (way o p s at) q r) (sym to) made
 
 module _ {T : Type 0} (limit : ℕ) (s : Seeking T) (y w x : ℕ) where
   abbrev to : Line T

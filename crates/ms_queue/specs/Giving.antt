@@ -50,12 +50,24 @@ module _ {T : Type 0} where
   left_slots held (On at) = held_slot held
   left_slots held Both = []
 
-  pub record IsGiving (c : Queue T) (o : Operation T) (p : Pass T (Line T)) (a : Answer T) (held : Held) (at : Give) : Type 0 where
-    pub line : IsAt c o p (give_line a held at) (held_slot held)
-    pub are : AreHeld (room_of c) held
+-- an operation that gives them back: its name, its pass, what it will have answered, what it holds, and its next step
+pub record Way (T : Type 0) : Type 0 where
+  pub operation : Operation T
+  pub pass : Pass T (Line T)
+  pub answer : Answer T
+  pub held : Held
+  pub at : Give
+
+module _ {T : Type 0} where
+  abbrev pub way : Operation T → Pass T (Line T) → Answer T × Held → Give → Way T
+  way o p a at = record { operation = o; pass = p; answer = a.0; held = a.1; at = at }
+
+  pub record IsGiving (c : Queue T) (w : Way T) : Type 0 where
+    pub line : IsAt c w.operation w.pass (give_line w.answer w.held w.at) (held_slot w.held)
+    pub are : AreHeld (room_of c) w.held
 
   -- what a step leaves
-  pub record Led (c : Queue T) (o : Operation T) (p q : Pass T (Line T)) (a : Answer T) (held : Held) (at : Give) (gave : Gave) : Type 0 where
-    pub table : q.seat.table_id ≡ p.seat.table_id
-    pub slots : q.seat.me.1 ≡ left_slots held gave
-    pub steps : Steps (machine_of c) o p.seat.me.0 q.seat.me.0 (begun_of c p) (give_line a held at) (gave_line a held gave)
+  pub record Led (c : Queue T) (w : Way T) (q : Pass T (Line T)) (gave : Gave) : Type 0 where
+    pub table : q.seat.table_id ≡ w.pass.seat.table_id
+    pub slots : q.seat.me.1 ≡ left_slots w.held gave
+    pub steps : Steps (machine_of c) w.operation w.pass.seat.me.0 q.seat.me.0 (begun_of c w.pass) (give_line w.answer w.held w.at) (gave_line w.answer w.held gave)

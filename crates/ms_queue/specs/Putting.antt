@@ -84,16 +84,17 @@ module _ {T : Type 0} where
   HasReadToPut n limit (SwingTail w y) = tag_of w < limit
   HasReadToPut n limit (GiveBack why held at) = AreHeld n held
 
+  -- a put whose next step is this
+  abbrev pub put_op : Operation T → Pass T (Line T) → PutAt T → PutOp T
+  put_op o p at = record { pass = p; operation = o; at = at }
+
   -- a put of x, by the name of its operation
-  pub record IsPuttingAt (c : Queue T) (x : T) (o : Operation T) (p : Pass T (Line T)) (at : PutAt T) : Type 0 where
-    pub of : call_of o ≡ CallPut x
-    pub line : IsAt c o p (put_line x at) (put_slots x at)
-    pub read : HasReadToPut (room_of c) (limit_of c) at
+  pub record IsPutting (c : Queue T) (x : T) (op : PutOp T) : Type 0 where
+    pub of : call_of op.operation ≡ CallPut x
+    pub line : IsAt c op.operation op.pass (put_line x op.at) (put_slots x op.at)
+    pub read : HasReadToPut (room_of c) (limit_of c) op.at
 
-  abbrev pub IsPutting : Queue T → T → PutOp T → Type 0
-  IsPutting c x op = IsPuttingAt c x op.operation op.pass op.at
-
-  -- what a step gives
-  abbrev pub PutStep : Queue T → T → Operation T → Pass T (Line T) → PutAt T → Stepped (PutOp T) (Pass T (Line T)) (Result ℕ (PutRefused T)) → Type 0
-  PutStep c x o p at (Again next) = IsPutting c x next × WentOn c p next.pass (put_line x at) (put_line x next.at)
-  PutStep c x o p at (Done q r) = IsPassOf c q × PutGives (shape_of c) (begun_of c p) x (pass_in q) r × OneLine c p q (put_line x at) (ends (AnswerPut r))
+  -- what a step of it gives
+  abbrev pub PutStep : Queue T → T → PutOp T → Stepped (PutOp T) (Pass T (Line T)) (Result ℕ (PutRefused T)) → Type 0
+  PutStep c x op (Again next) = IsPutting c x next × WentOn c op.pass next.pass (put_line x op.at) (put_line x next.at)
+  PutStep c x op (Done q r) = IsPassOf c q × PutGives (shape_of c) (begun_of c op.pass) x (pass_in q) r × OneLine c op.pass q (put_line x op.at) (ends (AnswerPut r))

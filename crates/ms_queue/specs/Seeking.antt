@@ -42,13 +42,24 @@ module _ {T : Type 0} where
   HasRead n limit s Closed = Unit {0}
   HasRead n limit s (End w x) = (index_of w < n + 1) × HasRoom limit (back_null s (fields_of w) (fields_of x))
 
-  pub record IsSeeking (c : Queue T) (o : Operation T) (p : Pass T (Line T)) (s : Seeking T) (at : Seek) : Type 0 where
-    pub line : IsAt c o p (seek_line s at) p.seat.me.1
-    pub read : IsRead (room_of c) (limit_of c) at
+-- an operation on this way: its name, its pass, what it is to do at the end, and its next step
+pub record Way (T : Type 0) : Type 0 where
+  pub operation : Operation T
+  pub pass : Pass T (Line T)
+  pub aim : Seeking T
+  pub at : Seek
+
+module _ {T : Type 0} where
+  abbrev pub way : Operation T → Pass T (Line T) → Seeking T → Seek → Way T
+  way o p s at = record { operation = o; pass = p; aim = s; at = at }
+
+  pub record IsSeeking (c : Queue T) (w : Way T) : Type 0 where
+    pub line : IsAt c w.operation w.pass (seek_line w.aim w.at) w.pass.seat.me.1
+    pub read : IsRead (room_of c) (limit_of c) w.at
 
   -- what a step leaves: the hand as it was, and the pass where the machine's step led
-  pub record Led (c : Queue T) (o : Operation T) (p q : Pass T (Line T)) (s : Seeking T) (at : Seek) (led : Sought) : Type 0 where
-    pub table : q.seat.table_id ≡ p.seat.table_id
-    pub slots : q.seat.me.1 ≡ p.seat.me.1
-    pub steps : Steps (machine_of c) o p.seat.me.0 q.seat.me.0 (begun_of c p) (seek_line s at) (led_line s led)
-    pub read : HasRead (room_of c) (limit_of c) s led
+  pub record Led (c : Queue T) (w : Way T) (q : Pass T (Line T)) (led : Sought) : Type 0 where
+    pub table : q.seat.table_id ≡ w.pass.seat.table_id
+    pub slots : q.seat.me.1 ≡ w.pass.seat.me.1
+    pub steps : Steps (machine_of c) w.operation w.pass.seat.me.0 q.seat.me.0 (begun_of c w.pass) (seek_line w.aim w.at) (led_line w.aim led)
+    pub read : HasRead (room_of c) (limit_of c) w.aim led

@@ -8,8 +8,8 @@ use crate::queue::{Queue, Root};
 use crate::rest::Rest;
 
 impl<T> Queue<T> {
-    // What is left, from the front. A value that was out with a pass which stopped in mid-operation is
-    // not among it, and is dropped with the rest.
+    // What is left, from the front. A value that was out with a pass which stopped in mid-operation
+    // is not among it, and is dropped with the rest.
     pub(crate) fn end(self, parent: Root<T>) -> Rest<T>
         requires { IsRootOf self parent }
         ensures { Leaves (shape_of self) (root_in parent) (left_in result) }

@@ -1,7 +1,7 @@
 //! Giving a node and then a cell back to their free lists: the same steps for a take and for a put
 //! that is refused.
 ghost use Rattle.queue_machine.specs.declared.lines.Answer.{Answer};
-ghost use Rattle.ms_queue.specs.Giving.{IsGiving, Led};
+ghost use Rattle.ms_queue.specs.Giving.{IsGiving, Led, way};
 ghost use Rattle.ms_queue.specs.declared.giving.Give.TheVariants.{LoadNodes, LinkNode, GiveNode, LoadCells, LinkCell, GiveCell};
 
 use crate::queue::{Pass, Queue};
@@ -54,9 +54,9 @@ impl<T> Queue<T> {
         at: Give,
         operation: &Operation<T>,
     ) -> Gave
-        requires { (a : Answer T) × IsGiving self.now operation.now by.old a held at }
-        ensures { (a : Answer T) → IsGiving self.now operation.now by.old a held at
-            → Led self.now operation.now by.old by.new a held at result }
+        requires { (a : Answer T) × IsGiving self.now (way operation.now by.old (a, held) at) }
+        ensures { (a : Answer T) → IsGiving self.now (way operation.now by.old (a, held) at)
+            → Led self.now (way operation.now by.old (a, held) at) by.new result }
     {
         match at {
             Give::LoadNodes => self.give_load_nodes(by, held, operation),
@@ -70,9 +70,10 @@ impl<T> Queue<T> {
 
     #[inline(always)]
     fn give_load_nodes(&self, by: &mut Pass<T>, held: Held, operation: &Operation<T>) -> Gave
-        requires { (a : Answer T) × IsGiving self.now operation.now by.old a held LoadNodes }
-        ensures { (a : Answer T) → IsGiving self.now operation.now by.old a held LoadNodes
-            → Led self.now operation.now by.old by.new a held LoadNodes result }
+        requires { (a : Answer T)
+            × IsGiving self.now (way operation.now by.old (a, held) LoadNodes) }
+        ensures { (a : Answer T) → IsGiving self.now (way operation.now by.old (a, held) LoadNodes)
+            → Led self.now (way operation.now by.old (a, held) LoadNodes) by.new result }
     {
         let nodes = load_tagged_step(&self.table.shared, &mut by.seat, NODES, operation);
         Gave::On(Give::LinkNode(nodes))
@@ -86,9 +87,11 @@ impl<T> Queue<T> {
         nodes: Tagged,
         operation: &Operation<T>,
     ) -> Gave
-        requires { (a : Answer T) × IsGiving self.now operation.now by.old a held (LinkNode nodes) }
-        ensures { (a : Answer T) → IsGiving self.now operation.now by.old a held (LinkNode nodes)
-            → Led self.now operation.now by.old by.new a held (LinkNode nodes) result }
+        requires { (a : Answer T)
+            × IsGiving self.now (way operation.now by.old (a, held) (LinkNode nodes)) }
+        ensures { (a : Answer T)
+            → IsGiving self.now (way operation.now by.old (a, held) (LinkNode nodes))
+            → Led self.now (way operation.now by.old (a, held) (LinkNode nodes)) by.new result }
     {
         let link = node_link(held.node);
         let first = nodes.index() as u64;
@@ -104,9 +107,11 @@ impl<T> Queue<T> {
         nodes: Tagged,
         operation: &Operation<T>,
     ) -> Gave
-        requires { (a : Answer T) × IsGiving self.now operation.now by.old a held (GiveNode nodes) }
-        ensures { (a : Answer T) → IsGiving self.now operation.now by.old a held (GiveNode nodes)
-            → Led self.now operation.now by.old by.new a held (GiveNode nodes) result }
+        requires { (a : Answer T)
+            × IsGiving self.now (way operation.now by.old (a, held) (GiveNode nodes)) }
+        ensures { (a : Answer T)
+            → IsGiving self.now (way operation.now by.old (a, held) (GiveNode nodes))
+            → Led self.now (way operation.now by.old (a, held) (GiveNode nodes)) by.new result }
     {
         let new = nodes.kept(held.node);
         if swap_step(
@@ -124,9 +129,10 @@ impl<T> Queue<T> {
 
     #[inline(always)]
     fn give_load_cells(&self, by: &mut Pass<T>, held: Held, operation: &Operation<T>) -> Gave
-        requires { (a : Answer T) × IsGiving self.now operation.now by.old a held LoadCells }
-        ensures { (a : Answer T) → IsGiving self.now operation.now by.old a held LoadCells
-            → Led self.now operation.now by.old by.new a held LoadCells result }
+        requires { (a : Answer T)
+            × IsGiving self.now (way operation.now by.old (a, held) LoadCells) }
+        ensures { (a : Answer T) → IsGiving self.now (way operation.now by.old (a, held) LoadCells)
+            → Led self.now (way operation.now by.old (a, held) LoadCells) by.new result }
     {
         let cells = load_tagged_step(&self.table.shared, &mut by.seat, CELLS, operation);
         Gave::On(Give::LinkCell(cells))
@@ -140,9 +146,11 @@ impl<T> Queue<T> {
         cells: Tagged,
         operation: &Operation<T>,
     ) -> Gave
-        requires { (a : Answer T) × IsGiving self.now operation.now by.old a held (LinkCell cells) }
-        ensures { (a : Answer T) → IsGiving self.now operation.now by.old a held (LinkCell cells)
-            → Led self.now operation.now by.old by.new a held (LinkCell cells) result }
+        requires { (a : Answer T)
+            × IsGiving self.now (way operation.now by.old (a, held) (LinkCell cells)) }
+        ensures { (a : Answer T)
+            → IsGiving self.now (way operation.now by.old (a, held) (LinkCell cells))
+            → Led self.now (way operation.now by.old (a, held) (LinkCell cells)) by.new result }
     {
         let link = cell_link(held.cell);
         let first = cells.index() as u64;
@@ -159,9 +167,11 @@ impl<T> Queue<T> {
         cells: Tagged,
         operation: &Operation<T>,
     ) -> Gave
-        requires { (a : Answer T) × IsGiving self.now operation.now by.old a held (GiveCell cells) }
-        ensures { (a : Answer T) → IsGiving self.now operation.now by.old a held (GiveCell cells)
-            → Led self.now operation.now by.old by.new a held (GiveCell cells) result }
+        requires { (a : Answer T)
+            × IsGiving self.now (way operation.now by.old (a, held) (GiveCell cells)) }
+        ensures { (a : Answer T)
+            → IsGiving self.now (way operation.now by.old (a, held) (GiveCell cells))
+            → Led self.now (way operation.now by.old (a, held) (GiveCell cells)) by.new result }
     {
         let new = cells.kept(held.cell);
         if give_step(

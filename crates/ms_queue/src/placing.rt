@@ -1,6 +1,6 @@
 //! Taking a cell and then a node for a value that is put, by steps.
 ghost use Rattle.std.specs.Prelude.{◌≡◌, [], ◌∷◌, Some, None};
-ghost use Rattle.ms_queue.specs.Putting.{IsPuttingAt, PutStep};
+ghost use Rattle.ms_queue.specs.Putting.{IsPutting, PutStep, put_op};
 ghost use Rattle.ms_queue.specs.declared.putting.PutAt.TheVariants.{LoadCells, LoadCellLink, TakeCell, LoadNodes, LoadNodeLink, TakeNode};
 
 use crate::giving::{Give, Held};
@@ -18,9 +18,9 @@ impl<T> Queue<T> {
     // The free cell, or why none can be had.
     #[inline(always)]
     pub(crate) fn put_load_cells(&self, by: Pass<T>, operation: Operation<T>, value: T) -> Step<T>
-        requires { (x : T) × IsPuttingAt self.now x operation by (LoadCells value) }
-        ensures { (x : T) → IsPuttingAt self.now x operation by (LoadCells value)
-            → PutStep self.now x operation by (LoadCells value) result }
+        requires { (x : T) × IsPutting self.now x (put_op operation by (LoadCells value)) }
+        ensures { (x : T) → IsPutting self.now x (put_op operation by (LoadCells value))
+            → PutStep self.now x (put_op operation by (LoadCells value)) result }
     {
         let mut pass = by;
         let cells = load_tagged_step(&self.table.shared, &mut pass.seat, CELLS, &operation);
@@ -50,9 +50,9 @@ impl<T> Queue<T> {
         value: T,
         cells: Tagged,
     ) -> Step<T>
-        requires { (x : T) × IsPuttingAt self.now x operation by (LoadCellLink value cells) }
-        ensures { (x : T) → IsPuttingAt self.now x operation by (LoadCellLink value cells)
-            → PutStep self.now x operation by (LoadCellLink value cells) result }
+        requires { (x : T) × IsPutting self.now x (put_op operation by (LoadCellLink value cells)) }
+        ensures { (x : T) → IsPutting self.now x (put_op operation by (LoadCellLink value cells))
+            → PutStep self.now x (put_op operation by (LoadCellLink value cells)) result }
     {
         let mut pass = by;
         let at = cell_link(cells.index());
@@ -75,9 +75,10 @@ impl<T> Queue<T> {
         cells: Tagged,
         link: u32,
     ) -> Step<T>
-        requires { (x : T) × IsPuttingAt self.now x operation by (TakeCell value cells link) }
-        ensures { (x : T) → IsPuttingAt self.now x operation by (TakeCell value cells link)
-            → PutStep self.now x operation by (TakeCell value cells link) result }
+        requires { (x : T)
+            × IsPutting self.now x (put_op operation by (TakeCell value cells link)) }
+        ensures { (x : T) → IsPutting self.now x (put_op operation by (TakeCell value cells link))
+            → PutStep self.now x (put_op operation by (TakeCell value cells link)) result }
     {
         let mut pass = by;
         let new = raised(cells, link);
@@ -101,9 +102,9 @@ impl<T> Queue<T> {
     // A put that has a cell always finds a node with room; else the cell would be given back.
     #[inline(always)]
     pub(crate) fn put_load_nodes(&self, by: Pass<T>, operation: Operation<T>, cell: u32) -> Step<T>
-        requires { (x : T) × IsPuttingAt self.now x operation by (LoadNodes cell) }
-        ensures { (x : T) → IsPuttingAt self.now x operation by (LoadNodes cell)
-            → PutStep self.now x operation by (LoadNodes cell) result }
+        requires { (x : T) × IsPutting self.now x (put_op operation by (LoadNodes cell)) }
+        ensures { (x : T) → IsPutting self.now x (put_op operation by (LoadNodes cell))
+            → PutStep self.now x (put_op operation by (LoadNodes cell)) result }
     {
         let mut pass = by;
         let nodes = load_tagged_step(&self.table.shared, &mut pass.seat, NODES, &operation);
@@ -168,9 +169,9 @@ impl<T> Queue<T> {
         cell: u32,
         nodes: Tagged,
     ) -> Step<T>
-        requires { (x : T) × IsPuttingAt self.now x operation by (LoadNodeLink cell nodes) }
-        ensures { (x : T) → IsPuttingAt self.now x operation by (LoadNodeLink cell nodes)
-            → PutStep self.now x operation by (LoadNodeLink cell nodes) result }
+        requires { (x : T) × IsPutting self.now x (put_op operation by (LoadNodeLink cell nodes)) }
+        ensures { (x : T) → IsPutting self.now x (put_op operation by (LoadNodeLink cell nodes))
+            → PutStep self.now x (put_op operation by (LoadNodeLink cell nodes)) result }
     {
         let mut pass = by;
         let at = node_link(nodes.index());
@@ -192,9 +193,9 @@ impl<T> Queue<T> {
         nodes: Tagged,
         link: u32,
     ) -> Step<T>
-        requires { (x : T) × IsPuttingAt self.now x operation by (TakeNode cell nodes link) }
-        ensures { (x : T) → IsPuttingAt self.now x operation by (TakeNode cell nodes link)
-            → PutStep self.now x operation by (TakeNode cell nodes link) result }
+        requires { (x : T) × IsPutting self.now x (put_op operation by (TakeNode cell nodes link)) }
+        ensures { (x : T) → IsPutting self.now x (put_op operation by (TakeNode cell nodes link))
+            → PutStep self.now x (put_op operation by (TakeNode cell nodes link)) result }
     {
         let mut pass = by;
         let new = raised(nodes, link);

@@ -6,7 +6,7 @@ ghost use Rattle.tagged_index.specs.declared.word.TheConstants.{MAX_TAG};
 ghost use Rattle.queue_machine.specs.Machine.{null_word};
 ghost use Rattle.running.specs.Passes.{pass_in};
 ghost use Rattle.ms_queue.specs.Queue.{IsPassOf, begun_of};
-ghost use Rattle.ms_queue.specs.Putting.{IsPutting, IsPuttingAt, PutStep};
+ghost use Rattle.ms_queue.specs.Putting.{IsPutting, PutStep, put_op};
 ghost use Rattle.ms_queue.specs.declared.putting.PutAt.TheVariants.{Refusing, StoreCell, LoadNext, PrepareNext, Seeking, LinkNext, SwingTail, GiveBack};
 
 use crate::giving::{Gave, Give, Held};
@@ -99,9 +99,9 @@ impl<T> Queue<T> {
         value: T,
         at: Seek,
     ) -> Step<T>
-        requires { (x : T) × IsPuttingAt self.now x operation by (Refusing value at) }
-        ensures { (x : T) → IsPuttingAt self.now x operation by (Refusing value at)
-            → PutStep self.now x operation by (Refusing value at) result }
+        requires { (x : T) × IsPutting self.now x (put_op operation by (Refusing value at)) }
+        ensures { (x : T) → IsPutting self.now x (put_op operation by (Refusing value at))
+            → PutStep self.now x (put_op operation by (Refusing value at)) result }
     {
         let mut pass = by;
         match self.seek(&mut pass, at, &operation) {
@@ -117,9 +117,9 @@ impl<T> Queue<T> {
 
     #[inline(always)]
     pub(crate) fn put_store_cell(&self, by: Pass<T>, operation: Operation<T>, held: Held) -> Step<T>
-        requires { (x : T) × IsPuttingAt self.now x operation by (StoreCell held) }
-        ensures { (x : T) → IsPuttingAt self.now x operation by (StoreCell held)
-            → PutStep self.now x operation by (StoreCell held) result }
+        requires { (x : T) × IsPutting self.now x (put_op operation by (StoreCell held)) }
+        ensures { (x : T) → IsPutting self.now x (put_op operation by (StoreCell held))
+            → PutStep self.now x (put_op operation by (StoreCell held)) result }
     {
         let mut pass = by;
         let at = cell(held.node);
@@ -135,9 +135,9 @@ impl<T> Queue<T> {
     // Both the preparation and the link raise the tag.
     #[inline(always)]
     pub(crate) fn put_load_next(&self, by: Pass<T>, operation: Operation<T>, held: Held) -> Step<T>
-        requires { (x : T) × IsPuttingAt self.now x operation by (LoadNext held) }
-        ensures { (x : T) → IsPuttingAt self.now x operation by (LoadNext held)
-            → PutStep self.now x operation by (LoadNext held) result }
+        requires { (x : T) × IsPutting self.now x (put_op operation by (LoadNext held)) }
+        ensures { (x : T) → IsPutting self.now x (put_op operation by (LoadNext held))
+            → PutStep self.now x (put_op operation by (LoadNext held)) result }
     {
         let mut pass = by;
         let at = next(held.node);
@@ -166,9 +166,9 @@ impl<T> Queue<T> {
         held: Held,
         link: Tagged,
     ) -> Step<T>
-        requires { (x : T) × IsPuttingAt self.now x operation by (PrepareNext held link) }
-        ensures { (x : T) → IsPuttingAt self.now x operation by (PrepareNext held link)
-            → PutStep self.now x operation by (PrepareNext held link) result }
+        requires { (x : T) × IsPutting self.now x (put_op operation by (PrepareNext held link)) }
+        ensures { (x : T) → IsPutting self.now x (put_op operation by (PrepareNext held link))
+            → PutStep self.now x (put_op operation by (PrepareNext held link)) result }
     {
         let mut pass = by;
         let at = next(held.node);
@@ -189,9 +189,9 @@ impl<T> Queue<T> {
         held: Held,
         at: Seek,
     ) -> Step<T>
-        requires { (x : T) × IsPuttingAt self.now x operation by (Seeking held at) }
-        ensures { (x : T) → IsPuttingAt self.now x operation by (Seeking held at)
-            → PutStep self.now x operation by (Seeking held at) result }
+        requires { (x : T) × IsPutting self.now x (put_op operation by (Seeking held at)) }
+        ensures { (x : T) → IsPutting self.now x (put_op operation by (Seeking held at))
+            → PutStep self.now x (put_op operation by (Seeking held at)) result }
     {
         let mut pass = by;
         match self.seek(&mut pass, at, &operation) {
@@ -227,9 +227,9 @@ impl<T> Queue<T> {
         tail: Tagged,
         link: Tagged,
     ) -> Step<T>
-        requires { (x : T) × IsPuttingAt self.now x operation by (LinkNext held tail link) }
-        ensures { (x : T) → IsPuttingAt self.now x operation by (LinkNext held tail link)
-            → PutStep self.now x operation by (LinkNext held tail link) result }
+        requires { (x : T) × IsPutting self.now x (put_op operation by (LinkNext held tail link)) }
+        ensures { (x : T) → IsPutting self.now x (put_op operation by (LinkNext held tail link))
+            → PutStep self.now x (put_op operation by (LinkNext held tail link)) result }
     {
         let mut pass = by;
         let at = next(tail.index());
@@ -264,9 +264,9 @@ impl<T> Queue<T> {
         tail: Tagged,
         link: Tagged,
     ) -> Step<T>
-        requires { (x : T) × IsPuttingAt self.now x operation by (SwingTail tail link) }
-        ensures { (x : T) → IsPuttingAt self.now x operation by (SwingTail tail link)
-            → PutStep self.now x operation by (SwingTail tail link) result }
+        requires { (x : T) × IsPutting self.now x (put_op operation by (SwingTail tail link)) }
+        ensures { (x : T) → IsPutting self.now x (put_op operation by (SwingTail tail link))
+            → PutStep self.now x (put_op operation by (SwingTail tail link)) result }
     {
         let mut pass = by;
         let new = raised(tail, link.index());
@@ -284,9 +284,9 @@ impl<T> Queue<T> {
         held: Held,
         at: Give,
     ) -> Step<T>
-        requires { (x : T) × IsPuttingAt self.now x operation by (GiveBack why held at) }
-        ensures { (x : T) → IsPuttingAt self.now x operation by (GiveBack why held at)
-            → PutStep self.now x operation by (GiveBack why held at) result }
+        requires { (x : T) × IsPutting self.now x (put_op operation by (GiveBack why held at)) }
+        ensures { (x : T) → IsPutting self.now x (put_op operation by (GiveBack why held at))
+            → PutStep self.now x (put_op operation by (GiveBack why held at)) result }
     {
         let mut pass = by;
         match self.give(&mut pass, held, at, &operation) {
@@ -307,7 +307,7 @@ impl<T> PutOp<T> {
     pub fn step(self, queue: &Queue<T>) -> Stepped<PutOp<T>, Pass<T>, Result<u64, PutRefused<T>>>
         requires { (x : T) × IsPutting queue.now x self }
         ensures { (x : T) → IsPutting queue.now x self
-            → PutStep queue.now x self.operation self.pass self.at result }
+            → PutStep queue.now x self result }
     {
         let PutOp {
             pass,

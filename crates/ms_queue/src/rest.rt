@@ -39,10 +39,11 @@ impl<T> Rest<T> {
         requires full { IsFull closed.words × IsFull closed.slots }
         requires words { slots_len closed.words ≡ words_for (slots_len closed.slots) }
         requires few { slots_len closed.slots < NULL }
-        requires dummy { index_of (slice_index (slots_items closed.words) head_at) ≤ slots_len
-            closed.slots }
+        requires dummy { index_of (slice_index (slots_items closed.words) head_at)
+            ≤ slots_len closed.slots }
         ensures { left_in result ≡ left_along (slots_items closed.words) (slots_items closed.slots)
-            (node_behind (slots_items closed.words) (index_of (slice_index (slots_items closed.words) head_at))) }
+            (node_behind (slots_items closed.words)
+            (index_of (slice_index (slots_items closed.words) head_at))) }
     {
         let dummy = index_at(&closed, layout::HEAD);
         let node = index_at(&closed, layout::next(dummy));

@@ -1,7 +1,7 @@
 //! Going to the end of the chain, to link a node there, to mark it, or to see why nothing can be
 //! put: the same steps for all three.
 ghost use Rattle.queue_machine.specs.declared.lines.Seeking.{Seeking};
-ghost use Rattle.ms_queue.specs.Seeking.{IsSeeking, Led};
+ghost use Rattle.ms_queue.specs.Seeking.{IsSeeking, Led, way};
 ghost use Rattle.ms_queue.specs.declared.seeking.Seek.TheVariants.{LoadTail, LoadNext, CheckTail, SwingTail};
 
 use crate::queue::{Pass, Queue};
@@ -37,9 +37,9 @@ impl<T> Queue<T> {
     /// One step to the end of the chain.
     #[inline(always)]
     pub(crate) fn seek(&self, by: &mut Pass<T>, at: Seek, operation: &Operation<T>) -> Sought
-        requires { (s : Seeking T) × IsSeeking self.now operation.now by.old s at }
-        ensures { (s : Seeking T) → IsSeeking self.now operation.now by.old s at
-            → Led self.now operation.now by.old by.new s at result }
+        requires { (s : Seeking T) × IsSeeking self.now (way operation.now by.old s at) }
+        ensures { (s : Seeking T) → IsSeeking self.now (way operation.now by.old s at)
+            → Led self.now (way operation.now by.old s at) by.new result }
     {
         match at {
             Seek::LoadTail => self.seek_tail(by, operation),
@@ -51,9 +51,9 @@ impl<T> Queue<T> {
 
     #[inline(always)]
     fn seek_tail(&self, by: &mut Pass<T>, operation: &Operation<T>) -> Sought
-        requires { (s : Seeking T) × IsSeeking self.now operation.now by.old s LoadTail }
-        ensures { (s : Seeking T) → IsSeeking self.now operation.now by.old s LoadTail
-            → Led self.now operation.now by.old by.new s LoadTail result }
+        requires { (s : Seeking T) × IsSeeking self.now (way operation.now by.old s LoadTail) }
+        ensures { (s : Seeking T) → IsSeeking self.now (way operation.now by.old s LoadTail)
+            → Led self.now (way operation.now by.old s LoadTail) by.new result }
     {
         let tail = load_tagged_step(&self.table.shared, &mut by.seat, TAIL, operation);
         Sought::On(Seek::LoadNext(tail))
@@ -61,9 +61,10 @@ impl<T> Queue<T> {
 
     #[inline(always)]
     fn seek_next(&self, by: &mut Pass<T>, tail: Tagged, operation: &Operation<T>) -> Sought
-        requires { (s : Seeking T) × IsSeeking self.now operation.now by.old s (LoadNext tail) }
-        ensures { (s : Seeking T) → IsSeeking self.now operation.now by.old s (LoadNext tail)
-            → Led self.now operation.now by.old by.new s (LoadNext tail) result }
+        requires { (s : Seeking T)
+            × IsSeeking self.now (way operation.now by.old s (LoadNext tail)) }
+        ensures { (s : Seeking T) → IsSeeking self.now (way operation.now by.old s (LoadNext tail))
+            → Led self.now (way operation.now by.old s (LoadNext tail)) by.new result }
     {
         let at = next(tail.index());
         let link = load_tagged_step(&self.table.shared, &mut by.seat, at, operation);
@@ -80,10 +81,10 @@ impl<T> Queue<T> {
         operation: &Operation<T>,
     ) -> Sought
         requires { (s : Seeking T)
-            × IsSeeking self.now operation.now by.old s (CheckTail tail link) }
+            × IsSeeking self.now (way operation.now by.old s (CheckTail tail link)) }
         ensures { (s : Seeking T)
-            → IsSeeking self.now operation.now by.old s (CheckTail tail link)
-            → Led self.now operation.now by.old by.new s (CheckTail tail link) result }
+            → IsSeeking self.now (way operation.now by.old s (CheckTail tail link))
+            → Led self.now (way operation.now by.old s (CheckTail tail link)) by.new result }
     {
         let again = load_tagged_step(&self.table.shared, &mut by.seat, TAIL, operation);
         if again.word() != tail.word() {
@@ -108,10 +109,10 @@ impl<T> Queue<T> {
         operation: &Operation<T>,
     ) -> Sought
         requires { (s : Seeking T)
-            × IsSeeking self.now operation.now by.old s (SwingTail tail link) }
+            × IsSeeking self.now (way operation.now by.old s (SwingTail tail link)) }
         ensures { (s : Seeking T)
-            → IsSeeking self.now operation.now by.old s (SwingTail tail link)
-            → Led self.now operation.now by.old by.new s (SwingTail tail link) result }
+            → IsSeeking self.now (way operation.now by.old s (SwingTail tail link))
+            → Led self.now (way operation.now by.old s (SwingTail tail link)) by.new result }
     {
         let new = raised(tail, link.index());
         attempt_step(&self.table.shared, &mut by.seat, TAIL, tail, new, operation);

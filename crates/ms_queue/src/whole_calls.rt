@@ -25,12 +25,21 @@ impl<T> Queue<T> {
         requires { IsClosingAt self.now by (Seeking LoadTail) }
         ensures { CloseRun self.now (begun_of self.now by) result }
     {
-        let (pass, at) =
-            straight!(self.close_seek(by, Seek::LoadTail), CloseOp { pass }, CloseAt::Seeking(at) => at);
-        let (pass, at) =
-            straight!(self.close_seek(pass, at), CloseOp { pass }, CloseAt::Seeking(at) => at);
-        let (pass, tail, link) =
-            straight!(self.close_seek(pass, at), CloseOp { pass }, CloseAt::Mark(tail, link) => tail, link);
+        let (pass, at) = straight!(
+            self.close_seek(by, Seek::LoadTail),
+            CloseOp { pass },
+            CloseAt::Seeking(at) => at
+        );
+        let (pass, at) = straight!(
+            self.close_seek(pass, at),
+            CloseOp { pass },
+            CloseAt::Seeking(at) => at
+        );
+        let (pass, tail, link) = straight!(
+            self.close_seek(pass, at),
+            CloseOp { pass },
+            CloseAt::Mark(tail, link) => tail, link
+        );
         self.close_mark(pass, tail, link)
     }
 
@@ -39,8 +48,11 @@ impl<T> Queue<T> {
         requires { IsShuttingAt self.now by ShutFirst }
         ensures { ShutRun self.now (begun_of self.now by) result }
     {
-        let (pass, head) =
-            straight!(self.shut_load_head(by), ShutOp { pass }, ShutAt::Mark(head) => head);
+        let (pass, head) = straight!(
+            self.shut_load_head(by),
+            ShutOp { pass },
+            ShutAt::Mark(head) => head
+        );
         self.shut_mark(pass, head)
     }
 
@@ -49,10 +61,16 @@ impl<T> Queue<T> {
         requires { IsLookingAt self.now by LookFirst }
         ensures { LookRun self.now (begun_of self.now by) result }
     {
-        let (pass, head) =
-            straight!(self.look_load_head(by), LookOp { pass }, LookAt::LoadNext(head) => head);
-        let (pass, head, link) =
-            straight!(self.look_load_next(pass, head), LookOp { pass }, LookAt::CheckHead(head, link) => head, link);
+        let (pass, head) = straight!(
+            self.look_load_head(by),
+            LookOp { pass },
+            LookAt::LoadNext(head) => head
+        );
+        let (pass, head, link) = straight!(
+            self.look_load_next(pass, head),
+            LookOp { pass },
+            LookAt::CheckHead(head, link) => head, link
+        );
         self.look_check_head(pass, head, link)
     }
 }

@@ -20,14 +20,26 @@ impl<T> Queue<T> {
         requires { IsTakingAt self.now by LoadHead }
         ensures { TakeRun self.now (begun_of self.now by) result }
     {
-        let (pass, head) =
-            straight!(self.take_load_head(by), TakeOp { pass }, TakeAt::LoadTail(head) => head);
-        let (pass, head, tail) =
-            straight!(self.take_load_tail(pass, head), TakeOp { pass }, TakeAt::LoadNext(head, tail) => head, tail);
-        let (pass, head, tail, link) =
-            straight!(self.take_load_next(pass, head, tail), TakeOp { pass }, TakeAt::CheckHead(head, tail, link) => head, tail, link);
-        let (pass, head, link) =
-            straight!(self.take_check_head(pass, head, tail, link), TakeOp { pass }, TakeAt::LoadCell(head, link) => head, link);
+        let (pass, head) = straight!(
+            self.take_load_head(by),
+            TakeOp { pass },
+            TakeAt::LoadTail(head) => head
+        );
+        let (pass, head, tail) = straight!(
+            self.take_load_tail(pass, head),
+            TakeOp { pass },
+            TakeAt::LoadNext(head, tail) => head, tail
+        );
+        let (pass, head, tail, link) = straight!(
+            self.take_load_next(pass, head, tail),
+            TakeOp { pass },
+            TakeAt::CheckHead(head, tail, link) => head, tail, link
+        );
+        let (pass, head, link) = straight!(
+            self.take_check_head(pass, head, tail, link),
+            TakeOp { pass },
+            TakeAt::LoadCell(head, link) => head, link
+        );
         self.take_run_first(pass, head, link)
     }
 
@@ -37,10 +49,16 @@ impl<T> Queue<T> {
         requires { IsTakingAt self.now by (LoadCell head link) }
         ensures { TakeRun self.now (begun_of self.now by) result }
     {
-        let (pass, head, link, cell) =
-            straight!(self.take_load_cell(by, head, link), TakeOp { pass }, TakeAt::TakeHead(head, link, cell) => head, link, cell);
-        let (pass, taken, at) =
-            straight!(self.take_head(pass, head, link, cell), TakeOp { pass }, TakeAt::GiveBack(taken, at) => taken, at);
+        let (pass, head, link, cell) = straight!(
+            self.take_load_cell(by, head, link),
+            TakeOp { pass },
+            TakeAt::TakeHead(head, link, cell) => head, link, cell
+        );
+        let (pass, taken, at) = straight!(
+            self.take_head(pass, head, link, cell),
+            TakeOp { pass },
+            TakeAt::GiveBack(taken, at) => taken, at
+        );
         self.take_run_give(pass, taken, at)
     }
 
@@ -50,12 +68,21 @@ impl<T> Queue<T> {
         requires { IsTakingAt self.now by (GiveBack taken at) }
         ensures { TakeRun self.now (begun_of self.now by) result }
     {
-        let (pass, taken, at) =
-            straight!(self.take_give_back(by, taken, at), TakeOp { pass }, TakeAt::GiveBack(taken, at) => taken, at);
-        let (pass, taken, at) =
-            straight!(self.take_give_back(pass, taken, at), TakeOp { pass }, TakeAt::GiveBack(taken, at) => taken, at);
-        let (pass, taken, at) =
-            straight!(self.take_give_back(pass, taken, at), TakeOp { pass }, TakeAt::GiveBack(taken, at) => taken, at);
+        let (pass, taken, at) = straight!(
+            self.take_give_back(by, taken, at),
+            TakeOp { pass },
+            TakeAt::GiveBack(taken, at) => taken, at
+        );
+        let (pass, taken, at) = straight!(
+            self.take_give_back(pass, taken, at),
+            TakeOp { pass },
+            TakeAt::GiveBack(taken, at) => taken, at
+        );
+        let (pass, taken, at) = straight!(
+            self.take_give_back(pass, taken, at),
+            TakeOp { pass },
+            TakeAt::GiveBack(taken, at) => taken, at
+        );
         self.take_run_free(pass, taken, at)
     }
 
@@ -65,10 +92,16 @@ impl<T> Queue<T> {
         requires { IsTakingAt self.now by (GiveBack taken at) }
         ensures { TakeRun self.now (begun_of self.now by) result }
     {
-        let (pass, taken, at) =
-            straight!(self.take_give_back(by, taken, at), TakeOp { pass }, TakeAt::GiveBack(taken, at) => taken, at);
-        let (pass, taken, at) =
-            straight!(self.take_give_back(pass, taken, at), TakeOp { pass }, TakeAt::GiveBack(taken, at) => taken, at);
+        let (pass, taken, at) = straight!(
+            self.take_give_back(by, taken, at),
+            TakeOp { pass },
+            TakeAt::GiveBack(taken, at) => taken, at
+        );
+        let (pass, taken, at) = straight!(
+            self.take_give_back(pass, taken, at),
+            TakeOp { pass },
+            TakeAt::GiveBack(taken, at) => taken, at
+        );
         self.take_give_back(pass, taken, at)
     }
 

@@ -12,7 +12,7 @@ use Rattle.running.proofs.Ways.{went_on}
 use Rattle.ms_queue.specs.Giving.{held_slot}
 use Rattle.ms_queue.specs.Queue.{machine_of, begun_of}
 use Rattle.ms_queue.specs.Putting.{full_slot, linking}
-use Rattle.ms_queue.specs.Seeking.{Led, seek_line}
+use Rattle.ms_queue.specs.Seeking.{Led, seek_line, way}
 use Rattle.ms_queue.specs.declared.seeking.Sought.{Sought}
 use Rattle.ms_queue.proofs.Puts.{one_value}
 use Rattle.ms_queue.proofs.Seeks.{seeking, busy}
@@ -29,7 +29,7 @@ pub returns-in-On : goal.returns-in-On
 returns-in-On g c = λ x is.
     let q = c.args.self.now in
     let s = ToLink (linking x c.args.held) in
-    let e = subst (λ (r : Sought). Led q c.args.operation c.args.by c.seek.new.by s c.args.at r) c.in-On.is (c.seek.ensures s (seeking s c.args.at is.line is.read.1)) in
+    let e = subst (λ (r : Sought). Led q (way c.args.operation c.args.by s c.args.at) c.seek.new.by r) c.in-On.is (c.seek.ensures s (seeking s c.args.at is.line is.read.1)) in
     let r = went_on (machine_of q) c.args.by c.seek.new.by (seek_line s c.args.at) (seek_line s c.in-On.at) e.steps (e.table ∙ is.line.table) (full_slot x c.args.held.cell) (e.slots ∙ is.line.at.has) (busy s c.in-On.at) in
     (record { of = is.of; line = r.0; read = (is.read.0, e.read) }, r.1)
 
@@ -38,7 +38,7 @@ returns-in-Closed g c = λ x is.
     let q = c.args.self.now in
     let held = c.args.held in
     let s = ToLink (linking x held) in
-    let e = subst (λ (r : Sought). Led q c.args.operation c.args.by c.seek.new.by s c.args.at r) c.in-Closed.is (c.seek.ensures s (seeking s c.args.at is.line is.read.1)) in
+    let e = subst (λ (r : Sought). Led q (way c.args.operation c.args.by s c.args.at) c.seek.new.by r) c.in-Closed.is (c.seek.ensures s (seeking s c.args.at is.line is.read.1)) in
     let v = c.put_value_back-value in
     let value : x ≡ v.result = one_value c.seek.new.by.seat.me.1 [] [] held.cell held.cell x v.result (e.slots ∙ is.line.at.has) v.ensures.value in
     let to = gives (linking x held) (Answer (Err (Closed v.result))) in
@@ -52,6 +52,6 @@ returns-in-End g c = λ x is.
     let q = c.args.self.now in
     let link = linking x c.args.held in
     let s = ToLink link in
-    let e = subst (λ (r : Sought). Led q c.args.operation c.args.by c.seek.new.by s c.args.at r) c.in-End.is (c.seek.ensures s (seeking s c.args.at is.line is.read.1)) in
+    let e = subst (λ (r : Sought). Led q (way c.args.operation c.args.by s c.args.at) c.seek.new.by r) c.in-End.is (c.seek.ensures s (seeking s c.args.at is.line is.read.1)) in
     let r = went_on (machine_of q) c.args.by c.seek.new.by (seek_line s c.args.at) (LinkNext link (fields_of c.in-End.tail) (fields_of c.in-End.link)) e.steps (e.table ∙ is.line.table) (full_slot x c.args.held.cell) (e.slots ∙ is.line.at.has) refl in
     (record { of = is.of; line = r.0; read = (is.read.0, e.read.0, e.read.1) }, r.1)
