@@ -32,14 +32,14 @@ fn main(rt: HostRuntime) -> ExitCode {
         .ok()
         .and_then(|words| words.collect(alloc).ok());
     let files = HostFiles { rt: &rt };
-    let (mut input, mut errors) = (rt.reader(), rt.stderr());
+    let mut errors = rt.stderr();
     let status = match BufWriter::with_capacity(alloc, OUTPUT_BUFFER, io::writer(&rt)) {
         Ok(mut output) => run(
             &rt,
             alloc,
             words,
             &files,
-            &mut input,
+            rt.reader(),
             &mut output,
             &mut errors,
         ),
@@ -48,7 +48,7 @@ fn main(rt: HostRuntime) -> ExitCode {
             alloc,
             words,
             &files,
-            &mut input,
+            rt.reader(),
             &mut io::writer(&rt),
             &mut errors,
         ),

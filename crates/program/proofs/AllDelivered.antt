@@ -1,13 +1,10 @@
 -- What readers gave is within the limits of a relay, and all of it is delivered where no worker is to stop early.
-use Rattle.std.proofs.Common.{◌≡◌, ℕ, zero, suc, ◌+◌, ◌*◌, ◌<◌, ◌≤◌, ◌==◌, Bool, true, false, cond, List, [], ◌∷◌, ◌++◌, length, map, count_by, refl, sym, ap, subst, ◌∙◌, append-nil, add-one, arith, Vec, None, Option, Result, Ok, Err, OnOk, IfErr}
+use Rattle.std.proofs.Common.{◌≡◌, ℕ, zero, suc, ◌+◌, ◌*◌, ◌≤◌, ◌==◌, Bool, true, false, cond, List, [], ◌∷◌, ◌++◌, length, count_by, refl, sym, ap, subst, ◌∙◌, append-nil, arith, Option, Result, Ok, Err, OnOk, IfErr}
 use Rattle.std.specs.Prelude.{filter}
 use Rattle.std.specs.List.{AllByRecursion as Every}
-use Rattle.std.specs.declared.alloc.Global.{Global}
 use Rattle.std.proofs.lemmas.List.Sorted.{length_permutation}
 use Rattle.std.proofs.lemmas.List.Sums.{length-filter}
-use Rattle.bounded_model.specs.Machine.{Shape}
 use Rattle.relay.specs.declared.messages.Message.{Message}
-use Rattle.relay.specs.declared.outcome.Plan.{Plan}
 use Rattle.relay.specs.declared.outcome.Relayed.{Relayed}
 use Rattle.relay.specs.declared.outcome.Taken.{Taken}
 use Rattle.relay.specs.Messages.{AreInputsFrom}
@@ -17,9 +14,9 @@ use Rattle.audit.specs.Reading.{texts}
 use Rattle.audit.proofs.Delivered.{AreTaken, audit-all}
 use Rattle.program.specs.declared.words.RelayArgs.{RelayArgs}
 use Rattle.program.specs.declared.command_line.TheConstants.{MAX_FILES}
-use Rattle.program.specs.Inputs.{AreRead, IsRead}
+use Rattle.program.specs.Inputs.{AreRead}
 use Rattle.program.specs.Ranges.{plan_of}
-use Rattle.program.specs.Relaying.{GrowsByFront, IsRelayed, RelaysInputs, StopsNowhere, outcome_text, shape_for}
+use Rattle.program.specs.Relaying.{GrowsByFront, IsRelayed, RelaysInputs, outcome_text, shape_for}
 use Rattle.program.specs.declared.tool_fault.ToolFault.{ToolFault}
 use Rattle.program.specs.declared.tool_fault.ToolFault.TheVariants.{Output}
 use Rattle.std.specs.Io.KnownBytes.{Appends}

@@ -2,4 +2,5 @@ pub mod AllDelivered
 pub mod Fronts
 pub mod Outcomes
 pub mod Readers
+pub mod Sources
 pub mod Writing

@@ -1,5 +1,5 @@
 -- What is known after a script was read from a reader whose bytes are known.
-use Rattle.std.proofs.Common.{◌≡◌, ◌≢◌, ℕ, ◌⊎◌, List, Option, Some, None, Result, Ok, Err, sym, ap, subst, ◌∙◌, inl, inr}
+use Rattle.std.proofs.Common.{◌≡◌, ◌≢◌, ℕ, List, Option, Some, None, Result, Ok, Err, ap, subst, ◌∙◌, inl}
 use Rattle.std.specs.Prelude.{IfErr, IfOk, IfSome, OnOk}
 use Rattle.program.specs.declared.fault.ReplayFault.{ReplayFault}
 use Rattle.program.specs.declared.fault.ReplayFault.TheVariants.{Output}

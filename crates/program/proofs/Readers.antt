@@ -1,12 +1,12 @@
 -- Readers that were read, one after another.
-use Rattle.std.proofs.Common.{◌≡◌, ℕ, suc, ◌+◌, List, [], ◌∷◌, ◌++◌, length, Option, None, Some, IfSome, refl, sym, ap, subst, ◌∙◌, append_assoc, append-nil, add-one, arith, Vec, Err, All}
+use Rattle.std.proofs.Common.{◌≡◌, ℕ, suc, ◌+◌, List, [], ◌∷◌, ◌++◌, length, Option, None, Some, IfSome, refl, sym, ap, subst, ◌∙◌, append-nil, arith, Vec, Err}
 use Rattle.std.specs.declared.alloc.Global.{Global}
 use Rattle.std.specs.Io.KnownBytes.{Consumes, IsAtEnd}
 use Rattle.relay.specs.declared.messages.Message.{Message}
 use Rattle.relay.specs.Messages.{IsInput}
 use Rattle.audit.specs.declared.faults.ReadFault.{ReadFault}
 use Rattle.audit.specs.declared.faults.ReadFault.TheVariants.{NoMemory, NoFinalNewline}
-use Rattle.audit.specs.MessageFile.{IsLine, IsMessageFile, IsFirstFault, text_of}
+use Rattle.audit.specs.MessageFile.{IsMessageFile, IsFirstFault}
 use Rattle.audit.specs.Reading.{texts, ReadsAll}
 use Rattle.program.specs.Inputs.{AreRead, HasFault, IsRead}
 

@@ -1,5 +1,5 @@
 -- What readers gave.
-use Rattle.std.specs.Prelude.{◌≡◌, ℕ, ◌+◌, List, [], ◌∷◌, ◌++◌, length, Option, IfSome, Vec, Result, Err}
+use Rattle.std.specs.Prelude.{◌≡◌, ℕ, ◌+◌, List, [], ◌∷◌, ◌++◌, length, Option, IfSome, Vec, Err}
 use Rattle.std.specs.declared.alloc.Global.{Global}
 use Rattle.relay.specs.declared.messages.Message.{Message}
 use Rattle.relay.specs.Messages.{IsInput}

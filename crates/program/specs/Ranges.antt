@@ -1,10 +1,15 @@
 -- What the words ask for, and its ranges.
-use Rattle.std.specs.Prelude.{◌≡◌, ℕ, ◌≤◌, Option, IfSome, length}
+use Rattle.std.specs.Prelude.{◌≡◌, ◌≢◌, ◌⊎◌, ◌≤◌, IfSome, length}
 use Rattle.relay.specs.declared.outcome.Plan.{Plan}
 use Rattle.tagged_index.specs.declared.limit.TheConstants.{MAX_CAPACITY}
 use Rattle.program.specs.declared.command_line.TheConstants.{MAX_CONSUMERS, MAX_COUNT, MAX_FILES}
 use Rattle.program.specs.declared.words.Chosen.{Chosen}
-use Rattle.program.specs.declared.words.Chosen.TheVariants.{Replay, Relay}
+use Rattle.program.specs.declared.words.Chosen.TheVariants.{Replay, Relay, Measured}
+use Rattle.program.specs.declared.words.WordsRefused.{WordsRefused}
+use Rattle.program.specs.declared.words.WordsRefused.TheVariants.{Help, Bad}
+use Rattle.clap.specs.declared.error.Error.{Error}
+use Rattle.clap.specs.declared.error.kind.ErrorKind.TheVariants.{DisplayHelp, DisplayVersion}
+use Rattle.clap.specs.Values.{kind_of}
 use Rattle.program.specs.declared.words.RelayArgs.{RelayArgs}
 
 -- how a relay is run: each value lies in its range
@@ -21,6 +26,18 @@ pub record IsInRange (args : RelayArgs) : Type 0 where
 abbrev pub AreInRange : Chosen → Type 0
 AreInRange (Replay file) = Unit {0}
 AreInRange (Relay args files) = IsInRange args × (1 ≤ length files.items) × (length files.items ≤ MAX_FILES)
+AreInRange (Measured args files) = IsInRange args × (1 ≤ length files.items) × (length files.items ≤ MAX_FILES)
+
+-- the program is to tell of a relay on standard error
+abbrev pub IsTold : Chosen → Type 0
+IsTold (Replay file) = ⊥
+IsTold (Relay args files) = ⊥
+IsTold (Measured args files) = Unit {0}
+
+-- words that ask for help or for the version get it, and all others that are refused are not understood
+abbrev pub IsRefusalOf : Error → WordsRefused → Type 0
+IsRefusalOf error (Help text) = (text ≡ error) × ((kind_of error ≡ DisplayHelp) ⊎ (kind_of error ≡ DisplayVersion))
+IsRefusalOf error Bad = (kind_of error ≢ DisplayHelp) × (kind_of error ≢ DisplayVersion)
 
 -- what a relay's workers are told
 abbrev pub plan_of : RelayArgs → Plan

@@ -5,7 +5,6 @@ use Rattle.bounded_model.specs.declared.history.Order.{Order}
 use Rattle.bounded_model.specs.declared.history.Order.TheVariants.{Fifo, Lifo}
 use Rattle.bounded_model.specs.Machine.{Shape}
 use Rattle.tagged_index.specs.declared.word.TheConstants.{MAX_TAG}
-use Rattle.relay.specs.declared.faults.RelayFault.{RelayFault}
 use Rattle.relay.specs.declared.faults.RelayFault.TheVariants.{TooSmall}
 use Rattle.relay.specs.declared.outcome.Relayed.{Relayed}
 use Rattle.relay.specs.Promises.{Lists, Relays, IsTooSmall, total}

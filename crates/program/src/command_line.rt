@@ -37,7 +37,7 @@ const REPLAY_EXAMPLE: &str =
     "A queue gives its values in the order of their puts, a stack the last one first.
 
 Example:
-  printf 'stack 2 7\\na put x\\na put y\\na take\\n' | lockfree
+  printf 'stack 2 7\\na put x\\na put y\\na take\\n' | lockfree replay -
 
 is answered with
   put 0
@@ -55,8 +55,9 @@ last line in first, so only the lines' numbers tell in which order they went in.
 A line has at most 1,024 bytes and ends in a line feed; a file has at most
 65,535 lines.
 
-Example:
-  lockfree relay --kind queue --capacity 1024 --consumers 4 --list a.txt b.txt";
+Examples:
+  lockfree relay --kind queue --capacity 1024 --consumers 4 --list a.txt b.txt
+  seq 1000 | lockfree relay --kind stack --capacity 8 --consumers 2 --stats -";
 
 /// The command line.
 pub fn command_line<'a>(alloc: Global) -> Result<Command<'a>, AllocError> {
@@ -74,7 +75,7 @@ fn replay<'a>(alloc: Global) -> Result<Command<'a>, AllocError> {
         .value_name("FILE")
         .required(true)
         .action(ArgAction::Set)
-        .help("The script");
+        .help("The script; - is standard input");
     Command::new(alloc, "replay")
         .about(ABOUT_REPLAY)
         .after_help(REPLAY_EXAMPLE)
@@ -87,7 +88,7 @@ fn relay<'a>(alloc: Global) -> Result<Command<'a>, AllocError> {
         .required(true)
         .num_args(1..=MAX_FILES)
         .action(ArgAction::Append)
-        .help("The files, 1 to 16 of them; file 1 is sender 0");
+        .help("The files, 1 to 16 of them; file 1 is sender 0.\n- is standard input, once");
     Command::new(alloc, "relay")
         .about(ABOUT_RELAY)
         .after_help(RELAY_EXAMPLE)
@@ -98,6 +99,7 @@ fn relay<'a>(alloc: Global) -> Result<Command<'a>, AllocError> {
         .arg(close_after(alloc))?
         .arg(shut_after(alloc))?
         .arg(list(alloc))?
+        .arg(stats(alloc))?
         .arg(files)
 }
 
@@ -165,4 +167,13 @@ fn list<'a>(alloc: Global) -> Arg<'a> {
         .long("list")
         .action(ArgAction::SetTrue)
         .help("Also writes a line for each line of the files: taken,\nleft or unsent")
+}
+
+fn stats<'a>(alloc: Global) -> Arg<'a> {
+    Arg::new(alloc, "stats")
+        .long("stats")
+        .action(ArgAction::SetTrue)
+        .help(
+            "Tells on standard error how long it took, how many\nlines each consumer took, and how often the container\nwas full or empty",
+        )
 }

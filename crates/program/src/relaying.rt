@@ -1,17 +1,18 @@
 //! Files relayed through a container.
 
-ghost use Rattle.std.specs.Prelude.{◌≡◌, ◌≢◌, ◌≤◌, ◌*◌, IfErr, List, ℕ, length};
+ghost use Rattle.std.specs.Prelude.{◌≡◌, ◌≢◌, ◌≤◌, ◌*◌, IfErr, IfOk, List, ℕ, length};
 ghost use Rattle.bounded_model.specs.Laws.{fresh};
 ghost use Rattle.relay.specs.Messages.{AreInputsFrom};
-ghost use Rattle.relay.specs.Promises.{total};
+ghost use Rattle.relay.specs.Promises.{IsTooSmall, total};
 ghost use Rattle.tagged_index.specs.Limits.{capacity_of, tag_limit_of};
 ghost use Rattle.tagged_index.specs.declared.word.TheConstants.{MAX_TAG};
 ghost use Rattle.program.specs.declared.command_line.TheConstants.{MAX_FILES};
 ghost use Rattle.audit.specs.declared.message_file.TheConstants.{MAX_LINES};
 ghost use Rattle.program.specs.declared.tool_fault.ToolFault.TheVariants.{Output, Relay};
-ghost use Rattle.relay.specs.declared.faults.RelayFault.TheVariants.{NoMemory};
-ghost use Rattle.program.specs.Ranges.{IsInRange};
-ghost use Rattle.program.specs.Relaying.{RelaysInputs, RelaysReaders, shape_for};
+ghost use Rattle.relay.specs.declared.faults.RelayFault.{RelayFault};
+ghost use Rattle.relay.specs.declared.faults.RelayFault.TheVariants.{NoMemory, TooSmall};
+ghost use Rattle.program.specs.Ranges.{IsInRange, plan_of};
+ghost use Rattle.program.specs.Relaying.{IsRelayed, RelaysInputs, RelaysReaders, shape_for};
 
 use crate::inputs::read_inputs;
 use crate::outcome::write_outcome;
@@ -19,7 +20,7 @@ use crate::tool_fault::ToolFault;
 use crate::words::{Kind, RelayArgs};
 use bounded_model::Container;
 use ms_queue::Queue;
-use relay::{FreeGate, Message, run};
+use relay::{FreeGate, Gate, Message, Relayed, run};
 use std::alloc::Global;
 use std::io::{Read, Write};
 use std::sync::Wait;
@@ -62,8 +63,8 @@ pub fn relay_main<T: Threads + Wait + Sync, R: Read + Drop, W: Write>(
     }
 }
 
-// The limits that are asked for.
-fn limits_for(args: &RelayArgs) -> Limits
+/// The limits that are asked for.
+pub(crate) fn limits_for(args: &RelayArgs) -> Limits
     requires { IsInRange args.now }
     ensures { (capacity_of result ≡ args.now.capacity) × (tag_limit_of result ≡ MAX_TAG) }
 {
@@ -93,6 +94,29 @@ fn relay_through<T: Threads + Wait + Sync, C: Container<Message> + Sync, W: Writ
         (W.contents writer.new) result }
     ensures untouched { IfErr result (λ fault. fault ≢ Output → writer.new ≡ writer.old) }
 {
-    let relayed = run(rt, alloc, container, root, inputs, args.plan(), &FreeGate)?;
+    let relayed = relayed_by(rt, alloc, container, root, args, inputs, &FreeGate)?;
     write_outcome(&relayed, args.list, writer)
+}
+
+/// The outcome of a relay of these inputs through this container, at whose gate each try is made.
+pub(crate) fn relayed_by<T: Threads + Wait + Sync, C: Container<Message> + Sync, G: Gate + Sync>(
+    rt: &T,
+    alloc: Global,
+    container: C,
+    root: C::Root,
+    args: &RelayArgs,
+    inputs: Vec<Vec<Message>>,
+    gate: &G,
+) -> Result<Relayed, ToolFault>
+    requires args { IsInRange args.now }
+    requires root { C.is_root container root }
+    requires fresh { C.root root ≡ fresh }
+    requires shape { C.shape container ≡ shape_for args.now }
+    requires inputs { AreInputsFrom 0 inputs.items }
+    requires few { total inputs.items ≤ MAX_FILES * MAX_LINES }
+    ensures relayed { IfOk result (IsRelayed args.now inputs.items) }
+    ensures fault { IfErr result (λ fault. (cause : RelayFault) × (fault ≡ Relay cause)
+        × (cause ≡ TooSmall → IsTooSmall (plan_of args.now) args.now.capacity (total inputs.items))) }
+{
+    Ok(run(rt, alloc, container, root, inputs, args.plan(), gate)?)
 }

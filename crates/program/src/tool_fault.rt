@@ -7,6 +7,7 @@ ghost use Rattle.relay.specs.declared.faults.RelayFault.TheVariants.{NoMemory};
 use audit::{AuditFault, ReadFault};
 use bounded_model::MakeRefused;
 use relay::RelayFault;
+use std::alloc::AllocError;
 use thiserror::Error;
 
 /// Why files were not relayed, or the outcome not written. The message is what the program prints
@@ -37,6 +38,14 @@ impl From<RelayFault> for ToolFault {
 
     fn from(cause: RelayFault) -> ToolFault {
         ToolFault::Relay(cause)
+    }
+}
+
+impl From<AllocError> for ToolFault {
+    ghost from_gives = { λ _ fault. fault ≡ Relay NoMemory };
+
+    fn from(_: AllocError) -> ToolFault {
+        ToolFault::Relay(RelayFault::NoMemory)
     }
 }
 

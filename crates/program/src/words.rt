@@ -1,7 +1,7 @@
 //! What the words of the command line ask for.
 
-ghost use Rattle.std.specs.Prelude.{◌≡◌, ◌↔◌, ◌≤◌, IsTrue, IfOk, IfSome};
-ghost use Rattle.program.specs.Ranges.{AreInRange, IsInRange, plan_of};
+ghost use Rattle.std.specs.Prelude.{◌≡◌, ◌↔◌, ◌≤◌, Contains, IsTrue, IfOk, IfSome, codes, map};
+ghost use Rattle.program.specs.Ranges.{AreInRange, IsInRange, IsTold, plan_of};
 
 use crate::command_line::{MAX_CONSUMERS, MAX_COUNT, MAX_FILES, command_line};
 use clap::ArgMatches;
@@ -45,6 +45,8 @@ pub enum Chosen {
     Replay(Option<String>),
     /// Relay these files.
     Relay(RelayArgs, Vec<String>),
+    /// Relay these files, and tell of it on standard error.
+    Measured(RelayArgs, Vec<String>),
 }
 
 /// Why the words ask for nothing that the program does.
@@ -71,6 +73,10 @@ impl<T: Drop> From<AllocFailed<T>> for WordsRefused {
 }
 
 impl From<clap::Error> for WordsRefused {
+    ghost use Rattle.program.specs.Ranges.{IsRefusalOf};
+
+    ghost from_gives = { IsRefusalOf };
+
     fn from(error: clap::Error) -> WordsRefused {
         match error.kind() {
             ErrorKind::DisplayHelp | ErrorKind::DisplayVersion => WordsRefused::Help(error),
@@ -85,7 +91,10 @@ impl From<clap::Error> for WordsRefused {
 /// not in its range, or the allocator had no memory.
 pub fn read_words<'a>(alloc: Global, words: &'a [&'a str]) -> Result<Chosen, WordsRefused>
     // Every value lies in its range, and a relay has 1 to 16 files.
-    ensures { IfOk result AreInRange }
+    ensures ranges { IfOk result AreInRange }
+    // A relay is told of only where the words ask for it.
+    ensures asked { IfOk result (λ chosen. IsTold chosen
+        → Contains (map (λ word. word.now) words.now) (codes "--stats")) }
 {
     let matches = command_line(alloc)?.try_get_matches_from(words)?;
     match matches.subcommand() {
@@ -94,13 +103,30 @@ pub fn read_words<'a>(alloc: Global, words: &'a [&'a str]) -> Result<Chosen, Wor
             let file = found.get_str("file").ok_or(WordsRefused::Bad)?;
             Ok(Chosen::Replay(Some(String::from_str(alloc, file)?)))
         }
-        Some((_, found)) => relay_of(alloc, found),
+        Some((_, found)) => {
+            let is_told = found.get_flag("stats") && has_stats(words);
+            relay_of(alloc, found, is_told)
+        }
     }
 }
 
-// The relay that these words ask for.
-fn relay_of(alloc: Global, found: &ArgMatches<'_>) -> Result<Chosen, WordsRefused>
-    ensures { IfOk result AreInRange }
+// Whether a word asks for stats.
+fn has_stats(words: &[&str]) -> bool
+    ensures { IsTrue result
+        → Contains (map (λ word. word.now) words.now) (codes "--stats") }
+{
+    for word in words {
+        if *word == "--stats" {
+            return true;
+        }
+    }
+    false
+}
+
+// The relay that these words ask for, and whether it is told of.
+fn relay_of(alloc: Global, found: &ArgMatches<'_>, is_told: bool) -> Result<Chosen, WordsRefused>
+    ensures ranges { IfOk result AreInRange }
+    ensures told { IfOk result (λ chosen. IsTold chosen → IsTrue is_told) }
 {
     let args = args_of(found).ok_or(WordsRefused::Bad)?;
     let mut files = Vec::new(alloc);
@@ -109,6 +135,9 @@ fn relay_of(alloc: Global, found: &ArgMatches<'_>) -> Result<Chosen, WordsRefuse
     }
     if files.is_empty() || files.len() > MAX_FILES {
         return Err(WordsRefused::Bad);
+    }
+    if is_told {
+        return Ok(Chosen::Measured(args, files));
     }
     Ok(Chosen::Relay(args, files))
 }

@@ -21,7 +21,7 @@ fn relay_in(alloc: Global, line: &str) -> Result<Option<(RelayArgs, usize)>, All
 fn relay_of(chosen: Chosen) -> Option<(RelayArgs, usize)> {
     match chosen {
         Chosen::Relay(args, files) => Some((args, files.len())),
-        Chosen::Replay(_name) => None,
+        Chosen::Replay(_) | Chosen::Measured(..) => None,
     }
 }
 
@@ -37,7 +37,7 @@ fn replay_in(alloc: Global, line: &str) -> Result<Option<Option<String>>, AllocE
 fn replay_of(chosen: Chosen) -> Option<Option<String>> {
     match chosen {
         Chosen::Replay(name) => Some(name),
-        Chosen::Relay(_args, _files) => None,
+        Chosen::Relay(..) | Chosen::Measured(..) => None,
     }
 }
 
@@ -146,6 +146,33 @@ fn words_of_replays(rt: HostRuntime) -> Result<(), Fail> {
     Ok(())
 }
 
+// Whether the relay that this line asks for is to be told of.
+fn is_told(alloc: Global, line: &str) -> Result<Option<bool>, AllocError> {
+    let words = words_in(alloc, line)?;
+    Ok(match read_words(alloc, &words) {
+        Ok(Chosen::Measured(..)) => Some(true),
+        Ok(_) => Some(false),
+        Err(_) => None,
+    })
+}
+
+#[test]
+fn stats_are_told_where_they_are_asked_for(rt: HostRuntime) -> Result<(), Fail> {
+    let start = "lockfree relay --kind stack --capacity 4 --consumers 1";
+    for (end, wanted) in [
+        ("a.txt", Some(false)),
+        ("--stats a.txt", Some(true)),
+        ("a.txt --stats", Some(true)),
+        ("-- --stats", Some(false)),
+        ("--stats --stats a.txt", None),
+        ("--stats=1 a.txt", None),
+    ] {
+        let line = format!(in rt.alloc(); "{start} {end}")?;
+        assert_eq!(rt; is_told(rt.alloc(), line.as_str())?, wanted, "{end}");
+    }
+    Ok(())
+}
+
 #[test]
 fn bad_words(rt: HostRuntime) -> Result<(), Fail> {
     let lines = [
@@ -225,7 +252,7 @@ fn shows_help(rt: HostRuntime) -> Result<(), Fail> {
         ("lockfree replay --help", "Usage: lockfree replay <FILE>"),
         ("lockfree --help", "first value in comes out first"),
         ("lockfree relay --help", "lockfree relay --kind queue"),
-        ("lockfree replay --help", "is answered with"),
+        ("lockfree replay --help", "lockfree replay -"),
         ("lockfree --version", "lockfree 0.1.0"),
         ("lockfree -V", "lockfree 0.1.0"),
     ] {

@@ -1,4 +1,4 @@
-use Rattle.std.proofs.Common.{◌≡◌, List, string_bytes, sym, subst}
+use Rattle.std.proofs.Common.{string_bytes, sym, subst}
 use Rattle.std.specs.List.{AllByRecursion}
 use Rattle.std.specs.Prelude.{IsTrue}
 use Rattle.bounded_model.specs.declared.history.Order.{Order}

@@ -1,4 +1,4 @@
-use Rattle.std.proofs.Common.{rules, ◌≡◌, ◌∷◌, [], ◌++◌, length, sym, subst, Err}
+use Rattle.std.proofs.Common.{rules, ◌≡◌, length, sym, subst, Err}
 use Rattle.std.proofs.lemmas.Result.{err_from_is_err_and}
 use Rattle.audit.specs.declared.faults.ReadFault.{ReadFault}
 use Rattle.audit.specs.Reading.{ReachesEnd}

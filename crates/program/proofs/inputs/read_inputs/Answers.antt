@@ -1,4 +1,4 @@
-use Rattle.std.proofs.Common.{◌≡◌, ◌∷◌, [], ◌++◌, List, length, refl, sym, ap, subst, ◌∙◌, append_assoc, append-nil, arith, length-append, ◌+◌, ◌<◌, ◌^◌}
+use Rattle.std.proofs.Common.{◌≡◌, ◌∷◌, [], ◌++◌, length, refl, sym, ap, subst, ◌∙◌, append_assoc, arith, length-append, ◌+◌, ◌<◌, ◌^◌}
 use Rattle.std.specs.Vec.Iter.{into_iter_items}
 use Rattle.program.specs.Inputs.{AreRead}
 use Rattle.program.proofs.Readers.{as-many, next-more}

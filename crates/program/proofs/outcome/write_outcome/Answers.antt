@@ -1,4 +1,3 @@
-use Rattle.std.proofs.Common.{◌≡◌}
 use Rattle.std.specs.Io.KnownBytes.{Appends}
 use Rattle.program.specs.Relaying.{outcome_text}
 use Rattle.program.proofs.Fronts.{audit-stopped, list-stopped, went-out, both-out, audit-out}

@@ -1,12 +1,9 @@
-use Rattle.std.proofs.Common.{◌≡◌, ◌*◌, ◌≤◌, arith}
+use Rattle.std.proofs.Common.{arith}
 use denote.Param.Send.{IsSend, sendable}
 use Rattle.relay.specs.contracts.messages.Message as message
 use Rattle.std.proofs.Crossing.{Vec-send}
 use Rattle.ms_queue.proofs.Crossing.{rest_send as queue_rest}
 use Rattle.treiber_stack.proofs.Crossing.{rest_send}
-use Rattle.audit.specs.declared.message_file.TheConstants.{MAX_LINES}
-use Rattle.program.specs.declared.command_line.TheConstants.{MAX_FILES}
-use Rattle.relay.specs.Promises.{total}
 use Rattle.program.proofs.AllDelivered.{few-messages, are-inputs}
 use Rattle.program.proofs.relaying.relay_main.Goals as goal
 
