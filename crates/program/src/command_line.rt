@@ -16,7 +16,7 @@ pub const MAX_FILES: usize = 16;
 /// The program's version.
 pub const VERSION: &str = "0.1.0";
 
-// The parser breaks no lines: these texts stay within 80 columns.
+// The parser breaks no lines: with these texts its own stay within 80 columns.
 const ABOUT: &str = "Runs bounded lock-free containers: replays a script of calls on one,
 or relays the lines of files through one";
 
@@ -30,11 +30,12 @@ Examples:
   lockfree replay script.txt
   lockfree relay --kind queue --capacity 1024 --consumers 4 a.txt b.txt";
 
-const ABOUT_REPLAY: &str =
-    "Replays a script of calls, and writes a reply for each line after the first";
+const ABOUT_REPLAY: &str = "Replays a script of calls, and writes a reply for each line after
+the first";
 
 const REPLAY_EXAMPLE: &str =
-    "A queue gives its values in the order of their puts, a stack the last one first.
+    "A queue gives its values in the order of their puts, a stack the last one
+first.
 
 Example:
   printf 'stack 2 7\\na put x\\na put y\\na take\\n' | lockfree replay -
@@ -44,10 +45,12 @@ is answered with
   put 1
   take 2 y";
 
-const ABOUT_RELAY: &str =
-    "Relays the lines of files through one container: a thread for each file puts
-its lines in, others take lines out. Writes how many lines of each file were
-delivered, left and unsent";
+const ABOUT_RELAY: &str = "Relays the lines of files through one container: a thread for each
+file puts its lines in, others take lines out. Writes how many lines
+of each file were delivered, left and unsent";
+
+const RELAY_USAGE: &str = "lockfree relay [OPTIONS] --kind <KIND> --capacity <N> --consumers <C>
+                      <FILE>...";
 
 const RELAY_EXAMPLE: &str =
     "A queue delivers the lines of each file in their order. A stack delivers the
@@ -91,6 +94,7 @@ fn relay<'a>(alloc: Global) -> Result<Command<'a>, AllocError> {
         .help("The files, 1 to 16 of them; file 1 is sender 0.\n- is standard input, once");
     Command::new(alloc, "relay")
         .about(ABOUT_RELAY)
+        .override_usage(RELAY_USAGE)
         .after_help(RELAY_EXAMPLE)
         .arg(kind(alloc))?
         .arg(capacity(alloc))?
@@ -109,8 +113,9 @@ fn kind<'a>(alloc: Global) -> Arg<'a> {
         .value_name("KIND")
         .required(true)
         .value_parser(["queue", "stack"].as_slice())
+        .hide_possible_values(true)
         .help(
-            "Which container: from a queue the first line in comes\nout first, from a stack the last one",
+            "Which container: queue, from which the first line in\ncomes out first, or stack, from which the last one does",
         )
 }
 

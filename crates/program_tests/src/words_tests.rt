@@ -263,3 +263,20 @@ fn shows_help(rt: HostRuntime) -> Result<(), Fail> {
     }
     Ok(())
 }
+
+#[test]
+fn help_fits_80_columns(rt: HostRuntime) -> Result<(), Fail> {
+    for line in [
+        "lockfree --help",
+        "lockfree relay --help",
+        "lockfree replay --help",
+    ] {
+        let Some(text) = help_in(rt.alloc(), line)? else {
+            panic!(rt; "{line}")
+        };
+        for shown in text.as_str().lines() {
+            assert!(rt; shown.len() <= 80, "{shown}");
+        }
+    }
+    Ok(())
+}
