@@ -1,5 +1,5 @@
--- When an answer that changes nothing is justified: the container really was so, at some time of
--- the call.
+-- When an answer that changes nothing is justified: the container really was so, at some time since
+-- the pass's last step before the call.
 use Rattle.std.specs.Prelude.{◌≡◌, ℕ, ◌+◌, ◌*◌, ◌<◌, ◌≤◌, Bool, true, false, List, [], length}
 use Rattle.bounded_model.specs.declared.history.Order.{Order}
 use Rattle.bounded_model.specs.declared.history.Order.TheVariants.{Fifo, Lifo}
@@ -92,7 +92,7 @@ pub record Sometime {T : Type 0} (old new : List (Event T)) (P : List (Event T) 
   pub until : Later at new
   pub holds : P at
 
--- the answer was right at some time of a call: its pass was v as it began, and w as it ended
+-- the answer was right at some time between what its pass had seen as the call began, v, and as it ended, w
 abbrev pub Justified : {T : Type 0} → Shape → PassView T → PassView T → Answer → Type 0
 Justified c v w answer = Sometime v.seen w.seen (λ h. Justifies c h answer)
 

@@ -48,7 +48,7 @@ pub struct Folded {
 pub trait Bulk<T>: Stepwise<T> {
     /// Puts as many values as cells can be had, from the front, by one exchange; their places are
     /// then `None`. A refusal leaves every place as it was: `Nothing` for an empty range, else as
-    /// that of a put.
+    /// that of a put. Called in `example_stack`.
     fn put_range<R: Wait>(
         &self,
         rt: &R,
@@ -64,7 +64,7 @@ pub trait Bulk<T>: Stepwise<T> {
 
     /// Takes all values by one exchange, and folds them in the order in which takes would give
     /// them. Answers the last state; after a refusal, which is as that of a take, it is the one
-    /// that was handed in.
+    /// that was handed in. Called in `example_buffers`.
     fn fold_all_atomic<R: Wait, S, F: Fn(S, T) -> S + Drop>(
         &self,
         rt: &R,
@@ -80,7 +80,7 @@ pub trait Bulk<T>: Stepwise<T> {
             (λ values. Folds (λ s x t. F.post f s x t) state values result.1)
             (result.1 ≡ state) result.2 };
 
-    /// The same in the opposite order.
+    /// The same in the opposite order. Called in `example_stack`.
     fn fold_all_atomic_reversed<R: Wait, S, F: Fn(S, T) -> S + Drop>(
         &self,
         rt: &R,

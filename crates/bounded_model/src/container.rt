@@ -34,7 +34,7 @@ pub trait Leaving<T> {
     /// What has not been given yet.
     ghost left: { Self → List T };
 
-    /// The next value; once there is none, never again one.
+    /// The next value; once there is none, never again one. Called in `example_calls`.
     fn next(&mut self) -> Option<T>
         ensures { MatchOption result
             ((left self.old ≡ []) × (left self.new ≡ []))
@@ -48,7 +48,8 @@ pub trait Leaving<T> {
 /// machine, that only grows.
 ///
 /// A pass or a root is used only with the container that it came from. Calls that take `rt` may
-/// retry for as long as others interfere; they promise this if they return.
+/// retry for as long as others interfere; they promise this if they return. Each call names an
+/// example crate that makes it.
 pub trait Container<T>: Drop {
     type Root: Drop + Send;
 
@@ -76,11 +77,12 @@ pub trait Container<T>: Drop {
     /// What a root has seen, how many passes it has given, and what those joined have done.
     ghost root: { Self.Root → RootView T };
 
-    /// How many values it has room for.
+    /// How many values it has room for, as it was asked for: `relay` looks at it before it starts.
     fn capacity(&self) -> u32
         ensures { result ≡ (shape self.now).capacity };
 
     /// A new pass; `None` exactly where [`MAX_PASSES`] are out, and then nothing has changed.
+    /// Called in `example_calls`, and for many threads in `example_jobs`.
     fn split(&self, parent: &mut Self::Root) -> Option<Self::Pass>
         requires { is_root self.now parent.old }
         ensures root { is_root self.now parent.new }
@@ -88,7 +90,8 @@ pub trait Container<T>: Drop {
             ((root parent.new ≡ root parent.old) × IsFullOfPasses (root parent.old))
             (λ p. is_pass self.now p × Splits (root parent.old) (root parent.new) (pass p)) };
 
-    /// Puts one value; answers the put's number. A refusal hands the value back.
+    /// Puts one value; answers the put's number. A refusal hands the value back. Called in
+    /// `example_calls`, and again where it is full in `example_jobs`.
     fn put<R: Wait>(
         &self,
         rt: &R,
@@ -99,27 +102,29 @@ pub trait Container<T>: Drop {
         ensures of { is_pass self.now result.0 }
         ensures gives { PutGives (shape self.now) (pass by) value (pass result.0) result.1 };
 
-    /// Takes one value; answers it with the take's number.
+    /// Takes one value; answers it with the take's number. Called in `example_calls`, and until the
+    /// container is closed in `example_jobs`.
     fn take<R: Wait>(&self, rt: &R, by: Self::Pass) -> (Self::Pass, Result<(T, u64), TakeRefused>)
         requires { is_pass self.now by }
         ensures of { is_pass self.now result.0 }
         ensures gives { TakeGives (shape self.now) (pass by) (pass result.0) result.1 };
 
-    /// Closes the container: no put follows. Answers whether this call closed it.
+    /// Closes the container: no put follows. Answers whether this call closed it. Called in
+    /// `example_closing`.
     fn close<R: Wait>(&self, rt: &R, by: Self::Pass) -> (Self::Pass, bool)
         requires { is_pass self.now by }
         ensures of { is_pass self.now result.0 }
         ensures gives { CloseGives (shape self.now) (pass by) (pass result.0) result.1 };
 
     /// Shuts the container: no take follows, and puts go on until it is closed. Answers whether
-    /// this call shut it.
+    /// this call shut it. Called in `example_stack`.
     fn shut<R: Wait>(&self, rt: &R, by: Self::Pass) -> (Self::Pass, bool)
         requires { is_pass self.now by }
         ensures of { is_pass self.now result.0 }
         ensures gives { ShutGives (shape self.now) (pass by) (pass result.0) result.1 };
 
     /// True: the first pass has now seen what either had. False, where there is no seat for that:
-    /// it is as it was. The second pass comes back as it was.
+    /// it is as it was. The second pass comes back as it was. Called in `example_stack`.
     fn meet(&self, first: &mut Self::Pass, second: Self::Pass) -> (Self::Pass, bool)
         requires first { is_pass self.now first.old }
         requires second { is_pass self.now second }
@@ -127,14 +132,14 @@ pub trait Container<T>: Drop {
         ensures second { is_pass self.now result.0 × (pass result.0 ≡ pass second) }
         ensures gives { MeetGives (pass first.old) (pass second) (pass first.new) result.1 };
 
-    /// Takes a pass back: the root has now seen what the pass has.
+    /// Takes a pass back: the root has now seen what the pass has. Called in `example_calls`.
     fn join(&self, parent: &mut Self::Root, by: Self::Pass)
         requires root { is_root self.now parent.old }
         requires pass { is_pass self.now by }
         ensures root { is_root self.now parent.new }
         ensures gives { Joins (root parent.old) (pass by) (root parent.new) };
 
-    /// The end: what is left.
+    /// The end: what is left. Called in `example_calls`.
     fn finish(self, parent: Self::Root) -> Self::Rest
         requires { is_root self parent }
         ensures { Leaves (shape self) (root parent) (Self.Rest.left result) };

@@ -12,6 +12,18 @@ use std::sync::Wait;
 /// To begin makes no step. A step either goes on, exactly one step further, or it ends the
 /// operation: then the pass comes back, exactly one step further, with the answer that the whole
 /// call promises from the begin on. An operation that is dropped takes its pass with it.
+///
+/// ```text
+/// let mut op = container.begin_put(pass, value);
+/// loop {
+///     match container.step_put(op) {
+///         Stepped::Again(next) => op = next,
+///         Stepped::Done(pass, answer) => return (pass, answer),
+///     }
+/// }
+/// ```
+///
+/// So `example_stack` puts a value, and `player` begins and steps every operation.
 pub trait Stepwise<T>: Container<T> {
     type PutOp: Drop + Send;
 
@@ -122,7 +134,8 @@ pub trait Stepwise<T>: Container<T> {
             (λ back empty. Self.is_pass self.now back × OneStep (looking op).now (Self.pass back)
             × LookGives (Self.shape self.now) (looking op).begun (Self.pass back) empty) };
 
-    /// Whether the container was empty at some time of the call.
+    /// Whether the container was empty at some time since its pass's last step before the call.
+    /// Called in `player`.
     fn look<R: Wait>(&self, rt: &R, by: Self::Pass) -> (Self::Pass, bool)
         requires { Self.is_pass self.now by }
         ensures of { Self.is_pass self.now result.0 }

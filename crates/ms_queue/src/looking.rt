@@ -31,7 +31,7 @@ pub(crate) enum LookAt {
 }
 
 impl<T> Queue<T> {
-    /// A look that makes no step yet.
+    /// A look that makes no step yet. Begun and stepped in `player`, as `Stepwise` has it.
     #[inline]
     pub fn begin_look(&self, by: Pass<T>) -> LookOp<T>
         requires { IsPassOf self.now by }

@@ -76,7 +76,7 @@ fn null_word(tag: u64) -> u64
 }
 
 impl<T> Queue<T> {
-    /// A put that makes no step yet.
+    /// A put that makes no step yet. Begun and stepped in `player`, as `Stepwise` has it.
     #[inline(always)]
     pub fn begin_put(&self, by: Pass<T>, value: T) -> PutOp<T>
         requires { IsPassOf self.now by }

@@ -29,7 +29,7 @@ pub(crate) enum ShutAt {
 }
 
 impl<T> Queue<T> {
-    /// A shut that makes no step yet.
+    /// A shut that makes no step yet. Begun and stepped in `player`, as `Stepwise` has it.
     #[inline]
     pub fn begin_shut(&self, by: Pass<T>) -> ShutOp<T>
         requires { IsPassOf self.now by }

@@ -15,6 +15,7 @@ pub struct Message {
 }
 
 /// Whether the message at place `j` of list `s` has sender `s` and seq `j`, for each `s` and `j`.
+/// Called in `relay_tests`.
 pub fn numbered(inputs: &[Vec<Message>]) -> bool
     ensures { IsTrue result ↔ AreInputsFrom 0 inputs.now }
 {
