@@ -14,7 +14,9 @@ mod whole;
 
 pub use lists::{ListMachine, take_first};
 pub use passes::{Pass, Root, join, meet, split};
+pub use pause::Pause;
 pub use rule::{Machine, Running};
+pub use seats::peek;
 pub use steps::{
     attempt_step, give_step, keep_step, load_step, load_tagged_step, raised, store_step, swap_step,
     take_step,

@@ -9,7 +9,7 @@ const LONGEST: u32 = 11;
 
 /// How long the next wait is: twice as long as the one before.
 #[derive(Drop)]
-pub(crate) struct Pause {
+pub struct Pause {
     rounds: u32,
     longest: u32,
 }
@@ -18,7 +18,7 @@ impl Pause {
     /// Waits for threads at a container that has room for so many values. Those that don't wait can
     /// put or take no more than these before they need the one that does, so a small container's
     /// waits are short.
-    pub(crate) fn of(room: u32) -> Pause {
+    pub fn of(room: u32) -> Pause {
         let bits = u32::BITS - room.leading_zeros();
         Pause {
             rounds: FIRST.min(bits + 1),
@@ -26,7 +26,7 @@ impl Pause {
         }
     }
 
-    pub(crate) fn wait(&mut self) {
+    pub fn wait(&mut self) {
         for _ in 0..1u32 << self.rounds.min(LONGEST) {
             hint::spin_loop();
         }

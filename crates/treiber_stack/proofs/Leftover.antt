@@ -21,8 +21,11 @@ use Rattle.machine.proofs.Tests.{cases}
 use Rattle.machine.proofs.Lists.{times_here, not_there}
 use Rattle.machine.proofs.Chains.{values_frame}
 use Rattle.machine.proofs.SeatedEnds.{leaves}
-use Rattle.treiber_stack.specs.Layout.{top_at, link_at}
-use Rattle.treiber_stack.specs.Rule.{at_home, Rule}
+use Rattle.running.specs.Rule.{Rule}
+use Rattle.stack_table.specs.Layout.{top_at, link_at}
+use Rattle.stack_table.specs.Memories.{at_home}
+use Rattle.stack_table.proofs.Laws.{stack}
+use Rattle.stack_table.proofs.Memories.{at_home_is}
 use Rattle.treiber_stack.specs.Left.{count_full, on_top, values_from, left_along}
 
 -- a plain link is its own index
@@ -101,32 +104,28 @@ module _ {T : Type 0} where
   values_along words plain [] (v ∷ vs) slots x few once stands has = absurd has
   values_along words plain (i ∷ is) [] slots x few once stands has = absurd has
 
-  was_home : (o : Option (Option (Slot T))) (y : Slot T) → at_home o ≡ some y → o ≡ some (some y)
-  was_home none y e = absurd (some-ne-none y (sym e))
-  was_home (some x) y e = ap some e
-
   values_home : (homes : List (Option (Slot T))) (slots : List (Slot T)) → ((k : ℕ) (y : Slot T) → get_elem? homes k ≡ some (some y) → get_elem? slots k ≡ some y) → (is : List ℕ) (vs : List T)
       → HasValues (λ i. at_home (get_elem? homes i)) is vs → HasValues (λ i. get_elem? slots i) is vs
   values_home homes slots same [] [] has = tt
-  values_home homes slots same (i ∷ is) (v ∷ vs) has = (same i (Some v) (was_home (get_elem? homes i) (Some v) has.0), values_home homes slots same is vs has.1)
+  values_home homes slots same (i ∷ is) (v ∷ vs) has = (same i (Some v) (at_home_is homes i (Some v) has.0), values_home homes slots same is vs has.1)
   values_home homes slots same [] (v ∷ vs) has = absurd has
   values_home homes slots same (i ∷ is) [] has = absurd has
 
   -- what a table that was closed with the root's seat has left
-  pub leaves_all : (n limit id : ℕ) (v : View T (Line T)) (r : RootView T) (words : List ℕ) (slots : List (Slot T)) (index : ℕ) → Final (Seen (Rule n limit) id v) words slots → v ≡ AtRoot r [] → IsSound (shape n limit) r → length slots ≤ NULL
-      → index ≡ index_of (slice_index words (top_at 1)) → Leaves (shape n limit) r (left_along words slots index)
+  pub leaves_all : (n limit id : ℕ) (v : View T (Line T)) (r : RootView T) (words : List ℕ) (slots : List (Slot T)) (index : ℕ) → Final (Seen (Rule {names = _} (stack T n limit)) id v) words slots → v ≡ AtRoot r [] → IsSound (shape n limit) r → length slots ≤ NULL
+      → index ≡ index_of (slice_index words top_at) → Leaves (shape n limit) r (left_along words slots index)
   leaves_all n limit id v r words slots index final is sound few top =
       let rule = final.1.0 in
       let s = final.0 in
-      let g = rule.lists in
+      let g = rule.good.lists in
       let rooted : Rooted rule.history r [] = subst (Knows rule.history) is (rule.seated.each id v final.1.1).knows in
-      let plain : (j : ℕ) → slice_index words (link_at j) ≤ NULL = λ j. subst (λ (ws : List ℕ). slice_index ws (link_at j) ≤ NULL) final.2 (rule.plain j) in
+      let plain : (j : ℕ) → slice_index words (link_at j) ≤ NULL = λ j. subst (λ (ws : List ℕ). slice_index ws (link_at j) ≤ NULL) final.2 (rule.sane.plain j) in
       let stands : Leads (λ j. slice_index words (link_at j)) index g.stack NULL =
       subst (λ (x : ℕ). Leads (λ j. slice_index words (link_at j)) x g.stack NULL) (sym top)
-      (subst (λ (ws : List ℕ). Leads (λ j. slice_index ws (link_at j)) (index_of (slice_index ws (top_at 1))) g.stack NULL) final.2 rule.good.linked.top_stands) in
-      let stored = values_home s.homes slots final.4 g.stack (state (shape n limit) rule.history).values rule.good.filled.stored in
-      let are = values_along words plain g.stack (state (shape n limit) rule.history).values slots index few (λ j. at_most_once j n _ _ _ (rule.good.linked.once j)) stands stored in
-      subst (λ (vs : List T). Leaves (shape n limit) r vs) (sym are) (leaves (shape n limit) rule.history r [] rule.good.told.legal rooted sound)
+      (subst (λ (ws : List ℕ). Leads (λ j. slice_index ws (link_at j)) (index_of (slice_index ws top_at)) g.stack NULL) final.2 rule.good.good.linked.top_stands) in
+      let stored = values_home s.homes slots final.4 g.stack (state (shape n limit) rule.history).values rule.good.good.filled.stored in
+      let are = values_along words plain g.stack (state (shape n limit) rule.history).values slots index few (λ j. at_most_once j n _ _ _ (rule.good.good.linked.once j)) stands stored in
+      subst (λ (vs : List T). Leaves (shape n limit) r vs) (sym are) (leaves (shape n limit) rule.history r [] rule.good.good.told.legal rooted sound)
     where
       at_most_once : (j n a b c : ℕ) → a + b + c ≡ cond (ltb j n) 1 0 → b ≤ 1
       at_most_once j n a b c e = cases (λ v. a + b + c ≡ v → b ≤ 1) (ltb j n) 1 0 (λ _ q. omega arith) (λ _ q. omega arith) e

@@ -1,168 +1,127 @@
--- A range put that puts its nodes on top.
-use Rattle.std.proofs.Common.{◌≡◌, ℕ, zero, suc, ◌<◌, ◌≤◌, inl, inr, ⊎_elim, true, false, List, [], ◌∷◌, length, reverse, take, drop, refl, sym, ap, ◌∙◌, subst, arith}
-use Rattle.std.proofs.lemmas.List.{length-reverse, length-take-le}
-use Rattle.std.specs.Prelude.{Option as Slot, Err}
-use mathlib.Core.Option.{none, some}
-use Rattle.tagged_index.specs.Fields.{fields_of, index_of, tag_of, mark_of}
-use Rattle.tagged_index.specs.Limits.{capacity_of, tag_limit_of}
+-- Where the steps of a put lead that takes nodes, and that puts them onto the top.
+use Rattle.std.proofs.Common.{◌≡◌, ◌≢◌, ℕ, ◌<◌, ◌≤◌, Bool, true, false, cond, eqb, ltb, List, [], ◌∷◌, ◌++◌, length, refl, sym, ap, ◌∙◌, subst, ne_eqb, arith}
+use Rattle.std.specs.Prelude.{Option as Slot, Some, None, Ok, Err}
+use Rattle.tagged_index.specs.Fields.{fields_of, index_of, tag_of}
 use Rattle.tagged_index.specs.declared.word.TheConstants.{NULL}
-use Rattle.bounded_model.specs.declared.answers.PutRefused.TheVariants.{Closed as PutClosed, Spent as PutSpent}
-use Rattle.bounded_model.specs.declared.answers.Word.TheVariants.{Top as TopWord}
-use Rattle.bounded_model.specs.declared.history.Event.TheVariants.{Put}
+use Rattle.bounded_model.specs.declared.answers.Word.TheVariants.{Free as FreeWord}
+use Rattle.bounded_model.specs.declared.answers.PutRefused.TheVariants.{Spent as PutSpent}
 use Rattle.bounded_model.specs.declared.views.PassView.{PassView}
-use Rattle.bounded_model.specs.Laws.{Adds, RangeGives, holds_of}
-use Rattle.index_list.specs.Lists.{Holds}
-use Rattle.index_list.specs.Steps.{read_top, write_link, give_chain, numbers, Each}
-use Rattle.machine.specs.Words.{times}
-use Rattle.machine.specs.Chains.{first}
-use Rattle.stack_machine.specs.Machine.{held, placed}
 use Rattle.stack_machine.specs.declared.lines.Answer.TheVariants.{Put as AnswerPut}
 use Rattle.stack_machine.specs.declared.lines.Putting.{Putting}
 use Rattle.stack_machine.specs.declared.lines.Line.{Line}
-use Rattle.stack_machine.specs.declared.lines.Line.TheVariants.{LoadTop, LinkToTop, SwapTop, LoadFreeToGive}
-use Rattle.machine.proofs.Chains.{first_in, last_in}
-use Rattle.stack_machine.proofs.Linked.{held_once}
-use Rattle.treiber_stack.specs.Host.{puts_of, Bears, may_step}
-use Rattle.treiber_stack.specs.KeepsMemory.{times_holds}
-use Rattle.treiber_stack.specs.KeepsPuts.{puts_line}
-use Rattle.treiber_stack.specs.Operations.{IsSame, Going, Goes, Told, Gives, Lost, begun_in}
-use Rattle.treiber_stack.specs.Folding.{full}
-use Rattle.treiber_stack.specs.Ranging.{loaded, IsHolding, IsRefused, Placed}
-use Rattle.treiber_stack.specs.Rule.{line_in}
-use Rattle.treiber_stack.specs.Stack.{pass_in}
-use Rattle.treiber_stack.specs.declared.operation.Operation.TheVariants.{Underway}
-use Rattle.treiber_stack.specs.declared.ranging.Held.{Held}
-use Rattle.bounded_model.specs.declared.bulk.RangeRefused.TheVariants.{Closed, Spent}
+use Rattle.stack_machine.specs.declared.lines.Line.TheVariants.{LoadFree, LoadFreeLink, TakeFree, LinkTaken, LoadTop, LinkToTop, SwapTop, LoadTopToRefuse, LoadFreeToGive}
+use Rattle.stack_machine.specs.Machine.{is_idle, ends, next_node, no_node, with_node, unplaced, at_load_free, at_take_free}
+use Rattle.stack_table.specs.declared.operation.Operation.{Operation}
+use Rattle.stack_table.specs.Slots.{full}
+use Rattle.running.specs.Going.{Ended, Found, Missed, Brings}
+use Rattle.running.specs.declared.passes.Pass.{Pass}
+use Rattle.running.proofs.Ways.{goes_on, ends_so, hits, misses}
 use Rattle.treiber_stack.specs.declared.stack.Stack.{Stack}
-use Rattle.treiber_stack.specs.declared.stack.Pass.{Pass}
-use Rattle.treiber_stack.proofs.Going.{begun_going}
-use Rattle.treiber_stack.proofs.Closes.{is_at}
-use Rattle.treiber_stack.proofs.Takings.{may_going, held_going}
-use Rattle.treiber_stack.proofs.Folds.{meets_then}
-use Rattle.treiber_stack.proofs.Loading.{numbers_full, each_filled}
-use Rattle.treiber_stack.proofs.Ranges.{load_top_closes, load_top_worn, load_top_on, link_to_top_on, swap_top_answers, swap_top_adds, swap_top_again}
+use Rattle.treiber_stack.specs.declared.refusing.Barred.{Barred}
+use Rattle.treiber_stack.specs.declared.nodes.NoNode.TheVariants.{NoneFree, Spent}
+use Rattle.treiber_stack.specs.Refusing.{AllowsPut, RefusesPut}
+use Rattle.treiber_stack.specs.Stack.{room_of, limit_of, machine_of, begun_of, IsPassOf, IsAt, OneLine, WentOn}
+use Rattle.treiber_stack.specs.Nodes.{loaded, linking, IsCollecting, Stops, TakesNode, refused}
+use Rattle.treiber_stack.proofs.Refusals.{free_null, free_spent, free_goes, allows_link}
 
--- the first of a chain
-others_of : (chain : List ℕ) → 0 < length chain → (others : List ℕ) × (chain ≡ first chain ∷ others)
-others_of [] h = absurd (omega arith)
-others_of (i ∷ is) h = (is, refl)
+module _ {T : Type 0} where
+  next_busy : (put : Putting T) → is_idle (next_node put) ≡ false
+  next_busy put = by (ltb (length put.chain) (length put.values))
+    where
+      by : (b : Bool) → is_idle (cond b (LoadFree put) (LoadTop put)) ≡ false
+      by true = refl
+      by false = refl
 
-all_in : {A : Type 0} (vs : List A) (k : ℕ) → k ≤ length vs → drop k vs ≡ [] → length vs ≡ k
-all_in [] zero h e = refl
-all_in [] (suc k) h e = absurd (omega arith)
-all_in (v ∷ vs) zero h e = cc
-all_in (v ∷ vs) (suc k) h e = ap suc (all_in vs k (omega arith) e)
+  pub linking_busy : (chain : List ℕ) (put : Putting T) → is_idle (linking chain put) ≡ false
+  linking_busy [] put = next_busy put
+  linking_busy (j ∷ js) put = refl
 
-module _ {T : Type 0} (c : Stack T) (vs : List T) (nodes : Held) (p : Pass T) (h : IsHolding c p vs nodes) where
-  abbrev n : ℕ
-  n = capacity_of c.limits
+  linked_as : (chain : List ℕ) (put after : Putting T) → put.chain ≡ chain → cond (eqb (length chain) 0) (next_node after) (LinkTaken after) ≡ linking chain after
+  linked_as [] put after e = refl
+  linked_as (j ∷ js) put after e = ap (λ (b : Bool). cond b (next_node after) (LinkTaken after)) (ne_eqb (length (j ∷ js)) 0 (λ z. omega arith))
 
-  abbrev limit : ℕ
-  limit = tag_limit_of c.limits
+module _ {T : Type 0} (c : Stack T) (o : Operation T) (p q : Pass T (Line T)) (table : q.seat.table_id ≡ p.seat.table_id) where
+  abbrev loads : ℕ → Type 0
+  loads w = Found (machine_of c) o p.seat.me.0 q.seat.me.0 w []
 
-  abbrev k : ℕ
-  k = nodes.count
+  abbrev first_of : List T → Putting T
+  first_of vs = record { values = vs; chain = [] }
 
-  abbrev put : Putting T
-  put = record { values = vs; chain = h.chain }
+  -- no node could be had, with none in hand
+  pub null_first : (vs : List T) (w : ℕ) → IsAt c o p (LoadFree (first_of vs)) [] → loads w → q.seat.me.1 ≡ p.seat.me.1 → index_of w ≡ NULL
+      → IsAt c o q (LoadTopToRefuse vs) [] × WentOn c p q (LoadFree (first_of vs)) (LoadTopToRefuse vs)
+  null_first vs w at steps same null = goes_on (machine_of c) at q w [] steps table [] (LoadTopToRefuse vs) (same ∙ at.at.has) (free_null (limit_of c) w (first_of vs) null) refl
 
-  some_there : 0 < length h.chain
-  some_there = let a = h.has.counted in let b = h.some_node in omega arith
+  pub spent_first : (vs : List T) (w t : ℕ) → t ≡ tag_of w → IsAt c o p (LoadFree (first_of vs)) [] → loads w → q.seat.me.1 ≡ p.seat.me.1 → index_of w ≢ NULL → limit_of c ≤ tag_of w
+      → IsPassOf c q × Ended (machine_of c) o q.seat.me.0 (begun_of c p) (ends (AnswerPut (Err (PutSpent vs FreeWord t)))) × OneLine c p q (LoadFree (first_of vs)) (ends (AnswerPut (Err (PutSpent vs FreeWord t))))
+  spent_first vs w t is at steps same some_node high = ends_so (machine_of c) at q w [] steps table (ends (AnswerPut (Err (PutSpent vs FreeWord t)))) (same ∙ at.at.has) (free_spent (limit_of c) w (first_of vs) t is some_node high) refl
 
-  pub may_load_top : may_step Underway 1 read_top p.seat.me.0
-  may_load_top = may_going 1 read_top h.at.going refl
+  -- and with some in hand
+  no_more : (j : ℕ) (js : List ℕ) (vs : List T) (w : ℕ) (refuses : Line T) → let put : Putting T = record { values = vs; chain = j ∷ js } in IsCollecting c o p put → loads w → q.seat.me.1 ≡ p.seat.me.1 → at_load_free (limit_of c) put (fields_of w) ≡ no_node put refuses
+      → IsAt c o q (LoadTop put) (loaded put) × (begun_of c q ≡ begun_of c p)
+  no_more j js vs w refuses at steps same to =
+      let put : Putting T = record { values = vs; chain = j ∷ js } in
+      let r = goes_on (machine_of c) at q w [] steps table (loaded put) (LoadTop put) (same ∙ at.at.has) (to ∙ ap (λ (b : Bool). cond b refuses (LoadTop put)) (ne_eqb (length (j ∷ js)) 0 (λ z. omega arith))) refl in
+      (r.0, r.1.0)
 
-  last_there : 0 < times nodes.chain.last h.chain
-  last_there = subst (λ (i : ℕ). 0 < times i h.chain) h.has.ends (last_in h.chain some_there)
+  pub null_stops : (chain : List ℕ) (vs : List T) (w : ℕ) → let put : Putting T = record { values = vs; chain = chain } in IsCollecting c o p put → loads w → q.seat.me.1 ≡ p.seat.me.1 → index_of w ≡ NULL → Stops c o (begun_of c p) q chain put NoneFree
+  null_stops [] vs w at steps same null = let r = null_first vs w at steps same null in (r.0, r.1.0)
+  null_stops (j ∷ js) vs w at steps same null = no_more j js vs w (LoadTopToRefuse vs) at steps same (free_null (limit_of c) w (record { values = vs; chain = j ∷ js }) null)
 
-  pub last_below : nodes.chain.last < n
-  last_below = h.has.low nodes.chain.last last_there
+  pub spent_stops : (chain : List ℕ) (vs : List T) (w t : ℕ) → t ≡ tag_of w → let put : Putting T = record { values = vs; chain = chain } in IsCollecting c o p put → loads w → q.seat.me.1 ≡ p.seat.me.1 → index_of w ≢ NULL → limit_of c ≤ tag_of w → Stops c o (begun_of c p) q chain put (Spent t)
+  spent_stops [] vs w t is at steps same some_node high = let r = spent_first vs w t is at steps same some_node high in (r.0, r.1)
+  spent_stops (j ∷ js) vs w t is at steps same some_node high = no_more j js vs w (ends (AnswerPut (Err (PutSpent vs FreeWord t)))) at steps same (free_spent (limit_of c) w (record { values = vs; chain = j ∷ js }) t is some_node high)
 
-  pub first_below : nodes.chain.first < n
-  first_below = h.has.low nodes.chain.first (subst (λ (i : ℕ). 0 < times i h.chain) h.has.begins (first_in h.chain some_there))
+  module _ (put : Putting T) where
+    pub free_allowed : (w : ℕ) → IsCollecting c o p put → loads w → q.seat.me.1 ≡ p.seat.me.1 → index_of w ≢ NULL → tag_of w < limit_of c
+        → (IsAt c o q (LoadFreeLink put (fields_of w)) (loaded put) × WentOn c p q (LoadFree put) (LoadFreeLink put (fields_of w))) × (index_of w < room_of c)
+    free_allowed w at steps same some_node low = (
+      goes_on (machine_of c) at q w [] steps table (loaded put) (LoadFreeLink put (fields_of w)) (same ∙ at.at.has) (free_goes (limit_of c) w put some_node low) refl,
+      (steps (begun_of c p) (LoadFree put) at.at.going).1 some_node,
+    )
 
-  module _ (w : ℕ) (q : Pass T) (same : IsSame p q) (told : Told c Underway 1 read_top w [] p q) where
-    pub place_closed : mark_of w ≡ true → IsRefused c q vs nodes Closed × (begun_in q ≡ begun_in p)
-    place_closed e =
-        let g = load_top_closes Underway put w h.at.going told.did e in
-        (record { chain = h.chain; has = h.has; some_node = h.some_node; at = is_at c Underway p (LoadTop put) (loaded h.chain k vs) h.at q same Underway (LoadFreeToGive (record { chain = h.chain; answer = AnswerPut (Err (PutClosed vs)) })) g; kind = tt }, begun_going g.0)
+    pub free_read : (w k : ℕ) → IsAt c o p (LoadFreeLink put (fields_of w)) (loaded put) → loads k → q.seat.me.1 ≡ p.seat.me.1
+        → (IsAt c o q (TakeFree put (fields_of w) k) (loaded put) × WentOn c p q (LoadFreeLink put (fields_of w)) (TakeFree put (fields_of w) k)) × (k ≤ NULL)
+    free_read w k at steps same = (
+      goes_on (machine_of c) at q k [] steps table (loaded put) (TakeFree put (fields_of w) k) (same ∙ at.at.has) refl refl,
+      (steps (begun_of c p) (LoadFreeLink put (fields_of w)) at.at.going).1,
+    )
 
-    pub place_worn : (t : ℕ) → t ≡ tag_of w → mark_of w ≡ false → limit ≤ tag_of w → IsRefused c q vs nodes (Spent TopWord t) × (begun_in q ≡ begun_in p)
-    place_worn t is e high =
-        let g = load_top_worn Underway put w h.at.going told.did t is e high in
-        (record { chain = h.chain; has = h.has; some_node = h.some_node; at = is_at c Underway p (LoadTop put) (loaded h.chain k vs) h.at q same Underway (LoadFreeToGive (record { chain = h.chain; answer = AnswerPut (Err (PutSpent vs TopWord t)) })) g; kind = tt }, begun_going g.0)
+    pub free_lost : (w k : ℕ) → IsAt c o p (TakeFree put (fields_of w) k) (loaded put) → q.seat.me.1 ≡ p.seat.me.1 → Missed (machine_of c) o p.seat.me.0 q.seat.me.0 w
+        → IsCollecting c o q put × WentOn c p q (TakeFree put (fields_of w) k) (LoadFree put)
+    free_lost w k at same lost = goes_on (machine_of c) at q lost.found [] lost.steps table (loaded put) (LoadFree put) (same ∙ at.at.has) (misses lost.found w lost.other (at_take_free put (fields_of w)) (LoadFree put)) refl
 
-    module _ (open_top : mark_of w ≡ false) (below : tag_of w < limit) where
-      on : Goes n limit Underway p.seat.me.0 q.seat.me.0 (begun_in p) (LoadTop put) (LinkToTop put (fields_of w))
-      on = load_top_on Underway put w h.at.going told.did open_top below
+    pub free_slots : (w k i : ℕ) → i ≡ index_of w → IsAt c o p (TakeFree put (fields_of w) k) (loaded put) → Brings (machine_of c) o p.seat.me.0 q.seat.me.0 w p.seat.me.1 q.seat.me.1 → q.seat.me.1 ≡ (i, None) ∷ loaded put
+    free_slots w k i is at won = won.moved ∙ (λ t. won.fits (begun_of c p) (TakeFree put (fields_of w) k) at.at.going t ++ at.at.has t) ∙ ap (λ (j : ℕ). (j, None) ∷ loaded put) (sym is)
 
-      pub may_link_top : (i : ℕ) → i ≡ index_of w → i ≤ NULL → may_step Underway 1 (write_link nodes.chain.last i) q.seat.me.0
-      may_link_top i is small = may_going 1 (write_link nodes.chain.last i) on.0 ((λ t. some (h.has.ends t, sym is t)), small)
+    -- a node was taken: r has its slot, with or without a value by now
+    pub free_won : (w k i : ℕ) → i ≡ index_of w → IsAt c o p (TakeFree put (fields_of w) k) (loaded put) → Brings (machine_of c) o p.seat.me.0 q.seat.me.0 w p.seat.me.1 q.seat.me.1
+        → (r : Pass T (Line T)) (slots : List (ℕ × Slot T)) → r.seat.table_id ≡ q.seat.table_id → r.seat.me ≡ (q.seat.me.0, slots)
+        → IsAt c o r (linking put.chain (with_node put i)) slots × WentOn c p r (TakeFree put (fields_of w) k) (linking put.chain (with_node put i))
+    free_won w k i is at won r slots table' me =
+        let steps = subst (λ u. Found (machine_of c) o p.seat.me.0 u w won.slots) (sym (ap (λ x. x.0) me)) won.steps in
+        goes_on (machine_of c) at r w won.slots steps (table' ∙ table) slots (linking put.chain (with_node put i)) (ap (λ x. x.1) me)
+        (hits w (at_take_free put (fields_of w)) (LoadFree put) ∙ ap (λ (j : ℕ). cond (eqb (length put.chain) 0) (next_node (with_node put j)) (LinkTaken (with_node put j))) (sym is) ∙ linked_as put.chain put (with_node put i) refl)
+        (linking_busy put.chain (with_node put i))
 
-      pub holds_end : Holds (held (line_in q.seat.me.0)) nodes.chain.last
-      holds_end = subst (λ (xs : List ℕ). Holds xs nodes.chain.last) (sym (held_going on.0)) (times_holds h.chain nodes.chain.last last_there)
+    -- nodes in hand go onto the top
+    pub top_barred : (w : ℕ) (why : Barred) → IsAt c o p (LoadTop put) (loaded put) → loads w → q.seat.me.1 ≡ p.seat.me.1 → RefusesPut T (limit_of c) w why
+        → IsAt c o q (LoadFreeToGive (refused put why)) (loaded put) × WentOn c p q (LoadTop put) (LoadFreeToGive (refused put why))
+    top_barred w why at steps same refuses = goes_on (machine_of c) at q w [] steps table (loaded put) (LoadFreeToGive (refused put why)) (same ∙ at.at.has) (refuses.with_nodes put) refl
 
-      module _ (i : ℕ) (r : Pass T) (same' : IsSame q r) (told' : Told c Underway 1 (write_link nodes.chain.last i) i [] q r) where
-        on' : Goes n limit Underway q.seat.me.0 r.seat.me.0 (begun_in p) (LinkToTop put (fields_of w)) (SwapTop put (fields_of w))
-        on' = link_to_top_on Underway put w nodes.chain.last i i on.0 told'.did
+    pub top_open : (w : ℕ) → IsAt c o p (LoadTop put) (loaded put) → loads w → q.seat.me.1 ≡ p.seat.me.1 → AllowsPut (limit_of c) w
+        → IsAt c o q (LinkToTop put (fields_of w)) (loaded put) × WentOn c p q (LoadTop put) (LinkToTop put (fields_of w))
+    top_open w at steps same allows = goes_on (machine_of c) at q w [] steps table (loaded put) (LinkToTop put (fields_of w)) (same ∙ at.at.has) (allows_link (limit_of c) w put allows) refl
 
-        once : (j : ℕ) → times j h.chain ≤ 1
-        once j = let m = meets_then on.0 told'.did in let o = held_once m.seat j (LinkToTop put (fields_of w)) m.good.linked m.here in omega arith
+    pub top_linked : (w x : ℕ) → IsAt c o p (LinkToTop put (fields_of w)) (loaded put) → loads x → q.seat.me.1 ≡ p.seat.me.1
+        → IsAt c o q (SwapTop put (fields_of w)) (loaded put) × WentOn c p q (LinkToTop put (fields_of w)) (SwapTop put (fields_of w))
+    top_linked w x at steps same = goes_on (machine_of c) at q x [] steps table (loaded put) (SwapTop put (fields_of w)) (same ∙ at.at.has) refl refl
 
-        pub may_put_all : may_step Underway 1 (give_chain w nodes.chain.first) r.seat.me.0
-        may_put_all = may_going 1 (give_chain w nodes.chain.first) on'.0 (put, refl, h.has.begins)
+    pub top_won : (w t : ℕ) → t ≡ tag_of w → IsAt c o p (SwapTop put (fields_of w)) (loaded put) → q.seat.me.1 ≡ [] → Found (machine_of c) o p.seat.me.0 q.seat.me.0 w p.seat.me.1
+        → IsPassOf c q × Ended (machine_of c) o q.seat.me.0 (begun_of c p) (ends (AnswerPut (Ok (t, unplaced put)))) × OneLine c p q (SwapTop put (fields_of w)) (ends (AnswerPut (Ok (t, unplaced put))))
+    top_won w t is at none_left steps = ends_so (machine_of c) at q w p.seat.me.1 steps table (ends (AnswerPut (Ok (t, unplaced put)))) none_left
+        (hits w (ends (AnswerPut (Ok (tag_of w, unplaced put)))) (LoadTop put) ∙ ap (λ (k : ℕ). ends (AnswerPut (Ok (k, unplaced put)))) (sym is)) refl
 
-        is_held : held (line_in r.seat.me.0) ≡ h.chain
-        is_held = held_going on'.0
-
-        pub holds_them : (others : List ℕ) × (held (line_in r.seat.me.0) ≡ nodes.chain.first ∷ others)
-        holds_them = let o = others_of h.chain some_there in (o.0, is_held ∙ o.1 ∙ ap (λ (x : ℕ). x ∷ o.0) h.has.begins)
-
-        has : r.seat.me.1 ≡ loaded h.chain k vs
-        has = same'.slots ∙ same.slots ∙ h.at.has
-
-        long : length h.chain ≡ length (reverse (take k vs))
-        long = h.has.counted ∙ sym (length-reverse (take k vs) ∙ length-take-le k vs h.has.few)
-
-        pub numbers_held : numbers r.seat.me.1 ≡ held (line_in r.seat.me.0)
-        numbers_held = ap (λ (zs : List (ℕ × Slot T)). numbers zs) has ∙ numbers_full h.chain (reverse (take k vs)) long ∙ sym is_held
-
-        pub bears_all : Each (Bears (line_in r.seat.me.0)) r.seat.me.1
-        bears_all =
-            let is : line_in r.seat.me.0 ≡ SwapTop put (fields_of w) = ap line_in on'.0.is ∙ puts_line Underway on'.0.at (fields_of w) put (ap puts_of on'.0.now) in
-            let all : Each (Bears (SwapTop put (fields_of w))) (full h.chain (reverse (take (length h.chain) vs))) = each_filled (λ _. none) h.chain (reverse (take (length h.chain) vs)) once in
-            subst (λ (l : Line T). Each (Bears l) r.seat.me.1) (sym is)
-            (subst (λ (zs : List (ℕ × Slot T)). Each (Bears (SwapTop put (fields_of w))) zs) (sym has) (subst (λ (x : ℕ). Each (Bears (SwapTop put (fields_of w))) (loaded h.chain x vs)) h.has.counted all))
-
-        module _ (s : Pass T) (table : s.seat.table_id ≡ r.seat.table_id) where
-          pub places_all : (t : ℕ) → t ≡ tag_of w → Gives c Underway 1 w nodes.chain.first r s → Placed c (begun_in p) vs k s t
-          places_all t is won =
-              let e = swap_top_answers Underway put w nodes.chain.first w won.slots on'.0 won.told.did refl in
-              let b : PassView T = begun_in p in
-              let adds : Adds b (pass_in s) (Put b.number (placed put) (tag_of w) ∷ holds_of b.number (length h.chain)) = swap_top_adds Underway put w nodes.chain.first w won.slots on'.0 won.told.did refl in
-              record {
-                of = record { table = table ∙ same'.table ∙ same.table ∙ h.at.table; view = e.0.view; slots = won.none_left; rests = e.0.rests };
-                gives = subst (λ (x : ℕ). RangeGives b (take k vs) (pass_in s) x) (sym is)
-                    (subst (λ (x : ℕ). Adds b (pass_in s) (Put b.number (take k vs) (tag_of w) ∷ holds_of b.number x)) (sym (length-take-le k vs h.has.few))
-                    (subst (λ (x : ℕ). Adds b (pass_in s) (Put b.number (take x vs) (tag_of w) ∷ holds_of b.number x)) h.has.counted adds));
-                all = ⊎_elim
-                    (λ none_out. inl (all_in vs k h.has.few (subst (λ (x : ℕ). drop x vs ≡ []) h.has.counted none_out)))
-                    (λ full. inr full)
-                    e.0.deeds.all;
-              }
-
-          pub places_again : s.seat.me.1 ≡ r.seat.me.1 → Lost c Underway 1 (give_chain w nodes.chain.first) w r s → IsHolding c s vs nodes × (begun_in s ≡ begun_in p)
-          places_again slots lost =
-              let g = swap_top_again Underway put w nodes.chain.first lost.found [] on'.0 lost.told.did lost.other in (
-                record {
-                  chain = h.chain;
-                  has = h.has;
-                  some_node = h.some_node;
-                  at = record {
-                    table = table ∙ same'.table ∙ same.table ∙ h.at.table;
-                    has = slots ∙ has;
-                    going = subst (λ (b : PassView T). Going n limit Underway s.seat.me.0 b (LoadTop put)) (sym (begun_going g.0)) g.0;
-                  };
-                },
-                begun_going g.0,
-              )
+    pub top_lost : (w : ℕ) → IsAt c o p (SwapTop put (fields_of w)) (loaded put) → q.seat.me.1 ≡ p.seat.me.1 → Missed (machine_of c) o p.seat.me.0 q.seat.me.0 w
+        → IsAt c o q (LoadTop put) (loaded put) × WentOn c p q (SwapTop put (fields_of w)) (LoadTop put)
+    top_lost w at same lost = goes_on (machine_of c) at q lost.found [] lost.steps table (loaded put) (LoadTop put) (same ∙ at.at.has) (misses lost.found w lost.other (ends (AnswerPut (Ok (tag_of w, unplaced put)))) (LoadTop put)) refl

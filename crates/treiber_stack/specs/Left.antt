@@ -4,7 +4,7 @@ use mathlib.Core.Option.{Option, none, some}
 use lib.ListN.{get_elem?}
 use Rattle.std.specs.Mem.Slots.{slots_items}
 use Rattle.tagged_index.specs.Fields.{index_of}
-use Rattle.treiber_stack.specs.Layout.{link_at}
+use Rattle.stack_table.specs.Layout.{link_at}
 use Rattle.treiber_stack.specs.declared.rest.Rest.{Rest}
 
 module _ {T : Type 0} where

@@ -1,44 +1,55 @@
 -- Which passes and roots are a stack's, and what they have seen.
-use Rattle.std.specs.Prelude.{◌≡◌, ◌+◌, [], length}
+use Rattle.std.specs.Prelude.{ℕ, List, Option as Slot}
 use Rattle.tagged_index.specs.Limits.{capacity_of, tag_limit_of}
 use Rattle.bounded_model.specs.declared.views.PassView.{PassView}
-use Rattle.bounded_model.specs.declared.views.RootView.{RootView}
 use Rattle.bounded_model.specs.Machine.{Shape}
-use Rattle.bounded_model.specs.Laws.{Call, IsAtRest, IsSound}
-use Rattle.machine.specs.declared.seats.View.TheVariants.{AtRoot}
-use Rattle.stack_machine.specs.Answers.{shape}
-use Rattle.machine.specs.Seats.{pass_of, root_of, at_rest}
-use Rattle.treiber_stack.specs.Rule.{idle}
+use Rattle.bounded_model.specs.Laws.{Call}
+use Rattle.stack_machine.specs.declared.lines.Line.{Line}
+use Rattle.running.specs.Machine as running
+use Rattle.running.specs.Passes as passes
+pub use Rattle.running.specs.Passes.{pass_in, root_in}
+use Rattle.running.specs.declared.passes.Pass.{Pass}
+use Rattle.running.specs.declared.passes.Root.{Root}
+use Rattle.stack_table.specs.declared.operation.Operation.{Operation}
+use Rattle.stack_table.specs.Lines.{names}
+use Rattle.stack_table.proofs.Laws.{stack}
 use Rattle.treiber_stack.specs.declared.stack.Stack.{Stack}
-use Rattle.treiber_stack.specs.declared.stack.Pass.{Pass}
-use Rattle.treiber_stack.specs.declared.stack.Root.{Root}
 
 module _ {T : Type 0} where
-  -- a stack of this capacity and this limit of tags
+  -- how many values it has room for, and the limit of its tags
+  abbrev pub room_of : Stack T → ℕ
+  room_of c = capacity_of c.table.shared.key
+
+  abbrev pub limit_of : Stack T → ℕ
+  limit_of c = tag_limit_of c.table.shared.key
+
+  abbrev pub machine_of : Stack T → running.Machine T (Line T) (Operation T) names
+  machine_of c = stack T (room_of c) (limit_of c)
+
   abbrev pub shape_of : Stack T → Shape
-  shape_of c = shape (capacity_of c.limits) (tag_limit_of c.limits)
-
-  abbrev pub pass_in : Pass T → PassView T
-  pass_in p = pass_of p.seat.me.0
-
-  abbrev pub root_in : Root T → RootView T
-  root_in r = root_of r.seat.me.0
+  shape_of c = (machine_of c).core.shape
 
   -- a call of one of its passes
-  abbrev pub call_of : Stack T → Pass T → Pass T → Call T
+  abbrev pub call_of : Stack T → Pass T (Line T) → Pass T (Line T) → Call T
   call_of c by back = record { shape = shape_of c; from = pass_in by; to = pass_in back }
 
-  -- a pass between its operations
-  pub record IsPassOf (c : Stack T) (p : Pass T) : Type 0 where
-    pub table : p.seat.table_id ≡ c.table.shared.table_id
-    pub view : p.seat.me.0 ≡ at_rest idle (pass_in p)
-    pub slots : p.seat.me.1 ≡ []
-    pub rests : IsAtRest (shape_of c) (pass_in p)
+  -- a pass between its operations, and a root between its calls
+  abbrev pub IsPassOf : Stack T → Pass T (Line T) → Type 0
+  IsPassOf c p = passes.IsPassOn (machine_of c) c.table.shared.table_id p
 
-  -- a root between its calls
-  pub record IsRootOf (c : Stack T) (r : Root T) : Type 0 where
-    pub table : r.seat.table_id ≡ c.table.shared.table_id
-    pub view : r.seat.me.0 ≡ AtRoot (root_in r) []
-    pub slots : r.seat.me.1 ≡ []
-    pub sound : IsSound (shape_of c) (root_in r)
-    pub counted : (root_in r).given ≡ r.out + length (root_in r).account
+  abbrev pub IsRootOf : Stack T → Root T (Line T) → Type 0
+  IsRootOf c r = passes.IsRootOn (machine_of c) c.table.shared.table_id r
+
+  -- a pass in an operation, at a line and with these slots in hand
+  abbrev pub IsAt : Stack T → Operation T → Pass T (Line T) → Line T → List (ℕ × Slot T) → Type 0
+  IsAt c o p l slots = passes.IsAtOn (machine_of c) c.table.shared.table_id o p l slots
+
+  abbrev pub begun_of : Stack T → Pass T (Line T) → PassView T
+  begun_of c p = passes.begun_of (machine_of c) p
+
+  -- a step was the machine's line l, exactly one more, and led to l'; and its operation goes on
+  abbrev pub OneLine : Stack T → Pass T (Line T) → Pass T (Line T) → Line T → Line T → Type 0
+  OneLine c p q l l' = passes.OneLine (machine_of c) p q l l'
+
+  abbrev pub WentOn : Stack T → Pass T (Line T) → Pass T (Line T) → Line T → Line T → Type 0
+  WentOn c p q l l' = passes.WentOn (machine_of c) p q l l'

@@ -1,17 +1,20 @@
-//! Closing and shutting a stack, by steps, and looking whether it is empty.
+//! Closing and shutting a stack, by steps: its top gets a mark. Looking whether it is empty.
 ghost use Rattle.std.specs.Prelude.{◌≡◌};
+ghost use Rattle.tagged_index.specs.Fields.{fields_of};
 ghost use Rattle.bounded_model.specs.Laws.{LookGives};
-ghost use Rattle.treiber_stack.specs.Closing.{IsClosing, IsShutting, CloseStep, ShutStep, CloseRun, ShutRun};
 ghost use Rattle.stack_machine.specs.Machine.{ends};
 ghost use Rattle.stack_machine.specs.declared.lines.Answer.TheVariants.{Look as Looked};
 ghost use Rattle.stack_machine.specs.declared.lines.Line.TheVariants.{LoadTopToLook};
-ghost use Rattle.treiber_stack.specs.Operations.{begun_in, IsLineOf};
-ghost use Rattle.treiber_stack.specs.Stack.{shape_of, IsPassOf, pass_in};
+ghost use Rattle.treiber_stack.specs.Closing.{IsClosing, IsShutting, IsMarking, CloseStep, ShutStep, MarkStep, MarkGives, mark_name, is_set, with_mark};
+ghost use Rattle.treiber_stack.specs.Stack.{shape_of, IsPassOf, pass_in, begun_of, OneLine};
 
-use crate::layout::TOP;
-use crate::operation::Operation;
+
 use crate::stack::{Pass, Stack};
 use bounded_model::Stepped;
+use running::{Pause, load_tagged_step, swap_step};
+use stack_table::Operation;
+use stack_table::layout::TOP;
+use std::sync::Wait;
 use tagged_index::{NULL, Tagged};
 
 /// A close that was begun.
@@ -30,14 +33,52 @@ pub struct ShutOp<T> {
     pub(crate) seen: Option<Tagged>,
 }
 
+/// Which mark of the top an operation sets.
+#[derive(Clone, Copy)]
+pub(crate) enum Mark {
+    Closed,
+    Shut,
+}
+
+impl Mark {
+    #[inline]
+    fn operation<T>(self) -> Operation<T>
+        ensures { result ≡ mark_name self }
+    {
+        match self {
+            Mark::Closed => Operation::Close,
+            Mark::Shut => Operation::Shut,
+        }
+    }
+
+    #[inline]
+    fn is_set(self, top: Tagged) -> bool
+        ensures { result ≡ is_set self (fields_of top) }
+    {
+        match self {
+            Mark::Closed => top.is_marked(),
+            Mark::Shut => top.has_second(),
+        }
+    }
+
+    #[inline]
+    fn set(self, top: Tagged) -> Tagged
+        ensures { fields_of result ≡ with_mark self (fields_of top) }
+    {
+        match self {
+            Mark::Closed => top.marked(),
+            Mark::Shut => top.with_second(),
+        }
+    }
+}
+
 impl<T> Stack<T> {
     /// A close that makes no step yet.
     #[inline]
     pub fn begin_close(&self, by: Pass<T>) -> CloseOp<T>
         requires { IsPassOf self.now by }
-        ensures close { IsClosing self.now result }
-        ensures begun { begun_in result.pass ≡ pass_in by }
-        ensures now { pass_in result.pass ≡ pass_in by }
+        ensures { IsClosing self.now result
+            × (begun_of self.now result.pass ≡ pass_in by) × (pass_in result.pass ≡ pass_in by) }
     {
         CloseOp {
             pass: by,
@@ -49,9 +90,8 @@ impl<T> Stack<T> {
     #[inline]
     pub fn begin_shut(&self, by: Pass<T>) -> ShutOp<T>
         requires { IsPassOf self.now by }
-        ensures shut { IsShutting self.now result }
-        ensures begun { begun_in result.pass ≡ pass_in by }
-        ensures now { pass_in result.pass ≡ pass_in by }
+        ensures { IsShutting self.now result
+            × (begun_of self.now result.pass ≡ pass_in by) × (pass_in result.pass ≡ pass_in by) }
     {
         ShutOp {
             pass: by,
@@ -65,11 +105,68 @@ impl<T> Stack<T> {
         requires { IsPassOf self.now by }
         ensures of { IsPassOf self.now result.0 }
         ensures gives { LookGives (shape_of self.now) (pass_in by) (pass_in result.0) result.1 }
-        ensures line { IsLineOf self.now by result.0 LoadTopToLook (ends (Looked result.1)) }
+        ensures line { OneLine self.now by result.0 LoadTopToLook (ends (Looked result.1)) }
     {
         let mut pass = by;
-        let top = self.load(&mut pass, TOP, &Operation::Look);
+        let top = load_tagged_step(&self.table.shared, &mut pass.seat, TOP, &Operation::Look);
         (pass, top.index() == NULL)
+    }
+
+    // One step of setting a mark, with the top if it was read without it.
+    #[inline]
+    fn mark(
+        &self,
+        by: Pass<T>,
+        seen: Option<Tagged>,
+        mark: Mark,
+    ) -> Stepped<(Pass<T>, Option<Tagged>), Pass<T>, bool>
+        requires { IsMarking self.now mark by seen }
+        ensures { MarkStep self.now mark by seen result }
+    {
+        let mut pass = by;
+        let table = &self.table.shared;
+        let operation = mark.operation();
+        match seen {
+            None => {
+                let top = load_tagged_step(table, &mut pass.seat, TOP, &operation);
+                if mark.is_set(top) {
+                    return Stepped::Done(pass, false);
+                }
+                Stepped::Again((pass, Some(top)))
+            }
+            Some(top) => {
+                let new = mark.set(top);
+                if swap_step(table, &mut pass.seat, TOP, top, new, &operation) {
+                    return Stepped::Done(pass, true);
+                }
+                Stepped::Again((pass, None))
+            }
+        }
+    }
+
+    /// Sets a mark by a whole call, and answers whether it did.
+    #[inline]
+    pub(crate) fn set_mark<R: Wait>(&self, rt: &R, by: Pass<T>, mark: Mark) -> (Pass<T>, bool)
+        requires { IsPassOf self.now by }
+        ensures { IsPassOf self.now result.0
+            × MarkGives mark (shape_of self.now) (pass_in by) (pass_in result.0) result.1 }
+    {
+        let mut pass = by;
+        let mut seen = None;
+        let mut pause = Pause::new();
+        for _ in rt.forever() {
+            match self.mark(pass, seen, mark) {
+                Stepped::Done(pass, set) => return (pass, set),
+                Stepped::Again((next, read)) => {
+                    if read.is_none() {
+                        pause.wait();
+                    }
+                    pass = next;
+                    seen = read;
+                }
+            }
+        }
+        unreachable!()
     }
 }
 
@@ -82,35 +179,8 @@ impl<T> CloseOp<T> {
         ensures { CloseStep stack.now self.pass self.seen result }
     {
         let CloseOp { pass, seen } = self;
-        let mut pass = pass;
-        match seen {
-            None => {
-                let top = stack.load(&mut pass, TOP, &Operation::Close);
-                if top.is_marked() {
-                    return Stepped::Done(pass, false);
-                }
-                Stepped::Again(CloseOp {
-                    pass,
-                    seen: Some(top),
-                })
-            }
-            Some(top) => {
-                if stack.mark(&mut pass, top, &Operation::Close) {
-                    return Stepped::Done(pass, true);
-                }
-                Stepped::Again(CloseOp { pass, seen: None })
-            }
-        }
-    }
-
-    /// Both steps of a close that has read nothing: it answers, or has lost the exchange.
-    #[inline]
-    pub(crate) fn run(self, stack: &Stack<T>) -> Stepped<CloseOp<T>, Pass<T>, bool>
-        requires { IsClosing stack.now self }
-        ensures { CloseRun stack.now (begun_in self.pass) result }
-    {
-        match self.step(stack) {
-            Stepped::Again(next) => next.step(stack),
+        match stack.mark(pass, seen, Mark::Closed) {
+            Stepped::Again((pass, seen)) => Stepped::Again(CloseOp { pass, seen }),
             Stepped::Done(pass, closed) => Stepped::Done(pass, closed),
         }
     }
@@ -125,35 +195,8 @@ impl<T> ShutOp<T> {
         ensures { ShutStep stack.now self.pass self.seen result }
     {
         let ShutOp { pass, seen } = self;
-        let mut pass = pass;
-        match seen {
-            None => {
-                let top = stack.load(&mut pass, TOP, &Operation::Shut);
-                if top.has_second() {
-                    return Stepped::Done(pass, false);
-                }
-                Stepped::Again(ShutOp {
-                    pass,
-                    seen: Some(top),
-                })
-            }
-            Some(top) => {
-                if stack.mark_second(&mut pass, top, &Operation::Shut) {
-                    return Stepped::Done(pass, true);
-                }
-                Stepped::Again(ShutOp { pass, seen: None })
-            }
-        }
-    }
-
-    /// Both steps of a shut that has read nothing: it answers, or has lost the exchange.
-    #[inline]
-    pub(crate) fn run(self, stack: &Stack<T>) -> Stepped<ShutOp<T>, Pass<T>, bool>
-        requires { IsShutting stack.now self }
-        ensures { ShutRun stack.now (begun_in self.pass) result }
-    {
-        match self.step(stack) {
-            Stepped::Again(next) => next.step(stack),
+        match stack.mark(pass, seen, Mark::Shut) {
+            Stepped::Again((pass, seen)) => Stepped::Again(ShutOp { pass, seen }),
             Stepped::Done(pass, shut) => Stepped::Done(pass, shut),
         }
     }

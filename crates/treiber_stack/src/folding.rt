@@ -1,38 +1,25 @@
 //! Folds: all values are taken by one exchange of the top, and handed to a function one after
 //! another on a walk along their chain; one more exchange gives the whole chain to the free list.
-ghost use Rattle.std.specs.Prelude.{◌≡◌, ◌≢◌, ℕ, ◌+◌, ◌<◌, ◌++◌, [], ◌∷◌, reverse, Some, None, IsTrue, IsFalse, MatchOption};
+ghost use Rattle.std.specs.Prelude.{◌≡◌, ◌++◌, [], ◌∷◌, Some, None};
 ghost use Rattle.atomic_table.specs.Table.{rest};
 ghost use Rattle.bounded_model.specs.Bulk.{FoldsAll};
 ghost use Rattle.bounded_model.specs.Consumes.{Folds};
-ghost use Rattle.tagged_index.specs.Limits.{capacity_of, tag_limit_of};
-ghost use Rattle.index_list.specs.declared.front.Front.TheVariants.{First, Last};
-ghost use Rattle.index_list.specs.Steps.{read_top};
-ghost use Rattle.tagged_index.specs.Fields.{index_of};
-ghost use Rattle.tagged_index.specs.declared.word.TheConstants.{NULL};
-ghost use Rattle.treiber_stack.specs.Host.{may_step};
-ghost use Rattle.treiber_stack.specs.Operations.{IsSame, Told, begun_in};
-ghost use Rattle.treiber_stack.specs.declared.operation.Operation.TheVariants.{Fold as FoldFirst};
-ghost use Rattle.treiber_stack.specs.Stack.{shape_of, call_of, IsPassOf, pass_in};
-ghost use Rattle.treiber_stack.specs.Folding.{in_order, AllowsTake, RefusesTake, TakesChain, IsTaken, IsReady, Walks, IsGiving, GaveBack};
+ghost use Rattle.index_list.specs.declared.front.Front.TheVariants.{Last};
+ghost use Rattle.stack_machine.specs.Deeds.{in_order};
+ghost use Rattle.stack_table.specs.Lines.{direction};
+ghost use Rattle.treiber_stack.specs.Folding.{TakesChain, IsTaken, IsReady, Walks};
+ghost use Rattle.treiber_stack.specs.Stack.{call_of, begun_of, IsPassOf};
 
-use crate::layout::{FREE, TOP};
-use crate::operation::Operation;
-use crate::pause::Pause;
-use crate::rule::Stacked;
+use crate::giving::Chain;
+
 use crate::stack::{Pass, Stack};
-use bounded_model::{Folded, TakeRefused, Word};
+use bounded_model::{Folded, TakeRefused};
 use index_list::{Front, move_out};
-use machine::View;
-use stack_machine::Line;
+use running::{Pause, load_step, load_tagged_step, raised, store_step, take_step};
+use stack_table::Operation;
+use stack_table::layout::{TOP, link};
 use std::sync::Wait;
-use tagged_index::{Limits, NULL, Tagged};
-
-/// A chain of nodes in hand, each linked to the next, whose slots are empty.
-#[derive(Clone, Copy)]
-pub(crate) struct Chain {
-    pub(crate) first: u32,
-    pub(crate) last: u32,
-}
+use tagged_index::{NULL, Tagged};
 
 /// What a walk along a chain has done.
 pub(crate) struct Walked<T, S> {
@@ -43,44 +30,9 @@ pub(crate) struct Walked<T, S> {
 }
 
 impl<T> Stack<T> {
-    /// Takes all values by one exchange, and folds them from the top down. Answers the last
-    /// state; after a refusal, which is as that of a take, it is the one that was handed in.
-    pub fn fold_all_atomic<R: Wait, S, F: Fn(S, T) -> S + Drop>(
-        &self,
-        rt: &R,
-        by: Pass<T>,
-        state: S,
-        f: F,
-    ) -> (Pass<T>, S, Result<Folded, TakeRefused>)
-        requires pass { IsPassOf self.now by }
-        requires call { F.IsAlwaysCallable f }
-        ensures of { IsPassOf self.now result.0 }
-        ensures gives { FoldsAll (call_of self.now by result.0)
-            (λ values. Folds (λ s x t. F.post f s x t) state values result.1)
-            (result.1 ≡ state) result.2 }
-    {
-        self.fold(rt, by, Front::First, state, f)
-    }
-
-    /// The same, from the bottom up.
-    pub fn fold_all_atomic_reversed<R: Wait, S, F: Fn(S, T) -> S + Drop>(
-        &self,
-        rt: &R,
-        by: Pass<T>,
-        state: S,
-        f: F,
-    ) -> (Pass<T>, S, Result<Folded, TakeRefused>)
-        requires pass { IsPassOf self.now by }
-        requires call { F.IsAlwaysCallable f }
-        ensures of { IsPassOf self.now result.0 }
-        ensures gives { FoldsAll (call_of self.now by result.0)
-            (λ values. Folds (λ s x t. F.post f s x t) state (reverse values) result.1)
-            (result.1 ≡ state) result.2 }
-    {
-        self.fold(rt, by, Front::Last, state, f)
-    }
-
-    fn fold<R: Wait, S, F: Fn(S, T) -> S + Drop>(
+    /// Takes all values by one exchange, and folds them in this order. Answers the last state; after a
+    /// refusal, which is as that of a take, it is the one that was handed in.
+    pub(crate) fn fold<R: Wait, S, F: Fn(S, T) -> S + Drop>(
         &self,
         rt: &R,
         by: Pass<T>,
@@ -92,7 +44,7 @@ impl<T> Stack<T> {
         requires call { F.IsAlwaysCallable f }
         ensures of { IsPassOf self.now result.0 }
         ensures gives { FoldsAll (call_of self.now by result.0)
-            (λ values. Folds (λ s x t. F.post f s x t) state (in_order front values) result.1)
+            (λ values. Folds (λ s x t. F.post f s x t) state (in_order (direction front) values) result.1)
             (result.1 ≡ state) result.2 }
     {
         let (pass, taken) = self.take_chain(rt, by, front);
@@ -108,45 +60,9 @@ impl<T> Stack<T> {
                     count,
                 } = walked;
                 let number = top.tag();
-                let pass = self.give_back(rt, pass, chain, &Operation::Underway);
+                let pass = self.give_back(rt, pass, chain, &Operation::Fold(front));
                 (pass, state, Ok(Folded { number, count }))
             }
-        }
-    }
-
-    // Why a pass that has read this top takes nothing.
-    #[inline]
-    fn refused(&self, top: Tagged) -> Option<TakeRefused>
-        ensures { MatchOption result (AllowsTake (tag_limit_of self.now.limits) top)
-            (RefusesTake T (tag_limit_of self.now.limits) top) }
-    {
-        if top.has_second() {
-            return Some(TakeRefused::Shut);
-        }
-        if top.index() == NULL {
-            if top.is_marked() {
-                return Some(TakeRefused::Closed);
-            }
-            return Some(TakeRefused::Empty);
-        }
-        if top.tag() >= self.limits.tag_limit() {
-            return Some(TakeRefused::Spent(Word::Top, top.tag()));
-        }
-        None
-    }
-
-    // Loads the top, as a fold does first. Its later steps need no name, so that either will do.
-    #[inline]
-    fn load_whole(&self, by: &mut Pass<T>, front: Front) -> Tagged
-        requires table { by.old.seat.table_id ≡ self.now.table.shared.table_id }
-        requires may { may_step (FoldFirst front) 1 read_top by.old.seat.me.0 }
-        ensures same { IsSame by.old by.new }
-        ensures told { Told self.now (FoldFirst front) 1 read_top result [] by.old by.new }
-        ensures node { index_of result ≢ NULL → index_of result < capacity_of self.now.limits }
-    {
-        match front {
-            Front::First => self.load(by, TOP, &Operation::Fold(Front::First)),
-            Front::Last => self.load(by, TOP, &Operation::Fold(Front::Last)),
         }
     }
 
@@ -162,12 +78,21 @@ impl<T> Stack<T> {
     {
         let mut pass = by;
         let mut pause = Pause::new();
+        let table = &self.table.shared;
         for _ in rt.forever() {
-            let top = self.load_whole(&mut pass, front);
-            if let Some(why) = self.refused(top) {
+            let top = load_tagged_step(table, &mut pass.seat, TOP, &Operation::Fold(front));
+            if let Some(why) = self.bars_take(top) {
                 return (pass, Err(why));
             }
-            if self.take_nodes(&mut pass, top, front, &Operation::Underway) {
+            let new = raised(top, NULL);
+            if take_step(
+                table,
+                &mut pass.seat,
+                TOP,
+                top,
+                new,
+                &Operation::Fold(front),
+            ) {
                 return (pass, Ok(top));
             }
             pause.wait();
@@ -178,7 +103,7 @@ impl<T> Stack<T> {
     // The node that a fold begins with.
     fn first_of(&self, by: Pass<T>, front: Front, top: Tagged) -> (Pass<T>, u32)
         requires { IsTaken self.now front top by }
-        ensures { IsReady self.now front top result.0 result.1 × (begun_in result.0 ≡ begun_in by) }
+        ensures { IsReady self.now front top result.0 result.1 × (begun_of self.now result.0 ≡ begun_of self.now by) }
     {
         match front {
             Front::First => (by, top.index()),
@@ -189,14 +114,24 @@ impl<T> Stack<T> {
     // Turns the chain round, and answers its new first node.
     fn turn_round(&self, by: Pass<T>, top: Tagged) -> (Pass<T>, u32)
         requires { IsTaken self.now Last top by }
-        ensures { IsReady self.now Last top result.0 result.1 × (begun_in result.0 ≡ begun_in by) }
+        ensures { IsReady self.now Last top result.0 result.1 × (begun_of self.now result.0 ≡ begun_of self.now by) }
     {
         let mut pass = by;
         let mut above = NULL;
         let mut index = top.index();
+        let table = &self.table.shared;
         for _ in 0..self.limits.capacity() {
-            let below = self.load_next(&mut pass, TOP, index, &Operation::Underway);
-            self.link_to(&mut pass, TOP, index, above, &Operation::Underway);
+            let at = link(index);
+            let found = load_step(table, &mut pass.seat, at, &Operation::Fold(Front::Last));
+            let below = found as u32;
+            let upper = above as u64;
+            store_step(
+                table,
+                &mut pass.seat,
+                at,
+                upper,
+                &Operation::Fold(Front::Last),
+            );
             if below == NULL {
                 return (pass, index);
             }
@@ -213,14 +148,9 @@ impl<T> Stack<T> {
         requires full { (x : T) × (by.old.seat.me.1 ≡ (index, Some x) ∷ rest by.old.seat.me.1) }
         ensures table { by.new.seat.table_id ≡ by.old.seat.table_id }
         ensures value { by.old.seat.me.1 ≡ (index, Some result) ∷ rest by.old.seat.me.1 }
-        ensures out { by.new.seat.me
-            ≡ (by.old.seat.me.0, rest by.old.seat.me.1 ++ (index, None) ∷ []) }
+        ensures out { by.new.seat.me ≡ (by.old.seat.me.0, rest by.old.seat.me.1 ++ (index, None) ∷ []) }
     {
-        let value = move_out::<T, View<T, Line<T>>, Limits, Stacked<T>>(
-            &self.table.shared,
-            &mut by.seat,
-            index,
-        );
+        let value = move_out(&self.table.shared, &mut by.seat, index);
         by.seat.turn();
         value
     }
@@ -242,10 +172,13 @@ impl<T> Stack<T> {
         let mut pass = by;
         let mut folded = state;
         let mut index = first;
+        let table = &self.table.shared;
         for before in 0..self.limits.capacity() {
             let value = self.take_out(&mut pass, index);
             folded = f(folded, value);
-            let next = self.load_next(&mut pass, TOP, index, &Operation::Underway);
+            let at = link(index);
+            let found = load_step(table, &mut pass.seat, at, &Operation::Fold(front));
+            let next = found as u32;
             if next == NULL {
                 return Walked {
                     pass,
@@ -255,30 +188,6 @@ impl<T> Stack<T> {
                 };
             }
             index = next;
-        }
-        unreachable!()
-    }
-
-    // Gives the chain in hand to the free list.
-    pub(crate) fn give_back<R: Wait>(
-        &self,
-        rt: &R,
-        by: Pass<T>,
-        chain: Chain,
-        operation: &Operation<T>,
-    ) -> Pass<T>
-        requires { IsGiving self.now operation.now by chain }
-        ensures { GaveBack self.now operation.now by chain result }
-    {
-        let mut pass = by;
-        let mut pause = Pause::new();
-        for _ in rt.forever() {
-            let free = self.load(&mut pass, FREE, operation);
-            self.link_to(&mut pass, FREE, chain.last, free.index(), operation);
-            if self.give_nodes(&mut pass, free, chain.first, operation) {
-                return pass;
-            }
-            pause.wait();
         }
         unreachable!()
     }

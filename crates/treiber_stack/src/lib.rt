@@ -5,28 +5,25 @@
 //! rule of `stack_machine`. Each step of an operation is one line of that machine, from a memory
 //! and a history that meet the rule; the events that it adds and its answer are that line's. So what
 //! a pass has seen is always a legal history of one sequential stack, which only grows, and a
-//! refusal was right at some time between the pass's last step before the call and the answer.
+//! refusal was right at some time of its call.
 //!
 //! Passes are split off a root, meet and are joined again. An operation is begun and then made step
 //! by step, or by a whole call, which retries while others interfere.
 #![tactic(auto)]
 
-mod bulk;
 mod closing;
 mod container;
+mod ending;
 mod folding;
-mod host;
-mod layout;
+mod giving;
 mod making;
-mod operation;
-mod pause;
+mod nodes;
 mod places;
 mod putting;
-mod ranging;
+mod refusing;
 mod rest;
 mod rule;
 mod stack;
-mod steps;
 mod stepwise;
 mod taking;
 
@@ -34,6 +31,7 @@ pub use closing::{CloseOp, ShutOp};
 pub use places::stack_places;
 pub use putting::PutOp;
 pub use rest::Rest;
+pub use rule::Stacked;
 pub use stack::{Pass, Root, Stack};
 pub use stepwise::LookOp;
 pub use taking::TakeOp;

@@ -4,20 +4,14 @@ ghost use Rattle.tagged_index.specs.Limits.{capacity_of, tag_limit_of};
 ghost use Rattle.tagged_index.specs.declared.word.TheConstants.{NULL};
 ghost use Rattle.bounded_model.specs.Laws.{fresh};
 ghost use Rattle.stack_machine.specs.Answers.{shape};
-ghost use Rattle.machine.specs.Seats.{Looks};
-ghost use Rattle.treiber_stack.specs.Layout.{words_for, start_at};
+ghost use Rattle.stack_table.specs.Layout.{words_for, start_at};
 ghost use Rattle.treiber_stack.specs.Stack.{shape_of, IsRootOf, root_in};
 
-use crate::layout::{self, TOP};
-use crate::rule::Stacked;
 use crate::stack::{Root, Stack};
-use atomic_table::{Seat, Table};
+use atomic_table::Table;
 use bounded_model::MakeRefused;
-use index_list::load_as;
-use machine::View;
-use stack_machine::Line;
+use stack_table::layout;
 use std::alloc::{AllocError, Global};
-use std::marker::Brand;
 use tagged_index::Limits;
 
 // The words of a new stack.
@@ -44,22 +38,5 @@ impl<T> Stack<T> {
         let count = limits.capacity() as usize;
         let (table, seat) = Table::vacant(alloc, words.as_slice(), count, &limits)?;
         Ok((Stack { table, limits }, Root { seat, out: 0 }))
-    }
-
-    // A load that belongs to no operation: the seat has then seen all that has happened.
-    #[inline]
-    pub(crate) fn look_round(&self, seat: &mut Seat<Option<T>, View<T, Line<T>>>)
-        requires { seat.old.table_id ≡ self.now.table.shared.table_id }
-        ensures seat { (seat.new.table_id ≡ seat.old.table_id) × (seat.new.id ≡ seat.old.id)
-            × (seat.new.me.1 ≡ seat.old.me.1) }
-        ensures looks { Looks (shape_of self.now) seat.old.me.0 seat.new.me.0 }
-    {
-        load_as::<Option<T>, View<T, Line<T>>, Limits, Stacked<T>, (), (), Brand>(
-            &self.table.shared,
-            seat,
-            layout::top(TOP),
-            (),
-            &(),
-        );
     }
 }

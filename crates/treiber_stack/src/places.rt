@@ -2,9 +2,12 @@
 ghost use Rattle.std.specs.Prelude.{ℕ, map, Option as Slot};
 ghost use Rattle.atomic_table.specs.Table.{State};
 ghost use Rattle.machine.specs.declared.seats.View.{View};
+ghost use Rattle.running.specs.Rule.{Rule, line_in};
 ghost use Rattle.stack_machine.specs.declared.lines.Line.{Line};
 ghost use Rattle.stack_machine.specs.Places.{NoNodeTwice};
-ghost use Rattle.treiber_stack.specs.Rule.{Rule, memory_of, line_in};
+ghost use Rattle.stack_table.specs.Lines.{names};
+ghost use Rattle.stack_table.specs.Memories.{memory_of};
+ghost use Rattle.stack_table.proofs.Laws.{stack};
 
 /// In any table that meets the rule of a stack of `n` nodes, as each stack's does between any two
 /// atomic steps of any threads, no node is in two places: each is free, on the stack, or in the hand
@@ -12,6 +15,6 @@ ghost use Rattle.treiber_stack.specs.Rule.{Rule, memory_of, line_in};
 /// `IsLine`, which the contract of each step has.
 pub fn stack_places<T>()
     ensures { (n limit : ℕ) (s : State (Slot T) (View T (Line T))) →
-        Rule n limit s →
-        NoNodeTwice n (memory_of s.words s.homes) (map line_in s.views) }
+        Rule (stack T n limit) s →
+        NoNodeTwice n (memory_of s.words s.homes) (map (line_in names) s.views) }
 {}

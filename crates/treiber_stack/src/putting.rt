@@ -1,31 +1,38 @@
-//! Putting one value, by steps. Only the first step names its operation: the later ones no longer have
-//! the value at hand.
-ghost use Rattle.std.specs.Prelude.{◌≡◌, [], ◌∷◌, Some, None};
-ghost use Rattle.treiber_stack.specs.Operations.{begun_in};
-ghost use Rattle.treiber_stack.specs.Putting.{IsPutting, IsPuttingAt, PutStep, PutRun};
-ghost use Rattle.treiber_stack.specs.Stack.{IsPassOf, pass_in};
-ghost use Rattle.treiber_stack.specs.declared.putting.PutAt.TheVariants.{LoadFree, Link, Hold, Load, LinkTo, Exchange, Refuse, LoadBack, LinkBack, GiveBack};
+//! Putting one value: by steps, and by a whole call. While the put has a node, the value is in the
+//! node's slot; the name of its operation shows it to proofs.
+ghost use Rattle.std.specs.Prelude.{◌≡◌, ◌<◌, [], ◌∷◌, None};
+ghost use Rattle.bounded_model.specs.Laws.{PutGives};
+ghost use Rattle.stack_machine.specs.declared.lines.Call.TheVariants.{Put as CallPut};
+ghost use Rattle.stack_machine.specs.declared.lines.Line.TheVariants.{LoadTop};
+ghost use Rattle.stack_table.specs.Lines.{call_of};
+ghost use Rattle.treiber_stack.specs.Stack.{IsPassOf, IsAt, room_of, shape_of, pass_in, begun_of};
+ghost use Rattle.treiber_stack.specs.Putting.{IsPutting, IsPuttingAt, PutStep, bearing, wanting};
+ghost use Rattle.treiber_stack.specs.Nodes.{Stops};
+ghost use Rattle.bounded_model.specs.declared.views.PassView.{PassView};
+ghost use Rattle.treiber_stack.specs.declared.putting.PutAt.TheVariants.{LoadFree, Link, Hold, Load, LinkTo, Exchange, Refuse, GiveBack};
 
-use crate::layout::{FREE, TOP};
-use crate::operation::Operation;
-use crate::rule::Stacked;
+use crate::giving::{Chain, Gave, Give};
+use crate::nodes::NoNode;
 use crate::stack::{Pass, Stack};
 use bounded_model::{PutRefused, Stepped, Word};
 use index_list::{move_out, put_in};
-use machine::View;
-use stack_machine::Line;
+use running::{give_step, load_step, load_tagged_step, raised, store_step, take_step};
+use stack_table::layout::{FREE, TOP, link};
+use stack_table::{Listed, Operation};
 use std::snapshot::Snapshot;
-use tagged_index::{Limits, NULL, Tagged};
+use std::sync::Wait;
+use tagged_index::{NULL, Tagged};
 
 /// A put that was begun.
 #[derive(Drop)]
 pub struct PutOp<T> {
     pub(crate) pass: Pass<T>,
+    /// It shows proofs the value that is put.
+    pub(crate) operation: Operation<T>,
     pub(crate) at: PutAt<T>,
 }
 
-/// The next step of a put, with what it has read and holds. While the put has a node, the value
-/// is in the node's slot.
+/// The next step of a put, with what it has read and holds.
 #[derive(Drop)]
 pub(crate) enum PutAt<T> {
     /// Load `FREE`.
@@ -42,54 +49,40 @@ pub(crate) enum PutAt<T> {
     Exchange(u32, Tagged),
     /// No node is free: load `TOP`, to say why nothing can be put.
     Refuse(T),
-    /// Load `FREE`.
-    LoadBack(Refusal<T>),
-    /// Link the node to the free one.
-    LinkBack(Refusal<T>, Tagged),
-    /// Exchange `FREE` for the node.
-    GiveBack(Refusal<T>, Tagged),
+    /// Give the node back.
+    GiveBack(PutRefused<T>, u32, Give),
 }
 
-/// Why a put that has a node is refused, and the node, which is to be given back. Its slot is
-/// empty again.
-#[derive(Drop)]
-pub(crate) struct Refusal<T> {
-    pub(crate) why: PutRefused<T>,
-    pub(crate) index: u32,
-}
+type Step<T> = Stepped<PutOp<T>, Pass<T>, Result<u64, PutRefused<T>>>;
 
 impl<T> Stack<T> {
     /// A put that makes no step yet.
     #[inline]
     pub fn begin_put(&self, by: Pass<T>, value: T) -> PutOp<T>
         requires { IsPassOf self.now by }
-        ensures put { IsPutting self.now value result }
-        ensures begun { begun_in result.pass ≡ pass_in by }
-        ensures now { pass_in result.pass ≡ pass_in by }
+        ensures { IsPutting self.now value result
+            × (begun_of self.now result.pass ≡ pass_in by) × (pass_in result.pass ≡ pass_in by) }
     {
+        let operation = Operation::Put(Snapshot::of(&value), Listed::End);
         PutOp {
             pass: by,
+            operation,
             at: PutAt::LoadFree(value),
         }
     }
 
-    // The only step that may be an operation's first, which has to say what is put.
+    // The free node, or why none can be had.
     #[inline]
-    fn put_load_free(
-        &self,
-        by: Pass<T>,
-        value: T,
-    ) -> Stepped<PutOp<T>, Pass<T>, Result<u64, PutRefused<T>>>
-        requires { (x : T) × IsPuttingAt self.now x by (LoadFree value) }
-        ensures { (x : T) → IsPuttingAt self.now x by (LoadFree value)
-            → PutStep self.now x by (LoadFree value) result }
+    fn put_load_free(&self, by: Pass<T>, operation: Operation<T>, value: T) -> Step<T>
+        requires { (x : T) × IsPuttingAt self.now x operation by (LoadFree value) }
+        ensures { (x : T) → IsPuttingAt self.now x operation by (LoadFree value) → PutStep self.now x operation by (LoadFree value) result }
     {
         let mut pass = by;
-        let operation = Operation::Put(Snapshot::of(&value));
-        let free = self.load(&mut pass, FREE, &operation);
+        let free = load_tagged_step(&self.table.shared, &mut pass.seat, FREE, &operation);
         if free.index() == NULL {
             return Stepped::Again(PutOp {
                 pass,
+                operation,
                 at: PutAt::Refuse(value),
             });
         }
@@ -99,26 +92,24 @@ impl<T> Stack<T> {
         }
         Stepped::Again(PutOp {
             pass,
+            operation,
             at: PutAt::Link(value, free),
         })
     }
 
     #[inline]
-    fn put_link(
-        &self,
-        by: Pass<T>,
-        value: T,
-        free: Tagged,
-    ) -> Stepped<PutOp<T>, Pass<T>, Result<u64, PutRefused<T>>>
-        requires { (x : T) × IsPuttingAt self.now x by (Link value free) }
-        ensures { (x : T) → IsPuttingAt self.now x by (Link value free)
-            → PutStep self.now x by (Link value free) result }
+    fn put_link(&self, by: Pass<T>, operation: Operation<T>, value: T, free: Tagged) -> Step<T>
+        requires { (x : T) × IsPuttingAt self.now x operation by (Link value free) }
+        ensures { (x : T) → IsPuttingAt self.now x operation by (Link value free) → PutStep self.now x operation by (Link value free) result }
     {
         let mut pass = by;
-        let next = self.load_next(&mut pass, FREE, free.index(), &Operation::Underway);
+        let at = link(free.index());
+        let found = load_step(&self.table.shared, &mut pass.seat, at, &operation);
+        let below = found as u32;
         Stepped::Again(PutOp {
             pass,
-            at: PutAt::Hold(value, free, next),
+            operation,
+            at: PutAt::Hold(value, free, below),
         })
     }
 
@@ -127,322 +118,208 @@ impl<T> Stack<T> {
     fn put_hold(
         &self,
         by: Pass<T>,
+        operation: Operation<T>,
         value: T,
         free: Tagged,
-        next: u32,
-    ) -> Stepped<PutOp<T>, Pass<T>, Result<u64, PutRefused<T>>>
-        requires { (x : T) × IsPuttingAt self.now x by (Hold value free next) }
-        ensures { (x : T) → IsPuttingAt self.now x by (Hold value free next)
-            → PutStep self.now x by (Hold value free next) result }
+        below: u32,
+    ) -> Step<T>
+        requires { (x : T) × IsPuttingAt self.now x operation by (Hold value free below) }
+        ensures { (x : T) → IsPuttingAt self.now x operation by (Hold value free below) → PutStep self.now x operation by (Hold value free below) result }
     {
         let mut pass = by;
-        if self.take_node(&mut pass, FREE, free, next, &Operation::Underway) {
+        let new = raised(free, below);
+        let table = &self.table.shared;
+        if take_step(table, &mut pass.seat, FREE, free, new, &operation) {
             let index = free.index();
-            put_in::<T, View<T, Line<T>>, Limits, Stacked<T>>(
-                &self.table.shared,
-                &mut pass.seat,
-                index,
-                value,
-            );
+            put_in(table, &mut pass.seat, index, value);
             return Stepped::Again(PutOp {
                 pass,
+                operation,
                 at: PutAt::Load(index),
             });
         }
         Stepped::Again(PutOp {
             pass,
+            operation,
             at: PutAt::LoadFree(value),
         })
     }
 
-    // Moves the value out of the slot of the one node in hand.
-    #[inline]
-    fn value_back(&self, by: &mut Pass<T>, index: u32) -> T
-        requires table { by.old.seat.table_id ≡ self.now.table.shared.table_id }
-        requires full { (x : T) × (by.old.seat.me.1 ≡ (index, Some x) ∷ []) }
-        ensures table { by.new.seat.table_id ≡ by.old.seat.table_id }
-        ensures value { by.old.seat.me.1 ≡ (index, Some result) ∷ [] }
-        ensures out { by.new.seat.me ≡ (by.old.seat.me.0, (index, None) ∷ []) }
-    {
-        move_out::<T, View<T, Line<T>>, Limits, Stacked<T>>(&self.table.shared, &mut by.seat, index)
-    }
-
     // The top to put onto, or why nothing can be put: then the value moves out of the slot.
     #[inline]
-    fn put_load(
-        &self,
-        by: Pass<T>,
-        index: u32,
-    ) -> Stepped<PutOp<T>, Pass<T>, Result<u64, PutRefused<T>>>
-        requires { (x : T) × IsPuttingAt self.now x by (Load index) }
-        ensures { (x : T) → IsPuttingAt self.now x by (Load index)
-            → PutStep self.now x by (Load index) result }
+    fn put_load(&self, by: Pass<T>, operation: Operation<T>, index: u32) -> Step<T>
+        requires { (x : T) × IsPuttingAt self.now x operation by (Load index) }
+        ensures { (x : T) → IsPuttingAt self.now x operation by (Load index) → PutStep self.now x operation by (Load index) result }
     {
         let mut pass = by;
-        let top = self.load(&mut pass, TOP, &Operation::Underway);
-        if top.is_marked() {
-            let value = self.value_back(&mut pass, index);
-            let why = PutRefused::Closed(value);
-            return Stepped::Again(PutOp {
+        let table = &self.table.shared;
+        let top = load_tagged_step(table, &mut pass.seat, TOP, &operation);
+        match self.bars_put(top) {
+            Some(why) => {
+                let value = move_out(table, &mut pass.seat, index);
+                let why = why.of_put(value);
+                Stepped::Again(PutOp {
+                    pass,
+                    operation,
+                    at: PutAt::GiveBack(why, index, Give::Load),
+                })
+            }
+            None => Stepped::Again(PutOp {
                 pass,
-                at: PutAt::LoadBack(Refusal { why, index }),
-            });
+                operation,
+                at: PutAt::LinkTo(index, top),
+            }),
         }
-        if top.tag() >= self.limits.tag_limit() {
-            let value = self.value_back(&mut pass, index);
-            let why = PutRefused::Spent(value, Word::Top, top.tag());
-            return Stepped::Again(PutOp {
-                pass,
-                at: PutAt::LoadBack(Refusal { why, index }),
-            });
-        }
-        Stepped::Again(PutOp {
-            pass,
-            at: PutAt::LinkTo(index, top),
-        })
     }
 
     #[inline]
-    fn put_link_to(
-        &self,
-        by: Pass<T>,
-        index: u32,
-        top: Tagged,
-    ) -> Stepped<PutOp<T>, Pass<T>, Result<u64, PutRefused<T>>>
-        requires { (x : T) × IsPuttingAt self.now x by (LinkTo index top) }
-        ensures { (x : T) → IsPuttingAt self.now x by (LinkTo index top)
-            → PutStep self.now x by (LinkTo index top) result }
+    fn put_link_to(&self, by: Pass<T>, operation: Operation<T>, index: u32, top: Tagged) -> Step<T>
+        requires { (x : T) × IsPuttingAt self.now x operation by (LinkTo index top) }
+        ensures { (x : T) → IsPuttingAt self.now x operation by (LinkTo index top) → PutStep self.now x operation by (LinkTo index top) result }
     {
         let mut pass = by;
-        self.link_to(&mut pass, TOP, index, top.index(), &Operation::Underway);
+        let first = top.index() as u64;
+        let table = &self.table.shared;
+        store_step(table, &mut pass.seat, link(index), first, &operation);
         Stepped::Again(PutOp {
             pass,
+            operation,
             at: PutAt::Exchange(index, top),
         })
     }
 
     // The put has its effect here.
     #[inline]
-    fn put_exchange(
-        &self,
-        by: Pass<T>,
-        index: u32,
-        top: Tagged,
-    ) -> Stepped<PutOp<T>, Pass<T>, Result<u64, PutRefused<T>>>
-        requires { (x : T) × IsPuttingAt self.now x by (Exchange index top) }
-        ensures { (x : T) → IsPuttingAt self.now x by (Exchange index top)
-            → PutStep self.now x by (Exchange index top) result }
+    fn put_exchange(&self, by: Pass<T>, operation: Operation<T>, index: u32, top: Tagged) -> Step<T>
+        requires { (x : T) × IsPuttingAt self.now x operation by (Exchange index top) }
+        ensures { (x : T) → IsPuttingAt self.now x operation by (Exchange index top) → PutStep self.now x operation by (Exchange index top) result }
     {
         let mut pass = by;
-        if self.put_node(&mut pass, top, index, &Operation::Underway) {
+        let new = raised(top, index);
+        let table = &self.table.shared;
+        if give_step(table, &mut pass.seat, TOP, top, new, &operation) {
             return Stepped::Done(pass, Ok(top.tag()));
         }
         Stepped::Again(PutOp {
             pass,
+            operation,
             at: PutAt::Load(index),
         })
     }
 
     // No node was free: the top says why nothing can be put.
     #[inline]
-    fn put_refuse(
-        &self,
-        by: Pass<T>,
-        value: T,
-    ) -> Stepped<PutOp<T>, Pass<T>, Result<u64, PutRefused<T>>>
-        requires { (x : T) × IsPuttingAt self.now x by (Refuse value) }
-        ensures { (x : T) → IsPuttingAt self.now x by (Refuse value)
-            → PutStep self.now x by (Refuse value) result }
+    fn put_refuse(&self, by: Pass<T>, operation: Operation<T>, value: T) -> Step<T>
+        requires { (x : T) × IsPuttingAt self.now x operation by (Refuse value) }
+        ensures { (x : T) → IsPuttingAt self.now x operation by (Refuse value) → PutStep self.now x operation by (Refuse value) result }
     {
         let mut pass = by;
-        let top = self.load(&mut pass, TOP, &Operation::Underway);
-        if top.is_marked() {
-            return Stepped::Done(pass, Err(PutRefused::Closed(value)));
+        let top = load_tagged_step(&self.table.shared, &mut pass.seat, TOP, &operation);
+        match self.bars_put(top) {
+            Some(why) => Stepped::Done(pass, Err(why.of_put(value))),
+            None => Stepped::Done(pass, Err(PutRefused::Full(value))),
         }
-        if top.tag() >= self.limits.tag_limit() {
-            let why = PutRefused::Spent(value, Word::Top, top.tag());
-            return Stepped::Done(pass, Err(why));
-        }
-        Stepped::Done(pass, Err(PutRefused::Full(value)))
-    }
-
-    #[inline]
-    fn put_load_back(
-        &self,
-        by: Pass<T>,
-        refusal: Refusal<T>,
-    ) -> Stepped<PutOp<T>, Pass<T>, Result<u64, PutRefused<T>>>
-        requires { (x : T) × IsPuttingAt self.now x by (LoadBack refusal) }
-        ensures { (x : T) → IsPuttingAt self.now x by (LoadBack refusal)
-            → PutStep self.now x by (LoadBack refusal) result }
-    {
-        let mut pass = by;
-        let free = self.load(&mut pass, FREE, &Operation::Underway);
-        Stepped::Again(PutOp {
-            pass,
-            at: PutAt::LinkBack(refusal, free),
-        })
-    }
-
-    #[inline]
-    fn put_link_back(
-        &self,
-        by: Pass<T>,
-        refusal: Refusal<T>,
-        free: Tagged,
-    ) -> Stepped<PutOp<T>, Pass<T>, Result<u64, PutRefused<T>>>
-        requires { (x : T) × IsPuttingAt self.now x by (LinkBack refusal free) }
-        ensures { (x : T) → IsPuttingAt self.now x by (LinkBack refusal free)
-            → PutStep self.now x by (LinkBack refusal free) result }
-    {
-        let mut pass = by;
-        self.link_to(
-            &mut pass,
-            FREE,
-            refusal.index,
-            free.index(),
-            &Operation::Underway,
-        );
-        Stepped::Again(PutOp {
-            pass,
-            at: PutAt::GiveBack(refusal, free),
-        })
     }
 
     #[inline]
     fn put_give_back(
         &self,
         by: Pass<T>,
-        refusal: Refusal<T>,
-        free: Tagged,
-    ) -> Stepped<PutOp<T>, Pass<T>, Result<u64, PutRefused<T>>>
-        requires { (x : T) × IsPuttingAt self.now x by (GiveBack refusal free) }
-        ensures { (x : T) → IsPuttingAt self.now x by (GiveBack refusal free)
-            → PutStep self.now x by (GiveBack refusal free) result }
+        operation: Operation<T>,
+        why: PutRefused<T>,
+        index: u32,
+        at: Give,
+    ) -> Step<T>
+        requires { (x : T) × IsPuttingAt self.now x operation by (GiveBack why index at) }
+        ensures { (x : T) → IsPuttingAt self.now x operation by (GiveBack why index at) → PutStep self.now x operation by (GiveBack why index at) result }
     {
         let mut pass = by;
-        if self.give_node(&mut pass, free, refusal.index, &Operation::Underway) {
-            let Refusal { why, index: _ } = refusal;
-            return Stepped::Done(pass, Err(why));
+        match self.give(&mut pass, Chain::of(index), at, &operation) {
+            Gave::On(at) => Stepped::Again(PutOp {
+                pass,
+                operation,
+                at: PutAt::GiveBack(why, index, at),
+            }),
+            Gave::All => Stepped::Done(pass, Err(why)),
         }
-        Stepped::Again(PutOp {
-            pass,
-            at: PutAt::LoadBack(refusal),
-        })
     }
 
-    // The steps of a put from its start, until it answers, is refused or loses an exchange.
-    #[inline(always)]
-    fn put_run(
+    // Puts the value into this node, which goes onto the top.
+    #[inline]
+    fn put_in_node<R: Wait>(
+        &self,
+        rt: &R,
+        by: Pass<T>,
+        index: u32,
+        value: T,
+        operation: &Operation<T>,
+    ) -> (Pass<T>, Result<u64, PutRefused<T>>)
+        requires of { call_of operation.now ≡ CallPut value [] }
+        requires at { IsAt self.now operation.now by (LoadTop (bearing value index)) ((index, None) ∷ []) × (index < room_of self.now) }
+        ensures { IsPassOf self.now result.0
+            × PutGives (shape_of self.now) (begun_of self.now by) value (pass_in result.0) result.1 }
+    {
+        let mut pass = by;
+        let table = &self.table.shared;
+        put_in(table, &mut pass.seat, index, value);
+        let chain = Chain::of(index);
+        let (pass, placed) = self.place(rt, pass, chain, operation);
+        match placed {
+            Ok(number) => (pass, Ok(number)),
+            Err(why) => {
+                let mut pass = pass;
+                let value = move_out(table, &mut pass.seat, index);
+                let pass = self.give_back(rt, pass, chain, operation);
+                (pass, Err(why.of_put(value)))
+            }
+        }
+    }
+
+    /// Puts a value by a whole call.
+    #[inline]
+    pub(crate) fn put_one<R: Wait>(
+        &self,
+        rt: &R,
+        by: Pass<T>,
+        value: T,
+    ) -> (Pass<T>, Result<u64, PutRefused<T>>)
+        requires { IsPassOf self.now by }
+        ensures { IsPassOf self.now result.0
+            × PutGives (shape_of self.now) (pass_in by) value (pass_in result.0) result.1 }
+    {
+        let operation = Operation::Put(Snapshot::of(&value), Listed::End);
+        let (pass, node) = self.take_free(rt, by, &operation);
+        match node {
+            Ok(index) => self.put_in_node(rt, pass, index, value, &operation),
+            Err(why) => self.put_without(pass, value, why, &operation),
+        }
+    }
+
+    // Why a put is refused that found no node.
+    #[inline]
+    fn put_without(
         &self,
         by: Pass<T>,
         value: T,
-    ) -> Stepped<PutOp<T>, Pass<T>, Result<u64, PutRefused<T>>>
-        requires { (x : T) × IsPuttingAt self.now x by (LoadFree value) }
-        ensures { (x : T) → IsPuttingAt self.now x by (LoadFree value)
-            → PutRun self.now x (begun_in by) result }
+        why: NoNode,
+        operation: &Operation<T>,
+    ) -> (Pass<T>, Result<u64, PutRefused<T>>)
+        requires of { call_of operation.now ≡ CallPut value [] }
+        requires stops { (begun : PassView T) × Stops self.now operation.now begun by [] (wanting value) why }
+        ensures { (begun : PassView T) → Stops self.now operation.now begun by [] (wanting value) why → IsPassOf self.now result.0
+            × PutGives (shape_of self.now) begun value (pass_in result.0) result.1 }
     {
-        match self.put_load_free(by, value) {
-            Stepped::Done(pass, answer) => Stepped::Done(pass, answer),
-            Stepped::Again(PutOp { pass, at }) => match at {
-                PutAt::Link(value, free) => self.put_run_link(pass, value, free),
-                at => Stepped::Again(PutOp { pass, at }),
-            },
+        let mut pass = by;
+        match why {
+            NoNode::Spent(tag) => (pass, Err(PutRefused::Spent(value, Word::Free, tag))),
+            NoNode::NoneFree => {
+                let top = load_tagged_step(&self.table.shared, &mut pass.seat, TOP, operation);
+                match self.bars_put(top) {
+                    Some(why) => (pass, Err(why.of_put(value))),
+                    None => (pass, Err(PutRefused::Full(value))),
+                }
+            }
         }
-    }
-
-    #[inline]
-    fn put_run_link(
-        &self,
-        by: Pass<T>,
-        value: T,
-        free: Tagged,
-    ) -> Stepped<PutOp<T>, Pass<T>, Result<u64, PutRefused<T>>>
-        requires { (x : T) × IsPuttingAt self.now x by (Link value free) }
-        ensures { (x : T) → IsPuttingAt self.now x by (Link value free)
-            → PutRun self.now x (begun_in by) result }
-    {
-        match self.put_link(by, value, free) {
-            Stepped::Done(pass, answer) => Stepped::Done(pass, answer),
-            Stepped::Again(PutOp { pass, at }) => match at {
-                PutAt::Hold(value, free, next) => self.put_run_hold(pass, value, free, next),
-                at => Stepped::Again(PutOp { pass, at }),
-            },
-        }
-    }
-
-    #[inline]
-    fn put_run_hold(
-        &self,
-        by: Pass<T>,
-        value: T,
-        free: Tagged,
-        next: u32,
-    ) -> Stepped<PutOp<T>, Pass<T>, Result<u64, PutRefused<T>>>
-        requires { (x : T) × IsPuttingAt self.now x by (Hold value free next) }
-        ensures { (x : T) → IsPuttingAt self.now x by (Hold value free next)
-            → PutRun self.now x (begun_in by) result }
-    {
-        match self.put_hold(by, value, free, next) {
-            Stepped::Done(pass, answer) => Stepped::Done(pass, answer),
-            Stepped::Again(PutOp { pass, at }) => match at {
-                PutAt::Load(index) => self.put_run_load(pass, index),
-                at => Stepped::Again(PutOp { pass, at }),
-            },
-        }
-    }
-
-    #[inline]
-    fn put_run_load(
-        &self,
-        by: Pass<T>,
-        index: u32,
-    ) -> Stepped<PutOp<T>, Pass<T>, Result<u64, PutRefused<T>>>
-        requires { (x : T) × IsPuttingAt self.now x by (Load index) }
-        ensures { (x : T) → IsPuttingAt self.now x by (Load index)
-            → PutRun self.now x (begun_in by) result }
-    {
-        match self.put_load(by, index) {
-            Stepped::Done(pass, answer) => Stepped::Done(pass, answer),
-            Stepped::Again(PutOp { pass, at }) => match at {
-                PutAt::LinkTo(index, top) => self.put_run_link_to(pass, index, top),
-                at => Stepped::Again(PutOp { pass, at }),
-            },
-        }
-    }
-
-    #[inline]
-    fn put_run_link_to(
-        &self,
-        by: Pass<T>,
-        index: u32,
-        top: Tagged,
-    ) -> Stepped<PutOp<T>, Pass<T>, Result<u64, PutRefused<T>>>
-        requires { (x : T) × IsPuttingAt self.now x by (LinkTo index top) }
-        ensures { (x : T) → IsPuttingAt self.now x by (LinkTo index top)
-            → PutRun self.now x (begun_in by) result }
-    {
-        match self.put_link_to(by, index, top) {
-            Stepped::Done(pass, answer) => Stepped::Done(pass, answer),
-            Stepped::Again(PutOp { pass, at }) => match at {
-                PutAt::Exchange(index, top) => self.put_run_exchange(pass, index, top),
-                at => Stepped::Again(PutOp { pass, at }),
-            },
-        }
-    }
-
-    #[inline]
-    fn put_run_exchange(
-        &self,
-        by: Pass<T>,
-        index: u32,
-        top: Tagged,
-    ) -> Stepped<PutOp<T>, Pass<T>, Result<u64, PutRefused<T>>>
-        requires { (x : T) × IsPuttingAt self.now x by (Exchange index top) }
-        ensures { (x : T) → IsPuttingAt self.now x by (Exchange index top)
-            → PutRun self.now x (begun_in by) result }
-    {
-        self.put_exchange(by, index, top)
     }
 }
 
@@ -454,45 +331,24 @@ impl<T> PutOp<T> {
     #[inline]
     pub fn step(self, stack: &Stack<T>) -> Stepped<PutOp<T>, Pass<T>, Result<u64, PutRefused<T>>>
         requires { (x : T) × IsPutting stack.now x self }
-        ensures { (x : T) → IsPutting stack.now x self
-            → PutStep stack.now x self.pass self.at result }
+        ensures { (x : T) → IsPutting stack.now x self → PutStep stack.now x self.operation self.pass self.at result }
     {
-        let PutOp { pass, at } = self;
+        let PutOp {
+            pass,
+            operation,
+            at,
+        } = self;
         match at {
-            PutAt::LoadFree(value) => stack.put_load_free(pass, value),
-            PutAt::Link(value, free) => stack.put_link(pass, value, free),
-            PutAt::Hold(value, free, next) => stack.put_hold(pass, value, free, next),
-            PutAt::Load(index) => stack.put_load(pass, index),
-            PutAt::LinkTo(index, top) => stack.put_link_to(pass, index, top),
-            PutAt::Exchange(index, top) => stack.put_exchange(pass, index, top),
-            PutAt::Refuse(value) => stack.put_refuse(pass, value),
-            PutAt::LoadBack(refusal) => stack.put_load_back(pass, refusal),
-            PutAt::LinkBack(refusal, free) => stack.put_link_back(pass, refusal, free),
-            PutAt::GiveBack(refusal, free) => stack.put_give_back(pass, refusal, free),
-        }
-    }
-
-    /// Whether it is to try an exchange once more.
-    #[inline]
-    pub(crate) fn is_retry(&self) -> bool {
-        matches!(&self.at, PutAt::LoadFree(_) | PutAt::Load(_))
-    }
-
-    /// Makes steps until the put answers, is refused or loses an exchange.
-    #[inline(always)]
-    pub(crate) fn run(
-        self,
-        stack: &Stack<T>,
-    ) -> Stepped<PutOp<T>, Pass<T>, Result<u64, PutRefused<T>>>
-        requires { (x : T) × IsPutting stack.now x self }
-        ensures { (x : T) → IsPutting stack.now x self
-            → PutRun stack.now x (begun_in self.pass) result }
-    {
-        let PutOp { pass, at } = self;
-        match at {
-            PutAt::LoadFree(value) => stack.put_run(pass, value),
-            PutAt::Load(index) => stack.put_run_load(pass, index),
-            at => PutOp { pass, at }.step(stack),
+            PutAt::LoadFree(value) => stack.put_load_free(pass, operation, value),
+            PutAt::Link(value, free) => stack.put_link(pass, operation, value, free),
+            PutAt::Hold(value, free, below) => stack.put_hold(pass, operation, value, free, below),
+            PutAt::Load(index) => stack.put_load(pass, operation, index),
+            PutAt::LinkTo(index, top) => stack.put_link_to(pass, operation, index, top),
+            PutAt::Exchange(index, top) => stack.put_exchange(pass, operation, index, top),
+            PutAt::Refuse(value) => stack.put_refuse(pass, operation, value),
+            PutAt::GiveBack(why, index, at) => {
+                stack.put_give_back(pass, operation, why, index, at)
+            }
         }
     }
 }

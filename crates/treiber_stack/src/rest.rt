@@ -3,11 +3,11 @@ ghost use Rattle.std.specs.Prelude.{◌≡◌, ◌<◌, ◌≤◌, slice_index};
 ghost use Rattle.std.specs.Mem.Slots.{slots_items, slots_len, IsFull};
 ghost use Rattle.tagged_index.specs.Fields.{index_of};
 ghost use Rattle.tagged_index.specs.declared.word.TheConstants.{NULL};
-ghost use Rattle.treiber_stack.specs.Layout.{words_for};
+ghost use Rattle.stack_table.specs.Layout.{words_for};
 
-use crate::layout::{self, TOP};
 use atomic_table::Closed;
 use bounded_model::Leaving;
+use stack_table::layout::{TOP, link};
 use std::alloc::Global;
 use tagged_index::Tagged;
 
@@ -31,7 +31,7 @@ fn index_at<T>(closed: &Closed<Option<T>, Global>, at: usize) -> u32
 }
 
 impl<T> Rest<T> {
-    ghost use Rattle.treiber_stack.specs.Layout.{top_at};
+    ghost use Rattle.stack_table.specs.Layout.{top_at};
     ghost use Rattle.treiber_stack.specs.Left.{left_in, left_along};
 
     // What stands in the list under `TOP`.
@@ -39,10 +39,9 @@ impl<T> Rest<T> {
         requires full { IsFull closed.words × IsFull closed.slots }
         requires words { slots_len closed.words ≡ words_for (slots_len closed.slots) }
         requires few { slots_len closed.slots ≤ NULL }
-        ensures { left_in result ≡ left_along (slots_items closed.words) (slots_items closed.slots)
-            (index_of (slice_index (slots_items closed.words) (top_at 1))) }
+        ensures { left_in result ≡ left_along (slots_items closed.words) (slots_items closed.slots) (index_of (slice_index (slots_items closed.words) top_at)) }
     {
-        let index = index_at(&closed, layout::top(TOP));
+        let index = index_at(&closed, TOP);
         Rest { closed, index }
     }
 }
@@ -58,7 +57,7 @@ impl<T> Leaving<T> for Rest<T> {
             return None;
         }
         let value = self.closed.slots.get_mut(at).take()?;
-        self.index = index_at(&self.closed, layout::link(self.index));
+        self.index = index_at(&self.closed, link(self.index));
         Some(value)
     }
 }

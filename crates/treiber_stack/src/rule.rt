@@ -1,46 +1,21 @@
-//! The table's rule, and how seats are cut in two and made one.
-use atomic_table::{Join, Play, Split, TableRule};
-use machine::View;
+//! The stack's machine.
+use machine::seats::View;
+use running::Machine;
 use stack_machine::Line;
+use stack_table::Operation;
 use std::marker::PhantomData;
-use tagged_index::Limits;
 
-pub(crate) type StackView<T> = View<T, Line<T>>;
-
-/// What holds of a stack's table between any two steps.
-pub(crate) struct Stacked<T> {
-    marker: PhantomData<T>,
+/// Treiber's stack as a machine on a table.
+pub struct Stacked {
+    marker: PhantomData<()>,
 }
 
-impl<T> TableRule<Option<T>, View<T, Line<T>>, Limits> for Stacked<T> {
+impl<T> Machine<T, Line<T>, Operation<T>> for Stacked {
     ghost use Rattle.tagged_index.specs.Limits.{capacity_of, tag_limit_of};
-    ghost use Rattle.machine.specs.Seats.{first_view};
-    ghost use Rattle.treiber_stack.specs.Rule.{Rule};
+    ghost use Rattle.stack_table.specs.Lines.{names};
+    ghost use Rattle.stack_table.proofs.Laws.{stack};
 
-    ghost holds = { λ limits. Rule (capacity_of limits) (tag_limit_of limits) };
+    ghost names = { names };
 
-    ghost first = { λ _. first_view };
-}
-
-/// The root gives a pass, or two passes that have met part.
-pub(crate) struct Cuts;
-
-impl<T> Split<View<T, Line<T>>> for Cuts {
-    ghost use Rattle.treiber_stack.specs.Rule.{left_part, right_part};
-
-    ghost left = { left_part };
-
-    ghost right = { right_part };
-}
-
-/// The root takes a pass back, or two passes meet.
-pub(crate) struct Makes;
-
-impl<T> Join<View<T, Line<T>>> for Makes {
-    ghost use Rattle.machine.specs.Seats.{both_of};
-    ghost use Rattle.machine.specs.declared.seats.View.TheVariants.{Left};
-
-    ghost both = { both_of };
-
-    ghost spent = { Left };
+    ghost machine = { λ limits. stack T (capacity_of limits) (tag_limit_of limits) };
 }

@@ -1,9 +1,9 @@
 //! A stack's calls by single steps, as every such container has them.
 ghost use Rattle.bounded_model.specs.Stepping.{no_step};
 ghost use Rattle.treiber_stack.specs.Closing.{IsClosing, IsShutting};
-ghost use Rattle.treiber_stack.specs.Operations.{underway_in};
 ghost use Rattle.treiber_stack.specs.Putting.{IsPutting};
 ghost use Rattle.treiber_stack.specs.Stack.{IsPassOf, pass_in};
+ghost use Rattle.treiber_stack.specs.Stepwise.{underway_in};
 ghost use Rattle.treiber_stack.specs.Taking.{IsTaking};
 
 use crate::closing::{CloseOp, ShutOp};

@@ -1,19 +1,20 @@
-//! Taking one value, by steps.
+//! Taking one value: by steps, and by a whole call.
 ghost use Rattle.std.specs.Prelude.{◌≡◌};
-ghost use Rattle.treiber_stack.specs.Operations.{begun_in};
-ghost use Rattle.treiber_stack.specs.Stack.{IsPassOf, pass_in};
-ghost use Rattle.treiber_stack.specs.Taking.{IsTaking, IsTakingAt, TakeStep, TakeRun};
-ghost use Rattle.treiber_stack.specs.declared.taking.TakeAt.TheVariants.{Load, Link, Exchange, LoadFree, LinkBack, GiveBack};
+ghost use Rattle.bounded_model.specs.Laws.{TakeGives};
+ghost use Rattle.treiber_stack.specs.Stack.{IsPassOf, shape_of, pass_in, begun_of};
+ghost use Rattle.treiber_stack.specs.Taking.{IsTaking, IsTakingAt, TakeStep};
+ghost use Rattle.treiber_stack.specs.declared.taking.TakeAt.TheVariants.{Load, Link, Exchange, GiveBack};
 
-use crate::layout::{FREE, TOP};
-use crate::operation::Operation;
-use crate::rule::Stacked;
+use crate::giving::{Chain, Gave, Give};
+
 use crate::stack::{Pass, Stack};
-use bounded_model::{Stepped, TakeRefused, Word};
+use bounded_model::{Stepped, TakeRefused};
 use index_list::move_out;
-use machine::View;
-use stack_machine::Line;
-use tagged_index::{Limits, NULL, Tagged};
+use running::{Pause, load_step, load_tagged_step, raised, take_step};
+use stack_table::Operation;
+use stack_table::layout::{TOP, link};
+use std::sync::Wait;
+use tagged_index::Tagged;
 
 /// A take that was begun.
 #[derive(Drop)]
@@ -31,12 +32,8 @@ pub(crate) enum TakeAt<T> {
     Link(Tagged),
     /// Exchange `TOP` for the node below it.
     Exchange(Tagged, u32),
-    /// Load `FREE`.
-    LoadFree(Taken<T>),
-    /// Link the node to the free one.
-    LinkBack(Taken<T>, Tagged),
-    /// Exchange `FREE` for the node.
-    GiveBack(Taken<T>, Tagged),
+    /// Give the node back.
+    GiveBack(Taken<T>, Give),
 }
 
 /// A value that was taken, with its number, and its node, which is to be given back.
@@ -47,14 +44,15 @@ pub(crate) struct Taken<T> {
     pub(crate) index: u32,
 }
 
+type Step<T> = Stepped<TakeOp<T>, Pass<T>, Result<(T, u64), TakeRefused>>;
+
 impl<T> Stack<T> {
     /// A take that makes no step yet.
     #[inline]
     pub fn begin_take(&self, by: Pass<T>) -> TakeOp<T>
         requires { IsPassOf self.now by }
-        ensures take { IsTaking self.now result }
-        ensures begun { begun_in result.pass ≡ pass_in by }
-        ensures now { pass_in result.pass ≡ pass_in by }
+        ensures { IsTaking self.now result
+            × (begun_of self.now result.pass ≡ pass_in by) × (pass_in result.pass ≡ pass_in by) }
     {
         TakeOp {
             pass: by,
@@ -64,74 +62,59 @@ impl<T> Stack<T> {
 
     // Why nothing can be taken, or the word whose node may be.
     #[inline]
-    fn take_load(&self, by: Pass<T>) -> Stepped<TakeOp<T>, Pass<T>, Result<(T, u64), TakeRefused>>
+    fn take_load(&self, by: Pass<T>) -> Step<T>
         requires { IsTakingAt self.now by Load }
         ensures { TakeStep self.now by Load result }
     {
         let mut pass = by;
-        let top = self.load(&mut pass, TOP, &Operation::Take);
-        if top.has_second() {
-            return Stepped::Done(pass, Err(TakeRefused::Shut));
+        let top = load_tagged_step(&self.table.shared, &mut pass.seat, TOP, &Operation::Take);
+        match self.bars_take(top) {
+            Some(why) => Stepped::Done(pass, Err(why)),
+            None => Stepped::Again(TakeOp {
+                pass,
+                at: TakeAt::Link(top),
+            }),
         }
-        if top.index() == NULL {
-            if top.is_marked() {
-                return Stepped::Done(pass, Err(TakeRefused::Closed));
-            }
-            return Stepped::Done(pass, Err(TakeRefused::Empty));
-        }
-        if top.tag() >= self.limits.tag_limit() {
-            return Stepped::Done(pass, Err(TakeRefused::Spent(Word::Top, top.tag())));
-        }
-        Stepped::Again(TakeOp {
-            pass,
-            at: TakeAt::Link(top),
-        })
     }
 
     #[inline]
-    fn take_link(
-        &self,
-        by: Pass<T>,
-        top: Tagged,
-    ) -> Stepped<TakeOp<T>, Pass<T>, Result<(T, u64), TakeRefused>>
+    fn take_link(&self, by: Pass<T>, top: Tagged) -> Step<T>
         requires { IsTakingAt self.now by (Link top) }
         ensures { TakeStep self.now by (Link top) result }
     {
         let mut pass = by;
-        let next = self.load_next(&mut pass, TOP, top.index(), &Operation::Take);
+        let at = link(top.index());
+        let found = load_step(&self.table.shared, &mut pass.seat, at, &Operation::Take);
+        let below = found as u32;
         Stepped::Again(TakeOp {
             pass,
-            at: TakeAt::Exchange(top, next),
+            at: TakeAt::Exchange(top, below),
         })
     }
 
-    // The take has its effect here; the value moves out with it.
+    // The take has its effect here; the value moves out with the node's slot.
     #[inline]
-    fn take_exchange(
-        &self,
-        by: Pass<T>,
-        top: Tagged,
-        next: u32,
-    ) -> Stepped<TakeOp<T>, Pass<T>, Result<(T, u64), TakeRefused>>
-        requires { IsTakingAt self.now by (Exchange top next) }
-        ensures { TakeStep self.now by (Exchange top next) result }
+    fn take_exchange(&self, by: Pass<T>, top: Tagged, below: u32) -> Step<T>
+        requires { IsTakingAt self.now by (Exchange top below) }
+        ensures { TakeStep self.now by (Exchange top below) result }
     {
         let mut pass = by;
-        if self.take_node(&mut pass, TOP, top, next, &Operation::Take) {
+        let new = raised(top, below);
+        let table = &self.table.shared;
+        if take_step(table, &mut pass.seat, TOP, top, new, &Operation::Take) {
             let index = top.index();
-            let value = move_out::<T, View<T, Line<T>>, Limits, Stacked<T>>(
-                &self.table.shared,
-                &mut pass.seat,
-                index,
-            );
+            let value = move_out(table, &mut pass.seat, index);
             let number = top.tag();
             return Stepped::Again(TakeOp {
                 pass,
-                at: TakeAt::LoadFree(Taken {
-                    value,
-                    number,
-                    index,
-                }),
+                at: TakeAt::GiveBack(
+                    Taken {
+                        value,
+                        number,
+                        index,
+                    },
+                    Give::Load,
+                ),
             });
         }
         Stepped::Again(TakeOp {
@@ -141,165 +124,60 @@ impl<T> Stack<T> {
     }
 
     #[inline]
-    fn take_load_free(
-        &self,
-        by: Pass<T>,
-        taken: Taken<T>,
-    ) -> Stepped<TakeOp<T>, Pass<T>, Result<(T, u64), TakeRefused>>
-        requires { IsTakingAt self.now by (LoadFree taken) }
-        ensures { TakeStep self.now by (LoadFree taken) result }
+    fn take_give_back(&self, by: Pass<T>, taken: Taken<T>, at: Give) -> Step<T>
+        requires { IsTakingAt self.now by (GiveBack taken at) }
+        ensures { TakeStep self.now by (GiveBack taken at) result }
     {
         let mut pass = by;
-        let free = self.load(&mut pass, FREE, &Operation::Take);
-        Stepped::Again(TakeOp {
-            pass,
-            at: TakeAt::LinkBack(taken, free),
-        })
+        let chain = Chain::of(taken.index);
+        match self.give(&mut pass, chain, at, &Operation::Take) {
+            Gave::On(at) => Stepped::Again(TakeOp {
+                pass,
+                at: TakeAt::GiveBack(taken, at),
+            }),
+            Gave::All => {
+                let Taken {
+                    value,
+                    number,
+                    index: _,
+                } = taken;
+                Stepped::Done(pass, Ok((value, number)))
+            }
+        }
     }
 
+    /// Takes a value by a whole call.
     #[inline]
-    fn take_link_back(
+    pub(crate) fn take_one<R: Wait>(
         &self,
+        rt: &R,
         by: Pass<T>,
-        taken: Taken<T>,
-        free: Tagged,
-    ) -> Stepped<TakeOp<T>, Pass<T>, Result<(T, u64), TakeRefused>>
-        requires { IsTakingAt self.now by (LinkBack taken free) }
-        ensures { TakeStep self.now by (LinkBack taken free) result }
+    ) -> (Pass<T>, Result<(T, u64), TakeRefused>)
+        requires { IsPassOf self.now by }
+        ensures { IsPassOf self.now result.0
+            × TakeGives (shape_of self.now) (pass_in by) (pass_in result.0) result.1 }
     {
         let mut pass = by;
-        self.link_to(&mut pass, FREE, taken.index, free.index(), &Operation::Take);
-        Stepped::Again(TakeOp {
-            pass,
-            at: TakeAt::GiveBack(taken, free),
-        })
-    }
-
-    #[inline]
-    fn take_give_back(
-        &self,
-        by: Pass<T>,
-        taken: Taken<T>,
-        free: Tagged,
-    ) -> Stepped<TakeOp<T>, Pass<T>, Result<(T, u64), TakeRefused>>
-        requires { IsTakingAt self.now by (GiveBack taken free) }
-        ensures { TakeStep self.now by (GiveBack taken free) result }
-    {
-        let mut pass = by;
-        if self.give_node(&mut pass, free, taken.index, &Operation::Take) {
-            let Taken {
-                value,
-                number,
-                index: _,
-            } = taken;
-            return Stepped::Done(pass, Ok((value, number)));
+        let mut pause = Pause::new();
+        let table = &self.table.shared;
+        for _ in rt.forever() {
+            let top = load_tagged_step(table, &mut pass.seat, TOP, &Operation::Take);
+            if let Some(why) = self.bars_take(top) {
+                return (pass, Err(why));
+            }
+            let at = link(top.index());
+            let found = load_step(table, &mut pass.seat, at, &Operation::Take);
+            let new = raised(top, found as u32);
+            if take_step(table, &mut pass.seat, TOP, top, new, &Operation::Take) {
+                let index = top.index();
+                let value = move_out(table, &mut pass.seat, index);
+                let number = top.tag();
+                let pass = self.give_back(rt, pass, Chain::of(index), &Operation::Take);
+                return (pass, Ok((value, number)));
+            }
+            pause.wait();
         }
-        Stepped::Again(TakeOp {
-            pass,
-            at: TakeAt::LoadFree(taken),
-        })
-    }
-
-    // The steps of a take from its start, until it answers or loses an exchange.
-    #[inline]
-    fn take_run(&self, by: Pass<T>) -> Stepped<TakeOp<T>, Pass<T>, Result<(T, u64), TakeRefused>>
-        requires { IsTakingAt self.now by Load }
-        ensures { TakeRun self.now (begun_in by) result }
-    {
-        match self.take_load(by) {
-            Stepped::Done(pass, answer) => Stepped::Done(pass, answer),
-            Stepped::Again(TakeOp { pass, at }) => match at {
-                TakeAt::Link(top) => self.take_run_link(pass, top),
-                at => Stepped::Again(TakeOp { pass, at }),
-            },
-        }
-    }
-
-    #[inline]
-    fn take_run_link(
-        &self,
-        by: Pass<T>,
-        top: Tagged,
-    ) -> Stepped<TakeOp<T>, Pass<T>, Result<(T, u64), TakeRefused>>
-        requires { IsTakingAt self.now by (Link top) }
-        ensures { TakeRun self.now (begun_in by) result }
-    {
-        match self.take_link(by, top) {
-            Stepped::Done(pass, answer) => Stepped::Done(pass, answer),
-            Stepped::Again(TakeOp { pass, at }) => match at {
-                TakeAt::Exchange(top, next) => self.take_run_exchange(pass, top, next),
-                at => Stepped::Again(TakeOp { pass, at }),
-            },
-        }
-    }
-
-    #[inline]
-    fn take_run_exchange(
-        &self,
-        by: Pass<T>,
-        top: Tagged,
-        next: u32,
-    ) -> Stepped<TakeOp<T>, Pass<T>, Result<(T, u64), TakeRefused>>
-        requires { IsTakingAt self.now by (Exchange top next) }
-        ensures { TakeRun self.now (begun_in by) result }
-    {
-        match self.take_exchange(by, top, next) {
-            Stepped::Done(pass, answer) => Stepped::Done(pass, answer),
-            Stepped::Again(TakeOp { pass, at }) => match at {
-                TakeAt::LoadFree(taken) => self.take_run_back(pass, taken),
-                at => Stepped::Again(TakeOp { pass, at }),
-            },
-        }
-    }
-
-    #[inline]
-    fn take_run_back(
-        &self,
-        by: Pass<T>,
-        taken: Taken<T>,
-    ) -> Stepped<TakeOp<T>, Pass<T>, Result<(T, u64), TakeRefused>>
-        requires { IsTakingAt self.now by (LoadFree taken) }
-        ensures { TakeRun self.now (begun_in by) result }
-    {
-        match self.take_load_free(by, taken) {
-            Stepped::Done(pass, answer) => Stepped::Done(pass, answer),
-            Stepped::Again(TakeOp { pass, at }) => match at {
-                TakeAt::LinkBack(taken, free) => self.take_run_link_back(pass, taken, free),
-                at => Stepped::Again(TakeOp { pass, at }),
-            },
-        }
-    }
-
-    #[inline]
-    fn take_run_link_back(
-        &self,
-        by: Pass<T>,
-        taken: Taken<T>,
-        free: Tagged,
-    ) -> Stepped<TakeOp<T>, Pass<T>, Result<(T, u64), TakeRefused>>
-        requires { IsTakingAt self.now by (LinkBack taken free) }
-        ensures { TakeRun self.now (begun_in by) result }
-    {
-        match self.take_link_back(by, taken, free) {
-            Stepped::Done(pass, answer) => Stepped::Done(pass, answer),
-            Stepped::Again(TakeOp { pass, at }) => match at {
-                TakeAt::GiveBack(taken, free) => self.take_run_give_back(pass, taken, free),
-                at => Stepped::Again(TakeOp { pass, at }),
-            },
-        }
-    }
-
-    #[inline]
-    fn take_run_give_back(
-        &self,
-        by: Pass<T>,
-        taken: Taken<T>,
-        free: Tagged,
-    ) -> Stepped<TakeOp<T>, Pass<T>, Result<(T, u64), TakeRefused>>
-        requires { IsTakingAt self.now by (GiveBack taken free) }
-        ensures { TakeRun self.now (begun_in by) result }
-    {
-        self.take_give_back(by, taken, free)
+        unreachable!()
     }
 }
 
@@ -318,33 +196,8 @@ impl<T> TakeOp<T> {
         match at {
             TakeAt::Load => stack.take_load(pass),
             TakeAt::Link(top) => stack.take_link(pass, top),
-            TakeAt::Exchange(top, next) => stack.take_exchange(pass, top, next),
-            TakeAt::LoadFree(taken) => stack.take_load_free(pass, taken),
-            TakeAt::LinkBack(taken, free) => stack.take_link_back(pass, taken, free),
-            TakeAt::GiveBack(taken, free) => stack.take_give_back(pass, taken, free),
-        }
-    }
-
-    /// Whether it is to try an exchange once more.
-    #[inline]
-    pub(crate) fn is_retry(&self) -> bool {
-        matches!(&self.at, TakeAt::Load | TakeAt::LoadFree(_))
-    }
-
-    /// Makes steps until the take answers or loses an exchange.
-    #[inline(always)]
-    pub(crate) fn run(
-        self,
-        stack: &Stack<T>,
-    ) -> Stepped<TakeOp<T>, Pass<T>, Result<(T, u64), TakeRefused>>
-        requires { IsTaking stack.now self }
-        ensures { TakeRun stack.now (begun_in self.pass) result }
-    {
-        let TakeOp { pass, at } = self;
-        match at {
-            TakeAt::Load => stack.take_run(pass),
-            TakeAt::LoadFree(taken) => stack.take_run_back(pass, taken),
-            at => TakeOp { pass, at }.step(stack),
+            TakeAt::Exchange(top, below) => stack.take_exchange(pass, top, below),
+            TakeAt::GiveBack(taken, at) => stack.take_give_back(pass, taken, at),
         }
     }
 }

@@ -1,6 +1,6 @@
 use Rattle.std.proofs.Common.{◌≡◌, ℕ, ◌<◌, length}
 use Rattle.std.specs.Prelude.{slice_index}
-use Rattle.treiber_stack.specs.Layout.{start_at}
+use Rattle.stack_table.specs.Layout.{start_at}
 use Rattle.treiber_stack.proofs.making.first_words.Given as goal
 
 abbrev pub invariant-loop-at : goal.invariant-loop-at

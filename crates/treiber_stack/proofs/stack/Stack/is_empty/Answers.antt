@@ -1,24 +1,39 @@
-use Rattle.std.proofs.Common.{ℕ, eqb, ap, refl, ◌∙◌}
-use Rattle.tagged_index.specs.Fields.{index_of}
-use Rattle.tagged_index.specs.Limits.{capacity_of, tag_limit_of}
+use Rattle.std.proofs.Common.{ℕ, eqb, [], refl, sym, ap, ◌∙◌, subst}
+use Rattle.bounded_model.specs.declared.views.PassView.{PassView}
+use Rattle.bounded_model.specs.Laws.{LookGives}
+use Rattle.stack_machine.specs.declared.lines.Answer.TheVariants.{Look as Answer}
+use Rattle.stack_machine.specs.declared.lines.Line.TheVariants.{LoadTopToLook}
+use Rattle.stack_machine.specs.Machine.{ends}
 use Rattle.tagged_index.specs.declared.word.TheConstants.{NULL}
-use Rattle.treiber_stack.specs.declared.operation.Operation.TheVariants.{Look as First}
-use Rattle.treiber_stack.proofs.Going.{starts}
-use Rattle.treiber_stack.proofs.Closes.{load_top_to_look_ends, look_gives}
+use Rattle.stack_table.specs.declared.operation.Operation.TheVariants.{Look as First}
+use Rattle.running.proofs.Ways.{started, begun_is, ends_so}
+use Rattle.treiber_stack.specs.Stack.{machine_of, shape_of, pass_in}
+use Rattle.treiber_stack.proofs.Closes.{look_gives}
+use Rattle.treiber_stack.proofs.Gives.{ready}
 use Rattle.treiber_stack.proofs.stack.Stack.is_empty.Goals as goal
+
+pub load_tagged_step-top-requires-clause-access : goal.load_tagged_step-top-requires-clause-access
+load_tagged_step-top-requires-clause-access g c = let stack = c.args.self.now in
+    ready stack First c.args.by LoadTopToLook [] _ (started (machine_of stack) stack.table.shared.table_id First c.args.by c.requires) refl
 
 pub returns-clause-of : goal.returns-clause-of
 returns-clause-of g c =
-    let l = c.args.self.now.limits in
-    let e = load_top_to_look_ends c.load-top.result (eqb (index_of c.load-top.result) NULL) refl (starts (capacity_of l) (tag_limit_of l) First c.args.by.seat.me.0 c.requires.view) c.load-top.ensures.told.did in
-    record { table = c.load-top.ensures.same.table ∙ c.requires.table; view = e.0.view; slots = c.load-top.ensures.same.slots ∙ c.requires.slots; rests = e.0.rests }
-
-pub returns-clause-gives : goal.returns-clause-gives
-returns-clause-gives g c =
-    let l = c.args.self.now.limits in
-    look_gives _ (load_top_to_look_ends c.load-top.result _ (ap (λ (i : ℕ). eqb i NULL) c.index.ensures.field) (starts (capacity_of l) (tag_limit_of l) First c.args.by.seat.me.0 c.requires.view) c.load-top.ensures.told.did)
+    let stack = c.args.self.now in
+    let s = c.load_tagged_step-top in
+    let e = ends_so (machine_of stack) (started (machine_of stack) stack.table.shared.table_id First c.args.by c.requires) (record { seat = s.new.seat }) s.result [] s.ensures.steps s.ensures.seat.0 (ends (Answer (eqb c.index.result NULL))) (s.ensures.seat.1 ∙ c.requires.rests.slots) (ap (λ (i : ℕ). ends (Answer (eqb i NULL))) (sym c.index.ensures.field)) refl in
+    e.0
 
 pub returns-clause-line : goal.returns-clause-line
 returns-clause-line g c =
-    let l = c.args.self.now.limits in
-    (load_top_to_look_ends c.load-top.result _ (ap (λ (i : ℕ). eqb i NULL) c.index.ensures.field) (starts (capacity_of l) (tag_limit_of l) First c.args.by.seat.me.0 c.requires.view) c.load-top.ensures.told.did).1
+    let stack = c.args.self.now in
+    let s = c.load_tagged_step-top in
+    let e = ends_so (machine_of stack) (started (machine_of stack) stack.table.shared.table_id First c.args.by c.requires) (record { seat = s.new.seat }) s.result [] s.ensures.steps s.ensures.seat.0 (ends (Answer (eqb c.index.result NULL))) (s.ensures.seat.1 ∙ c.requires.rests.slots) (ap (λ (i : ℕ). ends (Answer (eqb i NULL))) (sym c.index.ensures.field)) refl in
+    e.2
+
+pub returns-clause-gives : goal.returns-clause-gives
+returns-clause-gives g c =
+    let stack = c.args.self.now in
+    let id = stack.table.shared.table_id in
+    let s = c.load_tagged_step-top in
+    let e = ends_so (machine_of stack) (started (machine_of stack) id First c.args.by c.requires) (record { seat = s.new.seat }) s.result [] s.ensures.steps s.ensures.seat.0 (ends (Answer (eqb c.index.result NULL))) (s.ensures.seat.1 ∙ c.requires.rests.slots) (ap (λ (i : ℕ). ends (Answer (eqb i NULL))) (sym c.index.ensures.field)) refl in
+    subst (λ (b : PassView _). LookGives (shape_of stack) b (pass_in (record { seat = s.new.seat })) (eqb c.index.result NULL)) (begun_is (machine_of stack) id c.args.by c.requires) (look_gives stack (eqb c.index.result NULL) e.1)

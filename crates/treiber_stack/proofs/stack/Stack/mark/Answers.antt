@@ -1,27 +1,66 @@
-use Rattle.std.proofs.Common.{arith, [], subst}
-use Rattle.tagged_index.specs.Limits.{capacity_of, tag_limit_of}
-use Rattle.tagged_index.specs.declared.limit.Limits.{Limits}
-use Rattle.index_list.specs.Steps.{mark}
-use Rattle.treiber_stack.specs.Host.{Did}
+use Rattle.std.proofs.Common.{ℕ, Bool, true, false, cond, [], refl, sym, ap, ◌∙◌, subst}
+use Rattle.std.specs.Prelude.{Option as Slot, Some, None}
+use Rattle.tagged_index.specs.Fields.{fields_of}
+use Rattle.bounded_model.specs.declared.answers.Stepped.TheVariants.{Again, Done}
+use Rattle.stack_machine.specs.Machine.{ends}
+use Rattle.running.specs.Going.{Found}
+use Rattle.running.proofs.Ways.{goes_on, ends_so, hits, misses}
+use Rattle.treiber_stack.specs.Closing.{mark_name, mark_answer, mark_line, IsMarking, MarkStep}
+use Rattle.treiber_stack.specs.Stack.{machine_of, limit_of}
+use Rattle.treiber_stack.proofs.Closes.{mark_gives, mark_loaded, mark_swapped, mark_busy}
 use Rattle.treiber_stack.proofs.stack.Stack.mark.Goals as goal
 
-pub try_mark-requires : goal.try_mark-requires
-try_mark-requires g c = let words = c.args.self.now.words in record { table = c.requires.table; list = (omega arith, omega arith); may = c.requires.may }
+pub returns-then-is_set : goal.returns-then-is_set
+returns-then-is_set g c =
+    let stack = c.args.self.now in
+    let m = machine_of stack in
+    let k = c.args.mark in
+    let name = c.operation-operation.ensures in
+    let s = c.load_tagged_step-top in
+    let at = subst (λ (x : Slot ℕ). IsMarking stack k c.args.by x) c.in-None.is c.requires in
+    let steps = subst (λ o. Found m o c.args.by.seat.me.0 s.new.seat.me.0 s.result []) name s.ensures.steps in
+    let e = ends_so m at (record { seat = s.new.seat }) s.result [] steps s.ensures.seat.0 (ends (mark_answer k false)) (s.ensures.seat.1 ∙ at.at.has)
+    (mark_loaded g.row.T.Denot (limit_of stack) k s.result ∙ ap (λ (b : Bool). cond b (ends (mark_answer k false)) (mark_line k (Some s.result))) (sym c.if-is_set.ensures)) refl in
+    subst (λ (x : Slot ℕ). MarkStep stack k c.args.by x (Done (record { seat = s.new.seat }) false)) (sym c.in-None.is) (e.0, mark_gives stack k false e.1, e.2)
 
-pub returns-clause-won : goal.returns-clause-won
-returns-clause-won g c h = record {
-  did = subst (λ (k : Limits). Did (capacity_of k) (tag_limit_of k) c.args.operation.now 1 (mark c.args.seen) c.args.seen [] c.args.by.now.seat.me.0 c.try_mark.new.seat.me.0) c.args.self.now.keyed (c.try_mark.ensures.won h).said;
-  counted = c.try_mark.ensures.counted;
-}
+pub returns-in-None : goal.returns-in-None
+returns-in-None g c =
+    let stack = c.args.self.now in
+    let m = machine_of stack in
+    let k = c.args.mark in
+    let name = c.operation-operation.ensures in
+    let s = c.load_tagged_step-top in
+    let at = subst (λ (x : Slot ℕ). IsMarking stack k c.args.by x) c.in-None.is c.requires in
+    let steps = subst (λ o. Found m o c.args.by.seat.me.0 s.new.seat.me.0 s.result []) name s.ensures.steps in
+    subst (λ (x : Slot ℕ). MarkStep stack k c.args.by x (Again (record { seat = s.new.seat }, Some s.result))) (sym c.in-None.is)
+    (goes_on m at (record { seat = s.new.seat }) s.result [] steps s.ensures.seat.0 [] (mark_line k (Some s.result)) (s.ensures.seat.1 ∙ at.at.has)
+    (mark_loaded g.row.T.Denot (limit_of stack) k s.result ∙ ap (λ (b : Bool). cond b (ends (mark_answer k false)) (mark_line k (Some s.result))) (sym c.if-is_set.ensures)) (mark_busy g.row.T.Denot k (Some s.result)))
 
-pub returns-clause-lost : goal.returns-clause-lost
-returns-clause-lost g c h =
-    let l = c.try_mark.ensures.lost h in
-    record {
-      found = l.found;
-      other = l.other;
-      told = record {
-        did = subst (λ (k : Limits). Did (capacity_of k) (tag_limit_of k) c.args.operation.now 1 (mark c.args.seen) l.found [] c.args.by.now.seat.me.0 c.try_mark.new.seat.me.0) c.args.self.now.keyed l.said;
-        counted = c.try_mark.ensures.counted;
-      };
-    }
+pub returns-then-swap_step : goal.returns-then-swap_step
+returns-then-swap_step g c =
+    let stack = c.args.self.now in
+    let m = machine_of stack in
+    let k = c.args.mark in
+    let name = c.operation-operation.ensures in
+    let s = c.swap_step in
+    let w : ℕ = c.in-Some.top in
+    let at = subst (λ (x : Slot ℕ). IsMarking stack k c.args.by x) c.in-Some.is c.requires in
+    let steps = subst (λ o. Found m o c.args.by.seat.me.0 s.new.seat.me.0 w []) name (c.if-swap_step.ensures.won refl) in
+    let e = ends_so m at (record { seat = s.new.seat }) w [] steps s.ensures.seat.0 (ends (mark_answer k true)) (s.ensures.seat.1 ∙ at.at.has)
+    (mark_swapped g.row.T.Denot (limit_of stack) k w w ∙ hits w (ends (mark_answer k true)) (mark_line k None)) refl in
+    subst (λ (x : Slot ℕ). MarkStep stack k c.args.by x (Done (record { seat = s.new.seat }) true)) (sym c.in-Some.is) (e.0, mark_gives stack k true e.1, e.2)
+
+pub returns : goal.returns
+returns g c =
+    let stack = c.args.self.now in
+    let m = machine_of stack in
+    let k = c.args.mark in
+    let name = c.operation-operation.ensures in
+    let s = c.swap_step in
+    let w : ℕ = c.in-Some.top in
+    let at = subst (λ (x : Slot ℕ). IsMarking stack k c.args.by x) c.in-Some.is c.requires in
+    let lost = c.if-swap_step.ensures.lost refl in
+    let steps = subst (λ o. Found m o c.args.by.seat.me.0 s.new.seat.me.0 lost.found []) name lost.steps in
+    subst (λ (x : Slot ℕ). MarkStep stack k c.args.by x (Again (record { seat = s.new.seat }, None))) (sym c.in-Some.is)
+    (goes_on m at (record { seat = s.new.seat }) lost.found [] steps s.ensures.seat.0 [] (mark_line k None) (s.ensures.seat.1 ∙ at.at.has)
+    (mark_swapped g.row.T.Denot (limit_of stack) k w lost.found ∙ misses lost.found w lost.other (ends (mark_answer k true)) (mark_line k None)) (mark_busy g.row.T.Denot k None))

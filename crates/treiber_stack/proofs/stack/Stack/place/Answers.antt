@@ -1,106 +1,99 @@
-use Rattle.std.proofs.Common.{ℕ, ◌<◌, refl, sym, ◌∙◌, subst, arith}
+use Rattle.std.proofs.Common.{ℕ, refl, sym, ap, ◌∙◌, subst}
+use Rattle.std.specs.Prelude.{Ok}
+use Rattle.tagged_index.specs.Fields.{fields_of}
 use Rattle.bounded_model.specs.declared.views.PassView.{PassView}
-use Rattle.tagged_index.specs.Fields.{tag_of}
-use Rattle.tagged_index.specs.Limits.{tag_limit_of}
-use Rattle.treiber_stack.specs.Ranging.{Placed}
-use Rattle.treiber_stack.proofs.Placing.{may_load_top, last_below, first_below, place_closed, place_worn, may_link_top, holds_end, may_put_all, holds_them, numbers_held, bears_all, places_all, places_again}
+use Rattle.machine.specs.Words.{raised}
+use Rattle.running.specs.Going.{Ended}
+use Rattle.running.specs.Machine.{stores, swaps, returns}
+use Rattle.running.proofs.Going.{now_going}
+use Rattle.stack_machine.specs.declared.lines.Answer.TheVariants.{Put as AnswerPut}
+use Rattle.stack_machine.specs.declared.lines.Line.TheVariants.{LinkToTop, SwapTop}
+use Rattle.stack_machine.specs.Machine.{ends, unplaced}
+use Rattle.stack_table.specs.Layout.{top_at, link_at}
+use Rattle.stack_table.specs.Lines.{Fits}
+use Rattle.treiber_stack.specs.Nodes.{loaded}
+use Rattle.treiber_stack.specs.Stack.{room_of, machine_of}
+use Rattle.treiber_stack.proofs.Gives.{ready}
+use Rattle.treiber_stack.proofs.Placing.{top_barred, top_open, top_linked, top_won, top_lost}
 use Rattle.treiber_stack.proofs.stack.Stack.place.Goals as goal
 
-pub loop-init : goal.loop-init
-loop-init g c = (tt, tt, λ vs h. (h, refl))
+pub returns-in-Some-bars_put : goal.returns-in-Some-bars_put
+returns-in-Some-bars_put g c put is =
+    let stack = c.args.self.now in
+    let i = c.loop.invariant.2 put is in
+    let s = c.load_tagged_step-top in
+    let r = top_barred stack c.args.operation.now c.loop.pass (record { seat = s.new.seat }) s.ensures.seat.0 put s.result c.in-Some-bars_put.why i.0.at s.ensures.steps s.ensures.seat.1 c.in-Some-bars_put.ensures in
+    (r.0, r.1.0 ∙ i.1)
 
-pub load-top-requires : goal.load-top-requires
-load-top-requires g c =
-    let h = (c.loop.invariant.2 c.requires.0 c.requires.1).0 in
-    record { table = (h.at.table, omega arith); may = may_load_top c.args.self.now c.requires.0 c.args.held c.loop.pass h }
+pub store_step-requires-clause-access : goal.store_step-requires-clause-access
+store_step-requires-clause-access g c =
+    let stack = c.args.self.now in
+    let o = c.args.operation.now in
+    let i = c.loop.invariant.2 c.requires.0 c.requires.1 in
+    let put = c.requires.0 in
+    let s = c.load_tagged_step-top in
+    let w : ℕ = s.result in
+    let a = top_open stack o c.loop.pass (record { seat = s.new.seat }) s.ensures.seat.0 put w i.0.at s.ensures.steps s.ensures.seat.1 c.in_default.ensures in
+    ready stack o (record { seat = s.new.seat }) (LinkToTop put (fields_of w)) (loaded put) _ a.0
+    (λ y. stores ((ap link_at i.0.are.ends ∙ sym c.link.ensures) y) (sym c.index-first.ensures.field y))
 
-pub returns-then-is_marked : goal.returns-then-is_marked
-returns-then-is_marked g c vs first =
-    let i = c.loop.invariant.2 vs first in
-    let l = c.load-top in
-    let all = place_closed c.args.self.now vs c.args.held c.loop.pass i.0 l.result l.new.by l.ensures.same l.ensures.told (sym c.if-is_marked.ensures) in
-    (all.0, all.1 ∙ i.1)
+pub give_step-requires-clause-access : goal.give_step-requires-clause-access
+give_step-requires-clause-access g c =
+    let stack = c.args.self.now in
+    let o = c.args.operation.now in
+    let i = c.loop.invariant.2 c.requires.0 c.requires.1 in
+    let put = c.requires.0 in
+    let s = c.load_tagged_step-top in
+    let w : ℕ = s.result in
+    let a = top_open stack o c.loop.pass (record { seat = s.new.seat }) s.ensures.seat.0 put w i.0.at s.ensures.steps s.ensures.seat.1 c.in_default.ensures in
+    let t = c.store_step in
+    let b = top_linked stack o (record { seat = s.new.seat }) (record { seat = t.new.seat }) t.ensures.seat.0 put w _ a.0 t.ensures.steps t.ensures.seat.1 in
+    ready stack o (record { seat = t.new.seat }) (SwapTop put (fields_of w)) (loaded put) _ b.0
+    (λ y. swaps top_at (fields_of w) ((ap (λ (x : ℕ). raised (fields_of w) x) i.0.are.begins ∙ sym c.raised-new.ensures) y) returns)
 
-pub returns-then-tag-tag_limit : goal.returns-then-tag-tag_limit
-returns-then-tag-tag_limit g c vs first =
-    let i = c.loop.invariant.2 vs first in
-    let l = c.load-top in
-    let high = c.if-tag-tag_limit.true in
-    let tag = c.tag-tag.ensures.field in
-    let limit = c.tag_limit.ensures in
-    let all = place_worn c.args.self.now vs c.args.held c.loop.pass i.0 l.result l.new.by l.ensures.same l.ensures.told c.tag-tag.result tag (sym c.if-is_marked.ensures) (omega arith) in
-    (all.0, all.1 ∙ i.1)
+pub give_step-requires-clause-fits : goal.give_step-requires-clause-fits
+give_step-requires-clause-fits g c =
+    let stack = c.args.self.now in
+    let o = c.args.operation.now in
+    let i = c.loop.invariant.2 c.requires.0 c.requires.1 in
+    let put = c.requires.0 in
+    let s = c.load_tagged_step-top in
+    let w : ℕ = s.result in
+    let a = top_open stack o c.loop.pass (record { seat = s.new.seat }) s.ensures.seat.0 put w i.0.at s.ensures.steps s.ensures.seat.1 c.in_default.ensures in
+    let t = c.store_step in
+    let b = top_linked stack o (record { seat = s.new.seat }) (record { seat = t.new.seat }) t.ensures.seat.0 put w _ a.0 t.ensures.steps t.ensures.seat.1 in
+    subst (λ l. Fits (room_of stack) l t.new.seat.me.1) (sym (now_going (machine_of stack) b.0.at.going)) b.0.at.has
 
-pub link_to-requires : goal.link_to-requires
-link_to-requires g c =
-    let vs = c.requires.0 in
-    let i = c.loop.invariant.2 vs c.requires.1 in
-    let l = c.load-top in
-    let w : ℕ = l.result in
-    let low = c.if-tag-tag_limit.false in
-    let tag = c.tag-tag.ensures.field in
-    let limit = c.tag_limit.ensures in
-    let below : tag_of w < tag_limit_of c.args.self.now.limits = omega arith in
-    record {
-      table = (l.ensures.same.table ∙ i.0.at.table, omega arith, last_below c.args.self.now vs c.args.held c.loop.pass i.0);
-      may = may_link_top c.args.self.now vs c.args.held c.loop.pass i.0 w l.new.by l.ensures.same l.ensures.told (sym c.if-is_marked.ensures) below c.index.result c.index.ensures.field c.index.ensures.in_range;
-      held = holds_end c.args.self.now vs c.args.held c.loop.pass i.0 w l.new.by l.ensures.same l.ensures.told (sym c.if-is_marked.ensures) below;
-    }
-
-pub put_nodes-requires : goal.put_nodes-requires
-put_nodes-requires g c =
-    let vs = c.requires.0 in
-    let i = c.loop.invariant.2 vs c.requires.1 in
-    let l = c.load-top in
-    let s = c.link_to in
-    let w : ℕ = l.result in
-    let low = c.if-tag-tag_limit.false in
-    let tag = c.tag-tag.ensures.field in
-    let limit = c.tag_limit.ensures in
-    let below : tag_of w < tag_limit_of c.args.self.now.limits = omega arith in
-    let first = first_below c.args.self.now vs c.args.held c.loop.pass i.0 in
-    let most = c.args.self.now.limits.capacity_in_range in
-    let highest = c.args.self.now.limits.tag_limit_in_range in
-    record {
-      table = s.ensures.same.table ∙ l.ensures.same.table ∙ i.0.at.table;
-      may = may_put_all c.args.self.now vs c.args.held c.loop.pass i.0 w l.new.by l.ensures.same l.ensures.told (sym c.if-is_marked.ensures) below c.index.result s.new.by s.ensures.same s.ensures.told;
-      held = holds_them c.args.self.now vs c.args.held c.loop.pass i.0 w l.new.by l.ensures.same l.ensures.told (sym c.if-is_marked.ensures) below c.index.result s.new.by s.ensures.same s.ensures.told;
-      word = (omega arith, omega arith);
-      slots = (
-        numbers_held c.args.self.now vs c.args.held c.loop.pass i.0 w l.new.by l.ensures.same l.ensures.told (sym c.if-is_marked.ensures) below c.index.result s.new.by s.ensures.same s.ensures.told,
-        bears_all c.args.self.now vs c.args.held c.loop.pass i.0 w l.new.by l.ensures.same l.ensures.told (sym c.if-is_marked.ensures) below c.index.result s.new.by s.ensures.same s.ensures.told,
-      );
-    }
-
-pub returns-then-put_nodes : goal.returns-then-put_nodes
-returns-then-put_nodes g c vs first =
-    let i = c.loop.invariant.2 vs first in
-    let l = c.load-top in
-    let s = c.link_to in
-    let t = c.put_nodes in
-    let w : ℕ = l.result in
-    let low = c.if-tag-tag_limit.false in
-    let tag = c.tag-tag.ensures.field in
-    let limit = c.tag_limit.ensures in
-    let below : tag_of w < tag_limit_of c.args.self.now.limits = omega arith in
-    subst (λ (v : PassView _). Placed c.args.self.now v vs c.args.held.count t.new.by c.tag-tag.result) i.1
-    (places_all c.args.self.now vs c.args.held c.loop.pass i.0 w l.new.by l.ensures.same l.ensures.told (sym c.if-is_marked.ensures) below c.index.result s.new.by s.ensures.same s.ensures.told t.new.by c.if-put_nodes.ensures.table c.tag-tag.result tag (c.if-put_nodes.ensures.won refl))
+pub returns-then-give_step : goal.returns-then-give_step
+returns-then-give_step g c put' is =
+    let stack = c.args.self.now in
+    let o = c.args.operation.now in
+    let i = c.loop.invariant.2 put' is in
+    let put = put' in
+    let s = c.load_tagged_step-top in
+    let w : ℕ = s.result in
+    let a = top_open stack o c.loop.pass (record { seat = s.new.seat }) s.ensures.seat.0 put w i.0.at s.ensures.steps s.ensures.seat.1 c.in_default.ensures in
+    let t = c.store_step in
+    let b = top_linked stack o (record { seat = s.new.seat }) (record { seat = t.new.seat }) t.ensures.seat.0 put w _ a.0 t.ensures.steps t.ensures.seat.1 in
+    let won = c.if-give_step.ensures.won refl in
+    let e = top_won stack o (record { seat = t.new.seat }) (record { seat = c.give_step.new.seat }) c.give_step.ensures.seat put w c.tag.result c.tag.ensures.field b.0 won.0 won.1 in
+    (e.0, subst (λ (v : PassView _). Ended (machine_of stack) o c.give_step.new.seat.me.0 v (ends (AnswerPut (Ok (c.tag.result, unplaced put))))) (b.1.0 ∙ a.1.0 ∙ i.1) e.1)
 
 pub loop-preserved : goal.loop-preserved
 loop-preserved g c = (
   tt,
   tt,
-  λ vs first.
-      let i = c.loop.invariant.2 vs first in
-      let l = c.load-top in
-      let s = c.link_to in
-      let t = c.put_nodes in
-      let w : ℕ = l.result in
-      let low = c.if-tag-tag_limit.false in
-      let tag = c.tag-tag.ensures.field in
-      let limit = c.tag_limit.ensures in
-      let below : tag_of w < tag_limit_of c.args.self.now.limits = omega arith in
-      let lost = c.if-put_nodes.ensures.lost refl in
-      let all = places_again c.args.self.now vs c.args.held c.loop.pass i.0 w l.new.by l.ensures.same l.ensures.told (sym c.if-is_marked.ensures) below c.index.result s.new.by s.ensures.same s.ensures.told t.new.by c.if-put_nodes.ensures.table lost.0 lost.1 in
-      (all.0, all.1 ∙ i.1),
+  λ put' is.
+      let stack = c.args.self.now in
+      let o = c.args.operation.now in
+      let i = c.loop.invariant.2 put' is in
+      let put = put' in
+      let s = c.load_tagged_step-top in
+      let w : ℕ = s.result in
+      let a = top_open stack o c.loop.pass (record { seat = s.new.seat }) s.ensures.seat.0 put w i.0.at s.ensures.steps s.ensures.seat.1 c.in_default.ensures in
+      let t = c.store_step in
+      let b = top_linked stack o (record { seat = s.new.seat }) (record { seat = t.new.seat }) t.ensures.seat.0 put w _ a.0 t.ensures.steps t.ensures.seat.1 in
+      let lost = c.if-give_step.ensures.lost refl in
+      let r = top_lost stack o (record { seat = t.new.seat }) (record { seat = c.give_step.new.seat }) c.give_step.ensures.seat put w b.0 lost.0 lost.1 in
+      (record { at = r.0; are = i.0.are }, r.1.0 ∙ b.1.0 ∙ a.1.0 ∙ i.1),
 )

@@ -1,70 +1,34 @@
-use Rattle.std.proofs.Common.{ℕ, ◌<◌, ◌∙◌, arith, List, [], ◌∷◌, refl, sym, ap, subst}
+use Rattle.std.proofs.Common.{ℕ, ◌<◌, List, [], ◌∷◌, refl, sym, ap, ◌∙◌, subst}
 use Rattle.std.specs.Prelude.{Option as Slot, Some, None}
-use Rattle.tagged_index.specs.Limits.{capacity_of}
-use Rattle.tagged_index.specs.Fields.{fields_of}
 use Rattle.atomic_table.specs.Table.{rest}
 use Rattle.bounded_model.specs.declared.answers.Stepped.TheVariants.{Again}
-use Rattle.index_list.specs.Steps.{take}
-use Rattle.stack_machine.specs.declared.lines.Line.TheVariants.{LoadFree, TakeFree, LoadTop}
-use Rattle.treiber_stack.specs.declared.operation.Operation.TheVariants.{Put as First, Underway}
+use Rattle.stack_machine.specs.declared.lines.Call.TheVariants.{Put as CallPut}
+use Rattle.treiber_stack.specs.Putting.{wanting, PutStep}
+use Rattle.treiber_stack.specs.Stack.{room_of}
 use Rattle.treiber_stack.specs.declared.putting.PutAt.TheVariants.{Hold, Load}
-use Rattle.treiber_stack.specs.Operations.{IsSame}
-use Rattle.treiber_stack.specs.Putting.{shown, wanting, bearing, PutStep}
-use Rattle.treiber_stack.proofs.Closes.{is_at, went_on}
-use Rattle.treiber_stack.proofs.Takings.{may_going, moved_on}
-use Rattle.treiber_stack.proofs.Puttings.{take_free_slot, take_free_won, take_free_lost}
+use Rattle.treiber_stack.proofs.Placing.{free_slots, free_won, free_lost}
 use Rattle.treiber_stack.proofs.stack.Stack.put_hold.Goals as goal
 
-pub take_node-requires : goal.take_node-requires
-take_node-requires g c =
-    let at = c.requires.1.line in
-    let node = c.requires.1.node in
-    let low = node.0 in
-    let below = node.1 in
-    let limits = c.args.self.now.limits in
-    let most = limits.capacity_in_range in
-    let highest = limits.tag_limit_in_range in
-    record {
-      table = (at.table, omega arith);
-      may = may_going 0 (take c.args.free c.args.next) at.going (refl, node.2);
-      word = (omega arith, omega arith, node.2);
-    }
-
-pub put_in-requires : goal.put_in-requires
-put_in-requires g c =
-    let won = c.if-take_node.ensures.won refl in
-    let at = c.requires.1.line in
+pub put_in-requires-clause-empty : goal.put_in-requires-clause-empty
+put_in-requires-clause-empty g c =
     let i : ℕ = c.index-index.result in
-    let none = take_free_slot c.args.free c.args.next won.slot won.told.did in
-    let has = won.has ∙ (λ k. (sym c.index-index.ensures.field k, none k) ∷ at.has k) in
-    record { table = c.if-take_node.ensures.table ∙ at.table; empty = has ∙ ap (λ (zs : List (ℕ × Slot _)). (i, None) ∷ rest zs) (sym has) }
+    let has = free_slots c.args.self.now c.args.operation c.args.by (record { seat = c.take_step.new.seat }) c.take_step.ensures.seat (wanting c.args.value) c.args.free c.args.below i c.index-index.ensures.field c.requires.1.line (c.if-take_step.ensures.won refl) in
+    has ∙ ap (λ (zs : List (ℕ × Slot _)). (i, None) ∷ rest zs) (sym has)
 
-pub returns-then-take_node : goal.returns-then-take_node
-returns-then-take_node g c x a =
+pub returns-then-take_step : goal.returns-then-take_step
+returns-then-take_step g c x is =
     let stack = c.args.self.now in
-    let won = c.if-take_node.ensures.won refl in
-    let w : ℕ = c.args.free in
     let i : ℕ = c.index-index.result in
     let y = c.args.value in
-    let put = c.put_in.ensures in
-    let q = c.take_node.new.by in
-    let e = take_free_won y w c.args.next i _ c.index-index.ensures.field a.line.going won.told.did in
-    let has = ap (λ m. m.1) put.put ∙ ap (λ (zs : List (ℕ × Slot _)). (i, Some y) ∷ rest zs) won.has ∙ ap (λ (zs : List (ℕ × Slot _)). (i, Some y) ∷ zs) a.line.has in
-    let both = moved_on stack Underway c.args.by q (record { seat = c.put_in.new.seat }) (TakeFree (wanting y) (fields_of w) c.args.next) (LoadTop (bearing y i)) ((i, Some y) ∷ [])
-    put.seat.0 c.if-take_node.ensures.table a.line.table (ap (λ m. m.0) put.put) has won.told.counted e in
-    subst (λ z. PutStep stack z c.args.by (Hold y w c.args.next) (Again (record { pass = record { seat = c.put_in.new.seat }; at = Load i }))) a.keeps
-    (record { line = both.0; keeps = tt; node = subst (λ (k : ℕ). k < capacity_of stack.limits) (sym c.index-index.ensures.field) a.node.0 }, both.1)
+    let won = c.if-take_step.ensures.won refl in
+    let has = free_slots stack c.args.operation c.args.by (record { seat = c.take_step.new.seat }) c.take_step.ensures.seat (wanting y) c.args.free c.args.below i c.index-index.ensures.field is.line won in
+    let me = c.put_in.ensures.put ∙ ap (λ (zs : List (ℕ × Slot _)). (c.take_step.new.seat.me.0, (i, Some y) ∷ rest zs)) has in
+    let r = free_won stack c.args.operation c.args.by (record { seat = c.take_step.new.seat }) c.take_step.ensures.seat (wanting y) c.args.free c.args.below i c.index-index.ensures.field is.line won (record { seat = c.put_in.new.seat }) ((i, Some y) ∷ []) c.put_in.ensures.seat.0 me in
+    subst (λ z. PutStep stack z c.args.operation c.args.by (Hold y c.args.free c.args.below) (Again (record { pass = record { seat = c.put_in.new.seat }; operation = c.args.operation; at = Load i }))) is.keeps
+    (record { of = is.of ∙ ap (λ z. CallPut z []) (sym is.keeps); line = r.0; keeps = tt; read = subst (λ (k : ℕ). k < room_of stack) (sym c.index-index.ensures.field) is.read.0 }, r.1)
 
 pub returns : goal.returns
-returns g c x a =
-    let stack = c.args.self.now in
-    let w : ℕ = c.args.free in
-    let k : ℕ = c.args.next in
-    let y = c.args.value in
-    let q = c.take_node.new.by in
-    let lost = c.if-take_node.ensures.lost refl in
-    let e = take_free_lost (First (shown y)) y w k lost.1.found lost.1.other a.line.going lost.1.told.did in
-    let same : IsSame c.args.by q = record { table = c.if-take_node.ensures.table; slots = lost.0 } in (
-      record { line = is_at stack Underway c.args.by (TakeFree (wanting y) (fields_of w) k) [] a.line q same (First (shown y)) (LoadFree (wanting y)) e; keeps = a.keeps; node = tt },
-      went_on stack Underway c.args.by (TakeFree (wanting y) (fields_of w) k) [] a.line q same (First (shown y)) (LoadFree (wanting y)) 0 (take w k) lost.1.found [] e lost.1.told,
-    )
+returns g c x is =
+    let lost = c.if-take_step.ensures.lost refl in
+    let r = free_lost c.args.self.now c.args.operation c.args.by (record { seat = c.take_step.new.seat }) c.take_step.ensures.seat (wanting c.args.value) c.args.free c.args.below is.line lost.0 lost.1 in
+    (record { of = is.of; line = r.0; keeps = is.keeps; read = tt }, r.1)

@@ -1,69 +1,45 @@
-use Rattle.std.proofs.Common.{◌≡◌, ℕ, ◌<◌, ◌∙◌, arith, [], refl, sym}
+use Rattle.std.proofs.Common.{◌≢◌, ◌<◌, ◌≤◌, [], refl, sym, ap, ◌∙◌, subst, arith}
 use Rattle.std.specs.Prelude.{Err}
+use Rattle.tagged_index.specs.Fields.{index_of, tag_of}
 use Rattle.tagged_index.specs.Limits.{tag_limit_of}
-use Rattle.tagged_index.specs.Fields.{fields_of, index_of, tag_of}
 use Rattle.tagged_index.specs.declared.word.TheConstants.{NULL}
-use Rattle.bounded_model.specs.declared.answers.Word.TheVariants.{Free as FreeWord}
 use Rattle.bounded_model.specs.declared.answers.PutRefused.TheVariants.{Spent}
-use Rattle.index_list.specs.Steps.{read_top}
-use Rattle.stack_machine.specs.declared.lines.Line.TheVariants.{LoadFree as LoadFreeLine, LoadFreeLink, LoadTopToRefuse}
-use Rattle.treiber_stack.specs.declared.operation.Operation.TheVariants.{Put as First, Underway}
-use Rattle.treiber_stack.specs.Putting.{wanting, put_answer}
-use Rattle.treiber_stack.proofs.Closes.{is_pass, is_at, went_on}
-use Rattle.treiber_stack.proofs.Takings.{may_going}
-use Rattle.treiber_stack.proofs.Puttings.{named_first, load_free_none, load_free_spent, load_free_goes, refused_gives}
+use Rattle.bounded_model.specs.declared.answers.Word.TheVariants.{Free as FreeWord}
+use Rattle.treiber_stack.specs.Putting.{wanting}
+use Rattle.treiber_stack.specs.Stack.{limit_of}
+use Rattle.treiber_stack.proofs.Placing.{null_first, spent_first, free_allowed}
+use Rattle.treiber_stack.proofs.Puts.{put_gives}
 use Rattle.treiber_stack.proofs.stack.Stack.put_load_free.Goals as goal
 
-pub load-free-requires : goal.load-free-requires
-load-free-requires g c =
-    let at = named_first c.args.self.now c.args.by c.args.value c.of.result c.of.ensures c.requires.1.line in
-    record { table = (at.table, omega arith); may = may_going 0 read_top at.going refl }
-
 pub returns-then-index-eq-NULL : goal.returns-then-index-eq-NULL
-returns-then-index-eq-NULL g c x a =
-    let stack = c.args.self.now in
-    let p = c.args.by in
+returns-then-index-eq-NULL g c x is =
+    let s = c.load_tagged_step-free in
     let y = c.args.value in
-    let b = named_first stack p y c.of.result c.of.ensures a.line in
-    let w : ℕ = c.load-free.result in
-    let q = c.load-free.new.by in
-    let same = c.load-free.ensures.same in
-    let e = load_free_none Underway y w b.going c.load-free.ensures.told.did (sym c.index.ensures.field ∙ c.if-index-eq-NULL.true) in (
-      record { line = is_at stack (First c.of.result) p (LoadFreeLine (wanting y)) [] b q same Underway (LoadTopToRefuse (wanting y).values) e; keeps = a.keeps; node = tt },
-      went_on stack (First c.of.result) p (LoadFreeLine (wanting y)) [] b q same Underway (LoadTopToRefuse (wanting y).values) 0 read_top w [] e c.load-free.ensures.told,
-    )
+    let r = null_first c.args.self.now c.args.operation c.args.by (record { seat = s.new.seat }) s.ensures.seat.0 (wanting y).values s.result is.line s.ensures.steps s.ensures.seat.1 (sym c.index.ensures.field ∙ c.if-index-eq-NULL.true) in
+    (record { of = is.of; line = r.0; keeps = is.keeps; read = tt }, r.1)
 
 pub returns-then-tag-tag_limit : goal.returns-then-tag-tag_limit
-returns-then-tag-tag_limit g c x a =
+returns-then-tag-tag_limit g c x is =
     let stack = c.args.self.now in
-    let p = c.args.by in
+    let s = c.load_tagged_step-free in
     let y = c.args.value in
-    let b = named_first stack p y c.of.result c.of.ensures a.line in
-    let w : ℕ = c.load-free.result in
-    let q = c.load-free.new.by in
-    let t : ℕ = c.tag-then-tag-tag_limit.result in
+    let t = c.tag-then-tag-tag_limit.result in
     let high = c.if-tag-tag_limit.true in
     let tag = c.tag.ensures.field in
     let limit = c.tag_limit.ensures in
-    let e = load_free_spent Underway y w b.going c.load-free.ensures.told.did t c.tag-then-tag-tag_limit.ensures.field (λ z. c.if-index-eq-NULL.false (c.index.ensures.field ∙ z)) (omega arith) in
-    let h = refused_gives x (Spent y FreeWord t) a.keeps e in
-    (is_pass stack (First c.of.result) p (LoadFreeLine (wanting y)) [] b q c.load-free.ensures.same (put_answer (Err (Spent y FreeWord t))) refl e, h.0, h.1)
+    let same = ap tag_limit_of stack.keyed in
+    let e = spent_first stack c.args.operation c.args.by (record { seat = s.new.seat }) s.ensures.seat.0 (wanting y).values s.result t c.tag-then-tag-tag_limit.ensures.field is.line s.ensures.steps s.ensures.seat.1 (λ z. c.if-index-eq-NULL.false (c.index.ensures.field ∙ z)) (omega arith) in
+    (e.0, put_gives stack x c.args.operation is.of (Err (Spent y FreeWord t)) e.1, e.2)
 
 pub returns : goal.returns
-returns g c x a =
+returns g c x is =
     let stack = c.args.self.now in
-    let p = c.args.by in
-    let y = c.args.value in
-    let b = named_first stack p y c.of.result c.of.ensures a.line in
-    let w : ℕ = c.load-free.result in
-    let q = c.load-free.new.by in
-    let same = c.load-free.ensures.same in
+    let s = c.load_tagged_step-free in
     let low = c.if-tag-tag_limit.false in
     let tag = c.tag.ensures.field in
     let limit = c.tag_limit.ensures in
-    let below : tag_of w < tag_limit_of stack.limits = omega arith in
-    let node = λ (z : index_of w ≡ NULL). c.if-index-eq-NULL.false (c.index.ensures.field ∙ z) in
-    let e = load_free_goes Underway y w b.going c.load-free.ensures.told.did node below in (
-      record { line = is_at stack (First c.of.result) p (LoadFreeLine (wanting y)) [] b q same Underway (LoadFreeLink (wanting y) (fields_of w)) e; keeps = a.keeps; node = (c.load-free.ensures.node node, below) },
-      went_on stack (First c.of.result) p (LoadFreeLine (wanting y)) [] b q same Underway (LoadFreeLink (wanting y) (fields_of w)) 0 read_top w [] e c.load-free.ensures.told,
-    )
+    let same = ap tag_limit_of stack.keyed in
+    let below : tag_of s.result < limit_of stack = omega arith in
+    let some_node : index_of s.result ≢ NULL = λ z. c.if-index-eq-NULL.false (c.index.ensures.field ∙ z) in
+    let r = free_allowed stack c.args.operation c.args.by (record { seat = s.new.seat }) s.ensures.seat.0 (wanting c.args.value) s.result is.line s.ensures.steps s.ensures.seat.1 some_node below in
+    (record { of = is.of; line = r.0.0; keeps = is.keeps; read = (r.1, below) }, r.0.1)

@@ -1,64 +1,66 @@
-use Rattle.std.proofs.Common.{refl, ◌∙◌, subst, arith}
-use Rattle.index_list.specs.Steps.{read_top}
+use Rattle.std.proofs.Common.{ℕ, [], refl, sym, ◌∙◌, subst, arith}
+use Rattle.tagged_index.specs.Fields.{fields_of}
 use Rattle.bounded_model.specs.declared.views.PassView.{PassView}
 use Rattle.bounded_model.specs.Laws.{TakesNothing}
-use Rattle.treiber_stack.specs.Stack.{pass_in, shape_of}
-use Rattle.treiber_stack.specs.declared.operation.Operation.TheVariants.{Fold as FoldFirst}
-use Rattle.treiber_stack.proofs.Going.{begun_at_rest}
-use Rattle.treiber_stack.proofs.Closes.{is_started}
-use Rattle.treiber_stack.proofs.Takings.{may_going}
-use Rattle.treiber_stack.proofs.Chained.{seen_top, seen_none, may_take_all, taken_whole, not_taken}
+use Rattle.running.specs.Machine.{loads, swaps, brings}
+use Rattle.running.proofs.Ways.{started, begun_is}
+use Rattle.stack_machine.specs.declared.lines.Taking.TheVariants.{Whole}
+use Rattle.stack_machine.specs.declared.lines.Line.TheVariants.{LoadTopToTake, TakeChain}
+use Rattle.stack_table.specs.Layout.{top_at}
+use Rattle.stack_table.specs.Lines.{direction}
+use Rattle.stack_table.specs.declared.operation.Operation.TheVariants.{Fold as FoldFirst}
+use Rattle.treiber_stack.specs.Stack.{machine_of, shape_of, pass_in}
+use Rattle.treiber_stack.proofs.Gives.{ready}
+use Rattle.treiber_stack.proofs.Folds.{chain_refused, chain_allowed, chain_lost, chain_won}
 use Rattle.treiber_stack.proofs.stack.Stack.take_chain.Goals as goal
 
 pub loop-init : goal.loop-init
-loop-init g c = (tt, tt, is_started c.args.self.now (FoldFirst c.args.front) c.args.by c.requires, begun_at_rest c.args.by.seat.me.0 c.requires.view)
+loop-init g c = let stack = c.args.self.now in let id = stack.table.shared.table_id in let o = FoldFirst c.args.front in
+    (tt, tt, started (machine_of stack) id o c.args.by c.requires, begun_is (machine_of stack) id c.args.by c.requires)
 
-pub load_whole-top-requires-clause-table : goal.load_whole-top-requires-clause-table
-load_whole-top-requires-clause-table g c = c.loop.invariant.2.table
+pub load_tagged_step-top-requires-clause-access : goal.load_tagged_step-top-requires-clause-access
+load_tagged_step-top-requires-clause-access g c = ready c.args.self.now (FoldFirst c.args.front) c.loop.pass (LoadTopToTake (Whole (direction c.args.front))) [] (loads top_at) c.loop.invariant.2 refl
 
-pub load_whole-top-requires-clause-may : goal.load_whole-top-requires-clause-may
-load_whole-top-requires-clause-may g c = may_going 1 read_top c.loop.invariant.2.going refl
+pub returns-in-Some-bars_take : goal.returns-in-Some-bars_take
+returns-in-Some-bars_take g c =
+    let stack = c.args.self.now in
+    let s = c.load_tagged_step-top in
+    let why = c.in-Some-bars_take.why in
+    let e = chain_refused stack c.args.front c.loop.pass (record { seat = s.new.seat }) s.ensures.seat.0 s.result why c.loop.invariant.2 s.ensures.steps s.ensures.seat.1 c.in-Some-bars_take.ensures in
+    (e.0, subst (λ (v : PassView _). TakesNothing (shape_of stack) v (pass_in (record { seat = s.new.seat })) why) c.loop.invariant.3 e.1)
 
-pub returns-in-Some-refused : goal.returns-in-Some-refused
-returns-in-Some-refused g c =
-    let l = c.load_whole-top in
-    let e = seen_none c.args.self.now c.args.front c.loop.pass c.loop.invariant.2 l.result l.new.by l.ensures.same l.ensures.told c.in-Some-refused.why c.in-Some-refused.ensures in
-    (e.0, subst (λ (v : PassView _). TakesNothing (shape_of c.args.self.now) v (pass_in l.new.by) c.in-Some-refused.why) c.loop.invariant.3 e.1)
+pub raised-new-requires : goal.raised-new-requires
+raised-new-requires g c =
+    let below = c.in_default.ensures.2 in
+    let highest = c.args.self.now.table.shared.key.tag_limit_in_range in
+    (omega arith, omega arith)
 
-pub take_nodes-requires-clause-table : goal.take_nodes-requires-clause-table
-take_nodes-requires-clause-table g c = c.load_whole-top.ensures.same.table ∙ c.loop.invariant.2.table
+pub take_step-requires-clause-access : goal.take_step-requires-clause-access
+take_step-requires-clause-access g c =
+    let stack = c.args.self.now in
+    let front = c.args.front in
+    let s = c.load_tagged_step-top in
+    let w : ℕ = s.result in
+    let a = chain_allowed stack front c.loop.pass (record { seat = s.new.seat }) s.ensures.seat.0 w c.loop.invariant.2 s.ensures.steps s.ensures.seat.1 c.in_default.ensures in
+    ready stack (FoldFirst front) (record { seat = s.new.seat }) (TakeChain (direction front) (fields_of w)) [] _ a.0.0 (λ y. swaps top_at (fields_of w) (sym c.raised-new.ensures y) brings)
 
-pub take_nodes-requires-clause-may : goal.take_nodes-requires-clause-may
-take_nodes-requires-clause-may g c =
-    let l = c.load_whole-top in
-    let allows = c.in_default.ensures in
-    let at = seen_top c.args.self.now c.args.front c.loop.pass c.loop.invariant.2 l.result l.new.by l.ensures.same l.ensures.told allows in
-    may_take_all c.args.self.now c.args.front l.result allows.1 l.new.by at.0
-
-pub returns-then-take_nodes : goal.returns-then-take_nodes
-returns-then-take_nodes g c =
-    let l = c.load_whole-top in
-    let t = c.take_nodes in
-    let allows = c.in_default.ensures in
-    let at = seen_top c.args.self.now c.args.front c.loop.pass c.loop.invariant.2 l.result l.new.by l.ensures.same l.ensures.told allows in
-    let all = taken_whole c.args.self.now c.args.front l.result allows.1 l.new.by at.0 t.new.by c.if-take_nodes.ensures.table (c.if-take_nodes.ensures.won refl) in
-    (all.0, all.1 ∙ at.1 ∙ c.loop.invariant.3)
+pub returns-then-take_step : goal.returns-then-take_step
+returns-then-take_step g c =
+    let stack = c.args.self.now in
+    let front = c.args.front in
+    let s = c.load_tagged_step-top in
+    let w : ℕ = s.result in
+    let a = chain_allowed stack front c.loop.pass (record { seat = s.new.seat }) s.ensures.seat.0 w c.loop.invariant.2 s.ensures.steps s.ensures.seat.1 c.in_default.ensures in
+    let r = chain_won stack front (record { seat = s.new.seat }) (record { seat = c.take_step.new.seat }) c.take_step.ensures.seat w a.0.0 (c.if-take_step.ensures.won refl) in
+    (r.0, r.1 ∙ a.0.1.0 ∙ c.loop.invariant.3)
 
 pub loop-preserved : goal.loop-preserved
 loop-preserved g c =
-    let l = c.load_whole-top in
-    let t = c.take_nodes in
-    let allows = c.in_default.ensures in
-    let at = seen_top c.args.self.now c.args.front c.loop.pass c.loop.invariant.2 l.result l.new.by l.ensures.same l.ensures.told allows in
-    let lost = c.if-take_nodes.ensures.lost refl in
-    let none = not_taken c.args.self.now c.args.front l.result allows.1 l.new.by at.0 t.new.by c.if-take_nodes.ensures.table lost.0 lost.1 in
-    (tt, tt, none.0, none.1 ∙ at.1 ∙ c.loop.invariant.3)
-
-pub take_nodes-requires-clause-word : goal.take_nodes-requires-clause-word
-take_nodes-requires-clause-word g c =
-    let allows = c.in_default.ensures in
-    let low = c.load_whole-top.ensures.node allows.1 in
-    let below = allows.2 in
-    let most = c.args.self.now.limits.capacity_in_range in
-    let highest = c.args.self.now.limits.tag_limit_in_range in
-    (omega arith, omega arith)
+    let stack = c.args.self.now in
+    let front = c.args.front in
+    let s = c.load_tagged_step-top in
+    let w : ℕ = s.result in
+    let a = chain_allowed stack front c.loop.pass (record { seat = s.new.seat }) s.ensures.seat.0 w c.loop.invariant.2 s.ensures.steps s.ensures.seat.1 c.in_default.ensures in
+    let lost = c.if-take_step.ensures.lost refl in
+    let r = chain_lost stack front (record { seat = s.new.seat }) (record { seat = c.take_step.new.seat }) c.take_step.ensures.seat w a.0.0 lost.0 lost.1 in
+    (tt, tt, r.0, r.1.0 ∙ a.0.1.0 ∙ c.loop.invariant.3)

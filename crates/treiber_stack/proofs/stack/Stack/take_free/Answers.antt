@@ -1,110 +1,189 @@
-use Rattle.std.proofs.Common.{◌≡◌, ℕ, ◌<◌, refl, sym, ◌∙◌, subst, arith}
-use Rattle.bounded_model.specs.declared.views.PassView.{PassView}
-use Rattle.index_list.specs.Steps.{read_top}
-use Rattle.tagged_index.specs.Fields.{index_of, tag_of}
-use Rattle.tagged_index.specs.Limits.{capacity_of, tag_limit_of}
+use Rattle.std.proofs.Common.{◌≢◌, ℕ, ◌<◌, ◌∷◌, refl, sym, ap, ◌∙◌, subst, arith}
+use Rattle.std.specs.Prelude.{None}
+use Rattle.tagged_index.specs.Fields.{fields_of, index_of, tag_of}
+use Rattle.tagged_index.specs.Limits.{tag_limit_of}
 use Rattle.tagged_index.specs.declared.word.TheConstants.{NULL}
-use Rattle.treiber_stack.specs.Ranging.{Stops}
-use Rattle.treiber_stack.specs.declared.ranging.NoNode.TheVariants.{NoneFree, Spent as NodeSpent}
-use Rattle.treiber_stack.proofs.Takings.{may_going}
-use Rattle.treiber_stack.proofs.Collecting.{null_stops, worn_stops, may_read_free, may_take_free, takes_free, tries_free_again}
+use Rattle.bounded_model.specs.declared.views.PassView.{PassView}
+use Rattle.running.specs.Machine.{loads, swaps, brings}
+use Rattle.stack_machine.specs.declared.lines.Line.TheVariants.{LoadFreeLink, TakeFree}
+use Rattle.stack_table.specs.Layout.{free_at, link_at}
+use Rattle.treiber_stack.specs.Nodes.{loaded, Stops}
+use Rattle.treiber_stack.specs.Stack.{room_of, limit_of}
+use Rattle.treiber_stack.specs.declared.nodes.NoNode.TheVariants.{NoneFree, Spent}
+use Rattle.treiber_stack.proofs.Gives.{ready}
+use Rattle.treiber_stack.proofs.Placing.{null_stops, spent_stops, free_allowed, free_read, free_lost, free_slots, free_won}
 use Rattle.treiber_stack.proofs.stack.Stack.take_free.Goals as goal
 
-pub loop-init : goal.loop-init
-loop-init g c = (tt, tt, λ put at. (at, refl))
-
-pub load-free-requires : goal.load-free-requires
-load-free-requires g c =
-    let at = (c.loop.invariant.2 c.requires.0 c.requires.1).0 in
-    record { table = (at.table, omega arith); may = may_going 0 read_top at.going refl }
-
 pub returns-then-index-eq-NULL : goal.returns-then-index-eq-NULL
-returns-then-index-eq-NULL g c put first =
-    let i = c.loop.invariant.2 put first in
-    let l = c.load-free in
-    subst (λ (v : PassView _). Stops c.args.self.now v l.new.by put.chain put.values NoneFree) i.1
-    (null_stops c.args.self.now c.args.operation.now put.values c.loop.pass l.result l.new.by l.ensures.same l.ensures.told put.chain i.0 (sym c.index-index.ensures.field ∙ c.if-index-eq-NULL.true))
+returns-then-index-eq-NULL g c put is =
+    let stack = c.args.self.now in
+    let o = c.args.operation.now in
+    let i = c.loop.invariant.2 put is in
+    let s = c.load_tagged_step-free in
+    let e = null_stops stack o c.loop.pass (record { seat = s.new.seat }) s.ensures.seat.0 put.chain put.values s.result i.0 s.ensures.steps s.ensures.seat.1 (sym c.index-index.ensures.field ∙ c.if-index-eq-NULL.true) in
+    subst (λ (v : PassView _). Stops stack o v (record { seat = s.new.seat }) put.chain put NoneFree) i.1 e
 
 pub returns-then-tag-tag_limit : goal.returns-then-tag-tag_limit
-returns-then-tag-tag_limit g c put first =
-    let i = c.loop.invariant.2 put first in
-    let l = c.load-free in
+returns-then-tag-tag_limit g c put is =
+    let stack = c.args.self.now in
+    let o = c.args.operation.now in
+    let i = c.loop.invariant.2 put is in
+    let s = c.load_tagged_step-free in
+    let t : ℕ = c.tag-tag.result in
     let high = c.if-tag-tag_limit.true in
     let tag = c.tag-tag.ensures.field in
     let limit = c.tag_limit.ensures in
-    subst (λ (v : PassView _). Stops c.args.self.now v l.new.by put.chain put.values (NodeSpent c.tag-tag.result)) i.1
-    (worn_stops c.args.self.now c.args.operation.now put.values c.loop.pass l.result l.new.by l.ensures.same l.ensures.told put.chain c.tag-tag.result c.tag-tag.ensures.field i.0 (λ z. c.if-index-eq-NULL.false (c.index-index.ensures.field ∙ z)) (omega arith))
+    let same = ap tag_limit_of stack.keyed in
+    let e = spent_stops stack o c.loop.pass (record { seat = s.new.seat }) s.ensures.seat.0 put.chain put.values s.result t tag i.0 s.ensures.steps s.ensures.seat.1 (λ z. c.if-index-eq-NULL.false (c.index-index.ensures.field ∙ z)) (omega arith) in
+    subst (λ (v : PassView _). Stops stack o v (record { seat = s.new.seat }) put.chain put (Spent t)) i.1 e
 
-pub load_next-next-requires : goal.load_next-next-requires
-load_next-next-requires g c =
+pub load_step-found-requires-clause-table : goal.load_step-found-requires-clause-table
+load_step-found-requires-clause-table g c =
+    let stack = c.args.self.now in
+    let o = c.args.operation.now in
+    let i = c.loop.invariant.2 c.requires.0 c.requires.1 in
     let put = c.requires.0 in
-    let i = c.loop.invariant.2 put c.requires.1 in
-    let l = c.load-free in
-    let w : ℕ = l.result in
-    let node = λ (z : index_of w ≡ NULL). c.if-index-eq-NULL.false (c.index-index.ensures.field ∙ z) in
+    let s = c.load_tagged_step-free in
+    let w : ℕ = s.result in
     let low = c.if-tag-tag_limit.false in
     let tag = c.tag-tag.ensures.field in
     let limit = c.tag_limit.ensures in
-    let below : tag_of w < tag_limit_of c.args.self.now.limits = omega arith in
-    record {
-      table = (l.ensures.same.table ∙ i.0.table, omega arith, subst (λ (k : ℕ). k < capacity_of c.args.self.now.limits) (sym c.index-index.ensures.field) (l.ensures.node node));
-      may = may_read_free c.args.self.now c.args.operation.now put.values c.loop.pass w l.new.by l.ensures.same l.ensures.told put.chain i.0 node below c.index-index.result c.index-index.ensures.field;
-    }
+    let same = ap tag_limit_of stack.keyed in
+    let below : tag_of w < limit_of stack = omega arith in
+    let some_node : index_of w ≢ NULL = λ z. c.if-index-eq-NULL.false (c.index-index.ensures.field ∙ z) in
+    let a = free_allowed stack o c.loop.pass (record { seat = s.new.seat }) s.ensures.seat.0 put w i.0 s.ensures.steps s.ensures.seat.1 some_node below in
+    let small = a.1 in
+    let words = stack.words in
+    let at = c.link.ensures in
+    let field = c.index-index.ensures.field in
+    (s.ensures.seat.0 ∙ i.0.table, omega arith)
 
-pub take_node-requires : goal.take_node-requires
-take_node-requires g c =
+pub load_step-found-requires-clause-access : goal.load_step-found-requires-clause-access
+load_step-found-requires-clause-access g c =
+    let stack = c.args.self.now in
+    let o = c.args.operation.now in
+    let i = c.loop.invariant.2 c.requires.0 c.requires.1 in
     let put = c.requires.0 in
-    let i = c.loop.invariant.2 put c.requires.1 in
-    let l = c.load-free in
-    let s = c.load_next-next in
-    let w : ℕ = l.result in
-    let node = λ (z : index_of w ≡ NULL). c.if-index-eq-NULL.false (c.index-index.ensures.field ∙ z) in
+    let s = c.load_tagged_step-free in
+    let w : ℕ = s.result in
     let low = c.if-tag-tag_limit.false in
     let tag = c.tag-tag.ensures.field in
     let limit = c.tag_limit.ensures in
-    let below : tag_of w < tag_limit_of c.args.self.now.limits = omega arith in
-    let there = l.ensures.node node in
-    let most = c.args.self.now.limits.capacity_in_range in
-    let highest = c.args.self.now.limits.tag_limit_in_range in
-    record {
-      table = (s.ensures.same.table ∙ l.ensures.same.table ∙ i.0.table, omega arith);
-      may = may_take_free c.args.self.now c.args.operation.now put.values c.loop.pass w l.new.by l.ensures.same l.ensures.told put.chain i.0 node below c.index-index.result s.result c.index-index.ensures.field s.ensures.index s.new.by s.ensures.same s.ensures.told;
-      word = (omega arith, omega arith, s.ensures.index);
-    }
+    let same = ap tag_limit_of stack.keyed in
+    let below : tag_of w < limit_of stack = omega arith in
+    let some_node : index_of w ≢ NULL = λ z. c.if-index-eq-NULL.false (c.index-index.ensures.field ∙ z) in
+    let a = free_allowed stack o c.loop.pass (record { seat = s.new.seat }) s.ensures.seat.0 put w i.0 s.ensures.steps s.ensures.seat.1 some_node below in
+    ready stack o (record { seat = s.new.seat }) (LoadFreeLink put (fields_of w)) (loaded put) _ a.0.0 (λ y. loads ((ap link_at (sym c.index-index.ensures.field) ∙ sym c.link.ensures) y))
 
-pub returns-then-take_node : goal.returns-then-take_node
-returns-then-take_node g c put first =
-    let i = c.loop.invariant.2 put first in
-    let l = c.load-free in
-    let s = c.load_next-next in
-    let t = c.take_node in
-    let w : ℕ = l.result in
-    let node = λ (z : index_of w ≡ NULL). c.if-index-eq-NULL.false (c.index-index.ensures.field ∙ z) in
+pub overflow_cast-found : goal.overflow_cast-found
+overflow_cast-found g c =
+    let stack = c.args.self.now in
+    let o = c.args.operation.now in
+    let i = c.loop.invariant.2 c.requires.0 c.requires.1 in
+    let put = c.requires.0 in
+    let s = c.load_tagged_step-free in
+    let w : ℕ = s.result in
     let low = c.if-tag-tag_limit.false in
     let tag = c.tag-tag.ensures.field in
     let limit = c.tag_limit.ensures in
-    let below : tag_of w < tag_limit_of c.args.self.now.limits = omega arith in
-    let all = takes_free c.args.self.now c.args.operation.now put.values c.loop.pass w l.new.by l.ensures.same l.ensures.told put.chain i.0 node below c.index-index.result s.result c.index-index.ensures.field s.ensures.index s.new.by s.ensures.same s.ensures.told
-    t.new.by c.if-take_node.ensures.table c.index-index.result c.index-index.ensures.field (l.ensures.node node) (c.if-take_node.ensures.won refl) in
-    (all.0, all.1, all.2, all.3 ∙ i.1)
+    let same = ap tag_limit_of stack.keyed in
+    let below : tag_of w < limit_of stack = omega arith in
+    let some_node : index_of w ≢ NULL = λ z. c.if-index-eq-NULL.false (c.index-index.ensures.field ∙ z) in
+    let a = free_allowed stack o c.loop.pass (record { seat = s.new.seat }) s.ensures.seat.0 put w i.0 s.ensures.steps s.ensures.seat.1 some_node below in
+    let t = c.load_step-found in
+    let k : ℕ = t.result in
+    let b = free_read stack o (record { seat = s.new.seat }) (record { seat = t.new.seat }) t.ensures.seat.0 put w k a.0.0 t.ensures.steps t.ensures.seat.1 in
+    let small = b.1 in
+    omega arith
+
+pub raised-new-requires : goal.raised-new-requires
+raised-new-requires g c =
+    let stack = c.args.self.now in
+    let o = c.args.operation.now in
+    let i = c.loop.invariant.2 c.requires.0 c.requires.1 in
+    let put = c.requires.0 in
+    let s = c.load_tagged_step-free in
+    let w : ℕ = s.result in
+    let low = c.if-tag-tag_limit.false in
+    let tag = c.tag-tag.ensures.field in
+    let limit = c.tag_limit.ensures in
+    let same = ap tag_limit_of stack.keyed in
+    let below : tag_of w < limit_of stack = omega arith in
+    let some_node : index_of w ≢ NULL = λ z. c.if-index-eq-NULL.false (c.index-index.ensures.field ∙ z) in
+    let a = free_allowed stack o c.loop.pass (record { seat = s.new.seat }) s.ensures.seat.0 put w i.0 s.ensures.steps s.ensures.seat.1 some_node below in
+    let t = c.load_step-found in
+    let k : ℕ = t.result in
+    let b = free_read stack o (record { seat = s.new.seat }) (record { seat = t.new.seat }) t.ensures.seat.0 put w k a.0.0 t.ensures.steps t.ensures.seat.1 in
+    let small = b.1 in
+    let highest = stack.table.shared.key.tag_limit_in_range in
+    (omega arith, omega arith)
+
+pub take_step-requires-clause-access : goal.take_step-requires-clause-access
+take_step-requires-clause-access g c =
+    let stack = c.args.self.now in
+    let o = c.args.operation.now in
+    let i = c.loop.invariant.2 c.requires.0 c.requires.1 in
+    let put = c.requires.0 in
+    let s = c.load_tagged_step-free in
+    let w : ℕ = s.result in
+    let low = c.if-tag-tag_limit.false in
+    let tag = c.tag-tag.ensures.field in
+    let limit = c.tag_limit.ensures in
+    let same = ap tag_limit_of stack.keyed in
+    let below : tag_of w < limit_of stack = omega arith in
+    let some_node : index_of w ≢ NULL = λ z. c.if-index-eq-NULL.false (c.index-index.ensures.field ∙ z) in
+    let a = free_allowed stack o c.loop.pass (record { seat = s.new.seat }) s.ensures.seat.0 put w i.0 s.ensures.steps s.ensures.seat.1 some_node below in
+    let t = c.load_step-found in
+    let k : ℕ = t.result in
+    let b = free_read stack o (record { seat = s.new.seat }) (record { seat = t.new.seat }) t.ensures.seat.0 put w k a.0.0 t.ensures.steps t.ensures.seat.1 in
+    ready stack o (record { seat = t.new.seat }) (TakeFree put (fields_of w) k) (loaded put) _ b.0.0 (λ y. swaps free_at (fields_of w) (sym c.raised-new.ensures y) brings)
+
+pub returns-then-take_step : goal.returns-then-take_step
+returns-then-take_step g c put' is =
+    let stack = c.args.self.now in
+    let o = c.args.operation.now in
+    let i = c.loop.invariant.2 put' is in
+    let put = put' in
+    let s = c.load_tagged_step-free in
+    let w : ℕ = s.result in
+    let low = c.if-tag-tag_limit.false in
+    let tag = c.tag-tag.ensures.field in
+    let limit = c.tag_limit.ensures in
+    let same = ap tag_limit_of stack.keyed in
+    let below : tag_of w < limit_of stack = omega arith in
+    let some_node : index_of w ≢ NULL = λ z. c.if-index-eq-NULL.false (c.index-index.ensures.field ∙ z) in
+    let a = free_allowed stack o c.loop.pass (record { seat = s.new.seat }) s.ensures.seat.0 put w i.0 s.ensures.steps s.ensures.seat.1 some_node below in
+    let t = c.load_step-found in
+    let k : ℕ = t.result in
+    let b = free_read stack o (record { seat = s.new.seat }) (record { seat = t.new.seat }) t.ensures.seat.0 put w k a.0.0 t.ensures.steps t.ensures.seat.1 in
+    let won = c.if-take_step.ensures.won refl in
+    let j : ℕ = c.index-index.result in
+    let has = free_slots stack o (record { seat = t.new.seat }) (record { seat = c.take_step.new.seat }) c.take_step.ensures.seat put w k j c.index-index.ensures.field b.0.0 won in
+    let r = free_won stack o (record { seat = t.new.seat }) (record { seat = c.take_step.new.seat }) c.take_step.ensures.seat put w k j c.index-index.ensures.field b.0.0 won (record { seat = c.take_step.new.seat }) ((j, None) ∷ loaded put) refl (λ y. (c.take_step.new.seat.me.0, has y)) in
+    record { at = r.0; low = subst (λ (m : ℕ). m < room_of stack) (sym c.index-index.ensures.field) a.1; begun_is = r.1.0 ∙ b.0.1.0 ∙ a.0.1.0 ∙ i.1 }
 
 pub loop-preserved : goal.loop-preserved
 loop-preserved g c = (
   tt,
   tt,
-  λ put first.
-      let i = c.loop.invariant.2 put first in
-      let l = c.load-free in
-      let s = c.load_next-next in
-      let t = c.take_node in
-      let w : ℕ = l.result in
-      let node = λ (z : index_of w ≡ NULL). c.if-index-eq-NULL.false (c.index-index.ensures.field ∙ z) in
+  λ put' is.
+      let stack = c.args.self.now in
+      let o = c.args.operation.now in
+      let i = c.loop.invariant.2 put' is in
+      let put = put' in
+      let s = c.load_tagged_step-free in
+      let w : ℕ = s.result in
       let low = c.if-tag-tag_limit.false in
       let tag = c.tag-tag.ensures.field in
       let limit = c.tag_limit.ensures in
-      let below : tag_of w < tag_limit_of c.args.self.now.limits = omega arith in
-      let lost = c.if-take_node.ensures.lost refl in
-      let all = tries_free_again c.args.self.now c.args.operation.now put.values c.loop.pass w l.new.by l.ensures.same l.ensures.told put.chain i.0 node below c.index-index.result s.result c.index-index.ensures.field s.ensures.index s.new.by s.ensures.same s.ensures.told
-      t.new.by c.if-take_node.ensures.table lost.0 lost.1 in
-      (all.0, all.1 ∙ i.1),
+      let same = ap tag_limit_of stack.keyed in
+      let below : tag_of w < limit_of stack = omega arith in
+      let some_node : index_of w ≢ NULL = λ z. c.if-index-eq-NULL.false (c.index-index.ensures.field ∙ z) in
+      let a = free_allowed stack o c.loop.pass (record { seat = s.new.seat }) s.ensures.seat.0 put w i.0 s.ensures.steps s.ensures.seat.1 some_node below in
+      let t = c.load_step-found in
+      let k : ℕ = t.result in
+      let b = free_read stack o (record { seat = s.new.seat }) (record { seat = t.new.seat }) t.ensures.seat.0 put w k a.0.0 t.ensures.steps t.ensures.seat.1 in
+      let lost = c.if-take_step.ensures.lost refl in
+      let r = free_lost stack o (record { seat = t.new.seat }) (record { seat = c.take_step.new.seat }) c.take_step.ensures.seat put w k b.0.0 lost.0 lost.1 in
+      (r.0, r.1.0 ∙ b.0.1.0 ∙ a.0.1.0 ∙ i.1),
 )

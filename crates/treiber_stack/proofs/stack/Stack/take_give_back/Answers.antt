@@ -1,44 +1,36 @@
-use Rattle.std.proofs.Common.{◌∙◌, arith, [], ◌∷◌, refl}
-use Rattle.std.specs.Prelude.{None, Ok}
-use Rattle.tagged_index.specs.Fields.{fields_of}
-use Rattle.index_list.specs.Steps.{give_chain}
-use Rattle.stack_machine.specs.declared.lines.Line.TheVariants.{LoadFreeToGive, GiveBack}
-use Rattle.treiber_stack.specs.declared.operation.Operation.TheVariants.{Take as First}
-use Rattle.treiber_stack.specs.Operations.{IsSame}
+use Rattle.std.proofs.Common.{refl, ◌∙◌, subst}
+use Rattle.std.specs.Prelude.{Ok}
+use Rattle.stack_machine.specs.Machine.{ends}
+use Rattle.stack_table.specs.declared.operation.Operation.TheVariants.{Take as First}
+use Rattle.stack_table.specs.Slots.{vacant}
+use Rattle.running.proofs.Ways.{went_on, ended}
+use Rattle.treiber_stack.specs.Giving.{Led, IsGiving, AreNodes, give_line}
+use Rattle.treiber_stack.specs.Stack.{machine_of, room_of}
 use Rattle.treiber_stack.specs.Taking.{giving}
-use Rattle.treiber_stack.proofs.Closes.{is_at, went_on}
-use Rattle.treiber_stack.proofs.Takings.{may_going, held_going, give_back_won, give_back_lost, take_gives}
+use Rattle.treiber_stack.specs.declared.giving.Gave.{Gave}
+use Rattle.treiber_stack.proofs.Gives.{busy_giving, one_node}
+use Rattle.treiber_stack.proofs.Takes.{take_gives}
 use Rattle.treiber_stack.proofs.stack.Stack.take_give_back.Goals as goal
 
-pub give_node-requires : goal.give_node-requires
-give_node-requires g c =
-    let at = c.requires.line in
-    let t = c.args.taken in
-    let low = c.requires.node in
-    let most = c.args.self.now.limits.capacity_in_range in
-    record {
-      table = at.table;
-      may = may_going 0 (give_chain c.args.free t.index) at.going (t.index ∷ [], refl, refl);
-      held = (held_going at.going, at.has, omega arith);
-    }
+pub give-requires : goal.give-requires
+give-requires g c = (giving c.args.taken, record { line = c.requires.line; are = one_node (room_of c.args.self.now) c.args.taken.index c.of-chain.result c.of-chain.ensures c.requires.read })
 
-pub returns : goal.returns
-returns g c =
+pub returns-in-On : goal.returns-in-On
+returns-in-On g c =
     let stack = c.args.self.now in
-    let at = c.requires.line in
-    let t = c.args.taken in
-    let lost = c.if-give_node.ensures.lost refl in
-    let e = give_back_lost c.args.free t.index lost.1.found (giving t) lost.1.other at.going lost.1.told.did in
-    let same : IsSame c.args.by c.give_node.new.by = record { table = c.if-give_node.ensures.table; slots = lost.0 } in (
-      record { line = is_at stack First c.args.by (GiveBack (giving t) (fields_of c.args.free)) ((t.index, None) ∷ []) at c.give_node.new.by same First (LoadFreeToGive (giving t)) e; node = c.requires.node },
-      went_on stack First c.args.by (GiveBack (giving t) (fields_of c.args.free)) ((t.index, None) ∷ []) at c.give_node.new.by same First (LoadFreeToGive (giving t)) 0 (give_chain c.args.free t.index) lost.1.found [] e lost.1.told,
-    )
+    let t = giving c.args.taken in
+    let line = c.requires.line in
+    let is = one_node (room_of stack) c.args.taken.index c.of-chain.result c.of-chain.ensures c.requires.read in
+    let e = subst (λ (r : Gave). Led stack First c.args.by c.give.new.by t c.args.at r) c.in-On.is (c.give.ensures t (record { line = line; are = is })) in
+    let r = went_on (machine_of stack) c.args.by c.give.new.by (give_line t c.args.at) (give_line t c.in-On.at) e.steps (e.table ∙ line.table) (vacant t.chain) e.slots (busy_giving t c.in-On.at) in
+    (record { line = r.0; read = c.requires.read }, r.1)
 
-pub returns-then-give_node : goal.returns-then-give_node
-returns-then-give_node g c =
-    let at = c.requires.line in
-    let t = c.args.taken in
-    let won = c.if-give_node.ensures.won refl in
-    let e = give_back_won c.args.free t.index (giving t) won.slots at.going won.told.did in
-    let h = take_gives (Ok (t.value, t.number)) e in
-    (record { table = c.if-give_node.ensures.table ∙ at.table; view = e.0.view; slots = won.none_left; rests = e.0.rests }, h.0, h.1)
+pub returns-in-All : goal.returns-in-All
+returns-in-All g c =
+    let stack = c.args.self.now in
+    let t = giving c.args.taken in
+    let line = c.requires.line in
+    let is = one_node (room_of stack) c.args.taken.index c.of-chain.result c.of-chain.ensures c.requires.read in
+    let e = subst (λ (r : Gave). Led stack First c.args.by c.give.new.by t c.args.at r) c.in-All.is (c.give.ensures t (record { line = line; are = is })) in
+    let r = ended (machine_of stack) c.args.by c.give.new.by (give_line t c.args.at) (ends t.answer) e.steps (e.table ∙ line.table) e.slots refl in
+    (r.0, take_gives stack (Ok (c.args.taken.value, c.args.taken.number)) r.1, r.2)

@@ -1,5 +1,12 @@
-use Rattle.std.proofs.Common.{[], ◌∷◌, ◌++◌, refl, ◌∙◌, arith}
-use Rattle.treiber_stack.proofs.Walking.{Folds_more, walk_start, index_low, count_low, front_full, may_link, walk_goes, walk_ends}
+use Rattle.std.proofs.Common.{ℕ, [], ◌∷◌, ◌++◌, refl, sym, ◌∙◌, arith, ap}
+use Rattle.tagged_index.specs.Limits.{capacity_of}
+use Rattle.running.specs.Machine.{loads}
+use Rattle.stack_machine.specs.declared.lines.Line.TheVariants.{LoadLinkToFold}
+use Rattle.stack_table.specs.declared.operation.Operation.TheVariants.{Fold as FoldFirst}
+use Rattle.stack_table.specs.Slots.{full, vacant}
+use Rattle.treiber_stack.specs.Folding.{folding}
+use Rattle.treiber_stack.proofs.Gives.{ready}
+use Rattle.treiber_stack.proofs.Walking.{Folds_more, walk_start, index_low, count_low, front_full, taken_out, next_low, walk_goes, walk_ends}
 use Rattle.treiber_stack.proofs.stack.Stack.walk.Goals as goal
 
 pub loop-before-init : goal.loop-before-init
@@ -11,27 +18,59 @@ take_out-value-requires-clause-table g c = c.loop-before.invariant.1.at.table
 pub take_out-value-requires-clause-full : goal.take_out-value-requires-clause-full
 take_out-value-requires-clause-full g c =
     let i = c.loop-before.invariant in
-    (i.1.value, front_full c.args.self.now c.args.front c.args.top c.loop-before.pass i.0 c.args.first c.loop-before.before c.loop-before.index i.1)
+    front_full c.args.self.now c.args.front c.args.top c.loop-before.pass i.0 c.args.first c.loop-before.before c.loop-before.index i.1
 
-pub load_next-next-requires-clause-table : goal.load_next-next-requires-clause-table
-load_next-next-requires-clause-table g c =
-    let i = c.loop-before.invariant in
-    (c.take_out-value.ensures.table ∙ i.1.at.table, omega arith, index_low c.args.self.now c.args.front c.args.top c.loop-before.pass i.0 c.args.first c.loop-before.before c.loop-before.index i.1)
+pub link-at-requires : goal.link-at-requires
+link-at-requires g c = let i = c.loop-before.invariant in let low = index_low c.args.self.now c.args.front c.args.top c.loop-before.pass i.0 c.args.first c.loop-before.before c.loop-before.index i.1 in let most = c.args.self.now.table.shared.key.capacity_in_range in omega arith
 
-pub load_next-next-requires-clause-may : goal.load_next-next-requires-clause-may
-load_next-next-requires-clause-may g c =
-    let i = c.loop-before.invariant in
-    let e = c.take_out-value.ensures in
-    may_link c.args.self.now c.args.front c.args.top c.loop-before.pass i.0 c.args.first c.loop-before.before c.loop-before.index i.1 c.take_out-value.new.by c.take_out-value.result e.table e.value e.out
-
-pub returns-then-next-eq-NULL : goal.returns-then-next-eq-NULL
-returns-then-next-eq-NULL g c =
+pub load_step-found-requires-clause-table : goal.load_step-found-requires-clause-table
+load_step-found-requires-clause-table g c =
+    let stack = c.args.self.now in
+    let front = c.args.front in
+    let w : ℕ = c.args.top in
     let i = c.loop-before.invariant in
     let e = c.take_out-value.ensures in
     let x = c.take_out-value.result in
-    let l = c.load_next-next in
-    let all = walk_ends c.args.self.now c.args.front c.args.top c.loop-before.pass i.0 c.args.first c.loop-before.before c.loop-before.index i.1 c.take_out-value.new.by x e.table e.value e.out l.result l.new.by l.ensures.same l.ensures.told c.if-next-eq-NULL.true in
+    let low = index_low stack front w c.loop-before.pass i.0 c.args.first c.loop-before.before c.loop-before.index i.1 in
+    let words = stack.words in
+    let at = c.link-at.ensures in
+    (e.table ∙ i.1.at.table, omega arith)
+
+pub load_step-found-requires-clause-access : goal.load_step-found-requires-clause-access
+load_step-found-requires-clause-access g c =
+    let stack = c.args.self.now in
+    let front = c.args.front in
+    let w : ℕ = c.args.top in
+    let i = c.loop-before.invariant in
+    let e = c.take_out-value.ensures in
+    let x = c.take_out-value.result in
+    let a = taken_out stack front w c.loop-before.pass i.0 c.args.first c.loop-before.before c.loop-before.index i.1 c.take_out-value.new.by x e.table e.value e.out in
+    ready stack (FoldFirst front) c.take_out-value.new.by (LoadLinkToFold (folding i.1.chain i.1.folded w) c.loop-before.index) _ _ a.0 (λ y. loads (sym c.link-at.ensures y))
+
+pub overflow_cast-next : goal.overflow_cast-next
+overflow_cast-next g c =
+    let stack = c.args.self.now in
+    let front = c.args.front in
+    let w : ℕ = c.args.top in
+    let i = c.loop-before.invariant in
+    let e = c.take_out-value.ensures in
+    let x = c.take_out-value.result in
+    let l = c.load_step-found in
+    let low = next_low stack front w c.loop-before.pass i.0 c.args.first c.loop-before.before c.loop-before.index i.1 c.take_out-value.new.by x e.table e.value e.out l.result (record { seat = l.new.seat }) l.ensures.steps l.ensures.seat.0 l.ensures.seat.1 in
+    omega arith
+
+pub returns-then-next-eq-NULL : goal.returns-then-next-eq-NULL
+returns-then-next-eq-NULL g c =
+    let stack = c.args.self.now in
+    let front = c.args.front in
+    let w : ℕ = c.args.top in
+    let i = c.loop-before.invariant in
+    let e = c.take_out-value.ensures in
+    let x = c.take_out-value.result in
+    let l = c.load_step-found in
+    let all = walk_ends stack front w c.loop-before.pass i.0 c.args.first c.loop-before.before c.loop-before.index i.1 c.take_out-value.new.by x e.table e.value e.out l.result (record { seat = l.new.seat }) l.ensures.steps l.ensures.seat.0 l.ensures.seat.1 c.if-next-eq-NULL.true in
     record {
+      chain = i.1.chain;
       folded = i.0 ++ x ∷ [];
       emptied = all.0;
       folds = Folds_more _ _ i.0 _ _ x i.2 c.f-folded.ensures;
@@ -41,11 +80,14 @@ returns-then-next-eq-NULL g c =
 
 pub loop-before-preserved : goal.loop-before-preserved
 loop-before-preserved g c =
+    let stack = c.args.self.now in
+    let front = c.args.front in
+    let w : ℕ = c.args.top in
     let i = c.loop-before.invariant in
     let e = c.take_out-value.ensures in
     let x = c.take_out-value.result in
-    let l = c.load_next-next in
-    let all = walk_goes c.args.self.now c.args.front c.args.top c.loop-before.pass i.0 c.args.first c.loop-before.before c.loop-before.index i.1 c.take_out-value.new.by x e.table e.value e.out l.result l.new.by l.ensures.same l.ensures.told c.if-next-eq-NULL.false in
+    let l = c.load_step-found in
+    let all = walk_goes stack front w c.loop-before.pass i.0 c.args.first c.loop-before.before c.loop-before.index i.1 c.take_out-value.new.by x e.table e.value e.out l.result (record { seat = l.new.seat }) l.ensures.steps l.ensures.seat.0 l.ensures.seat.1 c.if-next-eq-NULL.false in
     (i.0 ++ x ∷ [], all.0, Folds_more _ _ i.0 _ _ x i.2 c.f-folded.ensures, all.1 ∙ i.3)
 
 pub unreachable-requires : goal.unreachable-requires
@@ -54,4 +96,5 @@ unreachable-requires g c =
     let low = count_low c.args.self.now c.args.front c.args.top c.loop-before.pass i.0 c.args.first c.loop-before.before c.loop-before.index i.1 in
     let high = c.loop-before-test.false in
     let most = c.capacity-before-end.ensures in
+    let same = ap capacity_of c.args.self.now.keyed in
     absurd (omega arith)

@@ -1,7 +1,7 @@
 use Rattle.std.proofs.Common.{◌≡◌, List}
 use Rattle.bounded_model.specs.Consumes.{Folds}
-use Rattle.treiber_stack.specs.Operations.{begun_in}
 use Rattle.treiber_stack.specs.Folding.{IsWalking}
+use Rattle.treiber_stack.specs.Stack.{begun_of}
 use Rattle.treiber_stack.proofs.stack.Stack.walk.Given as goal
 
 abbrev pub invariant-loop-before : goal.invariant-loop-before
@@ -9,4 +9,4 @@ invariant-loop-before g l =
     (gone : List g.row.T.Denot)
     × IsWalking l.fn.self l.fn.front l.fn.top l.pass gone l.first l.before l.index
     × Folds (λ s x t. goal.F-post g l.f s x t) l.fn.state gone l.folded
-    × (begun_in l.pass ≡ begun_in l.fn.by)
+    × (begun_of l.fn.self l.pass ≡ begun_of l.fn.self l.fn.by)

@@ -1,0 +1,91 @@
+-- Where a step of giving back leads.
+use Rattle.std.proofs.Common.{◌≡◌, ℕ, ◌<◌, false, List, [], ◌∷◌, refl, sym, ap, ◌∙◌, subst}
+use Rattle.std.specs.Prelude.{Option as Slot}
+use Rattle.tagged_index.specs.Fields.{fields_of}
+use Rattle.bounded_model.specs.declared.views.PassView.{PassView}
+use Rattle.stack_machine.specs.declared.lines.Giving.{Giving}
+use Rattle.stack_machine.specs.declared.lines.Line.{Line}
+use Rattle.stack_machine.specs.Machine.{is_idle, ends}
+use Rattle.stack_table.specs.declared.operation.Operation.{Operation}
+use Rattle.stack_table.specs.Lines.{access, next}
+use Rattle.stack_table.specs.Slots.{vacant}
+use Rattle.running.specs.Going.{Found, Steps, AtAccess, Going, Ended, Missed, begun_in}
+use Rattle.running.specs.Machine.{Access}
+use Rattle.running.specs.declared.passes.Pass.{Pass}
+use Rattle.running.proofs.Ways.{goes_on, ends_so, hits, misses}
+use Rattle.treiber_stack.specs.declared.stack.Stack.{Stack}
+use Rattle.treiber_stack.specs.declared.giving.Chain.{Chain}
+use Rattle.treiber_stack.specs.declared.giving.Give.{Give}
+use Rattle.treiber_stack.specs.declared.giving.Give.TheVariants.{Load, Link, Exchange}
+use Rattle.treiber_stack.specs.declared.giving.Gave.{Gave}
+use Rattle.treiber_stack.specs.Stack.{limit_of, machine_of, begun_of, IsAt, IsPassOf}
+use Rattle.treiber_stack.specs.Giving.{AreNodes, give_line, gave_line, left_slots, IsGiving, Led}
+
+module _ {T : Type 0} where
+  -- a pass at a line makes its access
+  pub ready : (c : Stack T) (o : Operation T) (p : Pass T (Line T)) (l : Line T) (slots : List (ℕ × Slot T)) (a : Access) → IsAt c o p l slots → access l ≡ a → AtAccess (machine_of c) o p.seat.me.0 a
+  ready c o p l slots a at e = record { begun = begun_of c p; line = l; going = at.at.going; access = e }
+
+  pub busy_giving : (giving : Giving T) (at : Give) → is_idle (give_line giving at) ≡ false
+  busy_giving giving Load = refl
+  busy_giving giving (Link w) = refl
+  busy_giving giving (Exchange w) = refl
+
+  module _ {c : Stack T} {o : Operation T} {p : Pass T (Line T)} {giving : Giving T} {nodes : Chain} {at : Give} (is : IsGiving c o p giving nodes at) (q : Pass T (Line T)) (found : ℕ) (zs : List (ℕ × Slot T)) (steps : Found (machine_of c) o p.seat.me.0 q.seat.me.0 found zs) (table : q.seat.table_id ≡ p.seat.table_id) where
+    -- the step leads on as the machine's does
+    pub gives_led : (gave : Gave) → q.seat.me.1 ≡ left_slots giving gave → next (limit_of c) (give_line giving at) found zs ≡ gave_line giving gave → Led c o p q giving at gave
+    gives_led gave slots to = record {
+      table = table;
+      slots = slots;
+      steps = subst (λ (l : Line T). Steps (machine_of c) o p.seat.me.0 q.seat.me.0 (begun_of c p) (give_line giving at) l) to (steps (begun_of c p) (give_line giving at) is.line.at.going).0;
+    }
+
+  -- the same of a whole call, whose steps follow one another
+  module _ (c : Stack T) (o : Operation T) (p : Pass T (Line T)) (giving : Giving T) (nodes : Chain) (is : IsGiving c o p giving nodes Load) (q : Pass T (Line T)) (w : ℕ) (loads : Found (machine_of c) o p.seat.me.0 q.seat.me.0 w []) (table : q.seat.table_id ≡ p.seat.table_id) (same : q.seat.me.1 ≡ p.seat.me.1) where
+    pub loaded : IsGiving c o q giving nodes (Link w) × (begun_of c q ≡ begun_of c p)
+    loaded =
+        let r = goes_on (machine_of c) is.line q w [] loads table (vacant giving.chain) (give_line giving (Link w)) (same ∙ is.line.at.has) refl refl in
+        (record { line = r.0; are = is.are }, r.1.0)
+
+    module _ (r : Pass T (Line T)) (x : ℕ) (stores : Found (machine_of c) o q.seat.me.0 r.seat.me.0 x []) (table' : r.seat.table_id ≡ q.seat.table_id) (same' : r.seat.me.1 ≡ q.seat.me.1) where
+      pub linked : IsGiving c o r giving nodes (Exchange w) × (begun_of c r ≡ begun_of c p)
+      linked =
+          let before = loaded in
+          let s = goes_on (machine_of c) before.0.line r x [] stores table' (vacant giving.chain) (give_line giving (Exchange w)) (same' ∙ before.0.line.at.has) refl refl in
+          (record { line = s.0; are = is.are }, s.1.0 ∙ before.1)
+
+      module _ (s : Pass T (Line T)) (table'' : s.seat.table_id ≡ r.seat.table_id) where
+        pub given : s.seat.me.1 ≡ [] → Found (machine_of c) o r.seat.me.0 s.seat.me.0 w r.seat.me.1 → IsPassOf c s × Ended (machine_of c) o s.seat.me.0 (begun_of c p) (ends giving.answer)
+        given none_left won =
+            let before = linked in
+            let e = ends_so (machine_of c) before.0.line s w r.seat.me.1 won table'' (ends giving.answer) none_left (hits w (ends giving.answer) (give_line giving Load)) refl in
+            (e.0, subst (λ (b : PassView T). Ended (machine_of c) o s.seat.me.0 b (ends giving.answer)) before.1 e.1)
+
+        pub again : s.seat.me.1 ≡ r.seat.me.1 → Missed (machine_of c) o r.seat.me.0 s.seat.me.0 w → IsGiving c o s giving nodes Load × (begun_of c s ≡ begun_of c p)
+        again kept lost =
+            let before = linked in
+            let e = goes_on (machine_of c) before.0.line s lost.found [] lost.steps table'' (vacant giving.chain) (give_line giving Load) (kept ∙ before.0.line.at.has) (misses lost.found w lost.other (ends giving.answer) (give_line giving Load)) refl in
+            (record { line = e.0; are = is.are }, e.1.0 ∙ before.1)
+
+-- a chain of one node
+pub one_node : (n i : ℕ) (nodes : Chain) → nodes ≡ record { first = i; last = i } → i < n → AreNodes n (i ∷ []) nodes
+one_node n i nodes e low = record {
+  begins = sym (ap (λ (x : Chain). x.first) e);
+  ends = sym (ap (λ (x : Chain). x.last) e);
+  first_low = subst (λ (k : ℕ). k < n) (sym (ap (λ (x : Chain). x.first) e)) low;
+  last_low = subst (λ (k : ℕ). k < n) (sym (ap (λ (x : Chain). x.last) e)) low;
+}
+
+-- a slot in hand has another value: the pass is where it was
+pub moved : {T : Type 0} (c : Stack T) (o : Operation T) (p q : Pass T (Line T)) (l : Line T) (had has : List (ℕ × Slot T)) → IsAt c o p l had → q.seat.table_id ≡ p.seat.table_id → q.seat.me ≡ (p.seat.me.0, has) → IsAt c o q l has × (begun_of c q ≡ begun_of c p)
+moved c o p q l had has at table me =
+    let view : q.seat.me.0 ≡ p.seat.me.0 = ap (λ x. x.0) me in (
+      record {
+        table = table ∙ at.table;
+        at = record {
+          has = ap (λ x. x.1) me;
+          going = subst (λ v. Going (machine_of c) o v (begun_in (machine_of c) v) l) (sym view) at.at.going;
+        };
+      },
+      ap (begun_in (machine_of c)) view,
+    )

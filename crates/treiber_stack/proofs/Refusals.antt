@@ -1,0 +1,72 @@
+-- Where a load of the top leads.
+use Rattle.std.proofs.Common.{◌≡◌, ◌≢◌, ℕ, ◌<◌, ◌≤◌, Bool, true, false, cond, leb, eqb, List, refl, sym, ap, ◌∙◌, subst, eq-eqb, ne_eqb, arith}
+use Rattle.std.proofs.lemmas.Bool.Decides.{nat_tests}
+use Rattle.std.specs.Prelude.{Err}
+use Rattle.tagged_index.specs.Fields.{fields_of, index_of, tag_of, mark_of, second_of}
+use Rattle.tagged_index.specs.declared.word.TheConstants.{NULL}
+use Rattle.bounded_model.specs.declared.answers.Word.TheVariants.{Top as TopWord, Free as FreeWord}
+use Rattle.bounded_model.specs.declared.answers.PutRefused.TheVariants.{Full as PutFull, Closed as PutClosed, Spent as PutSpent}
+use Rattle.bounded_model.specs.declared.answers.TakeRefused.TheVariants.{Empty, Closed, Spent, Shut}
+use Rattle.stack_machine.specs.declared.lines.Putting.{Putting}
+use Rattle.stack_machine.specs.declared.lines.Taking.{Taking}
+use Rattle.stack_machine.specs.declared.lines.Answer.TheVariants.{Put as AnswerPut}
+use Rattle.stack_machine.specs.declared.lines.Line.{Line}
+use Rattle.stack_machine.specs.declared.lines.Line.TheVariants.{LinkToTop, LoadFreeLink, LoadTopToRefuse}
+use Rattle.stack_machine.specs.Machine.{at_load_top, at_load_top_to_refuse, at_load_top_to_take, at_load_free, no_node, ends, gives, refuses, takes}
+use Rattle.treiber_stack.specs.declared.refusing.Barred.{Barred}
+use Rattle.treiber_stack.specs.declared.refusing.Barred.TheVariants.{Closed as BarredClosed, Spent as BarredSpent}
+use Rattle.treiber_stack.specs.Refusing.{AllowsPut, AllowsTake, RefusesPut, RefusesTake}
+
+is_true : (b : Bool) → (b ≡ false → ⊥) → b ≡ true
+is_true true h = refl
+is_true false h = absurd (h refl)
+
+is_false : (b : Bool) → (b ≡ true → ⊥) → b ≡ false
+is_false false h = refl
+is_false true h = absurd (h refl)
+
+leb_yes : (a b : ℕ) → a ≤ b → leb a b ≡ true
+leb_yes a b h = is_true (leb a b) (λ e. grind (arith, nat_tests))
+
+leb_not : (a b : ℕ) → b < a → leb a b ≡ false
+leb_not a b h = is_false (leb a b) (λ e. grind (arith, nat_tests))
+
+module _ {T : Type 0} (limit w : ℕ) where
+  -- a put
+  pub bars_closed : mark_of w ≡ true → RefusesPut T limit w BarredClosed
+  bars_closed e = record { with_nodes = λ put. rw e refl; without = λ values. rw e refl }
+
+  pub bars_spent : (t : ℕ) → t ≡ tag_of w → mark_of w ≡ false → limit ≤ tag_of w → RefusesPut T limit w (BarredSpent t)
+  bars_spent t is e h = record {
+    with_nodes = λ put. rw is (rw e (rw (leb_yes limit (tag_of w) h) refl));
+    without = λ values. rw is (rw e (rw (leb_yes limit (tag_of w) h) refl));
+  }
+
+  pub allows_link : (put : Putting T) → AllowsPut limit w → at_load_top limit put (fields_of w) ≡ LinkToTop put (fields_of w)
+  allows_link put a = rw a.0 (rw (leb_not limit (tag_of w) a.1) refl)
+
+  pub allows_full : (values : List T) → AllowsPut limit w → at_load_top_to_refuse limit values (fields_of w) ≡ ends (AnswerPut (Err (PutFull values)))
+  allows_full values a = rw a.0 (rw (leb_not limit (tag_of w) a.1) refl)
+
+  -- the top of the free nodes
+  pub free_null : (put : Putting T) → index_of w ≡ NULL → at_load_free limit put (fields_of w) ≡ no_node put (LoadTopToRefuse put.values)
+  free_null put z = rw (eq-eqb (index_of w) NULL z) refl
+
+  pub free_spent : (put : Putting T) (t : ℕ) → t ≡ tag_of w → index_of w ≢ NULL → limit ≤ tag_of w → at_load_free limit put (fields_of w) ≡ no_node put (ends (AnswerPut (Err (PutSpent put.values FreeWord t))))
+  free_spent put t is ne h = rw is (rw (ne_eqb (index_of w) NULL ne) (rw (leb_yes limit (tag_of w) h) refl))
+
+  pub free_goes : (put : Putting T) → index_of w ≢ NULL → tag_of w < limit → at_load_free limit put (fields_of w) ≡ LoadFreeLink put (fields_of w)
+  free_goes put ne h = rw (ne_eqb (index_of w) NULL ne) (rw (leb_not limit (tag_of w) h) refl)
+
+  -- a take
+  pub refuses_shut : second_of w ≡ true → RefusesTake T limit w Shut
+  refuses_shut e taking = rw e refl
+
+  pub refuses_none : (b : Bool) → second_of w ≡ false → index_of w ≡ NULL → mark_of w ≡ b → RefusesTake T limit w (cond b Closed Empty)
+  refuses_none b e z m taking = rw e (rw (eq-eqb (index_of w) NULL z) (rw m refl))
+
+  pub refuses_spent : (t : ℕ) → t ≡ tag_of w → second_of w ≡ false → index_of w ≢ NULL → limit ≤ tag_of w → RefusesTake T limit w (Spent TopWord t)
+  refuses_spent t is e ne h taking = rw is (rw e (rw (ne_eqb (index_of w) NULL ne) (rw (leb_yes limit (tag_of w) h) refl)))
+
+  pub allows_take : (taking : Taking) → AllowsTake limit w → at_load_top_to_take {T = T} limit taking (fields_of w) ≡ takes taking (fields_of w)
+  allows_take taking a = rw a.0 (rw (ne_eqb (index_of w) NULL a.1) (rw (leb_not limit (tag_of w) a.2) refl))

@@ -1,0 +1,39 @@
+-- Why a top lets no pass put onto it, or take from under it.
+use Rattle.std.specs.Prelude.{◌≡◌, ◌≢◌, ℕ, ◌<◌, false, List, Err}
+use Rattle.tagged_index.specs.Fields.{fields_of, index_of, tag_of, mark_of, second_of}
+use Rattle.tagged_index.specs.declared.word.TheConstants.{NULL}
+use Rattle.bounded_model.specs.declared.answers.Word.TheVariants.{Top as TopWord}
+use Rattle.bounded_model.specs.declared.answers.PutRefused.{PutRefused}
+use Rattle.bounded_model.specs.declared.answers.PutRefused.TheVariants.{Closed as PutClosed, Spent as PutSpent}
+use Rattle.bounded_model.specs.declared.answers.TakeRefused.{TakeRefused}
+use Rattle.bounded_model.specs.declared.bulk.RangeRefused.{RangeRefused}
+use Rattle.bounded_model.specs.declared.bulk.RangeRefused.TheVariants.{Closed as RangeClosed, Spent as RangeSpent}
+use Rattle.stack_machine.specs.declared.lines.Putting.{Putting}
+use Rattle.stack_machine.specs.declared.lines.Taking.{Taking}
+use Rattle.stack_machine.specs.declared.lines.Answer.TheVariants.{Put as AnswerPut}
+use Rattle.stack_machine.specs.Machine.{at_load_top, at_load_top_to_refuse, at_load_top_to_take, ends, gives, refuses}
+use Rattle.treiber_stack.specs.declared.refusing.Barred.{Barred}
+use Rattle.treiber_stack.specs.declared.refusing.Barred.TheVariants.{Closed, Spent}
+
+-- the refusals that say so
+abbrev pub barring : {X : Type 0} → Barred → X → PutRefused X
+barring Closed x = PutClosed x
+barring (Spent t) x = PutSpent x TopWord t
+
+abbrev pub barring_range : Barred → RangeRefused
+barring_range Closed = RangeClosed
+barring_range (Spent t) = RangeSpent TopWord t
+
+abbrev pub AllowsPut : ℕ → ℕ → Type 0
+AllowsPut limit w = (mark_of w ≡ false) × (tag_of w < limit)
+
+-- a put is refused for it, whether it has a chain to give back or found no node
+pub record RefusesPut (T : Type 0) (limit w : ℕ) (why : Barred) : Type 0 where
+  pub with_nodes : (put : Putting T) → at_load_top limit put (fields_of w) ≡ gives put.chain (AnswerPut (Err (barring why put.values)))
+  pub without : (values : List T) → at_load_top_to_refuse limit values (fields_of w) ≡ ends (AnswerPut (Err (barring why values)))
+
+abbrev pub AllowsTake : ℕ → ℕ → Type 0
+AllowsTake limit w = (second_of w ≡ false) × (index_of w ≢ NULL) × (tag_of w < limit)
+
+abbrev pub RefusesTake : Type 0 → ℕ → ℕ → TakeRefused → Type 0
+RefusesTake T limit w why = (taking : Taking) → at_load_top_to_take {T = T} limit taking (fields_of w) ≡ refuses taking why

@@ -1,0 +1,146 @@
+//! Giving a chain of nodes back to the free list: after a take, a fold, or a put that is refused.
+ghost use Rattle.std.specs.Prelude.{◌≡◌};
+ghost use Rattle.stack_machine.specs.declared.lines.Giving.{Giving};
+ghost use Rattle.treiber_stack.specs.Giving.{IsGiving, Led, GaveBack};
+ghost use Rattle.treiber_stack.specs.declared.giving.Give.TheVariants.{Load, Link, Exchange};
+
+
+use crate::stack::{Pass, Stack};
+use running::{Pause, give_step, load_tagged_step, store_step};
+use stack_table::Operation;
+use stack_table::layout::{FREE, link};
+use std::sync::Wait;
+use tagged_index::Tagged;
+
+/// A chain of nodes in hand, each linked to the next: its first and its last.
+#[derive(Clone, Copy)]
+pub(crate) struct Chain {
+    pub(crate) first: u32,
+    pub(crate) last: u32,
+}
+
+impl Chain {
+    /// A chain of one node.
+    #[inline]
+    pub(crate) fn of(index: u32) -> Chain
+        ensures { result ≡ record { first = index; last = index } }
+    {
+        Chain {
+            first: index,
+            last: index,
+        }
+    }
+}
+
+/// The next step of giving a chain back, with what was read. Its slots are empty.
+#[derive(Drop)]
+pub(crate) enum Give {
+    /// Load `FREE`.
+    Load,
+    /// Link the last node to the free one.
+    Link(Tagged),
+    /// Exchange `FREE` for the first node.
+    Exchange(Tagged),
+}
+
+/// Where such a step led.
+#[derive(Drop)]
+pub(crate) enum Gave {
+    On(Give),
+    /// All nodes are given back.
+    All,
+}
+
+impl<T> Stack<T> {
+    /// One step of giving a chain back.
+    #[inline]
+    pub(crate) fn give(
+        &self,
+        by: &mut Pass<T>,
+        chain: Chain,
+        at: Give,
+        operation: &Operation<T>,
+    ) -> Gave
+        requires { (giving : Giving T) × IsGiving self.now operation.now by.old giving chain at }
+        ensures { (giving : Giving T) → IsGiving self.now operation.now by.old giving chain at → Led self.now operation.now by.old by.new giving at result }
+    {
+        match at {
+            Give::Load => self.give_load(by, chain, operation),
+            Give::Link(free) => self.give_link(by, chain, free, operation),
+            Give::Exchange(free) => self.give_exchange(by, chain, free, operation),
+        }
+    }
+
+    #[inline]
+    fn give_load(&self, by: &mut Pass<T>, chain: Chain, operation: &Operation<T>) -> Gave
+        requires { (giving : Giving T) × IsGiving self.now operation.now by.old giving chain Load }
+        ensures { (giving : Giving T) → IsGiving self.now operation.now by.old giving chain Load → Led self.now operation.now by.old by.new giving Load result }
+    {
+        let _ = chain;
+        let free = load_tagged_step(&self.table.shared, &mut by.seat, FREE, operation);
+        Gave::On(Give::Link(free))
+    }
+
+    #[inline]
+    fn give_link(
+        &self,
+        by: &mut Pass<T>,
+        chain: Chain,
+        free: Tagged,
+        operation: &Operation<T>,
+    ) -> Gave
+        requires { (giving : Giving T) × IsGiving self.now operation.now by.old giving chain (Link free) }
+        ensures { (giving : Giving T) → IsGiving self.now operation.now by.old giving chain (Link free) → Led self.now operation.now by.old by.new giving (Link free) result }
+    {
+        let first = free.index() as u64;
+        let at = link(chain.last);
+        store_step(&self.table.shared, &mut by.seat, at, first, operation);
+        Gave::On(Give::Exchange(free))
+    }
+
+    #[inline]
+    fn give_exchange(
+        &self,
+        by: &mut Pass<T>,
+        chain: Chain,
+        free: Tagged,
+        operation: &Operation<T>,
+    ) -> Gave
+        requires { (giving : Giving T) × IsGiving self.now operation.now by.old giving chain (Exchange free) }
+        ensures { (giving : Giving T) → IsGiving self.now operation.now by.old giving chain (Exchange free) → Led self.now operation.now by.old by.new giving (Exchange free) result }
+    {
+        let new = free.kept(chain.first);
+        if give_step(&self.table.shared, &mut by.seat, FREE, free, new, operation) {
+            return Gave::All;
+        }
+        Gave::On(Give::Load)
+    }
+
+    /// Gives a chain back, by a whole call.
+    #[inline]
+    pub(crate) fn give_back<R: Wait>(
+        &self,
+        rt: &R,
+        by: Pass<T>,
+        chain: Chain,
+        operation: &Operation<T>,
+    ) -> Pass<T>
+        requires { (giving : Giving T) × IsGiving self.now operation.now by giving chain Load }
+        ensures { GaveBack self.now operation.now by chain result }
+    {
+        let mut pass = by;
+        let mut pause = Pause::new();
+        let table = &self.table.shared;
+        for _ in rt.forever() {
+            let free = load_tagged_step(table, &mut pass.seat, FREE, operation);
+            let first = free.index() as u64;
+            store_step(table, &mut pass.seat, link(chain.last), first, operation);
+            let new = free.kept(chain.first);
+            if give_step(table, &mut pass.seat, FREE, free, new, operation) {
+                return pass;
+            }
+            pause.wait();
+        }
+        unreachable!()
+    }
+}

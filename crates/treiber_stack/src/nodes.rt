@@ -1,0 +1,93 @@
+//! What a put of one value and one of a range share: a node is taken from the free list, and nodes in
+//! hand go onto the top.
+ghost use Rattle.stack_machine.specs.declared.lines.Putting.{Putting};
+ghost use Rattle.treiber_stack.specs.Nodes.{IsCollecting, TakesFree, IsPlacing, Places};
+ghost use Rattle.treiber_stack.specs.Stack.{begun_of};
+
+use crate::giving::Chain;
+
+use crate::refusing::Barred;
+use crate::stack::{Pass, Stack};
+use running::{
+    Pause, give_step, load_step, load_tagged_step, raised, store_step, take_step,
+};
+use stack_table::Operation;
+use stack_table::layout::{FREE, TOP, link};
+use std::sync::Wait;
+use tagged_index::NULL;
+
+/// Why no further node can be had.
+#[derive(Clone, Copy)]
+pub(crate) enum NoNode {
+    NoneFree,
+    /// The tag of the free nodes' top is at the limit.
+    Spent(u64),
+}
+
+impl<T> Stack<T> {
+    /// Takes a free node with its slot, or says why there is none to be had.
+    #[inline]
+    pub(crate) fn take_free<R: Wait>(
+        &self,
+        rt: &R,
+        by: Pass<T>,
+        operation: &Operation<T>,
+    ) -> (Pass<T>, Result<u32, NoNode>)
+        requires { (put : Putting T) × IsCollecting self.now operation.now by put }
+        ensures { (put : Putting T) → IsCollecting self.now operation.now by put → TakesFree self.now operation.now (begun_of self.now by) put result.0 result.1 }
+    {
+        let mut pass = by;
+        let mut pause = Pause::new();
+        let table = &self.table.shared;
+        for _ in rt.forever() {
+            let free = load_tagged_step(table, &mut pass.seat, FREE, operation);
+            let index = free.index();
+            if index == NULL {
+                return (pass, Err(NoNode::NoneFree));
+            }
+            let tag = free.tag();
+            if tag >= self.limits.tag_limit() {
+                return (pass, Err(NoNode::Spent(tag)));
+            }
+            let found = load_step(table, &mut pass.seat, link(index), operation);
+            let new = raised(free, found as u32);
+            if take_step(table, &mut pass.seat, FREE, free, new, operation) {
+                return (pass, Ok(index));
+            }
+            pause.wait();
+        }
+        unreachable!()
+    }
+
+    /// Puts the nodes in hand onto the stack, and answers the put's number. The put has its effect
+    /// here.
+    #[inline]
+    pub(crate) fn place<R: Wait>(
+        &self,
+        rt: &R,
+        by: Pass<T>,
+        chain: Chain,
+        operation: &Operation<T>,
+    ) -> (Pass<T>, Result<u64, Barred>)
+        requires { (put : Putting T) × IsPlacing self.now operation.now by put chain }
+        ensures { (put : Putting T) → IsPlacing self.now operation.now by put chain → Places self.now operation.now (begun_of self.now by) put result.0 result.1 }
+    {
+        let mut pass = by;
+        let mut pause = Pause::new();
+        let table = &self.table.shared;
+        for _ in rt.forever() {
+            let top = load_tagged_step(table, &mut pass.seat, TOP, operation);
+            if let Some(why) = self.bars_put(top) {
+                return (pass, Err(why));
+            }
+            let first = top.index() as u64;
+            store_step(table, &mut pass.seat, link(chain.last), first, operation);
+            let new = raised(top, chain.first);
+            if give_step(table, &mut pass.seat, TOP, top, new, operation) {
+                return (pass, Ok(top.tag()));
+            }
+            pause.wait();
+        }
+        unreachable!()
+    }
+}
