@@ -10,3 +10,7 @@ pub mod Stepping
 pub mod Folds
 pub mod Walking
 pub mod Turning
+pub mod Loading
+pub mod RangeGives
+pub mod Filling
+pub mod Restoring

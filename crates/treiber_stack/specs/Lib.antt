@@ -8,3 +8,4 @@ pub mod Taking
 pub mod Nodes
 pub mod Putting
 pub mod Folding
+pub mod Ranging

@@ -11,6 +11,7 @@
 //! by step, or by a whole call, which retries while others interfere.
 #![tactic(auto)]
 
+mod bulk;
 mod closing;
 mod container;
 mod ending;
@@ -20,6 +21,7 @@ mod making;
 mod nodes;
 mod places;
 mod putting;
+mod ranging;
 mod refusing;
 mod rest;
 mod rule;

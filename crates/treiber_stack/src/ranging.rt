@@ -1,13 +1,14 @@
 //! Putting a range of values by one exchange of the top. A node is taken for each value, from the
 //! front, until there is none for the next; each is linked to the one taken before it.
-ghost use Rattle.std.specs.Prelude.{◌≡◌, ◌<◌, List, [], map, length, Some, None, IsSome};
+ghost use Rattle.std.specs.Prelude.{◌≡◌, ◌<◌, List, [], ◌∷◌, map, length, Some, None, IsSome, MatchOption};
 ghost use Rattle.std.specs.List.{AllByRecursion as Every};
 ghost use Rattle.atomic_table.specs.Table.{rest};
 ghost use Rattle.bounded_model.specs.declared.views.PassView.{PassView};
 ghost use Rattle.bounded_model.specs.Bulk.{PutsRange};
-ghost use Rattle.treiber_stack.specs.Nodes.{Stops};
-ghost use Rattle.treiber_stack.specs.Ranging.{NotPut, IsRange, IsFilling, Fills, Collects, IsRefused, Restores, putting, places_from};
-ghost use Rattle.treiber_stack.specs.Stack.{shape_of, call_of, begun_of, IsPassOf, pass_in};
+ghost use Rattle.machine.specs.Seats.{Looks};
+ghost use Rattle.treiber_stack.specs.Ranging.{NotPut, IsRange, IsNext, IsFilling, HasTaken, FillsOne, Fills};
+ghost use Rattle.treiber_stack.specs.Ranging.{Collects, IsStopped, IsRefused, Restores, ReadsAgain, places_from};
+ghost use Rattle.treiber_stack.specs.Stack.{room_of, shape_of, call_of, IsPassOf, pass_in};
 ghost use Rattle.treiber_stack.specs.declared.refusing.Barred.{Barred};
 
 use crate::giving::Chain;
@@ -32,14 +33,13 @@ pub(crate) struct Held {
 // The put of these values, if there is one.
 fn name_of<T>(values: &[Option<T>]) -> Option<Operation<T>>
     requires { Every (λ place. IsSome place) values.now }
-    ensures { MatchOption result (values.now ≡ []) (λ o. (vs : List T) × (values.now ≡ map Some vs) × IsRange o vs) }
+    ensures { MatchOption result (values.now ≡ [])
+        (λ o. (vs : List T) × (values.now ≡ map Some vs) × IsRange o vs) }
 {
-    match values.first()? {
+    let (first, others) = values.split_first()?;
+    match first {
         None => unreachable!(),
-        Some(value) => Some(Operation::Put(
-            Snapshot::of(value),
-            Listed::of(&values[1..]),
-        )),
+        Some(value) => Some(Operation::Put(Snapshot::of(value), Listed::of(others))),
     }
 }
 
@@ -94,7 +94,8 @@ impl<T> Stack<T> {
     ) -> (Pass<T>, Result<Held, RangeRefused>)
         requires pass { IsPassOf self.now by }
         requires values { (vs : List T) × (values.old ≡ map Some vs) × IsRange operation.now vs }
-        ensures { (vs : List T) → values.old ≡ map Some vs → IsRange operation.now vs → Collects self.now operation.now (pass_in by) vs values.new result.0 result.1 }
+        ensures { (vs : List T) → values.old ≡ map Some vs → IsRange operation.now vs
+            → Collects self.now operation.now (pass_in by) vs values.new result.0 result.1 }
     {
         let mut pass = by;
         let mut held = Held {
@@ -128,30 +129,68 @@ impl<T> Stack<T> {
         place: &mut Option<T>,
         operation: &Operation<T>,
     ) -> (Pass<T>, Result<Held, NoNode>)
-        requires { (vs : List T) × IsFilling self.now operation.now by vs held × (held.count < length vs) × (place.old ≡ value_at vs held.count) }
-        ensures { (vs : List T) → IsFilling self.now operation.now by vs held → held.count < length vs → place.old ≡ value_at vs held.count → Fills self.now operation.now by vs held result.0 result.1 place.new }
+        requires { (vs : List T) × IsFilling self.now operation.now by vs held
+            × IsNext vs held.count place.old }
+        ensures { (vs : List T) → IsFilling self.now operation.now by vs held
+            → IsNext vs held.count place.old
+            → Fills self.now operation.now by vs held place.new result.0 result.1 }
     {
         let (pass, node) = self.take_free(rt, by, operation);
-        let index = match node {
-            Err(why) => return (pass, Err(why)),
-            Ok(index) => index,
-        };
-        let mut pass = pass;
-        let table = &self.table.shared;
-        match place.take() {
-            None => unreachable!(),
-            Some(value) => put_in(table, &mut pass.seat, index, value),
+        match node {
+            Ok(index) => {
+                let (pass, held) = self.load_node(pass, held, index, place, operation);
+                (pass, Ok(held))
+            }
+            Err(why) => (pass, Err(why)),
         }
+    }
+
+    // Moves the value of a place into the slot of the node taken last, and links the node to the one
+    // before it.
+    fn load_node(
+        &self,
+        by: Pass<T>,
+        held: Held,
+        index: u32,
+        place: &mut Option<T>,
+        operation: &Operation<T>,
+    ) -> (Pass<T>, Held)
+        requires { (vs : List T) × HasTaken self.now operation.now by vs held index
+            × IsNext vs held.count place.old }
+        ensures { (vs : List T) → HasTaken self.now operation.now by vs held index
+            → IsNext vs held.count place.old
+            → FillsOne self.now operation.now by vs held place.new result.0 result.1 }
+    {
+        let mut pass = by;
+        self.fill(&mut pass, index, place);
         if held.count == 0 {
             let chain = Chain::of(index);
-            return (pass, Ok(Held { chain, count: 1 }));
+            return (pass, Held { chain, count: 1 });
         }
         let Chain { first, last } = held.chain;
         let before = first as u64;
+        let table = &self.table.shared;
         store_step(table, &mut pass.seat, link(index), before, operation);
         let chain = Chain { first: index, last };
         let count = held.count + 1;
-        (pass, Ok(Held { chain, count }))
+        (pass, Held { chain, count })
+    }
+
+    // Moves the value of a place into the slot of the node taken last.
+    #[inline]
+    fn fill(&self, by: &mut Pass<T>, index: u32, place: &mut Option<T>)
+        requires table { by.old.seat.table_id ≡ self.now.table.shared.table_id }
+        requires empty { by.old.seat.me.1 ≡ (index, None) ∷ rest by.old.seat.me.1 }
+        requires value { (x : T) × (place.old ≡ Some x) }
+        ensures table { by.new.seat.table_id ≡ by.old.seat.table_id }
+        ensures filled { (x : T) → place.old ≡ Some x → by.new.seat.me
+            ≡ (by.old.seat.me.0, (index, Some x) ∷ rest by.old.seat.me.1) }
+        ensures place { place.new ≡ None }
+    {
+        match place.take() {
+            None => unreachable!(),
+            Some(value) => put_in(&self.table.shared, &mut by.seat, index, value),
+        }
     }
 
     // Why a range is refused that has no node.
@@ -161,8 +200,10 @@ impl<T> Stack<T> {
         why: NoNode,
         operation: &Operation<T>,
     ) -> (Pass<T>, RangeRefused)
-        requires { (v : PassView T) × (vs : List T) × Stops self.now operation.now v by [] (putting vs []) why × IsRange operation.now vs }
-        ensures { (v : PassView T) (vs : List T) → Stops self.now operation.now v by [] (putting vs []) why → IsRange operation.now vs → IsPassOf self.now result.0 × NotPut (shape_of self.now) v (length vs) (pass_in result.0) result.1 }
+        requires { (v : PassView T) × (vs : List T) × IsStopped self.now operation.now v by vs why }
+        ensures { (v : PassView T) (vs : List T) → IsStopped self.now operation.now v by vs why
+            → IsPassOf self.now result.0
+            × NotPut (shape_of self.now) v (length vs) (pass_in result.0) result.1 }
     {
         let mut pass = by;
         match why {
@@ -179,17 +220,13 @@ impl<T> Stack<T> {
 
     // Moves the values of a refused range back to their places, the last first. The links of the nodes
     // are read by loads that belong to no line.
-    fn restore(
-        &self,
-        by: Pass<T>,
-        held: Held,
-        values: &mut [Option<T>],
-        operation: &Operation<T>,
-    ) -> Pass<T>
-        requires { (vs : List T) × (why : Barred) × IsRefused self.now operation.now by vs held why × (values.old ≡ places_from held.count vs) }
-        ensures { (vs : List T) (why : Barred) → IsRefused self.now operation.now by vs held why → values.old ≡ places_from held.count vs → Restores self.now operation.now by vs held why values.new result }
+    fn restore(&self, by: Pass<T>, held: Held, values: &mut [Option<T>]) -> Pass<T>
+        requires { (o : Operation T) × (vs : List T) × (why : Barred)
+            × IsRefused self.now o by vs held why × (values.old ≡ places_from held.count vs) }
+        ensures { (o : Operation T) (vs : List T) (why : Barred)
+            → IsRefused self.now o by vs held why → values.old ≡ places_from held.count vs
+            → Restores self.now o by vs held why values.new result }
     {
-        let _ = operation;
         let mut pass = by;
         let mut index = held.chain.first;
         for moved in 0..held.count {
@@ -200,10 +237,23 @@ impl<T> Stack<T> {
                 Some(_) => unreachable!(),
             }
             if place > 0 {
-                let found = peek(&self.table.shared, &mut pass.seat, link(index));
-                index = Tagged::from_word(found).index();
+                index = self.read_again(&mut pass, index);
             }
         }
         pass
+    }
+
+    // Reads a link of the chain that is given back next, by a load that belongs to no line.
+    #[inline]
+    fn read_again(&self, by: &mut Pass<T>, index: u32) -> u32
+        requires { (by.old.seat.table_id ≡ self.now.table.shared.table_id)
+            × (index < room_of self.now) }
+        ensures seat { (by.new.seat.table_id ≡ by.old.seat.table_id)
+            × (by.new.seat.me.1 ≡ by.old.seat.me.1) }
+        ensures looks { Looks (shape_of self.now) by.old.seat.me.0 by.new.seat.me.0 }
+        ensures link { ReadsAgain by.old.seat.me.0 index result }
+    {
+        let found = peek(&self.table.shared, &mut by.seat, link(index));
+        Tagged::from_word(found).index()
     }
 }

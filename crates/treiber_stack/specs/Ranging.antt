@@ -1,6 +1,5 @@
 -- Puts of a range: where a pass stands in one.
-use Rattle.std.specs.Prelude.{◌≡◌, ℕ, ◌+◌, ◌<◌, ◌≤◌, List, [], ◌∷◌, ◌++◌, map, length, reverse, take, drop, replicate, Option as Slot, Some, None, Result, Ok, Err}
-use Rattle.bounded_model.specs.declared.answers.PutRefused.{PutRefused}
+use Rattle.std.specs.Prelude.{◌≡◌, ℕ, zero, suc, ◌+◌, ◌<◌, ◌≤◌, List, [], ◌∷◌, ◌++◌, map, length, reverse, take, drop, replicate, Option as Slot, Some, None, Result, Ok, Err}
 use Rattle.bounded_model.specs.declared.bulk.RangeRefused.{RangeRefused}
 use Rattle.bounded_model.specs.declared.bulk.RangeRefused.TheVariants.{Nothing, Full, Closed, Spent}
 use Rattle.bounded_model.specs.declared.views.PassView.{PassView}
@@ -10,24 +9,25 @@ use Rattle.bounded_model.specs.Justified.{Justified}
 use Rattle.bounded_model.specs.Justified as right
 use Rattle.machine.specs.Words.{times}
 use Rattle.machine.specs.Chains.{first, last}
+use Rattle.machine.specs.declared.seats.View.{View}
 use Rattle.stack_machine.specs.declared.lines.Call.TheVariants.{Put as CallPut}
 use Rattle.stack_machine.specs.declared.lines.Giving.{Giving}
 use Rattle.stack_machine.specs.declared.lines.Putting.{Putting}
 use Rattle.stack_machine.specs.declared.lines.Line.{Line}
 use Rattle.stack_machine.specs.declared.lines.Line.TheVariants.{LoadTop, LoadFreeToGive}
 use Rattle.stack_machine.specs.Machine.{next_node}
+use Rattle.running.specs.Rule.{line_in}
 use Rattle.running.specs.declared.passes.Pass.{Pass}
 use Rattle.stack_table.specs.declared.operation.Operation.{Operation}
-use Rattle.stack_table.specs.Lines.{call_of}
+use Rattle.stack_table.specs.Lines.{call_of, names}
 use Rattle.stack_table.specs.Slots.{full, vacant}
 use Rattle.treiber_stack.specs.declared.stack.Stack.{Stack}
-use Rattle.treiber_stack.specs.declared.giving.Chain.{Chain}
 use Rattle.treiber_stack.specs.declared.giving.Give.TheVariants.{Load}
 use Rattle.treiber_stack.specs.declared.nodes.NoNode.{NoNode}
 use Rattle.treiber_stack.specs.declared.ranging.Held.{Held}
 use Rattle.treiber_stack.specs.declared.refusing.Barred.{Barred}
 use Rattle.treiber_stack.specs.Giving.{IsGiving}
-use Rattle.treiber_stack.specs.Nodes.{loaded, refused, Stops}
+use Rattle.treiber_stack.specs.Nodes.{loaded, refused, Stops, TakesNode}
 use Rattle.treiber_stack.specs.Stack.{room_of, shape_of, pass_in, begun_of, IsPassOf, IsAt}
 
 -- why a range that is not empty was refused, and what the pass has done
@@ -47,6 +47,16 @@ module _ {T : Type 0} where
   abbrev pub places_from : ℕ → List T → List (Slot T)
   places_from k vs = replicate k None ++ map Some (drop k vs)
 
+  -- the value behind the first k
+  abbrev pub value_at : List T → ℕ → Slot T
+  value_at [] k = None
+  value_at (v ∷ vs) zero = Some v
+  value_at (v ∷ vs) (suc k) = value_at vs k
+
+  -- a place has it
+  abbrev pub IsNext : List T → ℕ → Slot T → Type 0
+  IsNext vs k place = (k < length vs) × (place ≡ value_at vs k)
+
   abbrev pub putting : List T → List ℕ → Putting T
   putting vs chain = record { values = vs; chain = chain }
 
@@ -64,10 +74,24 @@ module _ {T : Type 0} where
     pub has : HasNodes c vs chain held
     pub at : IsAt c o p (next_node (putting vs chain)) (loaded (putting vs chain))
 
-  -- one more value has a node, or none could be had
-  abbrev pub Fills : Stack T → Operation T → Pass T (Line T) → List T → Held → Pass T (Line T) → Result Held NoNode → Slot T → Type 0
-  Fills c o p vs held q (Ok more) place = IsFilling c o q vs more × (more.count ≡ held.count + 1) × (begun_of c q ≡ begun_of c p) × (place ≡ None)
-  Fills c o p vs held q (Err why) place = (chain : List ℕ) × HasNodes c vs chain held × Stops c o (begun_of c p) q chain (putting vs chain) why
+  -- a node was taken for the next value
+  pub record HasTaken (c : Stack T) (o : Operation T) (p : Pass T (Line T)) (vs : List T) (held : Held) (i : ℕ) : Type 0 where
+    pub chain : List ℕ
+    pub has : HasNodes c vs chain held
+    pub takes : TakesNode c o (begun_of c p) (putting vs chain) p i
+
+  -- it has the value, whose place is empty
+  abbrev pub FillsOne : Stack T → Operation T → Pass T (Line T) → List T → Held → Slot T → Pass T (Line T) → Held → Type 0
+  FillsOne c o p vs held place q more = IsFilling c o q vs more × (more.count ≡ held.count + 1) × (begun_of c q ≡ begun_of c p) × (place ≡ None)
+
+  -- or none could be had
+  abbrev pub Fills : Stack T → Operation T → Pass T (Line T) → List T → Held → Slot T → Pass T (Line T) → Result Held NoNode → Type 0
+  Fills c o p vs held place q (Ok more) = FillsOne c o p vs held place q more
+  Fills c o p vs held place q (Err why) = IsNext vs held.count place × ((chain : List ℕ) × HasNodes c vs chain held × Stops c o (begun_of c p) q chain (putting vs chain) why)
+
+  -- a range has no node
+  abbrev pub IsStopped : Stack T → Operation T → PassView T → Pass T (Line T) → List T → NoNode → Type 0
+  IsStopped c o v p vs why = Stops c o v p [] (putting vs []) why × IsRange o vs
 
   -- nodes are in hand that go onto the top
   pub record IsHolding (c : Stack T) (o : Operation T) (p : Pass T (Line T)) (vs : List T) (held : Held) : Type 0 where
@@ -99,5 +123,12 @@ module _ {T : Type 0} where
     pub at : IsAt c o p (LoadFreeToGive (refused (putting vs chain) why)) (full left (reverse (take (length left) vs)) ++ vacant done)
 
   -- they are all back, and the emptied nodes are to be given back
-  abbrev pub Restores : Stack T → Operation T → Pass T (Line T) → List T → Held → Barred → List (Slot T) → Pass T (Line T) → Type 0
-  Restores c o p vs held why places q = ((chain : List ℕ) × IsGiving c o q (refused (putting vs chain) why) held.chain Load) × (places ≡ map Some vs) × (begun_of c q ≡ begun_of c p)
+  pub record Restores (c : Stack T) (o : Operation T) (p : Pass T (Line T)) (vs : List T) (held : Held) (why : Barred) (places : List (Slot T)) (q : Pass T (Line T)) : Type 0 where
+    pub chain : List ℕ
+    pub back : IsGiving c o q (refused (putting vs chain) why) held.chain Load
+    pub places_are : places ≡ map Some vs
+    pub begun : begun_of c q ≡ begun_of c p
+
+  -- a link of the chain that is given back next was read
+  abbrev pub ReadsAgain : View T (Line T) → ℕ → ℕ → Type 0
+  ReadsAgain v i found = (giving : Giving T) (before others : List ℕ) (next : ℕ) → line_in names v ≡ LoadFreeToGive giving → giving.chain ≡ before ++ i ∷ next ∷ others → found ≡ next

@@ -26,6 +26,7 @@ impl<T: Drop + Send> Bulk<T> for Stack<T> {
         self.fold(rt, by, Front::First, state, f)
     }
 
+    /// From the bottom up.
     fn fold_all_atomic_reversed<R: Wait, S, F: Fn(S, T) -> S + Drop>(
         &self,
         rt: &R,

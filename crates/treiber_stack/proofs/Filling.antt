@@ -1,0 +1,218 @@
+-- A range takes a node for its next value.
+use Rattle.std.proofs.Common.{◌≡◌, ◌≢◌, ℕ, zero, suc, ◌+◌, ◌<◌, ◌≤◌, ◌⊎◌, inl, inr, Bool, true, false, cond, ltb, List, [], ◌∷◌, ◌++◌, length, reverse, take, refl, sym, ap, ◌∙◌, subst, arith}
+use Rattle.std.proofs.lemmas.Bool.Decides.{nat_tests}
+use Rattle.std.specs.Prelude.{Option as Slot, Some, None}
+use Rattle.atomic_table.specs.Table.{rest}
+use Rattle.tagged_index.specs.declared.word.TheConstants.{NULL}
+use Rattle.machine.specs.Words.{times}
+use Rattle.machine.specs.Chains.{first, last, second}
+use Rattle.machine.proofs.Chains.{first_in, last_in}
+use Rattle.machine.proofs.Lists.{times_else}
+use Rattle.machine.proofs.Sums.{total_one}
+use Rattle.stack_machine.specs.declared.lines.Putting.{Putting}
+use Rattle.stack_machine.specs.declared.lines.Line.{Line}
+use Rattle.stack_machine.specs.declared.lines.Line.TheVariants.{LoadFree, LoadTop, LinkTaken}
+use Rattle.stack_machine.specs.Machine.{held, next_node, starts}
+use Rattle.stack_table.specs.declared.operation.Operation.{Operation}
+use Rattle.stack_table.specs.Layout.{link_at}
+use Rattle.stack_table.specs.Slots.{full}
+use Rattle.stack_table.proofs.Slots.{same_or_not}
+use Rattle.running.specs.Going.{Found, AtAccess}
+use Rattle.running.specs.Machine.{stores}
+use Rattle.running.specs.declared.passes.Pass.{Pass}
+use Rattle.running.proofs.Ways.{goes_on, started}
+use Rattle.treiber_stack.specs.declared.stack.Stack.{Stack}
+use Rattle.treiber_stack.specs.declared.giving.Chain.{Chain}
+use Rattle.treiber_stack.specs.declared.nodes.NoNode.{NoNode}
+use Rattle.treiber_stack.specs.declared.ranging.Held.{Held}
+use Rattle.treiber_stack.specs.Nodes.{loaded, linking, IsCollecting, IsPlacing, Stops, TakesNode}
+use Rattle.treiber_stack.specs.Ranging.{putting, HasNodes, HasTaken, IsFilling, IsHolding, IsRange}
+use Rattle.treiber_stack.specs.Stack.{room_of, machine_of, begun_of, IsAt, IsPassOf}
+use Rattle.treiber_stack.proofs.Gives.{moved, ready}
+use Rattle.treiber_stack.proofs.Loading.{next_value, loaded_more}
+use Rattle.treiber_stack.proofs.Placing.{linking_busy}
+
+is_true : (b : Bool) → (b ≡ false → ⊥) → b ≡ true
+is_true true h = refl
+is_true false h = absurd (h refl)
+
+is_false : (b : Bool) → (b ≡ true → ⊥) → b ≡ false
+is_false false h = refl
+is_false true h = absurd (h refl)
+
+-- a chain that is not empty
+parts_of : (chain : List ℕ) → 0 < length chain → (x : ℕ) × (xs : List ℕ) × (chain ≡ x ∷ xs)
+parts_of [] h = absurd (omega arith)
+parts_of (x ∷ xs) h = (x, xs, refl)
+
+none_of : (chain : List ℕ) → length chain ≡ 0 → chain ≡ []
+none_of [] h = refl
+none_of (x ∷ xs) h = absurd (omega arith)
+
+module _ {T : Type 0} where
+  pub some_in : (o : Operation T) (vs : List T) → IsRange o vs → 0 < length vs
+  some_in o [] is = absurd is
+  some_in o (v ∷ vs) is = omega arith
+
+  next_more : (put : Putting T) → length put.chain < length put.values → next_node put ≡ LoadFree put
+  next_more put h = ap (λ (b : Bool). cond b (LoadFree put) (LoadTop put)) (is_true (ltb (length put.chain) (length put.values)) (λ e. grind (arith, nat_tests)))
+
+  next_all : (put : Putting T) → length put.values ≤ length put.chain → next_node put ≡ LoadTop put
+  next_all put h = ap (λ (b : Bool). cond b (LoadFree put) (LoadTop put)) (is_false (ltb (length put.chain) (length put.values)) (λ e. grind (arith, nat_tests)))
+
+module _ {T : Type 0} (c : Stack T) (o : Operation T) where
+  -- a range that begins has no node yet
+  pub fill_start : (vs : List T) (p : Pass T (Line T)) (nodes : Chain) → nodes ≡ record { first = NULL; last = NULL } → IsRange o vs → IsPassOf c p → IsFilling c o p vs (record { chain = nodes; count = 0 })
+  fill_start [] p nodes e is of = absurd is
+  fill_start (v ∷ vs) p nodes e is of = record {
+    chain = [];
+    has = record {
+      counted = refl;
+      few = omega arith;
+      low = λ i there. absurd (omega arith);
+      begins = sym (ap (λ (x : Chain). x.first) e);
+      ends = sym (ap (λ (x : Chain). x.last) e);
+    };
+    at = subst (λ (l : Line T). IsAt c o p l []) (ap starts is ∙ sym (next_more (putting (v ∷ vs) []) (omega arith))) (started (machine_of c) c.table.shared.table_id o p of);
+  }
+
+module _ {T : Type 0} (c : Stack T) (o : Operation T) (vs : List T) where
+  module _ (p : Pass T (Line T)) (held' : Held) where
+    module _ (f : IsFilling c o p vs held') where
+      -- it wants a node for the next value
+      pub collects : held'.count < length vs → IsCollecting c o p (putting vs f.chain)
+      collects low = subst (λ (l : Line T). IsAt c o p l (loaded (putting vs f.chain))) (next_more (putting vs f.chain) (let e = f.has.counted in omega arith)) f.at
+
+      -- all values have nodes
+      pub holds_all : 0 < held'.count → length vs ≤ held'.count → IsHolding c o p vs held'
+      holds_all some_node high = record {
+        chain = f.chain;
+        has = f.has;
+        some_node = some_node;
+        at = subst (λ (l : Line T). IsAt c o p l (loaded (putting vs f.chain))) (next_all (putting vs f.chain) (let e = f.has.counted in omega arith)) f.at;
+      }
+
+      pub has_taken : (q : Pass T (Line T)) (i : ℕ) → TakesNode c o (begun_of c p) (putting vs f.chain) q i → HasTaken c o q vs held' i
+      has_taken q i t = record { chain = f.chain; has = f.has; takes = record { at = t.at; low = t.low; begun_is = refl } }
+
+    -- the nodes go onto the top
+    pub placing : (h : IsHolding c o p vs held') → IsPlacing c o p (putting vs h.chain) held'.chain
+    placing h =
+        let a = h.has.counted in
+        let b = h.some_node in
+        let there : 0 < length h.chain = omega arith in
+        record {
+          at = h.at;
+          are = record {
+            begins = h.has.begins;
+            ends = h.has.ends;
+            first_low = subst (λ (k : ℕ). k < room_of c) h.has.begins (h.has.low (first h.chain) (first_in h.chain there));
+            last_low = subst (λ (k : ℕ). k < room_of c) h.has.ends (h.has.low (last h.chain) (last_in h.chain there));
+          };
+        }
+
+    -- no further node could be had
+    pub holds_some : (q : Pass T (Line T)) (chain : List ℕ) (why : NoNode) → HasNodes c vs chain held' → Stops c o (begun_of c p) q chain (putting vs chain) why → 0 < held'.count → IsHolding c o q vs held' × (begun_of c q ≡ begun_of c p)
+    holds_some q [] why has stops some_node = absurd (let e = has.counted in omega arith)
+    holds_some q (j ∷ js) why has stops some_node = (record { chain = j ∷ js; has = has; some_node = some_node; at = stops.0 }, stops.1)
+
+    pub stops_none : (q : Pass T (Line T)) (chain : List ℕ) (why : NoNode) → HasNodes c vs chain held' → Stops c o (begun_of c p) q chain (putting vs chain) why → held'.count ≡ 0 → Stops c o (begun_of c p) q [] (putting vs []) why
+    stops_none q [] why has stops none = stops
+    stops_none q (j ∷ js) why has stops none = absurd (let e = has.counted in omega arith)
+
+    -- a node came, and the value moved in
+    module _ (i : ℕ) (h : HasTaken c o p vs held' i) (low : held'.count < length vs) where
+      abbrev pub value : T
+      value = (next_value vs held'.count low).0
+
+      abbrev after : Putting T
+      after = putting vs (i ∷ h.chain)
+
+      module _ (r : Pass T (Line T)) (table : r.seat.table_id ≡ p.seat.table_id) (me : r.seat.me ≡ (p.seat.me.0, (i, Some value) ∷ rest p.seat.me.1)) where
+        slots : (i, Some value) ∷ rest p.seat.me.1 ≡ loaded after
+        slots =
+            let e : held'.count ≡ length h.chain = sym h.has.counted in
+            let one : length h.chain + 1 ≡ suc (length h.chain) = omega arith in
+            ap (λ (zs : List (ℕ × Slot T)). (i, Some value) ∷ rest zs) h.takes.at.at.has
+            ∙ loaded_more i h.chain (length h.chain) vs value (subst (λ (k : ℕ). take (k + 1) vs ≡ take k vs ++ value ∷ []) e (next_value vs held'.count low).1)
+            ∙ ap (λ (k : ℕ). full (i ∷ h.chain) (reverse (take k vs))) one
+
+        filled : IsAt c o r (linking h.chain after) (loaded after) × (begun_of c r ≡ begun_of c p)
+        filled = moved c o p r (linking h.chain after) ((i, None) ∷ loaded (putting vs h.chain)) (loaded after) h.takes.at table (me ∙ ap (λ (zs : List (ℕ × Slot T)). (p.seat.me.0, zs)) slots)
+
+        low_there : (j : ℕ) → 0 < times j (i ∷ h.chain) → j < room_of c
+        low_there j there = two (same_or_not j i)
+          where
+            two : (j ≡ i) ⊎ (j ≢ i) → j < room_of c
+            two (inl e) = subst (λ (x : ℕ). x < room_of c) (sym e) h.takes.low
+            two (inr ne) = h.has.low j (let s = times_else j i h.chain ne in omega arith)
+
+        -- the first node needs no link
+        pub fills_first : held'.count ≡ 0 → (nodes : Chain) → nodes ≡ record { first = i; last = i } → IsFilling c o r vs (record { chain = nodes; count = 1 }) × (begun_of c r ≡ begun_of c p)
+        fills_first z nodes e =
+            let none : h.chain ≡ [] = none_of h.chain (h.has.counted ∙ z) in (
+              record {
+                chain = i ∷ [];
+                has = record {
+                  counted = refl;
+                  few = omega arith;
+                  low = subst (λ (xs : List ℕ). (j : ℕ) → 0 < times j (i ∷ xs) → j < room_of c) none low_there;
+                  begins = sym (ap (λ (x : Chain). x.first) e);
+                  ends = sym (ap (λ (x : Chain). x.last) e);
+                };
+                at = subst (λ (xs : List ℕ). IsAt c o r (linking xs (putting vs (i ∷ xs))) (loaded (putting vs (i ∷ xs)))) none filled.0;
+              },
+              filled.1,
+            )
+
+        -- a later one is linked to the one before it
+        module _ (some_yet : held'.count ≢ 0) where
+          chain_is : (x : ℕ) × (xs : List ℕ) × (h.chain ≡ x ∷ xs)
+          chain_is = parts_of h.chain (let a = h.has.counted in more (length h.chain) (λ z. some_yet (sym a ∙ z)))
+            where
+              more : (k : ℕ) → (k ≡ 0 → ⊥) → 0 < k
+              more zero ne = absurd (ne refl)
+              more (suc k) ne = omega arith
+
+          links : IsAt c o r (LinkTaken after) (loaded after)
+          links = subst (λ (l : Line T). IsAt c o r l (loaded after)) (ap (λ (xs : List ℕ). linking xs after) chain_is.2) filled.0
+
+          pub may_link : (at : ℕ) → at ≡ link_at i → AtAccess (machine_of c) o r.seat.me.0 (stores at held'.chain.first)
+          may_link at e = ready c o r (LinkTaken after) (loaded after) (stores at held'.chain.first) links (λ t. stores (sym e t) (h.has.begins t))
+
+          pub plain_first : held'.chain.first ≤ NULL
+          plain_first =
+              let e = chain_is in
+              let b : first h.chain ≡ held'.chain.first = h.has.begins in
+              let l = h.has.low (first h.chain) (first_in h.chain (let a : length h.chain ≡ suc (length e.1) = ap length e.2 in omega arith)) in
+              let most = c.table.shared.key.capacity_in_range in
+              omega arith
+
+          module _ (s : Pass T (Line T)) (x : ℕ) (steps : Found (machine_of c) o r.seat.me.0 s.seat.me.0 x []) where
+            -- no pass holds more nodes than there are
+            pub few_held : held'.count + 1 ≤ room_of c
+            few_held =
+                let m = (steps (begun_of c r) (LinkTaken after) links.at.going).0.line.meets in
+                let one = total_one (λ (l : Line T). length (held l)) m.lines m.seat (LinkTaken after) m.here in
+                let out = m.good.good.told.out in
+                let room = m.good.good.told.room in
+                let counted = h.has.counted in
+                omega (arith, one, out, room, counted)
+
+            pub fills_more : s.seat.table_id ≡ r.seat.table_id → s.seat.me.1 ≡ r.seat.me.1
+                → IsFilling c o s vs (record { chain = record { first = i; last = held'.chain.last }; count = held'.count + 1 }) × (begun_of c s ≡ begun_of c p)
+            fills_more table' same =
+                let on = goes_on (machine_of c) links s x [] steps table' (loaded after) (next_node after) (same ∙ links.at.has) refl (linking_busy [] after) in (
+                  record {
+                    chain = i ∷ h.chain;
+                    has = record {
+                      counted = let a = h.has.counted in omega arith;
+                      few = omega arith;
+                      low = low_there;
+                      begins = refl;
+                      ends = ap (λ (xs : List ℕ). last (i ∷ xs)) chain_is.2 ∙ ap (λ (xs : List ℕ). last xs) (sym chain_is.2) ∙ h.has.ends;
+                    };
+                    at = on.0;
+                  },
+                  on.1.0 ∙ filled.1,
+                )

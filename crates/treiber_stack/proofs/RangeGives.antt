@@ -1,0 +1,137 @@
+-- What a range put gives, by its answer.
+use Rattle.std.proofs.Common.{◌≡◌, ℕ, zero, suc, ◌<◌, ◌≤◌, inl, inr, ⊎_elim, List, [], ◌∷◌, ◌++◌, map, length, take, drop, replicate, refl, sym, ap, ◌∙◌, subst, length-append, arith}
+use Rattle.std.proofs.lemmas.List.{length-drop}
+use Rattle.std.specs.Prelude.{Option as Slot, Some, None, Ok, Err}
+use Rattle.bounded_model.specs.declared.answers.PutRefused.{PutRefused}
+use Rattle.bounded_model.specs.declared.answers.PutRefused.TheVariants.{Full as PutFull, Closed as PutClosed, Spent as PutSpent}
+use Rattle.bounded_model.specs.declared.answers.Word.TheVariants.{Free as FreeWord, Top as TopWord}
+use Rattle.bounded_model.specs.declared.bulk.RangeRefused.{RangeRefused}
+use Rattle.bounded_model.specs.declared.bulk.RangeRefused.TheVariants.{Nothing, Full, Closed, Spent}
+use Rattle.bounded_model.specs.declared.history.Event.TheVariants.{Put}
+use Rattle.bounded_model.specs.declared.views.PassView.{PassView}
+use Rattle.bounded_model.specs.Bulk.{somes, PutsFront, PutsNone, PutsRange}
+use Rattle.bounded_model.specs.Histories.{own}
+use Rattle.bounded_model.specs.Laws.{BacksOut, RangeGives, gave_back, holds_of}
+use Rattle.bounded_model.specs.Machine.{Shape}
+use Rattle.machine.specs.Seats.{pass_of}
+use Rattle.machine.specs.declared.seats.View.{View}
+use Rattle.stack_machine.specs.declared.lines.Answer.TheVariants.{Put as AnswerPut}
+use Rattle.stack_machine.specs.declared.lines.Call.{Call}
+use Rattle.stack_machine.specs.declared.lines.Call.TheVariants.{Put as CallPut}
+use Rattle.stack_machine.specs.declared.lines.Line.{Line}
+use Rattle.stack_machine.specs.Machine.{ends, unplaced}
+use Rattle.stack_machine.specs.Deeds.{Deeds, handed_back}
+use Rattle.stack_machine.proofs.Made.{made_refusal}
+use Rattle.stack_table.specs.Lines.{call_of}
+use Rattle.stack_table.specs.declared.operation.Operation.{Operation}
+use Rattle.running.specs.Going.{Ended}
+use Rattle.running.specs.declared.passes.Pass.{Pass}
+use Rattle.treiber_stack.specs.declared.stack.Stack.{Stack}
+use Rattle.treiber_stack.specs.declared.refusing.Barred.{Barred}
+use Rattle.treiber_stack.specs.declared.refusing.Barred.TheVariants.{Closed as BarredClosed, Spent as BarredSpent}
+use Rattle.treiber_stack.specs.Ranging.{NotPut, IsRange, places_from, putting}
+use Rattle.treiber_stack.specs.Refusing.{barring, barring_range}
+use Rattle.treiber_stack.specs.Stack.{machine_of, shape_of, pass_in}
+use Rattle.treiber_stack.proofs.Closes.{adds_of}
+use Rattle.treiber_stack.proofs.Loading.{length_some, somes_taken, drop_some}
+
+module _ {T : Type 0} where
+  head_or : T → List T → T
+  head_or d [] = d
+  head_or d (x ∷ xs) = x
+
+  tail_of : List T → List T
+  tail_of [] = []
+  tail_of (x ∷ xs) = xs
+
+  -- values in front of the others are the first ones
+  front_is : (us ws : List T) (k : ℕ) → k ≤ length ws → us ++ drop k ws ≡ ws → us ≡ take k ws
+  unfolding head_or tail_of
+  front_is [] ws zero h e = refl
+  front_is [] [] (suc k) h e = absurd (omega arith)
+  front_is [] (w ∷ ws) (suc k) h e = absurd (let l : length (drop k ws) ≡ suc (length ws) = ap length e in let d = length-drop k ws in omega (arith, l, d))
+  front_is (u ∷ us) [] k h e = absurd (let l : suc (length (us ++ drop k [])) ≡ 0 = ap length e in omega (arith, l))
+  front_is (u ∷ us) (w ∷ ws) zero h e = absurd (let l : suc (length (us ++ w ∷ ws)) ≡ suc (length ws) = ap length e in omega (arith, l, length-append us (w ∷ ws)))
+  front_is (u ∷ us) (w ∷ ws) (suc k) h e = (λ t. ap (head_or u) e t ∷ front_is us ws k (omega arith) (ap tail_of e) t)
+
+  all_in : (vs : List T) (k : ℕ) → k ≤ length vs → drop k vs ≡ [] → length vs ≡ k
+  all_in [] zero h e = refl
+  all_in [] (suc k) h e = absurd (omega arith)
+  all_in (v ∷ vs) zero h e = absurd (let l : suc (length vs) ≡ 0 = ap length e in omega (arith, l))
+  all_in (v ∷ vs) (suc k) h e = ap suc (all_in vs k (omega arith) e)
+
+  length_take : (k : ℕ) (vs : List T) → k ≤ length vs → length (take k vs) ≡ k
+  length_take zero vs h = refl
+  length_take (suc k) [] h = absurd (omega arith)
+  length_take (suc k) (v ∷ vs) h = ap suc (length_take k vs (omega arith))
+
+module _ {T : Type 0} (c : Stack T) (o : Operation T) {v : View T (Line T)} {begun : PassView T} where
+  -- a refused put has given back what it took
+  backs_out : (why : PutRefused (List T)) → Ended (machine_of c) o v begun (ends (AnswerPut (Err why))) → BacksOut begun (pass_of v) (length (handed_back why))
+  backs_out why e =
+      let made = made_refusal (pass_of v).number (own (pass_of v).number e.deeds.between) (call_of o) why e.deeds.made in
+      record { held = made.nodes; at_most = made.at_most; adds = adds_of c e (gave_back begun.number made.nodes) (made.is ∙ ap (λ (k : ℕ). gave_back k made.nodes) e.number) }
+
+  -- no node could be had, and why nothing could be put
+  pub not_put_spent : (vs : List T) (t : ℕ) → Ended (machine_of c) o v begun (ends (AnswerPut (Err (PutSpent vs FreeWord t)))) → NotPut (shape_of c) begun (length vs) (pass_of v) (Spent FreeWord t)
+  not_put_spent vs t e = (backs_out (PutSpent vs FreeWord t) e, e.tells)
+
+  pub not_put_barred : (vs : List T) (why : Barred) → Ended (machine_of c) o v begun (ends (AnswerPut (Err (barring why vs)))) → NotPut (shape_of c) begun (length vs) (pass_of v) (barring_range why)
+  not_put_barred vs BarredClosed e = (backs_out (PutClosed vs) e, e.tells)
+  not_put_barred vs (BarredSpent t) e = (backs_out (PutSpent vs TopWord t) e, e.tells)
+
+  -- no node was free
+  pub not_put_full : (vs : List T) → IsRange o vs → Ended (machine_of c) o v begun (ends (AnswerPut (Err (PutFull vs)))) → NotPut (shape_of c) begun (length vs) (pass_of v) Full
+  not_put_full [] is e = absurd is
+  not_put_full (x ∷ xs) is e =
+      let deeds = subst (λ (k : Call T). Deeds (shape_of c) (pass_of v).number k (ends (AnswerPut (Err (PutFull (x ∷ xs))))) begun.seen (pass_of v).seen) is e.deeds in
+      (
+        record {
+          number = e.number;
+          steps = e.steps;
+          between = deeds.between;
+          seen = deeds.is;
+          own_events = ap (λ (k : ℕ). own k deeds.between) (sym e.number) ∙ deeds.made.1;
+        },
+        e.tells,
+      )
+
+  -- the values that were put
+  pub range_gives : (old new : List (Slot T)) (vs : List T) (chain : List ℕ) (k number : ℕ) → IsRange o vs → old ≡ map Some vs → 0 < k → k ≤ length vs → length chain ≡ k → new ≡ places_from k vs
+      → Ended (machine_of c) o v begun (ends (AnswerPut (Ok (number, unplaced (putting vs chain)))))
+      → PutsFront (record { shape = shape_of c; from = begun; to = pass_of v }) old new (record { number = number; count = k })
+  range_gives old new [] chain k number is e some few counted same end = absurd is
+  range_gives old new (x ∷ xs) chain k number is e some few counted same end =
+      let vs : List T = x ∷ xs in
+      let deeds = subst (λ (l : Call T). Deeds (shape_of c) (pass_of v).number l (ends (AnswerPut (Ok (number, unplaced (putting vs chain))))) begun.seen (pass_of v).seen) is end.deeds in
+      let made = deeds.made in
+      let put : made.values ≡ take k vs = front_is made.values vs k few (subst (λ (m : ℕ). made.values ++ drop m vs ≡ vs) counted made.all) in
+      record {
+        some_value = some;
+        at_most = subst (λ (m : ℕ). k ≤ m) (sym (ap length e ∙ length_some vs)) few;
+        gives = subst (λ (us : List T). RangeGives begun us (pass_of v) number) (put ∙ sym (ap (λ (ps : List (Slot T)). somes (take k ps)) e ∙ somes_taken k vs)) (record {
+          number = end.number;
+          steps = end.steps;
+          between = deeds.between;
+          seen = deeds.is;
+          own_events = ap (λ (j : ℕ). own j deeds.between) (sym end.number) ∙ made.is ∙ ap (λ (j : ℕ). Put j made.values number ∷ holds_of j (length made.values)) end.number;
+        });
+        places = same ∙ ap (λ (ps : List (Slot T)). replicate k None ++ ps) (sym (ap (λ (ps : List (Slot T)). drop k ps) e ∙ drop_some k vs));
+        all = ⊎_elim
+            (λ none_left. inl (sym (all_in vs k few (subst (λ (m : ℕ). drop m vs ≡ []) counted none_left)) ∙ sym (ap length e ∙ length_some vs)))
+            (λ full. inr full)
+            deeds.all;
+      }
+
+-- a refusal of a range that is not empty
+pub none_gives : {T : Type 0} (c : Shape) (v w : PassView T) (old new : List (Slot T)) (vs : List T) (why : RangeRefused) → old ≡ map Some vs → 0 < length vs → new ≡ map Some vs → NotPut c v (length vs) w why
+    → PutsRange (record { shape = c; from = v; to = w }) old new (Err why)
+none_gives c v w old new vs why is h same refusal =
+    let many : length vs ≡ length old = sym (ap length is ∙ length_some vs) in
+    (same ∙ sym is, puts_none why (length old) (subst (λ (k : ℕ). 0 < k) many h) (subst (λ (k : ℕ). NotPut c v k w why) many refusal))
+  where
+    puts_none : (why : RangeRefused) (most : ℕ) → 0 < most → NotPut c v most w why → PutsNone (record { shape = c; from = v; to = w }) most why
+    puts_none Nothing most some r = absurd r
+    puts_none Full most some r = (some, r.0, r.1)
+    puts_none Closed most some r = (some, r.0, r.1)
+    puts_none (Spent word t) most some r = (some, r.0, r.1)

@@ -1,0 +1,269 @@
+-- The values of a refused range go back to their places.
+use Rattle.std.proofs.Common.{◌≡◌, ℕ, zero, suc, ◌+◌, ◌<◌, ◌≤◌, List, [], ◌∷◌, ◌++◌, map, length, reverse, take, drop, replicate, set, slice_index, refl, sym, ap, ◌∙◌, subst, append_assoc, append-nil, length-append, arith}
+use Rattle.std.proofs.lemmas.List.{reverse-append}
+use Rattle.std.specs.Prelude.{Option as Slot, Some, None, Err}
+use Rattle.atomic_table.specs.Table.{rest}
+use Rattle.tagged_index.specs.Fields.{index_of}
+use Rattle.tagged_index.specs.declared.word.TheConstants.{NULL}
+use Rattle.bounded_model.specs.declared.answers.PutRefused.{PutRefused}
+use Rattle.bounded_model.specs.declared.views.PassView.{PassView}
+use Rattle.bounded_model.proofs.Adding.{Sometime-wider}
+use Rattle.bounded_model.proofs.Histories.{is_nil, Later-refl, Later-trans}
+use Rattle.machine.specs.Words.{times, IsChain}
+use Rattle.machine.specs.Chains.{first, last}
+use Rattle.machine.proofs.Chains.{first_in, last_in}
+use Rattle.machine.specs.Seats.{Looks}
+use Rattle.machine.specs.declared.seats.View.{View}
+use Rattle.machine.specs.declared.seats.View.TheVariants.{AtPass}
+use Rattle.machine.proofs.Lists.{times_here, times_append}
+use Rattle.stack_machine.specs.Deeds.{Deeds}
+use Rattle.stack_machine.specs.Machine.{starts}
+use Rattle.stack_machine.specs.Rule.{IsFine, Gives}
+use Rattle.stack_machine.specs.declared.lines.Answer.TheVariants.{Put as AnswerPut}
+use Rattle.stack_machine.specs.declared.lines.Call.{Call}
+use Rattle.stack_machine.specs.declared.lines.Call.TheVariants.{Put as CallPut, Take as CallTake, Close as CallClose, Shut as CallShut, Look as CallLook}
+use Rattle.stack_machine.specs.declared.lines.Giving.{Giving}
+use Rattle.stack_machine.specs.declared.lines.Line.{Line}
+use Rattle.stack_machine.specs.declared.lines.Line.TheVariants.{Idle, LoadFreeToGive}
+use Rattle.stack_machine.proofs.Doing.{meanwhile}
+use Rattle.stack_table.specs.Layout.{link_at}
+use Rattle.stack_table.specs.Lines.{call_of, names}
+use Rattle.stack_table.specs.Memories.{memory_of}
+use Rattle.stack_table.specs.Slots.{full, vacant}
+use Rattle.stack_table.specs.declared.operation.Operation.{Operation}
+use Rattle.stack_table.proofs.Slots.{vacant_append}
+use Rattle.running.specs.Going.{Going, Peeked, begun_in}
+use Rattle.running.specs.Rule.{line_in, line_now, begun_now}
+use Rattle.running.specs.declared.passes.Pass.{Pass}
+use Rattle.treiber_stack.specs.declared.giving.Give.TheVariants.{Load}
+use Rattle.treiber_stack.specs.declared.ranging.Held.{Held}
+use Rattle.treiber_stack.specs.declared.refusing.Barred.{Barred}
+use Rattle.treiber_stack.specs.declared.refusing.Barred.TheVariants.{Closed as BarredClosed, Spent as BarredSpent}
+use Rattle.treiber_stack.specs.declared.stack.Stack.{Stack}
+use Rattle.treiber_stack.specs.Giving.{IsGiving}
+use Rattle.treiber_stack.specs.Nodes.{refused}
+use Rattle.treiber_stack.specs.Ranging.{places_from, putting, HasNodes, IsRefused, IsRestoring, ReadsAgain}
+use Rattle.treiber_stack.specs.Refusing.{barring}
+use Rattle.treiber_stack.specs.Stack.{room_of, limit_of, machine_of, shape_of, begun_of, IsAt}
+use Rattle.treiber_stack.proofs.Gives.{moved}
+use Rattle.treiber_stack.proofs.Loading.{next_value, set_at}
+use Rattle.treiber_stack.proofs.Takes.{same_value}
+
+-- a link of a chain names its next node
+chain_link : (link : ℕ → ℕ) (before : List ℕ) (i j : ℕ) (others : List ℕ) → IsChain link (before ++ i ∷ j ∷ others) → link i ≡ j
+chain_link link [] i j others c = c.0
+chain_link link (x ∷ []) i j others c = c.1.0
+chain_link link (x ∷ y ∷ xs) i j others c = chain_link link (y ∷ xs) i j others c.1
+
+-- an index read as a word is its own index
+plain_index : (k : ℕ) → k ≤ NULL → index_of k ≡ k
+plain_index k h = omega arith
+
+parts_of : (xs : List ℕ) (k : ℕ) → length xs ≡ suc k → (more : List ℕ) × (xs ≡ first xs ∷ more)
+parts_of [] k e = absurd (omega arith)
+parts_of (x ∷ xs) k e = (xs, refl)
+
+pred_of : ℕ → ℕ
+pred_of zero = zero
+pred_of (suc k) = k
+
+pred_is : (k : ℕ) → 0 < k → k ≡ suc (pred_of k)
+unfolding pred_of
+pred_is zero h = absurd (omega arith)
+pred_is (suc k) h = refl
+
+module _ {T : Type 0} (c : Stack T) where
+  -- the link that was read
+  pub read_so : (v : View T (Line T)) (at found i : ℕ) → at ≡ link_at i → Peeked (machine_of c) v at found → (giving : Giving T) (before others : List ℕ) (next : ℕ) → line_in names v ≡ LoadFreeToGive giving → giving.chain ≡ before ++ i ∷ next ∷ others → index_of found ≡ next
+  read_so v at found i e peeked giving before others next line parts =
+      let m = memory_of peeked.words peeked.homes in
+      let fine : IsFine (limit_of c) m peeked.good.lists (line_in names v) = peeked.good.good.linked.fine peeked.seat (line_in names v) peeked.here in
+      let gives : Gives m.link giving.chain = subst (IsFine (limit_of c) m peeked.good.lists) line fine in
+      let is : m.link i ≡ found = ap (λ (k : ℕ). slice_index peeked.words k) (sym e) ∙ peeked.is in
+      ap index_of (sym is) ∙ plain_index (m.link i) (peeked.sane.plain i) ∙ chain_link m.link before i next others (subst (λ (xs : List ℕ). IsChain m.link xs) parts gives.chained)
+
+  module _ (o : Operation T) where
+    no_start : (call : Call T) (giving : Giving T) → starts call ≡ LoadFreeToGive giving → ⊥
+    no_start (CallPut v vs) giving e = cc
+    no_start (CallTake taking) giving e = cc
+    no_start CallClose giving e = cc
+    no_start CallShut giving e = cc
+    no_start CallLook giving e = cc
+
+    begun_same : (l : Line T) (giving : Giving T) (p q b : PassView T) → line_now names o l ≡ LoadFreeToGive giving → begun_now names q b l ≡ begun_now names p b l
+    begun_same (Idle a) giving p q b e = absurd (no_start (call_of o) giving e)
+    begun_same l giving p q b e = refl
+
+    busy_at : (l : Line T) (giving : Giving T) → line_now names o l ≡ LoadFreeToGive giving → l ≡ LoadFreeToGive giving
+    busy_at (Idle a) giving e = absurd (no_start (call_of o) giving e)
+    busy_at l giving e = e
+
+    line_is : {v : View T (Line T)} {begun : PassView T} {giving : Giving T} → Going (machine_of c) o v begun (LoadFreeToGive giving) → line_in names v ≡ LoadFreeToGive giving
+    line_is {v} {begun} {giving} g = ap (line_in names) g.is ∙ busy_at g.at giving g.now
+
+    -- a load that belongs to no line leaves a refused put at its line
+    looked_going : {v v' : View T (Line T)} {begun : PassView T} (chain : List ℕ) (why : PutRefused (List T)) → Going (machine_of c) o v begun (LoadFreeToGive (record { chain = chain; answer = AnswerPut (Err why) })) → Looks (shape_of c) v v'
+        → Going (machine_of c) o v' begun (LoadFreeToGive (record { chain = chain; answer = AnswerPut (Err why) }))
+    looked_going {v} {v'} {begun} chain why g looks =
+        let l : Line T = LoadFreeToGive (record { chain = chain; answer = AnswerPut (Err why) }) in
+        let looked : Looks (shape_of c) (AtPass g.pass g.from g.at) v' = subst (λ (u : View T (Line T)). Looks (shape_of c) u v') g.is looks in
+        let q : PassView T = looked.0 in
+        let adds = looked.2 in
+        let fewer = g.steps in
+        let more = adds.steps in
+        record {
+          pass = q;
+          from = g.from;
+          at = g.at;
+          is = looked.1;
+          now = g.now;
+          begun_is = begun_same g.at (record { chain = chain; answer = AnswerPut (Err why) }) g.pass q g.from g.now ∙ g.begun_is;
+          number = adds.number ∙ g.number;
+          steps = omega arith;
+          seen = Later-trans g.seen (record { more = adds.between; is = adds.seen });
+          deeds = subst (λ (k : ℕ). Deeds (shape_of c) k (call_of o) l begun.seen q.seen) (sym adds.number)
+              (meanwhile (shape_of c) g.pass.number (call_of o) begun.seen g.pass.seen q.seen l (record { rest = adds.between; is = adds.seen; none_own = adds.own_events }) g.deeds);
+          tells = Sometime-wider (Later-refl begun.seen) (record { more = adds.between; is = adds.seen }) g.tells;
+        }
+
+module _ {T : Type 0} (c : Stack T) (o : Operation T) (vs : List T) (nodes : Held) (why : Barred) where
+  abbrev back : List ℕ → Giving T
+  back chain = refused (putting vs chain) why
+
+  pub restore_start : (p : Pass T (Line T)) → IsRefused c o p vs nodes why → IsRestoring c o p vs nodes why 0 nodes.chain.first
+  restore_start p r = record {
+    chain = r.chain;
+    has = r.has;
+    done = [];
+    left = r.chain;
+    parts = refl;
+    counted = refl;
+    next = λ _. r.has.begins;
+    at = subst (λ (zs : List (ℕ × Slot T)). IsAt c o p (LoadFreeToGive (back r.chain)) zs) (sym (append-nil (full r.chain (reverse (take (length r.chain) vs))))) r.at;
+  }
+
+  module _ (p : Pass T (Line T)) (gone index : ℕ) (r : IsRestoring c o p vs nodes why gone index) (here : gone < nodes.count) (place : ℕ) (is : place + (1 + gone) ≡ nodes.count) where
+    many : length r.left ≡ suc place
+    many = let a = r.has.counted in let b : length r.chain ≡ length (r.done ++ r.left) = ap length r.parts in let d = r.counted in omega (arith, a, b, d, is, length-append r.done r.left)
+
+    abbrev more : List ℕ
+    more = (parts_of r.left place many).0
+
+    left_is : r.left ≡ index ∷ more
+    left_is = (parts_of r.left place many).1 ∙ ap (λ (x : ℕ). x ∷ more) (r.next (let m = many in omega arith))
+
+    fewer : length more ≡ place
+    fewer = let m = many in let l : length r.left ≡ suc (length more) = ap length left_is in omega arith
+
+    pub low_place : place < length vs
+    low_place = let f = r.has.few in omega (arith, f, is)
+
+    abbrev pub value : T
+    value = (next_value vs place low_place).0
+
+    slots_are : p.seat.me.1 ≡ (index, Some value) ∷ (full more (reverse (take place vs)) ++ vacant r.done)
+    slots_are = r.at.at.has
+        ∙ (λ t. full (left_is t) (reverse (take (many t) vs)) ++ vacant r.done)
+        ∙ ap (λ (us : List T). full (index ∷ more) us ++ vacant r.done) (taken place value (next_value vs place low_place).1)
+      where
+        taken : (k : ℕ) (v : T) → take (k + 1) vs ≡ take k vs ++ v ∷ [] → reverse (take (suc k) vs) ≡ v ∷ reverse (take k vs)
+        taken k v e =
+            let one : k + 1 ≡ suc k = omega arith in
+            ap (λ (us : List T). reverse us) (subst (λ (m : ℕ). take m vs ≡ take k vs ++ v ∷ []) one e) ∙ reverse-append (take k vs) (v ∷ [])
+
+    -- a value that is back in its place
+    pub places_back : (m : ℕ) → suc place ≡ m → set (places_from m vs) place (Some value) ≡ places_from place vs
+    places_back m e =
+        let one : place + 1 ≡ m = omega arith in
+        set_at m place e (Some value) (map Some (drop m vs))
+        ∙ ap (λ (us : List T). replicate place None ++ map Some us) (sym ((next_value vs place low_place).2 ∙ ap (λ (x : ℕ). value ∷ drop x vs) one))
+
+    pub restore_full : p.seat.me.1 ≡ (index, Some value) ∷ rest p.seat.me.1
+    restore_full = slots_are ∙ ap (λ (zs : List (ℕ × Slot T)). (index, Some value) ∷ rest zs) (sym slots_are)
+
+    pub restore_low : index < room_of c
+    restore_low = r.has.low index (let e : times index r.chain ≡ times index (r.done ++ index ∷ more) = ap (times index) (r.parts ∙ ap (λ (xs : List ℕ). r.done ++ xs) left_is) in omega (arith, e, times_append index r.done (index ∷ more), times_here index more))
+
+    module _ (q : Pass T (Line T)) (x : T) (table : q.seat.table_id ≡ p.seat.table_id) (has : p.seat.me.1 ≡ (index, Some x) ∷ rest p.seat.me.1) (out : q.seat.me ≡ (p.seat.me.0, rest p.seat.me.1 ++ (index, None) ∷ [])) where
+      pub restored_value : x ≡ value
+      restored_value = same_value p.seat.me.1 (rest p.seat.me.1) (rest p.seat.me.1) index index x value has restore_full
+
+      abbrev slots : List (ℕ × Slot T)
+      slots = full more (reverse (take (length more) vs)) ++ vacant (r.done ++ index ∷ [])
+
+      slots_now : rest p.seat.me.1 ++ (index, None) ∷ [] ≡ slots
+      slots_now = ap (λ (zs : List (ℕ × Slot T)). rest zs ++ (index, None) ∷ []) slots_are
+          ∙ append_assoc (full more (reverse (take place vs))) (vacant r.done) ((index, None) ∷ [])
+          ∙ (λ t. full more (reverse (take (sym fewer t) vs)) ++ sym (vacant_append r.done (index ∷ [])) t)
+
+      out_so : IsAt c o q (LoadFreeToGive (back r.chain)) slots × (begun_of c q ≡ begun_of c p)
+      out_so = moved c o p q (LoadFreeToGive (back r.chain)) (full r.left (reverse (take (length r.left) vs)) ++ vacant r.done) slots r.at table (out ∙ ap (λ (zs : List (ℕ × Slot T)). (p.seat.me.0, zs)) slots_now)
+
+      parts : r.chain ≡ (r.done ++ index ∷ []) ++ more
+      parts = r.parts ∙ ap (λ (xs : List ℕ). r.done ++ xs) left_is ∙ sym (append_assoc r.done (index ∷ []) more)
+
+      -- the last value is back
+      pub restore_last : place ≡ 0 → IsRestoring c o q vs nodes why (gone + 1) index × (begun_of c q ≡ begun_of c p)
+      restore_last z = (
+        record {
+          chain = r.chain;
+          has = r.has;
+          done = r.done ++ index ∷ [];
+          left = more;
+          parts = parts;
+          counted = length-append r.done (index ∷ []) ∙ ap (λ (k : ℕ). k + 1) r.counted;
+          next = λ h. let f = fewer in absurd (omega arith);
+          at = out_so.0;
+        },
+        out_so.1,
+      )
+
+      -- or the next node was read
+      pub restore_next : 0 < place → (next : ℕ) (s : Pass T (Line T)) → s.seat.table_id ≡ q.seat.table_id → s.seat.me.1 ≡ q.seat.me.1 → Looks (shape_of c) q.seat.me.0 s.seat.me.0 → ReadsAgain q.seat.me.0 index next → IsRestoring c o s vs nodes why (gone + 1) next × (begun_of c s ≡ begun_of c p)
+      restore_next h next s table' same looks reads =
+          let going = out_so.0.at.going in
+          let going' = looked_going c o r.chain (barring why vs) going looks in
+          let kept : begun_in (machine_of c) s.seat.me.0 ≡ begun_of c q = begun_going going' in
+          let one = parts_of more (pred_of place) (fewer ∙ pred_is place h) in
+          let line : line_in names q.seat.me.0 ≡ LoadFreeToGive (back r.chain) = line_is c o going in
+          let named : next ≡ first more = reads (back r.chain) r.done one.0 (first more) line (r.parts ∙ ap (λ (xs : List ℕ). r.done ++ xs) (left_is ∙ ap (λ (xs : List ℕ). index ∷ xs) one.1)) in (
+            record {
+              chain = r.chain;
+              has = r.has;
+              done = r.done ++ index ∷ [];
+              left = more;
+              parts = parts;
+              counted = length-append r.done (index ∷ []) ∙ ap (λ (k : ℕ). k + 1) r.counted;
+              next = λ _. sym named;
+              at = record {
+                table = table' ∙ out_so.0.table;
+                at = record {
+                  has = same ∙ out_so.0.at.has;
+                  going = subst (λ (b : PassView T). Going (machine_of c) o s.seat.me.0 b (LoadFreeToGive (back r.chain))) (sym kept) going';
+                };
+              };
+            },
+            kept ∙ out_so.1,
+          )
+        where
+          begun_going : {v : View T (Line T)} {b : PassView T} {l : Line T} → Going (machine_of c) o v b l → begun_in (machine_of c) v ≡ b
+          begun_going g = ap (begun_in (machine_of c)) g.is ∙ g.begun_is
+
+  -- all values are back
+  pub restore_done : (p : Pass T (Line T)) (gone index : ℕ) (r : IsRestoring c o p vs nodes why gone index) → gone ≡ nodes.count → 0 < nodes.count → IsGiving c o p (back r.chain) nodes.chain Load
+  restore_done p gone index r all some_node =
+      let a = r.has.counted in
+      let b : length r.chain ≡ length (r.done ++ r.left) = ap length r.parts in
+      let d = r.counted in
+      let none = is_nil r.left (omega (arith, a, b, d, all, length-append r.done r.left)) in
+      let whole : r.chain ≡ r.done = r.parts ∙ ap (λ (xs : List ℕ). r.done ++ xs) none ∙ append-nil r.done in
+      let some_there : 0 < length r.chain = omega (arith, a, some_node) in
+      record {
+        line = subst (λ (zs : List (ℕ × Slot T)). IsAt c o p (LoadFreeToGive (back r.chain)) zs) (λ t. full (none t) (reverse (take (length (none t)) vs)) ++ vacant (sym whole t)) r.at;
+        are = record {
+          begins = r.has.begins;
+          ends = r.has.ends;
+          first_low = subst (λ (k : ℕ). k < room_of c) r.has.begins (r.has.low (first r.chain) (first_in r.chain some_there));
+          last_low = subst (λ (k : ℕ). k < room_of c) r.has.ends (r.has.low (last r.chain) (last_in r.chain some_there));
+        };
+      }
