@@ -5,7 +5,7 @@ use Rattle.std.specs.Prelude.{Option as Slot, Some, None}
 use Rattle.atomic_table.specs.Table.{rest}
 use Rattle.tagged_index.specs.declared.word.TheConstants.{NULL}
 use Rattle.machine.specs.Words.{times}
-use Rattle.machine.specs.Chains.{first, last, second}
+use Rattle.machine.specs.Chains.{first, last}
 use Rattle.machine.proofs.Chains.{first_in, last_in}
 use Rattle.machine.proofs.Lists.{times_else}
 use Rattle.machine.proofs.Sums.{total_one}

@@ -1,18 +1,16 @@
 -- Where the steps of a put lead that takes nodes, and that puts them onto the top.
 use Rattle.std.proofs.Common.{◌≡◌, ◌≢◌, ℕ, ◌<◌, ◌≤◌, Bool, true, false, cond, eqb, ltb, List, [], ◌∷◌, ◌++◌, length, refl, sym, ap, ◌∙◌, subst, ne_eqb, arith}
-use Rattle.std.specs.Prelude.{Option as Slot, Some, None, Ok, Err}
+use Rattle.std.specs.Prelude.{Option as Slot, None, Ok, Err}
 use Rattle.tagged_index.specs.Fields.{fields_of, index_of, tag_of}
 use Rattle.tagged_index.specs.declared.word.TheConstants.{NULL}
 use Rattle.bounded_model.specs.declared.answers.Word.TheVariants.{Free as FreeWord}
 use Rattle.bounded_model.specs.declared.answers.PutRefused.TheVariants.{Spent as PutSpent}
-use Rattle.bounded_model.specs.declared.views.PassView.{PassView}
 use Rattle.stack_machine.specs.declared.lines.Answer.TheVariants.{Put as AnswerPut}
 use Rattle.stack_machine.specs.declared.lines.Putting.{Putting}
 use Rattle.stack_machine.specs.declared.lines.Line.{Line}
 use Rattle.stack_machine.specs.declared.lines.Line.TheVariants.{LoadFree, LoadFreeLink, TakeFree, LinkTaken, LoadTop, LinkToTop, SwapTop, LoadTopToRefuse, LoadFreeToGive}
 use Rattle.stack_machine.specs.Machine.{is_idle, ends, next_node, no_node, with_node, unplaced, at_load_free, at_take_free}
 use Rattle.stack_table.specs.declared.operation.Operation.{Operation}
-use Rattle.stack_table.specs.Slots.{full}
 use Rattle.running.specs.Going.{Ended, Found, Missed, Brings}
 use Rattle.running.specs.declared.passes.Pass.{Pass}
 use Rattle.running.proofs.Ways.{goes_on, ends_so, hits, misses}
@@ -21,7 +19,7 @@ use Rattle.treiber_stack.specs.declared.refusing.Barred.{Barred}
 use Rattle.treiber_stack.specs.declared.nodes.NoNode.TheVariants.{NoneFree, Spent}
 use Rattle.treiber_stack.specs.Refusing.{AllowsPut, RefusesPut}
 use Rattle.treiber_stack.specs.Stack.{room_of, limit_of, machine_of, begun_of, IsPassOf, IsAt, OneLine, WentOn}
-use Rattle.treiber_stack.specs.Nodes.{loaded, linking, IsCollecting, Stops, TakesNode, refused}
+use Rattle.treiber_stack.specs.Nodes.{loaded, linking, IsCollecting, Stops, refused}
 use Rattle.treiber_stack.proofs.Refusals.{free_null, free_spent, free_goes, allows_link}
 
 module _ {T : Type 0} where

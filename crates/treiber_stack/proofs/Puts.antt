@@ -1,8 +1,7 @@
 -- What a put gives, and where its steps lead.
-use Rattle.std.proofs.Common.{◌≡◌, ℕ, ◌≤◌, List, [], ◌∷◌, ◌++◌, length, refl, sym, ap, ◌∙◌, subst, append-nil, arith}
+use Rattle.std.proofs.Common.{◌≡◌, ℕ, List, [], ◌∷◌, length, refl, sym, ap, ◌∙◌, subst, append-nil, arith}
 use Rattle.std.specs.Prelude.{Option as Slot, Some, None, Result, Ok, Err}
 use Rattle.atomic_table.specs.Table.{rest}
-use Rattle.bounded_model.specs.declared.answers.Word.TheVariants.{Top as TopWord}
 use Rattle.bounded_model.specs.declared.answers.PutRefused.{PutRefused}
 use Rattle.bounded_model.specs.declared.answers.PutRefused.TheVariants.{Full, Closed, Spent}
 use Rattle.bounded_model.specs.declared.history.Event.{Event}

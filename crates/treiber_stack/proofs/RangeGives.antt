@@ -17,7 +17,6 @@ use Rattle.machine.specs.Seats.{pass_of}
 use Rattle.machine.specs.declared.seats.View.{View}
 use Rattle.stack_machine.specs.declared.lines.Answer.TheVariants.{Put as AnswerPut}
 use Rattle.stack_machine.specs.declared.lines.Call.{Call}
-use Rattle.stack_machine.specs.declared.lines.Call.TheVariants.{Put as CallPut}
 use Rattle.stack_machine.specs.declared.lines.Line.{Line}
 use Rattle.stack_machine.specs.Machine.{ends, unplaced}
 use Rattle.stack_machine.specs.Deeds.{Deeds, handed_back}
@@ -25,13 +24,12 @@ use Rattle.stack_machine.proofs.Made.{made_refusal}
 use Rattle.stack_table.specs.Lines.{call_of}
 use Rattle.stack_table.specs.declared.operation.Operation.{Operation}
 use Rattle.running.specs.Going.{Ended}
-use Rattle.running.specs.declared.passes.Pass.{Pass}
 use Rattle.treiber_stack.specs.declared.stack.Stack.{Stack}
 use Rattle.treiber_stack.specs.declared.refusing.Barred.{Barred}
 use Rattle.treiber_stack.specs.declared.refusing.Barred.TheVariants.{Closed as BarredClosed, Spent as BarredSpent}
 use Rattle.treiber_stack.specs.Ranging.{NotPut, IsRange, places_from, putting}
 use Rattle.treiber_stack.specs.Refusing.{barring, barring_range}
-use Rattle.treiber_stack.specs.Stack.{machine_of, shape_of, pass_in}
+use Rattle.treiber_stack.specs.Stack.{machine_of, shape_of}
 use Rattle.treiber_stack.proofs.Closes.{adds_of}
 use Rattle.treiber_stack.proofs.Loading.{length_some, somes_taken, drop_some}
 

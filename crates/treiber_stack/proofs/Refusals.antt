@@ -1,19 +1,17 @@
 -- Where a load of the top leads.
-use Rattle.std.proofs.Common.{◌≡◌, ◌≢◌, ℕ, ◌<◌, ◌≤◌, Bool, true, false, cond, leb, eqb, List, refl, sym, ap, ◌∙◌, subst, eq-eqb, ne_eqb, arith}
+use Rattle.std.proofs.Common.{◌≡◌, ◌≢◌, ℕ, ◌<◌, ◌≤◌, Bool, true, false, cond, leb, List, refl, eq-eqb, ne_eqb, arith}
 use Rattle.std.proofs.lemmas.Bool.Decides.{nat_tests}
 use Rattle.std.specs.Prelude.{Err}
 use Rattle.tagged_index.specs.Fields.{fields_of, index_of, tag_of, mark_of, second_of}
 use Rattle.tagged_index.specs.declared.word.TheConstants.{NULL}
 use Rattle.bounded_model.specs.declared.answers.Word.TheVariants.{Top as TopWord, Free as FreeWord}
-use Rattle.bounded_model.specs.declared.answers.PutRefused.TheVariants.{Full as PutFull, Closed as PutClosed, Spent as PutSpent}
+use Rattle.bounded_model.specs.declared.answers.PutRefused.TheVariants.{Full as PutFull, Spent as PutSpent}
 use Rattle.bounded_model.specs.declared.answers.TakeRefused.TheVariants.{Empty, Closed, Spent, Shut}
 use Rattle.stack_machine.specs.declared.lines.Putting.{Putting}
 use Rattle.stack_machine.specs.declared.lines.Taking.{Taking}
 use Rattle.stack_machine.specs.declared.lines.Answer.TheVariants.{Put as AnswerPut}
-use Rattle.stack_machine.specs.declared.lines.Line.{Line}
 use Rattle.stack_machine.specs.declared.lines.Line.TheVariants.{LinkToTop, LoadFreeLink, LoadTopToRefuse}
-use Rattle.stack_machine.specs.Machine.{at_load_top, at_load_top_to_refuse, at_load_top_to_take, at_load_free, no_node, ends, gives, refuses, takes}
-use Rattle.treiber_stack.specs.declared.refusing.Barred.{Barred}
+use Rattle.stack_machine.specs.Machine.{at_load_top, at_load_top_to_refuse, at_load_top_to_take, at_load_free, no_node, ends, takes}
 use Rattle.treiber_stack.specs.declared.refusing.Barred.TheVariants.{Closed as BarredClosed, Spent as BarredSpent}
 use Rattle.treiber_stack.specs.Refusing.{AllowsPut, AllowsTake, RefusesPut, RefusesTake}
 

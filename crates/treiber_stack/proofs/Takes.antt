@@ -1,5 +1,5 @@
 -- What a take gives, and where its steps lead.
-use Rattle.std.proofs.Common.{◌≡◌, ◌≢◌, ℕ, ◌<◌, ◌≤◌, List, [], ◌∷◌, ◌++◌, refl, sym, ap, ◌∙◌, subst}
+use Rattle.std.proofs.Common.{◌≡◌, ℕ, ◌<◌, ◌≤◌, List, [], ◌∷◌, ◌++◌, refl, sym, ap, ◌∙◌, subst}
 use Rattle.std.specs.Prelude.{Option as Slot, Some, None, Result, Ok, Err}
 use Rattle.atomic_table.specs.Table.{rest}
 use Rattle.tagged_index.specs.Fields.{fields_of, index_of, tag_of}
@@ -25,7 +25,6 @@ use Rattle.running.specs.Going.{Ended, Found, Missed, Brings}
 use Rattle.running.specs.declared.passes.Pass.{Pass}
 use Rattle.running.proofs.Ways.{goes_on, ends_so, hits, misses}
 use Rattle.treiber_stack.specs.declared.stack.Stack.{Stack}
-use Rattle.treiber_stack.specs.declared.taking.Taken.{Taken}
 use Rattle.treiber_stack.specs.Refusing.{AllowsTake, RefusesTake}
 use Rattle.treiber_stack.specs.Stack.{room_of, limit_of, machine_of, shape_of, pass_in, begun_of, IsPassOf, IsAt, OneLine, WentOn}
 use Rattle.treiber_stack.specs.Taking.{giving}

@@ -2,9 +2,8 @@
 use Rattle.std.proofs.Common.{◌≡◌, ◌≢◌, ℕ, ◌+◌, ◌<◌, ◌≤◌, List, [], ◌∷◌, ◌++◌, length, reverse, refl, sym, ap, ◌∙◌, subst, append_assoc, length-append, ne_eqb, eq-eqb, cond, arith}
 use Rattle.std.proofs.lemmas.List.{reverse-append, reverse-reverse, length-reverse}
 use Rattle.std.specs.Prelude.{Option as Slot}
-use Rattle.tagged_index.specs.Fields.{fields_of, index_of}
+use Rattle.tagged_index.specs.Fields.{index_of}
 use Rattle.tagged_index.specs.declared.word.TheConstants.{NULL}
-use Rattle.index_list.specs.declared.front.Front.{Front}
 use Rattle.index_list.specs.declared.front.Front.TheVariants.{First, Last}
 use Rattle.machine.specs.Words.{times}
 use Rattle.machine.specs.Chains.{first}

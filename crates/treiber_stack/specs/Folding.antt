@@ -1,12 +1,12 @@
 -- Folds: where a pass stands in one.
-use Rattle.std.specs.Prelude.{◌≡◌, ℕ, ◌+◌, ◌≤◌, List, [], ◌∷◌, ◌++◌, length, reverse, Result, Ok, Err}
+use Rattle.std.specs.Prelude.{◌≡◌, ℕ, ◌≤◌, List, ◌∷◌, ◌++◌, length, reverse, Result, Ok, Err}
 use Rattle.tagged_index.specs.Fields.{fields_of, index_of, tag_of}
 use Rattle.tagged_index.specs.declared.word.TheConstants.{NULL}
 use Rattle.bounded_model.specs.declared.answers.TakeRefused.{TakeRefused}
 use Rattle.bounded_model.specs.Laws.{TakesNothing}
 use Rattle.bounded_model.specs.Consumes.{Folds}
 use Rattle.index_list.specs.declared.front.Front.{Front}
-use Rattle.index_list.specs.declared.front.Front.TheVariants.{First, Last}
+use Rattle.index_list.specs.declared.front.Front.TheVariants.{Last}
 use Rattle.machine.specs.Chains.{first}
 use Rattle.stack_machine.specs.declared.lines.Answer.TheVariants.{Fold as AnswerFold}
 use Rattle.stack_machine.specs.declared.lines.Giving.{Giving}

@@ -1,5 +1,5 @@
 -- Nodes that a put takes, and that go onto the top.
-use Rattle.std.specs.Prelude.{◌≡◌, ℕ, ◌<◌, List, [], ◌∷◌, length, reverse, take, Option as Slot, None, Result, Ok, Err}
+use Rattle.std.specs.Prelude.{◌≡◌, ℕ, ◌<◌, List, [], ◌∷◌, reverse, Option as Slot, None, Result, Ok, Err}
 use Rattle.bounded_model.specs.declared.answers.Word.TheVariants.{Free as FreeWord}
 use Rattle.bounded_model.specs.declared.answers.PutRefused.TheVariants.{Spent as PutSpent}
 use Rattle.bounded_model.specs.declared.views.PassView.{PassView}

@@ -1,7 +1,6 @@
 //! A stack's ranges and folds, as every such container has them.
 use crate::stack::{Pass, Stack};
 use bounded_model::{Bulk, Folded, RangeRefused, Ranged, TakeRefused};
-use index_list::Front;
 use std::sync::Wait;
 
 impl<T: Drop + Send> Bulk<T> for Stack<T> {
@@ -12,7 +11,7 @@ impl<T: Drop + Send> Bulk<T> for Stack<T> {
         by: Pass<T>,
         values: &mut [Option<T>],
     ) -> (Pass<T>, Result<Ranged, RangeRefused>) {
-        self.put_all(rt, by, values)
+        self.put_range(rt, by, values)
     }
 
     /// From the top down.
@@ -23,10 +22,9 @@ impl<T: Drop + Send> Bulk<T> for Stack<T> {
         state: S,
         f: F,
     ) -> (Pass<T>, S, Result<Folded, TakeRefused>) {
-        self.fold(rt, by, Front::First, state, f)
+        self.fold_all_atomic(rt, by, state, f)
     }
 
-    /// From the bottom up.
     fn fold_all_atomic_reversed<R: Wait, S, F: Fn(S, T) -> S + Drop>(
         &self,
         rt: &R,
@@ -34,6 +32,6 @@ impl<T: Drop + Send> Bulk<T> for Stack<T> {
         state: S,
         f: F,
     ) -> (Pass<T>, S, Result<Folded, TakeRefused>) {
-        self.fold(rt, by, Front::Last, state, f)
+        self.fold_all_atomic_reversed(rt, by, state, f)
     }
 }

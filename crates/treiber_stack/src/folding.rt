@@ -1,6 +1,6 @@
 //! Folds: all values are taken by one exchange of the top, and handed to a function one after
 //! another on a walk along their chain; one more exchange gives the whole chain to the free list.
-ghost use Rattle.std.specs.Prelude.{◌≡◌, ◌++◌, [], ◌∷◌, Some, None};
+ghost use Rattle.std.specs.Prelude.{◌≡◌, ◌++◌, [], ◌∷◌, reverse, Some, None};
 ghost use Rattle.atomic_table.specs.Table.{rest};
 ghost use Rattle.bounded_model.specs.Bulk.{FoldsAll};
 ghost use Rattle.bounded_model.specs.Consumes.{Folds};
@@ -30,9 +30,44 @@ pub(crate) struct Walked<T, S> {
 }
 
 impl<T> Stack<T> {
-    /// Takes all values by one exchange, and folds them in this order. Answers the last state; after a
-    /// refusal, which is as that of a take, it is the one that was handed in.
-    pub(crate) fn fold<R: Wait, S, F: Fn(S, T) -> S + Drop>(
+    /// Takes all values by one exchange, and folds them from the top down. Answers the last
+    /// state; after a refusal, which is as that of a take, it is the one that was handed in.
+    pub fn fold_all_atomic<R: Wait, S, F: Fn(S, T) -> S + Drop>(
+        &self,
+        rt: &R,
+        by: Pass<T>,
+        state: S,
+        f: F,
+    ) -> (Pass<T>, S, Result<Folded, TakeRefused>)
+        requires pass { IsPassOf self.now by }
+        requires call { F.IsAlwaysCallable f }
+        ensures of { IsPassOf self.now result.0 }
+        ensures gives { FoldsAll (call_of self.now by result.0)
+            (λ values. Folds (λ s x t. F.post f s x t) state values result.1)
+            (result.1 ≡ state) result.2 }
+    {
+        self.fold(rt, by, Front::First, state, f)
+    }
+
+    /// The same, from the bottom up.
+    pub fn fold_all_atomic_reversed<R: Wait, S, F: Fn(S, T) -> S + Drop>(
+        &self,
+        rt: &R,
+        by: Pass<T>,
+        state: S,
+        f: F,
+    ) -> (Pass<T>, S, Result<Folded, TakeRefused>)
+        requires pass { IsPassOf self.now by }
+        requires call { F.IsAlwaysCallable f }
+        ensures of { IsPassOf self.now result.0 }
+        ensures gives { FoldsAll (call_of self.now by result.0)
+            (λ values. Folds (λ s x t. F.post f s x t) state (reverse values) result.1)
+            (result.1 ≡ state) result.2 }
+    {
+        self.fold(rt, by, Front::Last, state, f)
+    }
+
+    fn fold<R: Wait, S, F: Fn(S, T) -> S + Drop>(
         &self,
         rt: &R,
         by: Pass<T>,

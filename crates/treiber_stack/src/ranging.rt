@@ -47,7 +47,7 @@ impl<T> Stack<T> {
     /// Puts as many values as nodes can be had, from the front, by one exchange; the last of them
     /// is the new top, and their places are then `None`. A refusal leaves every place as it was:
     /// `Nothing` for an empty range, else as that of a put.
-    pub(crate) fn put_all<R: Wait>(
+    pub fn put_range<R: Wait>(
         &self,
         rt: &R,
         by: Pass<T>,

@@ -1,4 +1,4 @@
-use Rattle.std.proofs.Common.{true, false, sym, ap, arith}
+use Rattle.std.proofs.Common.{sym, ap, arith}
 use Rattle.tagged_index.specs.Limits.{tag_limit_of}
 use Rattle.treiber_stack.proofs.Refusals.{bars_closed, bars_spent}
 use Rattle.treiber_stack.proofs.stack.Stack.bars_put.Goals as goal

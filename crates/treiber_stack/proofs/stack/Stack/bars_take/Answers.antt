@@ -1,7 +1,5 @@
-use Rattle.std.proofs.Common.{◌≡◌, ◌≤◌, true, false, sym, ap, ◌∙◌, arith}
-use Rattle.tagged_index.specs.Fields.{tag_of}
+use Rattle.std.proofs.Common.{true, false, sym, ap, ◌∙◌, arith}
 use Rattle.tagged_index.specs.Limits.{tag_limit_of}
-use Rattle.treiber_stack.specs.Stack.{limit_of}
 use Rattle.treiber_stack.proofs.Refusals.{refuses_shut, refuses_none, refuses_spent}
 use Rattle.treiber_stack.proofs.stack.Stack.bars_take.Goals as goal
 

@@ -1,4 +1,4 @@
-use Rattle.std.proofs.Common.{[], ◌∷◌, refl, ap, subst}
+use Rattle.std.proofs.Common.{[], refl, ap, subst}
 use Rattle.stack_machine.specs.declared.lines.Call.TheVariants.{Put as CallPut}
 use Rattle.stack_machine.specs.declared.lines.Line.{Line}
 use Rattle.stack_machine.specs.declared.lines.Line.TheVariants.{LoadFree}

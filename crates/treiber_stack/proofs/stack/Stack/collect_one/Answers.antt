@@ -1,4 +1,4 @@
-use Rattle.std.proofs.Common.{List, ◌∙◌, subst}
+use Rattle.std.proofs.Common.{◌∙◌, subst}
 use Rattle.treiber_stack.specs.Nodes.{TakesFree}
 use Rattle.treiber_stack.specs.Ranging.{putting}
 use Rattle.treiber_stack.specs.Stack.{begun_of}

@@ -1,4 +1,4 @@
-use Rattle.std.proofs.Common.{ℕ, [], refl, sym, ap, ◌∙◌, subst}
+use Rattle.std.proofs.Common.{ℕ, refl, sym, ap, ◌∙◌, subst}
 use Rattle.tagged_index.specs.Fields.{fields_of}
 use Rattle.machine.specs.Words.{kept}
 use Rattle.running.specs.Machine.{loads, stores, swaps, returns}

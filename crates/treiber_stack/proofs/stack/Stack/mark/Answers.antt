@@ -1,11 +1,10 @@
 use Rattle.std.proofs.Common.{ℕ, Bool, true, false, cond, [], refl, sym, ap, ◌∙◌, subst}
 use Rattle.std.specs.Prelude.{Option as Slot, Some, None}
-use Rattle.tagged_index.specs.Fields.{fields_of}
 use Rattle.bounded_model.specs.declared.answers.Stepped.TheVariants.{Again, Done}
 use Rattle.stack_machine.specs.Machine.{ends}
 use Rattle.running.specs.Going.{Found}
 use Rattle.running.proofs.Ways.{goes_on, ends_so, hits, misses}
-use Rattle.treiber_stack.specs.Closing.{mark_name, mark_answer, mark_line, IsMarking, MarkStep}
+use Rattle.treiber_stack.specs.Closing.{mark_answer, mark_line, IsMarking, MarkStep}
 use Rattle.treiber_stack.specs.Stack.{machine_of, limit_of}
 use Rattle.treiber_stack.proofs.Closes.{mark_gives, mark_loaded, mark_swapped, mark_busy}
 use Rattle.treiber_stack.proofs.stack.Stack.mark.Goals as goal

@@ -1,4 +1,4 @@
-use Rattle.std.proofs.Common.{◌≡◌, ℕ, List, [], ◌∷◌, refl, sym, ap, ◌∙◌, subst}
+use Rattle.std.proofs.Common.{◌≡◌, ℕ, List, [], ◌∷◌, sym, ap, ◌∙◌, subst}
 use Rattle.std.specs.Prelude.{Option as Slot, Some, None, Ok, Err}
 use Rattle.atomic_table.specs.Table.{rest}
 use Rattle.bounded_model.specs.declared.answers.PutRefused.{PutRefused}
@@ -10,7 +10,7 @@ use Rattle.stack_machine.specs.declared.lines.Line.TheVariants.{LoadTop, LoadFre
 use Rattle.stack_machine.specs.Machine.{ends}
 use Rattle.treiber_stack.specs.Giving.{IsGiving}
 use Rattle.treiber_stack.specs.Nodes.{IsPlacing, Places, refused}
-use Rattle.treiber_stack.specs.Putting.{bearing, put_answer, of_several}
+use Rattle.treiber_stack.specs.Putting.{bearing, of_several}
 use Rattle.treiber_stack.specs.Refusing.{barring}
 use Rattle.treiber_stack.specs.Stack.{machine_of, shape_of, pass_in, begun_of, room_of}
 use Rattle.treiber_stack.specs.declared.giving.Give.TheVariants.{Load}

@@ -1,8 +1,7 @@
-use Rattle.std.proofs.Common.{ℕ, List, [], ◌∷◌, refl, sym, ap, ◌∙◌, subst}
-use Rattle.std.specs.Prelude.{Option as Slot, Some, None, MatchOption}
+use Rattle.std.proofs.Common.{ℕ, List, ◌∷◌, sym, ap, ◌∙◌, subst}
+use Rattle.std.specs.Prelude.{Option as Slot, Some, MatchOption}
 use Rattle.atomic_table.specs.Table.{rest}
-use Rattle.stack_machine.specs.declared.lines.Line.TheVariants.{LoadFreeToGive}
-use Rattle.treiber_stack.specs.Putting.{bearing, refusing, full_slot}
+use Rattle.treiber_stack.specs.Putting.{bearing}
 use Rattle.treiber_stack.specs.Refusing.{AllowsPut, RefusesPut}
 use Rattle.treiber_stack.specs.Stack.{limit_of}
 use Rattle.treiber_stack.proofs.Placing.{top_open}

@@ -1,7 +1,4 @@
-use Rattle.std.proofs.Common.{ℕ, [], ◌∷◌, refl, sym, ap, ◌∙◌, subst}
-use Rattle.std.specs.Prelude.{Option as Slot, Some, None, Ok, Err, MatchOption}
-use Rattle.bounded_model.specs.declared.answers.PutRefused.TheVariants.{Full, Spent as PutSpent}
-use Rattle.bounded_model.specs.declared.answers.Word.TheVariants.{Free as FreeWord}
+use Rattle.std.proofs.Common.{[], ap, ◌∙◌, subst}
 use Rattle.bounded_model.specs.declared.views.PassView.{PassView}
 use Rattle.bounded_model.specs.Laws.{PutGives}
 use Rattle.running.proofs.Ways.{started, begun_is}
@@ -13,7 +10,6 @@ use Rattle.stack_table.specs.declared.operation.Listed.TheVariants.{End}
 use Rattle.treiber_stack.specs.Nodes.{TakesFree}
 use Rattle.treiber_stack.specs.Putting.{wanting}
 use Rattle.treiber_stack.specs.Stack.{machine_of, shape_of, pass_in, begun_of, IsAt}
-use Rattle.treiber_stack.proofs.Puts.{put_gives}
 use Rattle.treiber_stack.proofs.stack.Stack.put_one.Goals as goal
 
 pub take_free-pass-requires : goal.take_free-pass-requires

@@ -1,7 +1,5 @@
-use Rattle.std.proofs.Common.{refl, sym, ap, ◌∙◌, subst}
-use Rattle.std.specs.Prelude.{Option as Slot, Some, None, Err, MatchOption}
-use Rattle.bounded_model.specs.declared.answers.PutRefused.{PutRefused}
-use Rattle.bounded_model.specs.declared.answers.PutRefused.TheVariants.{Full}
+use Rattle.std.proofs.Common.{subst}
+use Rattle.std.specs.Prelude.{Option as Slot, MatchOption}
 use Rattle.treiber_stack.specs.Refusing.{AllowsPut, RefusesPut}
 use Rattle.treiber_stack.specs.Stack.{limit_of}
 use Rattle.treiber_stack.proofs.Puts.{refused_barred, refused_full}

@@ -1,5 +1,5 @@
-use Rattle.std.proofs.Common.{[], refl, sym, ap, ◌∙◌, subst}
-use Rattle.std.specs.Prelude.{Option as Slot, Some, None, Err, MatchOption}
+use Rattle.std.proofs.Common.{[], subst}
+use Rattle.std.specs.Prelude.{Option as Slot, Err, MatchOption}
 use Rattle.bounded_model.specs.declared.answers.PutRefused.TheVariants.{Full}
 use Rattle.bounded_model.specs.declared.views.PassView.{PassView}
 use Rattle.bounded_model.specs.Laws.{PutGives}

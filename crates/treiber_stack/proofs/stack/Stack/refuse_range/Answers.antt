@@ -1,4 +1,4 @@
-use Rattle.std.proofs.Common.{List, [], length, sym, ◌∙◌, subst, refl}
+use Rattle.std.proofs.Common.{[], length, sym, ◌∙◌, subst, refl}
 use Rattle.std.specs.Prelude.{Option as Slot, Err, MatchOption}
 use Rattle.bounded_model.specs.declared.bulk.RangeRefused.{RangeRefused}
 use Rattle.bounded_model.specs.declared.bulk.RangeRefused.TheVariants.{Full}

@@ -4,7 +4,7 @@ use Rattle.stack_machine.specs.Machine.{ends}
 use Rattle.stack_table.specs.declared.operation.Operation.TheVariants.{Take as First}
 use Rattle.stack_table.specs.Slots.{vacant}
 use Rattle.running.proofs.Ways.{went_on, ended}
-use Rattle.treiber_stack.specs.Giving.{Led, IsGiving, AreNodes, give_line}
+use Rattle.treiber_stack.specs.Giving.{Led, give_line}
 use Rattle.treiber_stack.specs.Stack.{machine_of, room_of}
 use Rattle.treiber_stack.specs.Taking.{giving}
 use Rattle.treiber_stack.specs.declared.giving.Gave.{Gave}

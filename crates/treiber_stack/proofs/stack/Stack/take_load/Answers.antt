@@ -1,5 +1,5 @@
-use Rattle.std.proofs.Common.{refl, subst}
-use Rattle.std.specs.Prelude.{Option as Slot, Some, None, MatchOption}
+use Rattle.std.proofs.Common.{subst}
+use Rattle.std.specs.Prelude.{Option as Slot, MatchOption}
 use Rattle.treiber_stack.specs.Stack.{limit_of}
 use Rattle.treiber_stack.specs.Refusing.{AllowsTake, RefusesTake}
 use Rattle.treiber_stack.proofs.Takes.{top_refused, top_allowed}

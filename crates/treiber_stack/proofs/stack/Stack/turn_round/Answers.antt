@@ -1,5 +1,4 @@
 use Rattle.std.proofs.Common.{ℕ, reverse, refl, sym, ap, ◌∙◌, arith}
-use Rattle.tagged_index.specs.declared.word.TheConstants.{NULL}
 use Rattle.index_list.specs.declared.front.Front.TheVariants.{Last}
 use Rattle.running.specs.Machine.{loads, stores}
 use Rattle.tagged_index.specs.Limits.{capacity_of}

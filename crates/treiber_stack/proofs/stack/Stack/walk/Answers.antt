@@ -3,7 +3,6 @@ use Rattle.tagged_index.specs.Limits.{capacity_of}
 use Rattle.running.specs.Machine.{loads}
 use Rattle.stack_machine.specs.declared.lines.Line.TheVariants.{LoadLinkToFold}
 use Rattle.stack_table.specs.declared.operation.Operation.TheVariants.{Fold as FoldFirst}
-use Rattle.stack_table.specs.Slots.{full, vacant}
 use Rattle.treiber_stack.specs.Folding.{folding}
 use Rattle.treiber_stack.proofs.Gives.{ready}
 use Rattle.treiber_stack.proofs.Walking.{Folds_more, walk_start, index_low, count_low, front_full, taken_out, next_low, walk_goes, walk_ends}

@@ -1,4 +1,4 @@
-use Rattle.std.proofs.Common.{◌<◌, ◌≡◌, List, length, sym, ap, ◌∙◌, subst}
+use Rattle.std.proofs.Common.{◌≡◌, length, sym, ◌∙◌, subst}
 use Rattle.std.specs.Prelude.{Ok, Err}
 use Rattle.bounded_model.specs.declared.bulk.RangeRefused.{RangeRefused}
 use Rattle.bounded_model.specs.declared.views.PassView.{PassView}
@@ -12,7 +12,7 @@ use Rattle.treiber_stack.specs.Refusing.{barring_range}
 use Rattle.treiber_stack.specs.Stack.{machine_of, shape_of, call_of, begun_of, pass_in}
 use Rattle.treiber_stack.proofs.Filling.{some_in, placing}
 use Rattle.treiber_stack.proofs.RangeGives.{range_gives, none_gives, not_put_barred}
-use Rattle.treiber_stack.proofs.stack.Stack.put_all.Goals as goal
+use Rattle.treiber_stack.proofs.stack.Stack.put_range.Goals as goal
 
 pub returns-in-Err-clause-of : goal.returns-in-Err-clause-of
 returns-in-Err-clause-of g c =
