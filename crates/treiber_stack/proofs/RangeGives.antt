@@ -82,8 +82,7 @@ module _ {T : Type 0} (c : Stack T) (o : Operation T) {v : View T (Line T)} {beg
   pub not_put_full : (vs : List T) → IsRange o vs → Ended (machine_of c) o v begun (ends (AnswerPut (Err (PutFull vs)))) → NotPut (shape_of c) begun (length vs) (pass_of v) Full
   not_put_full [] is e = absurd is
   not_put_full (x ∷ xs) is e =
-      let deeds = subst (λ (k : Call T). Deeds (shape_of c) (pass_of v).number k (ends (AnswerPut (Err (PutFull (x ∷ xs))))) begun.seen (pass_of v).seen) is e.deeds in
-      (
+      let deeds = subst (λ (k : Call T). Deeds (shape_of c) (pass_of v).number k (ends (AnswerPut (Err (PutFull (x ∷ xs))))) begun.seen (pass_of v).seen) is e.deeds in (
         record {
           number = e.number;
           steps = e.steps;

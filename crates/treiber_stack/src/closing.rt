@@ -8,7 +8,6 @@ ghost use Rattle.stack_machine.specs.declared.lines.Line.TheVariants.{LoadTopToL
 ghost use Rattle.treiber_stack.specs.Closing.{IsClosing, IsShutting, IsMarking, CloseStep, ShutStep, MarkStep, MarkGives, mark_name, is_set, with_mark};
 ghost use Rattle.treiber_stack.specs.Stack.{shape_of, IsPassOf, pass_in, begun_of, OneLine};
 
-
 use crate::stack::{Pass, Stack};
 use bounded_model::Stepped;
 use running::{Pause, load_tagged_step, swap_step};

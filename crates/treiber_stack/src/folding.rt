@@ -11,7 +11,6 @@ ghost use Rattle.treiber_stack.specs.Folding.{TakesChain, IsTaken, IsReady, Walk
 ghost use Rattle.treiber_stack.specs.Stack.{call_of, begun_of, IsPassOf};
 
 use crate::giving::Chain;
-
 use crate::stack::{Pass, Stack};
 use bounded_model::{Folded, TakeRefused};
 use index_list::{Front, move_out};
@@ -79,7 +78,8 @@ impl<T> Stack<T> {
         requires call { F.IsAlwaysCallable f }
         ensures of { IsPassOf self.now result.0 }
         ensures gives { FoldsAll (call_of self.now by result.0)
-            (λ values. Folds (λ s x t. F.post f s x t) state (in_order (direction front) values) result.1)
+            (λ values. Folds (λ s x t. F.post f s x t) state (in_order (direction front) values)
+                result.1)
             (result.1 ≡ state) result.2 }
     {
         let (pass, taken) = self.take_chain(rt, by, front);
@@ -138,7 +138,8 @@ impl<T> Stack<T> {
     // The node that a fold begins with.
     fn first_of(&self, by: Pass<T>, front: Front, top: Tagged) -> (Pass<T>, u32)
         requires { IsTaken self.now front top by }
-        ensures { IsReady self.now front top result.0 result.1 × (begun_of self.now result.0 ≡ begun_of self.now by) }
+        ensures { IsReady self.now front top result.0 result.1
+            × (begun_of self.now result.0 ≡ begun_of self.now by) }
     {
         match front {
             Front::First => (by, top.index()),
@@ -149,7 +150,8 @@ impl<T> Stack<T> {
     // Turns the chain round, and answers its new first node.
     fn turn_round(&self, by: Pass<T>, top: Tagged) -> (Pass<T>, u32)
         requires { IsTaken self.now Last top by }
-        ensures { IsReady self.now Last top result.0 result.1 × (begun_of self.now result.0 ≡ begun_of self.now by) }
+        ensures { IsReady self.now Last top result.0 result.1
+            × (begun_of self.now result.0 ≡ begun_of self.now by) }
     {
         let mut pass = by;
         let mut above = NULL;
@@ -183,7 +185,8 @@ impl<T> Stack<T> {
         requires full { (x : T) × (by.old.seat.me.1 ≡ (index, Some x) ∷ rest by.old.seat.me.1) }
         ensures table { by.new.seat.table_id ≡ by.old.seat.table_id }
         ensures value { by.old.seat.me.1 ≡ (index, Some result) ∷ rest by.old.seat.me.1 }
-        ensures out { by.new.seat.me ≡ (by.old.seat.me.0, rest by.old.seat.me.1 ++ (index, None) ∷ []) }
+        ensures out { by.new.seat.me
+            ≡ (by.old.seat.me.0, rest by.old.seat.me.1 ++ (index, None) ∷ []) }
     {
         let value = move_out(&self.table.shared, &mut by.seat, index);
         by.seat.turn();

@@ -4,7 +4,6 @@ ghost use Rattle.stack_machine.specs.declared.lines.Giving.{Giving};
 ghost use Rattle.treiber_stack.specs.Giving.{IsGiving, Led, GaveBack};
 ghost use Rattle.treiber_stack.specs.declared.giving.Give.TheVariants.{Load, Link, Exchange};
 
-
 use crate::stack::{Pass, Stack};
 use running::{Pause, give_step, load_tagged_step, store_step};
 use stack_table::Operation;
@@ -62,7 +61,8 @@ impl<T> Stack<T> {
         operation: &Operation<T>,
     ) -> Gave
         requires { (giving : Giving T) × IsGiving self.now operation.now by.old giving chain at }
-        ensures { (giving : Giving T) → IsGiving self.now operation.now by.old giving chain at → Led self.now operation.now by.old by.new giving at result }
+        ensures { (giving : Giving T) → IsGiving self.now operation.now by.old giving chain at
+            → Led self.now operation.now by.old by.new giving at result }
     {
         match at {
             Give::Load => self.give_load(by, chain, operation),
@@ -74,7 +74,8 @@ impl<T> Stack<T> {
     #[inline]
     fn give_load(&self, by: &mut Pass<T>, chain: Chain, operation: &Operation<T>) -> Gave
         requires { (giving : Giving T) × IsGiving self.now operation.now by.old giving chain Load }
-        ensures { (giving : Giving T) → IsGiving self.now operation.now by.old giving chain Load → Led self.now operation.now by.old by.new giving Load result }
+        ensures { (giving : Giving T) → IsGiving self.now operation.now by.old giving chain Load
+            → Led self.now operation.now by.old by.new giving Load result }
     {
         let _ = chain;
         let free = load_tagged_step(&self.table.shared, &mut by.seat, FREE, operation);
@@ -89,8 +90,11 @@ impl<T> Stack<T> {
         free: Tagged,
         operation: &Operation<T>,
     ) -> Gave
-        requires { (giving : Giving T) × IsGiving self.now operation.now by.old giving chain (Link free) }
-        ensures { (giving : Giving T) → IsGiving self.now operation.now by.old giving chain (Link free) → Led self.now operation.now by.old by.new giving (Link free) result }
+        requires { (giving : Giving T)
+            × IsGiving self.now operation.now by.old giving chain (Link free) }
+        ensures { (giving : Giving T)
+            → IsGiving self.now operation.now by.old giving chain (Link free)
+            → Led self.now operation.now by.old by.new giving (Link free) result }
     {
         let first = free.index() as u64;
         let at = link(chain.last);
@@ -106,8 +110,11 @@ impl<T> Stack<T> {
         free: Tagged,
         operation: &Operation<T>,
     ) -> Gave
-        requires { (giving : Giving T) × IsGiving self.now operation.now by.old giving chain (Exchange free) }
-        ensures { (giving : Giving T) → IsGiving self.now operation.now by.old giving chain (Exchange free) → Led self.now operation.now by.old by.new giving (Exchange free) result }
+        requires { (giving : Giving T)
+            × IsGiving self.now operation.now by.old giving chain (Exchange free) }
+        ensures { (giving : Giving T)
+            → IsGiving self.now operation.now by.old giving chain (Exchange free)
+            → Led self.now operation.now by.old by.new giving (Exchange free) result }
     {
         let new = free.kept(chain.first);
         if give_step(&self.table.shared, &mut by.seat, FREE, free, new, operation) {

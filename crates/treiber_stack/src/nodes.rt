@@ -5,12 +5,9 @@ ghost use Rattle.treiber_stack.specs.Nodes.{IsCollecting, TakesFree, IsPlacing, 
 ghost use Rattle.treiber_stack.specs.Stack.{begun_of};
 
 use crate::giving::Chain;
-
 use crate::refusing::Barred;
 use crate::stack::{Pass, Stack};
-use running::{
-    Pause, give_step, load_step, load_tagged_step, raised, store_step, take_step,
-};
+use running::{Pause, give_step, load_step, load_tagged_step, raised, store_step, take_step};
 use stack_table::Operation;
 use stack_table::layout::{FREE, TOP, link};
 use std::sync::Wait;
@@ -34,7 +31,8 @@ impl<T> Stack<T> {
         operation: &Operation<T>,
     ) -> (Pass<T>, Result<u32, NoNode>)
         requires { (put : Putting T) × IsCollecting self.now operation.now by put }
-        ensures { (put : Putting T) → IsCollecting self.now operation.now by put → TakesFree self.now operation.now (begun_of self.now by) put result.0 result.1 }
+        ensures { (put : Putting T) → IsCollecting self.now operation.now by put
+            → TakesFree self.now operation.now (begun_of self.now by) put result.0 result.1 }
     {
         let mut pass = by;
         let mut pause = Pause::new();
@@ -70,7 +68,8 @@ impl<T> Stack<T> {
         operation: &Operation<T>,
     ) -> (Pass<T>, Result<u64, Barred>)
         requires { (put : Putting T) × IsPlacing self.now operation.now by put chain }
-        ensures { (put : Putting T) → IsPlacing self.now operation.now by put chain → Places self.now operation.now (begun_of self.now by) put result.0 result.1 }
+        ensures { (put : Putting T) → IsPlacing self.now operation.now by put chain
+            → Places self.now operation.now (begun_of self.now by) put result.0 result.1 }
     {
         let mut pass = by;
         let mut pause = Pause::new();

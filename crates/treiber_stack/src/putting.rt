@@ -75,7 +75,8 @@ impl<T> Stack<T> {
     #[inline]
     fn put_load_free(&self, by: Pass<T>, operation: Operation<T>, value: T) -> Step<T>
         requires { (x : T) × IsPuttingAt self.now x operation by (LoadFree value) }
-        ensures { (x : T) → IsPuttingAt self.now x operation by (LoadFree value) → PutStep self.now x operation by (LoadFree value) result }
+        ensures { (x : T) → IsPuttingAt self.now x operation by (LoadFree value)
+            → PutStep self.now x operation by (LoadFree value) result }
     {
         let mut pass = by;
         let free = load_tagged_step(&self.table.shared, &mut pass.seat, FREE, &operation);
@@ -100,7 +101,8 @@ impl<T> Stack<T> {
     #[inline]
     fn put_link(&self, by: Pass<T>, operation: Operation<T>, value: T, free: Tagged) -> Step<T>
         requires { (x : T) × IsPuttingAt self.now x operation by (Link value free) }
-        ensures { (x : T) → IsPuttingAt self.now x operation by (Link value free) → PutStep self.now x operation by (Link value free) result }
+        ensures { (x : T) → IsPuttingAt self.now x operation by (Link value free)
+            → PutStep self.now x operation by (Link value free) result }
     {
         let mut pass = by;
         let at = link(free.index());
@@ -124,7 +126,8 @@ impl<T> Stack<T> {
         below: u32,
     ) -> Step<T>
         requires { (x : T) × IsPuttingAt self.now x operation by (Hold value free below) }
-        ensures { (x : T) → IsPuttingAt self.now x operation by (Hold value free below) → PutStep self.now x operation by (Hold value free below) result }
+        ensures { (x : T) → IsPuttingAt self.now x operation by (Hold value free below)
+            → PutStep self.now x operation by (Hold value free below) result }
     {
         let mut pass = by;
         let new = raised(free, below);
@@ -149,7 +152,8 @@ impl<T> Stack<T> {
     #[inline]
     fn put_load(&self, by: Pass<T>, operation: Operation<T>, index: u32) -> Step<T>
         requires { (x : T) × IsPuttingAt self.now x operation by (Load index) }
-        ensures { (x : T) → IsPuttingAt self.now x operation by (Load index) → PutStep self.now x operation by (Load index) result }
+        ensures { (x : T) → IsPuttingAt self.now x operation by (Load index)
+            → PutStep self.now x operation by (Load index) result }
     {
         let mut pass = by;
         let table = &self.table.shared;
@@ -175,7 +179,8 @@ impl<T> Stack<T> {
     #[inline]
     fn put_link_to(&self, by: Pass<T>, operation: Operation<T>, index: u32, top: Tagged) -> Step<T>
         requires { (x : T) × IsPuttingAt self.now x operation by (LinkTo index top) }
-        ensures { (x : T) → IsPuttingAt self.now x operation by (LinkTo index top) → PutStep self.now x operation by (LinkTo index top) result }
+        ensures { (x : T) → IsPuttingAt self.now x operation by (LinkTo index top)
+            → PutStep self.now x operation by (LinkTo index top) result }
     {
         let mut pass = by;
         let first = top.index() as u64;
@@ -192,7 +197,8 @@ impl<T> Stack<T> {
     #[inline]
     fn put_exchange(&self, by: Pass<T>, operation: Operation<T>, index: u32, top: Tagged) -> Step<T>
         requires { (x : T) × IsPuttingAt self.now x operation by (Exchange index top) }
-        ensures { (x : T) → IsPuttingAt self.now x operation by (Exchange index top) → PutStep self.now x operation by (Exchange index top) result }
+        ensures { (x : T) → IsPuttingAt self.now x operation by (Exchange index top)
+            → PutStep self.now x operation by (Exchange index top) result }
     {
         let mut pass = by;
         let new = raised(top, index);
@@ -211,7 +217,8 @@ impl<T> Stack<T> {
     #[inline]
     fn put_refuse(&self, by: Pass<T>, operation: Operation<T>, value: T) -> Step<T>
         requires { (x : T) × IsPuttingAt self.now x operation by (Refuse value) }
-        ensures { (x : T) → IsPuttingAt self.now x operation by (Refuse value) → PutStep self.now x operation by (Refuse value) result }
+        ensures { (x : T) → IsPuttingAt self.now x operation by (Refuse value)
+            → PutStep self.now x operation by (Refuse value) result }
     {
         let mut pass = by;
         let top = load_tagged_step(&self.table.shared, &mut pass.seat, TOP, &operation);
@@ -231,7 +238,8 @@ impl<T> Stack<T> {
         at: Give,
     ) -> Step<T>
         requires { (x : T) × IsPuttingAt self.now x operation by (GiveBack why index at) }
-        ensures { (x : T) → IsPuttingAt self.now x operation by (GiveBack why index at) → PutStep self.now x operation by (GiveBack why index at) result }
+        ensures { (x : T) → IsPuttingAt self.now x operation by (GiveBack why index at)
+            → PutStep self.now x operation by (GiveBack why index at) result }
     {
         let mut pass = by;
         match self.give(&mut pass, Chain::of(index), at, &operation) {
@@ -255,7 +263,8 @@ impl<T> Stack<T> {
         operation: &Operation<T>,
     ) -> (Pass<T>, Result<u64, PutRefused<T>>)
         requires of { call_of operation.now ≡ CallPut value [] }
-        requires at { IsAt self.now operation.now by (LoadTop (bearing value index)) ((index, None) ∷ []) × (index < room_of self.now) }
+        requires at { IsAt self.now operation.now by (LoadTop (bearing value index))
+            ((index, None) ∷ []) × (index < room_of self.now) }
         ensures { IsPassOf self.now result.0
             × PutGives (shape_of self.now) (begun_of self.now by) value (pass_in result.0) result.1 }
     {
@@ -305,8 +314,11 @@ impl<T> Stack<T> {
         operation: &Operation<T>,
     ) -> (Pass<T>, Result<u64, PutRefused<T>>)
         requires of { call_of operation.now ≡ CallPut value [] }
-        requires stops { (begun : PassView T) × Stops self.now operation.now begun by [] (wanting value) why }
-        ensures { (begun : PassView T) → Stops self.now operation.now begun by [] (wanting value) why → IsPassOf self.now result.0
+        requires stops { (begun : PassView T)
+            × Stops self.now operation.now begun by [] (wanting value) why }
+        ensures { (begun : PassView T)
+            → Stops self.now operation.now begun by [] (wanting value) why
+            → IsPassOf self.now result.0
             × PutGives (shape_of self.now) begun value (pass_in result.0) result.1 }
     {
         let mut pass = by;
@@ -331,7 +343,8 @@ impl<T> PutOp<T> {
     #[inline]
     pub fn step(self, stack: &Stack<T>) -> Stepped<PutOp<T>, Pass<T>, Result<u64, PutRefused<T>>>
         requires { (x : T) × IsPutting stack.now x self }
-        ensures { (x : T) → IsPutting stack.now x self → PutStep stack.now x self.operation self.pass self.at result }
+        ensures { (x : T) → IsPutting stack.now x self
+            → PutStep stack.now x self.operation self.pass self.at result }
     {
         let PutOp {
             pass,

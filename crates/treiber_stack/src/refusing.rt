@@ -43,7 +43,8 @@ impl<T> Stack<T> {
     /// Why a pass that has read this top puts nothing.
     #[inline]
     pub(crate) fn bars_put(&self, top: Tagged) -> Option<Barred>
-        ensures { MatchOption result (AllowsPut (limit_of self.now) top) (RefusesPut T (limit_of self.now) top) }
+        ensures { MatchOption result (AllowsPut (limit_of self.now) top)
+            (RefusesPut T (limit_of self.now) top) }
     {
         if top.is_marked() {
             return Some(Barred::Closed);
@@ -57,7 +58,8 @@ impl<T> Stack<T> {
     /// Why a pass that has read this top takes nothing.
     #[inline]
     pub(crate) fn bars_take(&self, top: Tagged) -> Option<TakeRefused>
-        ensures { MatchOption result (AllowsTake (limit_of self.now) top) (RefusesTake T (limit_of self.now) top) }
+        ensures { MatchOption result (AllowsTake (limit_of self.now) top)
+            (RefusesTake T (limit_of self.now) top) }
     {
         if top.has_second() {
             return Some(TakeRefused::Shut);

@@ -39,7 +39,8 @@ impl<T> Rest<T> {
         requires full { IsFull closed.words × IsFull closed.slots }
         requires words { slots_len closed.words ≡ words_for (slots_len closed.slots) }
         requires few { slots_len closed.slots ≤ NULL }
-        ensures { left_in result ≡ left_along (slots_items closed.words) (slots_items closed.slots) (index_of (slice_index (slots_items closed.words) top_at)) }
+        ensures { left_in result ≡ left_along (slots_items closed.words) (slots_items closed.slots)
+            (index_of (slice_index (slots_items closed.words) top_at)) }
     {
         let index = index_at(&closed, TOP);
         Rest { closed, index }

@@ -24,7 +24,8 @@ pub struct Stack<T> {
     >,
     pub(crate) limits: Limits,
     pub(crate) ghost keyed: { table.shared.key ≡ limits },
-    pub(crate) ghost words: { table.shared.table_id.words ≡ words_for (capacity_of table.shared.key) },
+    pub(crate) ghost words: { table.shared.table_id.words
+        ≡ words_for (capacity_of table.shared.key) },
     pub(crate) ghost slots: { table.shared.table_id.slots ≡ capacity_of table.shared.key },
 }
 

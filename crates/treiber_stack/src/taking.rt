@@ -6,7 +6,6 @@ ghost use Rattle.treiber_stack.specs.Taking.{IsTaking, IsTakingAt, TakeStep};
 ghost use Rattle.treiber_stack.specs.declared.taking.TakeAt.TheVariants.{Load, Link, Exchange, GiveBack};
 
 use crate::giving::{Chain, Gave, Give};
-
 use crate::stack::{Pass, Stack};
 use bounded_model::{Stepped, TakeRefused};
 use index_list::move_out;

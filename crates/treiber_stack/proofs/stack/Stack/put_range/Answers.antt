@@ -171,4 +171,4 @@ returns-clause-gives g c =
     let begun : begun_of stack c.restore-pass.result ≡ pass_in c.args.by = restored.begun ∙ barred.1 ∙ e.2 in
     let refusal = subst (λ (v : PassView _). NotPut (shape_of stack) v (length vs) (pass_in end) (barring_range why)) begun (not_put_barred stack o vs why gave) in
     subst (λ (r : RangeRefused). PutsRange (call_of stack c.args.by end) c.args.values.now c.restore-pass.new.values (Err r)) (sym c.of_range.ensures)
-        (none_gives (shape_of stack) (pass_in c.args.by) (pass_in end) c.args.values.now c.restore-pass.new.values vs (barring_range why) are (some_in o vs is) restored.places_are refusal)
+    (none_gives (shape_of stack) (pass_in c.args.by) (pass_in end) c.args.values.now c.restore-pass.new.values vs (barring_range why) are (some_in o vs is) restored.places_are refusal)
