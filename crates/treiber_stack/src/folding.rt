@@ -79,7 +79,7 @@ impl<T> Stack<T> {
         ensures of { IsPassOf self.now result.0 }
         ensures gives { FoldsAll (call_of self.now by result.0)
             (λ values. Folds (λ s x t. F.post f s x t) state (in_order (direction front) values)
-                result.1)
+            result.1)
             (result.1 ≡ state) result.2 }
     {
         let (pass, taken) = self.take_chain(rt, by, front);
