@@ -152,7 +152,7 @@ impl<T> Stack<T> {
     {
         let mut pass = by;
         let mut seen = None;
-        let mut pause = Pause::new();
+        let mut pause = Pause::of(self.limits.capacity());
         for _ in rt.forever() {
             match self.mark(pass, seen, mark) {
                 Stepped::Done(pass, set) => return (pass, set),

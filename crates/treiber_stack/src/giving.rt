@@ -136,7 +136,7 @@ impl<T> Stack<T> {
         ensures { GaveBack self.now operation.now by chain result }
     {
         let mut pass = by;
-        let mut pause = Pause::new();
+        let mut pause = Pause::of(self.limits.capacity());
         let table = &self.table.shared;
         for _ in rt.forever() {
             let free = load_tagged_step(table, &mut pass.seat, FREE, operation);

@@ -35,7 +35,7 @@ impl<T> Stack<T> {
             → TakesFree self.now operation.now (begun_of self.now by) put result.0 result.1 }
     {
         let mut pass = by;
-        let mut pause = Pause::new();
+        let mut pause = Pause::of(self.limits.capacity());
         let table = &self.table.shared;
         for _ in rt.forever() {
             let free = load_tagged_step(table, &mut pass.seat, FREE, operation);
@@ -72,7 +72,7 @@ impl<T> Stack<T> {
             → Places self.now operation.now (begun_of self.now by) put result.0 result.1 }
     {
         let mut pass = by;
-        let mut pause = Pause::new();
+        let mut pause = Pause::of(self.limits.capacity());
         let table = &self.table.shared;
         for _ in rt.forever() {
             let top = load_tagged_step(table, &mut pass.seat, TOP, operation);

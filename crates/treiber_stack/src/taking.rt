@@ -157,7 +157,7 @@ impl<T> Stack<T> {
             × TakeGives (shape_of self.now) (pass_in by) (pass_in result.0) result.1 }
     {
         let mut pass = by;
-        let mut pause = Pause::new();
+        let mut pause = Pause::of(self.limits.capacity());
         let table = &self.table.shared;
         for _ in rt.forever() {
             let top = load_tagged_step(table, &mut pass.seat, TOP, &Operation::Take);
