@@ -40,6 +40,12 @@ module _ {R : Type 0} (remaining : R → Option (List ℕ)) where
   are-inputs sender (r ∷ rs) [] read = absurd read
   are-inputs sender (r ∷ rs) (l ∷ ls) read = (read.0.input, are-inputs (sender + 1) rs ls read.1)
 
+  pub one-each : (sender : ℕ) (readers : List R) (inputs : Lists) → AreRead remaining sender readers inputs → length inputs ≡ length readers
+  one-each sender [] [] read = refl
+  one-each sender [] (l ∷ ls) read = absurd read
+  one-each sender (r ∷ rs) [] read = absurd read
+  one-each sender (r ∷ rs) (l ∷ ls) read = ap suc (one-each (sender + 1) rs ls read.1)
+
 -- ---- all is delivered
 
 kept-or-not : {X Y : Type 0} (b : Bool) (x : X) (y : Y) (xs : List X) (ys : List Y) → length xs ≡ length ys → length (cond b (x ∷ xs) xs) ≡ length (cond b (y ∷ ys) ys)

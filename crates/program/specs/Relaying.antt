@@ -5,7 +5,8 @@ use Rattle.bounded_model.specs.declared.history.Order.{Order}
 use Rattle.bounded_model.specs.declared.history.Order.TheVariants.{Fifo, Lifo}
 use Rattle.bounded_model.specs.Machine.{Shape}
 use Rattle.tagged_index.specs.declared.word.TheConstants.{MAX_TAG}
-use Rattle.relay.specs.declared.faults.RelayFault.TheVariants.{TooSmall}
+use Rattle.relay.specs.declared.faults.RelayFault.{RelayFault}
+use Rattle.relay.specs.declared.faults.RelayFault.TheVariants.{NoMemory, NoPass, NoThread, TooSmall}
 use Rattle.relay.specs.declared.outcome.Relayed.{Relayed}
 use Rattle.relay.specs.Promises.{Lists, Relays, IsTooSmall, total}
 use Rattle.audit.specs.Delivered.{full_audit}
@@ -52,11 +53,19 @@ pub record IsRelayed (args : RelayArgs) (inputs : Lists) (relayed : Relayed) : T
   pub fits : ¬ (IsTooSmall (plan_of args) args.capacity (total inputs))
   pub all : StopsNowhere args → audit_text relayed ≡ full_audit inputs
 
+-- why a relay of these inputs has no outcome: it is told as too small exactly where it is, unless memory was wanting,
+-- and no pass is ever wanting
+abbrev pub IsCause : RelayArgs → Lists → RelayFault → Type 0
+IsCause args inputs TooSmall = IsTooSmall (plan_of args) args.capacity (total inputs)
+IsCause args inputs NoThread = ¬ (IsTooSmall (plan_of args) args.capacity (total inputs))
+IsCause args inputs NoPass = ⊥
+IsCause args inputs NoMemory = Unit {0}
+
 -- what a relay of these inputs does to a writer, whose bytes are known as `old` and as `new`: it writes its outcome
 abbrev pub RelaysInputs : RelayArgs → Lists → Option (List ℕ) → Option (List ℕ) → Result (Unit {0}) ToolFault → Type 0
 RelaysInputs args inputs old new (Ok _) = (relayed : Relayed) × IsRelayed args inputs relayed × Appends old new (outcome_text args.list relayed)
 RelaysInputs args inputs old new (Err Output) = (relayed : Relayed) × IsRelayed args inputs relayed × GrowsByFront (outcome_text args.list relayed) old new
-RelaysInputs args inputs old new (Err (Relay cause)) = cause ≡ TooSmall → IsTooSmall (plan_of args) args.capacity (total inputs)
+RelaysInputs args inputs old new (Err (Relay cause)) = IsCause args inputs cause
 RelaysInputs args inputs old new (Err (File number cause)) = ⊥
 
 -- what a relay of readers does: it relays what they gave, or one of them is at fault

@@ -83,6 +83,7 @@ fn measure<T: Threads + Wait + Clock + Sync, C: Container<Message> + Sync, W: Wr
     requires fresh { C.root root ≡ fresh }
     requires shape { C.shape container ≡ shape_for args.now }
     requires inputs { AreInputsFrom 0 inputs.items }
+    requires files { length inputs.items ≤ MAX_FILES }
     requires few { total inputs.items ≤ MAX_FILES * MAX_LINES }
     ensures measures { MeasuresInputs args.now inputs.items (W.contents writer.old)
         (W.contents writer.new) (E.contents errors.old) (E.contents errors.new) result }

@@ -3,16 +3,16 @@
 ghost use Rattle.std.specs.Prelude.{◌≡◌, ◌≢◌, ◌≤◌, ◌*◌, IfErr, IfOk, List, ℕ, length};
 ghost use Rattle.bounded_model.specs.Laws.{fresh};
 ghost use Rattle.relay.specs.Messages.{AreInputsFrom};
-ghost use Rattle.relay.specs.Promises.{IsTooSmall, total};
+ghost use Rattle.relay.specs.Promises.{total};
 ghost use Rattle.tagged_index.specs.Limits.{capacity_of, tag_limit_of};
 ghost use Rattle.tagged_index.specs.declared.word.TheConstants.{MAX_TAG};
 ghost use Rattle.program.specs.declared.command_line.TheConstants.{MAX_FILES};
 ghost use Rattle.audit.specs.declared.message_file.TheConstants.{MAX_LINES};
 ghost use Rattle.program.specs.declared.tool_fault.ToolFault.TheVariants.{Output, Relay};
 ghost use Rattle.relay.specs.declared.faults.RelayFault.{RelayFault};
-ghost use Rattle.relay.specs.declared.faults.RelayFault.TheVariants.{NoMemory, TooSmall};
-ghost use Rattle.program.specs.Ranges.{IsInRange, plan_of};
-ghost use Rattle.program.specs.Relaying.{IsRelayed, RelaysInputs, RelaysReaders, shape_for};
+ghost use Rattle.relay.specs.declared.faults.RelayFault.TheVariants.{NoMemory};
+ghost use Rattle.program.specs.Ranges.{IsInRange};
+ghost use Rattle.program.specs.Relaying.{IsCause, IsRelayed, RelaysInputs, RelaysReaders, shape_for};
 
 use crate::inputs::read_inputs;
 use crate::outcome::write_outcome;
@@ -89,6 +89,7 @@ fn relay_through<T: Threads + Wait + Sync, C: Container<Message> + Sync, W: Writ
     requires fresh { C.root root ≡ fresh }
     requires shape { C.shape container ≡ shape_for args.now }
     requires inputs { AreInputsFrom 0 inputs.items }
+    requires files { length inputs.items ≤ MAX_FILES }
     requires few { total inputs.items ≤ MAX_FILES * MAX_LINES }
     ensures relays { RelaysInputs args.now inputs.items (W.contents writer.old)
         (W.contents writer.new) result }
@@ -113,10 +114,11 @@ pub(crate) fn relayed_by<T: Threads + Wait + Sync, C: Container<Message> + Sync,
     requires fresh { C.root root ≡ fresh }
     requires shape { C.shape container ≡ shape_for args.now }
     requires inputs { AreInputsFrom 0 inputs.items }
+    requires files { length inputs.items ≤ MAX_FILES }
     requires few { total inputs.items ≤ MAX_FILES * MAX_LINES }
     ensures relayed { IfOk result (IsRelayed args.now inputs.items) }
     ensures fault { IfErr result (λ fault. (cause : RelayFault) × (fault ≡ Relay cause)
-        × (cause ≡ TooSmall → IsTooSmall (plan_of args.now) args.now.capacity (total inputs.items))) }
+        × IsCause args.now inputs.items cause) }
 {
     Ok(run(rt, alloc, container, root, inputs, args.plan(), gate)?)
 }
