@@ -1,5 +1,9 @@
 //! A buffer that is lent to one thread after another, and what a thread does with it.
 
+ghost use Rattle.std.specs.Prelude.{◌≡◌, IfOk, length};
+ghost use Rattle.example_buffers.specs.Lending.{Gives};
+ghost use Rattle.example_buffers.specs.declared.buffer.TheConstants.{SIZE};
+
 use bounded_model::{Container, PutRefused, TakeRefused};
 use std::alloc::{AllocError, Global};
 use std::sync::Wait;
@@ -16,13 +20,18 @@ pub struct Buffer {
 }
 
 impl Buffer {
-    pub fn new(alloc: Global) -> Result<Buffer, AllocError> {
+    /// A buffer that was never used.
+    pub fn new(alloc: Global) -> Result<Buffer, AllocError>
+        ensures { IfOk result (λ buffer. (length buffer.bytes.items ≡ SIZE) × (buffer.uses ≡ 0)) }
+    {
         let bytes = vec![in alloc; 0u8; SIZE]?;
         Ok(Buffer { bytes, uses: 0 })
     }
 
     /// How often it was used.
-    pub fn uses(&self) -> u64 {
+    pub fn uses(&self) -> u64
+        ensures { result ≡ self.now.uses }
+    {
         self.uses
     }
 
@@ -50,10 +59,16 @@ fn borrow<C: Container<Buffer>, R: Wait>(rt: &R, pool: &C, by: C::Pass) -> (C::P
     unreachable!()
 }
 
-/// Gives a buffer to the pool, however often that is full.
-pub fn give<C: Container<Buffer>, R: Wait>(rt: &R, pool: &C, by: C::Pass, buffer: Buffer) -> C::Pass
+/// Gives a buffer to the pool, however often that is full; answers whether it went in.
+pub fn give<C: Container<Buffer>, R: Wait>(
+    rt: &R,
+    pool: &C,
+    by: C::Pass,
+    buffer: Buffer,
+) -> (C::Pass, bool)
     requires { C.is_pass pool.now by }
-    ensures { C.is_pass pool.now result }
+    ensures of { C.is_pass pool.now result.0 }
+    ensures gives { Gives (C.shape pool.now) (C.pass by) buffer (C.pass result.0) result.1 }
 {
     let mut pass = by;
     let mut given = buffer;
@@ -61,11 +76,12 @@ pub fn give<C: Container<Buffer>, R: Wait>(rt: &R, pool: &C, by: C::Pass, buffer
         let (back, answer) = pool.put(rt, pass, given);
         pass = back;
         match answer {
+            Ok(_) => return (pass, true),
             Err(PutRefused::Full(refused)) => {
                 given = refused;
                 thread::yield_now();
             }
-            _ => return pass,
+            Err(_) => return (pass, false),
         }
     }
     unreachable!()
@@ -83,7 +99,7 @@ pub fn use_pool<C: Container<Buffer>, R: Wait>(rt: &R, pool: &C, by: C::Pass, ti
             return back;
         };
         buffer.fill();
-        pass = give(rt, pool, back, buffer);
+        pass = give(rt, pool, back, buffer).0;
     }
     pass
 }

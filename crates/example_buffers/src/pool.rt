@@ -34,7 +34,8 @@ fn fill<R: Wait>(
     let mut pass = by;
     for _ in 0..buffers {
         let buffer = Buffer::new(alloc)?;
-        pass = give(rt, pool, pass, buffer);
+        let (back, _) = give(rt, pool, pass, buffer);
+        pass = back;
     }
     Ok(pass)
 }

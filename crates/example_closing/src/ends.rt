@@ -1,5 +1,10 @@
 //! What the two ends do, over any container.
 
+ghost use Rattle.std.specs.Prelude.{◌≡◌, ◌++◌};
+ghost use Rattle.std.specs.List.{range_with_len};
+ghost use Rattle.bounded_model.specs.Gathers.{did, put_of};
+ghost use Rattle.example_closing.specs.Ends.{PutsOne};
+
 use bounded_model::{Container, PutRefused, TakeRefused, consume_all};
 use std::sync::Wait;
 use std::thread;
@@ -11,28 +16,52 @@ pub struct Moved<P> {
     pub count: u64,
 }
 
-/// Puts 0, 1, 2, .. until the container is closed. The value that comes back with the last refusal
-/// was not put.
+// Puts a value, however often the container is full; answers whether it went in.
+fn put_one<C: Container<u64>, R: Wait>(
+    rt: &R,
+    container: &C,
+    by: C::Pass,
+    value: u64,
+) -> (C::Pass, bool)
+    requires { C.is_pass container.now by }
+    ensures of { C.is_pass container.now result.0 }
+    ensures puts { PutsOne (C.shape container.now) (C.pass by) value (C.pass result.0) result.1 }
+{
+    let mut pass = by;
+    for _ in rt.forever() {
+        let (back, answer) = container.put(rt, pass, value);
+        pass = back;
+        match answer {
+            Ok(_) => return (pass, true),
+            Err(PutRefused::Full(_)) => thread::yield_now(),
+            Err(_) => return (pass, false),
+        }
+    }
+    unreachable!()
+}
+
+/// Puts 0, 1, 2, .. until the container is closed, and counts. The value that comes back with the
+/// last refusal was not put.
 pub fn put_until_closed<C: Container<u64>, R: Wait>(
     rt: &R,
     container: &C,
     by: C::Pass,
 ) -> Moved<C::Pass>
     requires { C.is_pass container.now by }
-    ensures { C.is_pass container.now result.pass }
+    ensures of { C.is_pass container.now result.pass }
+    ensures puts { did put_of (C.pass result.pass) ≡ did put_of (C.pass by) ++ range_with_len 0 result.count }
 {
     let mut pass = by;
     let mut count: u64 = 0;
-    for _ in rt.forever() {
-        let (back, answer) = container.put(rt, pass, count);
+    while count < u64::MAX {
+        let (back, is_put) = put_one(rt, container, pass, count);
         pass = back;
-        match answer {
-            Ok(_) => count = count.saturating_add(1),
-            Err(PutRefused::Full(_)) => thread::yield_now(),
-            Err(_) => return Moved { pass, count },
+        if !is_put {
+            return Moved { pass, count };
         }
+        count += 1;
     }
-    unreachable!()
+    Moved { pass, count }
 }
 
 // Takes so many values.
