@@ -72,7 +72,7 @@ impl Mark {
 }
 
 impl<T> Stack<T> {
-    /// A close that makes no step yet.
+    /// A close that makes no step yet. Begun and stepped in `player`, as `Stepwise` has it.
     #[inline]
     pub fn begin_close(&self, by: Pass<T>) -> CloseOp<T>
         requires { IsPassOf self.now by }
@@ -85,7 +85,7 @@ impl<T> Stack<T> {
         }
     }
 
-    /// A shut that makes no step yet.
+    /// A shut that makes no step yet. Begun and stepped in `player`, as `Stepwise` has it.
     #[inline]
     pub fn begin_shut(&self, by: Pass<T>) -> ShutOp<T>
         requires { IsPassOf self.now by }
@@ -98,7 +98,7 @@ impl<T> Stack<T> {
         }
     }
 
-    /// Whether the stack is empty: one load of its top.
+    /// Whether the stack is empty: one load of its top. Called in `example_stack`.
     #[inline]
     pub fn is_empty(&self, by: Pass<T>) -> (Pass<T>, bool)
         requires { IsPassOf self.now by }

@@ -30,7 +30,8 @@ pub(crate) struct Walked<T, S> {
 
 impl<T> Stack<T> {
     /// Takes all values by one exchange, and folds them from the top down. Answers the last
-    /// state; after a refusal, which is as that of a take, it is the one that was handed in.
+    /// state; after a refusal, which is as that of a take, it is the one that was handed in. Called
+    /// in `example_buffers`.
     pub fn fold_all_atomic<R: Wait, S, F: Fn(S, T) -> S + Drop>(
         &self,
         rt: &R,
@@ -48,7 +49,7 @@ impl<T> Stack<T> {
         self.fold(rt, by, Front::First, state, f)
     }
 
-    /// The same, from the bottom up.
+    /// The same, from the bottom up. Called in `example_stack`.
     pub fn fold_all_atomic_reversed<R: Wait, S, F: Fn(S, T) -> S + Drop>(
         &self,
         rt: &R,

@@ -56,7 +56,7 @@ pub(crate) enum PutAt<T> {
 type Step<T> = Stepped<PutOp<T>, Pass<T>, Result<u64, PutRefused<T>>>;
 
 impl<T> Stack<T> {
-    /// A put that makes no step yet.
+    /// A put that makes no step yet. Begun and stepped in `example_stack`.
     #[inline]
     pub fn begin_put(&self, by: Pass<T>, value: T) -> PutOp<T>
         requires { IsPassOf self.now by }

@@ -46,7 +46,7 @@ fn name_of<T>(values: &[Option<T>]) -> Option<Operation<T>>
 impl<T> Stack<T> {
     /// Puts as many values as nodes can be had, from the front, by one exchange; the last of them
     /// is the new top, and their places are then `None`. A refusal leaves every place as it was:
-    /// `Nothing` for an empty range, else as that of a put.
+    /// `Nothing` for an empty range, else as that of a put. Called in `example_stack`.
     pub fn put_range<R: Wait>(
         &self,
         rt: &R,
