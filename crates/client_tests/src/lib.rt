@@ -1,5 +1,6 @@
 //! Code that knows a container by its traits alone: calls made by single steps, ranges and folds,
-//! run over the stack, and the carry of items from one pass to another, over the queue as well.
+//! run over the stack, and the carry of items from one pass to another, over the queue as well. And
+//! how many takes a consuming call tries, which a container made for that counts.
 #![tactic(auto)]
 
 #[cfg(test)]
@@ -8,3 +9,5 @@ mod at_once;
 mod by_steps;
 #[cfg(test)]
 mod carried;
+#[cfg(test)]
+mod consumed;
