@@ -1,4 +1,3 @@
 pub mod Allowed
-pub mod Lists
 pub mod Acts
 pub mod Wins

@@ -77,33 +77,7 @@ pub fn store_as<S, V, K, P: TableRule<S, V, K>, A: Copy, X, W: Telling<S, V>>(
     table.store::<Told<W>>(seat, at, new)
 }
 
-/// Exchanges the word at `at` for `new` if it is `old`, and answers the word as it was.
-#[inline]
-pub fn exchange_as<S, V, K, P: TableRule<S, V, K>, A: Copy, X, W: Telling<S, V>>(
-    table: &Shared<S, V, K, P>,
-    seat: &mut Seat<S, V>,
-    at: usize,
-    old: u64,
-    new: u64,
-    about: A,
-    line: &X,
-) -> u64
-    requires table { seat.old.table_id ≡ table.now.table_id }
-    requires word { at < table.now.table_id.words }
-    requires allowed { Allows (P.holds table.now.key) table.now.table_id.slots
-        seat.old.id seat.old.me at
-        (λ n. either (n == old) new n)
-        (W.told (step table.now.table_id.slots at old new none) seat.old.me) }
-    ensures seat { (seat.new.table_id ≡ seat.old.table_id) × (seat.new.id ≡ seat.old.id) }
-    ensures told { W.told (step table.now.table_id.slots at old new none)
-        seat.old.me result seat.new.me }
-{
-    let _ = about;
-    let _ = line;
-    table.compare_exchange::<Told<W>>(seat, at, old, new)
-}
-
-/// The same, and answers whether the word was `seen`.
+/// Exchanges the word at `at` for `new` if it is `seen`, and answers whether it was.
 #[inline]
 pub fn try_as<S, V, K, P: TableRule<S, V, K>, A: Copy, X, W: Telling<S, V>>(
     table: &Shared<S, V, K, P>,
@@ -124,14 +98,8 @@ pub fn try_as<S, V, K, P: TableRule<S, V, K>, A: Copy, X, W: Telling<S, V>>(
     ensures told { (found : ℕ) × (IsTrue result ↔ (found ≡ seen))
         × W.told (step table.now.table_id.slots at seen new none) seat.old.me found seat.new.me }
 {
-    let found = exchange_as::<S, V, K, P, A, X, W>(
-        table,
-        seat,
-        at,
-        seen.word(),
-        new.word(),
-        about,
-        line,
-    );
+    let _ = about;
+    let _ = line;
+    let found = table.compare_exchange::<Told<W>>(seat, at, seen.word(), new.word());
     found == seen.word()
 }

@@ -29,7 +29,7 @@ use Rattle.queue_machine.proofs.StepKinds.{hold_slot, finds_value}
 use Rattle.queue_machine.proofs.Step.{step_kept}
 use Rattle.queue_machine.proofs.Raises.{swing_below, ends_below, take_below}
 use Rattle.running.specs.Machine.{Leaves, Does, swaps, stays}
-use Rattle.running.specs.Keeps.{there}
+use Rattle.running.proofs.Keeps.{there}
 use Rattle.queue_table.specs.Layout.{cells_at, nodes_at, head_at, tail_at, clink_at, nlink_at, next_at, cell_at}
 use Rattle.queue_table.specs.Lines.{access, next, won_take, HasRoom, Says}
 use Rattle.queue_table.specs.Memories.{memory_of, Sane}

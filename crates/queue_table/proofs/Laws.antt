@@ -177,7 +177,6 @@ module _ {T : Type 0} (n limit : ℕ) where
     rests = refl;
     starts = starts;
     empty = λ l e. ap length (idle_empty l e).cells;
-    empty_first = λ o. ap length (first_empty o).cells;
     begins = λ m of lines h q l o k e idle. goes_empty m of lines h q l (first_line o) k e (idle_empty l idle) (first_empty o) (λ g. first_fine limit m g o);
     quiets = λ m of lines h q l k e none_held. record { lists = k.lists; good = good_goes q l (Idle None) k.good e (quiets l none_held) tt };
     reseats = λ m of of' lines lines' h k which hands alone. record { lists = k.lists; good = reseated n limit m k.lists of of' lines lines' h k.good which hands alone };

@@ -4,7 +4,7 @@ use Rattle.atomic_table.specs.Seated.{TableId}
 use Rattle.bounded_model.specs.declared.views.PassView.{PassView}
 use Rattle.bounded_model.specs.declared.views.RootView.{RootView}
 use Rattle.bounded_model.specs.Laws.{IsSound}
-use Rattle.bounded_model.specs.Stepping.{Underway, OneStep}
+use Rattle.bounded_model.specs.Stepping.{OneStep}
 use Rattle.machine.specs.declared.seats.View.TheVariants.{AtRoot}
 use Rattle.machine.specs.Seats.{pass_of, root_of}
 use Rattle.running.specs.Machine.{Names, Machine}
@@ -38,12 +38,9 @@ module _ {T L O : Type 0} {names : Names L O} (m : Machine T L O names) where
     pub table : p.seat.table_id ≡ id
     pub at : At m o p.seat.me l slots
 
-  -- the pass as it was when its operation was begun, and the operation as it is now
+  -- the pass as it was when its operation was begun
   abbrev pub begun_of : Pass T L → PassView T
   begun_of p = begun_in m p.seat.me.0
-
-  abbrev pub underway : Pass T L → Underway T
-  underway p = record { begun = begun_of p; now = pass_in p }
 
   -- a step of a pass, one more, was the machine's step of the line l and led to l'
   abbrev pub OneLine : Pass T L → Pass T L → L → L → Type 0

@@ -1,10 +1,9 @@
 //! The layer between a pure machine and a table of atomic words, written once for all containers: what
 //! access each line of the machine makes, how a step of it is made on the table, and what that tells
-//! the pass. A container shows its machine (`Machine`), where its lists lie (`ListMachine`), and makes
-//! its operations of the step functions here.
+//! the pass. A container shows its machine (`Machine`), and makes its operations of the step functions
+//! here.
 #![tactic(auto)]
 
-mod lists;
 mod passes;
 mod pause;
 mod rule;
@@ -12,7 +11,6 @@ mod seats;
 mod steps;
 mod whole;
 
-pub use lists::{ListMachine, take_first};
 pub use passes::{Pass, Root, join, meet, split};
 pub use pause::Pause;
 pub use rule::{Machine, Running};

@@ -134,7 +134,6 @@ module _ {T : Type 0} (n limit : ℕ) where
     rests = refl;
     starts = starts;
     empty = λ l e. ap length (idle_holds l e);
-    empty_first = λ o. ap length (first_empty o).none_held;
     begins = λ m of lines h q l o k e idle. goes_empty m of lines h q l (first_line o) k e (idle_holds l idle) (first_empty o) (first_fine limit m k.lists o);
     quiets = λ m of lines h q l k e none_held. goes_empty m of lines h q l (Idle None) k e (no_nodes (held l) none_held) (record { none_held = refl; none_put = refl }) tt;
     reseats = λ m of of' lines lines' h k which hands alone. record { lists = k.lists; good = reseated n limit m k.lists of of' lines lines' h k.good which hands alone };

@@ -1,18 +1,18 @@
-use Rattle.std.proofs.Common.{[], refl, ap}
+use Rattle.std.proofs.Common.{[], ap}
 use Rattle.std.proofs.lemmas.Bool.{eqb-true, eqb-false}
 use mathlib.Core.Logic.{dite}
 use native.Mathlib.Decide.{ℕ_discrete}
-use Rattle.index_list.proofs.Allowed.{keeps_stored_at}
-use Rattle.running.specs.Rule.{Rule, steps_in}
+use Rattle.index_list.proofs.Allowed.{keeps_stored}
+use Rattle.running.specs.Rule.{Rule}
 use Rattle.running.specs.Going.{Did}
-use Rattle.running.specs.Made.{store_law}
+use Rattle.running.proofs.Made.{store_law}
 use Rattle.running.proofs.Going.{steps_so}
 use Rattle.running.proofs.steps.is_there.Goals as goal
 
 pub load_as-found-requires-clause-allowed : goal.load_as-found-requires-clause-allowed
 load_as-found-requires-clause-allowed g c = let a = c.args in let m = g.M.Machine.machine a.table.now.key in let me = a.seat.now.me in
-    keeps_stored_at (Rule m) steps_in _ a.at a.at a.seat.now.id a.new me (λ v. Did m a.operation.now a.new [] me.0 v) (λ _ _. Unit {0}) refl
-    (λ s. store_law m a.operation.now me.0 a.seat.now.id a.at a.new c.requires.access c.requires.plain s) (λ s v rule. tt)
+    keeps_stored (Rule m) _ a.at a.seat.now.id a.new me (λ v. Did m a.operation.now a.new [] me.0 v)
+    (λ s. store_law m a.operation.now me.0 a.seat.now.id a.at a.new c.requires.access c.requires.plain s)
 
 pub returns-clause-seat : goal.returns-clause-seat
 returns-clause-seat g c = (c.load_as-found.ensures.seat.0, dite (ℕ_discrete c.load_as-found.result c.args.new) (λ e. (c.load_as-found.ensures.told.hit e).unmoved) (λ ne. ap (λ m. m.1) (c.load_as-found.ensures.told.miss ne)))
