@@ -36,9 +36,6 @@ past_higher now x h = record { tag = omega arith; index = λ e. absurd (omega ar
 pub was_refl : (x : Tagged) → Was x x
 was_refl x = record { tag = omega arith; is = λ e. refl }
 
-pub was_same : (now x : Tagged) → now ≡ x → Was now x
-was_same now x e = record { tag = omega (arith, ap (λ (y : Tagged). y.tag) e); is = λ h. e }
-
 pub was_higher : (now x : Tagged) → x.tag < now.tag → Was now x
 was_higher now x h = record { tag = omega arith; is = λ e. absurd (omega arith) }
 

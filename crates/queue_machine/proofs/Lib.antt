@@ -11,6 +11,5 @@ pub mod Answers
 pub mod Tells
 pub mod Doing
 pub mod Raises
-pub mod Seats
 pub mod Places
 pub mod Start

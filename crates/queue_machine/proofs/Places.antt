@@ -1,15 +1,15 @@
 -- Where the rule holds, each cell and each node is in one place, and a step wins only what no pass had.
-use Rattle.std.proofs.Common.{◌≡◌, ◌≢◌, ◌⊎◌, inl, inr, ℕ, ◌+◌, ◌<◌, Bool, true, false, cond, eqb, ltb, leb, List, [], ◌∷◌, map, refl, sym, ap, ◌∙◌, subst, eqb-true, arith}
-use Rattle.std.specs.Prelude.{Option as Slot, Some, None, Ok, Err}
+use Rattle.std.proofs.Common.{◌≡◌, ◌⊎◌, inl, inr, ℕ, ◌+◌, ◌<◌, Bool, true, false, cond, eqb, leb, List, [], ◌∷◌, map, refl, sym, ap, ◌∙◌, subst, eqb-true, arith}
+use Rattle.std.specs.Prelude.{Option as Slot, Some, None}
 use mathlib.Core.Option.{Option, none, some}
 use lib.ListN.{get_elem?}
 use Rattle.tagged_index.specs.declared.word.TheConstants.{NULL}
 use Rattle.bounded_model.specs.declared.history.Event.{Event}
 use Rattle.bounded_model.specs.Machine.{without_first}
-use Rattle.machine.specs.Words.{Tagged, same, times, total}
-use Rattle.machine.specs.Places.{Has, InOnePlace, IsFree, IsInside}
+use Rattle.machine.specs.Words.{Tagged, same, times}
+use Rattle.machine.specs.Places.{Has, InOnePlace}
 use Rattle.machine.proofs.Tests.{cases, same-is}
-use Rattle.machine.proofs.Lists.{times_here, times_else}
+use Rattle.machine.proofs.Lists.{times_here}
 use Rattle.machine.proofs.OneList.{ready, front, front_of}
 use Rattle.machine.proofs.Places.{in_one_place, is_free, is_inside}
 use Rattle.queue_machine.specs.declared.lines.Placing.{Placing}
@@ -17,9 +17,9 @@ use Rattle.queue_machine.specs.declared.lines.Seeking.{Seeking}
 use Rattle.queue_machine.specs.declared.lines.Seeking.TheVariants.{ToLink, ToRefuse, ToClose}
 use Rattle.queue_machine.specs.declared.lines.Line.{Line}
 use Rattle.queue_machine.specs.declared.lines.Line.TheVariants.{Idle, LoadCells, LoadCellLink, TakeCell, LoadNodes, LoadNodeLink, TakeNode, StoreCell, LoadNext, PrepareNext, LoadTail, LoadTailNext, CheckTail, SwingTail, LinkNext, SwingToLinked, MarkNext, LoadHead, LoadTailToTake, LoadHeadNext, CheckHead, SwingTailToTake, LoadCell, TakeHead, LoadNodesToGive, LinkToNodes, GiveNode, LoadCellsToGive, LinkToCells, GiveCell, LoadHeadToLook, LoadNextToLook, CheckHeadToLook, LoadHeadToShut, ShutHead}
-use Rattle.queue_machine.specs.Machine.{Memory, Outcome, next_of, held_cells, held_nodes, step, wins_value, goes_on, back_closed, back_null}
+use Rattle.queue_machine.specs.Machine.{Memory, Outcome, next_of, held_cells, held_nodes, step, wins_value, back_closed, back_null}
 use Rattle.queue_machine.specs.Answers.{shape}
-use Rattle.queue_machine.specs.Rule.{Lists, IsFine, Good, Kept}
+use Rattle.queue_machine.specs.Rule.{Lists, IsFine, Good}
 use Rattle.queue_machine.specs.Places.{Listed, NothingTwice, CellWas, NodeWas, WinsUnheld, chained_cells, chained_nodes}
 use Rattle.queue_machine.proofs.Chain.{head_in}
 

@@ -1,16 +1,15 @@
 -- What an answer says of the events of its pass, whatever the call was.
-use Rattle.std.proofs.Common.{◌≡◌, ℕ, cond, Bool, List, [], ◌∷◌, length, arith, Ok, Err}
+use Rattle.std.proofs.Common.{◌≡◌, ℕ, List, [], length, arith, Err}
 use Rattle.bounded_model.specs.declared.answers.Word.TheVariants.{Free as FreeWord, Top as TopWord, Cells as CellsWord, Nodes as NodesWord, Next as NextWord, Count as CountWord}
 use Rattle.bounded_model.specs.declared.answers.PutRefused.{PutRefused}
 use Rattle.bounded_model.specs.declared.answers.PutRefused.TheVariants.{Full, Closed, Spent}
 use Rattle.bounded_model.specs.declared.answers.TakeRefused.{TakeRefused}
 use Rattle.bounded_model.specs.declared.answers.TakeRefused.TheVariants.{Empty, Closed as TakeClosed, Shut as TakeShut, Spent as TakeSpent}
 use Rattle.bounded_model.specs.declared.history.Event.{Event}
-use Rattle.bounded_model.specs.declared.history.Event.TheVariants.{Take, Free, Close, Shut}
 use Rattle.stack_machine.specs.declared.lines.Taking.TheVariants.{One, Whole}
 use Rattle.stack_machine.specs.declared.lines.Call.{Call}
 use Rattle.stack_machine.specs.declared.lines.Call.TheVariants.{Put as CallPut, Take as CallTake, Close as CallClose, Shut as CallShut, Look as CallLook}
-use Rattle.stack_machine.specs.declared.lines.Answer.TheVariants.{Put as AnswerPut, Take as AnswerTake, Fold as AnswerFold, Close as AnswerClose, Shut as AnswerShut, Look as AnswerLook}
+use Rattle.stack_machine.specs.declared.lines.Answer.TheVariants.{Put as AnswerPut, Take as AnswerTake, Fold as AnswerFold}
 use Rattle.stack_machine.specs.Deeds.{BackedOut, MakesRefusal, MakesNothing, Makes, handed_back}
 
 module _ {T : Type 0} (p : ℕ) (events : List (Event T)) where
@@ -46,14 +45,6 @@ module _ {T : Type 0} (p : ℕ) (events : List (Event T)) where
   made_refusal CallShut why m = absurd m
   made_refusal CallLook why m = absurd m
 
-  pub made_take : (call : Call T) (r : T × ℕ) → Makes p call (AnswerTake (Ok r)) events → events ≡ Free p 1 ∷ Take p r.0 r.1 ∷ []
-  made_take (CallPut v vs) r m = absurd m
-  made_take (CallTake One) r m = m
-  made_take (CallTake (Whole d)) r m = absurd m
-  made_take CallClose r m = absurd m
-  made_take CallShut r m = absurd m
-  made_take CallLook r m = absurd m
-
   pub made_no_take : (call : Call T) (why : TakeRefused) → Makes p call (AnswerTake (Err why)) events → events ≡ []
   made_no_take (CallPut v vs) why m = absurd m
   made_no_take (CallTake One) why m = nothing why m
@@ -69,27 +60,3 @@ module _ {T : Type 0} (p : ℕ) (events : List (Event T)) where
   made_no_fold CallClose why m = absurd m
   made_no_fold CallShut why m = absurd m
   made_no_fold CallLook why m = absurd m
-
-  pub made_close : (call : Call T) (done : Bool) → Makes p call (AnswerClose done) events → events ≡ cond done (Close p ∷ []) []
-  made_close (CallPut v vs) done m = absurd m
-  made_close (CallTake One) done m = absurd m
-  made_close (CallTake (Whole d)) done m = absurd m
-  made_close CallClose done m = m
-  made_close CallShut done m = absurd m
-  made_close CallLook done m = absurd m
-
-  pub made_shut : (call : Call T) (done : Bool) → Makes p call (AnswerShut done) events → events ≡ cond done (Shut p ∷ []) []
-  made_shut (CallPut v vs) done m = absurd m
-  made_shut (CallTake One) done m = absurd m
-  made_shut (CallTake (Whole d)) done m = absurd m
-  made_shut CallClose done m = absurd m
-  made_shut CallShut done m = m
-  made_shut CallLook done m = absurd m
-
-  pub made_look : (call : Call T) (empty : Bool) → Makes p call (AnswerLook empty) events → events ≡ []
-  made_look (CallPut v vs) empty m = absurd m
-  made_look (CallTake One) empty m = absurd m
-  made_look (CallTake (Whole d)) empty m = absurd m
-  made_look CallClose empty m = absurd m
-  made_look CallShut empty m = absurd m
-  made_look CallLook empty m = m

@@ -1,5 +1,5 @@
 -- Where the rule holds, each node is in one place, and a step wins only what no pass had.
-use Rattle.std.proofs.Common.{◌≡◌, ◌⊎◌, inl, inr, ⊎_elim, ℕ, ◌+◌, ◌<◌, Bool, true, false, cond, eqb, ltb, leb, List, [], ◌∷◌, length, reverse, refl, sym, ap, arith}
+use Rattle.std.proofs.Common.{◌≡◌, ◌⊎◌, inl, inr, ⊎_elim, ℕ, Bool, true, false, cond, eqb, ltb, leb, List, [], ◌∷◌, length, reverse, refl, ap, arith}
 use Rattle.std.specs.Prelude.{Option as Slot, Some, None, Err}
 use mathlib.Core.Option.{Option, none, some}
 use lib.ListN.{get_elem?}
@@ -9,12 +9,11 @@ use Rattle.bounded_model.specs.declared.answers.PutRefused.TheVariants.{Closed a
 use Rattle.bounded_model.specs.declared.answers.TakeRefused.{TakeRefused}
 use Rattle.bounded_model.specs.declared.answers.TakeRefused.TheVariants.{Empty, Closed, Shut, Spent}
 use Rattle.bounded_model.specs.declared.history.Event.{Event}
-use Rattle.machine.specs.Words.{Tagged, same, times, total}
+use Rattle.machine.specs.Words.{Tagged, same, times}
 use Rattle.machine.specs.Chains.{chain_from, values_in}
 use Rattle.machine.specs.Places.{Has, InOnePlace}
 use Rattle.machine.proofs.Tests.{cases, same-is}
-use Rattle.machine.proofs.Lists.{times_here, leads_from}
-use Rattle.machine.proofs.OneList.{ready, Ready}
+use Rattle.machine.proofs.OneList.{ready}
 use Rattle.machine.proofs.Chains.{times_reverse}
 use Rattle.machine.proofs.Places.{either, in_one_place, is_free, is_inside}
 use Rattle.stack_machine.specs.declared.lines.Putting.{Putting}
@@ -25,7 +24,7 @@ use Rattle.stack_machine.specs.declared.lines.Taking.TheVariants.{One, Whole}
 use Rattle.stack_machine.specs.declared.lines.Answer.TheVariants.{Put as AnswerPut}
 use Rattle.stack_machine.specs.declared.lines.Line.{Line}
 use Rattle.stack_machine.specs.declared.lines.Line.TheVariants.{Idle, LoadFree, LoadFreeLink, TakeFree, LinkTaken, LoadTop, LinkToTop, SwapTop, LoadTopToRefuse, LoadTopToTake, LoadTopLink, TakeTop, TakeChain, LoadLinkToTurn, TurnLink, LoadLinkToFold, LoadFreeToGive, LinkToFree, GiveBack, LoadTopToClose, MarkTop, LoadTopToShut, ShutTop, LoadTopToLook}
-use Rattle.stack_machine.specs.Machine.{Memory, Outcome, held, step, gives, with_node, next_node, no_node, refuses, takes, at_take_free, at_take_chain, wins_value}
+use Rattle.stack_machine.specs.Machine.{Memory, Outcome, held, step, gives, with_node, next_node, no_node, refuses, takes, at_take_chain, wins_value}
 use Rattle.stack_machine.specs.Answers.{shape}
 use Rattle.stack_machine.specs.Rule.{Lists, IsFine, Good}
 use Rattle.stack_machine.specs.Places.{Listed, NoNodeTwice, NodeWas, WinsUnheld}

@@ -1,6 +1,5 @@
 -- Each line's access does to the table what the machine's step does to its memory.
-use Rattle.std.proofs.Common.{◌≡◌, ◌≢◌, ℕ, ◌+◌, ◌<◌, ◌≤◌, ⊎_elim, Bool, true, false, cond, eqb, ltb, List, [], ◌∷◌, ◌++◌, length, set, reverse, refl, sym, ap, ◌∙◌, subst, arith}
-use Rattle.std.proofs.lemmas.Bool.{false≢true}
+use Rattle.std.proofs.Common.{◌≡◌, ◌≢◌, ℕ, ◌+◌, ◌<◌, ◌≤◌, ⊎_elim, Bool, true, false, cond, ltb, List, [], ◌∷◌, ◌++◌, length, set, reverse, refl, sym, ap, ◌∙◌, subst, arith}
 use Rattle.std.proofs.lemmas.Bool.Decides.{nat_tests}
 use Rattle.std.proofs.lemmas.List.{length-set, get_or-set_same, get_or-set_other, length-reverse, length-take-le}
 use Rattle.std.specs.Prelude.{slice_index, Option as Slot, Some, None, Ok}
@@ -18,28 +17,26 @@ use Rattle.machine.specs.OneList.{ReadTop, ReadLink}
 use Rattle.machine.specs.Chains.{first, last, second, with_home, away, chain_from, values_in, HasValues}
 use Rattle.machine.specs.Chains as chains
 use Rattle.machine.proofs.Chains.{first_in, last_in, first_value, values_in-is, values_length}
-use Rattle.machine.proofs.Lists.{times_here, times_append}
+use Rattle.machine.proofs.Lists.{times_here}
 use Rattle.machine.proofs.OneList.{front_of, ready}
 use Rattle.machine.proofs.Sums.{total_one}
 use Rattle.machine.proofs.Tests.{cases, same-is, same-self, at_most_one}
 use Rattle.stack_machine.specs.declared.lines.Direction.{Direction}
-use Rattle.stack_machine.specs.declared.lines.Giving.{Giving}
-use Rattle.stack_machine.specs.declared.lines.Putting.{Putting}
 use Rattle.stack_machine.specs.declared.lines.Taking.TheVariants.{One, Whole}
 use Rattle.stack_machine.specs.declared.lines.Answer.TheVariants.{Put as AnswerPut, Close as AnswerClose, Shut as AnswerShut}
 use Rattle.stack_machine.specs.declared.lines.Line.{Line}
 use Rattle.stack_machine.specs.declared.lines.Line.TheVariants.{Idle, LoadFree, LoadFreeLink, TakeFree, LinkTaken, LoadTop, LinkToTop, SwapTop, LoadTopToRefuse, LoadTopToTake, LoadTopLink, TakeTop, TakeChain, LoadLinkToTurn, TurnLink, LoadLinkToFold, LoadFreeToGive, LinkToFree, GiveBack, LoadTopToClose, MarkTop, LoadTopToShut, ShutTop, LoadTopToLook}
-use Rattle.stack_machine.specs.Machine.{Memory, Outcome, held, step, goes_on, wins, wins_value, wins_chain, ends, placed, unplaced, at_take_free, at_take_chain, after_hold, after_put, after_take, after_take_all, after_give, after_close, after_shut, after_store}
+use Rattle.stack_machine.specs.Machine.{Memory, Outcome, held, step, goes_on, wins, wins_value, wins_chain, ends, placed, unplaced, at_take_free, at_take_chain, after_hold, after_put, after_take_all, after_give, after_close, after_shut, after_store}
 use Rattle.stack_machine.specs.Answers.{shape, state}
 use Rattle.stack_machine.specs.Deeds.{in_order}
-use Rattle.stack_machine.specs.Rule.{Lists, IsFine}
+use Rattle.stack_machine.specs.Rule.{Lists}
 use Rattle.stack_machine.proofs.Linked.{turning_in}
 use Rattle.stack_machine.proofs.Moves.{Kept, hold_slot, all_nodes}
 use Rattle.running.specs.Machine.{Leaves, Does}
 use Rattle.stack_table.specs.Layout.{free_at, top_at, link_at}
 use Rattle.stack_table.specs.Lines.{access, next, won_take, won_chain, Says}
-use Rattle.stack_table.specs.Memories.{at_home, memory_of, Sane}
-use Rattle.stack_table.specs.Slots.{Links, full, vacant, carried, IsHand}
+use Rattle.stack_table.specs.Memories.{memory_of, Sane}
+use Rattle.stack_table.specs.Slots.{Links, full, vacant}
 use Rattle.stack_table.specs.Core.{core}
 use Rattle.stack_table.proofs.Memories.{free_set, top_set, link_set, home_set, home_below, at_home_is}
 use Rattle.stack_table.proofs.Slots.{same_or_not, holds_times, distinct_times, links_on, in_order_twice, length_in_order, times_in_order, numbers_vacant, all_empty, numbers_full, carried_full, has_in_order}

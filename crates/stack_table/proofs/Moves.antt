@@ -1,5 +1,5 @@
 -- Slots that leave home or come back, as the machine's memory says it.
-use Rattle.std.proofs.Common.{◌≡◌, ◌≢◌, ℕ, zero, suc, ◌<◌, ◌≤◌, ◌⊎◌, inl, inr, ⊎_elim, cond, eqb, List, [], ◌∷◌, length, set, refl, sym, ap, ◌∙◌, subst, arith}
+use Rattle.std.proofs.Common.{◌≡◌, ◌≢◌, ℕ, ◌<◌, ◌≤◌, ◌⊎◌, inl, inr, ⊎_elim, cond, eqb, List, [], ◌∷◌, length, set, refl, sym, ap, ◌∙◌, subst, arith}
 use Rattle.std.proofs.lemmas.List.{length-set}
 use Rattle.std.specs.Prelude.{Option as Slot, Some, None}
 use mathlib.Core.Option.{Option, none, some}
@@ -11,7 +11,7 @@ use Rattle.index_list.proofs.Acts.{filled-else, length-emptied}
 use Rattle.machine.specs.Words.{times}
 use Rattle.machine.specs.Chains.{away, HasValues}
 use Rattle.machine.specs.Chains as chains
-use Rattle.machine.proofs.Lists.{times_else, times_here}
+use Rattle.machine.proofs.Lists.{times_else}
 use Rattle.machine.proofs.Chains.{home_here, home_else, filled_else, emptied_here, emptied_else, away_else}
 use Rattle.stack_machine.specs.declared.lines.Direction.{Direction}
 use Rattle.stack_machine.specs.Deeds.{in_order}

@@ -16,7 +16,6 @@ use Rattle.stack_machine.specs.Machine.{Memory, start}
 use Rattle.stack_machine.specs.Answers.{shape, state}
 use Rattle.stack_machine.specs.Rule.{Lists, IsFine, Told, Good}
 use Rattle.machine.specs.Seats.{first_view}
-use Rattle.machine.specs.declared.seats.View.{View}
 use Rattle.machine.proofs.Tests.{cases}
 use Rattle.machine.proofs.Lists.{leads_frame}
 use Rattle.machine.proofs.Chains.{values_frame}

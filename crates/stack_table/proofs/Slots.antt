@@ -1,10 +1,9 @@
 -- Chains of nodes, and their slots as a seat has them.
-use Rattle.std.proofs.Common.{◌≡◌, ◌≢◌, ℕ, zero, suc, ◌<◌, ◌≤◌, ◌⊎◌, inl, inr, ⊎_elim, List, [], ◌∷◌, ◌++◌, length, reverse, refl, sym, ap, ◌∙◌, subst, length-append, arith}
+use Rattle.std.proofs.Common.{◌≡◌, ◌≢◌, ℕ, zero, suc, ◌<◌, ◌≤◌, ◌⊎◌, inl, inr, ⊎_elim, List, [], ◌∷◌, ◌++◌, length, reverse, refl, sym, ap, ◌∙◌, subst, arith}
 use Rattle.std.proofs.lemmas.Bool.Decides.{eqb_tells}
 use Rattle.std.proofs.lemmas.List.{reverse-append, reverse-reverse, length-reverse}
 use Rattle.std.specs.Prelude.{Option as Slot, Some, None}
 use mathlib.Core.Option.{Option, some}
-use Rattle.tagged_index.specs.declared.word.TheConstants.{NULL}
 use Rattle.bounded_model.specs.Machine.{without_first}
 use Rattle.index_list.specs.Lists.{Holds, Distinct}
 use Rattle.index_list.specs.Steps.{Each, numbers}
@@ -87,25 +86,6 @@ module _ (T : Type 0) where
   all_empty (i ∷ is) = (refl, all_empty is)
 
 module _ {T : Type 0} where
-  pub full_append : (is js : List ℕ) (us vs : List T) → length is ≡ length us → full (is ++ js) (us ++ vs) ≡ full is us ++ full js vs
-  full_append [] js [] vs e = refl
-  full_append (i ∷ is) js (u ∷ us) vs e = ap (λ (zs : List (ℕ × Slot T)). (i, Some u) ∷ zs) (full_append is js us vs (omega arith))
-  full_append [] js (u ∷ us) vs e = absurd (omega arith)
-  full_append (i ∷ is) js [] vs e = absurd (omega arith)
-
-  pub full_reverse : (is : List ℕ) (vs : List T) → length is ≡ length vs → reverse (full is vs) ≡ full (reverse is) (reverse vs)
-  full_reverse [] [] e = refl
-  full_reverse (i ∷ is) (v ∷ vs) e =
-      reverse-append ((i, Some v) ∷ []) (full is vs)
-      ∙ ap (λ (zs : List (ℕ × Slot T)). zs ++ (i, Some v) ∷ []) (full_reverse is vs (omega arith))
-      ∙ sym (full_append (reverse is) (i ∷ []) (reverse vs) (v ∷ []) (length_both is vs (omega arith)))
-      ∙ (λ t. full (sym (reverse-append (i ∷ []) is) t) (sym (reverse-append (v ∷ []) vs) t))
-    where
-      length_both : (is : List ℕ) (vs : List T) → length is ≡ length vs → length (reverse is) ≡ length (reverse vs)
-      length_both is vs e = length-reverse is ∙ e ∙ sym (length-reverse vs)
-  full_reverse [] (v ∷ vs) e = absurd (omega arith)
-  full_reverse (i ∷ is) [] e = absurd (omega arith)
-
   pub vacant_append : (is js : List ℕ) → vacant {T = T} (is ++ js) ≡ vacant is ++ vacant js
   vacant_append [] js = refl
   vacant_append (i ∷ is) js = ap (λ (zs : List (ℕ × Slot T)). (i, None) ∷ zs) (vacant_append is js)

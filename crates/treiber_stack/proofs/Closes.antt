@@ -14,15 +14,13 @@ use Rattle.stack_machine.specs.declared.lines.Line.{Line}
 use Rattle.stack_machine.specs.Machine.{ends, is_idle}
 use Rattle.stack_table.specs.declared.operation.Operation.{Operation}
 use Rattle.stack_table.specs.declared.operation.Operation.TheVariants.{Look as LookFirst}
-use Rattle.stack_table.specs.Layout.{top_at}
-use Rattle.stack_table.specs.Lines.{access, next, first_line}
+use Rattle.stack_table.specs.Lines.{next}
 use Rattle.running.specs.Going.{Ended}
-use Rattle.running.specs.Machine.{loads, swaps, stays}
 use Rattle.machine.specs.Words.{same}
 use Rattle.treiber_stack.specs.declared.stack.Stack.{Stack}
 use Rattle.treiber_stack.specs.declared.closing.Mark.{Mark}
 use Rattle.treiber_stack.specs.declared.closing.Mark.TheVariants.{Closed, Shut}
-use Rattle.treiber_stack.specs.Closing.{is_set, with_mark, mark_name, mark_answer, mark_line, MarkGives}
+use Rattle.treiber_stack.specs.Closing.{is_set, mark_name, mark_answer, mark_line, MarkGives}
 use Rattle.treiber_stack.specs.Stack.{machine_of, shape_of}
 
 module _ {T : Type 0} (c : Stack T) where
@@ -48,18 +46,6 @@ module _ {T : Type 0} (c : Stack T) where
 
 -- the lines that set a mark
 module _ (T : Type 0) where
-  pub mark_first : (mark : Mark) → first_line {T = T} (mark_name mark) ≡ mark_line mark None
-  mark_first Closed = refl
-  mark_first Shut = refl
-
-  pub mark_loads : (mark : Mark) → access {T = T} (mark_line mark None) ≡ loads top_at
-  mark_loads Closed = refl
-  mark_loads Shut = refl
-
-  pub mark_swaps : (mark : Mark) (w : ℕ) → access {T = T} (mark_line mark (Some w)) ≡ swaps top_at (fields_of w) (with_mark mark (fields_of w)) stays
-  mark_swaps Closed w = refl
-  mark_swaps Shut w = refl
-
   pub mark_loaded : (limit : ℕ) (mark : Mark) (w : ℕ) → next {T = T} limit (mark_line mark None) w [] ≡ cond (is_set mark (fields_of w)) (ends (mark_answer mark false)) (mark_line mark (Some w))
   mark_loaded limit Closed w = refl
   mark_loaded limit Shut w = refl

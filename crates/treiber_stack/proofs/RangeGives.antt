@@ -58,11 +58,6 @@ module _ {T : Type 0} where
   all_in (v ∷ vs) zero h e = absurd (let l : suc (length vs) ≡ 0 = ap length e in omega (arith, l))
   all_in (v ∷ vs) (suc k) h e = ap suc (all_in vs k (omega arith) e)
 
-  length_take : (k : ℕ) (vs : List T) → k ≤ length vs → length (take k vs) ≡ k
-  length_take zero vs h = refl
-  length_take (suc k) [] h = absurd (omega arith)
-  length_take (suc k) (v ∷ vs) h = ap suc (length_take k vs (omega arith))
-
 module _ {T : Type 0} (c : Stack T) (o : Operation T) {v : View T (Line T)} {begun : PassView T} where
   -- a refused put has given back what it took
   backs_out : (why : PutRefused (List T)) → Ended (machine_of c) o v begun (ends (AnswerPut (Err why))) → BacksOut begun (pass_of v) (length (handed_back why))

@@ -4,7 +4,7 @@ use Rattle.std.proofs.lemmas.List.{reverse-append, reverse-reverse, length-rever
 use Rattle.std.specs.Prelude.{Option as Slot}
 use Rattle.tagged_index.specs.Fields.{index_of}
 use Rattle.tagged_index.specs.declared.word.TheConstants.{NULL}
-use Rattle.index_list.specs.declared.front.Front.TheVariants.{First, Last}
+use Rattle.index_list.specs.declared.front.Front.TheVariants.{Last}
 use Rattle.machine.specs.Words.{times}
 use Rattle.machine.specs.Chains.{first}
 use Rattle.machine.proofs.Lists.{times_here, times_append}
@@ -23,17 +23,7 @@ use Rattle.treiber_stack.specs.Stack.{room_of, machine_of, begun_of, IsAt, WentO
 use Rattle.treiber_stack.proofs.Walking.{goes_further, ends_here}
 
 module _ {T : Type 0} (c : Stack T) (w : ℕ) (p : Pass T (Line T)) where
-  -- a fold down begins at the top, and a reversed one turns the chain round first
-  pub ready_down : (start : ℕ) → start ≡ index_of w → IsTaken c First w p → IsReady c First w p start
-  ready_down start e t = record {
-    chain = t.chain;
-    folded = t.values;
-    at = subst (λ (i : ℕ). IsAt c (FoldFirst First) p (LoadLinkToFold (folding t.chain t.values w) i) (full t.chain t.values)) (sym e) t.at;
-    hand = t.hand;
-    others = t.others;
-    begins = t.begins ∙ ap (λ (i : ℕ). i ∷ t.others) (sym e);
-  }
-
+  -- a reversed fold turns the chain round first
   pub turn_start : (index : ℕ) → index ≡ index_of w → IsTaken c Last w p → IsTurning c w p 0 NULL index
   turn_start index e t = record {
     chain = t.chain;
