@@ -14,9 +14,10 @@ use Rattle.audit.specs.Reading.{texts}
 use Rattle.audit.proofs.Delivered.{AreTaken, audit-all}
 use Rattle.program.specs.declared.words.RelayArgs.{RelayArgs}
 use Rattle.program.specs.declared.command_line.TheConstants.{MAX_FILES}
-use Rattle.program.specs.Inputs.{AreRead}
+use Rattle.program.specs.Inputs.{AreRead, AreReady}
 use Rattle.program.specs.Ranges.{plan_of}
-use Rattle.program.specs.Relaying.{GrowsByFront, IsRelayed, RelaysInputs, outcome_text, shape_for}
+use Rattle.program.specs.Relaying.{FromReaders, GrowsByFront, IsRelayed, RelaysInputs, Written, outcome_text, shape_for}
+use Rattle.program.specs.Measuring.{MeasuresInputs, Streams}
 use Rattle.program.specs.declared.tool_fault.ToolFault.{ToolFault}
 use Rattle.program.specs.declared.tool_fault.ToolFault.TheVariants.{Output}
 use Rattle.std.specs.Io.KnownBytes.{Appends}
@@ -28,23 +29,37 @@ length-texts [] = refl
 length-texts (m ∷ ms) = ap suc (length-texts ms)
 
 module _ {R : Type 0} (remaining : R → Option (List ℕ)) where
-  pub few-messages : (sender : ℕ) (readers : List R) (inputs : Lists) → AreRead remaining sender readers inputs → total inputs ≤ length readers * MAX_LINES
+  few-messages : (sender : ℕ) (readers : List R) (inputs : Lists) → AreRead remaining sender readers inputs → total inputs ≤ length readers * MAX_LINES
   few-messages sender [] [] read = omega arith
   few-messages sender [] (l ∷ ls) read = absurd read
   few-messages sender (r ∷ rs) [] read = absurd read
   few-messages sender (r ∷ rs) (l ∷ ls) read = omega (arith, read.0.file.few, length-texts l.items, few-messages (sender + 1) rs ls read.1)
 
-  pub are-inputs : (sender : ℕ) (readers : List R) (inputs : Lists) → AreRead remaining sender readers inputs → AreInputsFrom sender inputs
+  are-inputs : (sender : ℕ) (readers : List R) (inputs : Lists) → AreRead remaining sender readers inputs → AreInputsFrom sender inputs
   are-inputs sender [] [] read = tt
   are-inputs sender [] (l ∷ ls) read = absurd read
   are-inputs sender (r ∷ rs) [] read = absurd read
   are-inputs sender (r ∷ rs) (l ∷ ls) read = (read.0.input, are-inputs (sender + 1) rs ls read.1)
 
-  pub one-each : (sender : ℕ) (readers : List R) (inputs : Lists) → AreRead remaining sender readers inputs → length inputs ≡ length readers
+  one-each : (sender : ℕ) (readers : List R) (inputs : Lists) → AreRead remaining sender readers inputs → length inputs ≡ length readers
   one-each sender [] [] read = refl
   one-each sender [] (l ∷ ls) read = absurd read
   one-each sender (r ∷ rs) [] read = absurd read
   one-each sender (r ∷ rs) (l ∷ ls) read = ap suc (one-each (sender + 1) rs ls read.1)
+
+  pub are-ready : (readers : List R) (inputs : Lists) → AreRead remaining 0 readers inputs → length readers ≤ MAX_FILES → AreReady inputs
+  are-ready readers inputs read few = record {
+    numbered = are-inputs 0 readers inputs read;
+    files = let long = one-each 0 readers inputs read in omega (arith, long, few);
+    few = let messages = few-messages 0 readers inputs read in omega (arith, messages, few);
+  }
+
+  -- what was done with the inputs, where no reader was at fault
+  pub from-readers : (readers : List R) (inputs : Lists) (Comes : Lists → Result (Unit {0}) ToolFault → Type 0) (result : Result (Unit {0}) ToolFault)
+      → AreRead remaining 0 readers inputs → IfErr result (λ fault. fault ≡ Output) → Comes inputs result → FromReaders remaining readers Comes result
+  from-readers readers inputs Comes (Ok done) read fault comes = (inputs, read, comes)
+  from-readers readers inputs Comes (Err cause) read fault comes =
+      subst (λ f. FromReaders remaining readers Comes (Err f)) (sym fault) (inputs, read, subst (λ f. Comes inputs (Err f)) fault comes)
 
 -- ---- all is delivered
 
@@ -96,8 +111,15 @@ module _ (r : Relayed) where
 
 -- ---- the outcome was written, or a front of it
 
-pub was-written : (args : RelayArgs) (inputs : Lists) (relayed : Relayed) (old new : Option (List ℕ)) (result : Result (Unit {0}) ToolFault) → IsRelayed args inputs relayed
-    → OnOk result (Appends old new (outcome_text args.list relayed)) → IfErr result (λ fault. fault ≡ Output)
-    → GrowsByFront (outcome_text args.list relayed) old new → RelaysInputs args inputs old new result
-was-written args inputs relayed old new (Ok done) is all fault front = (relayed, is, all)
-was-written args inputs relayed old new (Err cause) is all fault front = subst (λ f. RelaysInputs args inputs old new (Err f)) (sym fault) (relayed, is, front)
+pub was-written : (args : RelayArgs) (writer : Written) (inputs : Lists) (relayed : Relayed) (result : Result (Unit {0}) ToolFault) → IsRelayed args inputs relayed
+    → OnOk result (Appends writer.old writer.new (outcome_text args.list relayed)) → IfErr result (λ fault. fault ≡ Output)
+    → GrowsByFront (outcome_text args.list relayed) writer.old writer.new → RelaysInputs args writer inputs result
+was-written args writer inputs relayed (Ok done) is all fault front = (relayed, is, all)
+was-written args writer inputs relayed (Err cause) is all fault front = subst (λ f. RelaysInputs args writer inputs (Err f)) (sym fault) (relayed, is, front)
+
+-- and where it was to be told of, that fault is all that came of it
+pub was-not-told : {R : Type 0} (remaining : R → Option (List ℕ)) (readers : List R) (args : RelayArgs) (streams : Streams) (inputs : Lists)
+    (result : Result (Unit {0}) ToolFault) (fault : ToolFault) → AreRead remaining 0 readers inputs → IfErr result (λ fault. fault ≡ Output)
+    → RelaysInputs args streams.output inputs result → result ≡ Err fault → FromReaders remaining readers (MeasuresInputs args streams) (Err fault)
+was-not-told remaining readers args streams inputs result fault read out relays was =
+    from-readers remaining readers inputs (MeasuresInputs args streams) (Err fault) read (rw was at out) (rw was at relays)

@@ -1,12 +1,15 @@
 -- What readers gave.
-use Rattle.std.specs.Prelude.{◌≡◌, ℕ, ◌+◌, List, [], ◌∷◌, ◌++◌, length, Option, IfSome, Vec, Err}
+use Rattle.std.specs.Prelude.{◌≡◌, ℕ, ◌+◌, ◌*◌, ◌≤◌, List, [], ◌∷◌, ◌++◌, length, Option, IfSome, Vec, Err}
 use Rattle.std.specs.declared.alloc.Global.{Global}
 use Rattle.relay.specs.declared.messages.Message.{Message}
-use Rattle.relay.specs.Messages.{IsInput}
+use Rattle.relay.specs.Messages.{AreInputsFrom, IsInput}
+use Rattle.relay.specs.Promises.{Lists, total}
+use Rattle.audit.specs.declared.message_file.TheConstants.{MAX_LINES}
 use Rattle.audit.specs.declared.faults.ReadFault.{ReadFault}
 use Rattle.audit.specs.declared.faults.ReadFault.TheVariants.{NoFinalNewline}
 use Rattle.audit.specs.MessageFile.{IsMessageFile, IsFirstFault}
 use Rattle.audit.specs.Reading.{texts, ReadsAll}
+use Rattle.program.specs.declared.command_line.TheConstants.{MAX_FILES}
 
 -- the reader's bytes, where it tells them, are the file of these messages, and the messages are this sender's input
 pub record IsRead {R : Type 0} (remaining : R → Option (List ℕ)) (sender : ℕ) (reader : R) (messages : List Message) : Type 0 where
@@ -21,6 +24,12 @@ AreRead remaining sender [] [] = Unit {0}
 AreRead remaining sender [] (messages ∷ inputs) = ⊥
 AreRead remaining sender (reader ∷ readers) [] = ⊥
 AreRead remaining sender (reader ∷ readers) (messages ∷ inputs) = IsRead remaining sender reader messages.items × AreRead remaining (sender + 1) readers inputs
+
+-- inputs that a relay takes: from sender 0 on, no more of them than files are taken, with no more messages than these hold
+pub record AreReady (inputs : Lists) : Type 0 where
+  pub numbered : AreInputsFrom 0 inputs
+  pub files : length inputs ≤ MAX_FILES
+  pub few : total inputs ≤ MAX_FILES * MAX_LINES
 
 -- the fault is the first of the bytes that the reader gave; where they end within a line, it gave all that it had;
 -- and it is none of the file's where the reader had a message file

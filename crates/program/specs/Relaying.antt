@@ -61,16 +61,30 @@ IsCause args inputs NoThread = ¬ (IsTooSmall (plan_of args) args.capacity (tota
 IsCause args inputs NoPass = ⊥
 IsCause args inputs NoMemory = Unit {0}
 
--- what a relay of these inputs does to a writer, whose bytes are known as `old` and as `new`: it writes its outcome
-abbrev pub RelaysInputs : RelayArgs → Lists → Option (List ℕ) → Option (List ℕ) → Result (Unit {0}) ToolFault → Type 0
-RelaysInputs args inputs old new (Ok _) = (relayed : Relayed) × IsRelayed args inputs relayed × Appends old new (outcome_text args.list relayed)
-RelaysInputs args inputs old new (Err Output) = (relayed : Relayed) × IsRelayed args inputs relayed × GrowsByFront (outcome_text args.list relayed) old new
-RelaysInputs args inputs old new (Err (Relay cause)) = IsCause args inputs cause
-RelaysInputs args inputs old new (Err (File number cause)) = ⊥
+-- what is known of a writer's bytes, before and after
+pub record Written : Type 0 where
+  pub old : Option (List ℕ)
+  pub new : Option (List ℕ)
 
--- what a relay of readers does: it relays what they gave, or one of them is at fault
-abbrev pub RelaysReaders : {R : Type 0} → (R → Option (List ℕ)) → RelayArgs → List R → Option (List ℕ) → Option (List ℕ) → Result (Unit {0}) ToolFault → Type 0
-RelaysReaders remaining args readers old new (Ok done) = (inputs : Lists) × AreRead remaining 0 readers inputs × RelaysInputs args inputs old new (Ok done)
-RelaysReaders remaining args readers old new (Err Output) = (inputs : Lists) × AreRead remaining 0 readers inputs × RelaysInputs args inputs old new (Err Output)
-RelaysReaders remaining args readers old new (Err (Relay cause)) = (inputs : Lists) × AreRead remaining 0 readers inputs × RelaysInputs args inputs old new (Err (Relay cause))
-RelaysReaders remaining args readers old new (Err (File number cause)) = IsFileFault remaining readers number cause
+-- what a relay of inputs does to a writer: it writes their outcome
+abbrev pub RelaysInputs : RelayArgs → Written → Lists → Result (Unit {0}) ToolFault → Type 0
+RelaysInputs args writer inputs (Ok _) =
+    (relayed : Relayed) × IsRelayed args inputs relayed
+    × Appends writer.old writer.new (outcome_text args.list relayed)
+RelaysInputs args writer inputs (Err Output) =
+    (relayed : Relayed) × IsRelayed args inputs relayed
+    × GrowsByFront (outcome_text args.list relayed) writer.old writer.new
+RelaysInputs args writer inputs (Err (Relay cause)) = IsCause args inputs cause
+RelaysInputs args writer inputs (Err (File number cause)) = ⊥
+
+-- what comes of readers: that of the inputs that they gave, or one of them is at fault
+abbrev pub FromReaders : {R : Type 0} → (R → Option (List ℕ)) → List R
+    → (Lists → Result (Unit {0}) ToolFault → Type 0) → Result (Unit {0}) ToolFault → Type 0
+FromReaders remaining readers Comes (Ok done) =
+    (inputs : Lists) × AreRead remaining 0 readers inputs × Comes inputs (Ok done)
+FromReaders remaining readers Comes (Err Output) =
+    (inputs : Lists) × AreRead remaining 0 readers inputs × Comes inputs (Err Output)
+FromReaders remaining readers Comes (Err (Relay cause)) =
+    (inputs : Lists) × AreRead remaining 0 readers inputs × Comes inputs (Err (Relay cause))
+FromReaders remaining readers Comes (Err (File number cause)) =
+    IsFileFault remaining readers number cause

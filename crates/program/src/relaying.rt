@@ -2,17 +2,15 @@
 
 ghost use Rattle.std.specs.Prelude.{◌≡◌, ◌≢◌, ◌≤◌, ◌*◌, IfErr, IfOk, List, ℕ, length};
 ghost use Rattle.bounded_model.specs.Laws.{fresh};
-ghost use Rattle.relay.specs.Messages.{AreInputsFrom};
-ghost use Rattle.relay.specs.Promises.{total};
 ghost use Rattle.tagged_index.specs.Limits.{capacity_of, tag_limit_of};
 ghost use Rattle.tagged_index.specs.declared.word.TheConstants.{MAX_TAG};
 ghost use Rattle.program.specs.declared.command_line.TheConstants.{MAX_FILES};
-ghost use Rattle.audit.specs.declared.message_file.TheConstants.{MAX_LINES};
 ghost use Rattle.program.specs.declared.tool_fault.ToolFault.TheVariants.{Output, Relay};
 ghost use Rattle.relay.specs.declared.faults.RelayFault.{RelayFault};
 ghost use Rattle.relay.specs.declared.faults.RelayFault.TheVariants.{NoMemory};
+ghost use Rattle.program.specs.Inputs.{AreReady};
 ghost use Rattle.program.specs.Ranges.{IsInRange};
-ghost use Rattle.program.specs.Relaying.{IsCause, IsRelayed, RelaysInputs, RelaysReaders, shape_for};
+ghost use Rattle.program.specs.Relaying.{FromReaders, IsCause, IsRelayed, RelaysInputs, shape_for};
 
 use crate::inputs::read_inputs;
 use crate::outcome::write_outcome;
@@ -46,25 +44,44 @@ pub fn relay_main<T: Threads + Wait + Sync, R: Read + Drop, W: Write>(
     requires some { 1 ≤ length readers.items }
     requires few { length readers.items ≤ MAX_FILES }
     // What is written is the outcome of a relay of the messages that were read.
-    ensures relays { RelaysReaders R.remaining args.now readers.items (W.contents writer.old)
-        (W.contents writer.new) result }
+    ensures relays { FromReaders R.remaining readers.items (RelaysInputs args.now
+        (record { old = W.contents writer.old; new = W.contents writer.new })) result }
     ensures untouched { IfErr result (λ fault. fault ≢ Output → writer.new ≡ writer.old) }
 {
     let inputs = read_inputs(alloc, readers)?;
+    let relayed = relay_inputs(rt, alloc, args, inputs, &FreeGate)?;
+    write_outcome(&relayed, args.list, writer)
+}
+
+/// The outcome of a relay of these inputs through a container of the kind that is asked for, at
+/// whose gate each try is made.
+pub(crate) fn relay_inputs<T: Threads + Wait + Sync, G: Gate + Sync>(
+    rt: &T,
+    alloc: Global,
+    args: &RelayArgs,
+    inputs: Vec<Vec<Message>>,
+    gate: &G,
+) -> Result<Relayed, ToolFault>
+    requires args { IsInRange args.now }
+    requires ready { AreReady inputs.items }
+    ensures relayed { IfOk result (IsRelayed args.now inputs.items) }
+    ensures fault { IfErr result (λ fault. (cause : RelayFault) × (fault ≡ Relay cause)
+        × IsCause args.now inputs.items cause) }
+{
     match args.kind {
         Kind::Queue => {
             let (queue, root) = Queue::new(alloc, limits_for(args))?;
-            relay_through(rt, alloc, queue, root, args, inputs, writer)
+            relay_through(rt, alloc, queue, root, args, inputs, gate)
         }
         Kind::Stack => {
             let (stack, root) = Stack::new(alloc, limits_for(args))?;
-            relay_through(rt, alloc, stack, root, args, inputs, writer)
+            relay_through(rt, alloc, stack, root, args, inputs, gate)
         }
     }
 }
 
-/// The limits that are asked for.
-pub(crate) fn limits_for(args: &RelayArgs) -> Limits
+// The limits that are asked for.
+fn limits_for(args: &RelayArgs) -> Limits
     requires { IsInRange args.now }
     ensures { (capacity_of result ≡ args.now.capacity) × (tag_limit_of result ≡ MAX_TAG) }
 {
@@ -74,33 +91,8 @@ pub(crate) fn limits_for(args: &RelayArgs) -> Limits
     }
 }
 
-// Relays these inputs through this container, and writes the outcome.
-fn relay_through<T: Threads + Wait + Sync, C: Container<Message> + Sync, W: Write>(
-    rt: &T,
-    alloc: Global,
-    container: C,
-    root: C::Root,
-    args: &RelayArgs,
-    inputs: Vec<Vec<Message>>,
-    writer: &mut W,
-) -> Result<(), ToolFault>
-    requires args { IsInRange args.now }
-    requires root { C.is_root container root }
-    requires fresh { C.root root ≡ fresh }
-    requires shape { C.shape container ≡ shape_for args.now }
-    requires inputs { AreInputsFrom 0 inputs.items }
-    requires files { length inputs.items ≤ MAX_FILES }
-    requires few { total inputs.items ≤ MAX_FILES * MAX_LINES }
-    ensures relays { RelaysInputs args.now inputs.items (W.contents writer.old)
-        (W.contents writer.new) result }
-    ensures untouched { IfErr result (λ fault. fault ≢ Output → writer.new ≡ writer.old) }
-{
-    let relayed = relayed_by(rt, alloc, container, root, args, inputs, &FreeGate)?;
-    write_outcome(&relayed, args.list, writer)
-}
-
-/// The outcome of a relay of these inputs through this container, at whose gate each try is made.
-pub(crate) fn relayed_by<T: Threads + Wait + Sync, C: Container<Message> + Sync, G: Gate + Sync>(
+// The outcome of a relay of these inputs through this container.
+fn relay_through<T: Threads + Wait + Sync, C: Container<Message> + Sync, G: Gate + Sync>(
     rt: &T,
     alloc: Global,
     container: C,
@@ -113,9 +105,7 @@ pub(crate) fn relayed_by<T: Threads + Wait + Sync, C: Container<Message> + Sync,
     requires root { C.is_root container root }
     requires fresh { C.root root ≡ fresh }
     requires shape { C.shape container ≡ shape_for args.now }
-    requires inputs { AreInputsFrom 0 inputs.items }
-    requires files { length inputs.items ≤ MAX_FILES }
-    requires few { total inputs.items ≤ MAX_FILES * MAX_LINES }
+    requires ready { AreReady inputs.items }
     ensures relayed { IfOk result (IsRelayed args.now inputs.items) }
     ensures fault { IfErr result (λ fault. (cause : RelayFault) × (fault ≡ Relay cause)
         × IsCause args.now inputs.items cause) }

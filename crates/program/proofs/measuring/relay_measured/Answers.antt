@@ -1,43 +1,34 @@
-use Rattle.std.proofs.Common.{arith}
-use denote.Param.Send.{IsSend, sendable}
-use Rattle.relay.specs.contracts.messages.Message as message
-use Rattle.std.proofs.Crossing.{Vec-send}
-use Rattle.ms_queue.proofs.Crossing.{rest_send as queue_rest}
-use Rattle.treiber_stack.proofs.Crossing.{rest_send}
-use Rattle.program.proofs.AllDelivered.{few-messages, are-inputs, one-each}
+use Rattle.std.proofs.lemmas.Result.{err_from_is_err_and}
+use Rattle.program.specs.Measuring.{Streams}
+use Rattle.program.proofs.AllDelivered.{are-ready, was-not-told, was-written}
 use Rattle.program.proofs.measuring.relay_measured.Goals as goal
 
-message_send : IsSend message.the_row
-message_send = search (sendable, Vec-send) depth 20
+pub relay_inputs-requires-clause-ready : goal.relay_inputs-requires-clause-ready
+relay_inputs-requires-clause-ready g c κs within =
+    are-ready g.R.Read.remaining c.args.readers.items c.in_ok-inputs.inputs.items c.in_ok-inputs.ensures.read c.requires.few
 
-pub measure-requires-send-C-Rest : goal.measure-requires-send-C-Rest
-measure-requires-send-C-Rest g c κs within = search (sendable, queue_rest, message_send) depth 30
+pub returns-in_err-write_outcome-clause-measures : goal.returns-in_err-write_outcome-clause-measures
+returns-in_err-write_outcome-clause-measures g c =
+    let inputs = c.in_ok-inputs.inputs.items in
+    let streams : Streams = record {
+      output = record { old = g.W.Write.contents c.args.writer.now; new = g.W.Write.contents c.write_outcome.new.writer };
+      errors = record { old = g.E.Write.contents c.args.errors.now; new = g.E.Write.contents c.args.errors.now };
+    } in
+    let told = c.write_outcome.ensures in
+    let relays = was-written c.args.args.now streams.output inputs c.in_ok-relayed.relayed c.write_outcome.result c.in_ok-relayed.ensures.relayed told.all told.fault told.front in
+    let broke = err_from_is_err_and c.from_residual-in_err-write_outcome.result c.from_residual-in_err-write_outcome.ensures.1 in
+    rw (broke.1, broke.2)
+    (was-not-told g.R.Read.remaining c.args.readers.items c.args.args.now streams inputs c.write_outcome.result _ c.in_ok-inputs.ensures.read told.fault relays c.in_err-write_outcome.was)
 
-pub measure-requires-clause-inputs : goal.measure-requires-clause-inputs
-measure-requires-clause-inputs g c κs within = are-inputs g.R.Read.remaining 0 c.args.readers.items c.in_ok-inputs.inputs.items c.in_ok-inputs.ensures.read
-
-pub measure-requires-clause-files : goal.measure-requires-clause-files
-measure-requires-clause-files g c κs within =
-    let long = one-each g.R.Read.remaining 0 c.args.readers.items c.in_ok-inputs.inputs.items c.in_ok-inputs.ensures.read in
-    omega (arith, long, c.requires.few)
-
-pub measure-requires-clause-few : goal.measure-requires-clause-few
-measure-requires-clause-few g c κs within =
-    let few = few-messages g.R.Read.remaining 0 c.args.readers.items c.in_ok-inputs.inputs.items c.in_ok-inputs.ensures.read in
-    omega (arith, few, c.requires.few)
-
-pub measure-requires-in-Stack-send-C-Rest : goal.measure-requires-in-Stack-send-C-Rest
-measure-requires-in-Stack-send-C-Rest g c κs within = search (sendable, rest_send, message_send) depth 30
-
-pub measure-requires-in-Stack-clause-inputs : goal.measure-requires-in-Stack-clause-inputs
-measure-requires-in-Stack-clause-inputs g c κs within = are-inputs g.R.Read.remaining 0 c.args.readers.items c.in_ok-inputs.inputs.items c.in_ok-inputs.ensures.read
-
-pub measure-requires-in-Stack-clause-files : goal.measure-requires-in-Stack-clause-files
-measure-requires-in-Stack-clause-files g c κs within =
-    let long = one-each g.R.Read.remaining 0 c.args.readers.items c.in_ok-inputs.inputs.items c.in_ok-inputs.ensures.read in
-    omega (arith, long, c.requires.few)
-
-pub measure-requires-in-Stack-clause-few : goal.measure-requires-in-Stack-clause-few
-measure-requires-in-Stack-clause-few g c κs within =
-    let few = few-messages g.R.Read.remaining 0 c.args.readers.items c.in_ok-inputs.inputs.items c.in_ok-inputs.ensures.read in
-    omega (arith, few, c.requires.few)
+pub returns-clause-measures : goal.returns-clause-measures
+returns-clause-measures g c =
+    let told = rw (c.as_bytes.ensures.value, c.in_ok-told.ensures) at c.write_all.ensures.front in (
+      c.in_ok-inputs.inputs.items,
+      c.in_ok-inputs.ensures.read,
+      (
+        c.in_ok-relayed.relayed,
+        c.in_ok-relayed.ensures.relayed,
+        c.in_ok-write_outcome.ensures.all,
+        record { puts = c.puts.result; takes = c.takes.result; stats = c.in_ok-stats.stats; of = c.in_ok-stats.ensures.of; went_out = told },
+      ),
+    )
