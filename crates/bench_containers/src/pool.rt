@@ -33,7 +33,7 @@ impl<C: Container<u64>> Pool for C {
 
     ghost is_pass = { C.is_pass };
 
-    #[inline]
+    #[inline(always)]
     fn put<W: Wait>(
         &self,
         rt: &W,
@@ -43,7 +43,7 @@ impl<C: Container<u64>> Pool for C {
         Container::put(self, rt, by, item)
     }
 
-    #[inline]
+    #[inline(always)]
     fn take<W: Wait>(&self, rt: &W, by: C::Pass) -> (C::Pass, Result<(u64, u64), TakeRefused>) {
         Container::take(self, rt, by)
     }

@@ -47,10 +47,12 @@ impl<T: Drop + Send> Container<T> for Queue<T> {
         running::split(&self.table.shared, parent)
     }
 
+    #[inline(always)]
     fn put<R: Wait>(&self, rt: &R, by: Pass<T>, value: T) -> (Pass<T>, Result<u64, PutRefused<T>>) {
         whole_call(rt, self, self.limits.capacity(), self.begin_put(by, value))
     }
 
+    #[inline(always)]
     fn take<R: Wait>(&self, rt: &R, by: Pass<T>) -> (Pass<T>, Result<(T, u64), TakeRefused>) {
         whole_call(rt, self, self.limits.capacity(), self.begin_take(by))
     }

@@ -68,7 +68,7 @@ impl<T> Queue<T> {
         }
     }
 
-    #[inline(always)]
+    #[inline]
     fn give_load_nodes(&self, by: &mut Pass<T>, held: Held, operation: &Operation<T>) -> Gave
         requires { (a : Answer T)
             × IsGiving self.now (way operation.now by.old (a, held) LoadNodes) }
@@ -79,7 +79,7 @@ impl<T> Queue<T> {
         Gave::On(Give::LinkNode(nodes))
     }
 
-    #[inline(always)]
+    #[inline]
     fn give_link_node(
         &self,
         by: &mut Pass<T>,
@@ -99,7 +99,7 @@ impl<T> Queue<T> {
         Gave::On(Give::GiveNode(nodes))
     }
 
-    #[inline(always)]
+    #[inline]
     fn give_node(
         &self,
         by: &mut Pass<T>,
@@ -127,7 +127,7 @@ impl<T> Queue<T> {
         Gave::On(Give::LoadNodes)
     }
 
-    #[inline(always)]
+    #[inline]
     fn give_load_cells(&self, by: &mut Pass<T>, held: Held, operation: &Operation<T>) -> Gave
         requires { (a : Answer T)
             × IsGiving self.now (way operation.now by.old (a, held) LoadCells) }
@@ -138,7 +138,7 @@ impl<T> Queue<T> {
         Gave::On(Give::LinkCell(cells))
     }
 
-    #[inline(always)]
+    #[inline]
     fn give_link_cell(
         &self,
         by: &mut Pass<T>,
@@ -159,7 +159,7 @@ impl<T> Queue<T> {
     }
 
     // With the cell goes its slot.
-    #[inline(always)]
+    #[inline]
     fn give_cell(
         &self,
         by: &mut Pass<T>,

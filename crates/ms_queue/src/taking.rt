@@ -239,7 +239,7 @@ impl<T> Queue<T> {
 impl<T> TakeOp<T> {
     /// One atomic step. The answer is the value with its number, or why none was taken: `Shut`,
     /// then `Closed` or `Empty` where there is none.
-    #[inline(always)]
+    #[inline]
     pub fn step(
         self,
         queue: &Queue<T>,

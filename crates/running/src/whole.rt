@@ -40,7 +40,7 @@ pub trait Whole<C, P, A>: Sized {
 
 /// Runs an operation until it answers. `room` is for how many values the container has room; it bears
 /// on how long lost exchanges are waited out, and on nothing else.
-#[inline]
+#[inline(always)]
 pub fn whole_call<R: Wait, C, P, A, O: Whole<C, P, A>>(
     rt: &R,
     on: &C,
@@ -72,7 +72,7 @@ fn run_on<R: Wait, C, P, A, O: Whole<C, P, A>>(rt: &R, on: &C, room: u32, under_
             Stepped::Done(back, answer) => return (back, answer),
             Stepped::Again(next) => {
                 if next.has_lost() {
-                    pause.wait();
+                    pause = pause.wait();
                 }
                 made = next.run(on);
             }

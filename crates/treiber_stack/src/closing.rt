@@ -10,7 +10,7 @@ ghost use Rattle.treiber_stack.specs.Stack.{shape_of, IsPassOf, pass_in, begun_o
 
 use crate::stack::{Pass, Stack};
 use bounded_model::Stepped;
-use running::{Pause, load_tagged_step, swap_step};
+use running::{load_tagged_step, swap_step};
 use stack_table::Operation;
 use stack_table::layout::TOP;
 use std::sync::Wait;
@@ -152,13 +152,13 @@ impl<T> Stack<T> {
     {
         let mut pass = by;
         let mut seen = None;
-        let mut pause = Pause::of(self.limits.capacity());
+        let mut pause = self.pause();
         for _ in rt.forever() {
             match self.mark(pass, seen, mark) {
                 Stepped::Done(pass, set) => return (pass, set),
                 Stepped::Again((next, read)) => {
                     if read.is_none() {
-                        pause.wait();
+                        pause = pause.wait();
                     }
                     pass = next;
                     seen = read;

@@ -47,10 +47,12 @@ impl<T: Drop + Send> Container<T> for Stack<T> {
         running::split(&self.table.shared, parent)
     }
 
+    #[inline(always)]
     fn put<R: Wait>(&self, rt: &R, by: Pass<T>, value: T) -> (Pass<T>, Result<u64, PutRefused<T>>) {
         self.put_one(rt, by, value)
     }
 
+    #[inline(always)]
     fn take<R: Wait>(&self, rt: &R, by: Pass<T>) -> (Pass<T>, Result<(T, u64), TakeRefused>) {
         self.take_one(rt, by)
     }

@@ -285,7 +285,7 @@ impl<T> Stack<T> {
     }
 
     /// Puts a value by a whole call.
-    #[inline]
+    #[inline(always)]
     pub(crate) fn put_one<R: Wait>(
         &self,
         rt: &R,
