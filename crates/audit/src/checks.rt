@@ -115,8 +115,8 @@ fn seq_after_left(left: &[Message], sender: usize, first: u64) -> Option<u64>
     Some(next)
 }
 
-// The seq that is wanted after this message, where `next` was wanted of the sender's next one. A seq
-// is below 2^32, so what is wanted after it fits.
+// The seq that is wanted after this message, where `next` was wanted of the sender's next one. A
+// seq is below 2^32, so what is wanted after it fits.
 fn seq_after(message: &Message, sender: usize, next: u64) -> Option<u64>
     requires { next ≤ 2 ^ 32 }
     ensures small { IfSome result (λ after. after ≤ 2 ^ 32) }

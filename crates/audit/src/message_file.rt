@@ -25,8 +25,8 @@ pub const MAX_READS: u32 = 1 << 27;
 const LINE_FEED: u8 = b'\n';
 
 /// Reads a message file: lines of at most [`MAX_LINE`] bytes, each ended by a line feed, at most
-/// [`MAX_LINES`] of them. Line `j`, counted from 0, is the message with seq `j`. An interrupted read
-/// is tried again.
+/// [`MAX_LINES`] of them. Line `j`, counted from 0, is the message with seq `j`. An interrupted
+/// read is tried again.
 ///
 /// A fault is the first that is met in the order of the bytes. The reader has then given the bytes
 /// up to it, and perhaps some more. `Device` comes only where a read failed.
@@ -41,7 +41,8 @@ pub fn read_messages<R: Read>(
         × Answers sender bytes result }
     // A file is read to its end, and so is one that ends within a line.
     ensures end { ReachesEnd result → IsAtEnd (R.remaining reader.new) }
-    // Each message file is accepted, with its own lines, but where memory, the reader or the count of reads is at fault.
+    // Each message file is accepted, with its own lines, but where memory, the reader or the count
+    // of reads is at fault.
     ensures accepts { (lines : List (List ℕ))
         → IfSome (R.remaining reader.old)
         (λ text. IsMessageFile text lines → ReadsAll lines result) }

@@ -10,7 +10,8 @@ use relay::{Message, Relayed, Taken};
 /// How many senders one pass counts.
 pub(crate) const SENDERS: usize = 16;
 
-/// How many messages were delivered and left of each of [`SENDERS`] senders, from the first of them on.
+/// How many messages were delivered and left of each of [`SENDERS`] senders, from the first of them
+/// on.
 #[derive(Drop)]
 pub(crate) struct Tallies {
     pub(crate) first: usize,
@@ -30,8 +31,8 @@ impl Tallies {
         }
     }
 
-    /// The counts of one sender, whose unsent messages these are. A sender that was not counted begins
-    /// the next pass.
+    /// The counts of one sender, whose unsent messages these are. A sender that was not counted
+    /// begins the next pass.
     pub(crate) fn of_sender(
         &mut self,
         relayed: &Relayed,

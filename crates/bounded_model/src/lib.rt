@@ -1,5 +1,6 @@
 //! What a bounded container is, before any word or thread: its events, the machine that says which
-//! histories are legal, the sequential list that runs that machine, and the laws of every container.
+//! histories are legal, the sequential list that runs that machine, and the laws of every
+//! container.
 #![tactic(auto)]
 
 mod answers;

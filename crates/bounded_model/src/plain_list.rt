@@ -85,8 +85,8 @@ impl<T> Model for PlainList<T> {
 }
 
 impl<T> PlainList<T> {
-    /// An empty list for so many values, from 1 to [`MAX_LIST_CAPACITY`]. All its room is taken here, so
-    /// no later put wants memory.
+    /// An empty list for so many values, from 1 to [`MAX_LIST_CAPACITY`]. All its room is taken
+    /// here, so no later put wants memory.
     pub fn new(alloc: Global, capacity: u32, order: Order) -> Result<PlainList<T>, MakeRefused>
         requires some { 0 < capacity }
         requires within { capacity ≤ MAX_LIST_CAPACITY }

@@ -16,9 +16,9 @@ ghost use Rattle.bounded_model.specs.Gathers.{
   Counts,
 };
 
-/// A queue keeps its order: what was put is what was taken and then what is there, in order, and puts
-/// and takes are numbered 0, 1, 2, .. each. So the take numbered k gives the value of the put numbered
-/// k, and each value is taken once.
+/// A queue keeps its order: what was put is what was taken and then what is there, in order, and
+/// puts and takes are numbered 0, 1, 2, .. each. So the take numbered k gives the value of the put
+/// numbered k, and each value is taken once.
 pub fn queue_keeps_order<T>()
     ensures values { (c : Shape) (h : List (Event T))
         → c.order ≡ Fifo → Legal c h
@@ -29,16 +29,16 @@ pub fn queue_keeps_order<T>()
         → c.order ≡ Fifo → Legal c h → Counts (λ m. m.number) 0 (gather took_of h) }
 {}
 
-/// In either order nothing is lost and nothing comes twice: what was put is, up to the order, what was
-/// taken and what is there.
+/// In either order nothing is lost and nothing comes twice: what was put is, up to the order, what
+/// was taken and what is there.
 pub fn nothing_is_lost<T>()
     ensures { (c : Shape) (h : List (Event T))
         → Legal c h
         → IsPermutation (gather put_of h) (values_of (gather took_of h) ++ (state c h).values) }
 {}
 
-/// No put follows the close, and no take or fold follows the shut. There is at most one close and at
-/// most one shut.
+/// No put follows the close, and no take or fold follows the shut. There is at most one close and
+/// at most one shut.
 pub fn closing_is_final<T>()
     ensures puts { (c : Shape) (more h : List (Event T))
         → Legal c (more ++ h) → IsClosed c h → gather put_of more ≡ [] }

@@ -58,7 +58,8 @@ fn passes(
     Ok(all)
 }
 
-// Threads use the pool at once; they have ended when this returns. `false` where one was not started.
+// Threads use the pool at once; they have ended when this returns. `false` where one was not
+// started.
 fn use_at_once<R: Threads + Wait + Sync>(
     rt: &R,
     pool: &Stack<Buffer>,
@@ -89,7 +90,8 @@ fn use_at_once<R: Threads + Wait + Sync>(
     )
 }
 
-/// Lends so many buffers to so many threads, so many times to each, and takes them all back at once.
+/// Lends so many buffers to so many threads, so many times to each, and takes them all back at
+/// once.
 pub fn lend<R: Threads + Wait + Sync>(
     rt: &R,
     alloc: Global,

@@ -1,6 +1,6 @@
-//! The program `lockfree`: it replays a script of calls on a container, or relays the lines of files
-//! through one, as the words of its command line ask. What it does stands in the crate `program`;
-//! here are the words, files and streams of a process.
+//! The program `lockfree`: it replays a script of calls on a container, or relays the lines of
+//! files through one, as the words of its command line ask. What it does stands in the crate
+//! `program`; here are the words, files and streams of a process.
 #![tactic(auto)]
 
 use program::{OpenFiles, run};

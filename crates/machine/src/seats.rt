@@ -1,6 +1,6 @@
 //! What the seats of a container's table know: who answers for which pass's events, and how that is
-//! handed on when passes are split off, meet and are joined. It knows neither words nor steps, so it
-//! serves every container. No value of these types is made at run time: they stand in views.
+//! handed on when passes are split off, meet and are joined. It knows neither words nor steps, so
+//! it serves every container. No value of these types is made at run time: they stand in views.
 
 use bounded_model::{Event, PassView, RootView};
 use std::collections::LinkedList;

@@ -14,8 +14,8 @@ use script::{RangeReply, Script, Value, ValueList, Values};
 use std::alloc::{AllocError, Global};
 use std::sync::Wait;
 
-/// A queue has no ranges and no folds, and no line of its script asks for one: the values come back,
-/// and nothing is taken.
+/// A queue has no ranges and no folds, and no line of its script asks for one: the values come
+/// back, and nothing is taken.
 impl<'a> Ranges<'a> for Queue<Value<'a>> {
     fn range<R: Wait>(
         &self,

@@ -26,7 +26,8 @@ pub trait Ranges<'a>: Stepwise<Value<'a>> {
             → IfOk result (λ done. RangeTold (Self.shape self.now)
             (Self.pass by) (Self.pass done.0) values.entry done.1 done.2) };
 
-    /// Takes all values by one exchange, and answers them from the top down, or the other way round.
+    /// Takes all values by one exchange, and answers them from the top down, or the other way
+    /// round.
     fn fold<R: Wait>(
         &self,
         rt: &R,

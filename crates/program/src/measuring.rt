@@ -22,7 +22,8 @@ use std::thread::Threads;
 use std::time::{Clock, Instant};
 
 /// Relays as [`relay_main`](crate::relay_main) does, and then tells of the relay on `errors`: its
-/// time and messages a second, how many messages each consumer took, and the refusals that were met.
+/// time and messages a second, how many messages each consumer took, and the refusals that were
+/// met.
 ///
 /// The faults are those of `relay_main`; after a fault nothing is told. What is told is made before
 /// the outcome is written, so that `Relay(NoMemory)` also comes where there is no memory for it. It

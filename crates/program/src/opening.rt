@@ -39,8 +39,8 @@ pub fn open_source<F: OpenFiles, I: Read + Drop>(
     }
 }
 
-/// Opens the sources of these names, in order. `FileUnopened` tells the first that cannot be opened,
-/// or that names the standard input again, by its number from 1.
+/// Opens the sources of these names, in order. `FileUnopened` tells the first that cannot be
+/// opened, or that names the standard input again, by its number from 1.
 pub fn open_sources<F: OpenFiles, I: Read + Drop>(
     alloc: Global,
     files: &F,

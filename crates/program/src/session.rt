@@ -17,9 +17,9 @@ use std::sync::Wait;
 use std::thread::Threads;
 use std::time::Clock;
 
-/// Does what the words of the command line ask for, the program's name first, and answers the status
-/// that the program ends with. `words` is `None` where they could not be read: one is no text, or
-/// there was no memory. A script without a name, and the name `-`, come from `input`.
+/// Does what the words of the command line ask for, the program's name first, and answers the
+/// status that the program ends with. `words` is `None` where they could not be read: one is no
+/// text, or there was no memory. A script without a name, and the name `-`, come from `input`.
 ///
 /// The output is flushed before the status is known. A failure is told in one line on `errors`, by
 /// one write where there is memory for it. Where it is asked for, a relay is told of on `errors`.

@@ -55,7 +55,8 @@ impl Stats {
         })
     }
 
-    /// A line of the time and the messages a second, one for each consumer, and one of the refusals.
+    /// A line of the time and the messages a second, one for each consumer, and one of the
+    /// refusals.
     pub fn text(&self, alloc: Global) -> Result<String, AllocError>
         ensures { IfOk result (λ text. string_bytes text ≡ stats_text self.now) }
     {

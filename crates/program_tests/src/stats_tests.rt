@@ -48,7 +48,8 @@ fn outcome(alloc: Global) -> Result<Relayed, AllocError> {
     })
 }
 
-// Of 20 puts 5 were made, and one was refused for good; of 30 takes 3, and the last of each consumer.
+// Of 20 puts 5 were made, and one was refused for good; of 30 takes 3, and the last of each
+// consumer.
 #[test]
 fn stats_of_an_outcome(rt: HostRuntime) -> Result<(), Fail> {
     let relayed = outcome(rt.alloc())?;

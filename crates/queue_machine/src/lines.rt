@@ -1,6 +1,6 @@
 //! What a pass of the queue is at between two of its atomic steps: the queue of Michael and Scott
-//! (PODC 1996) over an array of nodes, with tagged words, a free list of nodes, a free list of value
-//! cells, closing and shutting. No value of these types is made at run time: they stand in
+//! (PODC 1996) over an array of nodes, with tagged words, a free list of nodes, a free list of
+//! value cells, closing and shutting. No value of these types is made at run time: they stand in
 //! definitions, proofs and views.
 
 use bounded_model::{Event, PutRefused, TakeRefused};

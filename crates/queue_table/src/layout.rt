@@ -1,6 +1,6 @@
-//! Where the words of a queue lie. The tops of the two free lists, the head and the tail are 16 words
-//! apart, so that each has cache lines of its own; then four words follow for each index: the link of
-//! the free cell, that of the free node, and the node's link in the chain and its cell.
+//! Where the words of a queue lie. The tops of the two free lists, the head and the tail are 16
+//! words apart, so that each has cache lines of its own; then four words follow for each index: the
+//! link of the free cell, that of the free node, and the node's link in the chain and its cell.
 ghost use Rattle.std.specs.Prelude.{◌≡◌, ◌+◌, ◌*◌, ◌<◌, ◌≤◌};
 ghost use Rattle.tagged_index.specs.declared.word.TheConstants.{NULL};
 ghost use Rattle.machine.specs.Words.{start_link};
@@ -81,8 +81,8 @@ fn after(index: usize, count: usize) -> u64
     }
 }
 
-/// A word of a new queue. All cells are free, and all nodes but node 0, which is the dummy; each free
-/// one is linked to the next.
+/// A word of a new queue. All cells are free, and all nodes but node 0, which is the dummy; each
+/// free one is linked to the next.
 pub fn start(capacity: u32, at: usize) -> u64
     requires { (capacity ≤ NULL) × (at < words_for capacity) }
     ensures { result ≡ start_at capacity at }

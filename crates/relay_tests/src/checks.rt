@@ -5,7 +5,8 @@ use audit::{check_queue, check_stack};
 use relay::{Relayed, Taken};
 use std::alloc::{AllocError, Global};
 
-// Two messages of sender 0 were delivered, by takes of these numbers, and one of this sender is left.
+// Two messages of sender 0 were delivered, by takes of these numbers, and one of this sender is
+// left.
 fn outcome_of(alloc: Global, takes: [(u64, u32); 2], left: u32) -> Result<Relayed, AllocError> {
     let mut relayed = outcome(alloc, b"", 0, 0)?;
     for (number, seq) in takes {

@@ -21,7 +21,8 @@ fn is_too_small<R: Abort + AllocGlobal + Threads + Wait + Sync>(rt: &R, kind: Ki
         shut_after: Some(3),
         ..plan(2)
     };
-    // One message more than the takers and a full container have a place for, and then just as many.
+    // One message more than the takers and a full container have a place for, and then just as
+    // many.
     for (plan, length, wanted) in [
         (takes_three, 6, true),
         (takes_three, 5, false),
@@ -70,7 +71,8 @@ fn a_relay_of_too_many_workers_gets_no_pass(rt: HostRuntime) -> Result<(), Fail>
 }
 
 // Holds whichever allocation is refused: `rt try --test --fail-alloc N` for each N that this test
-// reaches. A thread that finds no memory could not be started, and a pass that finds none is no pass.
+// reaches. A thread that finds no memory could not be started, and a pass that finds none is no
+// pass.
 fn may_lack_memory<R: Abort + AllocGlobal + Threads + Wait + Sync>(rt: &R, kind: Kind) {
     match relay_over(rt, kind, (2, MOST), &[3, 2], plan(2), &FreeGate) {
         Ok(relayed) => {

@@ -1,5 +1,5 @@
-//! Gates: each worker enters under its own number, before each of its tries, and workers that a gate
-//! holds really run at once.
+//! Gates: each worker enters under its own number, before each of its tries, and workers that a
+//! gate holds really run at once.
 
 use crate::kinds::{KINDS, Kind, MOST, plan, relay_over};
 use crate::tallies::{counts, seqs_of, taken_by};
@@ -182,7 +182,8 @@ fn holds_a_worker<R: Abort + AllocGlobal + Threads + Wait + Sync>(
         take: Some(1),
         ..plan(1)
     };
-    // Two messages fill the container, and the third finds it full: only then the consumer tries, once.
+    // Two messages fill the container, and the third finds it full: only then the consumer tries,
+    // once.
     let consumer = Hold {
         who: 1,
         call: 0,
@@ -227,8 +228,8 @@ fn runs_at_once<R: Abort + AllocGlobal + Threads + Wait + Sync>(
     rt: &R,
     kind: Kind,
 ) -> Result<(), Fail> {
-    // The producer's first put waits for the consumer's second take, and that take for the producer's
-    // second put: the first take finds nothing.
+    // The producer's first put waits for the consumer's second take, and that take for the
+    // producer's second put: the first take finds nothing.
     let put = Hold {
         who: 0,
         call: 0,

@@ -1,5 +1,5 @@
-//! Tests of relays over each container, and of the files that they read and the texts that tell what
-//! they did: worked examples, workers that really run at once, readers and writers that fail.
+//! Tests of relays over each container, and of the files that they read and the texts that tell
+//! what they did: worked examples, workers that really run at once, readers and writers that fail.
 #![tactic(auto)]
 
 #[cfg(test)]

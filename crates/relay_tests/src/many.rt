@@ -40,7 +40,8 @@ fn more_senders_and_consumers_than_cores_deliver_all(rt: HostRuntime) -> Result<
     Ok(())
 }
 
-// Whether this is the message of its numbers, as it was made: so many bytes, each of them its letter.
+// Whether this is the message of its numbers, as it was made: so many bytes, each of them its
+// letter.
 fn is_as_made(message: &Message, bytes: usize) -> bool {
     let made = letter(message.sender, message.seq);
     message.text.len() == bytes && message.text.iter().all(|byte| *byte == made)

@@ -6,8 +6,8 @@ use std::alloc::AllocError;
 use std::io;
 use std::io::{Error, ErrorKind, Read};
 
-/// Gives `a`, a line feed and `b` at its first read, `c` and a line feed at its second, as many reads
-/// as are left; is interrupted before each read; then fails, or is at its end.
+/// Gives `a`, a line feed and `b` at its first read, `c` and a line feed at its second, as many
+/// reads as are left; is interrupted before each read; then fails, or is at its end.
 #[derive(Drop)]
 struct Faulty {
     left: u8,

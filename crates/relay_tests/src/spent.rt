@@ -44,8 +44,8 @@ fn a_spent_container_keeps_what_it_has(rt: HostRuntime) -> Result<(), Fail> {
     Ok(())
 }
 
-// The tags allow two puts and a take. Two messages fill the stack, and one of them is taken: then the
-// other consumer, and the producer, find the tags spent.
+// The tags allow two puts and a take. Two messages fill the stack, and one of them is taken: then
+// the other consumer, and the producer, find the tags spent.
 #[test]
 fn consumers_meet_a_spent_stack(rt: HostRuntime) -> Result<(), Fail> {
     // Each consumer's first try waits for the producer's fourth.

@@ -38,8 +38,8 @@ pub trait Whole<C, P, A>: Sized {
     fn has_lost(&self) -> bool;
 }
 
-/// Runs an operation until it answers. `room` is for how many values the container has room; it bears
-/// on how long lost exchanges are waited out, and on nothing else.
+/// Runs an operation until it answers. `room` is for how many values the container has room; it
+/// bears on how long lost exchanges are waited out, and on nothing else.
 #[inline(always)]
 pub fn whole_call<R: Wait, C, P, A, O: Whole<C, P, A>>(
     rt: &R,

@@ -1,6 +1,6 @@
-//! Where the words of a stack lie. The tops of the free list and of the stack are 16 words apart, so
-//! that each has cache lines of its own; one link for each node follows, and serves whichever list
-//! the node is on.
+//! Where the words of a stack lie. The tops of the free list and of the stack are 16 words apart,
+//! so that each has cache lines of its own; one link for each node follows, and serves whichever
+//! list the node is on.
 ghost use Rattle.std.specs.Prelude.{◌≡◌, ◌<◌, ◌≤◌};
 ghost use Rattle.tagged_index.specs.declared.word.TheConstants.{NULL};
 ghost use Rattle.stack_table.specs.Layout.{link_at, words_for, start_at};

@@ -19,8 +19,8 @@ pub enum Operation<T> {
     Fold(Front),
 }
 
-/// Which values stand in some places. It has none of them, and is for proofs alone: a put that is to
-/// say what it puts would have to own the values.
+/// Which values stand in some places. It has none of them, and is for proofs alone: a put that is
+/// to say what it puts would have to own the values.
 #[derive(Drop)]
 pub enum Listed<T> {
     End,

@@ -15,18 +15,18 @@ ghost use Rattle.step_core.specs.queue.Law.{Lawful, AllDone, lines_of, values_le
 ghost use Rattle.step_core.specs.queue.Bound.{MeetsRule};
 
 /// In every schedule of puts, takes, closes, shuts and looks at a queue of `n` value cells, whose
-/// nodes are used again: the history is legal for a bounded queue, the words and cells stand for it,
-/// each cell and each node is in one place, a put that has a cell finds a node, and each refusal is
-/// justified by a history that its pass has seen between its begin and its end.
+/// nodes are used again: the history is legal for a bounded queue, the words and cells stand for
+/// it, each cell and each node is in one place, a put that has a cell finds a node, and each
+/// refusal is justified by a history that its pass has seen between its begin and its end.
 pub fn queue_core<T>()
     ensures { (n limit passes : ℕ) (schedule : Schedule (Call T)) → 0 < n → n < NULL → 0 < limit →
         Lawful T n limit (after (queue (shape n limit)) passes schedule) }
 {}
 
-/// No cell and no node of a queue is used again while a pass holds it. Wherever the rule holds, and so
-/// in every schedule, each of them is in one place, and once: free, in the chain, or in the hand of one
-/// pass. And whatever cell or node a step brings into its pass's hand, no pass had it: a put's was free
-/// and not in the chain, a take's was in the chain, and no other step brings any.
+/// No cell and no node of a queue is used again while a pass holds it. Wherever the rule holds, and
+/// so in every schedule, each of them is in one place, and once: free, in the chain, or in the hand
+/// of one pass. And whatever cell or node a step brings into its pass's hand, no pass had it: a
+/// put's was free and not in the chain, a take's was in the chain, and no other step brings any.
 pub fn queue_nodes<T>()
     ensures wherever_the_rule_holds { (n limit : ℕ) (s : State T) →
         MeetsRule n limit s → NothingTwice n s.memory (lines_of s) }
@@ -39,18 +39,18 @@ pub fn queue_nodes<T>()
         NothingTwice n s.memory (lines_of s) }
 {}
 
-/// In every schedule of a queue, each pass answers the call that it began, and the events that it adds
-/// from the begin to the answer are exactly those that the answer speaks of: a put takes one cell and
-/// puts the call's value, a take takes one value and gives its cell back, a refused put hands back the
-/// call's value, and a refusal leaves nothing in hand.
+/// In every schedule of a queue, each pass answers the call that it began, and the events that it
+/// adds from the begin to the answer are exactly those that the answer speaks of: a put takes one
+/// cell and puts the call's value, a take takes one value and gives its cell back, a refused put
+/// hands back the call's value, and a refusal leaves nothing in hand.
 pub fn queue_answers<T>()
     ensures { (n limit passes : ℕ) (schedule : Schedule (Call T)) → 0 < n → n < NULL → 0 < limit →
         AllDone (after (queue (shape n limit)) passes schedule) }
 {}
 
-/// While no other pass wins an exchange, a queue's put, take, close, shut or look has ended after at
-/// most 32 of its own steps: from every state that meets the rule, wherever the call is in it; and so
-/// from every state that a schedule leads to.
+/// While no other pass wins an exchange, a queue's put, take, close, shut or look has ended after
+/// at most 32 of its own steps: from every state that meets the rule, wherever the call is in it;
+/// and so from every state that a schedule leads to.
 pub fn queue_bound<T>()
     ensures wherever_the_rule_holds { (n limit p : ℕ) (s : State T) (stretch : Schedule (Call T)) →
         MeetsRule n limit s → IsStretch (queue (shape n limit)) p stretch s →
@@ -61,8 +61,9 @@ pub fn queue_bound<T>()
 {}
 
 /// In every schedule of a queue, what was put is, in the order of the puts, what was taken and then
-/// what stands in the cells along the chain. Puts and takes are numbered 0, 1, 2, .. each: so the take
-/// numbered k gives the value of the put numbered k, and what is left are the untaken puts in order.
+/// what stands in the cells along the chain. Puts and takes are numbered 0, 1, 2, .. each: so the
+/// take numbered k gives the value of the put numbered k, and what is left are the untaken puts in
+/// order.
 pub fn queue_order<T>()
     ensures values { (n limit passes : ℕ) (schedule : Schedule (Call T)) → 0 < n → n < NULL
         → 0 < limit →

@@ -14,19 +14,19 @@ ghost use Rattle.stack_machine.specs.Places.{NoNodeTwice, WinsUnheld};
 ghost use Rattle.step_core.specs.stack.Bound.{IsSingle};
 ghost use Rattle.step_core.specs.stack.Law.{Lawful, AllDone, MeetsRule, lines_of};
 
-/// In every schedule of puts of one or more values, takes, folds, closes, shuts and looks at a stack
-/// of `n` nodes: the history is legal for a bounded stack, the words and slots stand for it, each
-/// node is in one place, and each refusal is justified by a history that its pass has seen between
-/// its begin and its end.
+/// In every schedule of puts of one or more values, takes, folds, closes, shuts and looks at a
+/// stack of `n` nodes: the history is legal for a bounded stack, the words and slots stand for it,
+/// each node is in one place, and each refusal is justified by a history that its pass has seen
+/// between its begin and its end.
 pub fn stack_core<T>()
     ensures { (n limit passes : ℕ) (schedule : Schedule (Call T)) → 0 < n → n ≤ NULL →
         Lawful T n limit (after (stack (shape n limit)) passes schedule) }
 {}
 
 /// No node of a stack is used again while a pass holds it. Wherever the rule holds, and so in every
-/// schedule, each node is in one place, and once: free, on the stack, or in the hand of one pass. And
-/// whatever node a step brings into its pass's hand, no pass had it: a put's was free and not on the
-/// stack, a take's or a fold's was on the stack, and no other step brings any.
+/// schedule, each node is in one place, and once: free, on the stack, or in the hand of one pass.
+/// And whatever node a step brings into its pass's hand, no pass had it: a put's was free and not
+/// on the stack, a take's or a fold's was on the stack, and no other step brings any.
 pub fn stack_nodes<T>()
     ensures wherever_the_rule_holds { (n limit : ℕ) (s : State T) →
         MeetsRule n limit s → NoNodeTwice n s.memory (lines_of s) }
@@ -39,13 +39,13 @@ pub fn stack_nodes<T>()
         NoNodeTwice n s.memory (lines_of s) }
 {}
 
-/// In every schedule of a stack, each pass answers the call that it began, and the events that it adds
-/// from the begin to the answer are exactly those that the answer speaks of: a put takes one node for
-/// each value that it puts, by one exchange, and what it puts and leaves over are the call's values in
-/// order; a take takes one value and gives its node back; a fold takes all values by one exchange,
-/// folds them in the call's direction, and gives all nodes back by one. A refused put hands back the
-/// call's values, and a refusal leaves nothing in hand. A range leaves values out only where no node
-/// could be had.
+/// In every schedule of a stack, each pass answers the call that it began, and the events that it
+/// adds from the begin to the answer are exactly those that the answer speaks of: a put takes one
+/// node for each value that it puts, by one exchange, and what it puts and leaves over are the
+/// call's values in order; a take takes one value and gives its node back; a fold takes all values
+/// by one exchange, folds them in the call's direction, and gives all nodes back by one. A refused
+/// put hands back the call's values, and a refusal leaves nothing in hand. A range leaves values
+/// out only where no node could be had.
 pub fn stack_answers<T>()
     ensures { (n limit passes : ℕ) (schedule : Schedule (Call T)) → 0 < n → n ≤ NULL →
         AllDone (shape n limit) (after (stack (shape n limit)) passes schedule) }

@@ -18,8 +18,8 @@ pub const MIN_TAG_LIMIT: u64 = 2;
 // Clauses say the names; this says the numbers.
 const _: () = prove!(MIN_CAPACITY == 1 && MAX_CAPACITY == 1_048_573 && MIN_TAG_LIMIT == 2);
 
-/// How large a container is and how far its tags may rise: a capacity from `MIN_CAPACITY` to `MAX_CAPACITY`, and a tag limit from `MIN_TAG_LIMIT` to
-/// `MAX_TAG`.
+/// How large a container is and how far its tags may rise: a capacity from `MIN_CAPACITY` to
+/// `MAX_CAPACITY`, and a tag limit from `MIN_TAG_LIMIT` to `MAX_TAG`.
 #[derive(Clone, Copy, PartialEq, Eq, Debug)]
 pub struct Limits {
     capacity: u32,
