@@ -8,7 +8,7 @@ use std::sync::Wait;
 use std::thread;
 
 // Tries until the item is in; `false` where none can be put any more.
-#[inline]
+#[inline(always)]
 fn put_one<C: Pool, R: Wait>(rt: &R, container: &C, by: C::Pass, item: u64) -> (C::Pass, bool)
     requires { C.is_pass container.now by }
     ensures { C.is_pass container.now result.0 }

@@ -303,7 +303,7 @@ impl<T> Queue<T> {
 impl<T> PutOp<T> {
     /// One atomic step. The answer is the put's number, or a refusal, which hands the value back:
     /// `Spent` where the tag of `CELLS` or of a node's `next` is at its limit, `Closed`, or `Full`.
-    #[inline(always)]
+    #[inline]
     pub fn step(self, queue: &Queue<T>) -> Stepped<PutOp<T>, Pass<T>, Result<u64, PutRefused<T>>>
         requires { (x : T) × IsPutting queue.now x self }
         ensures { (x : T) → IsPutting queue.now x self

@@ -253,7 +253,7 @@ impl<T> Stack<T> {
     }
 
     // Puts the value into this node, which goes onto the top.
-    #[inline]
+    #[inline(always)]
     fn put_in_node<R: Wait>(
         &self,
         rt: &R,
