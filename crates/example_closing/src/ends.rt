@@ -49,7 +49,8 @@ pub fn put_until_closed<C: Container<u64>, R: Wait>(
 ) -> Moved<C::Pass>
     requires { C.is_pass container.now by }
     ensures of { C.is_pass container.now result.pass }
-    ensures puts { did put_of (C.pass result.pass) ≡ did put_of (C.pass by) ++ range_with_len 0 result.count }
+    ensures puts { did put_of (C.pass result.pass)
+        ≡ did put_of (C.pass by) ++ range_with_len 0 result.count }
 {
     let mut pass = by;
     let mut count: u64 = 0;

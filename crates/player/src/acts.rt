@@ -50,7 +50,8 @@ fn act_resting<'a, C: Played<'a>, R: Wait>(
     requires alone { (other : PassName) → ¬ (act ≡ Meet other) }
     requires fits { IsFor (C.reading container.now).shape.order act }
     ensures { IfOk result (λ done. (after : Named) × Shows (C.reading container.now) done.0 after
-        × RestingTold (C.reading container.now).shape ((C.reading container.now).pass pass) act.entry done.1 after) }
+        × RestingTold (C.reading container.now).shape ((C.reading container.now).pass pass)
+        act.entry done.1 after) }
 {
     match act {
         Act::Call(command) => {

@@ -83,7 +83,8 @@ pub trait Played<'a>: Drop {
         ensures of { IfOk result (λ done. (reading self.now).is_pass done.0) }
         ensures gives { (reading self.now).shape.order ≡ Lifo
             → IfOk result (λ done. RangeTold (reading self.now).shape
-            ((reading self.now).pass by) ((reading self.now).pass done.0) values.entry done.1 done.2) };
+            ((reading self.now).pass by) ((reading self.now).pass done.0)
+            values.entry done.1 done.2) };
 
     /// Takes all values by one exchange, where it is a stack, and answers them from the top down,
     /// or the other way round.

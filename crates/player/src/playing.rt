@@ -35,7 +35,8 @@ pub fn play<'a, C: Played<'a>, R: Wait>(
         (λ line. IsTrue (is_allowed (C.reading container).shape.order line)) lines.items }
     requires finish_last { FinishesLast lines.items }
     ensures { IfOk result (λ output. (answers : List Answer)
-        × Plays (C.reading container).shape (start ((C.reading container).root root)) lines.entry.items answers
+        × Plays (C.reading container).shape (start ((C.reading container).root root))
+        lines.entry.items answers
         × (string_bytes output ≡ text_of (map answer_text answers))) }
 {
     let mut lines = lines;
@@ -72,7 +73,8 @@ fn play_line<'a, C: Played<'a>, R: Wait>(
     requires fits { IsFor (C.reading container.now).shape.order what }
     ensures { (world : World) → IsOn (C.reading container.now) stage.old world
         → OnOk result ((next : World) × IsOn (C.reading container.now) stage.new next
-        × Replied (C.reading container.now).shape world name.0 what.entry (string_bytes output.old) (string_bytes output.new) next) }
+        × Replied (C.reading container.now).shape world name.0 what.entry
+        (string_bytes output.old) (string_bytes output.new) next) }
 {
     let answer = act(container, rt, alloc, stage, name, what)?;
     answer.write_line(output)
@@ -88,7 +90,8 @@ fn play_end<'a, C: Played<'a>>(
     requires { (world : World) × IsOn (C.reading container) stage world }
     ensures { (world : World) → IsOn (C.reading container) stage world
         → OnOk result ((values : List (List ℕ)) × Ends (C.reading container).shape world values
-        × (string_bytes output.new ≡ string_bytes output.old ++ (answer_text (LeftOver values) ++ codes "\n"))) }
+        × (string_bytes output.new
+        ≡ string_bytes output.old ++ (answer_text (LeftOver values) ++ codes "\n"))) }
 {
     let answer = Answer::Rest(finish(alloc, container, stage)?);
     answer.write_line(output)

@@ -198,7 +198,8 @@ fn join_all<'a, C: Played<'a>>(
         × ShowsAll (C.reading container.now) places.of.items names }
     ensures root { (C.reading container.now).is_root root.new }
     ensures joined { (names : List Named) → ShowsAll (C.reading container.now) places.of.items names
-        → JoinsAll ((C.reading container.now).root root.old) names ((C.reading container.now).root root.new) }
+        → JoinsAll ((C.reading container.now).root root.old) names
+        ((C.reading container.now).root root.new) }
 {
     let Places { of } = places;
     for place in of {
@@ -215,7 +216,8 @@ fn join_one<'a, C: Played<'a>>(
     requires place { (name : Named) × Shows (C.reading container.now) place name }
     ensures root { (C.reading container.now).is_root root.new }
     ensures joined { (name : Named) → Shows (C.reading container.now) place name
-        → JoinsOne ((C.reading container.now).root root.old) name ((C.reading container.now).root root.new) }
+        → JoinsOne ((C.reading container.now).root root.old) name
+        ((C.reading container.now).root root.new) }
 {
     match place {
         Place::Nobody => {}

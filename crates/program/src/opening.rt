@@ -48,7 +48,8 @@ pub fn open_sources<F: OpenFiles, I: Read + Drop>(
     input: Option<I>,
 ) -> Result<Vec<Source<F::File, I>>, Failure>
     ensures open { IfOk result (λ opened. length opened.items ≡ length names.now) }
-    ensures sources { IfOk result (λ opened. AreSourcesOf (map string_bytes names.now) opened.items) }
+    ensures sources { IfOk result (λ opened.
+        AreSourcesOf (map string_bytes names.now) opened.items) }
     ensures fault { IfErr result (λ failure. failure ≢ Output) }
 {
     let mut input = input;

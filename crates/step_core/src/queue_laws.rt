@@ -68,11 +68,14 @@ pub fn queue_order<T>()
     ensures values { (n limit passes : ℕ) (schedule : Schedule (Call T)) → 0 < n → n < NULL
         → 0 < limit →
         let s = after (queue (shape n limit)) passes schedule in
-        values_of (gather sent_of s.history) ≡ values_of (gather took_of s.history) ++ values_left n s.memory }
+        values_of (gather sent_of s.history)
+        ≡ values_of (gather took_of s.history) ++ values_left n s.memory }
     ensures puts { (n limit passes : ℕ) (schedule : Schedule (Call T)) → 0 < n → n < NULL
         → 0 < limit →
-        Counts (λ m. m.number) 0 (gather sent_of (after (queue (shape n limit)) passes schedule).history) }
+        Counts (λ m. m.number) 0
+        (gather sent_of (after (queue (shape n limit)) passes schedule).history) }
     ensures takes { (n limit passes : ℕ) (schedule : Schedule (Call T)) → 0 < n → n < NULL
         → 0 < limit →
-        Counts (λ m. m.number) 0 (gather took_of (after (queue (shape n limit)) passes schedule).history) }
+        Counts (λ m. m.number) 0
+        (gather took_of (after (queue (shape n limit)) passes schedule).history) }
 {}

@@ -266,7 +266,8 @@ impl<T> Stack<T> {
         requires at { IsAt self.now operation.now by (LoadTop (bearing value index))
             ((index, None) ∷ []) × (index < room_of self.now) }
         ensures { IsPassOf self.now result.0
-            × PutGives (shape_of self.now) (begun_of self.now by) value (pass_in result.0) result.1 }
+            × PutGives (shape_of self.now) (begun_of self.now by) value
+            (pass_in result.0) result.1 }
     {
         let mut pass = by;
         let table = &self.table.shared;
