@@ -239,6 +239,3 @@ impl<T: Drop> PlainList<T> {
         Ok(replies)
     }
 }
-
-#[cfg(test)]
-mod tests;

@@ -14,8 +14,6 @@ mod lines;
 mod number;
 mod reading;
 mod reply;
-#[cfg(test)]
-mod tests;
 mod value;
 mod value_list;
 

@@ -16,6 +16,3 @@ pub use word::{
     Fields, INDEX_BITS, MARK_SHIFT, MARK_UNIT, MAX_TAG, NULL, SECOND_SHIFT, SECOND_UNIT, TAG_BITS,
     TAG_SHIFT, TAG_UNIT, Tagged,
 };
-
-#[cfg(test)]
-mod tests;

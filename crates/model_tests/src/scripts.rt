@@ -1,4 +1,5 @@
-use crate::{MAX_SCRIPT_LEN, ScriptFault, parse};
+//! Texts that are scripts, and texts that are none.
+use script::{MAX_SCRIPT_LEN, ScriptFault, parse};
 use std::alloc::AllocError;
 use std::process::Abort;
 use std::test::Fail;

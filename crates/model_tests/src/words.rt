@@ -1,4 +1,5 @@
-use crate::{Limits, Tagged};
+//! Worked words and limits.
+use tagged_index::{Limits, Tagged};
 
 /// Worked words: index, mark, second mark and tag, and the word that they make.
 const WORKED_WORDS: [(u32, bool, bool, u64, u64); 6] = [

@@ -1,4 +1,5 @@
-use super::*;
+//! The sequential list, command by command.
+use bounded_model::{Command, Order, PlainList, PutRefused, Reply, TakeRefused};
 use std::test::Fail;
 
 #[test]
