@@ -10,8 +10,7 @@ use Rattle.machine.specs.Schedule.{Act, run, start}
 use Rattle.machine.proofs.Scheduled.{Holds, run_kept}
 use Rattle.machine.proofs.Stories.{Told, Stays, stays_holds, start_stays}
 use Rattle.machine.proofs.Ahead.{Ahead}
-use Rattle.machine.proofs.Sums.{total_map, at_map, total_one, total_two}
-use Rattle.machine.proofs.Tests.{at_most_one}
+use Rattle.machine.proofs.Sums.{total_map, at_map}
 use Rattle.stack_machine.specs.declared.lines.Line.{Line}
 use Rattle.stack_machine.specs.declared.lines.Line.TheVariants.{Idle}
 use Rattle.stack_machine.specs.declared.lines.Call.{Call}
