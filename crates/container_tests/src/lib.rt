@@ -9,27 +9,23 @@ mod crowd;
 #[cfg(test)]
 mod drops;
 #[cfg(test)]
+mod each;
+#[cfg(test)]
 mod fills;
 #[cfg(test)]
 mod log;
 #[cfg(test)]
+mod made;
+#[cfg(test)]
 mod pool;
-#[cfg(test)]
-mod queue;
-#[cfg(test)]
-mod queue_drops;
 #[cfg(test)]
 mod queue_steps;
 #[cfg(test)]
 mod queue_stops;
 #[cfg(test)]
-mod stack;
-#[cfg(test)]
 mod stack_calls;
 #[cfg(test)]
 mod stack_crowd;
-#[cfg(test)]
-mod stack_drops;
 #[cfg(test)]
 mod stack_folds;
 #[cfg(test)]
