@@ -2,25 +2,27 @@
 
 ghost use Rattle.std.specs.Prelude.{IfOk};
 
+use crate::made::{Made, with_room};
 use crate::steps::{put_on, take_on};
 use bounded_model::{Container, Leaving, Stepwise};
+use std::alloc::Global;
 use std::process::Abort;
 use std::sync::{Arc, Wait};
 use std::test::Fail;
 
-/// Numbers that look random and are the same in every run (Knuth's MMIX generator).
+// Numbers that look random and are the same in every run (Knuth's MMIX generator).
 #[derive(Drop)]
-pub(crate) struct Dice {
+struct Dice {
     state: u64,
 }
 
 impl Dice {
-    pub(crate) fn new() -> Dice {
+    fn new() -> Dice {
         Dice { state: 42 }
     }
 
-    /// The next number, below a bound that is not 0.
-    pub(crate) fn below(&mut self, bound: u64) -> u64 {
+    // The next number, below a bound that is not 0.
+    fn below(&mut self, bound: u64) -> u64 {
         self.state = self
             .state
             .wrapping_mul(6_364_136_223_846_793_005)
@@ -49,17 +51,15 @@ fn fill<C: Container<Arc<u8>>, R: Abort + Wait>(
     Ok(pass)
 }
 
-/// Values go in and out, a few stay, and the container is dropped with them: each is dropped once.
-pub(crate) fn each_value_once<C: Container<Arc<u8>>, R: Abort + Wait>(
+// Values go in and out, a few stay, and the container is dropped with them: each is dropped once.
+fn in_and_out<C: Made<Arc<u8>>, R: Abort + Wait>(
     rt: &R,
-    container: C,
-    root: C::Root,
-    value: &Arc<u8>,
+    alloc: Global,
     dice: &mut Dice,
-) -> Result<(), Fail>
-    requires { C.is_root container root }
-{
-    let mut root = root;
+) -> Result<(), Fail> {
+    let value = Arc::new(alloc, 7u8)?;
+    let value = &value;
+    let (container, mut root) = with_room::<Arc<u8>, C>(alloc, 50)?;
     let mut pass = container.split(&mut root).ok_or("no pass")?;
     let room = u64::from(container.capacity());
     let through = dice.below(room);
@@ -82,17 +82,24 @@ pub(crate) fn each_value_once<C: Container<Arc<u8>>, R: Abort + Wait>(
     Ok(())
 }
 
+/// So many values, and so many that stay, as the dice say: a hundred times.
+pub(crate) fn each_value_once<C: Made<Arc<u8>>, R: Abort + Wait>(
+    rt: &R,
+    alloc: Global,
+) -> Result<(), Fail> {
+    let mut dice = Dice::new();
+    for _ in 0..100 {
+        in_and_out::<C, R>(rt, alloc, &mut dice)?;
+    }
+    Ok(())
+}
+
 /// A refused put hands its value back, and a take hands one out: each is dropped where it is. The
 /// container has room for two.
-pub(crate) fn in_use<C: Container<Arc<u8>>, R: Abort + Wait>(
-    rt: &R,
-    container: C,
-    root: C::Root,
-    value: &Arc<u8>,
-) -> Result<(), Fail>
-    requires { C.is_root container root }
-{
-    let mut root = root;
+pub(crate) fn in_use<C: Made<Arc<u8>>, R: Abort + Wait>(rt: &R, alloc: Global) -> Result<(), Fail> {
+    let value = Arc::new(alloc, 7u8)?;
+    let value = &value;
+    let (container, mut root) = with_room::<Arc<u8>, C>(alloc, 2)?;
     let pass = container.split(&mut root).ok_or("no pass")?;
     let pass = fill(rt, &container, pass, value, 2)?;
     let (pass, full) = container.put(rt, pass, Arc::try_clone(value)?);
@@ -110,15 +117,13 @@ pub(crate) fn in_use<C: Container<Arc<u8>>, R: Abort + Wait>(
 }
 
 /// Of three values that are left one is read, and the rest is dropped with the others.
-pub(crate) fn half_read<C: Container<Arc<u8>>, R: Abort + Wait>(
+pub(crate) fn half_read<C: Made<Arc<u8>>, R: Abort + Wait>(
     rt: &R,
-    container: C,
-    root: C::Root,
-    value: &Arc<u8>,
-) -> Result<(), Fail>
-    requires { C.is_root container root }
-{
-    let mut root = root;
+    alloc: Global,
+) -> Result<(), Fail> {
+    let value = Arc::new(alloc, 7u8)?;
+    let value = &value;
+    let (container, mut root) = with_room::<Arc<u8>, C>(alloc, 3)?;
     let pass = container.split(&mut root).ok_or("no pass")?;
     let pass = fill(rt, &container, pass, value, 3)?;
     container.join(&mut root, pass);

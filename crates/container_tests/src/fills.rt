@@ -4,7 +4,8 @@ ghost use Rattle.std.specs.Prelude.{All, IfOk};
 
 use crate::crowd::{exchange, take_after_own_put};
 use crate::log::Log;
-use bounded_model::{Container, Order, PutRefused, TakeRefused};
+use crate::made::{Made, with_room};
+use bounded_model::{Container, Order, PutRefused, TakeRefused, consume_all, consume_one};
 use std::alloc::Global;
 use std::process::Abort;
 use std::sync::Wait;
@@ -39,14 +40,12 @@ fn passes<C: Container<u64>>(
 }
 
 /// One value in and out, twice, through a container with room for one.
-pub(crate) fn one_value_at_a_time<C: Container<u64>, R: Abort + Wait>(
+pub(crate) fn one_value_at_a_time<C: Made<u64>, R: Abort + Wait>(
     rt: &R,
-    container: &C,
-    root: &mut C::Root,
-) -> Result<(), Fail>
-    requires { C.is_root container.now root.old }
-{
-    let pass = container.split(root).ok_or("no pass")?;
+    alloc: Global,
+) -> Result<(), Fail> {
+    let (container, mut root) = with_room::<u64, C>(alloc, 1)?;
+    let pass = container.split(&mut root).ok_or("no pass")?;
     let (pass, put) = container.put(rt, pass, 7);
     assert!(rt; put.is_ok());
     let (pass, full) = container.put(rt, pass, 9);
@@ -97,44 +96,59 @@ fn empty<C: Container<u64>, R: Abort + Wait>(rt: &R, container: &C, by: C::Pass)
 
 /// A container takes exactly as many values as it has room for, and has that room again when they
 /// are out.
-pub(crate) fn room_for_its_capacity<C: Container<u64>, R: Abort + Wait>(
+pub(crate) fn room_for_its_capacity<C: Made<u64>, R: Abort + Wait>(
     rt: &R,
-    container: &C,
-    root: &mut C::Root,
-) -> Result<(), Fail>
-    requires { C.is_root container.now root.old }
-{
-    let pass = container.split(root).ok_or("no pass")?;
-    let pass = fill(rt, container, pass);
-    let pass = empty(rt, container, pass);
-    let pass = fill(rt, container, pass);
-    let _ = empty(rt, container, pass);
+    alloc: Global,
+    capacity: u32,
+) -> Result<(), Fail> {
+    let (container, mut root) = with_room::<u64, C>(alloc, capacity)?;
+    let pass = container.split(&mut root).ok_or("no pass")?;
+    let pass = fill(rt, &container, pass);
+    let pass = empty(rt, &container, pass);
+    let pass = fill(rt, &container, pass);
+    let _ = empty(rt, &container, pass);
     Ok(())
+}
+
+/// Of 1, 2 and 3 one is consumed and then all others: answers twice the first with its number, and
+/// the digits of the others.
+pub(crate) fn consumed<C: Made<u64>, R: Abort + Wait>(
+    rt: &R,
+    alloc: Global,
+) -> Result<((u64, u64), u64), Fail> {
+    let (container, mut root) = with_room::<u64, C>(alloc, 3)?;
+    let pass = container.split(&mut root).ok_or("no pass")?;
+    let (pass, _) = container.put(rt, pass, 1);
+    let (pass, _) = container.put(rt, pass, 2);
+    let (pass, _) = container.put(rt, pass, 3);
+    let (pass, doubled) = consume_one(&container, rt, pass, |value: u64| value.wrapping_mul(2));
+    let digits = |state: u64, value: u64| state.wrapping_mul(10).wrapping_add(value);
+    let (_, folded, why) = consume_all(&container, rt, pass, 0, digits);
+    assert!(rt; why == TakeRefused::Empty);
+    Ok((doubled.ok().ok_or("nothing to take")?, folded))
 }
 
 /// Producers and consumers at once. Each value comes out once, the calls are numbered without a
 /// gap, in the order of their numbers they are those of a container of one thread, and each
 /// producer's values are put in its order.
-pub(crate) fn each_value_once<C: Container<u64> + Sync, R: Abort + Threads + Wait + Sync>(
+pub(crate) fn each_value_once<C: Made<u64> + Sync, R: Abort + Threads + Wait + Sync>(
     rt: &R,
     alloc: Global,
-    container: &C,
-    root: &mut C::Root,
+    capacity: u32,
     crowd: Crowd,
-) -> Result<(), Fail>
-    requires { C.is_root container.now root.old }
-{
+) -> Result<(), Fail> {
+    let (container, mut root) = with_room::<u64, C>(alloc, capacity)?;
     let values = crowd.each.saturating_mul(u64::from(crowd.producers));
     let log = match C::ORDER {
         Order::Fifo => Log::of(alloc, values)?,
         Order::Lifo => Log::of(alloc, values.saturating_mul(2))?,
     };
-    let producers = passes(alloc, container, root, crowd.producers)?;
-    let consumers = passes(alloc, container, root, crowd.consumers)?;
-    let closer = container.split(root).ok_or("no pass")?;
+    let producers = passes(alloc, &container, &mut root, crowd.producers)?;
+    let consumers = passes(alloc, &container, &mut root, crowd.consumers)?;
+    let closer = container.split(&mut root).ok_or("no pass")?;
     assert!(rt;
         exchange(
-            rt, container, producers, consumers, closer, crowd.each, &log
+            rt, &container, producers, consumers, closer, crowd.each, &log
         )
     );
     assert!(rt; log.is_sound());
@@ -147,19 +161,17 @@ pub(crate) fn each_value_once<C: Container<u64> + Sync, R: Abort + Threads + Wai
 }
 
 /// Threads that each put and take in turn: no take is refused.
-pub(crate) fn own_puts_suffice<C: Container<u64> + Sync, R: Abort + Threads + Wait + Sync>(
+pub(crate) fn own_puts_suffice<C: Made<u64> + Sync, R: Abort + Threads + Wait + Sync>(
     rt: &R,
     alloc: Global,
-    container: &C,
-    root: &mut C::Root,
+    capacity: u32,
     threads: u32,
     times: u64,
-) -> Result<(), Fail>
-    requires { C.is_root container.now root.old }
-{
+) -> Result<(), Fail> {
+    let (container, mut root) = with_room::<u64, C>(alloc, capacity)?;
     let log = Log::of(alloc, 0)?;
-    let passes = passes(alloc, container, root, threads)?;
-    assert!(rt; take_after_own_put(rt, container, passes, times, &log));
+    let passes = passes(alloc, &container, &mut root, threads)?;
+    assert!(rt; take_after_own_put(rt, &container, passes, times, &log));
     assert!(rt; log.is_sound());
     Ok(())
 }

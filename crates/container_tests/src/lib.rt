@@ -9,21 +9,21 @@ mod crowd;
 #[cfg(test)]
 mod drops;
 #[cfg(test)]
+mod each;
+#[cfg(test)]
 mod fills;
 #[cfg(test)]
 mod log;
 #[cfg(test)]
-mod pool;
+mod made;
 #[cfg(test)]
-mod queue;
+mod pool;
 #[cfg(test)]
 mod queue_drops;
 #[cfg(test)]
 mod queue_steps;
 #[cfg(test)]
 mod queue_stops;
-#[cfg(test)]
-mod stack;
 #[cfg(test)]
 mod stack_calls;
 #[cfg(test)]

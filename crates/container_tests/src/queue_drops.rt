@@ -1,8 +1,7 @@
 //! Each value of a queue is dropped once, wherever the pass stops that has it.
 
-use crate::drops::{half_read, in_use};
 use crate::queue_steps::{go_on_putting, go_on_taking};
-use bounded_model::{Container, TakeRefused, consume_all, consume_one};
+use bounded_model::Container;
 use ms_queue::Queue;
 use std::sync::Arc;
 use std::test::Fail;
@@ -65,37 +64,5 @@ fn a_late_put_dropped_at_any_line_drops_its_value_once(rt: HostRuntime) -> Resul
         drop(queue.finish(root));
         assert_eq!(rt; Arc::strong_count(&value), 1);
     }
-    Ok(())
-}
-
-#[test]
-fn values_in_use_are_dropped_once(rt: HostRuntime) -> Result<(), Fail> {
-    let value = Arc::new(rt.alloc(), 7u8)?;
-    let limits = Limits::of(2, MAX_TAG).ok_or("limits")?;
-    let (queue, root) = Queue::<Arc<u8>>::new(rt.alloc(), limits)?;
-    in_use(&rt, queue, root, &value)
-}
-
-#[test]
-fn what_is_left_is_dropped_half_read(rt: HostRuntime) -> Result<(), Fail> {
-    let value = Arc::new(rt.alloc(), 7u8)?;
-    let limits = Limits::of(3, MAX_TAG).ok_or("limits")?;
-    let (queue, root) = Queue::<Arc<u8>>::new(rt.alloc(), limits)?;
-    half_read(&rt, queue, root, &value)
-}
-
-#[test]
-fn values_are_consumed_from_the_front(rt: HostRuntime) -> Result<(), Fail> {
-    let limits = Limits::of(3, MAX_TAG).ok_or("limits")?;
-    let (queue, mut root) = Queue::<u64>::new(rt.alloc(), limits)?;
-    let pass = queue.split(&mut root).ok_or("no pass")?;
-    let (pass, _) = queue.put(&rt, pass, 1);
-    let (pass, _) = queue.put(&rt, pass, 2);
-    let (pass, _) = queue.put(&rt, pass, 3);
-    let (pass, doubled) = consume_one(&queue, &rt, pass, |value: u64| value.wrapping_mul(2));
-    assert!(rt; doubled == Ok((2, 0)));
-    let digits = |state: u64, value: u64| state.wrapping_mul(10).wrapping_add(value);
-    let (_, folded, why) = consume_all(&queue, &rt, pass, 0, digits);
-    assert!(rt; (folded, why) == (23, TakeRefused::Empty));
     Ok(())
 }

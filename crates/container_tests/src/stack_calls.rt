@@ -1,6 +1,4 @@
-use bounded_model::{
-    Container, Leaving, PutRefused, Stepped, TakeRefused, Word, consume_all, consume_one,
-};
+use bounded_model::{Container, Leaving, PutRefused, Stepped, TakeRefused, Word};
 use std::test::Fail;
 use tagged_index::Limits;
 use treiber_stack::Stack;
@@ -258,22 +256,6 @@ fn tags_are_spent_at_their_limit(rt: HostRuntime) -> Result<(), Fail> {
     assert!(rt; top == Err(PutRefused::Spent(2, Word::Top, 2)));
     let (_, free) = stack.put(&rt, pass, 3);
     assert!(rt; free == Err(PutRefused::Spent(3, Word::Free, 2)));
-    Ok(())
-}
-
-#[test]
-fn values_are_consumed_from_the_top(rt: HostRuntime) -> Result<(), Fail> {
-    let limits = Limits::of(3, 100).ok_or("limits")?;
-    let (stack, mut root) = Stack::<u32>::new(rt.alloc(), limits)?;
-    let pass = stack.split(&mut root).ok_or("no pass")?;
-    let (pass, _) = stack.put(&rt, pass, 1);
-    let (pass, _) = stack.put(&rt, pass, 2);
-    let (pass, _) = stack.put(&rt, pass, 3);
-    let (pass, doubled) = consume_one(&stack, &rt, pass, |value: u32| value.wrapping_mul(2));
-    assert!(rt; doubled == Ok((6, 3)));
-    let digits = |state: u32, value: u32| state.wrapping_mul(10).wrapping_add(value);
-    let (_, folded, why) = consume_all(&stack, &rt, pass, 0, digits);
-    assert!(rt; (folded, why) == (21, TakeRefused::Empty));
     Ok(())
 }
 

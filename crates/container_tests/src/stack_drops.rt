@@ -1,26 +1,10 @@
 //! Each value of a stack is dropped once, wherever the pass stops that has it.
 
-use crate::drops::{dropped_late_put, dropped_put, dropped_take, half_read, in_use};
+use crate::drops::{dropped_late_put, dropped_put, dropped_take};
 use std::sync::Arc;
 use std::test::Fail;
 use tagged_index::{Limits, MAX_TAG};
 use treiber_stack::Stack;
-
-#[test]
-fn values_in_use_are_dropped_once(rt: HostRuntime) -> Result<(), Fail> {
-    let value = Arc::new(rt.alloc(), 7u8)?;
-    let limits = Limits::of(2, MAX_TAG).ok_or("limits")?;
-    let (stack, root) = Stack::<Arc<u8>>::new(rt.alloc(), limits)?;
-    in_use(&rt, stack, root, &value)
-}
-
-#[test]
-fn what_is_left_is_dropped_half_read(rt: HostRuntime) -> Result<(), Fail> {
-    let value = Arc::new(rt.alloc(), 7u8)?;
-    let limits = Limits::of(3, MAX_TAG).ok_or("limits")?;
-    let (stack, root) = Stack::<Arc<u8>>::new(rt.alloc(), limits)?;
-    half_read(&rt, stack, root, &value)
-}
 
 // From its third step on a put has its value in a node, where it stays.
 #[test]

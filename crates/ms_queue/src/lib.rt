@@ -3,14 +3,14 @@
 //! shutting. No call takes memory but `Queue::new`.
 //!
 //! Promised: between any two atomic steps the words, the slots and what the passes know meet the
-//! rule of `queue_machine`. Each step of an operation is one line of that machine, from a memory and
-//! a history that meet the rule; the events that it adds and its answer are that line's. So what a
-//! pass has seen is always a legal history of one sequential queue, which only grows, and a refusal
-//! was right at some time between the pass's last step before the call and the answer.
+//! rule of `queue_machine`. Each step of an operation is one line of that machine, from a memory
+//! and a history that meet the rule; the events that it adds and its answer are that line's. So
+//! what a pass has seen is always a legal history of one sequential queue, which only grows, and a
+//! refusal was right at some time between the pass's last step before the call and the answer.
 //!
 //! Passes are split off a root, meet and are joined again. An operation is begun and then made step
-//! by step, or by a whole call, which is straight code over the same steps, and retries, with a wait,
-//! while others interfere.
+//! by step, or by a whole call, which is straight code over the same steps, and retries, with a
+//! wait, while others interfere.
 #![tactic(auto)]
 
 mod closing;

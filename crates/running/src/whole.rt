@@ -21,7 +21,8 @@ pub trait Whole<C, P, A>: Sized {
     fn run(self, on: &C) -> Stepped<Self, P, A>
         requires { (call : Self.Call) × is_under_way on.now call self }
         ensures { (call : Self.Call) → is_under_way on.now call self → MatchStepped result
-            (λ next. is_under_way on.now call next) (λ back answer. gives on.now call back answer) };
+            (λ next. is_under_way on.now call next)
+            (λ back answer. gives on.now call back answer) };
 
     /// The same for an operation that was just begun: its steps straight on, as they are made where
     /// no exchange is lost.

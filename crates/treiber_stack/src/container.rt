@@ -1,5 +1,5 @@
-//! A stack as a container. A whole call makes an operation's steps straight on, and again after each
-//! exchange that was lost.
+//! A stack as a container. A whole call makes an operation's steps straight on, and again after
+//! each exchange that was lost.
 use crate::closing::Mark;
 use crate::rest::Rest;
 use crate::stack::{Pass, Root, Stack};

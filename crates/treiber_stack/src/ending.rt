@@ -7,8 +7,8 @@ use crate::rest::Rest;
 use crate::stack::{Root, Stack};
 
 impl<T> Stack<T> {
-    // What is left, from the top down. A value that was out with a pass which stopped in mid-operation
-    // is not among it, and is dropped with the rest.
+    // What is left, from the top down. A value that was out with a pass which stopped in
+    // mid-operation is not among it, and is dropped with the rest.
     pub(crate) fn end(self, parent: Root<T>) -> Rest<T>
         requires { IsRootOf self parent }
         ensures { Leaves (shape_of self) (root_in parent) (left_in result) }

@@ -1,10 +1,11 @@
-//! Treiber's stack (IBM RJ 5118, 1986) over a fixed pool of nodes, as Boost.Lockfree's bounded stack:
-//! tagged words, a free list of nodes, closing and shutting. No call takes memory but `Stack::new`.
+//! Treiber's stack (IBM RJ 5118, 1986) over a fixed pool of nodes, as Boost.Lockfree's bounded
+//! stack: tagged words, a free list of nodes, closing and shutting. No call takes memory but
+//! `Stack::new`.
 //!
 //! Promised: between any two atomic steps the words, the slots and what the passes know meet the
 //! rule of `stack_machine`. Each step of an operation is one line of that machine, from a memory
-//! and a history that meet the rule; the events that it adds and its answer are that line's. So what
-//! a pass has seen is always a legal history of one sequential stack, which only grows, and a
+//! and a history that meet the rule; the events that it adds and its answer are that line's. So
+//! what a pass has seen is always a legal history of one sequential stack, which only grows, and a
 //! refusal was right at some time of its call.
 //!
 //! Passes are split off a root, meet and are joined again. An operation is begun and then made step

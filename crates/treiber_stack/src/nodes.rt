@@ -1,5 +1,5 @@
-//! What a put of one value and one of a range share: a node is taken from the free list, and nodes in
-//! hand go onto the top.
+//! What a put of one value and one of a range share: a node is taken from the free list, and nodes
+//! in hand go onto the top.
 ghost use Rattle.stack_machine.specs.declared.lines.Putting.{Putting};
 ghost use Rattle.treiber_stack.specs.Nodes.{IsCollecting, TakesFree, IsPlacing, Places};
 ghost use Rattle.treiber_stack.specs.Stack.{begun_of};

@@ -119,8 +119,8 @@ impl<T> Stack<T> {
         (pass, Ok(held))
     }
 
-    // Takes a node for the value of a place, which moves into its slot, and links the node to the one
-    // that was taken before it.
+    // Takes a node for the value of a place, which moves into its slot, and links the node to the
+    // one that was taken before it.
     fn collect_one<R: Wait>(
         &self,
         rt: &R,
@@ -145,8 +145,8 @@ impl<T> Stack<T> {
         }
     }
 
-    // Moves the value of a place into the slot of the node taken last, and links the node to the one
-    // before it.
+    // Moves the value of a place into the slot of the node taken last, and links the node to the
+    // one before it.
     fn load_node(
         &self,
         by: Pass<T>,
@@ -218,8 +218,8 @@ impl<T> Stack<T> {
         }
     }
 
-    // Moves the values of a refused range back to their places, the last first. The links of the nodes
-    // are read by loads that belong to no line.
+    // Moves the values of a refused range back to their places, the last first. The links of the
+    // nodes are read by loads that belong to no line.
     fn restore(&self, by: Pass<T>, held: Held, values: &mut [Option<T>]) -> Pass<T>
         requires { (o : Operation T) × (vs : List T) × (why : Barred)
             × IsRefused self.now o by vs held why × (values.old ≡ places_from held.count vs) }

@@ -1,4 +1,0 @@
-use Rattle.container_tests.proofs.drops.each_value_once.Given as goal
-
-abbrev pub invariant-loop : goal.invariant-loop
-invariant-loop g l = g.C.Container.is_pass l.container l.pass

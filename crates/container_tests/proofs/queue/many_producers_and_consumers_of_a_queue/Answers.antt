@@ -1,6 +1,0 @@
-use denote.Param.Send.{sendable}
-use Rattle.ms_queue.proofs.Crossing.{rest_send}
-use Rattle.container_tests.proofs.queue.many_producers_and_consumers_of_a_queue.Goals as goal
-
-pub each_value_once-requires-send-C-Rest : goal.each_value_once-requires-send-C-Rest
-each_value_once-requires-send-C-Rest g c κs = search (sendable, rest_send) depth 30

@@ -1,0 +1,40 @@
+//! Containers that are made alike.
+
+ghost use Rattle.std.specs.Prelude.{IfOk};
+
+use bounded_model::{Container, MakeRefused};
+use ms_queue::{self, Queue};
+use std::alloc::Global;
+use std::test::Fail;
+use tagged_index::{Limits, MAX_TAG};
+use treiber_stack::{self, Stack};
+
+/// A container that each test is for, with its root.
+pub(crate) trait Made<T>: Container<T> {
+    fn made(alloc: Global, limits: Limits) -> Result<(Self, Self::Root), MakeRefused>
+        ensures { IfOk result (λ made. Self.is_root made.0 made.1) };
+}
+
+impl<T: Drop + Send> Made<T> for Queue<T> {
+    fn made(alloc: Global, limits: Limits) -> Result<(Queue<T>, ms_queue::Root<T>), MakeRefused> {
+        Queue::new(alloc, limits)
+    }
+}
+
+impl<T: Drop + Send> Made<T> for Stack<T> {
+    fn made(
+        alloc: Global,
+        limits: Limits,
+    ) -> Result<(Stack<T>, treiber_stack::Root<T>), MakeRefused> {
+        Stack::new(alloc, limits)
+    }
+}
+
+/// A container with room for so many values, and its root.
+pub(crate) fn with_room<T, C: Made<T>>(alloc: Global, capacity: u32) -> Result<(C, C::Root), Fail>
+    ensures { IfOk result (λ made. C.is_root made.0 made.1) }
+{
+    let limits = Limits::of(capacity, MAX_TAG).ok_or("limits")?;
+    let made = C::made(alloc, limits)?;
+    Ok(made)
+}
