@@ -1,10 +1,9 @@
-//! Each value is dropped once: whether it was taken or left, and wherever a pass stops that has it.
+//! Each value is dropped once, whether it was taken or left.
 
 ghost use Rattle.std.specs.Prelude.{IfOk};
 
 use crate::made::{Made, with_room};
-use crate::steps::{put_on, take_on};
-use bounded_model::{Container, Leaving, Stepwise};
+use bounded_model::{Container, Leaving};
 use std::alloc::Global;
 use std::process::Abort;
 use std::sync::{Arc, Wait};
@@ -136,78 +135,4 @@ pub(crate) fn half_read<C: Made<Arc<u8>>, R: Abort + Wait>(
     drop(rest);
     assert_eq!(rt; Arc::strong_count(value), 1);
     Ok(())
-}
-
-/// A put is dropped after so many steps, and then the container. Answers whether the container has
-/// its value between the two.
-pub(crate) fn dropped_put<C: Stepwise<Arc<u8>>, R: Abort>(
-    rt: &R,
-    container: C,
-    root: C::Root,
-    value: &Arc<u8>,
-    steps: u32,
-) -> Result<bool, Fail>
-    requires { C.is_root container root }
-{
-    let mut root = root;
-    let pass = container.split(&mut root).ok_or("no pass")?;
-    let begun = container.begin_put(pass, Arc::try_clone(value)?);
-    let op = put_on(rt, &container, begun, steps);
-    assert_eq!(rt; Arc::strong_count(value), 2);
-    drop(op);
-    let kept = Arc::strong_count(value) == 2;
-    drop(root);
-    drop(container);
-    assert_eq!(rt; Arc::strong_count(value), 1);
-    Ok(kept)
-}
-
-/// The same of a put that a close overtakes after its first steps, and of what is left in the place
-/// of the container.
-pub(crate) fn dropped_late_put<C: Stepwise<Arc<u8>>, R: Abort + Wait>(
-    rt: &R,
-    container: C,
-    root: C::Root,
-    value: &Arc<u8>,
-    before: u32,
-    after: u32,
-) -> Result<bool, Fail>
-    requires { C.is_root container root }
-{
-    let mut root = root;
-    let pass = container.split(&mut root).ok_or("no pass")?;
-    let closer = container.split(&mut root).ok_or("no pass")?;
-    let begun = container.begin_put(pass, Arc::try_clone(value)?);
-    let op = put_on(rt, &container, begun, before);
-    let (_, closed) = container.close(rt, closer);
-    assert!(rt; closed);
-    let op = put_on(rt, &container, op, after);
-    assert_eq!(rt; Arc::strong_count(value), 2);
-    drop(op);
-    let kept = Arc::strong_count(value) == 2;
-    drop(container.finish(root));
-    assert_eq!(rt; Arc::strong_count(value), 1);
-    Ok(kept)
-}
-
-/// The same of a take of the only value.
-pub(crate) fn dropped_take<C: Stepwise<Arc<u8>>, R: Abort + Wait>(
-    rt: &R,
-    container: C,
-    root: C::Root,
-    value: &Arc<u8>,
-    steps: u32,
-) -> Result<bool, Fail>
-    requires { C.is_root container root }
-{
-    let mut root = root;
-    let pass = container.split(&mut root).ok_or("no pass")?;
-    let pass = fill(rt, &container, pass, value, 1)?;
-    let op = take_on(rt, &container, container.begin_take(pass), steps);
-    assert_eq!(rt; Arc::strong_count(value), 2);
-    drop(op);
-    let kept = Arc::strong_count(value) == 2;
-    drop(container.finish(root));
-    assert_eq!(rt; Arc::strong_count(value), 1);
-    Ok(kept)
 }

@@ -1,5 +1,0 @@
-use Rattle.treiber_stack.specs.Stack.{IsRootOf}
-use Rattle.container_tests.proofs.stack_calls.no_pass_is_given_beyond_65535.Given as goal
-
-abbrev pub invariant-loop : goal.invariant-loop
-invariant-loop g l = IsRootOf l.stack l.root

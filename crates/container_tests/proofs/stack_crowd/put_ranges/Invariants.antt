@@ -1,5 +1,0 @@
-use Rattle.treiber_stack.specs.Stack.{IsPassOf}
-use Rattle.container_tests.proofs.stack_crowd.put_ranges.Given as goal
-
-abbrev pub invariant-loop-k : goal.invariant-loop-k
-invariant-loop-k g l = IsPassOf l.fn.stack l.pass

@@ -1,5 +1,0 @@
-use Rattle.treiber_stack.specs.Stack.{IsPassOf}
-use Rattle.container_tests.proofs.stack_crowd.put_three.Given as goal
-
-abbrev pub invariant-loop-place : goal.invariant-loop-place
-invariant-loop-place g l = IsPassOf l.fn.stack l.pass
