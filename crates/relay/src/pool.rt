@@ -10,7 +10,9 @@ use std::sync::Wait;
 /// The calls of a container that take a pass. It has one associated type, where `Container` has
 /// three, since what a thread is started with may name no more than one.
 pub(crate) trait Pool: Drop {
-    type Pass: Drop + Send;
+    /// It is asked to be `Send` only where threads are started, since a method of `Works` could not
+    /// hand that bound on to what it calls.
+    type Pass: Drop;
 
     /// Which passes are its own, what each has seen, and its shape.
     ghost view: { Self → PoolView Self.Pass };

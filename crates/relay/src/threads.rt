@@ -4,32 +4,63 @@ ghost use Rattle.std.specs.Prelude.{◌≡◌, All, [], IfSome, IfOk, true, fals
 ghost use Rattle.std.specs.List.{AllZip};
 ghost use Rattle.bounded_model.specs.Histories.{own};
 ghost use Rattle.relay.specs.Parts.{IsSender, IsTaker, IsTeam, DidSend, DidTake, DidClose, HaveEnded, MayUse};
+ghost use Rattle.relay.specs.Pools.{PoolView};
 ghost use Rattle.relay.specs.Rooms.{IsRoomFor, IsThreadRoom};
+ghost use Rattle.relay.specs.declared.plan.Orders.{Orders};
 
+use crate::Gate;
 use crate::pool::Pool;
-use crate::workers::{Job, Sender, Sent, Site, Taker, Took, has_met_closed, receive, send};
-use crate::{Gate, Message, Taken};
+use crate::workers::{Sender, Sent, Site, Taker, Took, has_met_closed, receive, send};
 use std::alloc::{AllocError, Global};
 use std::snapshot::Snapshot;
 use std::sync::Wait;
 use std::thread;
 use std::thread::{Promise, PromisedHandle, Scope, Threads};
 
+/// What a worker of either kind does in a thread of its own. Its answer is a parameter, since what
+/// a thread is started with may name no more than one associated type, and `Pool` has that.
+pub(crate) trait Works<C: Pool, Did> {
+    /// When it can begin: by what it sees of the container, and its orders.
+    ghost is_ready: { PoolView C.Pass → Orders → Self → Type 0 };
+
+    /// What it has done, by its answer.
+    ghost did: { PoolView C.Pass → Orders → Self → Did → Type 0 };
+
+    fn work<G: Gate, W: Wait>(self, rt: &W, site: &Site<C>, gate: &G) -> Did
+        requires { is_ready (C.view site.now.container) site.now.orders self }
+        ensures { did (C.view site.now.container) site.now.orders self result };
+}
+
+impl<C: Pool> Works<C, Sent<C::Pass>> for Sender<C::Pass> {
+    ghost is_ready = { λ pool _. IsSender pool };
+
+    ghost did = { DidSend };
+
+    fn work<G: Gate, W: Wait>(self, rt: &W, site: &Site<C>, gate: &G) -> Sent<C::Pass> {
+        send(rt, site, gate, self)
+    }
+}
+
+impl<C: Pool> Works<C, Took<C::Pass>> for Taker<C::Pass> {
+    ghost is_ready = { IsTaker };
+
+    ghost did = { DidTake };
+
+    fn work<G: Gate, W: Wait>(self, rt: &W, site: &Site<C>, gate: &G) -> Took<C::Pass> {
+        receive(rt, site, gate, self)
+    }
+}
+
 /// What a worker's thread was started with.
 #[derive(Drop)]
-pub(crate) struct Part<C: Pool, T> {
+pub(crate) struct Part<C: Pool, J> {
     site: Snapshot<Site<C>>,
-    job: Snapshot<Job<C::Pass, T>>,
+    job: Snapshot<J>,
 }
 
-impl<C: Pool> Promise<Sent<C::Pass>> for Part<C, Message> {
+impl<C: Pool, Did, J: Works<C, Did>> Promise<Did> for Part<C, J> {
     ghost kept_by = { λ p r.
-        DidSend (C.view p.site.value.container) p.site.value.orders p.job.value r };
-}
-
-impl<C: Pool> Promise<Took<C::Pass>> for Part<C, Taken> {
-    ghost kept_by = { λ p r.
-        DidTake (C.view p.site.value.container) p.site.value.orders p.job.value r };
+        J.did (C.view p.site.value.container) p.site.value.orders p.job.value r };
 }
 
 /// All workers of a relay, and the pass that closes.
@@ -53,8 +84,8 @@ pub(crate) struct Ended<P> {
 /// Room for the threads and for what they give back.
 #[derive(Drop)]
 pub(crate) struct Room<C: Pool> {
-    pub(crate) senders: Vec<PromisedHandle<Sent<C::Pass>, Part<C, Message>>>,
-    pub(crate) takers: Vec<PromisedHandle<Took<C::Pass>, Part<C, Taken>>>,
+    pub(crate) senders: Vec<PromisedHandle<Sent<C::Pass>, Part<C, Sender<C::Pass>>>>,
+    pub(crate) takers: Vec<PromisedHandle<Took<C::Pass>, Part<C, Taker<C::Pass>>>>,
     pub(crate) sent: Vec<Sent<C::Pass>>,
     pub(crate) took: Vec<Took<C::Pass>>,
 }
@@ -78,7 +109,7 @@ impl<C: Pool> Room<C> {
 }
 
 /// Joins each thread.
-fn join_each<T: Send + Drop, P: Promise<T> + Drop, R: Threads>(
+fn join_each<T: Drop, P: Promise<T> + Drop, R: Threads>(
     rt: &R,
     children: Vec<PromisedHandle<T, P>>,
     room: Vec<T>,
@@ -110,8 +141,8 @@ fn some_met_closed<P>(sent: &[Sent<P>]) -> bool
 fn join_workers<C: Pool, R: Threads + Wait>(
     rt: &R,
     site: &Site<C>,
-    senders: Vec<PromisedHandle<Sent<C::Pass>, Part<C, Message>>>,
-    takers: Vec<PromisedHandle<Took<C::Pass>, Part<C, Taken>>>,
+    senders: Vec<PromisedHandle<Sent<C::Pass>, Part<C, Sender<C::Pass>>>>,
+    takers: Vec<PromisedHandle<Took<C::Pass>, Part<C, Taker<C::Pass>>>>,
     closer: C::Pass,
     room: (Vec<Sent<C::Pass>>, Vec<Took<C::Pass>>),
 ) -> Ended<C::Pass>
@@ -144,16 +175,20 @@ fn join_workers<C: Pool, R: Threads + Wait>(
     }
 }
 
-// Starts a thread for each producer; `None` where one could not be started.
-fn start_senders<'s, E, C: Pool + Sync, G: Gate + Sync, R: Wait + Sync>(
+// Starts a thread for each worker; `None` where one could not be started.
+fn start_each<'s, E, C: Pool + Sync, G: Gate + Sync, R: Wait + Sync, Did, J>(
     scope: &Scope<'s, E>,
     rt: &'s R,
     site: &'s Site<C>,
     gate: &'s G,
-    jobs: Vec<Sender<C::Pass>>,
-    room: Vec<PromisedHandle<Sent<C::Pass>, Part<C, Message>>>,
-) -> Option<Vec<PromisedHandle<Sent<C::Pass>, Part<C, Message>>>>
-    requires ready { All (IsSender (C.view site.now.container)) jobs.items }
+    jobs: Vec<J>,
+    room: Vec<PromisedHandle<Did, Part<C, J>>>,
+) -> Option<Vec<PromisedHandle<Did, Part<C, J>>>>
+where
+    C::Pass: Send,
+    Did: Send + Drop + 's,
+    J: Works<C, Did> + Send + Drop + 's,
+    requires ready { All (J.is_ready (C.view site.now.container) site.now.orders) jobs.items }
     requires room { IsRoomFor (vec_len jobs) room }
     ensures { IfSome result (λ v. AllZip (λ j h. (h.promise.job.value ≡ j)
         × (h.promise.site.value ≡ site.now)) jobs.items v.items) }
@@ -166,46 +201,11 @@ fn start_senders<'s, E, C: Pool + Sync, G: Gate + Sync, R: Wait + Sync>(
         };
         match scope.spawn_with(
             part,
-            move || -> Sent<C::Pass>
-                requires { IsSender (C.view site.now.container) job }
+            move || -> Did
+                requires { J.is_ready (C.view site.now.container) site.now.orders job }
                 ensures { let pool = C.view site.entry.now.container in
-                    DidSend pool site.entry.now.orders job result }
-            { send(rt, site, gate, job) },
-        ) {
-            Ok(child) => started.push_reserved(child),
-            Err(_) => return None,
-        }
-    }
-    Some(started)
-}
-
-// Starts a thread for each consumer; `None` where one could not be started.
-fn start_takers<'s, E, C: Pool + Sync, G: Gate + Sync, R: Wait + Sync>(
-    scope: &Scope<'s, E>,
-    rt: &'s R,
-    site: &'s Site<C>,
-    gate: &'s G,
-    jobs: Vec<Taker<C::Pass>>,
-    room: Vec<PromisedHandle<Took<C::Pass>, Part<C, Taken>>>,
-) -> Option<Vec<PromisedHandle<Took<C::Pass>, Part<C, Taken>>>>
-    requires ready { All (IsTaker (C.view site.now.container) site.now.orders) jobs.items }
-    requires room { IsRoomFor (vec_len jobs) room }
-    ensures { IfSome result (λ v. AllZip (λ j h. (h.promise.job.value ≡ j)
-        × (h.promise.site.value ≡ site.now)) jobs.items v.items) }
-{
-    let mut started = room;
-    for job in jobs {
-        let part = Part {
-            site: Snapshot::of(site),
-            job: Snapshot::of(&job),
-        };
-        match scope.spawn_with(
-            part,
-            move || -> Took<C::Pass>
-                requires { IsTaker (C.view site.now.container) site.now.orders job }
-                ensures { let pool = C.view site.entry.now.container in
-                    DidTake pool site.entry.now.orders job result }
-            { receive(rt, site, gate, job) },
+                    J.did pool site.entry.now.orders job result }
+            { job.work(rt, site, gate) },
         ) {
             Ok(child) => started.push_reserved(child),
             Err(_) => return None,
@@ -223,6 +223,8 @@ fn work_as_team<'s, E, C: Pool + Sync, G: Gate + Sync, R: Threads + Wait + Sync>
     team: Team<C::Pass>,
     room: Room<C>,
 ) -> Option<Ended<C::Pass>>
+where
+    C::Pass: Send,
     requires ready { IsTeam (C.view site.now.container) site.now.orders team }
     requires room { IsThreadRoom (vec_len team.senders) (vec_len team.takers) room }
     ensures { IfSome result (λ e.
@@ -239,11 +241,11 @@ fn work_as_team<'s, E, C: Pool + Sync, G: Gate + Sync, R: Threads + Wait + Sync>
         sent,
         took,
     } = room;
-    let Some(producing) = start_senders(scope, rt, site, gate, senders, sender_room) else {
+    let Some(producing) = start_each(scope, rt, site, gate, senders, sender_room) else {
         let _ = site.container.close(rt, closer);
         return None;
     };
-    let Some(consuming) = start_takers(scope, rt, site, gate, takers, taker_room) else {
+    let Some(consuming) = start_each(scope, rt, site, gate, takers, taker_room) else {
         let _ = site.container.close(rt, closer);
         return None;
     };
@@ -260,6 +262,8 @@ pub(crate) fn run_workers<C: Pool + Sync, G: Gate + Sync, R: Threads + Wait + Sy
     team: Team<C::Pass>,
     room: Room<C>,
 ) -> Option<Ended<C::Pass>>
+where
+    C::Pass: Send,
     requires ready { IsTeam (C.view site.now.container) site.now.orders team }
     requires room { IsThreadRoom (vec_len team.senders) (vec_len team.takers) room }
     ensures { IfSome result (λ e.

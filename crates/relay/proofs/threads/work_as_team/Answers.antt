@@ -6,14 +6,14 @@ use Rattle.relay.proofs.Zips.{zip_through}
 use Rattle.relay.proofs.threads.work_as_team.Goals as goal
 
 pub join_workers-requires-clause-sent : goal.join_workers-requires-clause-sent
-join_workers-requires-clause-sent g c κs within =
+join_workers-requires-clause-sent g c =
     let long = zip_long _ _ _ c.in-Some.ensures in
     subst (λ n. IsRoomFor n c.args.room.sent) (c.args.team.senders.ok.0 ∙ (long ∙ sym c.in-Some.producing.ok.0)) c.requires.room.sent
 
 pub join_workers-requires-clause-took : goal.join_workers-requires-clause-took
-join_workers-requires-clause-took g c κs within =
-    let long = zip_long _ _ _ c.in-Some-start_takers.ensures in
-    subst (λ n. IsRoomFor n c.args.room.took) (c.args.team.takers.ok.0 ∙ (long ∙ sym c.in-Some-start_takers.consuming.ok.0)) c.requires.room.took
+join_workers-requires-clause-took g c =
+    let long = zip_long _ _ _ c.in-Some-start_each.ensures in
+    subst (λ n. IsRoomFor n c.args.room.took) (c.args.team.takers.ok.0 ∙ (long ∙ sym c.in-Some-start_each.consuming.ok.0)) c.requires.room.took
 
 pub returns : goal.returns
 returns g c =
@@ -22,7 +22,7 @@ returns g c =
     let did = c.join_workers.ensures in
     record {
       sent = zip_through _ _ (λ p q. DidSend pool orders p q) (λ p h q r d. rw (r.0, r.1) at d) _ _ _ c.in-Some.ensures did.sent;
-      took = zip_through _ _ (λ p q. DidTake pool orders p q) (λ p h q r d. rw (r.0, r.1) at d) _ _ _ c.in-Some-start_takers.ensures did.took;
+      took = zip_through _ _ (λ p q. DidTake pool orders p q) (λ p h q r d. rw (r.0, r.1) at d) _ _ _ c.in-Some-start_each.ensures did.took;
       closed = did.closed;
       used = did.used;
     }
