@@ -49,20 +49,20 @@ impl<T: Drop + Send> Container<T> for Queue<T> {
 
     #[inline(always)]
     fn put<R: Wait>(&self, rt: &R, by: Pass<T>, value: T) -> (Pass<T>, Result<u64, PutRefused<T>>) {
-        whole_call(rt, self, self.limits.capacity(), self.begin_put(by, value))
+        whole_call(rt, self, self.begin_put(by, value))
     }
 
     #[inline(always)]
     fn take<R: Wait>(&self, rt: &R, by: Pass<T>) -> (Pass<T>, Result<(T, u64), TakeRefused>) {
-        whole_call(rt, self, self.limits.capacity(), self.begin_take(by))
+        whole_call(rt, self, self.begin_take(by))
     }
 
     fn close<R: Wait>(&self, rt: &R, by: Pass<T>) -> (Pass<T>, bool) {
-        whole_call(rt, self, self.limits.capacity(), self.begin_close(by))
+        whole_call(rt, self, self.begin_close(by))
     }
 
     fn shut<R: Wait>(&self, rt: &R, by: Pass<T>) -> (Pass<T>, bool) {
-        whole_call(rt, self, self.limits.capacity(), self.begin_shut(by))
+        whole_call(rt, self, self.begin_shut(by))
     }
 
     /// The answer is always true, since the table never lacks a seat.

@@ -101,6 +101,6 @@ impl<T: Drop + Send> Stepwise<T> for Queue<T> {
     }
 
     fn look<R: Wait>(&self, rt: &R, by: Pass<T>) -> (Pass<T>, bool) {
-        whole_call(rt, self, self.limits.capacity(), self.begin_look(by))
+        whole_call(rt, self, self.begin_look(by))
     }
 }

@@ -39,35 +39,29 @@ pub trait Whole<C, P, A>: Sized {
     fn has_lost(&self) -> bool;
 }
 
-/// Runs an operation until it answers. `room` is for how many values the container has room; it
-/// bears on how long lost exchanges are waited out, and on nothing else.
+/// Runs an operation until it answers.
 #[inline(always)]
-pub fn whole_call<R: Wait, C, P, A, O: Whole<C, P, A>>(
-    rt: &R,
-    on: &C,
-    room: u32,
-    begun: O,
-) -> (P, A)
+pub fn whole_call<R: Wait, C, P, A, O: Whole<C, P, A>>(rt: &R, on: &C, begun: O) -> (P, A)
     requires { (call : O.Call) × O.is_under_way on.now call begun }
     ensures { (call : O.Call) → O.is_under_way on.now call begun
         → O.gives on.now call result.0 result.1 }
 {
     match begun.straight(on) {
         Stepped::Done(back, answer) => (back, answer),
-        Stepped::Again(next) => run_on(rt, on, room, next),
+        Stepped::Again(next) => run_on(rt, on, next),
     }
 }
 
 // Runs an operation that is under way until it answers, with a wait after each exchange that it has
 // lost. A function of its own, so that the way straight on is all that a caller's code has.
 #[inline(never)]
-fn run_on<R: Wait, C, P, A, O: Whole<C, P, A>>(rt: &R, on: &C, room: u32, under_way: O) -> (P, A)
+fn run_on<R: Wait, C, P, A, O: Whole<C, P, A>>(rt: &R, on: &C, under_way: O) -> (P, A)
     requires { (call : O.Call) × O.is_under_way on.now call under_way }
     ensures { (call : O.Call) → O.is_under_way on.now call under_way
         → O.gives on.now call result.0 result.1 }
 {
     let mut made = Stepped::Again(under_way);
-    let mut pause = Pause::of(room);
+    let mut pause = Pause::first();
     for _ in rt.forever() {
         match made {
             Stepped::Done(back, answer) => return (back, answer),

@@ -10,7 +10,7 @@ ghost use Rattle.treiber_stack.specs.Stack.{shape_of, IsPassOf, pass_in, begun_o
 
 use crate::stack::{Pass, Stack};
 use bounded_model::Stepped;
-use running::{load_tagged_step, swap_step};
+use running::{Pause, load_tagged_step, swap_step};
 use stack_table::Operation;
 use stack_table::layout::TOP;
 use std::sync::Wait;
@@ -152,7 +152,7 @@ impl<T> Stack<T> {
     {
         let mut pass = by;
         let mut seen = None;
-        let mut pause = self.pause();
+        let mut pause = Pause::first();
         for _ in rt.forever() {
             match self.mark(pass, seen, mark) {
                 Stepped::Done(pass, set) => return (pass, set),

@@ -14,7 +14,7 @@ use crate::giving::Chain;
 use crate::stack::{Pass, Stack};
 use bounded_model::{Folded, TakeRefused};
 use index_list::{Front, move_out};
-use running::{load_step, load_tagged_step, raised, store_step, take_step};
+use running::{Pause, load_step, load_tagged_step, raised, store_step, take_step};
 use stack_table::Operation;
 use stack_table::layout::{TOP, link};
 use std::sync::Wait;
@@ -113,7 +113,7 @@ impl<T> Stack<T> {
         ensures { TakesChain self.now front by result.0 result.1 }
     {
         let mut pass = by;
-        let mut pause = self.pause();
+        let mut pause = Pause::first();
         let table = &self.table.shared;
         for _ in rt.forever() {
             let top = load_tagged_step(table, &mut pass.seat, TOP, &Operation::Fold(front));

@@ -5,7 +5,7 @@ ghost use Rattle.treiber_stack.specs.Giving.{IsGiving, Led, GaveBack};
 ghost use Rattle.treiber_stack.specs.declared.giving.Give.TheVariants.{Load, Link, Exchange};
 
 use crate::stack::{Pass, Stack};
-use running::{give_step, load_tagged_step, store_step};
+use running::{Pause, give_step, load_tagged_step, store_step};
 use stack_table::Operation;
 use stack_table::layout::{FREE, link};
 use std::sync::Wait;
@@ -136,7 +136,7 @@ impl<T> Stack<T> {
         ensures { GaveBack self.now operation.now by chain result }
     {
         let mut pass = by;
-        let mut pause = self.pause();
+        let mut pause = Pause::first();
         let table = &self.table.shared;
         for _ in rt.forever() {
             let free = load_tagged_step(table, &mut pass.seat, FREE, operation);

@@ -7,7 +7,7 @@ ghost use Rattle.treiber_stack.specs.Stack.{begun_of};
 use crate::giving::Chain;
 use crate::refusing::Barred;
 use crate::stack::{Pass, Stack};
-use running::{give_step, load_step, load_tagged_step, raised, store_step, take_step};
+use running::{Pause, give_step, load_step, load_tagged_step, raised, store_step, take_step};
 use stack_table::Operation;
 use stack_table::layout::{FREE, TOP, link};
 use std::sync::Wait;
@@ -35,7 +35,7 @@ impl<T> Stack<T> {
             → TakesFree self.now operation.now (begun_of self.now by) put result.0 result.1 }
     {
         let mut pass = by;
-        let mut pause = self.pause();
+        let mut pause = Pause::first();
         let table = &self.table.shared;
         for _ in rt.forever() {
             let free = load_tagged_step(table, &mut pass.seat, FREE, operation);
@@ -72,7 +72,7 @@ impl<T> Stack<T> {
             → Places self.now operation.now (begun_of self.now by) put result.0 result.1 }
     {
         let mut pass = by;
-        let mut pause = self.pause();
+        let mut pause = Pause::first();
         let table = &self.table.shared;
         for _ in rt.forever() {
             let top = load_tagged_step(table, &mut pass.seat, TOP, operation);

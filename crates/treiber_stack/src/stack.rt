@@ -6,7 +6,7 @@ ghost use Rattle.stack_table.specs.Layout.{words_for};
 use crate::rule::Stacked;
 use atomic_table::Table;
 use machine::seats::View;
-use running::{Pause, Running};
+use running::Running;
 use stack_machine::Line;
 use stack_table::Operation;
 use std::alloc::Global;
@@ -34,11 +34,3 @@ pub type Pass<T> = running::Pass<T, Line<T>>;
 
 /// Gives passes and takes them back.
 pub type Root<T> = running::Root<T, Line<T>>;
-
-impl<T> Stack<T> {
-    // The first wait of a call that loses an exchange.
-    #[inline]
-    pub(crate) fn pause(&self) -> Pause {
-        Pause::of(self.limits.capacity())
-    }
-}

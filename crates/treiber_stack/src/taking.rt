@@ -9,7 +9,7 @@ use crate::giving::{Chain, Gave, Give};
 use crate::stack::{Pass, Stack};
 use bounded_model::{Stepped, TakeRefused};
 use index_list::move_out;
-use running::{load_step, load_tagged_step, raised, take_step};
+use running::{Pause, load_step, load_tagged_step, raised, take_step};
 use stack_table::Operation;
 use stack_table::layout::{TOP, link};
 use std::sync::Wait;
@@ -157,7 +157,7 @@ impl<T> Stack<T> {
             × TakeGives (shape_of self.now) (pass_in by) (pass_in result.0) result.1 }
     {
         let mut pass = by;
-        let mut pause = self.pause();
+        let mut pause = Pause::first();
         let table = &self.table.shared;
         for _ in rt.forever() {
             let top = load_tagged_step(table, &mut pass.seat, TOP, &Operation::Take);
