@@ -23,9 +23,26 @@ pub(crate) fn drain<L: Leaving<Message> + Drop>(rest: L, room: Vec<Message>) -> 
     left
 }
 
-/// Puts lists in which the numbers rise together by their numbers: the greatest first, and in the
-/// end the whole is turned round.
+/// Puts lists in which the numbers rise together by their numbers. One list alone stays where it is.
 pub(crate) fn merge(lists: Vec<Vec<Taken>>, room: Vec<Taken>) -> Vec<Taken>
+    requires some { 0 < vec_len lists }
+    requires up { All IsUp lists.items }
+    requires room { IsRoomFor (length (all_of lists.items)) room }
+    ensures same { IsPermutation (all_of lists.items) result.items }
+    ensures sorted { IsNonDecreasingBy (λ t. t.number) result.items }
+{
+    let mut lists = lists;
+    if lists.len() == 1
+        && let Some(only) = lists.pop()
+    {
+        return only;
+    }
+    merge_many(lists, room)
+}
+
+// Puts lists together by their numbers: the greatest first, and in the end the whole is turned
+// round.
+fn merge_many(lists: Vec<Vec<Taken>>, room: Vec<Taken>) -> Vec<Taken>
     requires some { 0 < vec_len lists }
     requires up { All IsUp lists.items }
     requires room { IsRoomFor (length (all_of lists.items)) room }

@@ -3,7 +3,7 @@ use Rattle.std.proofs.lemmas.List.Elements.{All-append, All-cons, All-nil}
 use Rattle.std.proofs.lemmas.List.Sorted.{IsPermutation-trans, length_permutation}
 use Rattle.relay.specs.Merge.{all_of, IsUp, Merging}
 use Rattle.relay.proofs.Tops.{turned, length_back, merging_turned, merging_moved}
-use Rattle.relay.proofs.merge.merge.Goals as goal
+use Rattle.relay.proofs.merge.merge_many.Goals as goal
 
 pub move_run-rest-requires-clause-room : goal.move_run-rest-requires-clause-room
 move_run-rest-requires-clause-room c =

@@ -1,7 +1,7 @@
 -- What was moved falls, and nothing that is still to come is above it.
 use Rattle.std.proofs.Common.{◌<◌, ◌≤◌, ◌+◌, All, length, vec_len, vec_items, vec_capacity}
 use Rattle.relay.specs.Merge.{all_of, IsUp, Merging}
-use Rattle.relay.proofs.merge.merge.Given as goal
+use Rattle.relay.proofs.merge.merge_many.Given as goal
 
 abbrev pub invariant-loop-list : goal.invariant-loop-list
 invariant-loop-list l =
