@@ -79,8 +79,8 @@ fn take_greatest(lists: &mut Vec<Vec<Taken>>) -> Option<Vec<Taken>>
     Some(lists.remove(place))
 }
 
-// Moves the messages at the list's end, the last first, while no other list has a greater number.
-// Answers what is left of the list, and all that was moved.
+// Moves the messages at the list's end, the last first, while no other list has a greater number,
+// and until memory can be given back. Answers what is left of the list, and all that was moved.
 fn move_run(list: Vec<Taken>, others: &[Vec<Taken>], moved: Vec<Taken>) -> (Vec<Taken>, Vec<Taken>)
     requires some { 0 < vec_len list }
     requires up { IsUp list × All IsUp others.now }
@@ -99,7 +99,7 @@ fn move_run(list: Vec<Taken>, others: &[Vec<Taken>], moved: Vec<Taken>) -> (Vec<
     let mut all = moved;
     while let Some(taken) = rest.pop() {
         all.push_reserved(taken);
-        if height(&rest) < bound {
+        if height(&rest) < bound || has_much_free(&rest) {
             return (rest, all);
         }
     }
@@ -111,10 +111,15 @@ fn shrunk(list: Vec<Taken>) -> Vec<Taken>
     ensures { result.items ≡ list.items }
 {
     let mut list = list;
-    if list.len() < list.capacity() / 8 * 7 {
+    if has_much_free(&list) {
         list.shrink_to_fit();
     }
     list
+}
+
+// Whether more than an eighth of the list's memory is free.
+fn has_much_free(list: &Vec<Taken>) -> bool {
+    list.len() < list.capacity() / 8 * 7
 }
 
 // The place of the list with the greatest number.
