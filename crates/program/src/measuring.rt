@@ -17,6 +17,7 @@ use crate::tries::Tries;
 use crate::words::RelayArgs;
 use std::alloc::Global;
 use std::io::{self, Read, Write};
+use std::mem;
 use std::sync::Wait;
 use std::thread::Threads;
 use std::time::{Clock, Instant};
@@ -58,6 +59,7 @@ pub fn relay_measured<T: Threads + Wait + Clock + Sync, R: Read + Drop, W: Write
     write_outcome(&relayed, args.list, writer)?;
     // Nothing is left to do where standard error fails.
     let _ = write_all(errors, told.as_bytes());
+    mem::forget(relayed);
     Ok(())
 }
 

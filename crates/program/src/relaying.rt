@@ -21,6 +21,7 @@ use ms_queue::Queue;
 use relay::{FreeGate, Gate, Message, Relayed, run};
 use std::alloc::Global;
 use std::io::{Read, Write};
+use std::mem;
 use std::sync::Wait;
 use std::thread::Threads;
 use tagged_index::{Limits, MAX_TAG};
@@ -32,7 +33,8 @@ use treiber_stack::Stack;
 /// All readers are read, in order, before the container is made; `File` tells the first that is no
 /// message file, or fails, by its number from 1. `Relay(NoMemory)` also comes where the container
 /// cannot be made. `Output` comes where a write fails, and then a front of the text went out. After
-/// any other fault nothing was written.
+/// any other fault nothing was written. The memory of what was relayed is not given back, since the
+/// process is about to end.
 pub fn relay_main<T: Threads + Wait + Sync, R: Read + Drop, W: Write>(
     rt: &T,
     alloc: Global,
@@ -50,7 +52,10 @@ pub fn relay_main<T: Threads + Wait + Sync, R: Read + Drop, W: Write>(
 {
     let inputs = read_inputs(alloc, readers)?;
     let relayed = relay_inputs(rt, alloc, args, inputs, &FreeGate)?;
-    write_outcome(&relayed, args.list, writer)
+    let written = write_outcome(&relayed, args.list, writer);
+    // The process ends behind it: to free each message by itself would take a seventh of its time.
+    mem::forget(relayed);
+    written
 }
 
 /// The outcome of a relay of these inputs through a container of the kind that is asked for, at
