@@ -1,34 +1,36 @@
 //! Waiting after a lost exchange, so that the thread that won can go on with its lines of memory.
 use std::hint;
 
-/// The first wait is of 2^7 hints to the processor.
-const FIRST: u32 = 7;
-
-/// The longest wait is of 2^11.
-const LONGEST: u32 = 11;
-
-/// The next wait, twice as long as the one before. It is handed on by value, so that a call that
-/// loses no exchange keeps it in a register.
+/// How often a call has lost. It is handed on by value, so that a call that loses no exchange keeps
+/// it in a register.
 #[derive(Drop)]
 pub struct Pause {
-    bits: u32,
+    lost: u32,
 }
 
 impl Pause {
-    /// The first wait.
+    /// Before the first wait.
     #[inline]
     pub fn first() -> Pause {
-        Pause { bits: FIRST }
+        Pause { lost: 0 }
     }
 
-    /// Waits, and answers the next wait.
+    /// Waits, and answers the next wait. The first two are short: of two threads at a small
+    /// container each soon needs what the other takes or puts. A call that loses again has met
+    /// several, and keeps out of their way.
     #[inline(never)]
     pub fn wait(self) -> Pause {
-        for _ in 0..1u32 << self.bits.min(LONGEST) {
+        let hints = match self.lost {
+            0 => 80u32,
+            1 => 160,
+            2 => 640,
+            _ => 5_120,
+        };
+        for _ in 0..hints {
             hint::spin_loop();
         }
         Pause {
-            bits: self.bits.saturating_add(1),
+            lost: self.lost.saturating_add(1),
         }
     }
 }
