@@ -6,16 +6,13 @@
 
 mod command_line;
 mod fault;
-mod load;
 mod measure;
-mod pool;
-mod threads;
-mod work;
+mod run;
 
 use crate::command_line::command_line;
 use crate::fault::BenchFault;
-use crate::load::{Kind, Load};
 use crate::measure::measure;
+use crate::run::{Kind, Run};
 use clap::error::ErrorKind;
 use std::env;
 use std::process::ExitCode;
@@ -29,23 +26,23 @@ fn try_out<R: Print + Clock + AllocGlobal + Threads + Wait + Sync>(
     rt: &R,
     kind: Kind,
 ) -> Result<(), BenchFault> {
-    let load = Load::short(kind)?;
-    let measured = measure(rt, rt.alloc(), &load)?;
+    let short = Run::short(kind).ok_or(BenchFault::Range)?;
+    let measured = measure(rt, rt.alloc(), &short)?;
     println!(rt;
         "{}: {} of {} items taken",
         kind.name(),
         measured.taken,
-        load.total()
+        short.load.total()
     )?;
     Ok(())
 }
 
-// A run of this load, and its figures.
+// This run, and its figures.
 fn report<R: Print + Clock + AllocGlobal + Threads + Wait + Sync>(
     rt: &R,
-    load: &Load,
+    run: &Run,
 ) -> Result<(), BenchFault> {
-    let measured = measure(rt, rt.alloc(), load)?;
+    let measured = measure(rt, rt.alloc(), run)?;
     let tenths = measured.tenths_per_item();
     println!(rt; "items taken: {}", measured.taken)?;
     println!(rt; "items per second: {}", measured.items_per_second())?;
@@ -54,7 +51,7 @@ fn report<R: Print + Clock + AllocGlobal + Threads + Wait + Sync>(
 }
 
 // Does what the words of the command line ask for.
-fn run<R: Env + Print + Clock + AllocGlobal + Threads + Wait + Sync>(
+fn bench<R: Env + Print + Clock + AllocGlobal + Threads + Wait + Sync>(
     rt: &R,
 ) -> Result<(), BenchFault> {
     let words: Vec<String> = env::args(rt)?.collect(rt.alloc())?;
@@ -67,11 +64,11 @@ fn run<R: Env + Print + Clock + AllocGlobal + Threads + Wait + Sync>(
         texts.push(word.as_str())?;
     }
     let found = command_line(rt.alloc())?.try_get_matches_from(texts.as_slice())?;
-    report(rt, &Load::of(&found)?)
+    report(rt, &Run::of(&found)?)
 }
 
 fn main(rt: HostRuntime) -> ExitCode {
-    match run(&rt) {
+    match bench(&rt) {
         Ok(()) => ExitCode::SUCCESS,
         Err(BenchFault::Words(error)) => {
             let is_help = matches!(error.kind(), ErrorKind::DisplayHelp);

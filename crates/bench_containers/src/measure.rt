@@ -3,9 +3,8 @@
 ghost use Rattle.std.specs.Prelude.{All, IfOk};
 
 use crate::fault::BenchFault;
-use crate::load::{Kind, Load};
-use crate::threads::send_through;
-use crate::work::put_and_take;
+use crate::run::{Kind, Run};
+use bench_work::{Load, put_and_take, send_through};
 use bounded_model::Container;
 use ms_queue::Queue;
 use std::alloc::Global;
@@ -72,7 +71,9 @@ fn work<C: Container<u64> + Sync, R: Threads + Wait + Clock + Sync>(
     let taken = if load.producers == 0 {
         put_and_take(rt, &container, closer, load.items)
     } else {
-        send_through(rt, &container, producers, consumers, closer, load.items)?
+        send_through(rt, &container, producers, consumers, closer, load.items).ok_or(
+            BenchFault::NoThread,
+        )?
     };
     let spent = start.elapsed(rt)?.as_nanos();
     Ok(Measured {
@@ -81,20 +82,20 @@ fn work<C: Container<u64> + Sync, R: Threads + Wait + Clock + Sync>(
     })
 }
 
-/// Sends the items of a load through a new container.
+/// Sends the items of a run's load through a new container.
 pub fn measure<R: Threads + Wait + Clock + Sync>(
     rt: &R,
     alloc: Global,
-    load: &Load,
+    run: &Run,
 ) -> Result<Measured, BenchFault> {
-    match load.kind {
+    match run.kind {
         Kind::Stack => {
-            let (stack, root) = Stack::new(alloc, load.limits)?;
-            work(rt, alloc, stack, root, load)
+            let (stack, root) = Stack::new(alloc, run.limits)?;
+            work(rt, alloc, stack, root, &run.load)
         }
         Kind::Queue => {
-            let (queue, root) = Queue::new(alloc, load.limits)?;
-            work(rt, alloc, queue, root, load)
+            let (queue, root) = Queue::new(alloc, run.limits)?;
+            work(rt, alloc, queue, root, &run.load)
         }
     }
 }

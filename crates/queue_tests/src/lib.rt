@@ -3,6 +3,8 @@
 #![tactic(auto)]
 
 #[cfg(test)]
+mod answered;
+#[cfg(test)]
 mod drops;
 #[cfg(test)]
 mod steps;

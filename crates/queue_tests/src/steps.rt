@@ -5,6 +5,7 @@ ghost use Rattle.ms_queue.specs.Putting.{IsPutting};
 ghost use Rattle.ms_queue.specs.Queue.{IsPassOf, IsRootOf};
 ghost use Rattle.ms_queue.specs.Taking.{IsTaking};
 
+use crate::answered::{close, look, put, take};
 use bounded_model::{Container, Leaving, PutRefused, Stepped, Stepwise, TakeRefused, Word};
 use ms_queue::{Pass, PutOp, Queue, Root, TakeOp};
 use std::alloc::Global;
@@ -45,21 +46,23 @@ pub(crate) fn go_on_putting<T: Drop + Send, R: Abort>(
     op
 }
 
-/// Makes the steps of a put up to its end, which is this step from here on.
-pub(crate) fn end_put<T: Drop + Send, R: Abort>(
+/// Makes the last steps of a put, of which there are so many, and which end in this answer.
+pub(crate) fn end_put<R: Abort>(
     rt: &R,
-    queue: &Queue<T>,
-    op: PutOp<T>,
+    queue: &Queue<char>,
+    op: PutOp<char>,
     steps: u32,
-) -> (Pass<T>, Result<u64, PutRefused<T>>)
-    requires { (x : T) × IsPutting queue.now x op }
-    ensures { IsPassOf queue.now result.0 }
+    answer: Result<u64, PutRefused<char>>,
+) -> Pass<char>
+    requires { (x : _) × IsPutting queue.now x op }
+    ensures { IsPassOf queue.now result }
 {
     let last = go_on_putting(rt, queue, op, steps.saturating_sub(1));
-    let Stepped::Done(pass, answer) = last.step(queue) else {
+    let Stepped::Done(pass, put) = last.step(queue) else {
         panic!(rt; "the put goes on")
     };
-    (pass, answer)
+    assert_eq!(rt; put, answer);
+    pass
 }
 
 /// Makes so many steps of a take, none of which ends it.
@@ -82,21 +85,23 @@ pub(crate) fn go_on_taking<T: Drop + Send, R: Abort>(
     op
 }
 
-/// Makes the steps of a take up to its end, which is this step from here on.
-pub(crate) fn end_take<T: Drop + Send, R: Abort>(
+/// The same of a take.
+pub(crate) fn end_take<R: Abort>(
     rt: &R,
-    queue: &Queue<T>,
-    op: TakeOp<T>,
+    queue: &Queue<char>,
+    op: TakeOp<char>,
     steps: u32,
-) -> (Pass<T>, Result<(T, u64), TakeRefused>)
+    answer: Result<(char, u64), TakeRefused>,
+) -> Pass<char>
     requires { IsTaking queue.now op }
-    ensures { IsPassOf queue.now result.0 }
+    ensures { IsPassOf queue.now result }
 {
     let last = go_on_taking(rt, queue, op, steps.saturating_sub(1));
-    let Stepped::Done(pass, answer) = last.step(queue) else {
+    let Stepped::Done(pass, taken) = last.step(queue) else {
         panic!(rt; "the take goes on")
     };
-    (pass, answer)
+    assert_eq!(rt; taken, answer);
+    pass
 }
 
 /// The most steps of a call while no other pass wins an exchange.
@@ -142,10 +147,8 @@ pub(crate) fn take_within_32_steps<T: Drop + Send, R: Abort>(
 fn a_put_makes_14_steps_and_a_take_12(rt: HostRuntime) -> Result<(), Fail> {
     let (queue, mut root) = queue_of(rt.alloc(), 2, 7)?;
     let pass = queue.split(&mut root).ok_or("no pass")?;
-    let (pass, put) = end_put(&rt, &queue, queue.begin_put(pass, 'x'), 14);
-    assert!(rt; put == Ok(0));
-    let (_, taken) = end_take(&rt, &queue, queue.begin_take(pass), 12);
-    assert!(rt; taken == Ok(('x', 0)));
+    let pass = end_put(&rt, &queue, queue.begin_put(pass, 'x'), 14, Ok(0));
+    end_take(&rt, &queue, queue.begin_take(pass), 12, Ok(('x', 0)));
     Ok(())
 }
 
@@ -153,12 +156,21 @@ fn a_put_makes_14_steps_and_a_take_12(rt: HostRuntime) -> Result<(), Fail> {
 fn full_and_empty_are_found_in_four_steps(rt: HostRuntime) -> Result<(), Fail> {
     let (queue, mut root) = queue_of(rt.alloc(), 1, 7)?;
     let pass = queue.split(&mut root).ok_or("no pass")?;
-    let (pass, taken) = end_take(&rt, &queue, queue.begin_take(pass), 4);
-    assert!(rt; taken == Err(TakeRefused::Empty));
-    let (pass, put) = queue.put(&rt, pass, 'x');
-    assert!(rt; put == Ok(0));
-    let (_, put) = end_put(&rt, &queue, queue.begin_put(pass, 'y'), 4);
-    assert!(rt; put == Err(PutRefused::Full('y')));
+    let pass = end_take(
+        &rt,
+        &queue,
+        queue.begin_take(pass),
+        4,
+        Err(TakeRefused::Empty),
+    );
+    let pass = put(&rt, &queue, pass, 'x', Ok(0));
+    end_put(
+        &rt,
+        &queue,
+        queue.begin_put(pass, 'y'),
+        4,
+        Err(PutRefused::Full('y')),
+    );
     Ok(())
 }
 
@@ -167,12 +179,9 @@ fn a_look_makes_three_steps(rt: HostRuntime) -> Result<(), Fail> {
     let (queue, mut root) = queue_of(rt.alloc(), 1, 7)?;
     let first = queue.split(&mut root).ok_or("no pass")?;
     let second = queue.split(&mut root).ok_or("no pass")?;
-    let (first, is_empty) = queue.look(&rt, first);
-    assert!(rt; is_empty);
-    let (first, put) = queue.put(&rt, first, 'x');
-    assert!(rt; put == Ok(0));
-    let (second, is_empty) = queue.look(&rt, second);
-    assert!(rt; !is_empty);
+    let first = look(&rt, &queue, first, true);
+    let first = put(&rt, &queue, first, 'x', Ok(0));
+    let second = look(&rt, &queue, second, false);
     let Stepped::Again(look) = queue.begin_look(first).step(&queue) else {
         panic!(rt; "LoadHead")
     };
@@ -185,8 +194,7 @@ fn a_look_makes_three_steps(rt: HostRuntime) -> Result<(), Fail> {
     let mut second = second;
     let (_, met) = queue.meet(&mut second, first);
     assert!(rt; met);
-    let (_, taken) = queue.take(&rt, second);
-    assert!(rt; taken == Ok(('x', 0)));
+    take(&rt, &queue, second, Ok(('x', 0)));
     Ok(())
 }
 
@@ -219,20 +227,13 @@ fn a_close_makes_four_steps_and_a_shut_two(rt: HostRuntime) -> Result<(), Fail> 
 fn a_closed_queue_refuses_before_a_full_one(rt: HostRuntime) -> Result<(), Fail> {
     let (queue, mut root) = queue_of(rt.alloc(), 1, 7)?;
     let pass = queue.split(&mut root).ok_or("no pass")?;
-    let (pass, put) = queue.put(&rt, pass, 'x');
-    assert!(rt; put == Ok(0));
-    let (pass, closed) = queue.close(&rt, pass);
-    assert!(rt; closed);
-    let (pass, put) = queue.put(&rt, pass, 'y');
-    assert!(rt; put == Err(PutRefused::Closed('y')));
-    let (pass, taken) = queue.take(&rt, pass);
-    assert!(rt; taken == Ok(('x', 0)));
-    let (pass, taken) = queue.take(&rt, pass);
-    assert!(rt; taken == Err(TakeRefused::Closed));
-    let (pass, put) = queue.put(&rt, pass, 'z');
-    assert!(rt; put == Err(PutRefused::Closed('z')));
-    let (pass, closed) = queue.close(&rt, pass);
-    assert!(rt; !closed);
+    let pass = put(&rt, &queue, pass, 'x', Ok(0));
+    let pass = close(&rt, &queue, pass, true);
+    let pass = put(&rt, &queue, pass, 'y', Err(PutRefused::Closed('y')));
+    let pass = take(&rt, &queue, pass, Ok(('x', 0)));
+    let pass = take(&rt, &queue, pass, Err(TakeRefused::Closed));
+    let pass = put(&rt, &queue, pass, 'z', Err(PutRefused::Closed('z')));
+    let pass = close(&rt, &queue, pass, false);
     queue.join(&mut root, pass);
     assert!(rt; queue.finish(root).next().is_none());
     Ok(())
@@ -242,18 +243,18 @@ fn a_closed_queue_refuses_before_a_full_one(rt: HostRuntime) -> Result<(), Fail>
 fn a_spent_cell_list_refuses_in_one_step(rt: HostRuntime) -> Result<(), Fail> {
     let (queue, mut root) = queue_of(rt.alloc(), 4, 2)?;
     let pass = queue.split(&mut root).ok_or("no pass")?;
-    let (pass, put) = queue.put(&rt, pass, 'x');
-    assert!(rt; put == Ok(0));
-    let (pass, put) = queue.put(&rt, pass, 'y');
-    assert!(rt; put == Ok(1));
-    let (pass, put) = end_put(&rt, &queue, queue.begin_put(pass, 'z'), 1);
-    assert!(rt; put == Err(PutRefused::Spent('z', Word::Cells, 2)));
-    let (pass, taken) = queue.take(&rt, pass);
-    assert!(rt; taken == Ok(('x', 0)));
-    let (pass, taken) = queue.take(&rt, pass);
-    assert!(rt; taken == Ok(('y', 1)));
-    let (_, taken) = queue.take(&rt, pass);
-    assert!(rt; taken == Err(TakeRefused::Empty));
+    let pass = put(&rt, &queue, pass, 'x', Ok(0));
+    let pass = put(&rt, &queue, pass, 'y', Ok(1));
+    let pass = end_put(
+        &rt,
+        &queue,
+        queue.begin_put(pass, 'z'),
+        1,
+        Err(PutRefused::Spent('z', Word::Cells, 2)),
+    );
+    let pass = take(&rt, &queue, pass, Ok(('x', 0)));
+    let pass = take(&rt, &queue, pass, Ok(('y', 1)));
+    take(&rt, &queue, pass, Err(TakeRefused::Empty));
     Ok(())
 }
 
@@ -261,20 +262,19 @@ fn a_spent_cell_list_refuses_in_one_step(rt: HostRuntime) -> Result<(), Fail> {
 fn spent_cells_come_before_a_close(rt: HostRuntime) -> Result<(), Fail> {
     let (queue, mut root) = queue_of(rt.alloc(), 2, 2)?;
     let pass = queue.split(&mut root).ok_or("no pass")?;
-    let (pass, put) = queue.put(&rt, pass, 'x');
-    assert!(rt; put == Ok(0));
-    let (pass, put) = queue.put(&rt, pass, 'y');
-    assert!(rt; put == Ok(1));
-    let (pass, taken) = queue.take(&rt, pass);
-    assert!(rt; taken == Ok(('x', 0)));
-    let (pass, closed) = queue.close(&rt, pass);
-    assert!(rt; closed);
-    let (pass, put) = queue.put(&rt, pass, 'z');
-    assert!(rt; put == Err(PutRefused::Spent('z', Word::Cells, 2)));
-    let (pass, taken) = queue.take(&rt, pass);
-    assert!(rt; taken == Ok(('y', 1)));
-    let (_, taken) = queue.take(&rt, pass);
-    assert!(rt; taken == Err(TakeRefused::Closed));
+    let pass = put(&rt, &queue, pass, 'x', Ok(0));
+    let pass = put(&rt, &queue, pass, 'y', Ok(1));
+    let pass = take(&rt, &queue, pass, Ok(('x', 0)));
+    let pass = close(&rt, &queue, pass, true);
+    let pass = put(
+        &rt,
+        &queue,
+        pass,
+        'z',
+        Err(PutRefused::Spent('z', Word::Cells, 2)),
+    );
+    let pass = take(&rt, &queue, pass, Ok(('y', 1)));
+    take(&rt, &queue, pass, Err(TakeRefused::Closed));
     Ok(())
 }
 
@@ -282,18 +282,24 @@ fn spent_cells_come_before_a_close(rt: HostRuntime) -> Result<(), Fail> {
 fn a_spent_next_refuses_after_the_node_is_given_back(rt: HostRuntime) -> Result<(), Fail> {
     let (queue, mut root) = queue_of(rt.alloc(), 1, 3)?;
     let pass = queue.split(&mut root).ok_or("no pass")?;
-    let (pass, put) = queue.put(&rt, pass, 'v');
-    assert!(rt; put == Ok(0));
-    let (pass, taken) = queue.take(&rt, pass);
-    assert!(rt; taken == Ok(('v', 0)));
-    let (pass, put) = queue.put(&rt, pass, 'w');
-    assert!(rt; put == Ok(1));
-    let (pass, taken) = queue.take(&rt, pass);
-    assert!(rt; taken == Ok(('w', 1)));
-    let (pass, put) = end_put(&rt, &queue, queue.begin_put(pass, 'x'), 14);
-    assert!(rt; put == Err(PutRefused::Spent('x', Word::Next(1), 2)));
-    let (_, put) = queue.put(&rt, pass, 'y');
-    assert!(rt; put == Err(PutRefused::Spent('y', Word::Cells, 3)));
+    let pass = put(&rt, &queue, pass, 'v', Ok(0));
+    let pass = take(&rt, &queue, pass, Ok(('v', 0)));
+    let pass = put(&rt, &queue, pass, 'w', Ok(1));
+    let pass = take(&rt, &queue, pass, Ok(('w', 1)));
+    let pass = end_put(
+        &rt,
+        &queue,
+        queue.begin_put(pass, 'x'),
+        14,
+        Err(PutRefused::Spent('x', Word::Next(1), 2)),
+    );
+    put(
+        &rt,
+        &queue,
+        pass,
+        'y',
+        Err(PutRefused::Spent('y', Word::Cells, 3)),
+    );
     Ok(())
 }
 
@@ -301,14 +307,10 @@ fn a_spent_next_refuses_after_the_node_is_given_back(rt: HostRuntime) -> Result<
 fn values_leave_in_the_order_of_their_puts(rt: HostRuntime) -> Result<(), Fail> {
     let (queue, mut root) = queue_of(rt.alloc(), 3, 7)?;
     let pass = queue.split(&mut root).ok_or("no pass")?;
-    let (pass, put) = queue.put(&rt, pass, 'x');
-    assert!(rt; put == Ok(0));
-    let (pass, put) = queue.put(&rt, pass, 'y');
-    assert!(rt; put == Ok(1));
-    let (pass, put) = queue.put(&rt, pass, 'z');
-    assert!(rt; put == Ok(2));
-    let (pass, taken) = queue.take(&rt, pass);
-    assert!(rt; taken == Ok(('x', 0)));
+    let pass = put(&rt, &queue, pass, 'x', Ok(0));
+    let pass = put(&rt, &queue, pass, 'y', Ok(1));
+    let pass = put(&rt, &queue, pass, 'z', Ok(2));
+    let pass = take(&rt, &queue, pass, Ok(('x', 0)));
     queue.join(&mut root, pass);
     let mut rest = queue.finish(root);
     assert!(rt; rest.next() == Some('y'));

@@ -2,11 +2,12 @@
 
 ghost use Rattle.ms_queue.specs.Queue.{IsPassOf};
 
+use crate::answered::{close, look, put, shut, take};
 use crate::steps::{
     end_put, end_take, go_on_putting, go_on_taking, put_within_32_steps, queue_of,
     take_within_32_steps,
 };
-use bounded_model::{Container, Leaving, PutRefused, Stepped, Stepwise, TakeRefused};
+use bounded_model::{Container, Leaving, PutRefused, TakeRefused};
 use ms_queue::{Pass, Queue};
 use std::process::Abort;
 use std::sync::Wait;
@@ -18,12 +19,9 @@ fn a_put_that_holds_the_only_cell_makes_the_queue_full(rt: HostRuntime) -> Resul
     let a = queue.split(&mut root).ok_or("no pass")?;
     let b = queue.split(&mut root).ok_or("no pass")?;
     let held = go_on_putting(&rt, &queue, queue.begin_put(a, 'x'), 3);
-    let (b, put) = queue.put(&rt, b, 'y');
-    assert!(rt; put == Err(PutRefused::Full('y')));
-    let (_, put) = end_put(&rt, &queue, held, 11);
-    assert!(rt; put == Ok(0));
-    let (_, taken) = queue.take(&rt, b);
-    assert!(rt; taken == Ok(('x', 0)));
+    let b = put(&rt, &queue, b, 'y', Err(PutRefused::Full('y')));
+    end_put(&rt, &queue, held, 11, Ok(0));
+    take(&rt, &queue, b, Ok(('x', 0)));
     Ok(())
 }
 
@@ -33,10 +31,8 @@ fn a_take_helps_a_lagging_tail(rt: HostRuntime) -> Result<(), Fail> {
     let a = queue.split(&mut root).ok_or("no pass")?;
     let b = queue.split(&mut root).ok_or("no pass")?;
     let linked = go_on_putting(&rt, &queue, queue.begin_put(a, 'x'), 13);
-    let (_, taken) = end_take(&rt, &queue, queue.begin_take(b), 17);
-    assert!(rt; taken == Ok(('x', 0)));
-    let (_, put) = end_put(&rt, &queue, linked, 1);
-    assert!(rt; put == Ok(0));
+    end_take(&rt, &queue, queue.begin_take(b), 17, Ok(('x', 0)));
+    end_put(&rt, &queue, linked, 1, Ok(0));
     Ok(())
 }
 
@@ -45,17 +41,12 @@ fn a_taker_holds_its_cell(rt: HostRuntime) -> Result<(), Fail> {
     let (queue, mut root) = queue_of(rt.alloc(), 1, 7)?;
     let a = queue.split(&mut root).ok_or("no pass")?;
     let b = queue.split(&mut root).ok_or("no pass")?;
-    let (a, put) = queue.put(&rt, a, 'x');
-    assert!(rt; put == Ok(0));
+    let a = put(&rt, &queue, a, 'x', Ok(0));
     let taker = go_on_taking(&rt, &queue, queue.begin_take(a), 6);
-    let (b, put) = queue.put(&rt, b, 'y');
-    assert!(rt; put == Err(PutRefused::Full('y')));
-    let (b, taken) = queue.take(&rt, b);
-    assert!(rt; taken == Err(TakeRefused::Empty));
-    let (_, taken) = end_take(&rt, &queue, taker, 6);
-    assert!(rt; taken == Ok(('x', 0)));
-    let (_, put) = queue.put(&rt, b, 'y');
-    assert!(rt; put == Ok(1));
+    let b = put(&rt, &queue, b, 'y', Err(PutRefused::Full('y')));
+    let b = take(&rt, &queue, b, Err(TakeRefused::Empty));
+    end_take(&rt, &queue, taker, 6, Ok(('x', 0)));
+    put(&rt, &queue, b, 'y', Ok(1));
     Ok(())
 }
 
@@ -65,12 +56,9 @@ fn a_close_overtakes_a_put(rt: HostRuntime) -> Result<(), Fail> {
     let a = queue.split(&mut root).ok_or("no pass")?;
     let b = queue.split(&mut root).ok_or("no pass")?;
     let put = go_on_putting(&rt, &queue, queue.begin_put(a, 'x'), 12);
-    let (b, closed) = queue.close(&rt, b);
-    assert!(rt; closed);
-    let (a, put) = end_put(&rt, &queue, put, 10);
-    assert!(rt; put == Err(PutRefused::Closed('x')));
-    let (b, taken) = queue.take(&rt, b);
-    assert!(rt; taken == Err(TakeRefused::Closed));
+    let b = close(&rt, &queue, b, true);
+    let a = end_put(&rt, &queue, put, 10, Err(PutRefused::Closed('x')));
+    let b = take(&rt, &queue, b, Err(TakeRefused::Closed));
     queue.join(&mut root, a);
     queue.join(&mut root, b);
     assert!(rt; queue.finish(root).next().is_none());
@@ -82,8 +70,7 @@ fn a_linked_value_stays_when_its_put_is_dropped(rt: HostRuntime) -> Result<(), F
     let (queue, mut root) = queue_of(rt.alloc(), 2, 7)?;
     let a = queue.split(&mut root).ok_or("no pass")?;
     let b = queue.split(&mut root).ok_or("no pass")?;
-    let (a, put) = queue.put(&rt, a, 'x');
-    assert!(rt; put == Ok(0));
+    let a = put(&rt, &queue, a, 'x', Ok(0));
     drop(go_on_putting(&rt, &queue, queue.begin_put(b, 'y'), 13));
     queue.join(&mut root, a);
     let mut rest = queue.finish(root);
@@ -104,25 +91,16 @@ fn beside_a_put<R: Abort + Wait>(
     requires { IsPassOf queue.now by }
     ensures { IsPassOf queue.now result }
 {
-    let (by, put) = queue.put(rt, by, 'w');
-    let (by, first) = queue.take(rt, by);
-    let (by, second) = queue.take(rt, by);
-    let (by, third) = queue.take(rt, by);
-    let (by, closed) = queue.close(rt, by);
-    assert!(rt; first == Ok(('v', 0)));
-    if stopped <= 2 {
-        assert!(rt; put == Ok(1));
-        assert!(rt; second == Ok(('w', 1)));
-    } else if stopped <= 12 {
-        assert!(rt; put == Err(PutRefused::Full('w')));
-        assert!(rt; second == Err(TakeRefused::Empty));
-    } else {
-        assert!(rt; put == Err(PutRefused::Full('w')));
-        assert!(rt; second == Ok(('y', 1)));
-    }
-    assert!(rt; third == Err(TakeRefused::Empty));
-    assert!(rt; closed);
-    by
+    let (first, second) = match stopped {
+        0..=2 => (Ok(1), Ok(('w', 1))),
+        3..=12 => (Err(PutRefused::Full('w')), Err(TakeRefused::Empty)),
+        _ => (Err(PutRefused::Full('w')), Ok(('y', 1))),
+    };
+    let by = put(rt, queue, by, 'w', first);
+    let by = take(rt, queue, by, Ok(('v', 0)));
+    let by = take(rt, queue, by, second);
+    let by = take(rt, queue, by, Err(TakeRefused::Empty));
+    close(rt, queue, by, true)
 }
 
 #[test]
@@ -131,8 +109,7 @@ fn a_put_stopped_anywhere_hinders_no_other_pass(rt: HostRuntime) -> Result<(), F
         let (queue, mut root) = queue_of(rt.alloc(), 2, 7)?;
         let a = queue.split(&mut root).ok_or("no pass")?;
         let b = queue.split(&mut root).ok_or("no pass")?;
-        let (b, put) = queue.put(&rt, b, 'v');
-        assert!(rt; put == Ok(0));
+        let b = put(&rt, &queue, b, 'v', Ok(0));
         drop(go_on_putting(&rt, &queue, queue.begin_put(a, 'y'), stopped));
         let b = beside_a_put(&rt, &queue, b, stopped);
         queue.join(&mut root, b);
@@ -147,8 +124,7 @@ fn a_put_overtaken_anywhere_ends_within_32_steps(rt: HostRuntime) -> Result<(), 
         let (queue, mut root) = queue_of(rt.alloc(), 2, 7)?;
         let a = queue.split(&mut root).ok_or("no pass")?;
         let b = queue.split(&mut root).ok_or("no pass")?;
-        let (b, put) = queue.put(&rt, b, 'v');
-        assert!(rt; put == Ok(0));
+        let b = put(&rt, &queue, b, 'v', Ok(0));
         let slow = go_on_putting(&rt, &queue, queue.begin_put(a, 'y'), stopped);
         let _ = beside_a_put(&rt, &queue, b, stopped);
         let put = put_within_32_steps(&rt, &queue, slow);
@@ -173,21 +149,17 @@ fn beside_a_take<R: Abort + Wait>(
     requires { IsPassOf queue.now by }
     ensures { IsPassOf queue.now result }
 {
-    let (by, first) = queue.take(rt, by);
-    let (by, second) = queue.take(rt, by);
-    let (by, third) = queue.put(rt, by, 'x');
-    let (by, fourth) = queue.put(rt, by, 'u');
-    assert!(rt; third == Ok(2));
     if stopped <= 5 {
-        assert!(rt; first == Ok(('v', 0)));
-        assert!(rt; second == Ok(('w', 1)));
-        assert!(rt; fourth == Ok(3));
+        let by = take(rt, queue, by, Ok(('v', 0)));
+        let by = take(rt, queue, by, Ok(('w', 1)));
+        let by = put(rt, queue, by, 'x', Ok(2));
+        put(rt, queue, by, 'u', Ok(3))
     } else {
-        assert!(rt; first == Ok(('w', 1)));
-        assert!(rt; second == Err(TakeRefused::Empty));
-        assert!(rt; fourth == Err(PutRefused::Full('u')));
+        let by = take(rt, queue, by, Ok(('w', 1)));
+        let by = take(rt, queue, by, Err(TakeRefused::Empty));
+        let by = put(rt, queue, by, 'x', Ok(2));
+        put(rt, queue, by, 'u', Err(PutRefused::Full('u')))
     }
-    by
 }
 
 #[test]
@@ -196,10 +168,8 @@ fn a_take_stopped_anywhere_hinders_no_other_pass(rt: HostRuntime) -> Result<(), 
         let (queue, mut root) = queue_of(rt.alloc(), 2, 7)?;
         let a = queue.split(&mut root).ok_or("no pass")?;
         let b = queue.split(&mut root).ok_or("no pass")?;
-        let (b, put) = queue.put(&rt, b, 'v');
-        assert!(rt; put == Ok(0));
-        let (b, put) = queue.put(&rt, b, 'w');
-        assert!(rt; put == Ok(1));
+        let b = put(&rt, &queue, b, 'v', Ok(0));
+        let b = put(&rt, &queue, b, 'w', Ok(1));
         drop(go_on_taking(&rt, &queue, queue.begin_take(a), stopped));
         let b = beside_a_take(&rt, &queue, b, stopped);
         queue.join(&mut root, b);
@@ -217,10 +187,8 @@ fn a_take_overtaken_anywhere_ends_within_32_steps(rt: HostRuntime) -> Result<(),
         let (queue, mut root) = queue_of(rt.alloc(), 2, 7)?;
         let a = queue.split(&mut root).ok_or("no pass")?;
         let b = queue.split(&mut root).ok_or("no pass")?;
-        let (b, put) = queue.put(&rt, b, 'v');
-        assert!(rt; put == Ok(0));
-        let (b, put) = queue.put(&rt, b, 'w');
-        assert!(rt; put == Ok(1));
+        let b = put(&rt, &queue, b, 'v', Ok(0));
+        let b = put(&rt, &queue, b, 'w', Ok(1));
         let slow = go_on_taking(&rt, &queue, queue.begin_take(a), stopped);
         let _ = beside_a_take(&rt, &queue, b, stopped);
         let taken = take_within_32_steps(&rt, &queue, slow);
@@ -243,17 +211,12 @@ fn a_dropped_put_keeps_its_cell_for_good(rt: HostRuntime) -> Result<(), Fail> {
     let a = queue.split(&mut root).ok_or("no pass")?;
     let b = queue.split(&mut root).ok_or("no pass")?;
     drop(go_on_putting(&rt, &queue, queue.begin_put(a, 'x'), 3));
-    let (b, put) = queue.put(&rt, b, 'y');
-    assert!(rt; put == Err(PutRefused::Full('y')));
+    let b = put(&rt, &queue, b, 'y', Err(PutRefused::Full('y')));
     let a = queue.split(&mut root).ok_or("no pass")?;
-    let (a, put) = queue.put(&rt, a, 'z');
-    assert!(rt; put == Err(PutRefused::Full('z')));
-    let (b, taken) = queue.take(&rt, b);
-    assert!(rt; taken == Err(TakeRefused::Empty));
-    let (b, closed) = queue.close(&rt, b);
-    assert!(rt; closed);
-    let (b, put) = queue.put(&rt, b, 'y');
-    assert!(rt; put == Err(PutRefused::Closed('y')));
+    let a = put(&rt, &queue, a, 'z', Err(PutRefused::Full('z')));
+    let b = take(&rt, &queue, b, Err(TakeRefused::Empty));
+    let b = close(&rt, &queue, b, true);
+    let b = put(&rt, &queue, b, 'y', Err(PutRefused::Closed('y')));
     queue.join(&mut root, a);
     queue.join(&mut root, b);
     assert!(rt; queue.finish(root).next().is_none());
@@ -265,21 +228,14 @@ fn a_head_that_came_back_makes_a_take_start_again(rt: HostRuntime) -> Result<(),
     let (queue, mut root) = queue_of(rt.alloc(), 1, 15)?;
     let a = queue.split(&mut root).ok_or("no pass")?;
     let b = queue.split(&mut root).ok_or("no pass")?;
-    let (b, put) = queue.put(&rt, b, 'x');
-    assert!(rt; put == Ok(0));
+    let b = put(&rt, &queue, b, 'x', Ok(0));
     let stale = go_on_taking(&rt, &queue, queue.begin_take(a), 5);
-    let (b, taken) = queue.take(&rt, b);
-    assert!(rt; taken == Ok(('x', 0)));
-    let (b, put) = queue.put(&rt, b, 'y');
-    assert!(rt; put == Ok(1));
-    let (b, taken) = queue.take(&rt, b);
-    assert!(rt; taken == Ok(('y', 1)));
-    let (b, put) = queue.put(&rt, b, 'z');
-    assert!(rt; put == Ok(2));
-    let (_, taken) = end_take(&rt, &queue, stale, 13);
-    assert!(rt; taken == Ok(('z', 2)));
-    let (_, taken) = queue.take(&rt, b);
-    assert!(rt; taken == Err(TakeRefused::Empty));
+    let b = take(&rt, &queue, b, Ok(('x', 0)));
+    let b = put(&rt, &queue, b, 'y', Ok(1));
+    let b = take(&rt, &queue, b, Ok(('y', 1)));
+    let b = put(&rt, &queue, b, 'z', Ok(2));
+    end_take(&rt, &queue, stale, 13, Ok(('z', 2)));
+    take(&rt, &queue, b, Err(TakeRefused::Empty));
     Ok(())
 }
 
@@ -289,18 +245,12 @@ fn a_stale_link_makes_a_put_seek_the_tail_again(rt: HostRuntime) -> Result<(), F
     let a = queue.split(&mut root).ok_or("no pass")?;
     let b = queue.split(&mut root).ok_or("no pass")?;
     let stale = go_on_putting(&rt, &queue, queue.begin_put(a, 'x'), 12);
-    let (b, put) = queue.put(&rt, b, 'y');
-    assert!(rt; put == Ok(0));
-    let (b, taken) = queue.take(&rt, b);
-    assert!(rt; taken == Ok(('y', 0)));
-    let (b, put) = queue.put(&rt, b, 'u');
-    assert!(rt; put == Ok(1));
-    let (_, put) = end_put(&rt, &queue, stale, 6);
-    assert!(rt; put == Ok(2));
-    let (b, taken) = queue.take(&rt, b);
-    assert!(rt; taken == Ok(('u', 1)));
-    let (_, taken) = queue.take(&rt, b);
-    assert!(rt; taken == Ok(('x', 2)));
+    let b = put(&rt, &queue, b, 'y', Ok(0));
+    let b = take(&rt, &queue, b, Ok(('y', 0)));
+    let b = put(&rt, &queue, b, 'u', Ok(1));
+    end_put(&rt, &queue, stale, 6, Ok(2));
+    let b = take(&rt, &queue, b, Ok(('u', 1)));
+    take(&rt, &queue, b, Ok(('x', 2)));
     Ok(())
 }
 
@@ -311,19 +261,13 @@ fn a_free_node_that_came_back_is_not_taken_by_a_stale_link(rt: HostRuntime) -> R
     let b = queue.split(&mut root).ok_or("no pass")?;
     let c = queue.split(&mut root).ok_or("no pass")?;
     let stale = go_on_putting(&rt, &queue, queue.begin_put(a, 'x'), 5);
-    let (b, put) = queue.put(&rt, b, 'y');
-    assert!(rt; put == Ok(0));
+    let b = put(&rt, &queue, b, 'y', Ok(0));
     let holder = go_on_putting(&rt, &queue, queue.begin_put(c, 'z'), 6);
-    let (b, taken) = queue.take(&rt, b);
-    assert!(rt; taken == Ok(('y', 0)));
-    let (b, put) = queue.put(&rt, b, 'w');
-    assert!(rt; put == Ok(1));
-    let (_, taken) = queue.take(&rt, b);
-    assert!(rt; taken == Ok(('w', 1)));
-    let (_, put) = end_put(&rt, &queue, stale, 12);
-    assert!(rt; put == Ok(2));
-    let (_, put) = end_put(&rt, &queue, holder, 8);
-    assert!(rt; put == Ok(3));
+    let b = take(&rt, &queue, b, Ok(('y', 0)));
+    let b = put(&rt, &queue, b, 'w', Ok(1));
+    take(&rt, &queue, b, Ok(('w', 1)));
+    end_put(&rt, &queue, stale, 12, Ok(2));
+    end_put(&rt, &queue, holder, 8, Ok(3));
     Ok(())
 }
 
@@ -334,13 +278,10 @@ fn a_put_turns_once_for_each_that_goes_before_it(rt: HostRuntime) -> Result<(), 
     let b = queue.split(&mut root).ok_or("no pass")?;
     let c = queue.split(&mut root).ok_or("no pass")?;
     let slow = go_on_putting(&rt, &queue, queue.begin_put(a, 'x'), 2);
-    let (_, put) = queue.put(&rt, b, 'y');
-    assert!(rt; put == Ok(0));
+    put(&rt, &queue, b, 'y', Ok(0));
     let linked = go_on_putting(&rt, &queue, queue.begin_put(c, 'z'), 13);
-    let (_, put) = end_put(&rt, &queue, slow, 19);
-    assert!(rt; put == Ok(2));
-    let (_, put) = end_put(&rt, &queue, linked, 1);
-    assert!(rt; put == Ok(1));
+    end_put(&rt, &queue, slow, 19, Ok(2));
+    end_put(&rt, &queue, linked, 1, Ok(1));
     Ok(())
 }
 
@@ -349,27 +290,17 @@ fn a_shut_overtakes_a_take_and_keeps_the_values(rt: HostRuntime) -> Result<(), F
     let (queue, mut root) = queue_of(rt.alloc(), 2, 7)?;
     let a = queue.split(&mut root).ok_or("no pass")?;
     let b = queue.split(&mut root).ok_or("no pass")?;
-    let (a, put) = queue.put(&rt, a, 'x');
-    assert!(rt; put == Ok(0));
-    let (a, put) = queue.put(&rt, a, 'y');
-    assert!(rt; put == Ok(1));
+    let a = put(&rt, &queue, a, 'x', Ok(0));
+    let a = put(&rt, &queue, a, 'y', Ok(1));
     let taker = go_on_taking(&rt, &queue, queue.begin_take(b), 5);
-    let (a, shut) = queue.shut(&rt, a);
-    assert!(rt; shut);
-    let (b, taken) = end_take(&rt, &queue, taker, 2);
-    assert!(rt; taken == Err(TakeRefused::Shut));
-    let (a, is_empty) = queue.look(&rt, a);
-    assert!(rt; !is_empty);
-    let (a, shut) = queue.shut(&rt, a);
-    assert!(rt; !shut);
-    let (a, put) = queue.put(&rt, a, 'z');
-    assert!(rt; put == Err(PutRefused::Full('z')));
-    let (a, closed) = queue.close(&rt, a);
-    assert!(rt; closed);
-    let (a, taken) = queue.take(&rt, a);
-    assert!(rt; taken == Err(TakeRefused::Shut));
-    let (a, put) = queue.put(&rt, a, 'z');
-    assert!(rt; put == Err(PutRefused::Closed('z')));
+    let a = shut(&rt, &queue, a, true);
+    let b = end_take(&rt, &queue, taker, 2, Err(TakeRefused::Shut));
+    let a = look(&rt, &queue, a, false);
+    let a = shut(&rt, &queue, a, false);
+    let a = put(&rt, &queue, a, 'z', Err(PutRefused::Full('z')));
+    let a = close(&rt, &queue, a, true);
+    let a = take(&rt, &queue, a, Err(TakeRefused::Shut));
+    let a = put(&rt, &queue, a, 'z', Err(PutRefused::Closed('z')));
     queue.join(&mut root, a);
     queue.join(&mut root, b);
     let mut rest = queue.finish(root);

@@ -16,8 +16,8 @@ impl Pause {
     }
 
     /// Waits, and answers the next wait. The first two are short: of two threads at a small
-    /// container each soon needs what the other takes or puts. A call that loses again has met
-    /// several, and keeps out of their way.
+    /// container each soon needs what the other takes or puts. A call that loses again keeps out of
+    /// the others' way.
     #[inline(never)]
     pub fn wait(self) -> Pause {
         let hints = match self.lost {

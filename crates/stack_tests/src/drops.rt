@@ -1,84 +1,86 @@
 //! Each value of a stack is dropped once, wherever the pass stops that has it.
 
-use crate::steps::{put_on, take_on};
-use bounded_model::{Container, Leaving, Stepwise};
+ghost use Rattle.treiber_stack.specs.Stack.{IsRootOf};
+
+use crate::steps::{go_on_putting, go_on_taking};
+use bounded_model::{Container, Leaving};
 use std::process::Abort;
 use std::sync::{Arc, Wait};
 use std::test::Fail;
 use tagged_index::{Limits, MAX_TAG};
-use treiber_stack::Stack;
+use treiber_stack::{Root, Stack};
 
-// A put is dropped after so many steps, and then the container. Answers whether the container has
+// A put is dropped after so many steps, and then the stack. Answers whether the stack has
 // its value between the two.
-fn dropped_put<C: Stepwise<Arc<u8>>, R: Abort>(
+fn dropped_put<R: Abort>(
     rt: &R,
-    container: C,
-    root: C::Root,
+    stack: Stack<Arc<u8>>,
+    root: Root<Arc<u8>>,
     value: &Arc<u8>,
     steps: u32,
 ) -> Result<bool, Fail>
-    requires { C.is_root container root }
+    requires { IsRootOf stack root }
 {
     let mut root = root;
-    let pass = container.split(&mut root).ok_or("no pass")?;
-    let begun = container.begin_put(pass, Arc::try_clone(value)?);
-    let op = put_on(rt, &container, begun, steps);
+    let pass = stack.split(&mut root).ok_or("no pass")?;
+    let begun = stack.begin_put(pass, Arc::try_clone(value)?);
+    let op = go_on_putting(rt, &stack, begun, steps);
     assert_eq!(rt; Arc::strong_count(value), 2);
     drop(op);
     let kept = Arc::strong_count(value) == 2;
     drop(root);
-    drop(container);
+    drop(stack);
     assert_eq!(rt; Arc::strong_count(value), 1);
     Ok(kept)
 }
 
 // The same of a put that a close overtakes after its first steps, and of what is left in the place
-// of the container.
-fn dropped_late_put<C: Stepwise<Arc<u8>>, R: Abort + Wait>(
+// of the stack.
+fn dropped_late_put<R: Abort + Wait>(
     rt: &R,
-    container: C,
-    root: C::Root,
+    stack: Stack<Arc<u8>>,
+    root: Root<Arc<u8>>,
     value: &Arc<u8>,
     before: u32,
     after: u32,
 ) -> Result<bool, Fail>
-    requires { C.is_root container root }
+    requires { IsRootOf stack root }
 {
     let mut root = root;
-    let pass = container.split(&mut root).ok_or("no pass")?;
-    let closer = container.split(&mut root).ok_or("no pass")?;
-    let begun = container.begin_put(pass, Arc::try_clone(value)?);
-    let op = put_on(rt, &container, begun, before);
-    let (_, closed) = container.close(rt, closer);
+    let pass = stack.split(&mut root).ok_or("no pass")?;
+    let closer = stack.split(&mut root).ok_or("no pass")?;
+    let begun = stack.begin_put(pass, Arc::try_clone(value)?);
+    let op = go_on_putting(rt, &stack, begun, before);
+    let (_, closed) = stack.close(rt, closer);
     assert!(rt; closed);
-    let op = put_on(rt, &container, op, after);
+    let op = go_on_putting(rt, &stack, op, after);
     assert_eq!(rt; Arc::strong_count(value), 2);
     drop(op);
     let kept = Arc::strong_count(value) == 2;
-    drop(container.finish(root));
+    drop(stack.finish(root));
     assert_eq!(rt; Arc::strong_count(value), 1);
     Ok(kept)
 }
 
 // The same of a take of the only value.
-fn dropped_take<C: Stepwise<Arc<u8>>, R: Abort + Wait>(
+fn dropped_take<R: Abort + Wait>(
     rt: &R,
-    container: C,
-    root: C::Root,
+    stack: Stack<Arc<u8>>,
+    root: Root<Arc<u8>>,
     value: &Arc<u8>,
     steps: u32,
 ) -> Result<bool, Fail>
-    requires { C.is_root container root }
+    requires { IsRootOf stack root }
 {
     let mut root = root;
-    let pass = container.split(&mut root).ok_or("no pass")?;
-    let (pass, put) = container.put(rt, pass, Arc::try_clone(value)?);
+    let pass = stack.split(&mut root).ok_or("no pass")?;
+    let (pass, put) = stack.put(rt, pass, Arc::try_clone(value)?);
     assert!(rt; put.is_ok());
-    let op = take_on(rt, &container, container.begin_take(pass), steps);
+    let op = go_on_taking(rt, &stack, stack.begin_take(pass), steps);
     assert_eq!(rt; Arc::strong_count(value), 2);
     drop(op);
     let kept = Arc::strong_count(value) == 2;
-    drop(container.finish(root));
+    drop(stack.finish(root));
     assert_eq!(rt; Arc::strong_count(value), 1);
     Ok(kept)
 }

@@ -1,3 +1,4 @@
+use crate::answered::put;
 use bounded_model::{Container, Folded, TakeRefused};
 use std::test::Fail;
 use tagged_index::Limits;
@@ -19,12 +20,9 @@ fn folds_take_all_values_in_either_order(rt: HostRuntime) -> Result<(), Fail> {
     let Some(pass) = stack.split(&mut root) else {
         panic!(rt; "no pass")
     };
-    let (pass, answer) = stack.put(&rt, pass, 'x');
-    assert!(rt; answer.is_ok());
-    let (pass, answer) = stack.put(&rt, pass, 'y');
-    assert!(rt; answer.is_ok());
-    let (pass, answer) = stack.put(&rt, pass, 'z');
-    assert!(rt; answer.is_ok());
+    let pass = put(&rt, &stack, pass, 'x', Ok(0));
+    let pass = put(&rt, &stack, pass, 'y', Ok(1));
+    let pass = put(&rt, &stack, pass, 'z', Ok(2));
     let (pass, seen, answer) = stack.fold_all_atomic(&rt, pass, NONE, last_three);
     assert_eq!(rt;
         answer,
@@ -34,12 +32,9 @@ fn folds_take_all_values_in_either_order(rt: HostRuntime) -> Result<(), Fail> {
         })
     );
     assert_eq!(rt; seen, (Some('z'), Some('y'), Some('x')));
-    let (pass, answer) = stack.put(&rt, pass, 'u');
-    assert!(rt; answer.is_ok());
-    let (pass, answer) = stack.put(&rt, pass, 'v');
-    assert!(rt; answer.is_ok());
-    let (pass, answer) = stack.put(&rt, pass, 'w');
-    assert!(rt; answer.is_ok());
+    let pass = put(&rt, &stack, pass, 'u', Ok(4));
+    let pass = put(&rt, &stack, pass, 'v', Ok(5));
+    let pass = put(&rt, &stack, pass, 'w', Ok(6));
     let (pass, seen, answer) = stack.fold_all_atomic_reversed(&rt, pass, NONE, last_three);
     assert_eq!(rt;
         answer,
@@ -49,8 +44,7 @@ fn folds_take_all_values_in_either_order(rt: HostRuntime) -> Result<(), Fail> {
         })
     );
     assert_eq!(rt; seen, (Some('u'), Some('v'), Some('w')));
-    let (pass, answer) = stack.put(&rt, pass, 't');
-    assert!(rt; answer == Ok(8));
+    let pass = put(&rt, &stack, pass, 't', Ok(8));
     let (pass, seen, answer) = stack.fold_all_atomic(&rt, pass, NONE, last_three);
     assert_eq!(rt;
         answer,

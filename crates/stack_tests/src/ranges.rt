@@ -1,3 +1,4 @@
+use crate::answered::{close, take};
 use bounded_model::{Container, RangeRefused, Ranged};
 use std::test::Fail;
 use tagged_index::Limits;
@@ -20,8 +21,7 @@ fn ranges_go_in_at_once_as_far_as_nodes_can_be_had(rt: HostRuntime) -> Result<()
         })
     );
     assert_eq!(rt; five, [None, None, None, Some('d'), Some('e')]);
-    let (pass, taken) = stack.take(&rt, pass);
-    assert!(rt; taken == Ok(('c', 1)));
+    let pass = take(&rt, &stack, pass, Ok(('c', 1)));
     let mut none: [Option<char>; 0] = [];
     let (pass, answer) = stack.put_range(&rt, pass, &mut none);
     assert_eq!(rt; answer, Err(RangeRefused::Nothing));
@@ -35,8 +35,7 @@ fn ranges_go_in_at_once_as_far_as_nodes_can_be_had(rt: HostRuntime) -> Result<()
         })
     );
     assert_eq!(rt; two, [None, Some('g')]);
-    let (pass, taken) = stack.take(&rt, pass);
-    assert!(rt; taken == Ok(('f', 3)));
+    let pass = take(&rt, &stack, pass, Ok(('f', 3)));
     stack.join(&mut root, pass);
     Ok(())
 }
@@ -48,8 +47,7 @@ fn a_refused_range_is_as_it_was(rt: HostRuntime) -> Result<(), Fail> {
     let Some(pass) = stack.split(&mut root) else {
         panic!(rt; "no pass")
     };
-    let (pass, closed) = stack.close(&rt, pass);
-    assert!(rt; closed);
+    let pass = close(&rt, &stack, pass, true);
     let mut three = [Some('a'), Some('b'), Some('c')];
     let (pass, answer) = stack.put_range(&rt, pass, &mut three);
     assert_eq!(rt; answer, Err(RangeRefused::Closed));

@@ -69,6 +69,7 @@ pub fn take_all<C: Pool, R: Wait>(rt: &R, container: &C, by: C::Pass) -> u64
 /// Puts an item and takes one, in turn; answers how many were taken.
 pub fn put_and_take<C: Pool, R: Wait>(rt: &R, container: &C, by: C::Pass, items: u32) -> u64
     requires { C.is_pass container.now by }
+    ensures { result ≤ items }
 {
     let mut pass = by;
     let mut taken = 0;

@@ -2,7 +2,6 @@
 
 ghost use Rattle.std.specs.Prelude.{All};
 
-use crate::fault::BenchFault;
 use crate::pool::Pool;
 use crate::work::{put_all, take_all};
 use std::sync::Wait;
@@ -40,7 +39,7 @@ fn put_at_once<C: Pool + Sync, R: Threads + Wait + Sync>(
 }
 
 /// Starts the consumers, then the producers, and closes the container when these have ended.
-/// Answers how many items came out.
+/// Answers how many items came out; `None` where a thread was not started.
 pub fn send_through<C: Pool + Sync, R: Threads + Wait + Sync>(
     rt: &R,
     pool: &C,
@@ -48,7 +47,7 @@ pub fn send_through<C: Pool + Sync, R: Threads + Wait + Sync>(
     consumers: Vec<C::Pass>,
     closer: C::Pass,
     items: u32,
-) -> Result<u64, BenchFault>
+) -> Option<u64>
     requires producers { All (C.is_pass pool.now) producers.items }
     requires consumers { All (C.is_pass pool.now) consumers.items }
     requires closer { C.is_pass pool.now closer }
@@ -82,9 +81,5 @@ pub fn send_through<C: Pool + Sync, R: Threads + Wait + Sync>(
             started
         },
     );
-    if started {
-        Ok(taken.load(Ordering::SeqCst))
-    } else {
-        Err(BenchFault::NoThread)
-    }
+    started.then_some(taken.load(Ordering::SeqCst))
 }

@@ -1,0 +1,68 @@
+//! What one run of the benchmark is given.
+
+use crate::fault::BenchFault;
+use bench_work::Load;
+use clap::ArgMatches;
+use tagged_index::Limits;
+
+/// The largest tag: no run meets a limit.
+const TAG_LIMIT: u64 = (1 << 42) - 1;
+
+/// The containers that can be measured.
+#[derive(Clone, Copy)]
+pub enum Kind {
+    Stack,
+    Queue,
+}
+
+impl Kind {
+    /// The container of this name. `Range` where none is called so.
+    pub fn of(name: &str) -> Result<Kind, BenchFault> {
+        match name {
+            "stack" => Ok(Kind::Stack),
+            "queue" => Ok(Kind::Queue),
+            _ => Err(BenchFault::Range),
+        }
+    }
+
+    pub fn name(self) -> &'static str {
+        match self {
+            Kind::Stack => "stack",
+            Kind::Queue => "queue",
+        }
+    }
+}
+
+/// Which container is measured, and what goes through it.
+#[derive(Clone, Copy)]
+pub struct Run {
+    pub kind: Kind,
+    pub limits: Limits,
+    pub load: Load,
+}
+
+impl Run {
+    /// A short run, with more items than room.
+    pub fn short(kind: Kind) -> Option<Run> {
+        Some(Run {
+            kind,
+            limits: Limits::of(8, TAG_LIMIT)?,
+            load: Load::of(2, 2, 1_000)?,
+        })
+    }
+
+    /// What these words ask for. `Range` where a value is not in its range.
+    pub fn of(found: &ArgMatches<'_>) -> Result<Run, BenchFault> {
+        let kind = Kind::of(found.get_str("kind").unwrap_or("stack"))?;
+        Run::sized(kind, found).ok_or(BenchFault::Range)
+    }
+
+    // A run through this container. `None` where a value is not in its range.
+    fn sized(kind: Kind, found: &ArgMatches<'_>) -> Option<Run> {
+        let limits = Limits::of(found.get_one("capacity")?, TAG_LIMIT)?;
+        let producers = found.get_one("producers")?;
+        let consumers = found.get_one("consumers")?;
+        let load = Load::of(producers, consumers, found.get_one("items")?)?;
+        Some(Run { kind, limits, load })
+    }
+}

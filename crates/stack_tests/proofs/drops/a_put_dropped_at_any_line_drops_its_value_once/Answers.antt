@@ -1,7 +1,0 @@
-use denote.Param.Send.{sendable}
-use Rattle.std.proofs.Crossing.{Arc-send}
-use Rattle.treiber_stack.proofs.Crossing.{rest_send}
-use Rattle.stack_tests.proofs.drops.a_put_dropped_at_any_line_drops_its_value_once.Goals as goal
-
-pub dropped_put-requires-send-C-Rest : goal.dropped_put-requires-send-C-Rest
-dropped_put-requires-send-C-Rest g c κs = search (sendable, rest_send, Arc-send) depth 30
