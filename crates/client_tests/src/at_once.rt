@@ -1,6 +1,5 @@
 use bounded_model::{Bulk, Container, Folded, RangeRefused, Ranged, TakeRefused};
 use std::sync::Wait;
-use std::test::Fail;
 use tagged_index::{Limits, MAX_TAG};
 use treiber_stack::Stack;
 
@@ -46,10 +45,10 @@ fn folded_in_reverse<C: Bulk<char>, R: Wait>(
 }
 
 #[test]
-fn ranges_and_folds_of_any_container(rt: HostRuntime) -> Result<(), Fail> {
-    let limits = Limits::of(3, MAX_TAG).ok_or("limits")?;
-    let (stack, mut root) = Stack::<char>::new(rt.alloc(), limits)?;
-    let pass = stack.split(&mut root).ok_or("no pass")?;
+fn ranges_and_folds_of_any_container(rt: HostRuntime) {
+    let limits = Limits::of(3, MAX_TAG).expect(&rt, "limits");
+    let (stack, mut root) = Stack::<char>::new(rt.alloc(), limits).expect(&rt, "memory");
+    let pass = stack.split(&mut root).expect(&rt, "a pass");
     let three = |number| Ranged { number, count: 3 };
     let (pass, put) = put_three(&rt, &stack, pass);
     assert_eq!(rt; put, Ok(three(0)));
@@ -78,5 +77,4 @@ fn ranges_and_folds_of_any_container(rt: HostRuntime) -> Result<(), Fail> {
     let (_, seen, fold) = folded(&rt, &stack, pass);
     assert_eq!(rt; seen, ('-', '-', '-'));
     assert_eq!(rt; fold, Err(TakeRefused::Empty));
-    Ok(())
 }

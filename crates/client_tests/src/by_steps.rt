@@ -2,7 +2,6 @@ ghost use Rattle.bounded_model.specs.Laws.{PutGives, TakeGives};
 
 use bounded_model::{Container, PutRefused, Stepped, Stepwise, TakeRefused};
 use std::sync::Wait;
-use std::test::Fail;
 use tagged_index::{Limits, MAX_TAG};
 use treiber_stack::Stack;
 
@@ -53,10 +52,10 @@ fn take_by_steps<C: Stepwise<u32>, R: Wait>(
 }
 
 #[test]
-fn steps_of_any_container_are_counted(rt: HostRuntime) -> Result<(), Fail> {
-    let limits = Limits::of(1, MAX_TAG).ok_or("limits")?;
-    let (stack, mut root) = Stack::<u32>::new(rt.alloc(), limits)?;
-    let pass = stack.split(&mut root).ok_or("no pass")?;
+fn steps_of_any_container_are_counted(rt: HostRuntime) {
+    let limits = Limits::of(1, MAX_TAG).expect(&rt, "limits");
+    let (stack, mut root) = Stack::<u32>::new(rt.alloc(), limits).expect(&rt, "memory");
+    let pass = stack.split(&mut root).expect(&rt, "a pass");
     let (pass, answer, steps) = put_by_steps(&rt, &stack, pass, 7);
     assert_eq!(rt; (answer, steps), (Ok(0), 6));
     let (pass, answer, steps) = put_by_steps(&rt, &stack, pass, 8);
@@ -65,14 +64,13 @@ fn steps_of_any_container_are_counted(rt: HostRuntime) -> Result<(), Fail> {
     assert_eq!(rt; (answer, steps), (Ok((7, 1)), 6));
     let (_, answer, steps) = take_by_steps(&rt, &stack, pass);
     assert_eq!(rt; (answer, steps), (Err(TakeRefused::Empty), 1));
-    Ok(())
 }
 
 #[test]
-fn a_close_a_shut_and_a_look_make_their_steps(rt: HostRuntime) -> Result<(), Fail> {
-    let limits = Limits::of(1, MAX_TAG).ok_or("limits")?;
-    let (stack, mut root) = Stack::<u32>::new(rt.alloc(), limits)?;
-    let pass = stack.split(&mut root).ok_or("no pass")?;
+fn a_close_a_shut_and_a_look_make_their_steps(rt: HostRuntime) {
+    let limits = Limits::of(1, MAX_TAG).expect(&rt, "limits");
+    let (stack, mut root) = Stack::<u32>::new(rt.alloc(), limits).expect(&rt, "memory");
+    let pass = stack.split(&mut root).expect(&rt, "a pass");
     let Stepped::Done(pass, true) = stack.step_look(stack.begin_look(pass)) else {
         panic!(rt; "an empty stack looks empty in one step")
     };
@@ -88,5 +86,4 @@ fn a_close_a_shut_and_a_look_make_their_steps(rt: HostRuntime) -> Result<(), Fai
     let Stepped::Done(_, true) = stack.step_shut(shut) else {
         panic!(rt; "then it exchanges it")
     };
-    Ok(())
 }

@@ -2,67 +2,66 @@ use ms_queue::Queue;
 use one_way::{Carried, carry_all};
 use std::alloc::Global;
 use std::collections::VecDeque;
+use std::process::Abort;
 use std::sync::Wait;
-use std::test::Fail;
 use tagged_index::{Limits, MAX_TAG};
 use treiber_stack::Stack;
 
 /// The items 0, 1, .., so many.
-fn items(alloc: Global, count: u32) -> Result<VecDeque<u32>, Fail> {
+fn items<R: Abort>(rt: &R, alloc: Global, count: u32) -> VecDeque<u32> {
     let mut items = VecDeque::new(alloc);
     for item in 0..count {
-        items.push_back(item)?;
+        assert!(rt; items.push_back(item).is_ok());
     }
-    Ok(items)
+    items
 }
 
 /// So many items carried over a stack with this much room.
-fn carried<R: AllocGlobal + Wait>(rt: &R, capacity: u32, count: u32) -> Result<Carried<u32>, Fail> {
+fn carried<R: Abort + AllocGlobal + Wait>(rt: &R, capacity: u32, count: u32) -> Carried<u32> {
     let alloc = rt.alloc();
-    let limits = Limits::of(capacity, MAX_TAG).ok_or("limits")?;
-    let (stack, root) = Stack::new(alloc, limits)?;
-    Ok(carry_all(rt, alloc, stack, root, items(alloc, count)?)?)
+    let limits = Limits::of(capacity, MAX_TAG).expect(rt, "limits");
+    let (stack, root) = Stack::new(alloc, limits).expect(rt, "memory");
+    let items = items(rt, alloc, count);
+    carry_all(rt, alloc, stack, root, items).expect(rt, "memory")
 }
 
 /// The same over a queue.
-fn carried_in_order<R: AllocGlobal + Wait>(
+fn carried_in_order<R: Abort + AllocGlobal + Wait>(
     rt: &R,
     capacity: u32,
     count: u32,
-) -> Result<Carried<u32>, Fail> {
+) -> Carried<u32> {
     let alloc = rt.alloc();
-    let limits = Limits::of(capacity, MAX_TAG).ok_or("limits")?;
-    let (queue, root) = Queue::new(alloc, limits)?;
-    Ok(carry_all(rt, alloc, queue, root, items(alloc, count)?)?)
+    let limits = Limits::of(capacity, MAX_TAG).expect(rt, "limits");
+    let (queue, root) = Queue::new(alloc, limits).expect(rt, "memory");
+    let items = items(rt, alloc, count);
+    carry_all(rt, alloc, queue, root, items).expect(rt, "memory")
 }
 
 #[test]
-fn a_stack_carries_all_items_from_the_top(rt: HostRuntime) -> Result<(), Fail> {
-    let carried = carried(&rt, 4, 4)?;
+fn a_stack_carries_all_items_from_the_top(rt: HostRuntime) {
+    let carried = carried(&rt, 4, 4);
     assert_eq!(rt; carried.taken.as_slice(), [3, 2, 1, 0].as_slice());
     assert!(rt; carried.left.is_empty());
     assert!(rt; carried.unsent.is_empty());
-    Ok(())
 }
 
 #[test]
-fn items_without_room_are_handed_back_in_order(rt: HostRuntime) -> Result<(), Fail> {
-    let mut carried = carried(&rt, 3, 5)?;
+fn items_without_room_are_handed_back_in_order(rt: HostRuntime) {
+    let mut carried = carried(&rt, 3, 5);
     assert_eq!(rt; carried.taken.as_slice(), [2, 1, 0].as_slice());
     assert!(rt; carried.left.is_empty());
     assert_eq!(rt; carried.unsent.pop_front(), Some(3));
     assert_eq!(rt; carried.unsent.pop_front(), Some(4));
     assert_eq!(rt; carried.unsent.pop_front(), None);
-    Ok(())
 }
 
 #[test]
-fn a_queue_carries_items_in_their_order(rt: HostRuntime) -> Result<(), Fail> {
-    let mut carried = carried_in_order(&rt, 3, 5)?;
+fn a_queue_carries_items_in_their_order(rt: HostRuntime) {
+    let mut carried = carried_in_order(&rt, 3, 5);
     assert_eq!(rt; carried.taken.as_slice(), [0, 1, 2].as_slice());
     assert!(rt; carried.left.is_empty());
     assert_eq!(rt; carried.unsent.pop_front(), Some(3));
     assert_eq!(rt; carried.unsent.pop_front(), Some(4));
     assert_eq!(rt; carried.unsent.pop_front(), None);
-    Ok(())
 }

@@ -4,7 +4,6 @@ use bounded_model::{Container, Order, PutRefused, TakeRefused, consume_all, cons
 use ms_queue::Queue;
 use std::process::Abort;
 use std::sync::Wait;
-use std::test::Fail;
 use tagged_index::{Limits, MAX_TAG};
 use treiber_stack::Stack;
 
@@ -116,12 +115,12 @@ fn tries_no_take_after_a_refusal<C: Container<u32>, R: Abort + Wait>(
     rt: &R,
     inner: C,
     root: C::Root,
-) -> Result<(), Fail>
+)
     requires { C.is_root inner root }
 {
     let container = Counting { inner };
     let mut root = root;
-    let pass = container.split(&mut root).ok_or("no pass")?;
+    let pass = container.split(&mut root).expect(rt, "a pass");
     let (pass, _) = container.put(rt, pass, 1);
     let (pass, _) = container.put(rt, pass, 1);
     let (pass, _) = container.put(rt, pass, 1);
@@ -142,19 +141,18 @@ fn tries_no_take_after_a_refusal<C: Container<u32>, R: Abort + Wait>(
     assert_eq!(rt; (folded, why, pass.takes), (0, TakeRefused::Shut, 7));
     let (pass, nothing) = consume_one(&container, rt, pass, double);
     assert_eq!(rt; (nothing, pass.takes), (Err(TakeRefused::Shut), 8));
-    Ok(())
 }
 
 #[test]
-fn no_take_follows_a_refusal_by_a_stack(rt: HostRuntime) -> Result<(), Fail> {
-    let limits = Limits::of(3, MAX_TAG).ok_or("limits")?;
-    let (stack, root) = Stack::<u32>::new(rt.alloc(), limits)?;
-    tries_no_take_after_a_refusal(&rt, stack, root)
+fn no_take_follows_a_refusal_by_a_stack(rt: HostRuntime) {
+    let limits = Limits::of(3, MAX_TAG).expect(&rt, "limits");
+    let (stack, root) = Stack::<u32>::new(rt.alloc(), limits).expect(&rt, "memory");
+    tries_no_take_after_a_refusal(&rt, stack, root);
 }
 
 #[test]
-fn no_take_follows_a_refusal_by_a_queue(rt: HostRuntime) -> Result<(), Fail> {
-    let limits = Limits::of(3, MAX_TAG).ok_or("limits")?;
-    let (queue, root) = Queue::<u32>::new(rt.alloc(), limits)?;
-    tries_no_take_after_a_refusal(&rt, queue, root)
+fn no_take_follows_a_refusal_by_a_queue(rt: HostRuntime) {
+    let limits = Limits::of(3, MAX_TAG).expect(&rt, "limits");
+    let (queue, root) = Queue::<u32>::new(rt.alloc(), limits).expect(&rt, "memory");
+    tries_no_take_after_a_refusal(&rt, queue, root);
 }

@@ -1,13 +1,10 @@
 //! Each value is dropped once, whether it was taken or left.
 
-ghost use Rattle.std.specs.Prelude.{IfOk};
-
 use crate::made::{Made, with_room};
 use bounded_model::{Container, Leaving};
 use std::alloc::Global;
 use std::process::Abort;
 use std::sync::{Arc, Wait};
-use std::test::Fail;
 
 // Numbers that look random and are the same in every run (Knuth's MMIX generator).
 #[derive(Drop)]
@@ -37,32 +34,28 @@ fn fill<C: Container<Arc<u8>>, R: Abort + Wait>(
     by: C::Pass,
     value: &Arc<u8>,
     count: u64,
-) -> Result<C::Pass, Fail>
+) -> C::Pass
     requires { C.is_pass container.now by }
-    ensures { IfOk result (C.is_pass container.now) }
+    ensures { C.is_pass container.now result }
 {
     let mut pass = by;
     for _ in 0..count {
-        let (back, put) = container.put(rt, pass, Arc::try_clone(value)?);
+        let (back, put) = container.put(rt, pass, Arc::try_clone(value).expect(rt, "a clone"));
         assert!(rt; put.is_ok());
         pass = back;
     }
-    Ok(pass)
+    pass
 }
 
 // Values go in and out, a few stay, and the container is dropped with them: each is dropped once.
-fn in_and_out<C: Made<Arc<u8>>, R: Abort + Wait>(
-    rt: &R,
-    alloc: Global,
-    dice: &mut Dice,
-) -> Result<(), Fail> {
-    let value = Arc::new(alloc, 7u8)?;
+fn in_and_out<C: Made<Arc<u8>>, R: Abort + Wait>(rt: &R, alloc: Global, dice: &mut Dice) {
+    let value = Arc::new(alloc, 7u8).expect(rt, "memory");
     let value = &value;
-    let (container, mut root) = with_room::<Arc<u8>, C>(alloc, 50)?;
-    let mut pass = container.split(&mut root).ok_or("no pass")?;
+    let (container, mut root) = with_room::<Arc<u8>, C, R>(rt, alloc, 50);
+    let mut pass = container.split(&mut root).expect(rt, "a pass");
     let room = u64::from(container.capacity());
     let through = dice.below(room);
-    pass = fill(rt, &container, pass, value, through)?;
+    pass = fill(rt, &container, pass, value, through);
     assert_eq!(rt; Arc::strong_count(value) as u64, through.saturating_add(1));
     for _ in 0..through {
         let (back, taken) = container.take(rt, pass);
@@ -72,36 +65,31 @@ fn in_and_out<C: Made<Arc<u8>>, R: Abort + Wait>(
     }
     assert_eq!(rt; Arc::strong_count(value), 1);
     let left = dice.below(room);
-    pass = fill(rt, &container, pass, value, left)?;
+    pass = fill(rt, &container, pass, value, left);
     assert_eq!(rt; Arc::strong_count(value) as u64, left.saturating_add(1));
     drop(pass);
     drop(root);
     drop(container);
     assert_eq!(rt; Arc::strong_count(value), 1);
-    Ok(())
 }
 
 /// So many values, and so many that stay, as the dice say: a hundred times.
-pub(crate) fn each_value_once<C: Made<Arc<u8>>, R: Abort + Wait>(
-    rt: &R,
-    alloc: Global,
-) -> Result<(), Fail> {
+pub(crate) fn each_value_once<C: Made<Arc<u8>>, R: Abort + Wait>(rt: &R, alloc: Global) {
     let mut dice = Dice::new();
     for _ in 0..100 {
-        in_and_out::<C, R>(rt, alloc, &mut dice)?;
+        in_and_out::<C, R>(rt, alloc, &mut dice);
     }
-    Ok(())
 }
 
 /// A refused put hands its value back, and a take hands one out: each is dropped where it is. The
 /// container has room for two.
-pub(crate) fn in_use<C: Made<Arc<u8>>, R: Abort + Wait>(rt: &R, alloc: Global) -> Result<(), Fail> {
-    let value = Arc::new(alloc, 7u8)?;
+pub(crate) fn in_use<C: Made<Arc<u8>>, R: Abort + Wait>(rt: &R, alloc: Global) {
+    let value = Arc::new(alloc, 7u8).expect(rt, "memory");
     let value = &value;
-    let (container, mut root) = with_room::<Arc<u8>, C>(alloc, 2)?;
-    let pass = container.split(&mut root).ok_or("no pass")?;
-    let pass = fill(rt, &container, pass, value, 2)?;
-    let (pass, full) = container.put(rt, pass, Arc::try_clone(value)?);
+    let (container, mut root) = with_room::<Arc<u8>, C, R>(rt, alloc, 2);
+    let pass = container.split(&mut root).expect(rt, "a pass");
+    let pass = fill(rt, &container, pass, value, 2);
+    let (pass, full) = container.put(rt, pass, Arc::try_clone(value).expect(rt, "a clone"));
     assert_eq!(rt; Arc::strong_count(value), 4);
     drop(full);
     assert_eq!(rt; Arc::strong_count(value), 3);
@@ -112,19 +100,15 @@ pub(crate) fn in_use<C: Made<Arc<u8>>, R: Abort + Wait>(rt: &R, alloc: Global) -
     drop(root);
     drop(container);
     assert_eq!(rt; Arc::strong_count(value), 1);
-    Ok(())
 }
 
 /// Of three values that are left one is read, and the rest is dropped with the others.
-pub(crate) fn half_read<C: Made<Arc<u8>>, R: Abort + Wait>(
-    rt: &R,
-    alloc: Global,
-) -> Result<(), Fail> {
-    let value = Arc::new(alloc, 7u8)?;
+pub(crate) fn half_read<C: Made<Arc<u8>>, R: Abort + Wait>(rt: &R, alloc: Global) {
+    let value = Arc::new(alloc, 7u8).expect(rt, "memory");
     let value = &value;
-    let (container, mut root) = with_room::<Arc<u8>, C>(alloc, 3)?;
-    let pass = container.split(&mut root).ok_or("no pass")?;
-    let pass = fill(rt, &container, pass, value, 3)?;
+    let (container, mut root) = with_room::<Arc<u8>, C, R>(rt, alloc, 3);
+    let pass = container.split(&mut root).expect(rt, "a pass");
+    let pass = fill(rt, &container, pass, value, 3);
     container.join(&mut root, pass);
     let mut rest = container.finish(root);
     let first = rest.next();
@@ -134,5 +118,4 @@ pub(crate) fn half_read<C: Made<Arc<u8>>, R: Abort + Wait>(
     assert_eq!(rt; Arc::strong_count(value), 3);
     drop(rest);
     assert_eq!(rt; Arc::strong_count(value), 1);
-    Ok(())
 }

@@ -4,97 +4,80 @@ use crate::drops::{self, half_read, in_use};
 use crate::fills::{
     Crowd, consumed, each_value_once, one_value_at_a_time, own_puts_suffice, room_for_its_capacity,
 };
+use crate::made::Made;
+use bounded_model::Order;
 use ms_queue::Queue;
-use std::sync::Arc;
-use std::test::Fail;
+use std::alloc::Global;
+use std::process::Abort;
+use std::sync::{Arc, Wait};
+use std::thread::Threads;
 use treiber_stack::Stack;
 
-#[test]
-fn one_value_goes_through_at_a_time(rt: HostRuntime) -> Result<(), Fail> {
-    one_value_at_a_time::<Queue<u64>, HostRuntime>(&rt, rt.alloc())?;
-    one_value_at_a_time::<Stack<u64>, HostRuntime>(&rt, rt.alloc())
-}
-
-#[test]
-fn a_container_has_room_for_its_capacity(rt: HostRuntime) -> Result<(), Fail> {
+// Numbers by one thread: one at a time, up to the capacity, and consumed in order.
+fn numbers_go_through_one_thread<C: Made<u64>, R: Abort + Wait>(rt: &R, alloc: Global) {
+    one_value_at_a_time::<C, R>(rt, alloc);
     for capacity in 1..10 {
-        room_for_its_capacity::<Queue<u64>, HostRuntime>(&rt, rt.alloc(), capacity)?;
-        room_for_its_capacity::<Stack<u64>, HostRuntime>(&rt, rt.alloc(), capacity)?;
+        room_for_its_capacity::<C, R>(rt, alloc, capacity);
     }
-    Ok(())
-}
-
-#[test]
-fn values_are_consumed_in_order(rt: HostRuntime) -> Result<(), Fail> {
-    let of_queue = consumed::<Queue<u64>, HostRuntime>(&rt, rt.alloc())?;
-    assert!(rt; of_queue == ((2, 0), 23));
-    let of_stack = consumed::<Stack<u64>, HostRuntime>(&rt, rt.alloc())?;
-    assert!(rt; of_stack == ((6, 3), 21));
-    Ok(())
-}
-
-#[test]
-fn one_producer_and_one_consumer(rt: HostRuntime) -> Result<(), Fail> {
-    let crowd = Crowd {
-        producers: 1,
-        consumers: 1,
-        each: 20_000,
+    let wanted = match C::ORDER {
+        Order::Fifo => ((2, 0), 23),
+        Order::Lifo => ((6, 3), 21),
     };
-    for capacity in [1, 3] {
-        each_value_once::<Queue<u64>, HostRuntime>(&rt, rt.alloc(), capacity, crowd)?;
-        each_value_once::<Stack<u64>, HostRuntime>(&rt, rt.alloc(), capacity, crowd)?;
+    assert!(rt; consumed::<C, R>(rt, alloc) == wanted);
+}
+
+// Threads that put and threads that take, how many values each of the former puts, and the room.
+const CROWDS: [(u32, u32, u64, u32); 6] = [
+    (1, 1, 20_000, 1),
+    (1, 1, 20_000, 3),
+    (2, 2, 20_000, 8),
+    (4, 4, 5_000, 1),
+    (4, 4, 5_000, 3),
+    (4, 4, 5_000, 64),
+];
+
+// Numbers by one thread, and by many at once.
+fn numbers_go_through<C: Made<u64> + Sync, R: Abort + Threads + Wait + Sync>(
+    rt: &R,
+    alloc: Global,
+) {
+    numbers_go_through_one_thread::<C, R>(rt, alloc);
+    for (producers, consumers, each, capacity) in CROWDS {
+        let crowd = Crowd {
+            producers,
+            consumers,
+            each,
+        };
+        each_value_once::<C, R>(rt, alloc, capacity, crowd);
     }
-    Ok(())
-}
-
-#[test]
-fn two_producers_and_two_consumers(rt: HostRuntime) -> Result<(), Fail> {
-    let crowd = Crowd {
-        producers: 2,
-        consumers: 2,
-        each: 20_000,
-    };
-    each_value_once::<Queue<u64>, HostRuntime>(&rt, rt.alloc(), 8, crowd)?;
-    each_value_once::<Stack<u64>, HostRuntime>(&rt, rt.alloc(), 8, crowd)
-}
-
-#[test]
-fn many_producers_and_consumers(rt: HostRuntime) -> Result<(), Fail> {
-    let crowd = Crowd {
-        producers: 4,
-        consumers: 4,
-        each: 5_000,
-    };
-    for capacity in [1, 3, 64] {
-        each_value_once::<Queue<u64>, HostRuntime>(&rt, rt.alloc(), capacity, crowd)?;
-        each_value_once::<Stack<u64>, HostRuntime>(&rt, rt.alloc(), capacity, crowd)?;
-    }
-    Ok(())
-}
-
-#[test]
-fn no_take_is_refused_after_an_own_put(rt: HostRuntime) -> Result<(), Fail> {
     for capacity in 1..=4 {
-        own_puts_suffice::<Queue<u64>, HostRuntime>(&rt, rt.alloc(), capacity, 4, 5_000)?;
-        own_puts_suffice::<Stack<u64>, HostRuntime>(&rt, rt.alloc(), capacity, 4, 5_000)?;
+        own_puts_suffice::<C, R>(rt, alloc, capacity, 4, 5_000);
     }
-    Ok(())
 }
 
 #[test]
-fn each_value_is_dropped_once(rt: HostRuntime) -> Result<(), Fail> {
-    drops::each_value_once::<Queue<Arc<u8>>, HostRuntime>(&rt, rt.alloc())?;
-    drops::each_value_once::<Stack<Arc<u8>>, HostRuntime>(&rt, rt.alloc())
+fn numbers_go_through_a_queue(rt: HostRuntime) {
+    numbers_go_through::<Queue<u64>, HostRuntime>(&rt, rt.alloc());
 }
 
 #[test]
-fn values_in_use_are_dropped_once(rt: HostRuntime) -> Result<(), Fail> {
-    in_use::<Queue<Arc<u8>>, HostRuntime>(&rt, rt.alloc())?;
-    in_use::<Stack<Arc<u8>>, HostRuntime>(&rt, rt.alloc())
+fn numbers_go_through_a_stack(rt: HostRuntime) {
+    numbers_go_through::<Stack<u64>, HostRuntime>(&rt, rt.alloc());
+}
+
+// Values that were taken, that are in use, and that are left.
+fn values_are_dropped<C: Made<Arc<u8>>, R: Abort + Wait>(rt: &R, alloc: Global) {
+    drops::each_value_once::<C, R>(rt, alloc);
+    in_use::<C, R>(rt, alloc);
+    half_read::<C, R>(rt, alloc);
 }
 
 #[test]
-fn what_is_left_is_dropped_half_read(rt: HostRuntime) -> Result<(), Fail> {
-    half_read::<Queue<Arc<u8>>, HostRuntime>(&rt, rt.alloc())?;
-    half_read::<Stack<Arc<u8>>, HostRuntime>(&rt, rt.alloc())
+fn values_of_a_queue_are_dropped_once(rt: HostRuntime) {
+    values_are_dropped::<Queue<Arc<u8>>, HostRuntime>(&rt, rt.alloc());
+}
+
+#[test]
+fn values_of_a_stack_are_dropped_once(rt: HostRuntime) {
+    values_are_dropped::<Stack<Arc<u8>>, HostRuntime>(&rt, rt.alloc());
 }

@@ -1,6 +1,6 @@
 //! Values through any container: by one thread, and by many at once.
 
-ghost use Rattle.std.specs.Prelude.{All, IfOk};
+ghost use Rattle.std.specs.Prelude.{All};
 
 use crate::crowd::{exchange, take_after_own_put};
 use crate::log::Log;
@@ -9,7 +9,6 @@ use bounded_model::{Container, Order, PutRefused, TakeRefused, consume_all, cons
 use std::alloc::Global;
 use std::process::Abort;
 use std::sync::Wait;
-use std::test::Fail;
 use std::thread::Threads;
 
 /// Threads that put and threads that take, and how many values each of the former puts.
@@ -21,31 +20,29 @@ pub(crate) struct Crowd {
 }
 
 // So many passes.
-fn passes<C: Container<u64>>(
+fn passes<C: Container<u64>, R: Abort>(
+    rt: &R,
     alloc: Global,
     container: &C,
     root: &mut C::Root,
     count: u32,
-) -> Result<Vec<C::Pass>, Fail>
+) -> Vec<C::Pass>
     requires { C.is_root container.now root.old }
     ensures root { C.is_root container.now root.new }
-    ensures passes { IfOk result (λ ps. All (C.is_pass container.now) ps.items) }
+    ensures passes { All (C.is_pass container.now) result.items }
 {
     let mut all = Vec::new(alloc);
     for _ in 0..count {
-        let pass = container.split(root).ok_or("no pass")?;
-        all.push(pass)?;
+        let pass = container.split(root).expect(rt, "a pass");
+        assert!(rt; all.push(pass).is_ok());
     }
-    Ok(all)
+    all
 }
 
 /// One value in and out, twice, through a container with room for one.
-pub(crate) fn one_value_at_a_time<C: Made<u64>, R: Abort + Wait>(
-    rt: &R,
-    alloc: Global,
-) -> Result<(), Fail> {
-    let (container, mut root) = with_room::<u64, C>(alloc, 1)?;
-    let pass = container.split(&mut root).ok_or("no pass")?;
+pub(crate) fn one_value_at_a_time<C: Made<u64>, R: Abort + Wait>(rt: &R, alloc: Global) {
+    let (container, mut root) = with_room::<u64, C, R>(rt, alloc, 1);
+    let pass = container.split(&mut root).expect(rt, "a pass");
     let (pass, put) = container.put(rt, pass, 7);
     assert!(rt; put.is_ok());
     let (pass, full) = container.put(rt, pass, 9);
@@ -58,7 +55,6 @@ pub(crate) fn one_value_at_a_time<C: Made<u64>, R: Abort + Wait>(
     assert!(rt; taken.map(|found| found.0) == Ok(8));
     let (_, empty) = container.take(rt, pass);
     assert!(rt; empty == Err(TakeRefused::Empty));
-    Ok(())
 }
 
 // Fills an empty container: it has room for so many values and for no other.
@@ -100,24 +96,20 @@ pub(crate) fn room_for_its_capacity<C: Made<u64>, R: Abort + Wait>(
     rt: &R,
     alloc: Global,
     capacity: u32,
-) -> Result<(), Fail> {
-    let (container, mut root) = with_room::<u64, C>(alloc, capacity)?;
-    let pass = container.split(&mut root).ok_or("no pass")?;
+) {
+    let (container, mut root) = with_room::<u64, C, R>(rt, alloc, capacity);
+    let pass = container.split(&mut root).expect(rt, "a pass");
     let pass = fill(rt, &container, pass);
     let pass = empty(rt, &container, pass);
     let pass = fill(rt, &container, pass);
     let _ = empty(rt, &container, pass);
-    Ok(())
 }
 
 /// Of 1, 2 and 3 one is consumed and then all others: answers twice the first with its number, and
 /// the digits of the others.
-pub(crate) fn consumed<C: Made<u64>, R: Abort + Wait>(
-    rt: &R,
-    alloc: Global,
-) -> Result<((u64, u64), u64), Fail> {
-    let (container, mut root) = with_room::<u64, C>(alloc, 3)?;
-    let pass = container.split(&mut root).ok_or("no pass")?;
+pub(crate) fn consumed<C: Made<u64>, R: Abort + Wait>(rt: &R, alloc: Global) -> ((u64, u64), u64) {
+    let (container, mut root) = with_room::<u64, C, R>(rt, alloc, 3);
+    let pass = container.split(&mut root).expect(rt, "a pass");
     let (pass, _) = container.put(rt, pass, 1);
     let (pass, _) = container.put(rt, pass, 2);
     let (pass, _) = container.put(rt, pass, 3);
@@ -125,7 +117,7 @@ pub(crate) fn consumed<C: Made<u64>, R: Abort + Wait>(
     let digits = |state: u64, value: u64| state.wrapping_mul(10).wrapping_add(value);
     let (_, folded, why) = consume_all(&container, rt, pass, 0, digits);
     assert!(rt; why == TakeRefused::Empty);
-    Ok((doubled.ok().ok_or("nothing to take")?, folded))
+    (doubled.ok().expect(rt, "a value to take"), folded)
 }
 
 /// Producers and consumers at once. Each value comes out once, the calls are numbered without a
@@ -136,28 +128,32 @@ pub(crate) fn each_value_once<C: Made<u64> + Sync, R: Abort + Threads + Wait + S
     alloc: Global,
     capacity: u32,
     crowd: Crowd,
-) -> Result<(), Fail> {
-    let (container, mut root) = with_room::<u64, C>(alloc, capacity)?;
+) {
+    let (container, mut root) = with_room::<u64, C, R>(rt, alloc, capacity);
     let values = crowd.each.saturating_mul(u64::from(crowd.producers));
     let log = match C::ORDER {
-        Order::Fifo => Log::of(alloc, values)?,
-        Order::Lifo => Log::of(alloc, values.saturating_mul(2))?,
+        Order::Fifo => Log::of(alloc, values).expect(rt, "memory"),
+        Order::Lifo => Log::of(alloc, values.saturating_mul(2)).expect(rt, "memory"),
     };
-    let producers = passes(alloc, &container, &mut root, crowd.producers)?;
-    let consumers = passes(alloc, &container, &mut root, crowd.consumers)?;
-    let closer = container.split(&mut root).ok_or("no pass")?;
+    let producers = passes(rt, alloc, &container, &mut root, crowd.producers);
+    let consumers = passes(rt, alloc, &container, &mut root, crowd.consumers);
+    let closer = container.split(&mut root).expect(rt, "a pass");
     assert!(rt;
         exchange(
             rt, &container, producers, consumers, closer, crowd.each, &log
         )
     );
     assert!(rt; log.is_sound());
-    assert!(rt; log.has_puts_of(alloc, crowd.producers, crowd.each)?);
+    assert!(rt;
+        matches!(
+            log.has_puts_of(alloc, crowd.producers, crowd.each),
+            Ok(true)
+        )
+    );
     match C::ORDER {
         Order::Fifo => assert!(rt; log.is_of_a_queue()),
-        Order::Lifo => assert!(rt; log.is_of_a_stack(alloc)?),
+        Order::Lifo => assert!(rt; matches!(log.is_of_a_stack(alloc), Ok(true))),
     }
-    Ok(())
 }
 
 /// Threads that each put and take in turn: no take is refused.
@@ -167,11 +163,10 @@ pub(crate) fn own_puts_suffice<C: Made<u64> + Sync, R: Abort + Threads + Wait + 
     capacity: u32,
     threads: u32,
     times: u64,
-) -> Result<(), Fail> {
-    let (container, mut root) = with_room::<u64, C>(alloc, capacity)?;
-    let log = Log::of(alloc, 0)?;
-    let passes = passes(alloc, &container, &mut root, threads)?;
+) {
+    let (container, mut root) = with_room::<u64, C, R>(rt, alloc, capacity);
+    let log = Log::of(alloc, 0).expect(rt, "memory");
+    let passes = passes(rt, alloc, &container, &mut root, threads);
     assert!(rt; take_after_own_put(rt, &container, passes, times, &log));
     assert!(rt; log.is_sound());
-    Ok(())
 }

@@ -5,7 +5,7 @@ ghost use Rattle.std.specs.Prelude.{IfOk};
 use bounded_model::{Container, MakeRefused};
 use ms_queue::{self, Queue};
 use std::alloc::Global;
-use std::test::Fail;
+use std::process::Abort;
 use tagged_index::{Limits, MAX_TAG};
 use treiber_stack::{self, Stack};
 
@@ -31,10 +31,13 @@ impl<T: Drop + Send> Made<T> for Stack<T> {
 }
 
 /// A container with room for so many values, and its root.
-pub(crate) fn with_room<T, C: Made<T>>(alloc: Global, capacity: u32) -> Result<(C, C::Root), Fail>
-    ensures { IfOk result (λ made. C.is_root made.0 made.1) }
+pub(crate) fn with_room<T, C: Made<T>, R: Abort>(
+    rt: &R,
+    alloc: Global,
+    capacity: u32,
+) -> (C, C::Root)
+    ensures { C.is_root result.0 result.1 }
 {
-    let limits = Limits::of(capacity, MAX_TAG).ok_or("limits")?;
-    let made = C::made(alloc, limits)?;
-    Ok(made)
+    let limits = Limits::of(capacity, MAX_TAG).expect(rt, "limits");
+    C::made(alloc, limits).expect(rt, "memory")
 }

@@ -1,18 +1,18 @@
 //! The sequential list, command by command.
 use bounded_model::{Command, Order, PlainList, PutRefused, Reply, TakeRefused};
-use std::test::Fail;
 
 #[test]
-fn a_queue_of_one(rt: HostRuntime) -> Result<(), Fail> {
+fn a_queue_of_one(rt: HostRuntime) {
     let alloc = rt.alloc();
-    let mut list = PlainList::new(alloc, 1, Order::Fifo)?;
+    let mut list = PlainList::new(alloc, 1, Order::Fifo).expect(&rt, "memory");
     let commands = vec![in alloc;
         Command::Put("x"),
         Command::Put("y"),
         Command::Take,
         Command::Take,
-    ]?;
-    let replies = list.run(alloc, commands)?;
+    ]
+    .expect(&rt, "memory");
+    let replies = list.run(alloc, commands).expect(&rt, "memory");
     let expected = [
         Reply::Put(Ok(0)),
         Reply::Put(Err(PutRefused::Full("y"))),
@@ -21,21 +21,21 @@ fn a_queue_of_one(rt: HostRuntime) -> Result<(), Fail> {
     ];
     assert_eq!(rt; replies.as_slice(), expected.as_slice());
     assert_eq!(rt; list.into_values().len(), 0);
-    Ok(())
 }
 
 #[test]
-fn a_stack_numbers_puts_and_takes_together(rt: HostRuntime) -> Result<(), Fail> {
+fn a_stack_numbers_puts_and_takes_together(rt: HostRuntime) {
     let alloc = rt.alloc();
-    let mut list = PlainList::new(alloc, 3, Order::Lifo)?;
+    let mut list = PlainList::new(alloc, 3, Order::Lifo).expect(&rt, "memory");
     let commands = vec![in alloc;
         Command::Put("x"),
         Command::Put("y"),
         Command::Put("z"),
         Command::Look,
         Command::Take,
-    ]?;
-    let replies = list.run(alloc, commands)?;
+    ]
+    .expect(&rt, "memory");
+    let replies = list.run(alloc, commands).expect(&rt, "memory");
     let expected = [
         Reply::Put(Ok(0)),
         Reply::Put(Ok(1)),
@@ -48,12 +48,11 @@ fn a_stack_numbers_puts_and_takes_together(rt: HostRuntime) -> Result<(), Fail> 
     assert_eq!(rt; left.pop_front(), Some("y"));
     assert_eq!(rt; left.pop_front(), Some("x"));
     assert_eq!(rt; left.pop_front(), None);
-    Ok(())
 }
 
 #[test]
-fn a_closed_queue_is_drained(rt: HostRuntime) -> Result<(), Fail> {
-    let mut list = PlainList::new(rt.alloc(), 1, Order::Fifo)?;
+fn a_closed_queue_is_drained(rt: HostRuntime) {
+    let mut list = PlainList::new(rt.alloc(), 1, Order::Fifo).expect(&rt, "memory");
     assert_eq!(rt; list.put("x"), Ok(0));
     assert!(rt; list.close());
     assert_eq!(rt; list.put("y"), Err(PutRefused::Closed("y")));
@@ -62,13 +61,12 @@ fn a_closed_queue_is_drained(rt: HostRuntime) -> Result<(), Fail> {
     assert_eq!(rt; list.put("z"), Err(PutRefused::Closed("z")));
     assert!(rt; !list.close());
     assert!(rt; list.is_empty());
-    Ok(())
 }
 
 #[test]
-fn a_shut_list_takes_puts_alone(rt: HostRuntime) -> Result<(), Fail> {
+fn a_shut_list_takes_puts_alone(rt: HostRuntime) {
     let alloc = rt.alloc();
-    let mut list = PlainList::new(alloc, 2, Order::Fifo)?;
+    let mut list = PlainList::new(alloc, 2, Order::Fifo).expect(&rt, "memory");
     let commands = vec![in alloc;
         Command::Put("x"),
         Command::Put("y"),
@@ -79,8 +77,9 @@ fn a_shut_list_takes_puts_alone(rt: HostRuntime) -> Result<(), Fail> {
         Command::Close,
         Command::Take,
         Command::Put("z"),
-    ]?;
-    let replies = list.run(alloc, commands)?;
+    ]
+    .expect(&rt, "memory");
+    let replies = list.run(alloc, commands).expect(&rt, "memory");
     let expected = [
         Reply::Put(Ok(0)),
         Reply::Put(Ok(1)),
@@ -97,7 +96,6 @@ fn a_shut_list_takes_puts_alone(rt: HostRuntime) -> Result<(), Fail> {
     assert_eq!(rt; left.pop_front(), Some("x"));
     assert_eq!(rt; left.pop_front(), Some("y"));
     assert_eq!(rt; left.pop_front(), None);
-    Ok(())
 }
 
 // Holds whichever allocation is refused: `rt try --test --fail-alloc N` refuses the list's room,

@@ -1,12 +1,11 @@
-//! Tests of the queue that need none of its private names: its calls by single steps, counted and
-//! stopped, and what becomes of the values of a call that is dropped between two of them.
+//! Tests of the queue alone that no script shows: how a queue is made, and what becomes of the values
+//! of a call that is dropped between two steps. Its calls and their steps are played by the program
+//! (`tests/cases`).
 #![tactic(auto)]
 
 #[cfg(test)]
-mod answered;
-#[cfg(test)]
 mod drops;
 #[cfg(test)]
-mod steps;
+mod making;
 #[cfg(test)]
-mod stops;
+mod steps;

@@ -6,7 +6,6 @@ use bounded_model::{Container, PutRefused, TakeRefused};
 use std::alloc::{AllocFailed, Global};
 use std::sync::Wait;
 use std::sync::atomic::{AtomicU64, Ordering};
-use std::test::Fail;
 use std::thread;
 use tagged_index::{Limits, MAX_TAG};
 use treiber_stack::{Pass, Stack};
@@ -141,16 +140,16 @@ fn fold_each<R: Wait>(rt: &R, stack: &Stack<u64>, by: Pass<u64>, tally: &Tally)
 }
 
 #[test]
-fn ranges_and_folds_beside_takes_keep_each_value(rt: HostRuntime) -> Result<(), Fail> {
-    let limits = Limits::of(8, MAX_TAG).ok_or("limits")?;
-    let (stack, mut root) = Stack::<u64>::new(rt.alloc(), limits)?;
-    let whole = Tally::of(rt.alloc(), 6 * RANGES)?;
+fn ranges_and_folds_beside_takes_keep_each_value(rt: HostRuntime) {
+    let limits = Limits::of(8, MAX_TAG).expect(&rt, "limits");
+    let (stack, mut root) = Stack::<u64>::new(rt.alloc(), limits).expect(&rt, "memory");
+    let whole = Tally::of(rt.alloc(), 6 * RANGES).expect(&rt, "memory");
     let (shared, tally) = (&stack, &whole);
-    let low = stack.split(&mut root).ok_or("no pass")?;
-    let high = stack.split(&mut root).ok_or("no pass")?;
-    let taker = stack.split(&mut root).ok_or("no pass")?;
-    let folder = stack.split(&mut root).ok_or("no pass")?;
-    let closer = stack.split(&mut root).ok_or("no pass")?;
+    let low = stack.split(&mut root).expect(&rt, "a pass");
+    let high = stack.split(&mut root).expect(&rt, "a pass");
+    let taker = stack.split(&mut root).expect(&rt, "a pass");
+    let folder = stack.split(&mut root).expect(&rt, "a pass");
+    let closer = stack.split(&mut root).expect(&rt, "a pass");
     let threads = &rt;
     thread::scope(
         thread::scope_env(),
@@ -196,5 +195,4 @@ fn ranges_and_folds_beside_takes_keep_each_value(rt: HostRuntime) -> Result<(), 
         },
     );
     assert!(rt; whole.is_each_once());
-    Ok(())
 }

@@ -1,18 +1,13 @@
-//! Tests of the stack that need none of its private names: its calls, its ranges and folds, alone
-//! and in a crowd, and what becomes of the values of a call that is dropped between two steps.
+//! Tests of the stack alone that no script shows: ranges and folds in a crowd, how a stack is made
+//! and how many passes it gives, and what becomes of the values of a call that is dropped between
+//! two steps. Its calls and their steps are played by the program (`tests/cases`).
 #![tactic(auto)]
 
-#[cfg(test)]
-mod answered;
-#[cfg(test)]
-mod calls;
 #[cfg(test)]
 mod crowd;
 #[cfg(test)]
 mod drops;
 #[cfg(test)]
-mod folds;
-#[cfg(test)]
-mod ranges;
+mod making;
 #[cfg(test)]
 mod steps;

@@ -1,5 +1,5 @@
 use Rattle.treiber_stack.specs.Stack.{IsRootOf}
-use Rattle.stack_tests.proofs.calls.no_pass_is_given_beyond_65535.Given as goal
+use Rattle.stack_tests.proofs.making.no_pass_is_given_beyond_65535.Given as goal
 
 abbrev pub invariant-loop : goal.invariant-loop
 invariant-loop g l = IsRootOf l.stack l.root
