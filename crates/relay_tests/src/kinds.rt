@@ -1,13 +1,11 @@
-//! The containers that the relays of the tests go through. Each test is written once, for any kind.
+//! The containers that the relays of the tests go through.
 
 ghost use Rattle.std.specs.Prelude.{◌≤◌};
 ghost use Rattle.relay.specs.Messages.{AreInputsFrom};
 
-use crate::tallies::numbers;
-use audit::{check_queue, check_stack};
 use ms_queue::Queue;
 use relay::{Gate, Message, Plan, RelayFault, Relayed, numbered, run, run_freely};
-use std::alloc::{AllocError, Global};
+use std::process::Abort;
 use std::sync::Wait;
 use std::thread::Threads;
 use tagged_index::{Limits, MAX_TAG};
@@ -26,14 +24,6 @@ pub(crate) enum Kind {
 /// Each kind.
 pub(crate) const KINDS: [Kind; 2] = [Kind::Queue, Kind::Stack];
 
-/// Whether a container of this kind allows this outcome.
-pub(crate) fn is_allowed(alloc: Global, kind: Kind, relayed: &Relayed) -> Result<bool, AllocError> {
-    match kind {
-        Kind::Queue => Ok(check_queue(relayed)),
-        Kind::Stack => Ok(check_stack(&numbers(alloc, relayed)?)),
-    }
-}
-
 /// So many consumers, and nothing else asked for.
 pub(crate) fn plan(consumers: u32) -> Plan {
     Plan {
@@ -44,33 +34,26 @@ pub(crate) fn plan(consumers: u32) -> Plan {
     }
 }
 
-/// An input for each length, with so many messages of so many bytes.
-pub(crate) fn inputs(
-    alloc: Global,
-    lengths: &[u32],
-    bytes: usize,
-) -> Result<Vec<Vec<Message>>, AllocError> {
-    let mut inputs = Vec::new(alloc);
+/// An input for each length, with so many messages, which have no text.
+fn inputs<R: Abort + AllocGlobal>(rt: &R, lengths: &[u32]) -> Vec<Vec<Message>> {
+    let mut inputs = Vec::new(rt.alloc());
     let mut sender: u32 = 0;
     for length in lengths {
-        let mut messages = Vec::new(alloc);
+        let mut messages = Vec::new(rt.alloc());
         for seq in 0..*length {
-            let text = vec![in alloc; letter(sender, seq); bytes]?;
-            messages.push(Message { sender, seq, text })?;
+            let text = Vec::new(rt.alloc());
+            messages
+                .push(Message { sender, seq, text })
+                .expect(rt, "memory");
         }
-        inputs.push(messages)?;
+        inputs.push(messages).expect(rt, "memory");
         sender = sender.saturating_add(1);
     }
-    Ok(inputs)
-}
-
-/// The byte that a message of these numbers is made of.
-pub(crate) fn letter(sender: u32, seq: u32) -> u8 {
-    b'a' + (sender.wrapping_mul(7).wrapping_add(seq) % 26) as u8
+    inputs
 }
 
 /// Relays inputs of these lengths over a container of this capacity and this tag limit.
-pub(crate) fn relay_over<G: Gate + Sync, R: AllocGlobal + Threads + Wait + Sync>(
+pub(crate) fn relay_over<G: Gate + Sync, R: Abort + AllocGlobal + Threads + Wait + Sync>(
     rt: &R,
     kind: Kind,
     (capacity, tag_limit): (u32, u64),
@@ -78,19 +61,7 @@ pub(crate) fn relay_over<G: Gate + Sync, R: AllocGlobal + Threads + Wait + Sync>
     plan: Plan,
     gate: &G,
 ) -> Result<Relayed, RelayFault> {
-    let inputs = inputs(rt.alloc(), lengths, 1)?;
-    relay_inputs(rt, kind, (capacity, tag_limit), inputs, plan, gate)
-}
-
-/// Relays these inputs.
-pub(crate) fn relay_inputs<G: Gate + Sync, R: AllocGlobal + Threads + Wait + Sync>(
-    rt: &R,
-    kind: Kind,
-    (capacity, tag_limit): (u32, u64),
-    inputs: Vec<Vec<Message>>,
-    plan: Plan,
-    gate: &G,
-) -> Result<Relayed, RelayFault> {
+    let inputs = inputs(rt, lengths);
     let Some(limits) = Limits::of(capacity, tag_limit) else {
         return Err(RelayFault::TooSmall);
     };
@@ -104,13 +75,13 @@ pub(crate) fn relay_inputs<G: Gate + Sync, R: AllocGlobal + Threads + Wait + Syn
 }
 
 /// Relays inputs of these lengths over a queue of this capacity, with no gate.
-pub(crate) fn relay_freely<R: AllocGlobal + Threads + Wait + Sync>(
+pub(crate) fn relay_freely<R: Abort + AllocGlobal + Threads + Wait + Sync>(
     rt: &R,
     capacity: u32,
     lengths: &[u32],
     plan: Plan,
 ) -> Result<Relayed, RelayFault> {
-    let inputs = inputs(rt.alloc(), lengths, 1)?;
+    let inputs = inputs(rt, lengths);
     let Some(limits) = Limits::of(capacity, MOST) else {
         return Err(RelayFault::TooSmall);
     };

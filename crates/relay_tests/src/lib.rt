@@ -1,26 +1,17 @@
-//! Tests of relays over each container, and of the files that they read and the texts that tell
-//! what they did: worked examples, workers that really run at once, readers and writers that fail.
+//! Tests of what `relay` and `audit` promise and no run of the program shows: a gate that holds
+//! workers, containers whose tags end early, more workers than there are passes, checks of inputs
+//! and outcomes, and how much of a text went out.
 #![tactic(auto)]
 
 #[cfg(test)]
 mod checks;
 #[cfg(test)]
-mod faults;
-#[cfg(test)]
 mod gates;
 #[cfg(test)]
 mod kinds;
 #[cfg(test)]
-mod many;
+mod made;
 #[cfg(test)]
-mod numbering;
-#[cfg(test)]
-mod outcomes;
-#[cfg(test)]
-mod reading;
-#[cfg(test)]
-mod spent;
-#[cfg(test)]
-mod tallies;
+mod relays;
 #[cfg(test)]
 mod writing;

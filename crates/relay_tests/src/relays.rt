@@ -1,0 +1,90 @@
+//! Relays that the program never asks for: over containers whose tags end early, of more workers
+//! than there are passes, and without a gate.
+
+use crate::gates::Counting;
+use crate::kinds::{KINDS, Kind, MOST, plan, relay_freely, relay_over};
+use audit::check_queue;
+use relay::{FreeGate, Message, Plan, RelayFault, Relayed};
+use std::process::Abort;
+use std::sync::Wait;
+use std::thread::Threads;
+
+// The seqs of these messages, in their order, are those.
+fn have_seqs<R: Abort + AllocGlobal>(rt: &R, messages: &[Message], wanted: &[u32]) {
+    let mut seqs = Vec::new(rt.alloc());
+    for message in messages {
+        seqs.push(message.seq).expect(rt, "memory");
+    }
+    assert_eq!(rt; seqs.as_slice(), wanted);
+}
+
+// The only sender's third message is unsent, and these are left.
+fn keeps<R: Abort + AllocGlobal>(rt: &R, relayed: &Relayed, left: &[u32]) {
+    have_seqs(rt, &relayed.left, left);
+    let Some(unsent) = relayed.unsent.first() else {
+        panic!(rt; "no list for the sender")
+    };
+    have_seqs(rt, unsent, &[2]);
+}
+
+// The tags allow two puts. What is left and unsent shows that the messages go through the
+// container.
+fn keeps_what_it_has<R: Abort + AllocGlobal + Threads + Wait + Sync>(rt: &R, kind: Kind) {
+    let takes_none = Plan {
+        take: Some(0),
+        ..plan(1)
+    };
+    let relayed = relay_over(rt, kind, (4, 2), &[3], takes_none, &FreeGate).expect(rt, "a relay");
+    assert_eq!(rt; relayed.delivered.len(), 0);
+    let left = match kind {
+        Kind::Queue => [0u32, 1],
+        Kind::Stack => [1, 0],
+    };
+    keeps(rt, &relayed, left.as_slice());
+}
+
+#[test]
+fn a_spent_container_keeps_what_it_has(rt: HostRuntime) {
+    for kind in KINDS {
+        keeps_what_it_has(&rt, kind);
+    }
+}
+
+// The tags allow two puts and a take. Two messages fill the stack, and the producer has met that
+// twice, before each consumer's first try. One message is taken: then the other consumer, and the
+// producer, find the tags spent.
+#[test]
+fn consumers_meet_a_spent_stack(rt: HostRuntime) {
+    let gate = Counting::new(4);
+    let relayed = relay_over(&rt, Kind::Stack, (2, 3), &[3], plan(2), &gate).expect(&rt, "a relay");
+    assert!(rt; gate.was_in_turn());
+    assert_eq!(rt; relayed.delivered.len(), 1);
+    for taken in &relayed.delivered {
+        assert_eq!(rt; taken.message.seq, 1);
+    }
+    keeps(&rt, &relayed, &[0]);
+}
+
+// 65,534 producers, a consumer and the closing pass would need one pass more than there are.
+#[test]
+fn a_relay_of_too_many_workers_gets_no_pass(rt: HostRuntime) {
+    let lengths = vec![in rt.alloc(); 0u32; 65_534].expect(&rt, "memory");
+    for kind in KINDS {
+        let answer = relay_over(&rt, kind, (1, MOST), &lengths, plan(1), &FreeGate);
+        assert!(rt; matches!(answer, Err(RelayFault::NoPass)));
+    }
+}
+
+#[test]
+fn a_relay_without_a_gate_delivers_all(rt: HostRuntime) {
+    let relayed = relay_freely(&rt, 2, &[3, 2], plan(2)).expect(&rt, "a relay");
+    let of_first = relayed
+        .delivered
+        .iter()
+        .filter(|taken| taken.message.sender == 0)
+        .count();
+    assert_eq!(rt; (of_first, relayed.delivered.len()), (3usize, 5usize));
+    assert!(rt; relayed.left.is_empty());
+    assert!(rt; relayed.unsent.iter().all(|messages| messages.is_empty()));
+    assert!(rt; check_queue(&relayed));
+}
