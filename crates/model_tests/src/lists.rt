@@ -69,8 +69,9 @@ fn a_shut_list_takes_puts_alone(rt: HostRuntime) {
     let mut list = PlainList::new(alloc, 2, Order::Fifo).expect(&rt, "memory");
     let commands = vec![in alloc;
         Command::Put("x"),
-        Command::Put("y"),
         Command::Shut,
+        Command::Put("y"),
+        Command::Take,
         Command::Look,
         Command::Shut,
         Command::Put("z"),
@@ -82,8 +83,9 @@ fn a_shut_list_takes_puts_alone(rt: HostRuntime) {
     let replies = list.run(alloc, commands).expect(&rt, "memory");
     let expected = [
         Reply::Put(Ok(0)),
-        Reply::Put(Ok(1)),
         Reply::Shut(true),
+        Reply::Put(Ok(1)),
+        Reply::Take(Err(TakeRefused::Shut)),
         Reply::Look(false),
         Reply::Shut(false),
         Reply::Put(Err(PutRefused::Full("z"))),
