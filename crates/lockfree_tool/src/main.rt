@@ -3,11 +3,12 @@
 //! `program`; here are the words, files and streams of a process.
 #![tactic(auto)]
 
-use program::{OpenFiles, run};
+use program::run;
 use std::io::{self, BufWriter};
 use std::process::ExitCode;
 use std::rt::Files;
 use std::{env, fs};
+use streams::OpenFiles;
 
 /// How many bytes one write to standard output has, but for the last.
 const OUTPUT_BUFFER: usize = 65_536;

@@ -12,14 +12,15 @@ use Rattle.relay.specs.Promises.{Lists, LosesNothing, IsAmple, Relays, IsTooSmal
 use Rattle.audit.specs.declared.message_file.TheConstants.{MAX_LINES}
 use Rattle.audit.specs.Reading.{texts}
 use Rattle.audit.proofs.Delivered.{AreTaken, audit-all}
-use Rattle.program.specs.declared.words.RelayArgs.{RelayArgs}
-use Rattle.program.specs.declared.command_line.TheConstants.{MAX_FILES}
-use Rattle.program.specs.Inputs.{AreRead, AreReady}
-use Rattle.program.specs.Ranges.{plan_of}
-use Rattle.program.specs.Relaying.{FromReaders, GrowsByFront, IsRelayed, RelaysInputs, Written, outcome_text, shape_for}
+use Rattle.words.specs.declared.chosen.RelayArgs.{RelayArgs}
+use Rattle.words.specs.declared.command_line.TheConstants.{MAX_FILES}
+use Rattle.streams.specs.Inputs.{AreRead}
+use Rattle.streams.specs.Writing.{GrowsByFront, outcome_text}
+use Rattle.words.specs.Ranges.{plan_of}
+use Rattle.program.specs.Relaying.{AreReady, FromReaders, IsRelayed, RelaysInputs, Written, shape_for}
 use Rattle.program.specs.Measuring.{MeasuresInputs, Streams}
-use Rattle.program.specs.declared.tool_fault.ToolFault.{ToolFault}
-use Rattle.program.specs.declared.tool_fault.ToolFault.TheVariants.{Output}
+use Rattle.streams.specs.declared.tool_fault.ToolFault.{ToolFault}
+use Rattle.streams.specs.declared.tool_fault.ToolFault.TheVariants.{Output}
 use Rattle.std.specs.Io.KnownBytes.{Appends}
 
 -- ---- what readers gave

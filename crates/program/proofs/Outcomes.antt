@@ -1,17 +1,18 @@
 -- What is known after a script was read from a reader whose bytes are known.
 use Rattle.std.proofs.Common.{◌≡◌, ◌≢◌, ℕ, List, Option, Some, None, Result, Ok, Err, ap, subst, ◌∙◌, inl}
 use Rattle.std.specs.Prelude.{IfErr, IfOk, IfSome, OnOk}
-use Rattle.program.specs.declared.fault.ReplayFault.{ReplayFault}
-use Rattle.program.specs.declared.fault.ReplayFault.TheVariants.{Output}
+use Rattle.streams.specs.declared.fault.ReplayFault.{ReplayFault}
+use Rattle.streams.specs.declared.fault.ReplayFault.TheVariants.{Output}
 use Rattle.script.specs.declared.fault.ScriptFault.{ScriptFault}
 use Rattle.script.specs.declared.fault.ScriptFault.TheVariants.{NoMemory, NoFinalNewline, BadLine}
 use Rattle.script.specs.declared.line.Line.{Line}
 use Rattle.script.specs.Faults.{IsAccepted, IsTextFault}
 use Rattle.script.specs.Script.{Head, IsScript}
 use Rattle.script.proofs.Laws.{same_script}
-use Rattle.program.specs.Failure.{replay_fault_of}
+use Rattle.streams.specs.Failure.{replay_fault_of}
 use Rattle.std.specs.Io.KnownBytes.{Appends}
-use Rattle.program.specs.Outcome.{AppendsFront, IsFaultOf, IsOutputFor, IsOutputOf, IsOutside, Wrote, WroteFront}
+use Rattle.streams.specs.Writing.{AppendsFront}
+use Rattle.program.specs.Outcome.{IsFaultOf, IsOutputFor, IsOutputOf, IsOutside, Wrote, WroteFront}
 
 -- the text that was read is all of the known bytes
 known_text : (known : Option (List ℕ)) (read text : List ℕ) (P : List ℕ → Type 0) → IfSome known (λ bytes. read ≡ bytes) → text ≡ read → P text → IfSome known P

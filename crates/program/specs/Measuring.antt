@@ -4,10 +4,10 @@ use Rattle.std.specs.Io.KnownBytes.{Appends}
 use Rattle.relay.specs.declared.outcome.Relayed.{Relayed}
 use Rattle.relay.specs.Promises.{Lists}
 use Rattle.program.specs.declared.stats.Stats.{Stats}
-use Rattle.program.specs.declared.tool_fault.ToolFault.{ToolFault}
-use Rattle.program.specs.declared.words.RelayArgs.{RelayArgs}
-use Rattle.program.specs.Outcome.{AppendsFront}
-use Rattle.program.specs.Relaying.{IsRelayed, RelaysInputs, Written, outcome_text}
+use Rattle.streams.specs.declared.tool_fault.ToolFault.{ToolFault}
+use Rattle.words.specs.declared.chosen.RelayArgs.{RelayArgs}
+use Rattle.streams.specs.Writing.{AppendsFront, outcome_text}
+use Rattle.program.specs.Relaying.{IsRelayed, RelaysInputs, Written}
 use Rattle.program.specs.Stats.{IsStatsOf, stats_text}
 
 -- the stats of this outcome, or a front of them, were told to a writer

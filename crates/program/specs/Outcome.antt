@@ -1,8 +1,9 @@
 -- What a replay of a text does.
-use Rattle.std.specs.Prelude.{◌≡◌, ℕ, ◌⊎◌, List, take, map, Option}
+use Rattle.std.specs.Prelude.{◌≡◌, ℕ, ◌⊎◌, List, map, Option}
 use Rattle.std.specs.Io.KnownBytes.{Appends}
-use Rattle.program.specs.declared.fault.ReplayFault.{ReplayFault}
-use Rattle.program.specs.declared.fault.ReplayFault.TheVariants.{NoMemory, Device, NoFinalNewline, TooLong, BadLine, Output}
+use Rattle.streams.specs.declared.fault.ReplayFault.{ReplayFault}
+use Rattle.streams.specs.declared.fault.ReplayFault.TheVariants.{NoMemory, Device, NoFinalNewline, TooLong, BadLine, Output}
+use Rattle.streams.specs.Writing.{AppendsFront}
 use Rattle.bounded_model.specs.declared.history.Order.{Order}
 use Rattle.script.specs.declared.answer.Answer.{Answer}
 use Rattle.script.specs.declared.line.Line.{Line}
@@ -38,10 +39,6 @@ IsFaultOf Output text = IsAccepted text
 -- the fault is none of the text's
 abbrev pub IsOutside : ReplayFault → Type 0
 IsOutside fault = (fault ≡ NoMemory) ⊎ ((fault ≡ Device) ⊎ ((fault ≡ TooLong) ⊎ (fault ≡ Output)))
-
--- known bytes grow by a front of these
-abbrev pub AppendsFront : Option (List ℕ) → Option (List ℕ) → List ℕ → Type 0
-AppendsFront old new bytes = (n : ℕ) × Appends old new (take n bytes)
 
 -- some output for the text went out, or a front of one
 pub record Wrote (text : List ℕ) (old new : Option (List ℕ)) : Type 0 where

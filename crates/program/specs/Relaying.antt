@@ -1,5 +1,5 @@
 -- What is written for a relay, and what a relay of files does.
-use Rattle.std.specs.Prelude.{◌≡◌, ℕ, Bool, true, false, List, ◌++◌, Option, None, Result, Ok, Err}
+use Rattle.std.specs.Prelude.{◌≡◌, ℕ, ◌*◌, ◌≤◌, List, length, Option, None, Result, Ok, Err}
 use Rattle.std.specs.Io.KnownBytes.{Appends}
 use Rattle.bounded_model.specs.declared.history.Order.{Order}
 use Rattle.bounded_model.specs.declared.history.Order.TheVariants.{Fifo, Lifo}
@@ -8,28 +8,20 @@ use Rattle.tagged_index.specs.declared.word.TheConstants.{MAX_TAG}
 use Rattle.relay.specs.declared.faults.RelayFault.{RelayFault}
 use Rattle.relay.specs.declared.faults.RelayFault.TheVariants.{NoMemory, NoPass, NoThread, TooSmall}
 use Rattle.relay.specs.declared.outcome.Relayed.{Relayed}
+use Rattle.relay.specs.Messages.{AreInputsFrom}
 use Rattle.relay.specs.Promises.{Lists, Relays, IsTooSmall, total}
+use Rattle.audit.specs.declared.message_file.TheConstants.{MAX_LINES}
 use Rattle.audit.specs.Delivered.{full_audit}
-use Rattle.audit.specs.Texts.{audit_text, list_text}
-use Rattle.program.specs.declared.words.Kind.{Kind}
-use Rattle.program.specs.declared.words.Kind.TheVariants.{Queue, Stack}
-use Rattle.program.specs.declared.words.RelayArgs.{RelayArgs}
-use Rattle.program.specs.declared.tool_fault.ToolFault.{ToolFault}
-use Rattle.program.specs.declared.tool_fault.ToolFault.TheVariants.{File, Relay, Output}
-use Rattle.program.specs.Inputs.{AreRead, IsFileFault}
-use Rattle.program.specs.Ranges.{plan_of}
-
--- the audit, and then the list where it is wanted
-abbrev pub outcome_text : Bool → Relayed → List ℕ
-outcome_text true relayed = audit_text relayed ++ list_text relayed
-outcome_text false relayed = audit_text relayed
-
--- known bytes grow by a front of this text
-pub record GrowsByFront (text : List ℕ) (old new : Option (List ℕ)) : Type 0 where
-  pub front : List ℕ
-  pub rest : List ℕ
-  pub whole : text ≡ front ++ rest
-  pub bytes : Appends old new front
+use Rattle.audit.specs.Texts.{audit_text}
+use Rattle.words.specs.declared.chosen.Kind.{Kind}
+use Rattle.words.specs.declared.chosen.Kind.TheVariants.{Queue, Stack}
+use Rattle.words.specs.declared.chosen.RelayArgs.{RelayArgs}
+use Rattle.streams.specs.declared.tool_fault.ToolFault.{ToolFault}
+use Rattle.streams.specs.declared.tool_fault.ToolFault.TheVariants.{File, Relay, Output}
+use Rattle.streams.specs.Inputs.{AreRead, IsFileFault}
+use Rattle.streams.specs.Writing.{GrowsByFront, outcome_text}
+use Rattle.words.specs.declared.command_line.TheConstants.{MAX_FILES}
+use Rattle.words.specs.Ranges.{plan_of}
 
 -- in which order a container of this kind gives values back
 abbrev pub order_of : Kind → Order
@@ -45,6 +37,12 @@ pub record StopsNowhere (args : RelayArgs) : Type 0 where
   pub take : args.take ≡ None
   pub close_after : args.close_after ≡ None
   pub shut_after : args.shut_after ≡ None
+
+-- inputs that a relay takes: from sender 0 on, no more of them than files are taken, with no more messages than these hold
+pub record AreReady (inputs : Lists) : Type 0 where
+  pub numbered : AreInputsFrom 0 inputs
+  pub files : length inputs ≤ MAX_FILES
+  pub few : total inputs ≤ MAX_FILES * MAX_LINES
 
 -- these inputs were relayed, with this outcome; where no worker was to stop early, each line of its audit says that
 -- all that was read was delivered

@@ -1,26 +1,23 @@
 //! A relay of files that is measured.
 
 ghost use Rattle.std.specs.Prelude.{◌≡◌, ◌≢◌, ◌≤◌, IfErr, length};
-ghost use Rattle.program.specs.declared.command_line.TheConstants.{MAX_FILES};
-ghost use Rattle.program.specs.declared.tool_fault.ToolFault.TheVariants.{Output};
+ghost use Rattle.words.specs.declared.command_line.TheConstants.{MAX_FILES};
+ghost use Rattle.streams.specs.declared.tool_fault.ToolFault.TheVariants.{Output};
 ghost use Rattle.program.specs.Measuring.{MeasuresInputs};
-ghost use Rattle.program.specs.Ranges.{IsInRange};
+ghost use Rattle.words.specs.Ranges.{IsInRange};
 ghost use Rattle.program.specs.Relaying.{FromReaders};
 
-use crate::inputs::read_inputs;
-use crate::outcome::write_outcome;
-use crate::output::write_all;
 use crate::relaying::relay_inputs;
 use crate::stats::Stats;
-use crate::tool_fault::ToolFault;
 use crate::tries::Tries;
-use crate::words::RelayArgs;
 use std::alloc::Global;
 use std::io::{self, Read, Write};
 use std::mem;
 use std::sync::Wait;
 use std::thread::Threads;
 use std::time::{Clock, Instant};
+use streams::{ToolFault, read_inputs, write_all, write_outcome};
+use words::RelayArgs;
 
 /// Relays as [`relay_main`](crate::relay_main) does, and then tells of the relay on `errors`: its
 /// time and messages a second, how many messages each consumer took, and the refusals that were

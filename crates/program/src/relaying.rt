@@ -4,18 +4,13 @@ ghost use Rattle.std.specs.Prelude.{◌≡◌, ◌≢◌, ◌≤◌, ◌*◌, If
 ghost use Rattle.bounded_model.specs.Laws.{fresh};
 ghost use Rattle.tagged_index.specs.Limits.{capacity_of, tag_limit_of};
 ghost use Rattle.tagged_index.specs.declared.word.TheConstants.{MAX_TAG};
-ghost use Rattle.program.specs.declared.command_line.TheConstants.{MAX_FILES};
-ghost use Rattle.program.specs.declared.tool_fault.ToolFault.TheVariants.{Output, Relay};
+ghost use Rattle.words.specs.declared.command_line.TheConstants.{MAX_FILES};
+ghost use Rattle.streams.specs.declared.tool_fault.ToolFault.TheVariants.{Output, Relay};
 ghost use Rattle.relay.specs.declared.faults.RelayFault.{RelayFault};
 ghost use Rattle.relay.specs.declared.faults.RelayFault.TheVariants.{NoMemory};
-ghost use Rattle.program.specs.Inputs.{AreReady};
-ghost use Rattle.program.specs.Ranges.{IsInRange};
-ghost use Rattle.program.specs.Relaying.{FromReaders, IsCause, IsRelayed, RelaysInputs, shape_for};
+ghost use Rattle.words.specs.Ranges.{IsInRange};
+ghost use Rattle.program.specs.Relaying.{AreReady, FromReaders, IsCause, IsRelayed, RelaysInputs, shape_for};
 
-use crate::inputs::read_inputs;
-use crate::outcome::write_outcome;
-use crate::tool_fault::ToolFault;
-use crate::words::{Kind, RelayArgs};
 use bounded_model::Container;
 use ms_queue::Queue;
 use relay::{FreeGate, Gate, Message, Relayed, run};
@@ -24,8 +19,10 @@ use std::io::{Read, Write};
 use std::mem;
 use std::sync::Wait;
 use std::thread::Threads;
+use streams::{ToolFault, read_inputs, write_outcome};
 use tagged_index::{Limits, MAX_TAG};
 use treiber_stack::Stack;
+use words::{Kind, RelayArgs};
 
 /// Relays what the readers give, reader `k`, counted from 0, as sender `k`, and writes the outcome:
 /// the audit, and then the list where that is wanted.

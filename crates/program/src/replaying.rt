@@ -1,18 +1,16 @@
 //! Scripts replayed.
 
 ghost use Rattle.std.specs.Prelude.{◌≡◌, ◌≢◌, ◌≤◌, length, IfErr, IfOk, OnOk, IfSome, string_bytes};
-ghost use Rattle.program.specs.declared.fault.ReplayFault.TheVariants.{Output};
+ghost use Rattle.streams.specs.declared.fault.ReplayFault.TheVariants.{Output};
 ghost use Rattle.program.specs.Outcome.{IsFaultOf, IsOutputFor, IsOutside, Wrote, WroteFront};
 ghost use Rattle.script.specs.Faults.{IsAccepted};
 
 use crate::answer::answer;
-use crate::fault::ReplayFault;
-use crate::input::read_text;
-use crate::output::write_all;
 use script::{MAX_SCRIPT_LEN, parse};
 use std::alloc::Global;
 use std::io::{Read, Write};
 use std::sync::Wait;
+use streams::{ReplayFault, read_text, write_all};
 
 /// What is to be written for the script that the reader gives, all of it.
 fn output_for<S: Wait, R: Read>(

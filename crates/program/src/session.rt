@@ -1,21 +1,19 @@
 //! A run of the program over what a process would give it.
 
 ghost use Rattle.std.specs.Prelude.{◌≡◌, ◌≢◌, Contains, IfErr, IfOk, IfSome, OnErr, OnOk, codes, map, string_bytes};
-ghost use Rattle.program.specs.declared.failure.Failure.TheVariants.{Output};
-ghost use Rattle.program.specs.Ranges.{AreInRange, IsTold};
+ghost use Rattle.streams.specs.declared.failure.Failure.TheVariants.{Output};
+ghost use Rattle.words.specs.Ranges.{AreInRange, IsTold};
 
-use crate::failure::Failure;
 use crate::measuring::relay_measured;
-use crate::opening::{OpenFiles, open_source, open_sources};
 use crate::relaying::relay_main;
 use crate::replaying::replay;
-use crate::source::STANDARD_INPUT;
-use crate::words::{Chosen, WordsRefused, read_words};
 use std::alloc::Global;
 use std::io::{Read, Write};
 use std::sync::Wait;
 use std::thread::Threads;
 use std::time::Clock;
+use streams::{Failure, OpenFiles, STANDARD_INPUT, open_source, open_sources};
+use words::{Chosen, WordsRefused, read_words};
 
 /// Does what the words of the command line ask for, the program's name first, and answers the
 /// status that the program ends with. `words` is `None` where they could not be read: one is no

@@ -3,10 +3,10 @@
 ghost use Rattle.std.specs.Prelude.{◌≡◌, ◌==◌, ◌++◌, IfOk, OnOk, count_by, string_bytes};
 ghost use Rattle.program.specs.Stats.{IsStatsOf, consumer_lines, ended_puts, ended_takes, is_met, stats_text, time_line, took_each};
 
-use crate::words::RelayArgs;
 use relay::{Message, Relayed, Taken};
 use std::alloc::{AllocError, Global};
 use std::fmt::Write;
+use words::RelayArgs;
 
 /// What is told of a relay beside its outcome.
 #[derive(Debug, Drop, PartialEq, Eq)]

@@ -1,6 +1,6 @@
 use Rattle.std.proofs.Common.{rules}
 use Rattle.relay.specs.Promises.{Relays, IsTooSmall, total}
-use Rattle.program.specs.Ranges.{plan_of}
+use Rattle.words.specs.Ranges.{plan_of}
 use Rattle.program.specs.Relaying.{shape_for}
 use Rattle.program.proofs.AllDelivered.{is-relayed}
 use Rattle.program.proofs.relaying.relay_through.Goals as goal

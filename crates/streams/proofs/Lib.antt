@@ -1,0 +1,4 @@
+pub mod Fronts
+pub mod Readers
+pub mod Sources
+pub mod Writing

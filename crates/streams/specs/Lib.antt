@@ -1,0 +1,4 @@
+pub mod Failure
+pub mod Inputs
+pub mod Sources
+pub mod Writing

@@ -1,0 +1,44 @@
+-- What the words ask for, and its ranges.
+use Rattle.std.specs.Prelude.{◌≡◌, ◌≢◌, ◌⊎◌, ◌≤◌, IfSome, length}
+use Rattle.relay.specs.declared.outcome.Plan.{Plan}
+use Rattle.tagged_index.specs.declared.limit.TheConstants.{MAX_CAPACITY}
+use Rattle.words.specs.declared.command_line.TheConstants.{MAX_CONSUMERS, MAX_COUNT, MAX_FILES}
+use Rattle.words.specs.declared.chosen.Chosen.{Chosen}
+use Rattle.words.specs.declared.chosen.Chosen.TheVariants.{Replay, Relay, Measured}
+use Rattle.words.specs.declared.chosen.WordsRefused.{WordsRefused}
+use Rattle.words.specs.declared.chosen.WordsRefused.TheVariants.{Help, Bad}
+use Rattle.clap.specs.declared.error.Error.{Error}
+use Rattle.clap.specs.declared.error.kind.ErrorKind.TheVariants.{DisplayHelp, DisplayVersion}
+use Rattle.clap.specs.Values.{kind_of}
+use Rattle.words.specs.declared.chosen.RelayArgs.{RelayArgs}
+
+-- how a relay is run: each value lies in its range
+pub record IsInRange (args : RelayArgs) : Type 0 where
+  pub some_capacity : 1 ≤ args.capacity
+  pub capacity : args.capacity ≤ MAX_CAPACITY
+  pub some_consumers : 1 ≤ args.consumers
+  pub consumers : args.consumers ≤ MAX_CONSUMERS
+  pub take : IfSome args.take (λ count. count ≤ MAX_COUNT)
+  pub close_after : IfSome args.close_after (λ count. count ≤ MAX_COUNT)
+  pub shut_after : IfSome args.shut_after (λ count. count ≤ MAX_COUNT)
+
+-- what the program is to do: a relay has its values in their ranges, and 1 to 16 files
+abbrev pub AreInRange : Chosen → Type 0
+AreInRange (Replay file) = Unit {0}
+AreInRange (Relay args files) = IsInRange args × (1 ≤ length files.items) × (length files.items ≤ MAX_FILES)
+AreInRange (Measured args files) = IsInRange args × (1 ≤ length files.items) × (length files.items ≤ MAX_FILES)
+
+-- the program is to tell of a relay on standard error
+abbrev pub IsTold : Chosen → Type 0
+IsTold (Replay file) = ⊥
+IsTold (Relay args files) = ⊥
+IsTold (Measured args files) = Unit {0}
+
+-- words that ask for help or for the version get it, and all others that are refused are not understood
+abbrev pub IsRefusalOf : Error → WordsRefused → Type 0
+IsRefusalOf error (Help text) = (text ≡ error) × ((kind_of error ≡ DisplayHelp) ⊎ (kind_of error ≡ DisplayVersion))
+IsRefusalOf error Bad = (kind_of error ≢ DisplayHelp) × (kind_of error ≢ DisplayVersion)
+
+-- what a relay's workers are told
+abbrev pub plan_of : RelayArgs → Plan
+plan_of args = record { consumers = args.consumers; take = args.take; close_after = args.close_after; shut_after = args.shut_after }

@@ -1,0 +1,198 @@
+//! What the words of the command line ask for.
+
+ghost use Rattle.std.specs.Prelude.{◌≡◌, ◌↔◌, ◌≤◌, Contains, IsTrue, IfOk, IfSome, codes, map};
+ghost use Rattle.words.specs.Ranges.{AreInRange, IsInRange, IsTold, plan_of};
+
+use crate::command_line::{MAX_CONSUMERS, MAX_COUNT, MAX_FILES, command_line};
+use clap::ArgMatches;
+use clap::error::ErrorKind;
+use relay::Plan;
+use std::alloc::{AllocError, AllocFailed, Global};
+use tagged_index::MAX_CAPACITY;
+use thiserror::Error;
+
+/// Which container a relay runs over.
+#[derive(Clone, Copy, Debug, PartialEq, Eq)]
+pub enum Kind {
+    /// The first message in is the first out.
+    Queue,
+    /// The last message in is the first out.
+    Stack,
+}
+
+/// How a relay is run.
+#[derive(Clone, Copy, Debug, PartialEq, Eq)]
+pub struct RelayArgs {
+    pub kind: Kind,
+    /// The most messages that the container holds: 1 to 1,048,573.
+    pub capacity: u32,
+    /// How many threads take messages out: 1 to 16.
+    pub consumers: u32,
+    /// Each consumer ends after so many messages: 0 to 65,535.
+    pub take: Option<u32>,
+    /// The first producer closes the container after so many messages: 0 to 65,535.
+    pub close_after: Option<u32>,
+    /// The first consumer shuts the container after so many messages: 0 to 65,535.
+    pub shut_after: Option<u32>,
+    /// Whether the messages are listed.
+    pub list: bool,
+}
+
+/// What the program is to do.
+#[derive(Debug, Drop, PartialEq, Eq)]
+pub enum Chosen {
+    /// Replay the script in this file, or the one on standard input.
+    Replay(Option<String>),
+    /// Relay these files.
+    Relay(RelayArgs, Vec<String>),
+    /// Relay these files, and tell of it on standard error.
+    Measured(RelayArgs, Vec<String>),
+}
+
+/// Why the words ask for nothing that the program does.
+#[derive(Debug, Drop, Error)]
+pub enum WordsRefused {
+    /// They ask for help or for the version, which is this error's text.
+    #[error("{0}")]
+    Help(clap::Error),
+    /// They are not understood, a value is out of its range, or the allocator had no memory.
+    #[error("bad command line")]
+    Bad,
+}
+
+impl From<AllocError> for WordsRefused {
+    fn from(_: AllocError) -> WordsRefused {
+        WordsRefused::Bad
+    }
+}
+
+impl<T: Drop> From<AllocFailed<T>> for WordsRefused {
+    fn from(_: AllocFailed<T>) -> WordsRefused {
+        WordsRefused::Bad
+    }
+}
+
+impl From<clap::Error> for WordsRefused {
+    ghost use Rattle.words.specs.Ranges.{IsRefusalOf};
+
+    ghost from_gives = { IsRefusalOf };
+
+    fn from(error: clap::Error) -> WordsRefused {
+        match error.kind() {
+            ErrorKind::DisplayHelp | ErrorKind::DisplayVersion => WordsRefused::Help(error),
+            _ => WordsRefused::Bad,
+        }
+    }
+}
+
+/// Reads the words of the command line, the program's name first.
+///
+/// `Help` where they ask for it or for the version; `Bad` where they are not understood, a value is
+/// not in its range, or the allocator had no memory.
+pub fn read_words<'a>(alloc: Global, words: &'a [&'a str]) -> Result<Chosen, WordsRefused>
+    // Every value lies in its range, and a relay has 1 to 16 files.
+    ensures ranges { IfOk result AreInRange }
+    // A relay is told of only where the words ask for it.
+    ensures asked { IfOk result (λ chosen. IsTold chosen
+        → Contains (map (λ word. word.now) words.now) (codes "--stats")) }
+{
+    let matches = command_line(alloc)?.try_get_matches_from(words)?;
+    match matches.subcommand() {
+        None => Ok(Chosen::Replay(None)),
+        Some(("replay", found)) => {
+            let file = found.get_str("file").ok_or(WordsRefused::Bad)?;
+            Ok(Chosen::Replay(Some(String::from_str(alloc, file)?)))
+        }
+        Some((_, found)) => {
+            let is_told = found.get_flag("stats") && has_stats(words);
+            relay_of(alloc, found, is_told)
+        }
+    }
+}
+
+// Whether a word asks for stats.
+fn has_stats(words: &[&str]) -> bool
+    ensures { IsTrue result
+        → Contains (map (λ word. word.now) words.now) (codes "--stats") }
+{
+    for word in words {
+        if *word == "--stats" {
+            return true;
+        }
+    }
+    false
+}
+
+// The relay that these words ask for, and whether it is told of.
+fn relay_of(alloc: Global, found: &ArgMatches<'_>, is_told: bool) -> Result<Chosen, WordsRefused>
+    ensures ranges { IfOk result AreInRange }
+    ensures told { IfOk result (λ chosen. IsTold chosen → IsTrue is_told) }
+{
+    let args = args_of(found).ok_or(WordsRefused::Bad)?;
+    let mut files = Vec::new(alloc);
+    for name in found.get_strs("files").unwrap_or_default() {
+        files.push(String::from_str(alloc, name)?)?;
+    }
+    if files.is_empty() || files.len() > MAX_FILES {
+        return Err(WordsRefused::Bad);
+    }
+    if is_told {
+        return Ok(Chosen::Measured(args, files));
+    }
+    Ok(Chosen::Relay(args, files))
+}
+
+// How a relay is to be run.
+fn args_of(found: &ArgMatches<'_>) -> Option<RelayArgs>
+    ensures { IfSome result IsInRange }
+{
+    let kind = match found.get_str("kind")? {
+        "queue" => Kind::Queue,
+        _ => Kind::Stack,
+    };
+    let args = RelayArgs {
+        kind,
+        capacity: found.get_one("capacity")?,
+        consumers: found.get_one("consumers")?,
+        take: found.get_one("take"),
+        close_after: found.get_one("close_after"),
+        shut_after: found.get_one("shut_after"),
+        list: found.get_flag("list"),
+    };
+    args.is_in_range().then_some(args)
+}
+
+impl RelayArgs {
+    /// What the relay's workers are told.
+    pub fn plan(&self) -> Plan
+        ensures { result ≡ plan_of self.now }
+    {
+        Plan {
+            consumers: self.consumers,
+            take: self.take,
+            close_after: self.close_after,
+            shut_after: self.shut_after,
+        }
+    }
+
+    // Whether each value lies in its range.
+    fn is_in_range(&self) -> bool
+        ensures { IsTrue result ↔ IsInRange self.now }
+    {
+        (1..=MAX_CAPACITY).contains(&self.capacity)
+            && (1..=MAX_CONSUMERS).contains(&self.consumers)
+            && is_count(self.take)
+            && is_count(self.close_after)
+            && is_count(self.shut_after)
+    }
+}
+
+// Whether a count that may be left out lies in its range.
+fn is_count(count: Option<u32>) -> bool
+    ensures { IsTrue result ↔ IfSome count (λ n. n ≤ MAX_COUNT) }
+{
+    match count {
+        Some(count) => count <= MAX_COUNT,
+        None => true,
+    }
+}

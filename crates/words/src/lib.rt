@@ -1,0 +1,11 @@
+//! What the words of the command line ask for: a script to replay, or files to relay.
+//!
+//! Each value that is read lies in its range, and a relay has 1 to 16 files; all other words are
+//! refused, with the help or the version where they ask for it (`read_words`).
+#![tactic(auto)]
+
+mod chosen;
+mod command_line;
+
+pub use chosen::{Chosen, Kind, RelayArgs, WordsRefused, read_words};
+pub use command_line::{MAX_CONSUMERS, MAX_COUNT, MAX_FILES, VERSION};
