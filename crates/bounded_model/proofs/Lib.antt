@@ -4,6 +4,8 @@ pub mod Gathering
 pub mod Staying
 pub mod Hands
 pub mod Balance
+pub mod Newest
+pub mod Alone
 pub mod Numbers
 pub mod Joining
 pub mod Whole

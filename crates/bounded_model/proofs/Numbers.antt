@@ -1,12 +1,12 @@
 -- The numbers of takes and puts.
-use Rattle.std.proofs.Common.{◌≡◌, ℕ, suc, ◌+◌, ◌<◌, ◌≤◌, List, [], ◌∷◌, ◌++◌, refl, arith, ap, ◌∙◌, append-nil, length, length-append}
+use Rattle.std.proofs.Common.{◌≡◌, ℕ, suc, ◌+◌, ◌<◌, ◌≤◌, List, [], ◌∷◌, ◌++◌, refl, arith, sym, ap, ◌∙◌, append-nil, length, length-append}
 use Rattle.std.specs.List.{AllByRecursion as Every}
 use Rattle.bounded_model.specs.declared.history.Order.{Order}
 use Rattle.bounded_model.specs.declared.history.Order.TheVariants.{Fifo, Lifo}
 use Rattle.bounded_model.specs.declared.history.Event.{Event}
 use Rattle.bounded_model.specs.declared.history.Event.TheVariants.{Hold, Put, Take, TakeAll, Free, Close, Shut}
 use Rattle.bounded_model.specs.Machine.{Shape, State, state, after, Legal, next_put, next_take}
-use Rattle.bounded_model.specs.Gathers.{gather, Moved, moved_by, sent_of, took_of, fold_of, Rises, Counts}
+use Rattle.bounded_model.specs.Gathers.{gather, Moved, moved_by, sent_of, took_of, fold_of, number_of, Rises, Counts}
 use Rattle.bounded_model.proofs.Histories.{no_parts}
 
 module _ {A : Type 0} where
@@ -123,3 +123,27 @@ module _ {T : Type 0} (c : Shape) where
   sends_count (Free q k ∷ h) queue l = rw append-nil (sends_count h queue l.1)
   sends_count (Close q ∷ h) queue l = rw append-nil (sends_count h queue l.1)
   sends_count (Shut q ∷ h) queue l = rw append-nil (sends_count h queue l.1)
+
+  -- in a stack's history those of puts, takes and folds together are 0, 1, 2, ..
+  one_call : (n : ℕ) (s : State T) (ns : List ℕ) → c.order ≡ Lifo → n ≡ next_take c.order s → (s.puts + s.takes ≡ length ns) × Counts (λ k. k) 0 ns → (suc (s.puts + s.takes) ≡ length (ns ++ n ∷ [])) × Counts (λ k. k) 0 (ns ++ n ∷ [])
+  one_call n s ns stack is before =
+      let at : n ≡ s.puts + s.takes = is ∙ ap (λ o. next_take o s) stack in
+      let count = before.0 in
+      (omega (arith, length-append ns (n ∷ [])), Counts-push (λ k. k) 0 ns n before.1 (omega arith))
+
+  calls_count : (h : List (Event T)) → c.order ≡ Lifo → Legal c h → ((state c h).puts + (state c h).takes ≡ length (gather number_of h)) × Counts (λ k. k) 0 (gather number_of h)
+  calls_count [] stack l = (refl, tt)
+  calls_count (Hold q ∷ h) stack l = rw append-nil (calls_count h stack l.1)
+  calls_count (Put q vs n ∷ h) stack l =
+      let same : next_put c.order (state c h) ≡ next_take c.order (state c h) = ap (λ o. next_put o (state c h)) stack ∙ sym (ap (λ o. next_take o (state c h)) stack) in
+      let one = one_call n (state c h) (gather number_of h) stack (l.0.3 ∙ same) (calls_count h stack l.1) in
+      let long = one.0 in
+      (omega arith, one.1)
+  calls_count (Take q v n ∷ h) stack l = let one = one_call n (state c h) (gather number_of h) stack l.0.2 (calls_count h stack l.1) in let long = one.0 in (omega arith, one.1)
+  calls_count (TakeAll q vs n ∷ h) stack l = let one = one_call n (state c h) (gather number_of h) stack l.0.4 (calls_count h stack l.1) in let long = one.0 in (omega arith, one.1)
+  calls_count (Free q k ∷ h) stack l = rw append-nil (calls_count h stack l.1)
+  calls_count (Close q ∷ h) stack l = rw append-nil (calls_count h stack l.1)
+  calls_count (Shut q ∷ h) stack l = rw append-nil (calls_count h stack l.1)
+
+  pub numbers_count : (h : List (Event T)) → c.order ≡ Lifo → Legal c h → Counts (λ k. k) 0 (gather number_of h)
+  numbers_count h stack l = (calls_count h stack l).1

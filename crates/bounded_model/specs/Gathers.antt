@@ -49,6 +49,16 @@ took_of (Shut p) = []
 abbrev pub values_of : {T : Type 0} → List (Moved T) → List T
 values_of ms = map (λ m. m.value) ms
 
+-- the number of the call, where it moved values
+abbrev pub number_of : {T : Type 0} → Event T → List ℕ
+number_of (Hold p) = []
+number_of (Put p vs n) = n ∷ []
+number_of (Take p v n) = n ∷ []
+number_of (TakeAll p vs n) = n ∷ []
+number_of (Free p k) = []
+number_of (Close p) = []
+number_of (Shut p) = []
+
 -- whose event it is, where it is of one kind
 abbrev pub hold_of : {T : Type 0} → Event T → List ℕ
 hold_of (Hold p) = p ∷ []

@@ -6,6 +6,8 @@ pub mod Consumes
 pub mod Stepping
 pub mod Bulk
 pub mod Gathers
+pub mod Latest
+pub mod Alone
 pub mod Replies
 pub mod Plain
 pub mod Shows

@@ -1,15 +1,19 @@
 //! What every legal history is, whoever made it: the theorems that a container's users rest on. The
 //! functions here do nothing; the contract of each is the theorem.
-ghost use Rattle.std.specs.Prelude.{◌≡◌, ◌+◌, ◌≤◌, ◌++◌, List, [], length, IsPermutation};
+ghost use Rattle.std.specs.Prelude.{◌≡◌, ℕ, ◌+◌, ◌≤◌, ◌++◌, ◌∷◌, List, [], length, IsPermutation};
 ghost use Rattle.bounded_model.specs.declared.history.Event.{Event};
-ghost use Rattle.bounded_model.specs.declared.history.Order.TheVariants.{Fifo};
+ghost use Rattle.bounded_model.specs.declared.history.Event.TheVariants.{TakeAll};
+ghost use Rattle.bounded_model.specs.declared.history.Order.TheVariants.{Fifo, Lifo};
 ghost use Rattle.bounded_model.specs.Machine.{Shape, state, Legal};
 ghost use Rattle.bounded_model.specs.Justified.{IsClosed, IsShut};
+ghost use Rattle.bounded_model.specs.Alone.{without_hands, IsListRun, SameList};
+ghost use Rattle.bounded_model.specs.Latest.{IsLatest};
 ghost use Rattle.bounded_model.specs.Gathers.{
   gather,
   put_of,
   sent_of,
   took_of,
+  number_of,
   close_of,
   shut_of,
   values_of,
@@ -27,6 +31,32 @@ pub fn queue_keeps_order<T>()
         → c.order ≡ Fifo → Legal c h → Counts (λ m. m.number) 0 (gather sent_of h) }
     ensures takes { (c : Shape) (h : List (Event T))
         → c.order ≡ Fifo → Legal c h → Counts (λ m. m.number) 0 (gather took_of h) }
+{}
+
+/// A stack gives its values in the order from the newest to the oldest: each take gives the value of
+/// the latest put that has not been taken. That value was put, and since then as many values have
+/// been taken as were put after it, and at no time more. A fold takes one value after another so,
+/// and none is left. Puts, takes and folds are numbered 0, 1, 2, .. together.
+pub fn stack_keeps_order<T>()
+    ensures values { (c : Shape) (newer : List (Event T)) (e : Event T) (h : List (Event T))
+        → c.order ≡ Lifo → Legal c (newer ++ e ∷ h)
+        → (first : List T) (v : T) (last : List T)
+        → values_of (took_of e) ≡ first ++ v ∷ last
+        → IsLatest v (length first) h }
+    ensures folds { (c : Shape) (p n : ℕ) (vs : List T) (h : List (Event T))
+        → Legal c (TakeAll p vs n ∷ h)
+        → IsPermutation (gather put_of h) (values_of (gather took_of (TakeAll p vs n ∷ h))) }
+    ensures numbers { (c : Shape) (h : List (Event T))
+        → c.order ≡ Lifo → Legal c h → Counts (λ k. k) 0 (gather number_of h) }
+{}
+
+/// The puts, takes, folds, close and shut of a legal history are by themselves, without the moves of
+/// hands, a run of one sequential list, and that list is the container's at any time. So hands say
+/// no more than when a call may be refused as full or spent.
+pub fn calls_alone_are_a_list<T>()
+    ensures run { (c : Shape) (h : List (Event T)) → Legal c h → IsListRun c (without_hands h) }
+    ensures list { (c : Shape) (h : List (Event T))
+        → SameList (state c h) (state c (without_hands h)) }
 {}
 
 /// In either order nothing is lost and nothing comes twice: what was put is, up to the order, what

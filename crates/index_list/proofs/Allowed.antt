@@ -39,7 +39,7 @@ module _ {S V : Type 0} where
 
 module _ {S V : Type 0} (holds : State S V → Type 0) where
   -- a word that is stored as it was leaves the words as they were
-  same_words : (s : State S V) (at id : ℕ) (v : V) → holds (looked s id v) → holds (changed s at (word s at) s.homes id v)
+  pub same_words : (s : State S V) (at id : ℕ) (v : V) → holds (looked s id v) → holds (changed s at (word s at) s.homes id v)
   same_words s at id v = subst (λ (ws : List ℕ). holds (record { words = ws; homes = s.homes; views = set s.views id v })) (sym (set-get_or s.words at 0))
 
   pub loads : (slots at id : ℕ) (me : Me S V) (did : ℕ → V → Type 0)
@@ -96,3 +96,26 @@ module _ {S V : Type 0} (holds : State S V → Type 0) where
         same_words s at id g.view g.rule,
         record { hit = λ e. absurd (miss e); miss = λ _. record { found = word s at; other = miss; unmoved = refl; said = g.told } },
       ))
+
+-- The same, where the word's position is known by an equation.
+module _ {S V : Type 0} (holds : State S V → Type 0) (slots at at' id : ℕ) (e : at' ≡ at) (me : Me S V) where
+  pub loads_at : (did : ℕ → V → Type 0)
+      → ((s : State S V) → Before holds id me.0 at s → Goes holds (looked s id) (did (word s at)))
+      → Allows holds slots id me at' (λ n. n) (Loaded did me)
+  loads_at did law = subst (λ (k : ℕ). Allows holds slots id me k (λ n. n) (Loaded did me)) (sym e) (loads holds slots at id me did law)
+
+  pub stores_at : (new : ℕ) (did : V → Type 0)
+      → ((s : State S V) → Before holds id me.0 at s → Goes holds (changed s at new s.homes id) did)
+      → Allows holds slots id me at' (λ _. new) (λ _. Stored did me)
+  stores_at new did law = subst (λ (k : ℕ). Allows holds slots id me k (λ _. new) (λ _. Stored did me)) (sym e) (stores holds slots at id new me did law)
+
+  pub keeps_stored_at : (new : ℕ) (did : V → Type 0)
+      → ((s : State S V) → Before holds id me.0 at s → Goes holds (changed s at new s.homes id) did)
+      → Allows holds slots id me at' (λ n. n) (Kept new did me)
+  keeps_stored_at new did law = subst (λ (k : ℕ). Allows holds slots id me k (λ n. n) (Kept new did me)) (sym e) (keeps_stored holds slots at id new me did law)
+
+  pub tries_at : (w m : ℕ) (won : Me S V → Type 0) (did : ℕ → V → Type 0)
+      → ((s : State S V) → Before holds id me.0 at s → word s at ≡ w → Wins holds at m id me won s)
+      → ((s : State S V) → Before holds id me.0 at s → word s at ≢ w → Goes holds (looked s id) (did (word s at)))
+      → Allows holds slots id me at' (λ n. either (eqb n w) m n) (Tried w won (Lost w did me))
+  tries_at w m won did wins loses = subst (λ (k : ℕ). Allows holds slots id me k (λ n. either (eqb n w) m n) (Tried w won (Lost w did me))) (sym e) (tries holds slots at w m id me won did wins loses)

@@ -5,10 +5,12 @@ pub mod OneList
 pub mod Chains
 pub mod Starts
 pub mod Scheduled
+pub mod Paying
 pub mod Stories
 pub mod Hands
 pub mod Seating
 pub mod SeatedEnds
 pub mod SeatedCalls
 pub mod Ahead
+pub mod Program
 pub mod Places

@@ -7,14 +7,14 @@ use lib.ListN.{get_elem?}
 use Rattle.bounded_model.specs.declared.history.Event.{Event}
 use Rattle.bounded_model.specs.Histories.{Later, own}
 use Rattle.bounded_model.proofs.Histories.{Later-refl, Later-trans, own-between}
-use Rattle.machine.specs.Schedule.{Machine, Pass, State, stepped, begun, start, first_pass}
+use Rattle.machine.specs.Schedule.{Machine, Pass, State, stepped, begun, start, first_pass, having_begun, having_stepped}
 use Rattle.machine.specs.Seen.{Knows}
 use Rattle.machine.proofs.Ahead.{Ahead}
 use Rattle.machine.proofs.Scheduled.{Holds}
 use Rattle.machine.proofs.Sums.{at_set, at_map, same_at}
 
 -- A rule of memories, the lines of all passes and histories; and a story, what the line of pass p says,
--- which began this call when it had seen `begun`, and has seen `seen` by now
+-- which began this call at the history `begun`, and has seen `seen` by now
 pub record Told {T M L C : Type 0} (x : Machine M L C (Event T)) (Rule : M → List L → List (Event T) → Type 0) (Story : ℕ → Option C → L → List (Event T) → List (Event T) → Type 0) : Type 0 where
   -- a begin keeps the rule and starts a story
   pub begins : (m : M) (lines : List L) (h : List (Event T)) (p : ℕ) (l : L) (call : C) → Rule m lines h → get_elem? lines p ≡ some l → x.is_idle l ≡ true → Rule m (set lines p (x.starts call l)) h
@@ -31,9 +31,30 @@ module _ {T M L C : Type 0} (x : Machine M L C (Event T)) (Rule : M → List L �
   abbrev lines_of : List (Pass L C (Event T)) → List L
   lines_of passes = map (λ v. v.line) passes
 
+  pub here : (s : State M L C (Event T)) (p : ℕ) (v : Pass L C (Event T)) → get_elem? s.passes p ≡ some v → get_elem? (lines_of s.passes) p ≡ some v.line
+  here s p v e = at_map (λ (u : Pass L C (Event T)). u.line) s.passes p v e
+
+  -- the rule, without the stories
+  abbrev pub Rules : State M L C (Event T) → Type 0
+  Rules s = Rule s.memory (map (λ v. v.line) s.passes) s.history
+
+  pub rule_holds : Told x Rule Story → Holds x Rules
+  rule_holds t = record {
+    begins = λ s p v k e idle call.
+        let u : Pass L C (Event T) = having_begun x s v call in
+        with_line s u s.memory s.history p (t.begins s.memory (lines_of s.passes) s.history p v.line call k (here s p v e) idle);
+    steps = λ s p v k e busy.
+        let o = x.step s.memory p v.line in
+        let u : Pass L C (Event T) = having_stepped x s v o in
+        with_line s u o.memory (o.events ++ s.history) p (t.steps s.memory (lines_of s.passes) s.history p v.line k (here s p v e) busy);
+  }
+    where
+      with_line : (s : State M L C (Event T)) (u : Pass L C (Event T)) (m : M) (h : List (Event T)) (p : ℕ) → Rule m (set (lines_of s.passes) p u.line) h → Rule m (lines_of (set s.passes p u)) h
+      with_line s u m h p k = subst (λ (ls : List L). Rule m ls h) (sym (map-set (λ (w : Pass L C (Event T)). w.line) s.passes p u)) k
+
   -- what holds of the state of the machine between any two acts
   pub record Stays (s : State M L C (Event T)) : Type 0 where
-    pub rule : Rule s.memory (map (λ v. v.line) s.passes) s.history
+    pub rule : Rules s
     pub knows : (p : ℕ) (v : Pass L C (Event T)) → get_elem? s.passes p ≡ some v → Knows p v s.history
     pub story : (p : ℕ) (v : Pass L C (Event T)) → get_elem? s.passes p ≡ some v → Story p v.call v.line v.begun v.seen
 
@@ -42,14 +63,11 @@ module _ {T M L C : Type 0} (x : Machine M L C (Event T)) (Rule : M → List L �
   ahead p v h k = record { rest = k.now.more; is = k.now.is; none_own = own-between p k.now.more v.seen (ap (own p) (sym k.now.is) ∙ k.own_events) }
 
   module _ (t : Told x Rule Story) (s : State M L C (Event T)) (p : ℕ) (v : Pass L C (Event T)) (k : Stays s) (e : get_elem? s.passes p ≡ some v) where
-    here : get_elem? (lines_of s.passes) p ≡ some v.line
-    here = at_map (λ (u : Pass L C (Event T)). u.line) s.passes p v e
-
     -- pass p becomes u, in a longer history
-    one_changed : (u : Pass L C (Event T)) (m : M) (h : List (Event T)) → Rule m (set (lines_of s.passes) p u.line) h → Knows p u h → Story p u.call u.line u.begun u.seen
+    one_changed : (u : Pass L C (Event T)) (m : M) (h : List (Event T)) → Rule m (lines_of (set s.passes p u)) h → Knows p u h → Story p u.call u.line u.begun u.seen
         → ((q : ℕ) (w : Pass L C (Event T)) → q ≢ p → Knows q w s.history → Knows q w h) → Stays (record { memory = m; passes = set s.passes p u; history = h })
     one_changed u m h rule mine told others = record {
-      rule = subst (λ (ls : List L). Rule m ls h) (sym (map-set (λ (w : Pass L C (Event T)). w.line) s.passes p u)) rule;
+      rule = rule;
       knows = λ q w at. ⊎_elim
           (λ a. subst (λ (y : ℕ). Knows y w h) (sym a.0) (subst (λ (y : Pass L C (Event T)). Knows p y h) a.1 mine))
           (λ a. others q w a.0 (k.knows q w a.1))
@@ -62,11 +80,10 @@ module _ {T M L C : Type 0} (x : Machine M L C (Event T)) (Rule : M → List L �
 
     begun_stays : x.is_idle v.line ≡ true → (call : C) → Stays (begun x s p v call)
     begun_stays idle call =
-        let know = k.knows p v e in
-        one_changed (record v { line = x.starts call v.line; call = some call; begun = v.seen }) s.memory s.history
-        (t.begins s.memory (lines_of s.passes) s.history p v.line call k.rule here idle)
-        (record { before = Later-refl v.seen; now = know.now; own_events = know.own_events })
-        (t.begins_story p v.line call v.seen idle)
+        one_changed (having_begun x s v call) s.memory s.history
+        ((rule_holds t).begins s p v k.rule e idle call)
+        (record { before = Later-refl s.history; now = Later-refl s.history; own_events = refl })
+        (t.begins_story p v.line call s.history idle)
         (λ q w ne old. old)
 
     stepped_stays : x.is_idle v.line ≡ false → Stays (stepped x s p v (x.step s.memory p v.line))
@@ -75,10 +92,10 @@ module _ {T M L C : Type 0} (x : Machine M L C (Event T)) (Rule : M → List L �
         let newer : List (Event T) = o.events ++ s.history in
         let know = k.knows p v e in
         let grows : Later s.history newer = record { more = o.events; is = refl } in
-        one_changed (record v { line = o.line; seen = newer }) o.memory newer
-        (t.steps s.memory (lines_of s.passes) s.history p v.line k.rule here busy)
+        one_changed (having_stepped x s v o) o.memory newer
+        ((rule_holds t).steps s p v k.rule e busy)
         (record { before = Later-trans know.before (Later-trans know.now grows); now = Later-refl newer; own_events = refl })
-        (t.steps_story s.memory (lines_of s.passes) s.history p v.call v.line v.begun v.seen k.rule here busy know.before (ahead p v s.history know) (k.story p v e))
+        (t.steps_story s.memory (lines_of s.passes) s.history p v.call v.line v.begun v.seen k.rule (here s p v e) busy know.before (ahead p v s.history know) (k.story p v e))
         (λ q w ne old. record { before = old.before; now = Later-trans old.now grows; own_events = t.apart s.memory s.history p q v.line ne ∙ old.own_events })
 
   pub stays_holds : Told x Rule Story → Holds x Stays
@@ -88,9 +105,12 @@ module _ {T M L C : Type 0} (x : Machine M L C (Event T)) (Rule : M → List L �
   rest_lines zero = refl
   rest_lines (suc k) = ap (λ (ls : List L). x.rest ∷ ls) (rest_lines k)
 
+  pub start_rules : (passes : ℕ) → Rule x.first (replicate passes x.rest) [] → Rules (start x passes)
+  start_rules passes rule = subst (λ (ls : List L). Rule x.first ls []) (sym (rest_lines passes)) rule
+
   pub start_stays : (passes : ℕ) → Rule x.first (replicate passes x.rest) [] → ((p : ℕ) → Story p none x.rest [] []) → Stays (start x passes)
   start_stays passes rule story = record {
-    rule = subst (λ (ls : List L). Rule x.first ls []) (sym (rest_lines passes)) rule;
+    rule = start_rules passes rule;
     knows = λ p v e. subst (λ (u : Pass L C (Event T)). Knows p u []) (same_at passes p (first_pass x) v e) (record { before = Later-refl []; now = Later-refl []; own_events = refl });
     story = λ p v e. subst (λ (u : Pass L C (Event T)). Story p u.call u.line u.begun u.seen) (same_at passes p (first_pass x) v e) (story p);
   }

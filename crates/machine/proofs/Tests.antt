@@ -1,5 +1,5 @@
 -- Tests of the machines, and what each outcome tells.
-use Rattle.std.proofs.Common.{◌≡◌, ◌<◌, ◌≤◌, ℕ, ◌&&◌, ◌||◌, Bool, true, false, cond, eqb, ltb, refl, sym, eqb-true, eq-eqb, arith}
+use Rattle.std.proofs.Common.{◌≡◌, ◌≤◌, ℕ, suc, ◌+◌, ◌&&◌, ◌||◌, Bool, true, false, cond, eqb, ltb, refl, sym, eqb-true, eq-eqb, arith}
 use Rattle.std.proofs.lemmas.Bool.{false≢true}
 use Rattle.std.proofs.lemmas.Bool.Decides.{nat_tests}
 use Rattle.machine.specs.Words.{Tagged, same_mark, same}
@@ -49,10 +49,65 @@ at_most_one i n = grind arith
 pub not_below : (i n : ℕ) → n ≤ i → cond (ltb i n) 1 0 ≤ 0
 not_below i n h = cases (λ x. x ≤ 0) (ltb i n) 1 0 (λ b. absurd (grind (arith, nat_tests))) (λ b. omega arith)
 
--- Ranks: a choice is as small as both of its values, and of a word that was just read it is the first
 pub one_of : (b : Bool) (x y n : ℕ) → x ≤ n → y ≤ n → cond b x y ≤ n
 one_of true x y n h h' = h
 one_of false x y n h h' = h'
 
-pub fresh : (w : Tagged) (x y r : ℕ) → x < r → cond (same w w) x y < r
-fresh w x y r h = rw (same-self w) h
+-- Weights: how many steps more a line has left where a word that it has read is no longer there ..
+unfoldable pub lost : Bool → ℕ → ℕ
+lost here d = cond here 0 d
+
+pub lost_small : (here : Bool) (d : ℕ) → lost here d ≤ d
+unfolding lost
+lost_small true d = omega arith
+lost_small false d = omega arith
+
+pub lost_none : (here : Bool) (d : ℕ) → here ≡ true → lost here d ≡ 0
+unfolding lost
+lost_none here d e = rw e refl
+
+pub lost_all : (here : Bool) (d : ℕ) → here ≡ false → lost here d ≡ d
+unfolding lost
+lost_all here d e = rw e refl
+
+pub lost_more : (here : Bool) (d e : ℕ) → lost here (d + e) ≤ lost here d + e
+unfolding lost
+lost_more true d e = omega arith
+lost_more false d e = omega arith
+
+pub lost_grows : (here : Bool) (d e : ℕ) → d ≤ e → lost here d ≤ lost here e
+unfolding lost
+lost_grows true d e h = omega arith
+lost_grows false d e h = h
+
+-- a word that was just read is there
+pub fresh : (w : Tagged) (d : ℕ) → lost (same w w) d ≡ 0
+fresh w d = lost_none (same w w) d (same-self w)
+
+-- .. and where it has read two, the second after the first
+unfoldable pub lost_two : Bool → Bool → ℕ → ℕ
+lost_two first second d = cond first (cond second 0 (suc d)) d
+
+pub lost_two_small : (first second : Bool) (d : ℕ) → lost_two first second d ≤ suc d
+unfolding lost_two
+lost_two_small true true d = omega arith
+lost_two_small true false d = omega arith
+lost_two_small false second d = omega arith
+
+pub lost_first : (second : Bool) (d : ℕ) → lost_two true second d ≡ lost second (suc d)
+unfolding lost lost_two
+lost_first second d = refl
+
+pub lost_both : (second : Bool) (d : ℕ) → lost_two false second d ≡ d
+unfolding lost_two
+lost_both second d = refl
+
+pub lost_second : (first second : Bool) (d : ℕ) → second ≡ true → lost_two first second d ≡ lost first d
+unfolding lost lost_two
+lost_second true second d e = rw e refl
+lost_second false second d e = refl
+
+pub same_second : (first second second' : Bool) (d : ℕ) → (first ≡ true → second' ≡ second) → lost_two first second' d ≡ lost_two first second d
+unfolding lost_two
+same_second true second second' d e = rw (e refl) refl
+same_second false second second' d e = refl

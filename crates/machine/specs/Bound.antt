@@ -1,4 +1,5 @@
--- How many of its own steps a call makes, while no other pass wins an exchange.
+-- How many of its own steps a call makes, while no other pass wins an exchange. A call that ends so, whatever
+-- steps the others make, ends when it runs alone: obstruction-freedom (Herlihy, Luchangco and Moir 2003).
 use Rattle.std.specs.Prelude.{◌≡◌, ◌⊎◌, ℕ, ◌+◌, ◌==◌, if◌then◌else◌, Bool, false, not, [], ◌∷◌}
 use mathlib.Core.Option.{Option, none, some}
 use lib.ListN.{get_elem?}

@@ -1,8 +1,13 @@
 -- Chains of nodes: their links, and what their slots have. A slot at home is some None where it is
 -- empty, and none while a pass holds it.
-use Rattle.std.specs.Prelude.{◌≡◌, ℕ, zero, suc, ◌==◌, if◌then◌else◌, List, [], ◌∷◌, ◌++◌, Option as Slot, Some, None}
+use Rattle.std.specs.Prelude.{◌≡◌, ℕ, zero, suc, ◌==◌, if◌then◌else◌, List, [], ◌∷◌, ◌++◌, map, Option as Slot, Some, None, Bool, true, false, reverse}
 use mathlib.Core.Option.{Option, none, some}
 use Rattle.tagged_index.specs.declared.word.TheConstants.{NULL}
+
+-- a list as it is, or turned round
+abbrev pub turned : {A : Type 0} → Bool → List A → List A
+turned true xs = reverse xs
+turned false xs = xs
 
 -- A chain is a list of nodes, each linked to the next
 abbrev pub first : List ℕ → ℕ
@@ -32,26 +37,40 @@ module _ {T : Type 0} where
   away home [] = home
   away home (i ∷ is) = with_home (away home is) i none
 
-  -- they come home with these values
-  abbrev pub filled : (ℕ → Option (Slot T)) → List ℕ → List T → ℕ → Option (Slot T)
-  filled home [] values = home
-  filled home (i ∷ is) [] = home
-  filled home (i ∷ is) (v ∷ vs) = with_home (filled home is vs) i (some (Some v))
+  -- slots come home, each with its index
+  abbrev pub back : (ℕ → Option (Slot T)) → List (ℕ × Slot T) → ℕ → Option (Slot T)
+  back home [] = home
+  back home (z ∷ zs) = with_home (back home zs) z.0 (some z.1)
 
-  -- they come home empty
+  -- the slots of a chain with values in them, and empty
+  abbrev pub full : List ℕ → List T → List (ℕ × Slot T)
+  full [] values = []
+  full (i ∷ is) [] = []
+  full (i ∷ is) (v ∷ vs) = (i, Some v) ∷ full is vs
+
+  abbrev pub vacant : List ℕ → List (ℕ × Slot T)
+  vacant [] = []
+  vacant (i ∷ is) = (i, None) ∷ vacant is
+
+  -- they come home with these values, or empty
+  abbrev pub filled : (ℕ → Option (Slot T)) → List ℕ → List T → ℕ → Option (Slot T)
+  filled home is values = back home (full is values)
+
   abbrev pub emptied : (ℕ → Option (Slot T)) → List ℕ → ℕ → Option (Slot T)
-  emptied home [] = home
-  emptied home (i ∷ is) = with_home (emptied home is) i (some None)
+  emptied home is = back home (vacant is)
 
   abbrev pub value_in : Option (Slot T) → List T
   value_in none = []
   value_in (some None) = []
   value_in (some (Some v)) = v ∷ []
 
+  abbrev pub values_of : List (Option (Slot T)) → List T
+  values_of [] = []
+  values_of (x ∷ xs) = value_in x ++ values_of xs
+
   -- the values at home in a chain's slots
   abbrev pub values_in : (ℕ → Option (Slot T)) → List ℕ → List T
-  values_in home [] = []
-  values_in home (i ∷ is) = value_in (home i) ++ values_in home is
+  values_in home is = values_of (map home is)
 
 -- the slots of these nodes have these values
 abbrev pub HasValues : {T : Type 0} → (ℕ → Option (Slot T)) → List ℕ → List T → Type 0

@@ -2,7 +2,10 @@ pub mod Words
 pub mod OneList
 pub mod Chains
 pub mod Schedule
+pub mod Program
+pub mod FreeList
 pub mod Bound
+pub mod Progress
 pub mod Seen
 pub mod Seats
 pub mod Places

@@ -23,8 +23,8 @@ pub record Machine (M L C E : Type 0) : Type 0 where
   pub step : M → ℕ → L → Outcome M L E
   pub wins : M → L → Bool
 
--- A pass: the line of its next step, the call that it began last, the history that it had seen then,
--- and the one that it has seen by now
+-- A pass: the line of its next step, the call that it began last, the history as it was then, and the
+-- history that the pass has seen by now
 pub record Pass (L C E : Type 0) : Type 0 where
   pub line : L
   pub call : Option C
@@ -46,17 +46,20 @@ abbrev pub Schedule : Type 0 → Type 0
 Schedule C = List (ℕ × Act C)
 
 module _ {M L C E : Type 0} (x : Machine M L C E) where
-  -- pass p, which is v, after a step; it has then seen all that has happened
+  -- pass v after a step; it has then seen all that has happened
+  abbrev pub having_stepped : State M L C E → Pass L C E → Outcome M L E → Pass L C E
+  having_stepped s v o = record v { line = o.line; seen = o.events ++ s.history }
+
+  -- and after a begin, at which the call's time starts
+  abbrev pub having_begun : State M L C E → Pass L C E → C → Pass L C E
+  having_begun s v call = record v { line = x.starts call v.line; call = some call; begun = s.history; seen = s.history }
+
   abbrev pub stepped : State M L C E → ℕ → Pass L C E → Outcome M L E → State M L C E
-  stepped s p v o = record {
-    memory = o.memory;
-    passes = set s.passes p (record v { line = o.line; seen = o.events ++ s.history });
-    history = o.events ++ s.history;
-  }
+  stepped s p v o = record { memory = o.memory; passes = set s.passes p (having_stepped s v o); history = o.events ++ s.history }
 
   -- a begin is no atomic step and changes no word
   abbrev pub begun : State M L C E → ℕ → Pass L C E → C → State M L C E
-  begun s p v call = record s { passes = set s.passes p (record v { line = x.starts call v.line; call = some call; begun = v.seen }) }
+  begun s p v call = record s { passes = set s.passes p (having_begun s v call) }
 
   -- a begin of a busy pass does nothing, nor does a step of an idle one
   abbrev pub acts : State M L C E → ℕ → Act C → Pass L C E → State M L C E

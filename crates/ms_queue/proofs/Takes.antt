@@ -1,6 +1,7 @@
 -- What a take gives, and where its steps lead.
 use Rattle.std.proofs.Common.{◌≡◌, ◌≢◌, ℕ, true, false, List, [], ◌∷◌, refl, sym, ap, ◌∙◌, eq-eqb, ne_eqb}
-use Rattle.std.specs.Prelude.{Option as Slot, Some, Result, Ok, Err}
+use Rattle.std.specs.Prelude.{map, Option as Slot, Some, None, Result, Ok, Err}
+use mathlib.Core.Option.{some}
 use Rattle.tagged_index.specs.Fields.{fields_of, index_of, mark_of, second_of}
 use Rattle.tagged_index.specs.declared.word.TheConstants.{NULL}
 use Rattle.bounded_model.specs.declared.answers.TakeRefused.{TakeRefused}
@@ -8,15 +9,17 @@ use Rattle.bounded_model.specs.declared.answers.TakeRefused.TheVariants.{Empty, 
 use Rattle.bounded_model.specs.declared.history.Event.TheVariants.{Take, Free}
 use Rattle.bounded_model.specs.declared.views.PassView.{PassView}
 use Rattle.bounded_model.specs.Laws.{TakeGives}
+use Rattle.machine.specs.Words.{Tagged}
 use Rattle.machine.specs.Seats.{pass_of}
 use Rattle.machine.specs.declared.seats.View.{View}
 use Rattle.queue_machine.specs.declared.lines.Answer.TheVariants.{Take as AnswerTake}
 use Rattle.queue_machine.specs.declared.lines.Line.{Line}
-use Rattle.queue_machine.specs.declared.lines.Line.TheVariants.{LoadHead, LoadTailToTake, CheckHead, SwingTailToTake, LoadCell}
-use Rattle.queue_machine.specs.Machine.{found_head, found_front, ends}
+use Rattle.queue_machine.specs.declared.lines.Line.TheVariants.{Idle, LoadHead, LoadTailToTake, CheckHead, SwingTailToTake, LoadCell}
+use Rattle.queue_machine.specs.Machine.{found_head, found_front, ends, took}
 use Rattle.queue_table.specs.Lines.{next}
 use Rattle.queue_table.specs.declared.operation.Operation.TheVariants.{Take as First}
 use Rattle.running.specs.Going.{Ended}
+use Rattle.running.specs.Tables.{line_of, values}
 use Rattle.running.proofs.Ways.{hits, misses}
 use Rattle.ms_queue.specs.declared.queue.Queue.{Queue}
 use Rattle.ms_queue.specs.Queue.{machine_of, shape_of}
@@ -66,6 +69,10 @@ module _ {T : Type 0} (limit y h w x : ℕ) where
   node e m ne other = same e ∙ rw m (rw (ne_eqb (index_of x) NULL ne) (rw (ne_eqb (index_of w) (index_of h) other) refl))
 
 module _ {T : Type 0} where
+  -- where the pass goes on that has won the head, by the slots that it brings
+  abbrev pub won_take : Tagged → ℕ → List (ℕ × Slot T) → Line T
+  won_take h k zs = line_of (Idle None) (took h k (map some (values zs)))
+
   value_or : T → List (ℕ × Slot T) → T
   value_or d ((i, Some x) ∷ zs) = x
   value_or d zs = d

@@ -6,8 +6,8 @@ ghost use Rattle.ms_queue.specs.declared.giving.Give.TheVariants.{LoadNodes, Lin
 
 use crate::queue::{Pass, Queue};
 use queue_table::Operation;
-use queue_table::layout::{CELLS, NODES, cell_link, node_link};
-use running::{give_step, keep_step, load_tagged_step, swap_step};
+use queue_table::layout::{CELL_LIST, NODE_LIST};
+use running::{give_bare_step, give_one_step, keep_link_step, load_top_step};
 use tagged_index::Tagged;
 
 /// The node and the cell that are to be given back. The cell's slot is empty.
@@ -75,7 +75,7 @@ impl<T> Queue<T> {
         ensures { (a : Answer T) → IsGiving self.now (way operation.now by.old (a, held) LoadNodes)
             → Led self.now (way operation.now by.old (a, held) LoadNodes) by.new result }
     {
-        let nodes = load_tagged_step(&self.table.shared, &mut by.seat, NODES, operation);
+        let nodes = load_top_step(&self.table.shared, &mut by.seat, NODE_LIST, operation);
         Gave::On(Give::LinkNode(nodes))
     }
 
@@ -93,9 +93,9 @@ impl<T> Queue<T> {
             → IsGiving self.now (way operation.now by.old (a, held) (LinkNode nodes))
             → Led self.now (way operation.now by.old (a, held) (LinkNode nodes)) by.new result }
     {
-        let link = node_link(held.node);
+        let table = &self.table.shared;
         let first = nodes.index() as u64;
-        keep_step(&self.table.shared, &mut by.seat, link, first, operation);
+        keep_link_step(table, &mut by.seat, NODE_LIST, held.node, first, operation);
         Gave::On(Give::GiveNode(nodes))
     }
 
@@ -113,15 +113,8 @@ impl<T> Queue<T> {
             → IsGiving self.now (way operation.now by.old (a, held) (GiveNode nodes))
             → Led self.now (way operation.now by.old (a, held) (GiveNode nodes)) by.new result }
     {
-        let new = nodes.kept(held.node);
-        if swap_step(
-            &self.table.shared,
-            &mut by.seat,
-            NODES,
-            nodes,
-            new,
-            operation,
-        ) {
+        let table = &self.table.shared;
+        if give_bare_step(table, &mut by.seat, NODE_LIST, nodes, held.node, operation) {
             return Gave::On(Give::LoadCells);
         }
         Gave::On(Give::LoadNodes)
@@ -134,7 +127,7 @@ impl<T> Queue<T> {
         ensures { (a : Answer T) → IsGiving self.now (way operation.now by.old (a, held) LoadCells)
             → Led self.now (way operation.now by.old (a, held) LoadCells) by.new result }
     {
-        let cells = load_tagged_step(&self.table.shared, &mut by.seat, CELLS, operation);
+        let cells = load_top_step(&self.table.shared, &mut by.seat, CELL_LIST, operation);
         Gave::On(Give::LinkCell(cells))
     }
 
@@ -152,9 +145,9 @@ impl<T> Queue<T> {
             → IsGiving self.now (way operation.now by.old (a, held) (LinkCell cells))
             → Led self.now (way operation.now by.old (a, held) (LinkCell cells)) by.new result }
     {
-        let link = cell_link(held.cell);
+        let table = &self.table.shared;
         let first = cells.index() as u64;
-        keep_step(&self.table.shared, &mut by.seat, link, first, operation);
+        keep_link_step(table, &mut by.seat, CELL_LIST, held.cell, first, operation);
         Gave::On(Give::GiveCell(cells))
     }
 
@@ -173,15 +166,8 @@ impl<T> Queue<T> {
             → IsGiving self.now (way operation.now by.old (a, held) (GiveCell cells))
             → Led self.now (way operation.now by.old (a, held) (GiveCell cells)) by.new result }
     {
-        let new = cells.kept(held.cell);
-        if give_step(
-            &self.table.shared,
-            &mut by.seat,
-            CELLS,
-            cells,
-            new,
-            operation,
-        ) {
+        let table = &self.table.shared;
+        if give_one_step(table, &mut by.seat, CELL_LIST, cells, held.cell, operation) {
             return Gave::Both;
         }
         Gave::On(Give::LoadCells)

@@ -10,8 +10,8 @@ use crate::seeking::Seek;
 use bounded_model::{PutRefused, Stepped, Word};
 use index_list::{move_out, put_in};
 use queue_table::Operation;
-use queue_table::layout::{CELLS, NODES, cell_link, node_link};
-use running::{load_step, load_tagged_step, raised, swap_step, take_step};
+use queue_table::layout::{CELL_LIST, NODE_LIST};
+use running::{load_link_step, load_top_step, take_bare_step, take_first_step};
 use tagged_index::{NULL, Tagged};
 
 impl<T> Queue<T> {
@@ -23,7 +23,7 @@ impl<T> Queue<T> {
             → PutStep self.now x (put_op operation by (LoadCells value)) result }
     {
         let mut pass = by;
-        let cells = load_tagged_step(&self.table.shared, &mut pass.seat, CELLS, &operation);
+        let cells = load_top_step(&self.table.shared, &mut pass.seat, CELL_LIST, &operation);
         if cells.index() == NULL {
             return Stepped::Again(PutOp {
                 pass,
@@ -55,8 +55,9 @@ impl<T> Queue<T> {
             → PutStep self.now x (put_op operation by (LoadCellLink value cells)) result }
     {
         let mut pass = by;
-        let at = cell_link(cells.index());
-        let found = load_step(&self.table.shared, &mut pass.seat, at, &operation);
+        let table = &self.table.shared;
+        let index = cells.index();
+        let found = load_link_step(table, &mut pass.seat, CELL_LIST, index, &operation);
         let link = found as u32;
         Stepped::Again(PutOp {
             pass,
@@ -81,9 +82,8 @@ impl<T> Queue<T> {
             → PutStep self.now x (put_op operation by (TakeCell value cells link)) result }
     {
         let mut pass = by;
-        let new = raised(cells, link);
         let table = &self.table.shared;
-        if take_step(table, &mut pass.seat, CELLS, cells, new, &operation) {
+        if take_first_step(table, &mut pass.seat, CELL_LIST, cells, link, &operation) {
             let cell = cells.index();
             put_in(table, &mut pass.seat, cell, value);
             return Stepped::Again(PutOp {
@@ -107,7 +107,7 @@ impl<T> Queue<T> {
             → PutStep self.now x (put_op operation by (LoadNodes cell)) result }
     {
         let mut pass = by;
-        let nodes = load_tagged_step(&self.table.shared, &mut pass.seat, NODES, &operation);
+        let nodes = load_top_step(&self.table.shared, &mut pass.seat, NODE_LIST, &operation);
         if nodes.index() == NULL {
             let value = self.put_value_back(&mut pass, cell);
             let why = PutRefused::Spent(value, Word::Nodes, nodes.tag());
@@ -174,8 +174,9 @@ impl<T> Queue<T> {
             → PutStep self.now x (put_op operation by (LoadNodeLink cell nodes)) result }
     {
         let mut pass = by;
-        let at = node_link(nodes.index());
-        let found = load_step(&self.table.shared, &mut pass.seat, at, &operation);
+        let table = &self.table.shared;
+        let index = nodes.index();
+        let found = load_link_step(table, &mut pass.seat, NODE_LIST, index, &operation);
         let link = found as u32;
         Stepped::Again(PutOp {
             pass,
@@ -198,9 +199,8 @@ impl<T> Queue<T> {
             → PutStep self.now x (put_op operation by (TakeNode cell nodes link)) result }
     {
         let mut pass = by;
-        let new = raised(nodes, link);
         let table = &self.table.shared;
-        if swap_step(table, &mut pass.seat, NODES, nodes, new, &operation) {
+        if take_bare_step(table, &mut pass.seat, NODE_LIST, nodes, link, &operation) {
             let node = nodes.index();
             return Stepped::Again(PutOp {
                 pass,

@@ -2,7 +2,8 @@
 use machine::seats::View;
 use queue_machine::Line;
 use queue_table::Operation;
-use running::Machine;
+use queue_table::layout::{CELL_LIST, CELLS, NODES, cell_link, node_link};
+use running::{ListMachine, Machine};
 use std::marker::PhantomData;
 
 /// The queue of Michael and Scott as a machine on a table.
@@ -18,4 +19,33 @@ impl<T> Machine<T, Line<T>, Operation<T>> for Queued {
     ghost names = { names };
 
     ghost machine = { λ limits. queue T (capacity_of limits) (tag_limit_of limits) };
+}
+
+impl<T> ListMachine<T, Line<T>, Operation<T>, 2> for Queued {
+    ghost use Rattle.tagged_index.specs.Limits.{capacity_of, tag_limit_of};
+    ghost use Rattle.queue_table.specs.Lists.{lists};
+    ghost use Rattle.queue_table.proofs.Hosts.{list_laws};
+
+    ghost lists = { lists };
+
+    #[inline]
+    fn top(list: usize) -> usize {
+        if list == CELL_LIST { CELLS } else { NODES }
+    }
+
+    #[inline]
+    fn link(list: usize, index: u32) -> usize {
+        if list == CELL_LIST {
+            cell_link(index)
+        } else {
+            node_link(index)
+        }
+    }
+
+    #[inline]
+    fn keeps_tag(_list: usize) -> bool {
+        true
+    }
+
+    ghost laws = { λ limits. list_laws T (capacity_of limits) (tag_limit_of limits) };
 }

@@ -18,7 +18,7 @@ use Rattle.machine.proofs.Chains.{first_value}
 use Rattle.queue_machine.specs.declared.lines.Line.{Line}
 use Rattle.queue_machine.specs.Machine.{Memory, held_cells, held_nodes, store_word, null_word, after_hold, after_free, after_node_take, after_node_give, after_clink, after_nlink, after_cell, after_next, after_link_of, after_swing, after_close, after_take, after_shut, next_of}
 use Rattle.queue_machine.specs.Answers.{state}
-use Rattle.queue_machine.specs.Rule.{Lists, Follows, Lags, Ends, IsFresh, IsFine, Filled, wanting, bare, putting, Good, Kept}
+use Rattle.queue_machine.specs.Rule.{Lists, Linked, Follows, Lags, Ends, IsFresh, IsFine, Filled, wanting, bare, putting, Good, Kept}
 use Rattle.queue_machine.proofs.Chain.{word_else, word_each, last_in, tail_in, behind}
 use Rattle.queue_machine.proofs.Chained.{take_chained}
 use Rattle.queue_machine.proofs.Linked.{cell_once, node_once, cell_below}
@@ -62,39 +62,29 @@ pub record Took (T : Type 0) (n limit : ℕ) (m : Memory T) (who : ℕ → Optio
   pub good : Good T n limit (after_take m h x c) lists who (set lines q (to value)) (Take p value h.tag ∷ history)
 
 module _ {T : Type 0} {n limit : ℕ} {m : Memory T} {g : Lists} {who : ℕ → Option ℕ} {lines : List (Line T)} {history : List (Event T)} (q : ℕ) (l l' : Line T) (x : Good T n limit m g who lines history) (e : get_elem? lines q ≡ some l) where
+  -- a step that changes neither the four tops, nor a link of the chain, nor a slot
+  good_words : (m' : Memory T) → m'.cells ≡ m.cells → m'.nodes ≡ m.nodes → m'.head ≡ m.head → m'.tail ≡ m.tail → m'.next ≡ m.next → m'.home ≡ m.home → Alike l l' → Linked T n limit m' g (set lines q l') → Good T n limit m' g who (set lines q l') history
+  good_words m' cells nodes head tail next home a linked = record {
+    linked = linked;
+    filled = same_filled x.filled m' g home refl refl;
+    numbered = same_numbered q l l' e x.numbered m' g (ap (λ (w : Tagged). w.tag) cells) (ap (λ (w : Tagged). w.tag) nodes) next (ap (λ (w : Tagged). last (w.index ∷ g.after)) tail) a.wanting_less;
+    told = still_told q l l' e x.told m' g refl refl (omega (arith, a.bare_same)) (ap length a.cells) a.putting_less
+        (λ h. ap (λ (i : ℕ). (m'.next i).mark) (ap (λ (w : Tagged). w.index) tail) ∙ ap (λ (f : ℕ → Tagged). (f m.tail.index).mark) next ∙ h) (λ j h. ap (λ (f : ℕ → Tagged). (f j).mark) (sym next) ∙ h) (ap (λ (w : Tagged). w.tag) cells) head;
+  }
+
   -- a step that changes no word
   pub good_goes : Alike l l' → IsFine limit m g l' → Good T n limit m g who (set lines q l') history
-  good_goes a f = record {
-    linked = goes_linked q l l' x.linked e a.cells a.nodes f;
-    filled = x.filled;
-    numbered = same_numbered q l l' e x.numbered m g refl refl refl refl a.wanting_less;
-    told = still_told q l l' e x.told m g refl refl (omega (arith, a.bare_same)) (ap length a.cells) a.putting_less (λ h. h) (λ j h. h) refl refl;
-  }
+  good_goes a f = good_words m refl refl refl refl refl refl a (goes_linked q l l' x.linked e a.cells a.nodes f)
 
   -- a store into a held cell's link, into a held node's, of its cell, and of null into its `next`
   pub good_clink : (i at : ℕ) → 0 < times i (held_cells l) → Alike l l' → IsFine limit (after_clink m i at) g l' → Good T n limit (after_clink m i at) g who (set lines q l') history
-  good_clink i at mine a f = record {
-    linked = clink_linked q l l' x.linked e i at mine a.cells a.nodes f;
-    filled = same_filled x.filled (after_clink m i at) g refl refl refl;
-    numbered = same_numbered q l l' e x.numbered (after_clink m i at) g refl refl refl refl a.wanting_less;
-    told = still_told q l l' e x.told (after_clink m i at) g refl refl (omega (arith, a.bare_same)) (ap length a.cells) a.putting_less (λ h. h) (λ j h. h) refl refl;
-  }
+  good_clink i at mine a f = good_words (after_clink m i at) refl refl refl refl refl refl a (clink_linked q l l' x.linked e i at mine a.cells a.nodes f)
 
   pub good_nlink : (i at : ℕ) → 0 < times i (held_nodes l) → Alike l l' → IsFine limit (after_nlink m i at) g l' → Good T n limit (after_nlink m i at) g who (set lines q l') history
-  good_nlink i at mine a f = record {
-    linked = nlink_linked q l l' x.linked e i at mine a.cells a.nodes f;
-    filled = same_filled x.filled (after_nlink m i at) g refl refl refl;
-    numbered = same_numbered q l l' e x.numbered (after_nlink m i at) g refl refl refl refl a.wanting_less;
-    told = still_told q l l' e x.told (after_nlink m i at) g refl refl (omega (arith, a.bare_same)) (ap length a.cells) a.putting_less (λ h. h) (λ j h. h) refl refl;
-  }
+  good_nlink i at mine a f = good_words (after_nlink m i at) refl refl refl refl refl refl a (nlink_linked q l l' x.linked e i at mine a.cells a.nodes f)
 
   pub good_cell : (i c : ℕ) → 0 < times i (held_nodes l) → Alike l l' → IsFine limit (after_cell m i c) g l' → Good T n limit (after_cell m i c) g who (set lines q l') history
-  good_cell i c mine a f = record {
-    linked = cell_linked q l l' x.linked e i c mine a.cells a.nodes f;
-    filled = same_filled x.filled (after_cell m i c) g refl refl refl;
-    numbered = same_numbered q l l' e x.numbered (after_cell m i c) g refl refl refl refl a.wanting_less;
-    told = still_told q l l' e x.told (after_cell m i c) g refl refl (omega (arith, a.bare_same)) (ap length a.cells) a.putting_less (λ h. h) (λ j h. h) refl refl;
-  }
+  good_cell i c mine a f = good_words (after_cell m i c) refl refl refl refl refl refl a (cell_linked q l l' x.linked e i c mine a.cells a.nodes f)
 
   -- a held node is outside the chain
   pub outside : (j i : ℕ) → 0 < times j (held_nodes l) → 0 < times i g.chain → j ≢ i

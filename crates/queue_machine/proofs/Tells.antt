@@ -11,13 +11,14 @@ use Rattle.bounded_model.specs.declared.answers.TakeRefused.TheVariants.{Empty a
 use Rattle.bounded_model.specs.declared.history.Event.{Event}
 use Rattle.bounded_model.specs.declared.history.Event.TheVariants.{Hold, Put, Take, Free, Close, Shut}
 use Rattle.bounded_model.specs.Machine.{Shape}
-use Rattle.bounded_model.specs.Histories.{Later, own}
+use Rattle.bounded_model.specs.Histories.{Later, own, pass_of}
 use Rattle.bounded_model.specs.Justified.{Sometime, Justifies, IsOpen, Looked}
 use Rattle.bounded_model.proofs.Histories.{Later-refl, Later-cons, Later-trans, own-other}
 use Rattle.bounded_model.proofs.Adding.{Sometime-now, Sometime-wider}
 use Rattle.bounded_model.proofs.Staying.{open_before, unshut_before, closed_stays}
-use Rattle.machine.specs.Words.{Tagged, same, raised}
-use Rattle.machine.proofs.Tests.{cases, same-is}
+use Rattle.machine.specs.Words.{Tagged}
+use Rattle.machine.proofs.Tests.{cases}
+use Rattle.machine.proofs.Program.{Cases, by_cases, Apart, adds_own}
 use Rattle.queue_machine.specs.declared.lines.Placing.{Placing}
 use Rattle.queue_machine.specs.declared.lines.Linking.{Linking}
 use Rattle.queue_machine.specs.declared.lines.Seeking.{Seeking}
@@ -25,8 +26,8 @@ use Rattle.queue_machine.specs.declared.lines.Seeking.TheVariants.{ToLink, ToRef
 use Rattle.queue_machine.specs.declared.lines.Answer.{Answer}
 use Rattle.queue_machine.specs.declared.lines.Answer.TheVariants.{Put as AnswerPut, Take as AnswerTake, Close as AnswerClose, Shut as AnswerShut, Look as AnswerLook}
 use Rattle.queue_machine.specs.declared.lines.Line.{Line}
-use Rattle.queue_machine.specs.declared.lines.Line.TheVariants.{Idle, LoadCells, LoadCellLink, TakeCell, LoadNodes, LoadNodeLink, TakeNode, StoreCell, LoadNext, PrepareNext, LoadTail, LoadTailNext, CheckTail, SwingTail, LinkNext, SwingToLinked, MarkNext, LoadHead, LoadTailToTake, LoadHeadNext, CheckHead, SwingTailToTake, LoadCell, TakeHead, LoadNodesToGive, LinkToNodes, GiveNode, LoadCellsToGive, LinkToCells, GiveCell, LoadHeadToLook, LoadNextToLook, CheckHeadToLook, LoadHeadToShut, ShutHead}
-use Rattle.queue_machine.specs.Machine.{Memory, Outcome, goes_on, wins, wins_value, step, ends, gives, frees, with_cell, with_node, back_closed, back_null, found_cells, found_nodes, found_next, found_back, found_front, after_hold, after_free, after_node_take, after_node_give, after_link, after_swing, after_close, after_shut}
+use Rattle.queue_machine.specs.declared.lines.Line.TheVariants.{Idle, LoadCells, LoadCellLink, TakeCell, LoadNodes, LoadNodeLink, TakeNode, LoadNext, PrepareNext, LoadTail, LoadTailNext, CheckTail, SwingTail, LinkNext, SwingToLinked, MarkNext, LoadHead, LoadTailToTake, LoadHeadNext, CheckHead, SwingTailToTake, LoadCell, TakeHead, LoadNodesToGive, LinkToNodes, GiveNode, LoadCellsToGive, LinkToCells, GiveCell, LoadHeadToLook, LoadNextToLook, CheckHeadToLook, LoadHeadToShut, ShutHead}
+use Rattle.queue_machine.specs.Machine.{Memory, memories, Outcome, table, wins_value, step, ends, gives, frees, back_closed, back_null, found_cells, found_nodes, found_next, found_back, found_front}
 use Rattle.queue_machine.specs.Answers.{shape, state, IsRight}
 use Rattle.queue_machine.specs.Rule.{Lists, IsFine, SeeksFor, EndTells, FrontTells, Tells, Good}
 use Rattle.queue_machine.proofs.Told.{not_true}
@@ -143,108 +144,68 @@ module _ {T : Type 0} where
     abbrev Told : Outcome T → Type 0
     Told o = Tells n limit begun (o.events ++ history) o.line
 
-    pub tells_kept : (l : Line T) → get_elem? lines q ≡ some l → Tells n limit begun seen l → let o = step (shape n limit) m p l in Tells n limit begun (o.events ++ history) o.line
-    tells_kept (Idle None) e t = tt
-    tells_kept (Idle (Some a)) e t = right_wider n limit begun seen history a now t
-    tells_kept (LoadCells v) e t = load_cells_tells v
-    tells_kept (LoadCellLink v w) e t = tt
-    tells_kept (TakeCell v w k) e t = cases Told (same m.cells w) (wins (after_hold m w k) (LoadNodes (with_cell v w.index)) (Hold p)) (goes_on m (LoadCells v)) (λ h. tt) (λ h. tt)
-    tells_kept (LoadNodes put) e t = load_nodes_tells put e
-    tells_kept (LoadNodeLink put w) e t = tt
-    tells_kept (TakeNode put w k) e t = cases Told (same m.nodes w) (goes_on (after_node_take m w k) (StoreCell (with_node put w.index))) (goes_on m (LoadNodes put)) (λ h. tt) (λ h. tt)
-    tells_kept (StoreCell link) e t = tt
-    tells_kept (LoadNext link) e t = load_next_tells link e
-    tells_kept (PrepareNext link y) e t = tt
-    tells_kept (LoadTail s) e t = seeks_wider n limit begun seen history s now t
-    tells_kept (LoadTailNext s w) e t = let f : IsFine limit m g (LoadTailNext s w) = x.linked.fine q (LoadTailNext s w) e in (seeks_wider n limit begun seen history s now t, end_tells x w f.1)
-    tells_kept (CheckTail s w y) e t = cases Told (same m.tail w) (goes_on m (found_back s w y)) (goes_on m (LoadTail s)) (λ h. check_tail_tells s w y (same-is m.tail w h) t) (λ h. seeks_wider n limit begun seen history s now t.0)
-    tells_kept (SwingTail s w y) e t =
-        let r = seeks_wider n limit begun seen history s now t in
-        cases Told (same m.tail w) (goes_on (after_swing m w y.index) (LoadTail s)) (goes_on m (LoadTail s)) (λ h. r) (λ h. r)
-    tells_kept (LinkNext link w y) e t =
-        cases Told (same (m.next w.index) y) (wins (after_link m w y link) (SwingToLinked link.value w (raised y link.node)) (Put p (link.value ∷ []) w.tag)) (goes_on m (LoadTail (ToLink link))) (λ h. tt) (λ h. tt)
-    tells_kept (SwingToLinked v w y) e t =
-        let done : Line T = ends (AnswerPut (Ok w.tag)) in
-        cases Told (same m.tail w) (goes_on (after_swing m w y.index) done) (goes_on m done) (λ h. tt) (λ h. tt)
-    tells_kept (MarkNext w y) e t = cases Told (same (m.next w.index) y) (wins (after_close m w y) (ends (AnswerClose true)) (Close p)) (goes_on m (LoadTail ToClose)) (λ h. tt) (λ h. tt)
-    tells_kept LoadHead e t =
+    told : (l : Line T) → get_elem? lines q ≡ some l → Tells n limit begun seen l → Cases memories (Idle None) m p Told l (table limit l)
+    told (Idle (Some a)) e t = right_wider n limit begun seen history a now t
+    told (LoadCells v) e t = load_cells_tells v
+    told (TakeCell v w k) e t = (λ won. tt, tt)
+    told (LoadNodes put) e t = load_nodes_tells put e
+    told (TakeNode put w k) e t = (λ won. tt, tt)
+    told (LoadNext link) e t = load_next_tells link e
+    told (LoadTail s) e t = seeks_wider n limit begun seen history s now t
+    told (LoadTailNext s w) e t = let f : IsFine limit m g (LoadTailNext s w) = x.linked.fine q (LoadTailNext s w) e in (seeks_wider n limit begun seen history s now t, end_tells x w f.1)
+    told (CheckTail s w y) e t = (λ won. check_tail_tells s w y won t, seeks_wider n limit begun seen history s now t.0)
+    told (SwingTail s w y) e t = let r = seeks_wider n limit begun seen history s now t in (λ won. r, r)
+    told (LinkNext link w y) e t = (λ won. tt, tt)
+    told (SwingToLinked v w y) e t = (λ won. tt, tt)
+    told (MarkNext w y) e t = (λ won. tt, tt)
+    told LoadHead e t =
         cases (Tells n limit begun history) m.head.second (ends (AnswerTake (Err TakeShut))) (LoadTailToTake m.head)
         (λ h. Sometime-now since (shut_now x h))
         (λ h. omega (arith, x.told.head_tag))
-    tells_kept (LoadTailToTake h) e t = omega (arith, t, takes_grow (shape n limit) now)
-    tells_kept (LoadHeadNext h w) e t = let f : IsFine limit m g (LoadHeadNext h w) = x.linked.fine q (LoadHeadNext h w) e in front_tells x h f.0
-    tells_kept (CheckHead h w y) e t =
-        let f : IsFine limit m g (CheckHead h w y) = x.linked.fine q (CheckHead h w y) e in
-        cases Told (same m.head h) (goes_on m (found_front h w y)) (goes_on m LoadHead) (λ b. check_head_tells h w y (same-is m.head h b) f.1 t) (λ b. tt)
-    tells_kept (SwingTailToTake w y) e t = cases Told (same m.tail w) (goes_on (after_swing m w y.index) LoadHead) (goes_on m LoadHead) (λ h. tt) (λ h. tt)
-    tells_kept (LoadCell h y) e t = tt
-    tells_kept (TakeHead h y k) e t = cases Told (same m.head h) (wins_value m p h y k (m.home k)) (goes_on m LoadHead) (λ b. value_tells h y k (m.home k)) (λ b. tt)
-    tells_kept (LoadNodesToGive give) e t = right_wider n limit begun seen history give.answer now t
-    tells_kept (LinkToNodes give w) e t = right_wider n limit begun seen history give.answer now t
-    tells_kept (GiveNode give w) e t =
-        let r = right_wider n limit begun seen history give.answer now t in
-        cases Told (same m.nodes w) (goes_on (after_node_give m w give.node) (frees give.cell give.answer)) (goes_on m (LoadNodesToGive give)) (λ h. r) (λ h. r)
-    tells_kept (LoadCellsToGive give) e t = right_wider n limit begun seen history give.answer now t
-    tells_kept (LinkToCells give w) e t = right_wider n limit begun seen history give.answer now t
-    tells_kept (GiveCell give w) e t =
-        cases Told (same m.cells w) (wins (after_free m w give.cell) (ends give.answer) (Free p 1)) (goes_on m (LoadCellsToGive give))
-        (λ h. right_wider n limit begun seen (Free p 1 ∷ history) give.answer (Later-trans now (Later-cons (Free p 1) history)) t)
-        (λ h. right_wider n limit begun seen history give.answer now t)
-    tells_kept LoadHeadToLook e t = omega (arith, x.told.head_tag)
-    tells_kept (LoadNextToLook h) e t = front_tells x h (x.linked.fine q (LoadNextToLook h) e)
-    tells_kept (CheckHeadToLook h y) e t = cases Told (same m.head h) (goes_on m (ends (AnswerLook (eqb y.index NULL)))) (goes_on m LoadHeadToLook) (λ b. look_tells h y (eqb y.index NULL) (same-is m.head h b) t refl) (λ b. tt)
-    tells_kept LoadHeadToShut e t = cases (Tells n limit begun history) m.head.second (ends (AnswerShut false)) (ShutHead m.head) (λ h. Sometime-now since (shut_now x h)) (λ h. tt)
-    tells_kept (ShutHead h) e t = cases Told (same m.head h) (wins (after_shut m h) (ends (AnswerShut true)) (Shut p)) (goes_on m LoadHeadToShut) (λ b. tt) (λ b. tt)
+    told (LoadTailToTake h) e t = omega (arith, t, takes_grow (shape n limit) now)
+    told (LoadHeadNext h w) e t = let f : IsFine limit m g (LoadHeadNext h w) = x.linked.fine q (LoadHeadNext h w) e in front_tells x h f.0
+    told (CheckHead h w y) e t = let f : IsFine limit m g (CheckHead h w y) = x.linked.fine q (CheckHead h w y) e in (λ won. check_head_tells h w y won f.1 t, tt)
+    told (SwingTailToTake w y) e t = (λ won. tt, tt)
+    told (TakeHead h y k) e t = (λ won. value_tells h y k (m.home k), tt)
+    told (LoadNodesToGive give) e t = right_wider n limit begun seen history give.answer now t
+    told (LinkToNodes give w) e t = right_wider n limit begun seen history give.answer now t
+    told (GiveNode give w) e t = let r = right_wider n limit begun seen history give.answer now t in (λ won. r, r)
+    told (LoadCellsToGive give) e t = right_wider n limit begun seen history give.answer now t
+    told (LinkToCells give w) e t = right_wider n limit begun seen history give.answer now t
+    told (GiveCell give w) e t = (
+      λ won. right_wider n limit begun seen (Free p 1 ∷ history) give.answer (Later-trans now (Later-cons (Free p 1) history)) t,
+      right_wider n limit begun seen history give.answer now t,
+    )
+    told LoadHeadToLook e t = omega (arith, x.told.head_tag)
+    told (LoadNextToLook h) e t = front_tells x h (x.linked.fine q (LoadNextToLook h) e)
+    told (CheckHeadToLook h y) e t = (λ won. look_tells h y (eqb y.index NULL) won t refl, tt)
+    told LoadHeadToShut e t = cases (Tells n limit begun history) m.head.second (ends (AnswerShut false)) (ShutHead m.head) (λ h. Sometime-now since (shut_now x h)) (λ h. tt)
+    told (ShutHead h) e t = (λ won. tt, tt)
+    told l e t = tt
+
+    pub tells_kept : (l : Line T) → get_elem? lines q ≡ some l → Tells n limit begun seen l → let o = step (shape n limit) m p l in Tells n limit begun (o.events ++ history) o.line
+    tells_kept l e t = by_cases memories (Idle None) m p Told l (table limit l) (told l e t)
 
 -- each event of a step is of the pass that makes it
 module _ {T : Type 0} (c : Shape) (m : Memory T) (p q : ℕ) (other : q ≢ p) (history : List (Event T)) where
-  abbrev Apart : Outcome T → Type 0
-  Apart o = own q (o.events ++ history) ≡ own q history
+  another : (e : Event T) → pass_of e ≡ p → own q (e ∷ history) ≡ own q history
+  another e mine = own-other q e history (λ z. other (sym z ∙ mine))
 
-  value_apart : (h y : Tagged) (k : ℕ) (o : Option (Slot T)) → own q ((wins_value m p h y k o).events ++ history) ≡ own q history
-  value_apart h y k none = refl
-  value_apart h y k (some None) = refl
-  value_apart h y k (some (Some v)) = own-other q (Take p v h.tag) history (λ e. other (sym e))
+  took_apart : (h y : Tagged) (k : ℕ) (o : Option (Slot T)) → own q ((wins_value m p h y k o).events ++ history) ≡ own q history
+  took_apart h y k none = refl
+  took_apart h y k (some None) = refl
+  took_apart h y k (some (Some v)) = another (Take p v h.tag) refl
 
-  still_apart : (b : Bool) (m' : Memory T) (l l' : Line T) → Apart (cond b (goes_on m' l) (goes_on m l'))
-  still_apart true m' l l' = refl
-  still_apart false m' l l' = refl
+  apart : (l : Line T) → Apart memories (Idle None) m p q history (table c.limit l)
+  apart (TakeCell v w k) = another (Hold p) refl
+  apart (TakeNode put w k) = refl
+  apart (LinkNext link w y) = another (Put p (link.value ∷ []) w.tag) refl
+  apart (MarkNext w y) = another (Close p) refl
+  apart (TakeHead h y k) = took_apart h y k (m.home k)
+  apart (GiveNode give w) = refl
+  apart (GiveCell give w) = another (Free p 1) refl
+  apart (ShutHead h) = another (Shut p) refl
+  apart l = tt
 
   pub step_apart : (l : Line T) → own q ((step c m p l).events ++ history) ≡ own q history
-  step_apart (Idle a) = refl
-  step_apart (LoadCells v) = refl
-  step_apart (LoadCellLink v w) = refl
-  step_apart (TakeCell v w k) = cases Apart (same m.cells w) (wins (after_hold m w k) (LoadNodes (with_cell v w.index)) (Hold p)) (goes_on m (LoadCells v)) (λ h. own-other q (Hold p) history (λ e. other (sym e))) (λ h. refl)
-  step_apart (LoadNodes put) = refl
-  step_apart (LoadNodeLink put w) = refl
-  step_apart (TakeNode put w k) = still_apart (same m.nodes w) (after_node_take m w k) (StoreCell (with_node put w.index)) (LoadNodes put)
-  step_apart (StoreCell link) = refl
-  step_apart (LoadNext link) = refl
-  step_apart (PrepareNext link y) = refl
-  step_apart (LoadTail s) = refl
-  step_apart (LoadTailNext s w) = refl
-  step_apart (CheckTail s w y) = still_apart (same m.tail w) m (found_back s w y) (LoadTail s)
-  step_apart (SwingTail s w y) = still_apart (same m.tail w) (after_swing m w y.index) (LoadTail s) (LoadTail s)
-  step_apart (LinkNext link w y) =
-      let put_now : Event T = Put p (link.value ∷ []) w.tag in
-      cases Apart (same (m.next w.index) y) (wins (after_link m w y link) (SwingToLinked link.value w (raised y link.node)) put_now) (goes_on m (LoadTail (ToLink link))) (λ h. own-other q put_now history (λ e. other (sym e))) (λ h. refl)
-  step_apart (SwingToLinked v w y) = still_apart (same m.tail w) (after_swing m w y.index) (ends (AnswerPut (Ok w.tag))) (ends (AnswerPut (Ok w.tag)))
-  step_apart (MarkNext w y) = cases Apart (same (m.next w.index) y) (wins (after_close m w y) (ends (AnswerClose true)) (Close p)) (goes_on m (LoadTail ToClose)) (λ h. own-other q (Close p) history (λ e. other (sym e))) (λ h. refl)
-  step_apart LoadHead = refl
-  step_apart (LoadTailToTake h) = refl
-  step_apart (LoadHeadNext h w) = refl
-  step_apart (CheckHead h w y) = still_apart (same m.head h) m (found_front h w y) LoadHead
-  step_apart (SwingTailToTake w y) = still_apart (same m.tail w) (after_swing m w y.index) LoadHead LoadHead
-  step_apart (LoadCell h y) = refl
-  step_apart (TakeHead h y k) = cases Apart (same m.head h) (wins_value m p h y k (m.home k)) (goes_on m LoadHead) (λ b. value_apart h y k (m.home k)) (λ b. refl)
-  step_apart (LoadNodesToGive give) = refl
-  step_apart (LinkToNodes give w) = refl
-  step_apart (GiveNode give w) = still_apart (same m.nodes w) (after_node_give m w give.node) (frees give.cell give.answer) (LoadNodesToGive give)
-  step_apart (LoadCellsToGive give) = refl
-  step_apart (LinkToCells give w) = refl
-  step_apart (GiveCell give w) = cases Apart (same m.cells w) (wins (after_free m w give.cell) (ends give.answer) (Free p 1)) (goes_on m (LoadCellsToGive give)) (λ h. own-other q (Free p 1) history (λ e. other (sym e))) (λ h. refl)
-  step_apart LoadHeadToLook = refl
-  step_apart (LoadNextToLook h) = refl
-  step_apart (CheckHeadToLook h y) = still_apart (same m.head h) m (ends (AnswerLook (eqb y.index NULL))) LoadHeadToLook
-  step_apart LoadHeadToShut = refl
-  step_apart (ShutHead h) = cases Apart (same m.head h) (wins (after_shut m h) (ends (AnswerShut true)) (Shut p)) (goes_on m LoadHeadToShut) (λ b. own-other q (Shut p) history (λ e. other (sym e))) (λ b. refl)
+  step_apart l = adds_own memories (Idle None) m p q history l (table c.limit l) (apart l)

@@ -58,7 +58,7 @@ module _ {T : Type 0} (p : ℕ) where
 
   abbrev pub HasMade : Call T → Line T → List (Event T) → Type 0
   HasMade call (Idle (Some a)) events = Makes call a events
-  HasMade call (Idle None) events = events ≡ []
+  HasMade call (Idle None) events = ⊥
   -- put: a cell, a node, to the end of the chain
   HasMade call (LoadCells v) events = (call ≡ CallPut v) × (events ≡ [])
   HasMade call (LoadCellLink v w) events = (call ≡ CallPut v) × (events ≡ [])

@@ -10,14 +10,20 @@ use Rattle.bounded_model.specs.declared.history.Event.{Event}
 use Rattle.bounded_model.specs.declared.history.Event.TheVariants.{Hold, Put, Take, Free, Close, Shut}
 use Rattle.bounded_model.specs.Machine.{Shape}
 use Rattle.machine.specs.Schedule as schedule
-use Rattle.machine.specs.Words.{Tagged, kept, raised, marked, with_second, same, store, start_word, start_link}
+use Rattle.machine.specs.Words.{Tagged, kept, raised, marked, with_second, store, start_word, start_link}
 use Rattle.machine.specs.Chains.{with_home}
+use Rattle.machine.specs.Program.{Memories, Then, stays, returns, brings, Deed, rests, loads, checks, follows, stores, links, attempts, swaps, answered, does, wins as won_by}
+use Rattle.machine.specs.FreeList.{FreeList, load_top, follow_link, take_top, link_to_top, give_top}
 use Rattle.queue_machine.specs.declared.lines.Placing.{Placing}
 use Rattle.queue_machine.specs.declared.lines.Linking.{Linking}
 use Rattle.queue_machine.specs.declared.lines.Seeking.{Seeking}
 use Rattle.queue_machine.specs.declared.lines.Seeking.TheVariants.{ToLink, ToRefuse, ToClose}
 use Rattle.queue_machine.specs.declared.lines.Answer.{Answer}
 use Rattle.queue_machine.specs.declared.lines.Answer.TheVariants.{Put as AnswerPut, Take as AnswerTake, Close as AnswerClose, Shut as AnswerShut, Look as AnswerLook}
+use Rattle.queue_machine.specs.declared.lines.Place.{Place}
+use Rattle.queue_machine.specs.declared.lines.Place.TheVariants.{Cells as AtCells, Nodes as AtNodes, Head as AtHead, Tail as AtTail, Next as AtNext}
+use Rattle.queue_machine.specs.declared.lines.Number.{Number}
+use Rattle.queue_machine.specs.declared.lines.Number.TheVariants.{CellLink, NodeLink, Cell as CellOf}
 use Rattle.queue_machine.specs.declared.lines.Line.{Line}
 use Rattle.queue_machine.specs.declared.lines.Line.TheVariants.{Idle, LoadCells, LoadCellLink, TakeCell, LoadNodes, LoadNodeLink, TakeNode, StoreCell, LoadNext, PrepareNext, LoadTail, LoadTailNext, CheckTail, SwingTail, LinkNext, SwingToLinked, MarkNext, LoadHead, LoadTailToTake, LoadHeadNext, CheckHead, SwingTailToTake, LoadCell, TakeHead, LoadNodesToGive, LinkToNodes, GiveNode, LoadCellsToGive, LinkToCells, GiveCell, LoadHeadToLook, LoadNextToLook, CheckHeadToLook, LoadHeadToShut, ShutHead}
 use Rattle.queue_machine.specs.declared.lines.Call.{Call}
@@ -161,6 +167,27 @@ module _ {T : Type 0} where
   abbrev pub found_head_to_shut : Tagged → Line T
   found_head_to_shut h = if h.second then ends (AnswerShut false) else ShutHead h
 
+abbrev pub same_place : Place → Place → Bool
+same_place AtCells AtCells = true
+same_place AtNodes AtNodes = true
+same_place AtHead AtHead = true
+same_place AtTail AtTail = true
+same_place (AtNext i) (AtNext j) = i == j
+same_place a b = false
+
+abbrev pub same_number : Number → Number → Bool
+same_number (CellLink i) (CellLink j) = i == j
+same_number (NodeLink i) (NodeLink j) = i == j
+same_number (CellOf i) (CellOf j) = i == j
+same_number a b = false
+
+-- the free cells and the free nodes
+abbrev pub free_cells : FreeList Place Number
+free_cells = record { top = AtCells; link = CellLink }
+
+abbrev pub free_nodes : FreeList Place Number
+free_nodes = record { top = AtNodes; link = NodeLink }
+
 -- What one step does
 abbrev pub Outcome : Type 0 → Type 0
 Outcome T = schedule.Outcome (Memory T) (Line T) (Event T)
@@ -172,59 +199,106 @@ module _ {T : Type 0} where
   abbrev pub wins : Memory T → Line T → Event T → Outcome T
   wins m l e = record { memory = m; line = l; events = e ∷ [] }
 
-  -- the exchange of TakeHead is won: the cell's value goes with it. There always is one; a pass that
-  -- found none would stop here without an answer
-  abbrev pub wins_value : Memory T → ℕ → Tagged → Tagged → ℕ → Option (Slot T) → Outcome T
-  wins_value m p h n c none = goes_on m (Idle None)
-  wins_value m p h n c (some None) = goes_on m (Idle None)
-  wins_value m p h n c (some (Some v)) = wins (after_take m h n c) (LoadNodesToGive (record { cell = c; node = h.index; answer = AnswerTake (Ok (v, h.tag)) })) (Take p v h.tag)
+  -- the memory as its places
+  abbrev pub word_in : Memory T → Place → Tagged
+  word_in m AtCells = m.cells
+  word_in m AtNodes = m.nodes
+  word_in m AtHead = m.head
+  word_in m AtTail = m.tail
+  word_in m (AtNext j) = m.next j
 
-  -- The step of pass p at a line
-  abbrev pub step : Shape → Memory T → ℕ → Line T → Outcome T
-  step c m p (Idle a) = goes_on m (Idle a)
+  abbrev pub number_in : Memory T → Number → ℕ
+  number_in m (CellLink i) = m.clink i
+  number_in m (NodeLink j) = m.nlink j
+  number_in m (CellOf j) = m.cell j
+
+  abbrev pub memories : Memories T (Memory T) Place Number
+  memories = record {
+    same_place = same_place;
+    same_link = same_number;
+    of = λ word number home. record {
+      cells = word AtCells;
+      nodes = word AtNodes;
+      head = word AtHead;
+      tail = word AtTail;
+      clink = λ i. number (CellLink i);
+      nlink = λ j. number (NodeLink j);
+      next = λ j. word (AtNext j);
+      cell = λ j. number (CellOf j);
+      home = home;
+    };
+    word = word_in;
+    link = number_in;
+    home = λ m. m.home;
+  }
+
+  -- a won exchange leads to a line, by one event or by none
+  abbrev pub by : Line T → (ℕ → Event T) → Then (Line T) (Event T)
+  by l e = record { line = l; events = λ p. e p ∷ [] }
+
+  abbrev pub on : Line T → Then (Line T) (Event T)
+  on l = record { line = l; events = λ p. [] }
+
+  -- the value that was in the cell that TakeHead has won
+  abbrev pub took : Tagged → ℕ → List (Option (Slot T)) → Option (Then (Line T) (Event T))
+  took h c (some (Some v) ∷ others) = some (by (LoadNodesToGive (record { cell = c; node = h.index; answer = AnswerTake (Ok (v, h.tag)) })) (λ p. Take p v h.tag))
+  took h c were = none
+
+  -- What each line does, with tags up to a limit
+  abbrev pub table : ℕ → Line T → Deed T (Memory T) Place Number (Line T) (Event T)
+  table limit (Idle a) = rests
   -- put: a cell from its free list ..
-  step c m p (LoadCells v) = goes_on m (found_cells c.limit v m.cells)
-  step c m p (LoadCellLink v w) = goes_on m (TakeCell v w (m.clink w.index))
-  step c m p (TakeCell v w k) = if same m.cells w then wins (after_hold m w k) (LoadNodes (with_cell v w.index)) (Hold p) else goes_on m (LoadCells v)
+  table limit (LoadCells v) = load_top free_cells (found_cells limit v)
+  table limit (LoadCellLink v w) = follow_link free_cells w (TakeCell v w)
+  table limit (TakeCell v w k) = take_top free_cells w k (brings false (λ m. w.index ∷ []) (λ is were. some (by (LoadNodes (with_cell v w.index)) Hold))) (LoadCells v)
   -- .. a node from its own ..
-  step c m p (LoadNodes put) = goes_on m (found_nodes c.limit put m.nodes)
-  step c m p (LoadNodeLink put w) = goes_on m (TakeNode put w (m.nlink w.index))
-  step c m p (TakeNode put w k) = if same m.nodes w then goes_on (after_node_take m w k) (StoreCell (with_node put w.index)) else goes_on m (LoadNodes put)
+  table limit (LoadNodes put) = load_top free_nodes (found_nodes limit put)
+  table limit (LoadNodeLink put w) = follow_link free_nodes w (TakeNode put w)
+  table limit (TakeNode put w k) = take_top free_nodes w k (stays (on (StoreCell (with_node put w.index)))) (LoadNodes put)
   -- .. which is prepared ..
-  step c m p (StoreCell link) = goes_on (after_cell m link.node link.cell) (LoadNext link)
-  step c m p (LoadNext link) = goes_on m (found_next c.limit link (m.next link.node))
-  step c m p (PrepareNext link n) = goes_on (after_next m link.node (null_word (n.tag + 1))) (LoadTail (ToLink link))
+  table limit (StoreCell link) = links (CellOf link.node) link.cell (LoadNext link)
+  table limit (LoadNext link) = loads (AtNext link.node) (found_next limit link)
+  table limit (PrepareNext link n) = stores (AtNext link.node) (null_word (n.tag + 1)) (LoadTail (ToLink link))
   -- .. and linked behind the last one
-  step c m p (LoadTail s) = goes_on m (LoadTailNext s m.tail)
-  step c m p (LoadTailNext s w) = goes_on m (CheckTail s w (m.next w.index))
-  step c m p (CheckTail s w n) = if same m.tail w then goes_on m (found_back s w n) else goes_on m (LoadTail s)
-  step c m p (SwingTail s w n) = if same m.tail w then goes_on (after_swing m w n.index) (LoadTail s) else goes_on m (LoadTail s)
-  step c m p (LinkNext link w n) =
-      if same (m.next w.index) n then wins (after_link m w n link) (SwingToLinked link.value w (raised n link.node)) (Put p (link.value ∷ []) w.tag)
-      else goes_on m (LoadTail (ToLink link))
-  step c m p (SwingToLinked v w x) = if same m.tail w then goes_on (after_swing m w x.index) (ends (AnswerPut (Ok w.tag))) else goes_on m (ends (AnswerPut (Ok w.tag)))
-  step c m p (MarkNext w n) = if same (m.next w.index) n then wins (after_close m w n) (ends (AnswerClose true)) (Close p) else goes_on m (LoadTail ToClose)
+  table limit (LoadTail s) = loads AtTail (LoadTailNext s)
+  table limit (LoadTailNext s w) = loads (AtNext w.index) (CheckTail s w)
+  table limit (CheckTail s w n) = checks AtTail w (found_back s w n) (LoadTail s)
+  table limit (SwingTail s w n) = attempts AtTail w (raised w n.index) (LoadTail s)
+  table limit (LinkNext link w n) = swaps (AtNext w.index) n (raised n link.node) (returns ((link.cell, Some link.value) ∷ []) (by (SwingToLinked link.value w (raised n link.node)) (λ p. Put p (link.value ∷ []) w.tag))) (LoadTail (ToLink link))
+  table limit (SwingToLinked v w x) = attempts AtTail w (raised w x.index) (ends (AnswerPut (Ok w.tag)))
+  table limit (MarkNext w n) = swaps (AtNext w.index) n (marked (raised n NULL)) (stays (by (ends (AnswerClose true)) Close)) (LoadTail ToClose)
   -- take
-  step c m p LoadHead = goes_on m (found_head m.head)
-  step c m p (LoadTailToTake h) = goes_on m (LoadHeadNext h m.tail)
-  step c m p (LoadHeadNext h w) = goes_on m (CheckHead h w (m.next h.index))
-  step c m p (CheckHead h w n) = if same m.head h then goes_on m (found_front h w n) else goes_on m LoadHead
-  step c m p (SwingTailToTake w n) = if same m.tail w then goes_on (after_swing m w n.index) LoadHead else goes_on m LoadHead
-  step c m p (LoadCell h n) = goes_on m (TakeHead h n (m.cell n.index))
-  step c m p (TakeHead h n k) = if same m.head h then wins_value m p h n k (m.home k) else goes_on m LoadHead
+  table limit LoadHead = loads AtHead found_head
+  table limit (LoadTailToTake h) = loads AtTail (LoadHeadNext h)
+  table limit (LoadHeadNext h w) = loads (AtNext h.index) (CheckHead h w)
+  table limit (CheckHead h w n) = checks AtHead h (found_front h w n) LoadHead
+  table limit (SwingTailToTake w n) = attempts AtTail w (raised w n.index) LoadHead
+  table limit (LoadCell h n) = follows (CellOf n.index) (TakeHead h n)
+  table limit (TakeHead h n k) = swaps AtHead h (raised h n.index) (brings false (λ m. k ∷ []) (λ is. took h k)) LoadHead
   -- a node and a cell go back to their free lists
-  step c m p (LoadNodesToGive give) = goes_on m (LinkToNodes give m.nodes)
-  step c m p (LinkToNodes give w) = goes_on (after_nlink m give.node w.index) (GiveNode give w)
-  step c m p (GiveNode give w) = if same m.nodes w then goes_on (after_node_give m w give.node) (frees give.cell give.answer) else goes_on m (LoadNodesToGive give)
-  step c m p (LoadCellsToGive give) = goes_on m (LinkToCells give m.cells)
-  step c m p (LinkToCells give w) = goes_on (after_clink m give.cell w.index) (GiveCell give w)
-  step c m p (GiveCell give w) = if same m.cells w then wins (after_free m w give.cell) (ends give.answer) (Free p 1) else goes_on m (LoadCellsToGive give)
+  table limit (LoadNodesToGive give) = load_top free_nodes (LinkToNodes give)
+  table limit (LinkToNodes give w) = link_to_top free_nodes give.node w (GiveNode give w)
+  table limit (GiveNode give w) = give_top free_nodes w give.node (stays (on (frees give.cell give.answer))) (LoadNodesToGive give)
+  table limit (LoadCellsToGive give) = load_top free_cells (LinkToCells give)
+  table limit (LinkToCells give w) = link_to_top free_cells give.cell w (GiveCell give w)
+  table limit (GiveCell give w) = give_top free_cells w give.cell (returns ((give.cell, None) ∷ []) (by (ends give.answer) (λ p. Free p 1))) (LoadCellsToGive give)
   -- look, shut
-  step c m p LoadHeadToLook = goes_on m (LoadNextToLook m.head)
-  step c m p (LoadNextToLook h) = goes_on m (CheckHeadToLook h (m.next h.index))
-  step c m p (CheckHeadToLook h n) = if same m.head h then goes_on m (ends (AnswerLook (n.index == NULL))) else goes_on m LoadHeadToLook
-  step c m p LoadHeadToShut = goes_on m (found_head_to_shut m.head)
-  step c m p (ShutHead h) = if same m.head h then wins (after_shut m h) (ends (AnswerShut true)) (Shut p) else goes_on m LoadHeadToShut
+  table limit LoadHeadToLook = loads AtHead LoadNextToLook
+  table limit (LoadNextToLook h) = loads (AtNext h.index) (CheckHeadToLook h)
+  table limit (CheckHeadToLook h n) = checks AtHead h (ends (AnswerLook (n.index == NULL))) LoadHeadToLook
+  table limit LoadHeadToShut = loads AtHead found_head_to_shut
+  table limit (ShutHead h) = swaps AtHead h (with_second h) (stays (by (ends (AnswerShut true)) Shut)) LoadHeadToShut
+
+  -- the step of pass p at a line, and whether it is an exchange that wins
+  abbrev pub step : Shape → Memory T → ℕ → Line T → Outcome T
+  step c m p l = does memories (Idle None) m p l (table c.limit l)
+
+  abbrev pub wins_exchange : Memory T → Line T → Bool
+  wins_exchange m l = won_by memories m (table 0 l)
+
+  -- what the exchange of TakeHead leaves
+  abbrev pub wins_value : Memory T → ℕ → Tagged → Tagged → ℕ → Option (Slot T) → Outcome T
+  wins_value m p h n c was = answered memories (Idle None) m p AtHead (raised h n.index) (c ∷ []) (took h c (was ∷ []))
 
   -- the cell that a pass holds, if any
   abbrev pub seeking_cells : Seeking T → List ℕ
@@ -295,22 +369,6 @@ start c = record {
   cell = λ j. NULL;
   home = λ i. some None;
 }
-
-module _ {T : Type 0} where
-  -- is the next step of a line an exchange that wins
-  abbrev pub wins_exchange : Memory T → Line T → Bool
-  wins_exchange m (TakeCell v w k) = same m.cells w
-  wins_exchange m (TakeNode put w k) = same m.nodes w
-  wins_exchange m (SwingTail s w n) = same m.tail w
-  wins_exchange m (LinkNext link w n) = same (m.next w.index) n
-  wins_exchange m (SwingToLinked v w n) = same m.tail w
-  wins_exchange m (MarkNext w n) = same (m.next w.index) n
-  wins_exchange m (SwingTailToTake w n) = same m.tail w
-  wins_exchange m (TakeHead h n k) = same m.head h
-  wins_exchange m (GiveNode give w) = same m.nodes w
-  wins_exchange m (GiveCell give w) = same m.cells w
-  wins_exchange m (ShutHead h) = same m.head h
-  wins_exchange m l = false
 
 -- the whole machine, for schedules
 abbrev pub queue : {T : Type 0} → Shape → schedule.Machine (Memory T) (Line T) (Call T) (Event T)

@@ -7,4 +7,4 @@
 
 pub mod lines;
 
-pub use lines::{Answer, Call, Freeing, Giving, Line, Linking, Placing, Seeking};
+pub use lines::{Answer, Call, Freeing, Giving, Line, Linking, Number, Place, Placing, Seeking};

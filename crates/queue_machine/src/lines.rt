@@ -7,6 +7,30 @@ use bounded_model::{Event, PutRefused, TakeRefused};
 use std::collections::LinkedList;
 use tagged_index::Fields;
 
+/// A tagged word.
+pub enum Place {
+    /// The top of the free cells.
+    Cells,
+    /// The top of the free nodes.
+    Nodes,
+    /// The first node of the chain, the dummy.
+    Head,
+    /// The last one, or the last but one.
+    Tail,
+    /// The node behind a node of the chain.
+    Next(u32),
+}
+
+/// A plain number in a word.
+pub enum Number {
+    /// The free cell below a free cell.
+    CellLink(u32),
+    /// The free node below a free node.
+    NodeLink(u32),
+    /// The cell of a node.
+    Cell(u32),
+}
+
 /// A put that has its cell and no node yet.
 pub struct Placing<T> {
     pub value: T,

@@ -33,9 +33,9 @@ use Rattle.queue_table.proofs.Does.{does}
 
 module _ {T : Type 0} where
   -- a line that holds nothing and is of no put that has its cell
-  record Empty (l : Line T) : Type 0 where
-    cells : held_cells l ≡ []
-    nodes : held_nodes l ≡ []
+  pub record Empty (l : Line T) : Type 0 where
+    pub cells : held_cells l ≡ []
+    pub nodes : held_nodes l ≡ []
     none_bare : bare l ≡ 0
     none_wanting : wanting l ≡ 0
     none_putting : putting l ≡ 0
@@ -49,14 +49,14 @@ module _ {T : Type 0} where
     putting_less = omega (arith, e'.none_putting);
   }
 
-  first_empty : (o : Operation T) → Empty (first_line o)
+  pub first_empty : (o : Operation T) → Empty (first_line o)
   first_empty (PutFirst v) = record { cells = refl; nodes = refl; none_bare = refl; none_wanting = refl; none_putting = refl }
   first_empty TakeFirst = record { cells = refl; nodes = refl; none_bare = refl; none_wanting = refl; none_putting = refl }
   first_empty CloseFirst = record { cells = refl; nodes = refl; none_bare = refl; none_wanting = refl; none_putting = refl }
   first_empty ShutFirst = record { cells = refl; nodes = refl; none_bare = refl; none_wanting = refl; none_putting = refl }
   first_empty LookFirst = record { cells = refl; nodes = refl; none_bare = refl; none_wanting = refl; none_putting = refl }
 
-  idle_empty : (l : Line T) → is_idle l ≡ true → Empty l
+  pub idle_empty : (l : Line T) → is_idle l ≡ true → Empty l
   idle_empty (Idle a) e = record { cells = refl; nodes = refl; none_bare = refl; none_wanting = refl; none_putting = refl }
   idle_empty l e = absurd (false≢true e)
 

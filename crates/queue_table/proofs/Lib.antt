@@ -2,3 +2,4 @@ pub mod Memories
 pub mod Does
 pub mod Laws
 pub mod Opening
+pub mod Hosts

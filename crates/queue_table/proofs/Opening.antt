@@ -20,7 +20,9 @@ use Rattle.queue_machine.specs.Answers.{shape}
 use Rattle.queue_machine.specs.Rule.{Kept}
 use Rattle.queue_machine.proofs.Start.{IsNew, new_kept}
 use Rattle.running.specs.Rule.{Rule, who}
-use Rattle.queue_table.specs.Layout.{clink_at, nlink_at, next_at, cell_at, words_for, start_of, start_at}
+use Rattle.queue_table.specs.Layout.{clink_at, nlink_at, next_at, cell_at, words_for, start_of, start_at, number_at}
+use Rattle.queue_machine.specs.declared.lines.Number.{Number}
+use Rattle.queue_machine.specs.declared.lines.Number.TheVariants.{CellLink, NodeLink, Cell}
 use Rattle.queue_table.specs.Memories.{memory_of, at_home}
 use Rattle.queue_table.specs.Core.{core}
 use Rattle.queue_table.proofs.Laws.{laws, queue}
@@ -82,6 +84,11 @@ module _ (n : ℕ) (ws : List ℕ) (small : n < NULL) (long : length ws ≡ word
   nlink_small : (j : ℕ) → j < n + 1 → start_nlink n j ≤ NULL
   nlink_small j h = cases (λ v. v ≤ NULL) (eqb j 0) NULL (start_link (n + 1) j) (λ _. omega arith) (λ _. link_small (n + 1) j (omega arith))
 
+  plain_at : (a : Number) → slice_index ws (number_at a) ≤ NULL
+  plain_at (CellLink i) = plain i 0 (clink_at i) (omega arith) (omega arith) (λ h. link_small n i (omega arith))
+  plain_at (NodeLink j) = plain j 1 (nlink_at j) (omega arith) (omega arith) (λ h. nlink_small j h)
+  plain_at (Cell j) = plain j 3 (cell_at j) (omega arith) (omega arith) (λ h. omega arith)
+
 module _ {T : Type 0} (n limit : ℕ) (ws : List ℕ) (some_cell : 0 < n) (small : n < NULL) (some_tag : 0 < limit) (long : length ws ≡ words_for n) (is : (k : ℕ) → k < words_for n → slice_index ws k ≡ start_at n k) where
   new : IsNew n (memory_of {T = T} ws (empties T n))
   new = record {
@@ -114,9 +121,7 @@ module _ {T : Type 0} (n limit : ℕ) (ws : List ℕ) (some_cell : 0 < n) (small
     sane = record {
       words_are = long;
       homes_are = homes_start T n;
-      plain_clink = λ i. plain n ws small long is i 0 (clink_at i) (omega arith) (omega arith) (λ h. link_small n i (omega arith));
-      plain_nlink = λ j. plain n ws small long is j 1 (nlink_at j) (omega arith) (omega arith) (λ h. nlink_small n ws small long is j h);
-      plain_cell = λ j. plain n ws small long is j 3 (cell_at j) (omega arith) (omega arith) (λ h. omega arith);
+      plain = plain_at n ws small long is;
     };
   }
 

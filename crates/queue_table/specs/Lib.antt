@@ -2,3 +2,4 @@ pub mod Layout
 pub mod Lines
 pub mod Memories
 pub mod Core
+pub mod Lists

@@ -20,6 +20,12 @@ pub const HEAD: usize = 32;
 /// It names the last node, or the one before.
 pub const TAIL: usize = 48;
 
+/// The free cells as a list of the machine.
+pub const CELL_LIST: usize = 0;
+
+/// The free nodes as a list of the machine.
+pub const NODE_LIST: usize = 1;
+
 const FIRST_LINK: usize = 64;
 
 const WORDS_OF_AN_INDEX: usize = 4;

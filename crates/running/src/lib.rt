@@ -4,6 +4,7 @@
 //! functions here.
 #![tactic(auto)]
 
+mod lists;
 mod passes;
 mod pause;
 mod rule;
@@ -11,6 +12,11 @@ mod seats;
 mod steps;
 mod whole;
 
+pub use lists::{
+    ListMachine, give_bare_step, give_chain_step, give_one_step, keep_link_step, load_link_step,
+    load_top_step, mark_step, shut_step, store_link_step, take_all_step, take_bare_step,
+    take_first_step,
+};
 pub use passes::{Pass, Root, join, meet, split};
 pub use pause::Pause;
 pub use rule::{Machine, Running};

@@ -2,7 +2,7 @@
 use Rattle.std.proofs.Common.{◌≡◌, ℕ, zero, suc, ◌<◌, ◌≤◌, true, false, cond, eqb, ltb, leb, List, [], ◌∷◌, ◌++◌, length, reverse, refl, sym, ap, ◌∙◌, subst, inl, inr, ⊎_elim, append_assoc, eqb-true, leb-true, arith, Option as Slot, Some, None, Result, Ok, Err}
 use Rattle.std.proofs.lemmas.Bool.Decides.{nat_tests}
 use Rattle.std.proofs.lemmas.List.{length-take-le, length-reverse, drop_all, take-append-drop}
-use mathlib.Core.Option.{Option, none, some}
+use mathlib.Core.Option.{Option, some}
 use Rattle.tagged_index.specs.declared.word.TheConstants.{NULL}
 use Rattle.bounded_model.specs.declared.answers.Word.TheVariants.{Free as FreeWord, Top as TopWord}
 use Rattle.bounded_model.specs.declared.answers.PutRefused.{PutRefused}
@@ -17,7 +17,8 @@ use Rattle.bounded_model.specs.Justified.{IsFull}
 use Rattle.bounded_model.specs.Laws.{holds_of, gave_back}
 use Rattle.bounded_model.proofs.Histories.{own-append, own-mine, Later-refl, Later-cons}
 use Rattle.bounded_model.proofs.Adding.{Sometime-now, Sometime-wider}
-use Rattle.machine.specs.Words.{Tagged, same}
+use Rattle.machine.specs.Words.{Tagged, times, same}
+use Rattle.machine.specs.OneList.{ReadTop}
 use Rattle.bounded_model.specs.Bulk.{HasNoCell}
 use Rattle.stack_machine.specs.declared.lines.Putting.{Putting}
 use Rattle.stack_machine.specs.declared.lines.Giving.{Giving}
@@ -39,11 +40,21 @@ use Rattle.stack_machine.specs.Answers.{shape}
 use Rattle.machine.proofs.Ahead.{Ahead}
 use Rattle.machine.proofs.Tests.{cases, same-is}
 
+-- a slot has a value
+pub record Stocked {T : Type 0} (home : ℕ → Option (Slot T)) (i : ℕ) : Type 0 where
+  pub value : T
+  pub here : home i ≡ some (Some value)
+
 -- what the words say of the history and of the values
-pub record Reads {T : Type 0} (c : Shape) (m : Memory T) (h : List (Event T)) : Type 0 where
+pub record Reads {T : Type 0} (c : Shape) (m : Memory T) (g : Lists) (h : List (Event T)) : Type 0 where
   pub full : m.free.index ≡ NULL → IsFull c h
   pub spent : c.limit ≤ m.free.tag → (state c h).holds ≡ c.limit
   pub valued : length (values_in m.home (chain_from c.capacity m.link m.top.index)) ≡ length (chain_from c.capacity m.link m.top.index)
+  pub stocked : 0 < length g.stack → Stocked m.home m.top.index
+
+some_there : (i : ℕ) (is : List ℕ) → 0 < times i is → 0 < length is
+some_there i [] there = there
+some_there i (j ∷ is) there = omega arith
 
 gives_back : {T : Type 0} (p k : ℕ) → 0 < k → ◌≡◌ {A = List (Event T)} (Free p k ∷ holds_of p k) (gave_back p k)
 gives_back p zero h = absurd (omega arith)
@@ -210,8 +221,8 @@ module _ {T : Type 0} (n limit : ℕ) (p : ℕ) (call : Call T) (begun h : List 
         (λ e. refuse (nothing_made put (own p s.between) s.made (eqb-true (length put.chain) 0 e)))
         (λ e. stays (LoadFree put) (LoadTop put) s s.made (inr (Sometime-now (record { more = s.between; is = s.is }) none_free)))
 
-    load_free_does : (put : Putting T) → Reads c m h → At (LoadFree put) → Does (step c m p (LoadFree put))
-    load_free_does put r s =
+    load_free_does : (g : Lists) (put : Putting T) → Reads c m g h → At (LoadFree put) → Does (step c m p (LoadFree put))
+    load_free_does g put r s =
         let refused : Line T = ends (AnswerPut (Err (PutSpent put.values FreeWord m.free.tag))) in
         cases At (eqb m.free.index NULL) (no_node put (LoadTopToRefuse put.values)) (cond (leb limit m.free.tag) (no_node put refused) (LoadFreeLink put m.free))
         (λ e. no_node_does put (LoadTopToRefuse put.values) s (inl (r.full (eqb-true m.free.index NULL e))) (λ none_made. stays (LoadFree put) (LoadTopToRefuse put.values) s (s.made.0, none_made) tt))
@@ -256,18 +267,23 @@ module _ {T : Type 0} (n limit : ℕ) (p : ℕ) (call : Call T) (begun h : List 
         (λ lost. stays (SwapTop put w) (LoadTop put) s s.made s.all)
 
     -- the exchange that takes one value
-    take_top_does : (w : Tagged) (k : ℕ) → At (TakeTop w k) → Does (step c m p (TakeTop w k))
-    take_top_does w k s = cases Does (same m.top w) (wins_value m p w k (m.home w.index)) (goes_on m (LoadTopToTake One)) (λ won. value (m.home w.index)) (λ lost. stays (TakeTop w k) (LoadTopToTake One) s s.made tt)
+    take_top_does : (w : Tagged) (k : ℕ) (g : Lists) → Reads c m g h → ReadTop limit m.top g.stack w → At (TakeTop w k) → Does (step c m p (TakeTop w k))
+    take_top_does w k g r read s = cases Does (same m.top w) (wins_value m p w k (m.home w.index)) (goes_on m (LoadTopToTake One)) (λ won. taken (same-is m.top w won)) (λ lost. stays (TakeTop w k) (LoadTopToTake One) s s.made tt)
       where
-        value : (o : Option (Slot T)) → Does (wins_value m p w k o)
-        value none = stays (TakeTop w k) (Idle None) s s.made.1 tt
-        value (some None) = stays (TakeTop w k) (Idle None) s s.made.1 tt
-        value (some (Some v)) = adds (TakeTop w k) (gives (w.index ∷ []) (AnswerTake (Ok (v, w.tag)))) (Take p v w.tag) s refl
+        value : (v : T) → Does (wins_value m p w k (some (Some v)))
+        value v = adds (TakeTop w k) (gives (w.index ∷ []) (AnswerTake (Ok (v, w.tag)))) (Take p v w.tag) s refl
             (of (CallTake One) (AnswerTake (Ok (v, w.tag))) (Free p 1 ∷ Take p v w.tag ∷ own p s.between) s.made.0 (ap (λ (x : List (Event T)). Free p 1 ∷ Take p v w.tag ∷ x) s.made.1)) tt
 
+        -- the winner finds a value
+        taken : m.top ≡ w → Does (wins_value m p w k (m.home w.index))
+        taken won =
+            let found = r.stocked (some_there w.index g.stack (read.there (ap (λ (u : Tagged). u.tag) (sym won)))) in
+            let here : m.home w.index ≡ some (Some found.value) = ap (λ (u : Tagged). m.home u.index) (sym won) ∙ found.here in
+            subst (λ (o : Option (Slot T)). Does (wins_value m p w k o)) (sym here) (value found.value)
+
     -- the exchange that takes all values
-    take_chain_does : (d : Direction) (w : Tagged) → Reads c m h → At (TakeChain d w) → Does (step c m p (TakeChain d w))
-    take_chain_does d w r s = cases Does (same m.top w) (wins_chain m p d w chain) (goes_on m (LoadTopToTake (Whole d)))
+    take_chain_does : (d : Direction) (w : Tagged) (g : Lists) → Reads c m g h → At (TakeChain d w) → Does (step c m p (TakeChain d w))
+    take_chain_does d w g r s = cases Does (same m.top w) (wins_chain m p d w chain) (goes_on m (LoadTopToTake (Whole d)))
         (λ won. whole d s.made.0 (subst (λ (x : Tagged). length (values_in m.home (chain_from n m.link x.index)) ≡ length (chain_from n m.link x.index)) (same-is m.top w won) r.valued))
         (λ lost. stays (TakeChain d w) (LoadTopToTake (Whole d)) s s.made tt)
       where
@@ -325,9 +341,9 @@ module _ {T : Type 0} (n limit : ℕ) (p : ℕ) (call : Call T) (begun h : List 
         (λ lost. stays (ShutTop w) LoadTopToShut s s.made tt)
 
     -- each step of a pass carries on what it has done
-    pub step_does : (g : Lists) (l : Line T) → Reads c m h → IsFine limit m g l → At l → Does (step c m p l)
+    pub step_does : (g : Lists) (l : Line T) → Reads c m g h → IsFine limit m g l → At l → Does (step c m p l)
     step_does g (Idle a) r f s = s
-    step_does g (LoadFree put) r f s = load_free_does put r s
+    step_does g (LoadFree put) r f s = load_free_does g put r s
     step_does g (LoadFreeLink put w) r f s = stays (LoadFreeLink put w) (TakeFree put w (m.link w.index)) s s.made tt
     step_does g (TakeFree put w k) r f s = take_free_does put w k s
     step_does g (LinkTaken put) r f s = next_does put (LinkTaken put) s s.made
@@ -337,8 +353,8 @@ module _ {T : Type 0} (n limit : ℕ) (p : ℕ) (call : Call T) (begun h : List 
     step_does g (LoadTopToRefuse values) r f s = load_top_to_refuse_does values m.top s
     step_does g (LoadTopToTake taking) r f s = load_top_to_take_does taking m.top s
     step_does g (LoadTopLink w) r f s = stays (LoadTopLink w) (TakeTop w (m.link w.index)) s s.made tt
-    step_does g (TakeTop w k) r f s = take_top_does w k s
-    step_does g (TakeChain d w) r f s = take_chain_does d w r s
+    step_does g (TakeTop w k) r f s = take_top_does w k g r f.0 s
+    step_does g (TakeChain d w) r f s = take_chain_does d w g r s
     step_does g (LoadLinkToTurn give above i) r f s = stays (LoadLinkToTurn give above i) (TurnLink give above i (m.link i)) s s.made s.all
     step_does g (TurnLink give above i k) r f s = turn_link_does give above i k s
     step_does g (LoadLinkToFold give i) r f s = load_link_to_fold_does give i s

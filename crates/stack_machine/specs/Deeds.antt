@@ -1,6 +1,6 @@
 -- What a pass of the stack has done since its operation was begun with a call: its own events, by its
 -- line and at the end by its answer.
-use Rattle.std.specs.Prelude.{◌≡◌, ◌⊎◌, ℕ, ◌<◌, ◌≤◌, if◌then◌else◌, List, [], ◌∷◌, ◌++◌, length, reverse, Result, Some, None, Ok, Err}
+use Rattle.std.specs.Prelude.{◌≡◌, ◌⊎◌, ℕ, ◌<◌, ◌≤◌, if◌then◌else◌, List, [], ◌∷◌, ◌++◌, length, Result, Some, None, Ok, Err}
 use Rattle.bounded_model.specs.declared.answers.Word.TheVariants.{Free as FreeWord, Top as TopWord}
 use Rattle.bounded_model.specs.declared.answers.PutRefused.{PutRefused}
 use Rattle.bounded_model.specs.declared.answers.PutRefused.TheVariants.{Full, Closed, Spent}
@@ -13,16 +13,17 @@ use Rattle.bounded_model.specs.Histories.{own}
 use Rattle.bounded_model.specs.Justified.{Sometime}
 use Rattle.bounded_model.specs.Bulk.{HasNoCell}
 use Rattle.bounded_model.specs.Laws.{holds_of, gave_back}
+use Rattle.machine.specs.Chains.{turned}
 use Rattle.stack_machine.specs.declared.lines.Putting.{Putting}
 use Rattle.stack_machine.specs.declared.lines.Giving.{Giving}
 use Rattle.stack_machine.specs.declared.lines.Direction.{Direction}
-use Rattle.stack_machine.specs.declared.lines.Direction.TheVariants.{Down, Up}
 use Rattle.stack_machine.specs.declared.lines.Taking.TheVariants.{One, Whole}
 use Rattle.stack_machine.specs.declared.lines.Call.{Call}
 use Rattle.stack_machine.specs.declared.lines.Call.TheVariants.{Put as CallPut, Take as CallTake, Close as CallClose, Shut as CallShut, Look as CallLook}
 use Rattle.stack_machine.specs.declared.lines.Answer.{Answer}
 use Rattle.stack_machine.specs.declared.lines.Answer.TheVariants.{Put as AnswerPut, Take as AnswerTake, Fold as AnswerFold, Close as AnswerClose, Shut as AnswerShut, Look as AnswerLook}
 use Rattle.stack_machine.specs.declared.lines.Line.{Line}
+use Rattle.stack_machine.specs.Machine.{is_up}
 use Rattle.stack_machine.specs.declared.lines.Line.TheVariants.{Idle, LoadFree, LoadFreeLink, TakeFree, LinkTaken, LoadTop, LinkToTop, SwapTop, LoadTopToRefuse, LoadTopToTake, LoadTopLink, TakeTop, TakeChain, LoadLinkToTurn, TurnLink, LoadLinkToFold, LoadFreeToGive, LinkToFree, GiveBack, LoadTopToClose, MarkTop, LoadTopToShut, ShutTop, LoadTopToLook}
 
 -- All the events of pass p from the begin of a call to its answer are these, the newest first
@@ -43,8 +44,7 @@ pub record BackedOut {T : Type 0} (p most : ℕ) (events : List (Event T)) : Typ
 
 -- in which order a fold goes through values that stood so from the top down
 abbrev pub in_order : {T : Type 0} → Direction → List T → List T
-in_order Down values = values
-in_order Up values = reverse values
+in_order d values = turned (is_up d) values
 
 -- it took all values by one exchange, folded them in this direction, and gave their nodes back by
 -- another
@@ -112,7 +112,7 @@ module _ {T : Type 0} (p : ℕ) where
 
   abbrev pub HasMade : Call T → Line T → List (Event T) → Type 0
   HasMade call (Idle (Some a)) events = Makes call a events
-  HasMade call (Idle None) events = events ≡ []
+  HasMade call (Idle None) events = ⊥
   HasMade call (LoadFree put) events = HasHeld call put events
   HasMade call (LoadFreeLink put w) events = HasHeld call put events
   HasMade call (TakeFree put w k) events = HasHeld call put events

@@ -9,8 +9,9 @@ use Rattle.bounded_model.specs.declared.answers.TakeRefused.TheVariants.{Empty a
 use Rattle.bounded_model.specs.declared.answers.TakeRefused.{TakeRefused}
 use Rattle.bounded_model.specs.declared.history.Event.{Event}
 use Rattle.bounded_model.specs.declared.history.Event.TheVariants.{Hold, Put, Take, TakeAll, Free, Close, Shut}
+use Rattle.bounded_model.specs.declared.history.Order.TheVariants.{Lifo}
 use Rattle.bounded_model.specs.Machine.{Shape}
-use Rattle.machine.specs.Words.{Tagged, kept, raised, marked, with_second, same, store, start_word, start_link}
+use Rattle.machine.specs.Words.{Tagged, kept, raised, marked, with_second, store, start_word, start_link}
 use Rattle.stack_machine.specs.declared.lines.Putting.{Putting}
 use Rattle.stack_machine.specs.declared.lines.Direction.{Direction}
 use Rattle.stack_machine.specs.declared.lines.Direction.TheVariants.{Down, Up}
@@ -19,8 +20,12 @@ use Rattle.stack_machine.specs.declared.lines.Taking.TheVariants.{One, Whole}
 use Rattle.stack_machine.specs.declared.lines.Answer.{Answer}
 use Rattle.stack_machine.specs.declared.lines.Answer.TheVariants.{Put as AnswerPut, Take as AnswerTake, Fold as AnswerFold, Close as AnswerClose, Shut as AnswerShut, Look as AnswerLook}
 use Rattle.machine.specs.Schedule as schedule
-use Rattle.machine.specs.Chains.{first, last, second, chain_from, with_home, away, filled, emptied, values_in}
+use Rattle.machine.specs.Chains.{first, last, second, chain_from, with_home, away, full, vacant, filled, emptied, values_of, values_in}
+use Rattle.machine.specs.Program.{Memories, Then, stays, returns, brings, Deed, rests, loads, follows, links, swaps, answered, does, wins as won_by}
+use Rattle.machine.specs.FreeList.{FreeList, load_top, follow_link, take_top, link_to_top, give_top}
 use Rattle.stack_machine.specs.declared.lines.Giving.{Giving}
+use Rattle.stack_machine.specs.declared.lines.Top.{Top}
+use Rattle.stack_machine.specs.declared.lines.Top.TheVariants.{Free as FreeTop, Stack as StackTop}
 use Rattle.stack_machine.specs.declared.lines.Line.{Line}
 use Rattle.stack_machine.specs.declared.lines.Line.TheVariants.{Idle, LoadFree, LoadFreeLink, TakeFree, LinkTaken, LoadTop, LinkToTop, SwapTop, LoadTopToRefuse, LoadTopToTake, LoadTopLink, TakeTop, TakeChain, LoadLinkToTurn, TurnLink, LoadLinkToFold, LoadFreeToGive, LinkToFree, GiveBack, LoadTopToClose, MarkTop, LoadTopToShut, ShutTop, LoadTopToLook}
 use Rattle.stack_machine.specs.declared.lines.Call.{Call}
@@ -143,6 +148,19 @@ module _ {T : Type 0} where
   abbrev pub at_load_top_to_shut : Tagged → Line T
   at_load_top_to_shut w = if w.second then ends (AnswerShut false) else ShutTop w
 
+abbrev pub is_up : Direction → Bool
+is_up Down = false
+is_up Up = true
+
+abbrev pub same_top : Top → Top → Bool
+same_top FreeTop FreeTop = true
+same_top StackTop StackTop = true
+same_top a b = false
+
+-- the free nodes; one link serves whichever list a node is on
+abbrev pub free_nodes : FreeList Top ℕ
+free_nodes = record { top = FreeTop; link = λ i. i }
+
 -- What one step does
 abbrev pub Outcome : Type 0 → Type 0
 Outcome T = schedule.Outcome (Memory T) (Line T) (Event T)
@@ -154,55 +172,80 @@ module _ {T : Type 0} where
   abbrev pub wins : Memory T → Line T → Event T → Outcome T
   wins m l e = record { memory = m; line = l; events = e ∷ [] }
 
-  -- the exchange of TakeTop is won: the node's value goes with it. There always is one; a pass that found
-  -- none would stop here without an answer
-  abbrev pub wins_value : Memory T → ℕ → Tagged → ℕ → Option (Slot T) → Outcome T
-  wins_value m p w k none = goes_on m (Idle None)
-  wins_value m p w k (some None) = goes_on m (Idle None)
-  wins_value m p w k (some (Some v)) = wins (after_take m w k) (gives (w.index ∷ []) (AnswerTake (Ok (v, w.tag)))) (Take p v w.tag)
+  -- the memory as its places
+  abbrev pub top_in : Memory T → Top → Tagged
+  top_in m FreeTop = m.free
+  top_in m StackTop = m.top
 
-  -- the exchange of TakeChain is won
+  abbrev pub memories : Memories T (Memory T) Top ℕ
+  memories = record {
+    same_place = same_top;
+    same_link = λ a b. a == b;
+    of = λ tops link home. record { free = tops FreeTop; top = tops StackTop; link = link; home = home };
+    word = top_in;
+    link = λ m. m.link;
+    home = λ m. m.home;
+  }
+
+  -- a won exchange leads to a line, by one event
+  abbrev pub by : Line T → (ℕ → Event T) → Then (Line T) (Event T)
+  by l e = record { line = l; events = λ p. e p ∷ [] }
+
+  -- the value that was in the node that TakeTop has won
+  abbrev pub took : Tagged → List (Option (Slot T)) → Option (Then (Line T) (Event T))
+  took w (some (Some v) ∷ others) = some (by (gives (w.index ∷ []) (AnswerTake (Ok (v, w.tag)))) (λ p. Take p v w.tag))
+  took w were = none
+
+  -- the values of the chain that TakeChain has won
+  abbrev pub took_all : Direction → Tagged → List ℕ → List (Option (Slot T)) → Option (Then (Line T) (Event T))
+  took_all d w chain were = some (by (at_take_chain d w chain (values_of were)) (λ p. TakeAll p (values_of were) w.tag))
+
+  -- What each line does
+  abbrev pub table : Shape → Line T → Deed T (Memory T) Top ℕ (Line T) (Event T)
+  table c (Idle a) = rests
+  -- put: a node from the free list ..
+  table c (LoadFree put) = load_top free_nodes (at_load_free c.limit put)
+  table c (LoadFreeLink put w) = follow_link free_nodes w (TakeFree put w)
+  table c (TakeFree put w k) = take_top free_nodes w k (brings false (λ m. w.index ∷ []) (λ is were. some (by (at_take_free put w) Hold))) (LoadFree put)
+  table c (LinkTaken put) = links (first put.chain) (second put.chain) (next_node put)
+  -- .. then onto the top
+  table c (LoadTop put) = loads StackTop (at_load_top c.limit put)
+  table c (LinkToTop put w) = links (last put.chain) w.index (SwapTop put w)
+  table c (SwapTop put w) = swaps StackTop w (raised w (first put.chain)) (returns (full put.chain (reverse (placed put))) (by (ends (AnswerPut (Ok (w.tag, unplaced put)))) (λ p. Put p (placed put) w.tag))) (LoadTop put)
+  table c (LoadTopToRefuse values) = loads StackTop (at_load_top_to_refuse c.limit values)
+  -- take
+  table c (LoadTopToTake taking) = loads StackTop (at_load_top_to_take c.limit taking)
+  table c (LoadTopLink w) = follows w.index (TakeTop w)
+  table c (TakeTop w k) = swaps StackTop w (raised w k) (brings false (λ m. w.index ∷ []) (λ is. took w)) (LoadTopToTake One)
+  -- fold: the whole chain, turned round where it is wanted from the bottom up, then its values
+  table c (TakeChain d w) = swaps StackTop w (raised w NULL) (brings (is_up d) (λ m. chain_from c.capacity m.link w.index) (took_all d w)) (LoadTopToTake (Whole d))
+  table c (LoadLinkToTurn give above i) = follows i (TurnLink give above i)
+  table c (TurnLink give above i k) = links i above (at_turn_link give i k)
+  table c (LoadLinkToFold give i) = follows i (at_load_link_to_fold give)
+  -- a chain goes back to the free list
+  table c (LoadFreeToGive give) = load_top free_nodes (LinkToFree give)
+  table c (LinkToFree give w) = link_to_top free_nodes (last give.chain) w (GiveBack give w)
+  table c (GiveBack give w) = give_top free_nodes w (first give.chain) (returns (vacant give.chain) (by (ends give.answer) (λ p. Free p (length give.chain)))) (LoadFreeToGive give)
+  -- close, shut, look
+  table c LoadTopToClose = loads StackTop at_load_top_to_close
+  table c (MarkTop w) = swaps StackTop w (marked w) (stays (by (ends (AnswerClose true)) Close)) LoadTopToClose
+  table c LoadTopToShut = loads StackTop at_load_top_to_shut
+  table c (ShutTop w) = swaps StackTop w (with_second w) (stays (by (ends (AnswerShut true)) Shut)) LoadTopToShut
+  table c LoadTopToLook = loads StackTop (λ w. ends (AnswerLook (w.index == NULL)))
+
+  -- the step of pass p at a line, and whether it is an exchange that wins
+  abbrev pub step : Shape → Memory T → ℕ → Line T → Outcome T
+  step c m p l = does memories (Idle None) m p l (table c l)
+
+  abbrev pub wins_exchange : Memory T → Line T → Bool
+  wins_exchange m l = won_by memories m (table (record { order = Lifo; capacity = 0; limit = 0 }) l)
+
+  -- what the exchanges of TakeTop and of TakeChain leave
+  abbrev pub wins_value : Memory T → ℕ → Tagged → ℕ → Option (Slot T) → Outcome T
+  wins_value m p w k was = answered memories (Idle None) m p StackTop (raised w k) (w.index ∷ []) (took w (was ∷ []))
+
   abbrev pub wins_chain : Memory T → ℕ → Direction → Tagged → List ℕ → Outcome T
   wins_chain m p d w chain = wins (after_take_all m w chain) (at_take_chain d w chain (values_in m.home chain)) (TakeAll p (values_in m.home chain) w.tag)
-
-  -- The step of pass p at a line
-  abbrev pub step : Shape → Memory T → ℕ → Line T → Outcome T
-  step c m p (Idle a) = goes_on m (Idle a)
-  -- put: a node from the free list ..
-  step c m p (LoadFree put) = goes_on m (at_load_free c.limit put m.free)
-  step c m p (LoadFreeLink put w) = goes_on m (TakeFree put w (m.link w.index))
-  step c m p (TakeFree put w k) = if same m.free w then wins (after_hold m w k) (at_take_free put w) (Hold p) else goes_on m (LoadFree put)
-  step c m p (LinkTaken put) = goes_on (after_store m (first put.chain) (second put.chain)) (next_node put)
-  -- .. then onto the top
-  step c m p (LoadTop put) = goes_on m (at_load_top c.limit put m.top)
-  step c m p (LinkToTop put w) = goes_on (after_store m (last put.chain) w.index) (SwapTop put w)
-  step c m p (SwapTop put w) =
-      if same m.top w then wins (after_put m w put) (ends (AnswerPut (Ok (w.tag, unplaced put)))) (Put p (placed put) w.tag)
-      else goes_on m (LoadTop put)
-  step c m p (LoadTopToRefuse values) = goes_on m (at_load_top_to_refuse c.limit values m.top)
-  -- take
-  step c m p (LoadTopToTake taking) = goes_on m (at_load_top_to_take c.limit taking m.top)
-  step c m p (LoadTopLink w) = goes_on m (TakeTop w (m.link w.index))
-  step c m p (TakeTop w k) = if same m.top w then wins_value m p w k (m.home w.index) else goes_on m (LoadTopToTake One)
-  -- fold: the whole chain, turned round where it is wanted from the bottom up, then its values
-  step c m p (TakeChain d w) =
-      if same m.top w then wins_chain m p d w (chain_from c.capacity m.link w.index)
-      else goes_on m (LoadTopToTake (Whole d))
-  step c m p (LoadLinkToTurn give above i) = goes_on m (TurnLink give above i (m.link i))
-  step c m p (TurnLink give above i k) = goes_on (after_store m i above) (at_turn_link give i k)
-  step c m p (LoadLinkToFold give i) = goes_on m (at_load_link_to_fold give (m.link i))
-  -- a chain goes back to the free list
-  step c m p (LoadFreeToGive give) = goes_on m (LinkToFree give m.free)
-  step c m p (LinkToFree give w) = goes_on (after_store m (last give.chain) w.index) (GiveBack give w)
-  step c m p (GiveBack give w) =
-      if same m.free w then wins (after_give m w give.chain) (ends give.answer) (Free p (length give.chain))
-      else goes_on m (LoadFreeToGive give)
-  -- close, shut, look
-  step c m p LoadTopToClose = goes_on m (at_load_top_to_close m.top)
-  step c m p (MarkTop w) = if same m.top w then wins (after_close m w) (ends (AnswerClose true)) (Close p) else goes_on m LoadTopToClose
-  step c m p LoadTopToShut = goes_on m (at_load_top_to_shut m.top)
-  step c m p (ShutTop w) = if same m.top w then wins (after_shut m w) (ends (AnswerShut true)) (Shut p) else goes_on m LoadTopToShut
-  step c m p LoadTopToLook = goes_on m (ends (AnswerLook (m.top.index == NULL)))
 
   -- the nodes that a pass holds
   abbrev pub held : Line T → List ℕ
@@ -236,18 +279,6 @@ module _ {T : Type 0} where
 -- the words and slots of a new stack
 abbrev pub start : {T : Type 0} → Shape → Memory T
 start c = record { free = start_word 0; top = start_word NULL; link = start_link c.capacity; home = λ i. some None }
-
-module _ {T : Type 0} where
-  -- is the next step of a line an exchange that wins
-  abbrev pub wins_exchange : Memory T → Line T → Bool
-  wins_exchange m (TakeFree put w k) = same m.free w
-  wins_exchange m (SwapTop put w) = same m.top w
-  wins_exchange m (TakeTop w k) = same m.top w
-  wins_exchange m (TakeChain d w) = same m.top w
-  wins_exchange m (GiveBack give w) = same m.free w
-  wins_exchange m (MarkTop w) = same m.top w
-  wins_exchange m (ShutTop w) = same m.top w
-  wins_exchange m l = false
 
 -- the whole machine, for schedules
 abbrev pub stack : {T : Type 0} → Shape → schedule.Machine (Memory T) (Line T) (Call T) (Event T)

@@ -6,6 +6,14 @@ use bounded_model::{PutRefused, TakeRefused};
 use std::collections::LinkedList;
 use tagged_index::Fields;
 
+/// A tagged word: the top of a list of nodes.
+pub enum Top {
+    /// Of the free nodes.
+    Free,
+    /// Of the stack.
+    Stack,
+}
+
 /// A put of one value or of a range, which is the same operation: the first value is put lowest.
 pub struct Putting<T> {
     /// All values of the operation, the lowest first.

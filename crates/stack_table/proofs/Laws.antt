@@ -76,11 +76,11 @@ reseated {T} n limit m g of of' lines lines' h x which hands alone = record {
 
 module _ {T : Type 0} where
   -- a line that holds nothing
-  record Empty (l : Line T) : Type 0 where
-    none_held : held l ≡ []
-    none_put : putting l ≡ []
+  pub record Empty (l : Line T) : Type 0 where
+    pub none_held : held l ≡ []
+    pub none_put : putting l ≡ []
 
-  first_empty : (o : Operation T) → Empty (first_line o)
+  pub first_empty : (o : Operation T) → Empty (first_line o)
   first_empty (PutFirst v others) = record { none_held = refl; none_put = refl }
   first_empty TakeFirst = record { none_held = refl; none_put = refl }
   first_empty CloseFirst = record { none_held = refl; none_put = refl }
@@ -104,7 +104,7 @@ module _ {T : Type 0} where
   starts LookFirst = refl
   starts (FoldFirst front) = refl
 
-  idle_holds : (l : Line T) → is_idle l ≡ true → held l ≡ []
+  pub idle_holds : (l : Line T) → is_idle l ≡ true → held l ≡ []
   idle_holds (Idle a) e = refl
   idle_holds l e = absurd (false≢true e)
 
@@ -146,7 +146,7 @@ module _ {T : Type 0} (n limit : ℕ) where
     first_deeds = λ p h o. begins (shape n limit) p h (call_of o);
     first_tells = first_tells n limit;
     unheld = λ m of lines h q p l k e. wins_unheld k.good q p l e;
-    does = λ words homes of lines h q p l sane k e is. does n limit words homes sane p of lines h q k l e;
+    does = λ words homes of lines h q p l sane k e is. does n limit words homes sane of lines h q k p l e;
   }
 
 abbrev pub stack : (T : Type 0) (n limit : ℕ) → Machine T (Line T) (Operation T) names

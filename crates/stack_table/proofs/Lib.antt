@@ -4,3 +4,4 @@ pub mod Moves
 pub mod Does
 pub mod Laws
 pub mod Opening
+pub mod Hosts

@@ -1,20 +1,21 @@
 -- Chains of nodes, and their slots as a seat has them.
-use Rattle.std.proofs.Common.{◌≡◌, ◌≢◌, ℕ, zero, suc, ◌<◌, ◌≤◌, ◌⊎◌, inl, inr, ⊎_elim, List, [], ◌∷◌, ◌++◌, length, reverse, refl, sym, ap, ◌∙◌, subst, arith}
+use Rattle.std.proofs.Common.{◌≡◌, ◌≢◌, ℕ, zero, suc, ◌<◌, ◌≤◌, ◌⊎◌, inl, inr, ⊎_elim, Bool, true, false, List, [], ◌∷◌, ◌++◌, length, reverse, refl, sym, ap, ◌∙◌, subst, arith}
 use Rattle.std.proofs.lemmas.Bool.Decides.{eqb_tells}
-use Rattle.std.proofs.lemmas.List.{reverse-append, reverse-reverse, length-reverse}
-use Rattle.std.specs.Prelude.{Option as Slot, Some, None}
+use Rattle.std.proofs.lemmas.List.{map-append, reverse-append, reverse-reverse, length-reverse}
+use Rattle.std.specs.Prelude.{Option as Slot, Some, None, map}
 use mathlib.Core.Option.{Option, some}
 use Rattle.bounded_model.specs.Machine.{without_first}
 use Rattle.index_list.specs.Lists.{Holds, Distinct}
 use Rattle.index_list.specs.Steps.{Each, numbers}
 use Rattle.machine.specs.Words.{times, Stands}
-use Rattle.machine.specs.Chains.{first, with_home, filled, HasValues}
+use Rattle.machine.specs.Chains.{first, with_home, filled, values_of, HasValues}
 use Rattle.machine.proofs.Lists.{times_here, times_else, times_append}
 use Rattle.machine.proofs.Chains.{home_here, home_else, times_reverse}
 use Rattle.stack_machine.specs.declared.lines.Direction.{Direction}
 use Rattle.stack_machine.specs.declared.lines.Direction.TheVariants.{Down, Up}
 use Rattle.stack_machine.specs.Deeds.{in_order}
-use Rattle.stack_table.specs.Slots.{Links, full, vacant, carried}
+use Rattle.running.specs.Tables.{turned, values}
+use Rattle.stack_table.specs.Slots.{Links, full, vacant}
 
 pub same_or_not : (a b : ℕ) → (a ≡ b) ⊎ (a ≢ b)
 same_or_not a b = ⊎_elim (λ t. inl t.1) (λ t. inr t.1) (eqb_tells a b)
@@ -62,6 +63,10 @@ pub links_on : (link : ℕ → ℕ) (chain before after : List ℕ) (i : ℕ) �
 links_on link chain before after i parts once stands others more e =
     let one : times i (before ++ i ∷ after) ≤ 1 = subst (λ (xs : List ℕ). times i xs ≤ 1) parts once in
     stands_first link (link i) after stands ∙ ap first (same_rest i before after others more one (sym parts ∙ e))
+
+reverse_map : {A B : Type 0} (f : A → B) (xs : List A) → reverse (map f xs) ≡ map f (reverse xs)
+reverse_map f [] = refl
+reverse_map f (x ∷ xs) = reverse-append (f x ∷ []) (map f xs) ∙ ap (λ (ys : List _). ys ++ f x ∷ []) (reverse_map f xs) ∙ sym (map-append f (reverse xs) (x ∷ [])) ∙ ap (map f) (sym (reverse-append (x ∷ []) xs))
 
 module _ {A : Type 0} where
   pub in_order_twice : (d : Direction) (xs : List A) → in_order d (in_order d xs) ≡ xs
@@ -111,11 +116,23 @@ module _ {T : Type 0} where
         (each_filled home is vs (λ j. let o = once j in omega arith)),
   )
 
-  pub carried_full : (is : List ℕ) (vs : List T) → length is ≡ length vs → carried (full is vs) ≡ vs
-  carried_full [] [] e = refl
-  carried_full (i ∷ is) (v ∷ vs) e = ap (λ (us : List T). v ∷ us) (carried_full is vs (omega arith))
-  carried_full [] (v ∷ vs) e = absurd (omega arith)
-  carried_full (i ∷ is) [] e = absurd (omega arith)
+  -- the values of full slots, also where they are turned round
+  pub values_full : (way : Bool) (is : List ℕ) (vs : List T) → length is ≡ length vs → values_of (map some (turned way (values (full is vs)))) ≡ turned way vs
+  values_full way is vs e = ap (λ (us : List (Slot T)). values_of (map some (turned way us))) (values_are is vs e) ∙ turned_some way vs
+    where
+      values_are : (js : List ℕ) (us : List T) → length js ≡ length us → values (full js us) ≡ map Some us
+      values_are [] [] f = refl
+      values_are (j ∷ js) (u ∷ us) f = ap (λ (ws : List (Slot T)). Some u ∷ ws) (values_are js us (omega arith))
+      values_are [] (u ∷ us) f = absurd (omega arith)
+      values_are (j ∷ js) [] f = absurd (omega arith)
+
+      all_there : (us : List T) → values_of (map some (map Some us)) ≡ us
+      all_there [] = refl
+      all_there (u ∷ us) = ap (λ (ws : List T). u ∷ ws) (all_there us)
+
+      turned_some : (b : Bool) (us : List T) → values_of (map some (turned b (map Some us))) ≡ turned b us
+      turned_some false us = all_there us
+      turned_some true us = ap (λ (ws : List (Slot T)). values_of (map some ws)) (reverse_map Some us) ∙ all_there (reverse us)
 
   -- values at home, in the other order
   has_append : (home : ℕ → Option (Slot T)) (is js : List ℕ) (us vs : List T) → HasValues home is us → HasValues home js vs → HasValues home (is ++ js) (us ++ vs)

@@ -2,6 +2,9 @@
 -- and then one link for each node.
 use Rattle.std.specs.Prelude.{ℕ, ◌+◌, ◌-◌, ◌==◌, ltb, if◌then◌else◌}
 use Rattle.tagged_index.specs.declared.word.TheConstants.{NULL}
+use Rattle.stack_machine.specs.declared.lines.Top.{Top}
+use Rattle.stack_machine.specs.declared.lines.Top.TheVariants.{Free, Stack}
+use Rattle.running.specs.Tables.{Layout}
 
 abbrev pub free_at : ℕ
 free_at = 0
@@ -15,6 +18,13 @@ link_at i = 32 + i
 
 abbrev pub words_for : ℕ → ℕ
 words_for n = 32 + n
+
+abbrev pub place_at : Top → ℕ
+place_at Free = free_at
+place_at Stack = top_at
+
+abbrev pub layout : ℕ → Layout Top ℕ
+layout n = record { place = place_at; link = link_at; words = words_for n; slots = n }
 
 -- the words of a new stack of n nodes: all nodes are free, each linked to the next
 abbrev pub start_at : ℕ → ℕ → ℕ

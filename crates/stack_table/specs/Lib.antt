@@ -3,3 +3,4 @@ pub mod Slots
 pub mod Lines
 pub mod Memories
 pub mod Core
+pub mod Lists

@@ -1,7 +1,8 @@
 -- Chains of nodes in a pass's hands, with their slots.
-use Rattle.std.specs.Prelude.{◌≡◌, ℕ, ◌<◌, ◌≤◌, List, [], ◌∷◌, ◌++◌, length, Option as Slot, Some, None}
+use Rattle.std.specs.Prelude.{◌≡◌, ℕ, ◌<◌, ◌≤◌, List, ◌∷◌, ◌++◌, length, Option as Slot}
 use Rattle.machine.specs.Words.{times}
 use Rattle.machine.specs.Chains.{first}
+pub use Rattle.machine.specs.Chains.{full, vacant}
 use Rattle.stack_machine.specs.declared.lines.Direction.{Direction}
 use Rattle.stack_machine.specs.Deeds.{in_order}
 
@@ -10,22 +11,6 @@ abbrev pub Links : List ℕ → ℕ → ℕ → Type 0
 Links chain i next = (before after : List ℕ) → chain ≡ before ++ i ∷ after → next ≡ first after
 
 module _ {T : Type 0} where
-  -- the slots of a chain, each with its value, and emptied
-  abbrev pub full : List ℕ → List T → List (ℕ × Slot T)
-  full [] vs = []
-  full (i ∷ is) [] = []
-  full (i ∷ is) (v ∷ vs) = (i, Some v) ∷ full is vs
-
-  abbrev pub vacant : List ℕ → List (ℕ × Slot T)
-  vacant [] = []
-  vacant (i ∷ is) = (i, None) ∷ vacant is
-
-  -- the values that slots have
-  abbrev pub carried : List (ℕ × Slot T) → List T
-  carried [] = []
-  carried ((i, Some v) ∷ zs) = v ∷ carried zs
-  carried ((i, None) ∷ zs) = carried zs
-
   -- a chain of nodes, each below n and on it once, with one value for each
   pub record IsHand (n : ℕ) (chain : List ℕ) (values : List T) : Type 0 where
     pub low : (i : ℕ) → 0 < times i chain → i < n

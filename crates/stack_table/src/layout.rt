@@ -13,6 +13,12 @@ pub const FREE: usize = 0;
 /// The top of the stack.
 pub const TOP: usize = 16;
 
+/// The free nodes as a list of the machine.
+pub const FREE_LIST: usize = 0;
+
+/// The stack as a list of the machine.
+pub const STACK_LIST: usize = 1;
+
 const FIRST_LINK: usize = 32;
 
 /// The word that is the link of a node.

@@ -1,5 +1,7 @@
-pub mod Scripts
-pub mod Letters
+pub mod Entries
+pub mod Points
+pub mod InTime
+pub mod Heard
 pub mod list
 pub mod stack
 pub mod queue

@@ -1,10 +1,10 @@
 pub mod Run
+pub mod Points
 pub mod InOrder
-pub mod Rank
-pub mod Bounded
-pub mod Cast
-pub mod Rows
-pub mod Overtaking
-pub mod Orders
+pub mod Weight
+pub mod Pays
+pub mod Ends
 pub mod Mistakes
 pub mod WrongAnswers
+pub mod WrongPoints
+pub mod Starving

@@ -1,8 +1,9 @@
 pub mod Run
-pub mod Rank
-pub mod Bounded
-pub mod Cast
-pub mod Rows
-pub mod Orders
+pub mod Points
+pub mod Weight
+pub mod Pays
+pub mod Ends
 pub mod Mistakes
 pub mod WrongAnswers
+pub mod WrongPoints
+pub mod Starving

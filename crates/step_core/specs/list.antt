@@ -1,3 +1,4 @@
 pub mod Machine
 pub mod Law
 pub mod Rule
+pub mod Samples

@@ -1,2 +1,12 @@
 pub mod Law
 pub mod Bound
+pub mod Costs
+pub mod Object
+pub mod Cast
+pub mod Rows
+pub mod Overtaking
+pub mod Orders
+pub mod Mistakes
+pub mod WrongAnswers
+pub mod WrongPoints
+pub mod Starving

@@ -1,14 +1,25 @@
 //! The laws of the pure machines, true of every schedule of any number of passes.
 //!
-//! The functions here make no step: the contract of each is a law. Beside the laws stand played
-//! rows, and wrong machines with a schedule in which each breaks its law. Nothing that runs stands
-//! on this crate.
+//! The functions here make no step: the contract of each is a law, or, of `.._exhibits`, a list of
+//! played rows, and of wrong machines with a schedule in which each breaks a law. Nothing that runs
+//! stands on this crate.
 #![tactic(auto)]
 
 mod list_laws;
+mod list_shown;
 mod queue_laws;
+mod queue_shown;
 mod stack_laws;
+mod stack_shown;
 
 pub use list_laws::list_core;
-pub use queue_laws::{queue_answers, queue_bound, queue_core, queue_nodes, queue_order};
-pub use stack_laws::{stack_answers, stack_bound, stack_core, stack_nodes};
+pub use list_shown::list_exhibits;
+pub use queue_laws::{
+    queue_answers, queue_bound, queue_core, queue_linearizable, queue_lock_free, queue_nodes,
+    queue_order,
+};
+pub use queue_shown::queue_exhibits;
+pub use stack_laws::{
+    stack_answers, stack_bound, stack_core, stack_linearizable, stack_lock_free, stack_nodes,
+};
+pub use stack_shown::stack_exhibits;

@@ -1,23 +1,28 @@
 //! The laws of the queue's machine.
-ghost use Rattle.std.specs.Prelude.{◌≡◌, ℕ, ◌<◌, ◌≤◌, ◌++◌};
+ghost use Rattle.std.specs.Prelude.{◌≡◌, ℕ, suc, ◌+◌, ◌*◌, ◌<◌, ◌≤◌, List, ◌++◌};
 ghost use mathlib.Core.Option.{some};
 ghost use lib.ListN.{get_elem?};
 ghost use Rattle.tagged_index.specs.declared.word.TheConstants.{NULL};
 ghost use Rattle.bounded_model.specs.Gathers.{gather, sent_of, took_of, values_of, Counts};
-ghost use Rattle.machine.specs.Schedule.{Schedule, after};
+ghost use Rattle.machine.specs.Schedule.{Schedule, start, after};
 ghost use Rattle.machine.specs.Bound.{IsStretch, own_steps};
+ghost use Rattle.machine.specs.Progress.{steps_made, calls_ended, calls_cost, others_win, AtOnce, LockFree};
+ghost use Rattle.queue_machine.specs.declared.lines.Answer.{Answer};
 ghost use Rattle.queue_machine.specs.declared.lines.Call.{Call};
 ghost use Rattle.queue_machine.specs.declared.lines.Line.{Line};
 ghost use Rattle.queue_machine.specs.Machine.{State, queue, step};
 ghost use Rattle.queue_machine.specs.Answers.{shape};
 ghost use Rattle.queue_machine.specs.Places.{NothingTwice, WinsUnheld};
-ghost use Rattle.step_core.specs.queue.Law.{Lawful, AllDone, lines_of, values_left};
+ghost use Rattle.step_core.specs.Linearizable.{Entry, IsLinearization, KeepsRealTimeOrder, Linearizable};
+ghost use Rattle.step_core.specs.queue.Object.{object, answer};
+ghost use Rattle.step_core.specs.queue.Law.{Lawful, AllDone, NoneUnanswered, lines_of, values_left};
 ghost use Rattle.step_core.specs.queue.Bound.{MeetsRule};
+ghost use Rattle.step_core.specs.queue.Costs.{cost};
 
 /// In every schedule of puts, takes, closes, shuts and looks at a queue of `n` value cells, whose
 /// nodes are used again: the history is legal for a bounded queue, the words and cells stand for
 /// it, each cell and each node is in one place, a put that has a cell finds a node, and each
-/// refusal is justified by a history that its pass has seen between its begin and its end.
+/// refusal is justified by the history as it was at some time between its begin and its end.
 pub fn queue_core<T>()
     ensures { (n limit passes : ℕ) (schedule : Schedule (Call T)) → 0 < n → n < NULL → 0 < limit →
         Lawful T n limit (after (queue (shape n limit)) passes schedule) }
@@ -39,12 +44,15 @@ pub fn queue_nodes<T>()
         NothingTwice n s.memory (lines_of s) }
 {}
 
-/// In every schedule of a queue, each pass answers the call that it began, and the events that it
-/// adds from the begin to the answer are exactly those that the answer speaks of: a put takes one
+/// In every schedule of a queue, a call ends with an answer, each pass answers the call that it
+/// began, and the events that it adds from the begin to the answer are exactly those that the answer speaks of: a put takes one
 /// cell and puts the call's value, a take takes one value and gives its cell back, a refused put
 /// hands back the call's value, and a refusal leaves nothing in hand.
 pub fn queue_answers<T>()
-    ensures { (n limit passes : ℕ) (schedule : Schedule (Call T)) → 0 < n → n < NULL → 0 < limit →
+    ensures answered { (n limit passes : ℕ) (schedule : Schedule (Call T)) → 0 < n → n < NULL → 0 < limit →
+        NoneUnanswered (after (queue (shape n limit)) passes schedule) }
+    ensures done { (n limit passes : ℕ) (schedule : Schedule (Call T)) → 0 < n → n < NULL
+        → 0 < limit →
         AllDone (after (queue (shape n limit)) passes schedule) }
 {}
 
@@ -58,6 +66,38 @@ pub fn queue_bound<T>()
     ensures in_every_schedule { (n limit passes : ℕ) (schedule : Schedule (Call T)) →
         0 < n → n < NULL → 0 < limit →
         MeetsRule n limit (after (queue (shape n limit)) passes schedule) }
+{}
+
+/// A queue is lock-free, by number and without any fairness. Where never more than P = 1 + `others`
+/// passes are in a call at once, they make at most 14 * P + 6 steps for each call that ends, and for
+/// each of the P: from every state that meets the rule. So among any P * (14 * P + 6) + 1 steps after
+/// any schedule of P passes, some call ends. And in all, from the start, the passes make no more
+/// steps than the calls cost that they begin: a put 14 * P + 4, a take 12 * P + 5, a close 8 * P, a
+/// shut 6 * P - 4, a look 3.
+///
+/// Of each single call: it has ended after at most 20 of its own steps, and 8 for each exchange that
+/// another pass wins meanwhile. So a step that wins nothing costs nobody else, and while no other
+/// pass wins an exchange, 20 steps are enough.
+pub fn queue_lock_free<T>()
+    ensures wherever_the_rule_holds { (n limit others : ℕ) (s : State T) (schedule : Schedule (Call T)) →
+        MeetsRule n limit s → AtOnce (queue (shape n limit)) (suc others) schedule s →
+        steps_made (queue (shape n limit)) schedule s
+        ≤ (20 + 14 * others) * (calls_ended (queue (shape n limit)) schedule s + suc others) }
+    ensures in_every_schedule { (n limit others : ℕ) → 0 < n → n < NULL → 0 < limit →
+        LockFree (queue {T = T} (shape n limit)) (suc others) ((20 + 14 * others) * suc others) }
+    ensures all_costs { (n limit passes others : ℕ) (schedule : Schedule (Call T)) →
+        0 < n → n < NULL → 0 < limit →
+        let s = start (queue (shape n limit)) passes in
+        AtOnce (queue (shape n limit)) (suc others) schedule s →
+        steps_made (queue (shape n limit)) schedule s
+        ≤ calls_cost (queue (shape n limit)) (cost others) schedule s }
+    ensures overtaken { (n limit p : ℕ) (s : State T) (schedule : Schedule (Call T)) →
+        MeetsRule n limit s →
+        own_steps (queue (shape n limit)) p schedule s
+        ≤ 20 + 8 * others_win (queue (shape n limit)) p schedule s }
+    ensures unhindered { (n limit p : ℕ) (s : State T) (stretch : Schedule (Call T)) →
+        MeetsRule n limit s → IsStretch (queue (shape n limit)) p stretch s →
+        own_steps (queue (shape n limit)) p stretch s ≤ 20 }
 {}
 
 /// In every schedule of a queue, what was put is, in the order of the puts, what was taken and then
@@ -78,4 +118,19 @@ pub fn queue_order<T>()
         → 0 < limit →
         Counts (λ m. m.number) 0
         (gather took_of (after (queue (shape n limit)) passes schedule).history) }
+{}
+
+/// A queue is linearizable (Herlihy and Wing 1990). Into the history of invocations and responses of
+/// any schedule linearization points can be put, one for each operation that is completed and for
+/// some that are pending, each between its invocation and its response, so that in the order of
+/// their points the operations are a legal history of the bounded queue as a sequential object, with
+/// the answers that are given. A put, a take, a close and a shut take effect at the exchange that
+/// makes their event, a refusal and a look at a moment at which they are right. And the order of the
+/// points keeps real time: wherever such a history is cut, of each pass the operations that have
+/// taken effect are those that it has completed by then, or these and its pending one.
+pub fn queue_linearizable<T>()
+    ensures points { (n limit passes : ℕ) (schedule : Schedule (Call T)) → 0 < n → n < NULL → 0 < limit →
+        Linearizable (queue (shape n limit)) answer (object n limit) passes schedule }
+    ensures keeps_real_time_order { (n limit p : ℕ) (newer older : List (Entry T (Call T) (Answer T))) →
+        IsLinearization (object n limit) (newer ++ older) → KeepsRealTimeOrder p older }
 {}

@@ -1,22 +1,27 @@
 //! The laws of the stack's machine.
-ghost use Rattle.std.specs.Prelude.{◌≡◌, ℕ, ◌<◌, ◌≤◌};
+ghost use Rattle.std.specs.Prelude.{◌≡◌, ℕ, suc, ◌+◌, ◌*◌, ◌<◌, ◌≤◌, List, ◌++◌};
 ghost use mathlib.Core.Option.{some};
 ghost use lib.ListN.{get_elem?};
 ghost use Rattle.tagged_index.specs.declared.word.TheConstants.{NULL};
 ghost use Rattle.bounded_model.specs.Machine.{Shape};
-ghost use Rattle.machine.specs.Schedule.{Schedule, after};
+ghost use Rattle.machine.specs.Schedule.{Schedule, start, after};
 ghost use Rattle.machine.specs.Bound.{AtLine, IsStretch, own_steps};
+ghost use Rattle.machine.specs.Progress.{Only, steps_made, calls_ended, calls_cost, others_win, AtOnce, LockFree, LockFreeOf};
+ghost use Rattle.stack_machine.specs.declared.lines.Answer.{Answer};
 ghost use Rattle.stack_machine.specs.declared.lines.Call.{Call};
 ghost use Rattle.stack_machine.specs.declared.lines.Line.{Line};
 ghost use Rattle.stack_machine.specs.Answers.{shape};
-ghost use Rattle.stack_machine.specs.Machine.{State, stack, step};
+ghost use Rattle.stack_machine.specs.Machine.{Pass, State, stack, step};
 ghost use Rattle.stack_machine.specs.Places.{NoNodeTwice, WinsUnheld};
+ghost use Rattle.step_core.specs.Linearizable.{Entry, IsLinearization, KeepsRealTimeOrder, Linearizable};
+ghost use Rattle.step_core.specs.stack.Object.{object, answer};
 ghost use Rattle.step_core.specs.stack.Bound.{IsSingle};
-ghost use Rattle.step_core.specs.stack.Law.{Lawful, AllDone, MeetsRule, lines_of};
+ghost use Rattle.step_core.specs.stack.Costs.{cost, IsSingleCall};
+ghost use Rattle.step_core.specs.stack.Law.{Lawful, AllDone, NoneUnanswered, MeetsRule, lines_of};
 
 /// In every schedule of puts of one or more values, takes, folds, closes, shuts and looks at a
 /// stack of `n` nodes: the history is legal for a bounded stack, the words and slots stand for it,
-/// each node is in one place, and each refusal is justified by a history that its pass has seen
+/// each node is in one place, and each refusal is justified by the history as it was at some time
 /// between its begin and its end.
 pub fn stack_core<T>()
     ensures { (n limit passes : ℕ) (schedule : Schedule (Call T)) → 0 < n → n ≤ NULL →
@@ -39,15 +44,17 @@ pub fn stack_nodes<T>()
         NoNodeTwice n s.memory (lines_of s) }
 {}
 
-/// In every schedule of a stack, each pass answers the call that it began, and the events that it
-/// adds from the begin to the answer are exactly those that the answer speaks of: a put takes one
+/// In every schedule of a stack, a call ends with an answer, each pass answers the call that it
+/// began, and the events that it adds from the begin to the answer are exactly those that the answer speaks of: a put takes one
 /// node for each value that it puts, by one exchange, and what it puts and leaves over are the
 /// call's values in order; a take takes one value and gives its node back; a fold takes all values
 /// by one exchange, folds them in the call's direction, and gives all nodes back by one. A refused
 /// put hands back the call's values, and a refusal leaves nothing in hand. A range leaves values
 /// out only where no node could be had.
 pub fn stack_answers<T>()
-    ensures { (n limit passes : ℕ) (schedule : Schedule (Call T)) → 0 < n → n ≤ NULL →
+    ensures answered { (n limit passes : ℕ) (schedule : Schedule (Call T)) → 0 < n → n ≤ NULL →
+        NoneUnanswered (after (stack (shape n limit)) passes schedule) }
+    ensures done { (n limit passes : ℕ) (schedule : Schedule (Call T)) → 0 < n → n ≤ NULL →
         AllDone (shape n limit) (after (stack (shape n limit)) passes schedule) }
 {}
 
@@ -57,4 +64,61 @@ pub fn stack_bound<T>()
     ensures { (c : Shape) (p : ℕ) (s : State T) (stretch : Schedule (Call T)) →
         AtLine IsSingle (get_elem? s.passes p) → IsStretch (stack c) p stretch s →
         own_steps (stack c) p stretch s ≤ 16 }
+{}
+
+/// A stack is lock-free, by number and without any fairness (`queue_lock_free`). Where never more than
+/// P = 1 + `others` passes are in a call at once, and put and take one value a call, close, shut and
+/// look, they make at most 7 * P + 2 steps for each call that ends, and for each of the P. With ranges
+/// and folds, which go over up to n nodes, they make at most (3 * n + 4) * P + n + 2: from every state
+/// that meets the rule. So among any P * (7 * P + 2) + 1 steps after any schedule of P passes some call
+/// ends; with ranges and folds among P * ((3 * n + 4) * P + n + 2) + 1. And in all, from the start, the
+/// passes make no more steps than the calls cost that they begin: a put of one value 7 * P, a take
+/// 7 * P - 1, a close or a shut 4 * P - 2, a look 1; a put of r values, up to n, (3 * r + 4) * P + r - 1,
+/// a fold downwards 7 * P + n - 2, one upwards 7 * P + 3 * n - 2.
+///
+/// Of each single call: it has ended after at most 9 of its own steps, with ranges and folds
+/// 4 * n + 6, and 4 for each exchange that another pass wins meanwhile. So a step that wins nothing
+/// costs nobody else.
+pub fn stack_lock_free<T>()
+    ensures wherever_the_rule_holds { (n limit others : ℕ) (s : State T) (schedule : Schedule (Call T)) →
+        0 < n → MeetsRule n limit s → AtOnce (stack (shape n limit)) (suc others) schedule s →
+        steps_made (stack (shape n limit)) schedule s
+        ≤ (4 * n + 6 + (3 * n + 4) * others) * (calls_ended (stack (shape n limit)) schedule s + suc others) }
+    ensures calls_of_one_value { (n limit others : ℕ) (s : State T) (schedule : Schedule (Call T)) →
+        0 < n → MeetsRule n limit s →
+        ((q : ℕ) (v : Pass T) → get_elem? s.passes q ≡ some v → IsSingle v.line) →
+        Only IsSingleCall schedule → AtOnce (stack (shape n limit)) (suc others) schedule s →
+        steps_made (stack (shape n limit)) schedule s
+        ≤ (9 + 7 * others) * (calls_ended (stack (shape n limit)) schedule s + suc others) }
+    ensures in_every_schedule { (n limit others : ℕ) → 0 < n → n ≤ NULL →
+        LockFree (stack {T = T} (shape n limit)) (suc others) ((4 * n + 6 + (3 * n + 4) * others) * suc others) }
+    ensures in_every_schedule_of_one_value { (n limit others : ℕ) → 0 < n → n ≤ NULL →
+        LockFreeOf (stack {T = T} (shape n limit)) IsSingleCall (suc others) ((9 + 7 * others) * suc others) }
+    ensures all_costs { (n limit passes others : ℕ) (schedule : Schedule (Call T)) →
+        0 < n → n ≤ NULL →
+        let s = start (stack (shape n limit)) passes in
+        AtOnce (stack (shape n limit)) (suc others) schedule s →
+        steps_made (stack (shape n limit)) schedule s
+        ≤ calls_cost (stack (shape n limit)) (cost n others) schedule s }
+    ensures overtaken { (n limit p : ℕ) (s : State T) (schedule : Schedule (Call T)) →
+        0 < n → MeetsRule n limit s →
+        own_steps (stack (shape n limit)) p schedule s
+        ≤ 4 * n + 6 + 4 * others_win (stack (shape n limit)) p schedule s }
+    ensures overtaken_with_one_value { (n limit p : ℕ) (s : State T) (schedule : Schedule (Call T)) →
+        0 < n → MeetsRule n limit s → AtLine IsSingle (get_elem? s.passes p) →
+        own_steps (stack (shape n limit)) p schedule s
+        ≤ 9 + 4 * others_win (stack (shape n limit)) p schedule s }
+    ensures unhindered { (n limit p : ℕ) (s : State T) (stretch : Schedule (Call T)) →
+        0 < n → MeetsRule n limit s → AtLine IsSingle (get_elem? s.passes p) →
+        IsStretch (stack (shape n limit)) p stretch s →
+        own_steps (stack (shape n limit)) p stretch s ≤ 9 }
+{}
+
+/// A stack is linearizable, as a queue is (`queue_linearizable`). A put of several values takes effect
+/// at one point, and so does a fold of all values.
+pub fn stack_linearizable<T>()
+    ensures points { (n limit passes : ℕ) (schedule : Schedule (Call T)) → 0 < n → n ≤ NULL →
+        Linearizable (stack (shape n limit)) answer (object n limit) passes schedule }
+    ensures keeps_real_time_order { (n limit p : ℕ) (newer older : List (Entry T (Call T) (Answer T))) →
+        IsLinearization (object n limit) (newer ++ older) → KeepsRealTimeOrder p older }
 {}

@@ -15,12 +15,15 @@ use Rattle.stack_machine.specs.Machine.{ends, is_idle}
 use Rattle.stack_table.specs.declared.operation.Operation.{Operation}
 use Rattle.stack_table.specs.declared.operation.Operation.TheVariants.{Look as LookFirst}
 use Rattle.stack_table.specs.Lines.{next}
+use Rattle.stack_table.specs.Lists.{list_step}
+use mathlib.Core.Option.{some}
+use Rattle.index_list.specs.Kinds.{exchange}
 use Rattle.running.specs.Going.{Ended}
 use Rattle.machine.specs.Words.{same}
 use Rattle.treiber_stack.specs.declared.stack.Stack.{Stack}
 use Rattle.treiber_stack.specs.declared.closing.Mark.{Mark}
 use Rattle.treiber_stack.specs.declared.closing.Mark.TheVariants.{Closed, Shut}
-use Rattle.treiber_stack.specs.Closing.{is_set, mark_name, mark_answer, mark_line, MarkGives}
+use Rattle.treiber_stack.specs.Closing.{is_set, mark_change, mark_name, mark_answer, mark_line, MarkGives}
 use Rattle.treiber_stack.specs.Stack.{machine_of, shape_of}
 
 module _ {T : Type 0} (c : Stack T) where
@@ -46,13 +49,17 @@ module _ {T : Type 0} (c : Stack T) where
 
 -- the lines that set a mark
 module _ (T : Type 0) where
-  pub mark_loaded : (limit : ℕ) (mark : Mark) (w : ℕ) → next {T = T} limit (mark_line mark None) w [] ≡ cond (is_set mark (fields_of w)) (ends (mark_answer mark false)) (mark_line mark (Some w))
-  mark_loaded limit Closed w = refl
-  mark_loaded limit Shut w = refl
+  pub mark_loaded : (n limit : ℕ) (mark : Mark) (w : ℕ) → next {T = T} n limit (mark_line mark None) w [] ≡ cond (is_set mark (fields_of w)) (ends (mark_answer mark false)) (mark_line mark (Some w))
+  mark_loaded n limit Closed w = refl
+  mark_loaded n limit Shut w = refl
 
-  pub mark_swapped : (limit : ℕ) (mark : Mark) (w found : ℕ) → next {T = T} limit (mark_line mark (Some w)) found [] ≡ cond (same (fields_of found) (fields_of w)) (ends (mark_answer mark true)) (mark_line mark None)
-  mark_swapped limit Closed w found = refl
-  mark_swapped limit Shut w found = refl
+  pub mark_swapped : (n limit : ℕ) (mark : Mark) (w found : ℕ) → next {T = T} n limit (mark_line mark (Some w)) found [] ≡ cond (same (fields_of found) (fields_of w)) (ends (mark_answer mark true)) (mark_line mark None)
+  mark_swapped n limit Closed w found = refl
+  mark_swapped n limit Shut w found = refl
+
+  pub mark_step_is : (mark : Mark) (w : ℕ) → list_step {T = T} (mark_line mark (Some w)) ≡ some (1, exchange (fields_of w) (mark_change mark))
+  mark_step_is Closed w = refl
+  mark_step_is Shut w = refl
 
   pub mark_busy : (mark : Mark) (seen : Slot ℕ) → is_idle {T = T} (mark_line mark seen) ≡ false
   mark_busy Closed None = refl

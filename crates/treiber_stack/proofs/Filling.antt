@@ -14,11 +14,13 @@ use Rattle.stack_machine.specs.declared.lines.Line.{Line}
 use Rattle.stack_machine.specs.declared.lines.Line.TheVariants.{LoadFree, LoadTop, LinkTaken}
 use Rattle.stack_machine.specs.Machine.{held, next_node, starts}
 use Rattle.stack_table.specs.declared.operation.Operation.{Operation}
-use Rattle.stack_table.specs.Layout.{link_at}
 use Rattle.stack_table.specs.Slots.{full}
 use Rattle.stack_table.proofs.Slots.{same_or_not}
-use Rattle.running.specs.Going.{Found, AtAccess}
-use Rattle.running.specs.Machine.{stores}
+use Rattle.running.specs.Going.{Found}
+use Rattle.running.specs.Lists.{AtStep}
+use Rattle.index_list.specs.Kinds.{write_link}
+use Rattle.stack_table.specs.Lists.{lists}
+use mathlib.Core.Option.{some}
 use Rattle.running.specs.declared.passes.Pass.{Pass}
 use Rattle.running.proofs.Ways.{goes_on, started}
 use Rattle.treiber_stack.specs.declared.stack.Stack.{Stack}
@@ -28,7 +30,7 @@ use Rattle.treiber_stack.specs.declared.ranging.Held.{Held}
 use Rattle.treiber_stack.specs.Nodes.{loaded, linking, IsCollecting, IsPlacing, Stops, TakesNode}
 use Rattle.treiber_stack.specs.Ranging.{putting, HasNodes, HasTaken, IsFilling, IsHolding, IsRange}
 use Rattle.treiber_stack.specs.Stack.{room_of, machine_of, begun_of, IsAt, IsPassOf}
-use Rattle.treiber_stack.proofs.Gives.{moved, ready}
+use Rattle.treiber_stack.proofs.Gives.{moved, ready_step}
 use Rattle.treiber_stack.proofs.Loading.{next_value, loaded_more}
 use Rattle.treiber_stack.proofs.Placing.{linking_busy}
 
@@ -177,8 +179,8 @@ module _ {T : Type 0} (c : Stack T) (o : Operation T) (vs : List T) where
           links : IsAt c o r (LinkTaken after) (loaded after)
           links = subst (λ (l : Line T). IsAt c o r l (loaded after)) (ap (λ (xs : List ℕ). linking xs after) chain_is.2) filled.0
 
-          pub may_link : (at : ℕ) → at ≡ link_at i → AtAccess (machine_of c) o r.seat.me.0 (stores at held'.chain.first)
-          may_link at e = ready c o r (LinkTaken after) (loaded after) (stores at held'.chain.first) links (λ t. stores (sym e t) (h.has.begins t))
+          pub may_link : AtStep (machine_of c) lists o r.seat.me.0 1 (write_link i held'.chain.first)
+          may_link = ready_step c o r (LinkTaken after) (loaded after) 1 _ links (λ t. some (1, write_link i (h.has.begins t)))
 
           pub plain_first : held'.chain.first ≤ NULL
           plain_first =

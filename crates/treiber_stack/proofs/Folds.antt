@@ -1,6 +1,7 @@
 -- Where the steps of a fold lead that take the chain, and what a fold gives.
 use Rattle.std.proofs.Common.{◌≡◌, ℕ, ◌<◌, false, List, [], ◌∷◌, ◌++◌, length, refl, sym, ap, ◌∙◌, subst}
-use Rattle.std.specs.Prelude.{Option as Slot, Ok, Err}
+use Rattle.std.specs.Prelude.{Option as Slot, Ok, Err, map}
+use mathlib.Core.Option.{some}
 use Rattle.tagged_index.specs.Fields.{fields_of, index_of}
 use Rattle.bounded_model.specs.declared.answers.TakeRefused.{TakeRefused}
 use Rattle.bounded_model.specs.declared.history.Event.TheVariants.{TakeAll, Free}
@@ -11,6 +12,7 @@ use Rattle.bounded_model.specs.Laws.{TakesNothing, FoldGives}
 use Rattle.index_list.specs.declared.front.Front.{Front}
 use Rattle.index_list.specs.Steps.{numbers}
 use Rattle.machine.specs.Words.{Tagged}
+use Rattle.machine.specs.Chains.{values_of}
 use Rattle.machine.specs.Seats.{pass_of}
 use Rattle.machine.specs.declared.seats.View.{View}
 use Rattle.stack_machine.specs.declared.lines.Answer.TheVariants.{Fold as AnswerFold}
@@ -20,14 +22,15 @@ use Rattle.stack_machine.specs.declared.lines.Direction.TheVariants.{Down, Up}
 use Rattle.stack_machine.specs.declared.lines.Taking.TheVariants.{Whole}
 use Rattle.stack_machine.specs.declared.lines.Line.{Line}
 use Rattle.stack_machine.specs.declared.lines.Line.TheVariants.{LoadTopToTake, TakeChain}
-use Rattle.stack_machine.specs.Machine.{ends, is_idle, at_take_chain}
+use Rattle.stack_machine.specs.Machine.{ends, is_idle, is_up, at_take_chain}
 use Rattle.stack_machine.specs.Deeds.{in_order}
 use Rattle.stack_machine.proofs.Made.{made_no_fold}
 use Rattle.stack_table.specs.declared.operation.Operation.{Operation}
 use Rattle.stack_table.specs.declared.operation.Operation.TheVariants.{Fold as FoldFirst}
 use Rattle.stack_table.specs.Lines.{direction, won_chain}
-use Rattle.stack_table.specs.Slots.{full, carried}
-use Rattle.stack_table.proofs.Slots.{in_order_twice, length_in_order, numbers_full, carried_full}
+use Rattle.stack_table.specs.Slots.{full}
+use Rattle.stack_table.proofs.Slots.{in_order_twice, length_in_order, numbers_full, values_full}
+use Rattle.running.specs.Tables.{values as slot_values}
 use Rattle.running.specs.Going.{Ended, Found, Missed, Brings}
 use Rattle.running.specs.declared.passes.Pass.{Pass}
 use Rattle.running.proofs.Ways.{goes_on, ends_so, hits, misses}
@@ -100,7 +103,7 @@ module _ {T : Type 0} (c : Stack T) (front : Front) where
         let as_many : length (in_order d chain) ≡ length (in_order d values) = length_in_order d chain ∙ fits.hand.as_many ∙ sym (length_in_order d values) in
         let has = won.moved ∙ (λ t. fits.slots t ++ at.at.has t) ∙ no_more slots in
         let nodes = ap (λ (zs : List (ℕ × Slot T)). in_order d (numbers zs)) fits.slots ∙ ap (in_order d) (numbers_full (in_order d chain) (in_order d values) as_many) ∙ in_order_twice d chain in
-        let are = ap (λ (zs : List (ℕ × Slot T)). in_order d (carried zs)) fits.slots ∙ ap (in_order d) (carried_full (in_order d chain) (in_order d values) as_many) ∙ in_order_twice d values in
+        let are = ap (λ (zs : List (ℕ × Slot T)). values_of (map some (in_order d (slot_values zs)))) fits.slots ∙ values_full (is_up d) (in_order d chain) (in_order d values) as_many ∙ in_order_twice d values in
         let on = goes_on (machine_of c) at q w won.slots won.steps table slots (at_take_chain d (fields_of w) chain values) has
         (hits w (won_chain d (fields_of w) won.slots) (LoadTopToTake (Whole d)) ∙ (λ t. at_take_chain d (fields_of w) (nodes t) (are t))) (chain_busy d (fields_of w) chain values) in
         (record { chain = chain; values = values; at = on.0; hand = fits.hand; others = fits.others; begins = fits.begins }, on.1.0)

@@ -6,10 +6,13 @@ use Rattle.stack_machine.specs.declared.lines.Giving.{Giving}
 use Rattle.stack_machine.specs.declared.lines.Line.{Line}
 use Rattle.stack_machine.specs.Machine.{is_idle, ends}
 use Rattle.stack_table.specs.declared.operation.Operation.{Operation}
-use Rattle.stack_table.specs.Lines.{access, next}
+use Rattle.stack_table.specs.Lines.{next}
 use Rattle.stack_table.specs.Slots.{vacant}
-use Rattle.running.specs.Going.{Found, Steps, AtAccess, Going, Ended, Missed, begun_in}
-use Rattle.running.specs.Machine.{Access}
+use mathlib.Core.Option.{some}
+use Rattle.index_list.specs.Kinds.{Kind}
+use Rattle.stack_table.specs.Lists.{lists, list_step}
+use Rattle.running.specs.Lists.{AtStep}
+use Rattle.running.specs.Going.{Found, Steps, Going, Ended, Missed, begun_in}
 use Rattle.running.specs.declared.passes.Pass.{Pass}
 use Rattle.running.proofs.Ways.{goes_on, ends_so, hits, misses}
 use Rattle.treiber_stack.specs.declared.stack.Stack.{Stack}
@@ -17,13 +20,13 @@ use Rattle.treiber_stack.specs.declared.giving.Chain.{Chain}
 use Rattle.treiber_stack.specs.declared.giving.Give.{Give}
 use Rattle.treiber_stack.specs.declared.giving.Give.TheVariants.{Load, Link, Exchange}
 use Rattle.treiber_stack.specs.declared.giving.Gave.{Gave}
-use Rattle.treiber_stack.specs.Stack.{limit_of, machine_of, begun_of, IsAt, IsPassOf}
+use Rattle.treiber_stack.specs.Stack.{room_of, limit_of, machine_of, begun_of, IsAt, IsPassOf}
 use Rattle.treiber_stack.specs.Giving.{AreNodes, give_line, gave_line, left_slots, IsGiving, Led}
 
 module _ {T : Type 0} where
-  -- a pass at a line makes its access
-  pub ready : (c : Stack T) (o : Operation T) (p : Pass T (Line T)) (l : Line T) (slots : List (ℕ × Slot T)) (a : Access) → IsAt c o p l slots → access l ≡ a → AtAccess (machine_of c) o p.seat.me.0 a
-  ready c o p l slots a at e = record { begun = begun_of c p; line = l; going = at.at.going; access = e }
+  -- a pass at a line makes its step on a list
+  pub ready_step : (c : Stack T) (o : Operation T) (p : Pass T (Line T)) (l : Line T) (slots : List (ℕ × Slot T)) (list : ℕ) (kind : Kind) → IsAt c o p l slots → list_step l ≡ some (list, kind) → AtStep (machine_of c) lists o p.seat.me.0 list kind
+  ready_step c o p l slots list kind at e = record { begun = begun_of c p; line = l; going = at.at.going; step = e }
 
   pub busy_giving : (giving : Giving T) (at : Give) → is_idle (give_line giving at) ≡ false
   busy_giving giving Load = refl
@@ -32,7 +35,7 @@ module _ {T : Type 0} where
 
   module _ {c : Stack T} {o : Operation T} {p : Pass T (Line T)} {giving : Giving T} {nodes : Chain} {at : Give} (is : IsGiving c o p giving nodes at) (q : Pass T (Line T)) (found : ℕ) (zs : List (ℕ × Slot T)) (steps : Found (machine_of c) o p.seat.me.0 q.seat.me.0 found zs) (table : q.seat.table_id ≡ p.seat.table_id) where
     -- the step leads on as the machine's does
-    pub gives_led : (gave : Gave) → q.seat.me.1 ≡ left_slots giving gave → next (limit_of c) (give_line giving at) found zs ≡ gave_line giving gave → Led c o p q giving at gave
+    pub gives_led : (gave : Gave) → q.seat.me.1 ≡ left_slots giving gave → next (room_of c) (limit_of c) (give_line giving at) found zs ≡ gave_line giving gave → Led c o p q giving at gave
     gives_led gave slots to = record {
       table = table;
       slots = slots;

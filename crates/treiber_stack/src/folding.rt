@@ -14,9 +14,9 @@ use crate::giving::Chain;
 use crate::stack::{Pass, Stack};
 use bounded_model::{Folded, TakeRefused};
 use index_list::{Front, move_out};
-use running::{Pause, load_step, load_tagged_step, raised, store_step, take_step};
+use running::{Pause, load_link_step, load_top_step, store_link_step, take_all_step};
 use stack_table::Operation;
-use stack_table::layout::{TOP, link};
+use stack_table::layout::STACK_LIST;
 use std::sync::Wait;
 use tagged_index::{NULL, Tagged};
 
@@ -116,19 +116,12 @@ impl<T> Stack<T> {
         let mut pause = Pause::first();
         let table = &self.table.shared;
         for _ in rt.forever() {
-            let top = load_tagged_step(table, &mut pass.seat, TOP, &Operation::Fold(front));
+            let top = load_top_step(table, &mut pass.seat, STACK_LIST, &Operation::Fold(front));
             if let Some(why) = self.bars_take(top) {
                 return (pass, Err(why));
             }
-            let new = raised(top, NULL);
-            if take_step(
-                table,
-                &mut pass.seat,
-                TOP,
-                top,
-                new,
-                &Operation::Fold(front),
-            ) {
+            let operation = Operation::Fold(front);
+            if take_all_step(table, &mut pass.seat, STACK_LIST, top, front, &operation) {
                 return (pass, Ok(top));
             }
             pause = pause.wait();
@@ -159,17 +152,11 @@ impl<T> Stack<T> {
         let mut index = top.index();
         let table = &self.table.shared;
         for _ in 0..self.limits.capacity() {
-            let at = link(index);
-            let found = load_step(table, &mut pass.seat, at, &Operation::Fold(Front::Last));
+            let operation = Operation::Fold(Front::Last);
+            let found = load_link_step(table, &mut pass.seat, STACK_LIST, index, &operation);
             let below = found as u32;
             let upper = above as u64;
-            store_step(
-                table,
-                &mut pass.seat,
-                at,
-                upper,
-                &Operation::Fold(Front::Last),
-            );
+            store_link_step(table, &mut pass.seat, STACK_LIST, index, upper, &operation);
             if below == NULL {
                 return (pass, index);
             }
@@ -215,8 +202,8 @@ impl<T> Stack<T> {
         for before in 0..self.limits.capacity() {
             let value = self.take_out(&mut pass, index);
             folded = f(folded, value);
-            let at = link(index);
-            let found = load_step(table, &mut pass.seat, at, &Operation::Fold(front));
+            let operation = Operation::Fold(front);
+            let found = load_link_step(table, &mut pass.seat, STACK_LIST, index, &operation);
             let next = found as u32;
             if next == NULL {
                 return Walked {

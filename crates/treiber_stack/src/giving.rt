@@ -5,9 +5,9 @@ ghost use Rattle.treiber_stack.specs.Giving.{IsGiving, Led, GaveBack};
 ghost use Rattle.treiber_stack.specs.declared.giving.Give.TheVariants.{Load, Link, Exchange};
 
 use crate::stack::{Pass, Stack};
-use running::{Pause, give_step, load_tagged_step, store_step};
+use running::{Pause, give_chain_step, load_top_step, store_link_step};
 use stack_table::Operation;
-use stack_table::layout::{FREE, link};
+use stack_table::layout::FREE_LIST;
 use std::sync::Wait;
 use tagged_index::Tagged;
 
@@ -78,7 +78,7 @@ impl<T> Stack<T> {
             → Led self.now operation.now by.old by.new giving Load result }
     {
         let _ = chain;
-        let free = load_tagged_step(&self.table.shared, &mut by.seat, FREE, operation);
+        let free = load_top_step(&self.table.shared, &mut by.seat, FREE_LIST, operation);
         Gave::On(Give::Link(free))
     }
 
@@ -97,8 +97,8 @@ impl<T> Stack<T> {
             → Led self.now operation.now by.old by.new giving (Link free) result }
     {
         let first = free.index() as u64;
-        let at = link(chain.last);
-        store_step(&self.table.shared, &mut by.seat, at, first, operation);
+        let table = &self.table.shared;
+        store_link_step(table, &mut by.seat, FREE_LIST, chain.last, first, operation);
         Gave::On(Give::Exchange(free))
     }
 
@@ -116,8 +116,8 @@ impl<T> Stack<T> {
             → IsGiving self.now operation.now by.old giving chain (Exchange free)
             → Led self.now operation.now by.old by.new giving (Exchange free) result }
     {
-        let new = free.kept(chain.first);
-        if give_step(&self.table.shared, &mut by.seat, FREE, free, new, operation) {
+        let table = &self.table.shared;
+        if give_chain_step(table, &mut by.seat, FREE_LIST, free, chain.first, operation) {
             return Gave::All;
         }
         Gave::On(Give::Load)
@@ -139,11 +139,24 @@ impl<T> Stack<T> {
         let mut pause = Pause::first();
         let table = &self.table.shared;
         for _ in rt.forever() {
-            let free = load_tagged_step(table, &mut pass.seat, FREE, operation);
+            let free = load_top_step(table, &mut pass.seat, FREE_LIST, operation);
             let first = free.index() as u64;
-            store_step(table, &mut pass.seat, link(chain.last), first, operation);
-            let new = free.kept(chain.first);
-            if give_step(table, &mut pass.seat, FREE, free, new, operation) {
+            store_link_step(
+                table,
+                &mut pass.seat,
+                FREE_LIST,
+                chain.last,
+                first,
+                operation,
+            );
+            if give_chain_step(
+                table,
+                &mut pass.seat,
+                FREE_LIST,
+                free,
+                chain.first,
+                operation,
+            ) {
                 return pass;
             }
             pause = pause.wait();

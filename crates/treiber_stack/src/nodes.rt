@@ -7,9 +7,11 @@ ghost use Rattle.treiber_stack.specs.Stack.{begun_of};
 use crate::giving::Chain;
 use crate::refusing::Barred;
 use crate::stack::{Pass, Stack};
-use running::{Pause, give_step, load_step, load_tagged_step, raised, store_step, take_step};
+use running::{
+    Pause, give_chain_step, load_link_step, load_top_step, store_link_step, take_first_step,
+};
 use stack_table::Operation;
-use stack_table::layout::{FREE, TOP, link};
+use stack_table::layout::{FREE_LIST, STACK_LIST};
 use std::sync::Wait;
 use tagged_index::NULL;
 
@@ -38,7 +40,7 @@ impl<T> Stack<T> {
         let mut pause = Pause::first();
         let table = &self.table.shared;
         for _ in rt.forever() {
-            let free = load_tagged_step(table, &mut pass.seat, FREE, operation);
+            let free = load_top_step(table, &mut pass.seat, FREE_LIST, operation);
             let index = free.index();
             if index == NULL {
                 return (pass, Err(NoNode::NoneFree));
@@ -47,9 +49,9 @@ impl<T> Stack<T> {
             if tag >= self.limits.tag_limit() {
                 return (pass, Err(NoNode::Spent(tag)));
             }
-            let found = load_step(table, &mut pass.seat, link(index), operation);
-            let new = raised(free, found as u32);
-            if take_step(table, &mut pass.seat, FREE, free, new, operation) {
+            let found = load_link_step(table, &mut pass.seat, FREE_LIST, index, operation);
+            let next = found as u32;
+            if take_first_step(table, &mut pass.seat, FREE_LIST, free, next, operation) {
                 return (pass, Ok(index));
             }
             pause = pause.wait();
@@ -75,14 +77,27 @@ impl<T> Stack<T> {
         let mut pause = Pause::first();
         let table = &self.table.shared;
         for _ in rt.forever() {
-            let top = load_tagged_step(table, &mut pass.seat, TOP, operation);
+            let top = load_top_step(table, &mut pass.seat, STACK_LIST, operation);
             if let Some(why) = self.bars_put(top) {
                 return (pass, Err(why));
             }
             let first = top.index() as u64;
-            store_step(table, &mut pass.seat, link(chain.last), first, operation);
-            let new = raised(top, chain.first);
-            if give_step(table, &mut pass.seat, TOP, top, new, operation) {
+            store_link_step(
+                table,
+                &mut pass.seat,
+                STACK_LIST,
+                chain.last,
+                first,
+                operation,
+            );
+            if give_chain_step(
+                table,
+                &mut pass.seat,
+                STACK_LIST,
+                top,
+                chain.first,
+                operation,
+            ) {
                 return (pass, Ok(top.tag()));
             }
             pause = pause.wait();

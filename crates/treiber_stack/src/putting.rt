@@ -16,8 +16,8 @@ use crate::nodes::NoNode;
 use crate::stack::{Pass, Stack};
 use bounded_model::{PutRefused, Stepped, Word};
 use index_list::{move_out, put_in};
-use running::{give_step, load_step, load_tagged_step, raised, store_step, take_step};
-use stack_table::layout::{FREE, TOP, link};
+use running::{give_chain_step, load_link_step, load_top_step, store_link_step, take_first_step};
+use stack_table::layout::{FREE_LIST, STACK_LIST};
 use stack_table::{Listed, Operation};
 use std::snapshot::Snapshot;
 use std::sync::Wait;
@@ -79,7 +79,7 @@ impl<T> Stack<T> {
             → PutStep self.now x operation by (LoadFree value) result }
     {
         let mut pass = by;
-        let free = load_tagged_step(&self.table.shared, &mut pass.seat, FREE, &operation);
+        let free = load_top_step(&self.table.shared, &mut pass.seat, FREE_LIST, &operation);
         if free.index() == NULL {
             return Stepped::Again(PutOp {
                 pass,
@@ -105,8 +105,9 @@ impl<T> Stack<T> {
             → PutStep self.now x operation by (Link value free) result }
     {
         let mut pass = by;
-        let at = link(free.index());
-        let found = load_step(&self.table.shared, &mut pass.seat, at, &operation);
+        let table = &self.table.shared;
+        let index = free.index();
+        let found = load_link_step(table, &mut pass.seat, FREE_LIST, index, &operation);
         let below = found as u32;
         Stepped::Again(PutOp {
             pass,
@@ -130,9 +131,8 @@ impl<T> Stack<T> {
             → PutStep self.now x operation by (Hold value free below) result }
     {
         let mut pass = by;
-        let new = raised(free, below);
         let table = &self.table.shared;
-        if take_step(table, &mut pass.seat, FREE, free, new, &operation) {
+        if take_first_step(table, &mut pass.seat, FREE_LIST, free, below, &operation) {
             let index = free.index();
             put_in(table, &mut pass.seat, index, value);
             return Stepped::Again(PutOp {
@@ -157,7 +157,7 @@ impl<T> Stack<T> {
     {
         let mut pass = by;
         let table = &self.table.shared;
-        let top = load_tagged_step(table, &mut pass.seat, TOP, &operation);
+        let top = load_top_step(table, &mut pass.seat, STACK_LIST, &operation);
         match self.bars_put(top) {
             Some(why) => {
                 let value = move_out(table, &mut pass.seat, index);
@@ -185,7 +185,7 @@ impl<T> Stack<T> {
         let mut pass = by;
         let first = top.index() as u64;
         let table = &self.table.shared;
-        store_step(table, &mut pass.seat, link(index), first, &operation);
+        store_link_step(table, &mut pass.seat, STACK_LIST, index, first, &operation);
         Stepped::Again(PutOp {
             pass,
             operation,
@@ -201,9 +201,8 @@ impl<T> Stack<T> {
             → PutStep self.now x operation by (Exchange index top) result }
     {
         let mut pass = by;
-        let new = raised(top, index);
         let table = &self.table.shared;
-        if give_step(table, &mut pass.seat, TOP, top, new, &operation) {
+        if give_chain_step(table, &mut pass.seat, STACK_LIST, top, index, &operation) {
             return Stepped::Done(pass, Ok(top.tag()));
         }
         Stepped::Again(PutOp {
@@ -221,7 +220,7 @@ impl<T> Stack<T> {
             → PutStep self.now x operation by (Refuse value) result }
     {
         let mut pass = by;
-        let top = load_tagged_step(&self.table.shared, &mut pass.seat, TOP, &operation);
+        let top = load_top_step(&self.table.shared, &mut pass.seat, STACK_LIST, &operation);
         match self.bars_put(top) {
             Some(why) => Stepped::Done(pass, Err(why.of_put(value))),
             None => Stepped::Done(pass, Err(PutRefused::Full(value))),
@@ -326,7 +325,7 @@ impl<T> Stack<T> {
         match why {
             NoNode::Spent(tag) => (pass, Err(PutRefused::Spent(value, Word::Free, tag))),
             NoNode::NoneFree => {
-                let top = load_tagged_step(&self.table.shared, &mut pass.seat, TOP, operation);
+                let top = load_top_step(&self.table.shared, &mut pass.seat, STACK_LIST, operation);
                 match self.bars_put(top) {
                     Some(why) => (pass, Err(why.of_put(value))),
                     None => (pass, Err(PutRefused::Full(value))),

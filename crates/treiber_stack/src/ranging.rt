@@ -16,8 +16,8 @@ use crate::nodes::NoNode;
 use crate::stack::{Pass, Stack};
 use bounded_model::{RangeRefused, Ranged, Word};
 use index_list::put_in;
-use running::{load_tagged_step, peek, store_step};
-use stack_table::layout::{TOP, link};
+use running::{load_top_step, peek, store_link_step};
+use stack_table::layout::{STACK_LIST, link};
 use stack_table::{Listed, Operation};
 use std::snapshot::Snapshot;
 use std::sync::Wait;
@@ -170,7 +170,7 @@ impl<T> Stack<T> {
         let Chain { first, last } = held.chain;
         let before = first as u64;
         let table = &self.table.shared;
-        store_step(table, &mut pass.seat, link(index), before, operation);
+        store_link_step(table, &mut pass.seat, STACK_LIST, index, before, operation);
         let chain = Chain { first: index, last };
         let count = held.count + 1;
         (pass, Held { chain, count })
@@ -209,7 +209,7 @@ impl<T> Stack<T> {
         match why {
             NoNode::Spent(tag) => (pass, RangeRefused::Spent(Word::Free, tag)),
             NoNode::NoneFree => {
-                let top = load_tagged_step(&self.table.shared, &mut pass.seat, TOP, operation);
+                let top = load_top_step(&self.table.shared, &mut pass.seat, STACK_LIST, operation);
                 match self.bars_put(top) {
                     Some(why) => (pass, why.of_range()),
                     None => (pass, RangeRefused::Full),

@@ -1,8 +1,9 @@
 //! The stack's machine.
 use machine::seats::View;
-use running::Machine;
+use running::{ListMachine, Machine};
 use stack_machine::Line;
 use stack_table::Operation;
+use stack_table::layout::{self, FREE, FREE_LIST, TOP};
 use std::marker::PhantomData;
 
 /// Treiber's stack as a machine on a table.
@@ -18,4 +19,29 @@ impl<T> Machine<T, Line<T>, Operation<T>> for Stacked {
     ghost names = { names };
 
     ghost machine = { λ limits. stack T (capacity_of limits) (tag_limit_of limits) };
+}
+
+impl<T> ListMachine<T, Line<T>, Operation<T>, 2> for Stacked {
+    ghost use Rattle.tagged_index.specs.Limits.{capacity_of, tag_limit_of};
+    ghost use Rattle.stack_table.specs.Lists.{lists};
+    ghost use Rattle.stack_table.proofs.Hosts.{list_laws};
+
+    ghost lists = { lists };
+
+    #[inline]
+    fn top(list: usize) -> usize {
+        if list == FREE_LIST { FREE } else { TOP }
+    }
+
+    #[inline]
+    fn link(_list: usize, index: u32) -> usize {
+        layout::link(index)
+    }
+
+    #[inline]
+    fn keeps_tag(list: usize) -> bool {
+        list == FREE_LIST
+    }
+
+    ghost laws = { λ limits. list_laws T (capacity_of limits) (tag_limit_of limits) };
 }

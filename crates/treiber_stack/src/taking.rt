@@ -9,9 +9,9 @@ use crate::giving::{Chain, Gave, Give};
 use crate::stack::{Pass, Stack};
 use bounded_model::{Stepped, TakeRefused};
 use index_list::move_out;
-use running::{Pause, load_step, load_tagged_step, raised, take_step};
+use running::{Pause, load_link_step, load_top_step, take_first_step};
 use stack_table::Operation;
-use stack_table::layout::{TOP, link};
+use stack_table::layout::STACK_LIST;
 use std::sync::Wait;
 use tagged_index::Tagged;
 
@@ -66,7 +66,12 @@ impl<T> Stack<T> {
         ensures { TakeStep self.now by Load result }
     {
         let mut pass = by;
-        let top = load_tagged_step(&self.table.shared, &mut pass.seat, TOP, &Operation::Take);
+        let top = load_top_step(
+            &self.table.shared,
+            &mut pass.seat,
+            STACK_LIST,
+            &Operation::Take,
+        );
         match self.bars_take(top) {
             Some(why) => Stepped::Done(pass, Err(why)),
             None => Stepped::Again(TakeOp {
@@ -82,8 +87,9 @@ impl<T> Stack<T> {
         ensures { TakeStep self.now by (Link top) result }
     {
         let mut pass = by;
-        let at = link(top.index());
-        let found = load_step(&self.table.shared, &mut pass.seat, at, &Operation::Take);
+        let table = &self.table.shared;
+        let index = top.index();
+        let found = load_link_step(table, &mut pass.seat, STACK_LIST, index, &Operation::Take);
         let below = found as u32;
         Stepped::Again(TakeOp {
             pass,
@@ -98,9 +104,15 @@ impl<T> Stack<T> {
         ensures { TakeStep self.now by (Exchange top below) result }
     {
         let mut pass = by;
-        let new = raised(top, below);
         let table = &self.table.shared;
-        if take_step(table, &mut pass.seat, TOP, top, new, &Operation::Take) {
+        if take_first_step(
+            table,
+            &mut pass.seat,
+            STACK_LIST,
+            top,
+            below,
+            &Operation::Take,
+        ) {
             let index = top.index();
             let value = move_out(table, &mut pass.seat, index);
             let number = top.tag();
@@ -160,15 +172,21 @@ impl<T> Stack<T> {
         let mut pause = Pause::first();
         let table = &self.table.shared;
         for _ in rt.forever() {
-            let top = load_tagged_step(table, &mut pass.seat, TOP, &Operation::Take);
+            let top = load_top_step(table, &mut pass.seat, STACK_LIST, &Operation::Take);
             if let Some(why) = self.bars_take(top) {
                 return (pass, Err(why));
             }
-            let at = link(top.index());
-            let found = load_step(table, &mut pass.seat, at, &Operation::Take);
-            let new = raised(top, found as u32);
-            if take_step(table, &mut pass.seat, TOP, top, new, &Operation::Take) {
-                let index = top.index();
+            let index = top.index();
+            let found = load_link_step(table, &mut pass.seat, STACK_LIST, index, &Operation::Take);
+            let below = found as u32;
+            if take_first_step(
+                table,
+                &mut pass.seat,
+                STACK_LIST,
+                top,
+                below,
+                &Operation::Take,
+            ) {
                 let value = move_out(table, &mut pass.seat, index);
                 let number = top.tag();
                 let pass = self.give_back(rt, pass, Chain::of(index), &Operation::Take);

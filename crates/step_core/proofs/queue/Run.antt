@@ -33,7 +33,7 @@ use Rattle.queue_machine.proofs.Doing.{meanwhile, begins, step_does}
 use Rattle.step_core.specs.queue.Bound.{MeetsRule}
 use Rattle.queue_machine.specs.Places.{NothingTwice}
 use Rattle.queue_machine.proofs.Places.{nothing_twice}
-use Rattle.step_core.specs.queue.Law.{Lawful, HasAnswered, AllDone}
+use Rattle.step_core.specs.queue.Law.{Lawful, HasAnswered, AllDone, NoneUnanswered}
 
 module _ {T : Type 0} (n limit : ℕ) where
   -- between any two acts the words, cells and lines are right for the history
@@ -41,12 +41,12 @@ module _ {T : Type 0} (n limit : ℕ) where
   Rule m lines h = Kept T n limit m some lines h
 
   -- what a pass has done since it began its call; one that has begun none is idle and has not answered
-  abbrev IsDoing : ℕ → Option (Call T) → Line T → List (Event T) → List (Event T) → Type 0
+  abbrev pub IsDoing : ℕ → Option (Call T) → Line T → List (Event T) → List (Event T) → Type 0
   IsDoing p none l begun seen = l ≡ Idle None
   IsDoing p (some call) l begun seen = Deeds p call l begun seen
 
   -- each pass's answer is right, and it has done what its line says
-  abbrev Story : ℕ → Option (Call T) → Line T → List (Event T) → List (Event T) → Type 0
+  abbrev pub Story : ℕ → Option (Call T) → Line T → List (Event T) → List (Event T) → Type 0
   Story p call l begun seen = Tells n limit begun seen l × IsDoing p call l begun seen
 
   module _ (m : Memory T) (lines : List (Line T)) (h : List (Event T)) (p : ℕ) (l : Line T) (x : Rule m lines h) (e : get_elem? lines p ≡ some l) (idle : is_idle l ≡ true) where
@@ -72,7 +72,7 @@ module _ {T : Type 0} (n limit : ℕ) where
   begins_story p seen CallShut = (tt, begins p seen CallShut)
   begins_story p seen CallLook = (tt, begins p seen CallLook)
 
-  queue_told : Told (queue (shape n limit)) Rule Story
+  pub queue_told : Told (queue (shape n limit)) Rule Story
   queue_told = record {
     begins = λ m lines h p l call x e idle. begins_kept m lines h p l x e idle call;
     begins_story = λ p l call seen idle. begins_story p seen call;
@@ -93,7 +93,7 @@ module _ {T : Type 0} (n limit : ℕ) where
   abbrev Kept_at : State T → Type 0
   Kept_at s = Stays (queue (shape n limit)) Rule Story s
 
-  run_stays : (passes : ℕ) (schedule : List (ℕ × Act (Call T))) → 0 < n → n < NULL → 0 < limit → Kept_at (run (queue (shape n limit)) schedule (start (queue (shape n limit)) passes))
+  pub run_stays : (passes : ℕ) (schedule : List (ℕ × Act (Call T))) → 0 < n → n < NULL → 0 < limit → Kept_at (run (queue (shape n limit)) schedule (start (queue (shape n limit)) passes))
   run_stays passes schedule h small some_tags = run_kept (queue (shape n limit)) Kept_at (stays_holds (queue (shape n limit)) Rule Story queue_told) schedule (start (queue (shape n limit)) passes)
       (start_stays (queue (shape n limit)) Rule Story passes (start_kept n limit passes h small some_tags) (λ p. (tt, refl)))
 
@@ -159,6 +159,16 @@ module _ {T : Type 0} (n limit : ℕ) where
   pub all_done : (passes : ℕ) (schedule : List (ℕ × Act (Call T))) → 0 < n → n < NULL → 0 < limit → AllDone (run (queue (shape n limit)) schedule (start (queue (shape n limit)) passes))
   all_done passes schedule some_cell small some_tags p v a e idle =
       answered p v a v.call refl (subst (λ (l : Line T). IsDoing p v.call l v.begun v.seen) idle ((run_stays passes schedule some_cell small some_tags).story p v e).1)
+
+  -- a begun call is never at a line without an answer
+  unanswered : (p : ℕ) (call : Call T) (o : Option (Call T)) (l : Line T) (begun seen : List (Event T)) → o ≡ some call → is_idle l ≡ true → IsDoing p o l begun seen → (a : Answer T) × (l ≡ Idle (Some a))
+  unanswered p call none l begun seen is idle d = cc
+  unanswered p call (some c) (Idle None) begun seen is idle d = absurd d.made
+  unanswered p call (some c) (Idle (Some a)) begun seen is idle d = (a, refl)
+  unanswered p call (some c) l begun seen is idle d = absurd (false≢true idle)
+
+  pub none_unanswered : (passes : ℕ) (schedule : List (ℕ × Act (Call T))) → 0 < n → n < NULL → 0 < limit → NoneUnanswered (run (queue (shape n limit)) schedule (start (queue (shape n limit)) passes))
+  none_unanswered passes schedule some_cell small some_tags p v call e is idle = unanswered p call v.call v.line v.begun v.seen is idle ((run_stays passes schedule some_cell small some_tags).story p v e).1
 
   -- between any two acts no cell and no node is in two places
   pub queue_nodes_once : (passes : ℕ) (schedule : List (ℕ × Act (Call T))) → 0 < n → n < NULL → 0 < limit

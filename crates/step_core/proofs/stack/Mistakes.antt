@@ -1,132 +1,47 @@
--- Machines that are nearly the stack's, and for each a schedule in which it breaks the law.
-use Rattle.std.proofs.Common.{◌≡◌, ⊎_elim, ℕ, ◌+◌, ◌==◌, if◌then◌else◌, true, false, List, [], ◌∷◌, ◌++◌, map, replicate, refl, sym, ap, ◌∙◌, arith, Some, None, Option as Slot}
+-- Why those of specs/stack/Mistakes are refused.
+use Rattle.std.proofs.Common.{◌≡◌, ⊎_elim, ℕ, ◌+◌, false, List, [], ◌∷◌, refl, sym, ap, ◌∙◌, arith, Some, None, Option as Slot}
 use Rattle.std.proofs.lemmas.Bool.{false≢true}
-use mathlib.Core.Option.{Option, none, some}
-use lib.ListN.{get_elem?}
+use mathlib.Core.Option.{Option, some}
 use Rattle.tagged_index.specs.declared.word.TheConstants.{NULL}
 use Rattle.bounded_model.specs.declared.history.Event.TheVariants.{Hold, Put, Take, Free, Close, Shut}
 use Rattle.bounded_model.specs.Machine.{Legal}
-use Rattle.machine.specs.Words.{Tagged, kept, same, times, total, Stands}
-use Rattle.stack_machine.specs.declared.lines.Direction.TheVariants.{Down}
-use Rattle.stack_machine.specs.declared.lines.Taking.TheVariants.{One, Whole}
-use Rattle.stack_machine.specs.declared.lines.Answer.TheVariants.{Close as AnswerClose, Shut as AnswerShut}
-use Rattle.stack_machine.specs.declared.lines.Line.{Line}
-use Rattle.stack_machine.specs.declared.lines.Line.TheVariants.{Idle, LoadFree, TakeFree, LoadTop, SwapTop, LoadTopToTake, TakeTop, LoadLinkToFold, LoadTopToClose, MarkTop, LoadTopToShut, ShutTop, GiveBack}
-use Rattle.stack_machine.specs.declared.lines.Call.TheVariants.{Put as CallPut, Take as CallTake, Close as CallClose, Shut as CallShut}
-use Rattle.machine.specs.Schedule.{Act, Begin, Step, run, start}
-use Rattle.stack_machine.specs.declared.lines.Call.{Call}
-use Rattle.stack_machine.specs.Machine.{Memory, Pass, State, Outcome, stack, step, held, goes_on, wins, wins_value, after_hold, after_store, at_take_free, at_load_top, at_load_top_to_take, ends}
-use Rattle.machine.specs.Chains.{with_home, HasValues}
+use Rattle.machine.specs.Words.{times, Stands}
+use Rattle.stack_machine.specs.Machine.{stack}
+use Rattle.machine.specs.Chains.{HasValues}
 use Rattle.stack_machine.specs.Answers.{shape}
-use Rattle.step_core.specs.stack.Law.{Lawful}
-use Rattle.stack_machine.specs.Places.{NoNodeTwice, WinsUnheld}
 use Rattle.machine.proofs.OneList.{none_there}
+use Rattle.step_core.specs.stack.Mistakes.{CutOffUnlawful, ForgottenUnlawful, NodeHeldByTwo, NodeHeldTwiceUnlawful, LeftThereUnlawful, NumberAgainUnlawful, PutAfterCloseUnlawful, TakeAfterShutUnlawful, WinsHeldNode, cut_off, forgotten, left_there}
 
--- how a machine makes a step, in place of the stack's
-abbrev Steps : Type 0
-Steps = Memory ℕ → ℕ → Line ℕ → Outcome ℕ
-
-abbrev Acts : Type 0
-Acts = List (ℕ × Act (Call ℕ))
-
-abbrev runs : Steps → Acts → State ℕ → State ℕ
-runs makes schedule s = run (record (stack (shape 1 15)) { step = makes }) schedule s
-
--- the machine starts with so many nodes and passes
-abbrev first_state : ℕ → ℕ → State ℕ
-first_state n passes = start (stack (shape n 15)) passes
-
--- so many steps of a pass
-abbrev steps : ℕ → ℕ → Acts
-steps p k = replicate k (p, Step)
-
-abbrev puts : ℕ → ℕ → Acts
-puts p v = (p, Begin (CallPut v [])) ∷ []
-
-abbrev takes : ℕ → Acts
-takes p = (p, Begin (CallTake One)) ∷ []
-
--- the lines of all passes, and that of one
-abbrev lines_of : State ℕ → List (Line ℕ)
-lines_of s = map (λ (v : Pass ℕ). v.line) s.passes
-
-abbrev line_or_idle : Option (Line ℕ) → Line ℕ
-line_or_idle none = Idle None
-line_or_idle (some l) = l
-
-abbrev line_of : State ℕ → ℕ → Line ℕ
-line_of s p = line_or_idle (get_elem? (lines_of s) p)
-
--- A node is taken from the free list and its top keeps the tag: pass 0 has read node 0 and its link, node 1; node 1 goes to
--- pass 2, node 0 goes out and comes back, and pass 0's exchange wins. So node 1 is free while pass 2 holds it, and pass 1
--- takes it a second time
-abbrev holds_with_old_tag : Steps
-holds_with_old_tag m p (TakeFree put w k) = if same m.free w then wins (record (after_hold m w k) { free = kept w k }) (at_take_free put w) (Hold p) else goes_on m (LoadFree put)
-holds_with_old_tag m p l = step (shape 3 15) m p l
-
-abbrev held_twice : State ℕ
-held_twice = runs holds_with_old_tag
-    (puts 0 10 ++ steps 0 2 ++ puts 1 11 ++ steps 1 6 ++ puts 2 12 ++ steps 2 3 ++ takes 1 ++ steps 1 6 ++ steps 0 1 ++ puts 1 13 ++ steps 1 3)
-    (first_state 3 3)
-
-two_hands : total (λ (v : Pass ℕ). times 1 (held v.line)) held_twice.passes ≡ 2
-two_hands = refl
-
-held_twice-unlawful : ¬ Lawful ℕ 3 15 held_twice
-held_twice-unlawful law = once (times 1 law.frees) (times 1 law.stack) (law.once 1)
+pub node_held_twice-unlawful : NodeHeldTwiceUnlawful
+node_held_twice-unlawful law = once (times 1 law.frees) (times 1 law.stack) (law.once 1)
   where
     once : (a b : ℕ) → a + b + 2 ≡ 1 → ⊥
     once a b e = absurd (omega arith)
 
-held_by_two : ¬ NoNodeTwice 3 held_twice.memory (lines_of held_twice)
-held_by_two apart = absurd (omega (
+pub node_held_by_two : NodeHeldByTwo
+node_held_by_two apart = absurd (omega (
   arith,
   apart.nodes.one_hand 1
       (record { pass = 1; line = _; at = refl; has = omega arith })
       (record { pass = 2; line = _; at = refl; has = omega arith }),
 ))
 
--- and pass 1's step won a node that pass 2 had in hand
-abbrev before_second_hold : State ℕ
-before_second_hold = runs holds_with_old_tag
-    (puts 0 10 ++ steps 0 2 ++ puts 1 11 ++ steps 1 6 ++ puts 2 12 ++ steps 2 3 ++ takes 1 ++ steps 1 6 ++ steps 0 1 ++ puts 1 13 ++ steps 1 2)
-    (first_state 3 3)
-
-wins_held_node : ¬ WinsUnheld before_second_hold.memory (lines_of before_second_hold) (line_of before_second_hold 1) (line_of held_twice 1)
+pub wins_held_node : WinsHeldNode
 wins_held_node won = ⊎_elim
     (λ had. absurd (omega arith))
     (λ was. was.unheld (record { pass = 2; line = _; at = refl; has = omega arith }))
     (won.nodes 1 (omega arith))
 
--- A value is taken and the top keeps its tag: the take's number comes again
-abbrev keeps : Memory ℕ → Tagged → ℕ → Outcome ℕ → Outcome ℕ
-keeps m w k o = record o { memory = record m { top = kept w k; home = with_home m.home w.index none } }
-
-abbrev takes_with_old_tag : Steps
-takes_with_old_tag m p (TakeTop w k) = if same m.top w then keeps m w k (wins_value m p w k (m.home w.index)) else goes_on m (LoadTopToTake One)
-takes_with_old_tag m p l = step (shape 2 15) m p l
-
-abbrev number_again : State ℕ
-number_again = runs takes_with_old_tag (puts 0 10 ++ steps 0 6 ++ takes 0 ++ steps 0 6 ++ puts 0 11 ++ steps 0 6) (first_state 2 1)
-
-number_again-unlawful : ¬ Lawful ℕ 2 15 number_again
+pub number_again-unlawful : NumberAgainUnlawful
 number_again-unlawful law = numbered law.legal
   where
     numbered : Legal {T = ℕ} (shape 2 15) (Put 0 (11 ∷ []) 1 ∷ Hold 0 ∷ Free 0 1 ∷ Take 0 10 1 ∷ Put 0 (10 ∷ []) 0 ∷ Hold 0 ∷ []) → ⊥
     numbered legal = absurd (omega (arith, legal.0.3))
 
--- A put that lost its exchange tries again with the new top and its old link: the other pass's value is cut off
-abbrev puts_on_stale_top : Steps
-puts_on_stale_top m p (SwapTop put w) = if same m.top w then step (shape 2 15) m p (SwapTop put w) else goes_on m (SwapTop put m.top)
-puts_on_stale_top m p l = step (shape 2 15) m p l
-
-abbrev cut_off : State ℕ
-cut_off = runs puts_on_stale_top (puts 0 10 ++ steps 0 5 ++ puts 1 11 ++ steps 1 6 ++ steps 0 2) (first_state 2 2)
-
 empty : (v : ℕ) → ◌≡◌ {A = Option (Slot ℕ)} (some None) (some (Some v)) → ⊥
 empty v e = cc
 
-cut_off-unlawful : ¬ Lawful ℕ 2 15 cut_off
+pub cut_off-unlawful : CutOffUnlawful
 cut_off-unlawful law = two law.stack law.top_stands law.stored
   where
     two : (list : List ℕ) → Stands cut_off.memory.link cut_off.memory.top.index list → HasValues cut_off.memory.home list (10 ∷ 11 ∷ []) → ⊥
@@ -136,15 +51,7 @@ cut_off-unlawful law = two law.stack law.top_stands law.stored
         let below : NULL ≡ j = ap cut_off.memory.link s.0 ∙ s.1.0 in
         empty 11 (ap cut_off.memory.home below ∙ v.1.0)
 
--- A fold that answers without giving its nodes back: the node is nowhere
-abbrev forgets_nodes : Steps
-forgets_nodes m p (LoadLinkToFold give i) = if m.link i == NULL then goes_on m (ends give.answer) else goes_on m (LoadLinkToFold give (m.link i))
-forgets_nodes m p l = step (shape 1 15) m p l
-
-abbrev forgotten : State ℕ
-forgotten = runs forgets_nodes (puts 0 10 ++ steps 0 6 ++ ((0, Begin (CallTake (Whole Down))) ∷ []) ++ steps 0 3) (first_state 1 1)
-
-forgotten-unlawful : ¬ Lawful ℕ 1 15 forgotten
+pub forgotten-unlawful : ForgottenUnlawful
 forgotten-unlawful law =
     let no_null : times NULL law.frees + times NULL law.stack + 0 ≡ 0 = law.once NULL in
     let no_frees : law.frees ≡ [] = none_there forgotten.memory.link NULL law.frees refl (omega arith) law.free_stands in
@@ -152,16 +59,7 @@ forgotten-unlawful law =
     let somewhere : times 0 law.frees + times 0 law.stack + 0 ≡ 1 = law.once 0 in
     absurd (omega (arith, somewhere, ap (times 0) no_frees, ap (times 0) no_stack))
 
--- A take that leaves its value in the node, and a give that does so too: the node is free and not empty
-abbrev leaves_values : Steps
-leaves_values m p (TakeTop w k) = let o = step (shape 1 15) m p (TakeTop w k) in record o { memory = record o.memory { home = m.home } }
-leaves_values m p (GiveBack give w) = let o = step (shape 1 15) m p (GiveBack give w) in record o { memory = record o.memory { home = m.home } }
-leaves_values m p l = step (shape 1 15) m p l
-
-abbrev left_there : State ℕ
-left_there = runs leaves_values (puts 0 10 ++ steps 0 6 ++ takes 0 ++ steps 0 6) (first_state 1 1)
-
-left_there-unlawful : ¬ Lawful ℕ 1 15 left_there
+pub left_there-unlawful : LeftThereUnlawful
 left_there-unlawful law =
     let no_null : times NULL law.frees + times NULL law.stack + 0 ≡ 0 = law.once NULL in
     let no_stack : law.stack ≡ [] = none_there left_there.memory.link NULL law.stack refl (omega arith) law.top_stands in
@@ -171,36 +69,13 @@ left_there-unlawful law =
     full : ◌≡◌ {A = Option (Slot ℕ)} (some (Some 10)) (some None) → ⊥
     full e = cc
 
--- Closing sets a flag of its own, a word that lies beside the links, and a put that found it clear goes in after the close
-abbrev flag : Memory ℕ → ℕ
-flag m = m.link NULL
-
-abbrev closes_by_flag : Steps
-closes_by_flag m p (LoadTop put) = goes_on m (at_load_top 15 put (record m.top { mark = flag m == 1 }))
-closes_by_flag m p LoadTopToClose = if flag m == 1 then goes_on m (ends (AnswerClose false)) else goes_on m (MarkTop m.top)
-closes_by_flag m p (MarkTop w) = if flag m == 1 then goes_on m (ends (AnswerClose false)) else wins (after_store m NULL 1) (ends (AnswerClose true)) (Close p)
-closes_by_flag m p l = step (shape 1 15) m p l
-
-abbrev put_after_close : State ℕ
-put_after_close = runs closes_by_flag (puts 0 10 ++ steps 0 4 ++ ((1, Begin CallClose) ∷ []) ++ steps 1 2 ++ steps 0 2) (first_state 1 2)
-
-put_after_close-unlawful : ¬ Lawful ℕ 1 15 put_after_close
+pub put_after_close-unlawful : PutAfterCloseUnlawful
 put_after_close-unlawful law = closed law.legal
   where
     closed : Legal {T = ℕ} (shape 1 15) (Put 0 (10 ∷ []) 0 ∷ Close 1 ∷ Hold 0 ∷ []) → ⊥
     closed legal = false≢true (sym legal.0.0)
 
--- Shutting sets it, and a take that found it clear takes after the shut
-abbrev shuts_by_flag : Steps
-shuts_by_flag m p (LoadTopToTake taking) = goes_on m (at_load_top_to_take 15 taking (record m.top { second = flag m == 1 }))
-shuts_by_flag m p LoadTopToShut = if flag m == 1 then goes_on m (ends (AnswerShut false)) else goes_on m (ShutTop m.top)
-shuts_by_flag m p (ShutTop w) = if flag m == 1 then goes_on m (ends (AnswerShut false)) else wins (after_store m NULL 1) (ends (AnswerShut true)) (Shut p)
-shuts_by_flag m p l = step (shape 1 15) m p l
-
-abbrev take_after_shut : State ℕ
-take_after_shut = runs shuts_by_flag (puts 0 10 ++ steps 0 6 ++ takes 0 ++ steps 0 2 ++ ((1, Begin CallShut) ∷ []) ++ steps 1 2 ++ steps 0 1) (first_state 1 2)
-
-take_after_shut-unlawful : ¬ Lawful ℕ 1 15 take_after_shut
+pub take_after_shut-unlawful : TakeAfterShutUnlawful
 take_after_shut-unlawful law = shut law.legal
   where
     shut : Legal {T = ℕ} (shape 1 15) (Take 0 10 1 ∷ Shut 1 ∷ Put 0 (10 ∷ []) 0 ∷ Hold 0 ∷ []) → ⊥

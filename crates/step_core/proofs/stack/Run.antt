@@ -11,6 +11,7 @@ use Rattle.machine.proofs.Scheduled.{Holds, run_kept}
 use Rattle.machine.proofs.Stories.{Told, Stays, stays_holds, start_stays}
 use Rattle.machine.proofs.Ahead.{Ahead}
 use Rattle.machine.proofs.Sums.{total_map, at_map}
+use Rattle.stack_machine.specs.declared.lines.Answer.{Answer}
 use Rattle.stack_machine.specs.declared.lines.Line.{Line}
 use Rattle.stack_machine.specs.declared.lines.Line.TheVariants.{Idle}
 use Rattle.stack_machine.specs.declared.lines.Call.{Call}
@@ -24,7 +25,7 @@ use Rattle.stack_machine.proofs.Moves.{Kept, good_goes}
 use Rattle.stack_machine.proofs.Step.{step_kept}
 use Rattle.stack_machine.proofs.Tells.{tells_kept, step_apart}
 use Rattle.stack_machine.proofs.Doing.{begins, meanwhile, step_does}
-use Rattle.step_core.specs.stack.Law.{Lawful, HasAnswered, AllDone}
+use Rattle.step_core.specs.stack.Law.{Lawful, HasAnswered, AllDone, NoneUnanswered}
 use Rattle.stack_machine.specs.Places.{NoNodeTwice}
 use Rattle.stack_machine.proofs.Places.{no_node_twice}
 
@@ -129,6 +130,16 @@ module _ {T : Type 0} (n limit : ℕ) where
       answered : (call : Option (Call T)) → v.call ≡ call → Did p call (Idle (Some a)) v.begun v.seen → HasAnswered (shape n limit) p v a
       answered none is at = cc
       answered (some call) is at = record { call = call; of = is; done = record { between = at.between; is = at.is; made = at.made; all = at.all } }
+
+  -- a begun call is never at a line without an answer
+  unanswered : (p : ℕ) (call : Call T) (o : Option (Call T)) (l : Line T) (begun seen : List (Event T)) → o ≡ some call → is_idle l ≡ true → Did p o l begun seen → (a : Answer T) × (l ≡ Idle (Some a))
+  unanswered p call none l begun seen is idle d = cc
+  unanswered p call (some c) (Idle None) begun seen is idle d = absurd d.made
+  unanswered p call (some c) (Idle (Some a)) begun seen is idle d = (a, refl)
+  unanswered p call (some c) l begun seen is idle d = absurd (false≢true idle)
+
+  pub none_unanswered : (passes : ℕ) (schedule : List (ℕ × Act (Call T))) → 0 < n → n ≤ NULL → NoneUnanswered (run (stack (shape n limit)) schedule (start (stack (shape n limit)) passes))
+  none_unanswered passes schedule some_node small p v call e is idle = unanswered p call v.call v.line v.begun v.seen is idle ((run_stays passes schedule some_node small).story p v e).1
 
   -- between any two acts no node is in two places
   pub stack_nodes_once : (passes : ℕ) (schedule : List (ℕ × Act (Call T))) → 0 < n → n ≤ NULL

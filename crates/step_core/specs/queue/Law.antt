@@ -1,5 +1,5 @@
 -- What the queue's machine keeps in every schedule.
-use Rattle.std.specs.Prelude.{◌≡◌, ◌≢◌, ℕ, ◌+◌, ◌<◌, ◌≤◌, ltb, if◌then◌else◌, List, ◌∷◌, ◌++◌, length, map, Some, None}
+use Rattle.std.specs.Prelude.{◌≡◌, ◌≢◌, ℕ, ◌+◌, ◌<◌, ◌≤◌, ltb, if◌then◌else◌, List, ◌∷◌, ◌++◌, true, length, map, Some, None}
 use mathlib.Core.Option.{some}
 use lib.ListN.{get_elem?}
 use Rattle.tagged_index.specs.declared.word.TheConstants.{NULL}
@@ -12,7 +12,7 @@ use Rattle.queue_machine.specs.declared.lines.Answer.{Answer}
 use Rattle.queue_machine.specs.declared.lines.Call.{Call}
 use Rattle.queue_machine.specs.declared.lines.Line.{Line}
 use Rattle.queue_machine.specs.declared.lines.Line.TheVariants.{Idle, LoadNodes}
-use Rattle.queue_machine.specs.Machine.{Memory, Pass, State, next_of, held_cells, held_nodes}
+use Rattle.queue_machine.specs.Machine.{Memory, Pass, State, is_idle, next_of, held_cells, held_nodes}
 use Rattle.queue_machine.specs.Answers.{shape, state, IsRight}
 use Rattle.queue_machine.specs.Deeds.{HasDone}
 
@@ -85,6 +85,11 @@ pub record HasAnswered {T : Type 0} (p : ℕ) (v : Pass T) (a : Answer T) : Type
 -- and so has each pass that has ended an operation
 abbrev pub AllDone : {T : Type 0} → State T → Type 0
 AllDone {T} s = (p : ℕ) (v : Pass T) (a : Answer T) → get_elem? s.passes p ≡ some v → v.line ≡ Idle (Some a) → HasAnswered p v a
+
+-- a pass that has begun a call and is idle has ended it with an answer
+abbrev pub NoneUnanswered : {T : Type 0} → State T → Type 0
+NoneUnanswered {T} s = (p : ℕ) (v : Pass T) (call : Call T) → get_elem? s.passes p ≡ some v → v.call ≡ some call → is_idle v.line ≡ true
+    → (a : Answer T) × (v.line ≡ Idle (Some a))
 
 -- the values in the cells of a queue of n cells, along the chain from the node behind the dummy
 abbrev pub values_left : {T : Type 0} → ℕ → Memory T → List T

@@ -1,5 +1,5 @@
 -- What the stack's machine keeps in every schedule.
-use Rattle.std.specs.Prelude.{◌≡◌, ℕ, ◌+◌, ◌<◌, ◌≤◌, ltb, if◌then◌else◌, List, length, map, Some, None}
+use Rattle.std.specs.Prelude.{◌≡◌, ℕ, ◌+◌, ◌<◌, ◌≤◌, ltb, if◌then◌else◌, List, true, length, map, Some, None}
 use mathlib.Core.Option.{some}
 use lib.ListN.{get_elem?}
 use Rattle.bounded_model.specs.Machine.{Shape, Legal}
@@ -12,7 +12,7 @@ use Rattle.machine.specs.Chains.{HasValues}
 use Rattle.machine.specs.Seen.{Knows}
 use Rattle.stack_machine.specs.Answers.{shape, state, IsRight}
 use Rattle.stack_machine.specs.Deeds.{HasDone}
-use Rattle.stack_machine.specs.Machine.{Pass, State, held}
+use Rattle.stack_machine.specs.Machine.{Pass, State, is_idle, held}
 use Rattle.stack_machine.specs.Rule.{Lists, Good}
 
 -- v is pass p
@@ -64,3 +64,8 @@ pub record HasAnswered {T : Type 0} (c : Shape) (p : ℕ) (v : Pass T) (a : Answ
 abbrev pub AllDone : {T : Type 0} → Shape → State T → Type 0
 AllDone {T} c s =
     (p : ℕ) (v : Pass T) (a : Answer T) → IsPass s p v → v.line ≡ Idle (Some a) → HasAnswered c p v a
+
+-- a pass that has begun a call and is idle has ended it with an answer
+abbrev pub NoneUnanswered : {T : Type 0} → State T → Type 0
+NoneUnanswered {T} s = (p : ℕ) (v : Pass T) (call : Call T) → IsPass s p v → v.call ≡ some call → is_idle v.line ≡ true
+    → (a : Answer T) × (v.line ≡ Idle (Some a))

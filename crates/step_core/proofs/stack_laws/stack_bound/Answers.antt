@@ -1,4 +1,4 @@
-use Rattle.step_core.proofs.stack.Bounded.{stack_bounded}
+use Rattle.step_core.proofs.stack.Ends.{stack_bounded}
 use Rattle.step_core.proofs.stack_laws.stack_bound.Goals as goal
 
 pub returns : goal.returns

@@ -7,13 +7,13 @@ use Rattle.ms_queue.proofs.queue.Queue.put_load_cell_link.Goals as goal
 
 pub overflow_cast-link : goal.overflow_cast-link
 overflow_cast-link g c =
-    let low = (c.load_step-found.ensures.steps (begun_of c.args.self.now c.args.by) (LoadCellLink c.args.value (fields_of c.args.cells)) c.requires.1.line.at.going).1 in
+    let low = (c.load_link_step-found.ensures.steps (begun_of c.args.self.now c.args.by) (LoadCellLink c.args.value (fields_of c.args.cells)) c.requires.1.line.at.going).1 in
     omega arith
 
 pub returns : goal.returns
 returns g c = λ x is.
     let q = c.args.self.now in
-    let s = c.load_step-found in
+    let s = c.load_link_step-found in
     let w = fields_of c.args.cells in
     let r = goes_on (machine_of q) is.line (record { seat = s.new.seat }) s.result [] s.ensures.steps s.ensures.seat.0 [] (TakeCell c.args.value w s.result) (s.ensures.seat.1 ∙ is.line.at.has) refl refl in
     (record { of = is.of; line = r.0; read = (is.read.0, is.read.1, (s.ensures.steps (begun_of q c.args.by) (LoadCellLink c.args.value w) is.line.at.going).1) }, r.1)

@@ -17,14 +17,14 @@ use Rattle.ms_queue.proofs.queue.Queue.put_load_cells.Goals as goal
 pub returns-then-index-eq-NULL : goal.returns-then-index-eq-NULL
 returns-then-index-eq-NULL g c = λ x is.
     let q = c.args.self.now in
-    let s = c.load_tagged_step-cells in
+    let s = c.load_top_step-cells in
     let r = goes_on (machine_of q) is.line (record { seat = s.new.seat }) s.result [] s.ensures.steps s.ensures.seat.0 [] (LoadTail (ToRefuse c.args.value)) (s.ensures.seat.1 ∙ is.line.at.has) (no_cell (limit_of q) s.result c.args.value (sym c.index.ensures.field ∙ c.if-index-eq-NULL.true)) refl in
     (record { of = is.of; line = r.0; read = tt }, r.1)
 
 pub returns-then-tag-tag_limit : goal.returns-then-tag-tag_limit
 returns-then-tag-tag_limit g c = λ x is.
     let q = c.args.self.now in
-    let s = c.load_tagged_step-cells in
+    let s = c.load_top_step-cells in
     let high = c.if-tag-tag_limit.true in
     let tag = c.tag.ensures.field in
     let limit = c.tag_limit.ensures in
@@ -38,7 +38,7 @@ returns-then-tag-tag_limit g c = λ x is.
 pub returns : goal.returns
 returns g c = λ x is.
     let q = c.args.self.now in
-    let s = c.load_tagged_step-cells in
+    let s = c.load_top_step-cells in
     let low = c.if-tag-tag_limit.false in
     let tag = c.tag.ensures.field in
     let limit = c.tag_limit.ensures in

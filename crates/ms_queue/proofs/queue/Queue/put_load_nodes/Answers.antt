@@ -18,7 +18,7 @@ use Rattle.ms_queue.proofs.queue.Queue.put_load_nodes.Goals as goal
 pub returns : goal.returns
 returns g c = λ x is.
     let q = c.args.self.now in
-    let s = c.load_tagged_step-nodes in
+    let s = c.load_top_step-nodes in
     let put = with_cell x c.args.cell in
     let low = c.if-tag-tag_limit.false in
     let tag = c.tag-2.ensures.field in
@@ -32,7 +32,7 @@ returns g c = λ x is.
 pub returns-then-index-eq-NULL : goal.returns-then-index-eq-NULL
 returns-then-index-eq-NULL g c = λ x is.
     let q = c.args.self.now in
-    let s = c.load_tagged_step-nodes in
+    let s = c.load_top_step-nodes in
     let v = c.put_value_back-value in
     let i : ℕ = c.args.cell in
     let put = with_cell x i in
@@ -47,7 +47,7 @@ returns-then-index-eq-NULL g c = λ x is.
 pub returns-then-tag-tag_limit : goal.returns-then-tag-tag_limit
 returns-then-tag-tag_limit g c = λ x is.
     let q = c.args.self.now in
-    let s = c.load_tagged_step-nodes in
+    let s = c.load_top_step-nodes in
     let v = c.put_value_back-value-then-tag-tag_limit in
     let i : ℕ = c.args.cell in
     let put = with_cell x i in

@@ -4,7 +4,6 @@ use Rattle.atomic_table.specs.Table.{rest}
 use Rattle.tagged_index.specs.Fields.{fields_of}
 use Rattle.queue_machine.specs.declared.lines.Answer.TheVariants.{Take as Answer}
 use Rattle.queue_machine.specs.declared.lines.Line.TheVariants.{LoadHead, TakeHead, LoadNodesToGive}
-use Rattle.queue_table.specs.Lines.{won_take}
 use Rattle.queue_table.specs.declared.operation.Operation.TheVariants.{Take as First}
 use Rattle.running.specs.Going.{Found}
 use Rattle.running.proofs.Ways.{goes_on, hits, misses}
@@ -13,7 +12,7 @@ use Rattle.ms_queue.specs.Taking.{take_line}
 use Rattle.ms_queue.specs.declared.taking.Taken.{Taken}
 use Rattle.ms_queue.specs.declared.taking.TakeAt.TheVariants.{GiveBack}
 use Rattle.ms_queue.specs.declared.giving.Give.TheVariants.{LoadNodes}
-use Rattle.ms_queue.proofs.Takes.{same_value}
+use Rattle.ms_queue.proofs.Takes.{won_take, same_value}
 use Rattle.ms_queue.proofs.queue.Queue.take_head.Goals as goal
 
 pub move_out-value-requires-clause-full : goal.move_out-value-requires-clause-full

@@ -9,24 +9,24 @@ use Rattle.stack_table.specs.declared.operation.Operation.TheVariants.{Look as F
 use Rattle.running.proofs.Ways.{started, begun_is, ends_so}
 use Rattle.treiber_stack.specs.Stack.{machine_of, shape_of, pass_in}
 use Rattle.treiber_stack.proofs.Closes.{look_gives}
-use Rattle.treiber_stack.proofs.Gives.{ready}
+use Rattle.treiber_stack.proofs.Gives.{ready_step}
 use Rattle.treiber_stack.proofs.stack.Stack.is_empty.Goals as goal
 
-pub load_tagged_step-top-requires-clause-access : goal.load_tagged_step-top-requires-clause-access
-load_tagged_step-top-requires-clause-access g c = let stack = c.args.self.now in
-    ready stack First c.args.by LoadTopToLook [] _ (started (machine_of stack) stack.table.shared.table_id First c.args.by c.requires) refl
+pub load_top_step-top-requires-clause-access : goal.load_top_step-top-requires-clause-access
+load_top_step-top-requires-clause-access g c = let stack = c.args.self.now in
+    ready_step stack First c.args.by LoadTopToLook [] _ _ (started (machine_of stack) stack.table.shared.table_id First c.args.by c.requires) refl
 
 pub returns-clause-of : goal.returns-clause-of
 returns-clause-of g c =
     let stack = c.args.self.now in
-    let s = c.load_tagged_step-top in
+    let s = c.load_top_step-top in
     let e = ends_so (machine_of stack) (started (machine_of stack) stack.table.shared.table_id First c.args.by c.requires) (record { seat = s.new.seat }) s.result [] s.ensures.steps s.ensures.seat.0 (ends (Answer (eqb c.index.result NULL))) (s.ensures.seat.1 ∙ c.requires.rests.slots) (ap (λ (i : ℕ). ends (Answer (eqb i NULL))) (sym c.index.ensures.field)) refl in
     e.0
 
 pub returns-clause-line : goal.returns-clause-line
 returns-clause-line g c =
     let stack = c.args.self.now in
-    let s = c.load_tagged_step-top in
+    let s = c.load_top_step-top in
     let e = ends_so (machine_of stack) (started (machine_of stack) stack.table.shared.table_id First c.args.by c.requires) (record { seat = s.new.seat }) s.result [] s.ensures.steps s.ensures.seat.0 (ends (Answer (eqb c.index.result NULL))) (s.ensures.seat.1 ∙ c.requires.rests.slots) (ap (λ (i : ℕ). ends (Answer (eqb i NULL))) (sym c.index.ensures.field)) refl in
     e.2
 
@@ -34,6 +34,6 @@ pub returns-clause-gives : goal.returns-clause-gives
 returns-clause-gives g c =
     let stack = c.args.self.now in
     let id = stack.table.shared.table_id in
-    let s = c.load_tagged_step-top in
+    let s = c.load_top_step-top in
     let e = ends_so (machine_of stack) (started (machine_of stack) id First c.args.by c.requires) (record { seat = s.new.seat }) s.result [] s.ensures.steps s.ensures.seat.0 (ends (Answer (eqb c.index.result NULL))) (s.ensures.seat.1 ∙ c.requires.rests.slots) (ap (λ (i : ℕ). ends (Answer (eqb i NULL))) (sym c.index.ensures.field)) refl in
     subst (λ (b : PassView _). LookGives (shape_of stack) b (pass_in (record { seat = s.new.seat })) (eqb c.index.result NULL)) (begun_is (machine_of stack) id c.args.by c.requires) (look_gives stack (eqb c.index.result NULL) e.1)

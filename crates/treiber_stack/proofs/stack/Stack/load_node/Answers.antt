@@ -10,16 +10,16 @@ fill-requires-clause-value g c =
     let v = next_value vs c.args.held.count next.0 in
     (v.0, next.1 ∙ v.3)
 
-pub store_step-requires-clause-access : goal.store_step-requires-clause-access
-store_step-requires-clause-access g c =
+pub store_link_step-requires-clause-access : goal.store_link_step-requires-clause-access
+store_link_step-requires-clause-access g c =
     let vs = c.requires.0 in
     let next = c.requires.2 in
     let v = next_value vs c.args.held.count next.0 in
     let r = c.fill.new.by in
-    may_link c.args.self.now c.args.operation.now vs c.args.by c.args.held c.args.index c.requires.1 next.0 r c.fill.ensures.table (c.fill.ensures.filled v.0 (next.1 ∙ v.3)) c.if-held-eq0.false c.link.result c.link.ensures
+    may_link c.args.self.now c.args.operation.now vs c.args.by c.args.held c.args.index c.requires.1 next.0 r c.fill.ensures.table (c.fill.ensures.filled v.0 (next.1 ∙ v.3)) c.if-held-eq0.false
 
-pub store_step-requires-clause-plain : goal.store_step-requires-clause-plain
-store_step-requires-clause-plain g c =
+pub store_link_step-requires-clause-plain : goal.store_link_step-requires-clause-plain
+store_link_step-requires-clause-plain g c =
     let vs = c.requires.0 in
     let next = c.requires.2 in
     let v = next_value vs c.args.held.count next.0 in
@@ -32,7 +32,7 @@ overflow_add-count g c =
     let next = c.requires.2 in
     let v = next_value vs c.args.held.count next.0 in
     let r = c.fill.new.by in
-    let s = c.store_step in
+    let s = c.store_link_step in
     let few = few_held c.args.self.now c.args.operation.now vs c.args.by c.args.held c.args.index c.requires.1 next.0 r c.fill.ensures.table (c.fill.ensures.filled v.0 (next.1 ∙ v.3)) c.if-held-eq0.false (record { seat = s.new.seat }) _ s.ensures.steps in
     let most = c.args.self.now.table.shared.key.capacity_in_range in
     omega arith
@@ -50,6 +50,6 @@ pub returns : goal.returns
 returns g c vs h next =
     let v = next_value vs c.args.held.count next.0 in
     let r = c.fill.new.by in
-    let s = c.store_step in
+    let s = c.store_link_step in
     let e = fills_more c.args.self.now c.args.operation.now vs c.args.by c.args.held c.args.index h next.0 r c.fill.ensures.table (c.fill.ensures.filled v.0 (next.1 ∙ v.3)) c.if-held-eq0.false (record { seat = s.new.seat }) _ s.ensures.steps s.ensures.seat.0 s.ensures.seat.1 in
     (e.0, refl, e.1, c.fill.ensures.place)

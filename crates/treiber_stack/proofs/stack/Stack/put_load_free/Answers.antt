@@ -13,7 +13,7 @@ use Rattle.treiber_stack.proofs.stack.Stack.put_load_free.Goals as goal
 
 pub returns-then-index-eq-NULL : goal.returns-then-index-eq-NULL
 returns-then-index-eq-NULL g c x is =
-    let s = c.load_tagged_step-free in
+    let s = c.load_top_step-free in
     let y = c.args.value in
     let r = null_first c.args.self.now c.args.operation c.args.by (record { seat = s.new.seat }) s.ensures.seat.0 (wanting y).values s.result is.line s.ensures.steps s.ensures.seat.1 (sym c.index.ensures.field ∙ c.if-index-eq-NULL.true) in
     (record { of = is.of; line = r.0; keeps = is.keeps; read = tt }, r.1)
@@ -21,7 +21,7 @@ returns-then-index-eq-NULL g c x is =
 pub returns-then-tag-tag_limit : goal.returns-then-tag-tag_limit
 returns-then-tag-tag_limit g c x is =
     let stack = c.args.self.now in
-    let s = c.load_tagged_step-free in
+    let s = c.load_top_step-free in
     let y = c.args.value in
     let t = c.tag-then-tag-tag_limit.result in
     let high = c.if-tag-tag_limit.true in
@@ -34,7 +34,7 @@ returns-then-tag-tag_limit g c x is =
 pub returns : goal.returns
 returns g c x is =
     let stack = c.args.self.now in
-    let s = c.load_tagged_step-free in
+    let s = c.load_top_step-free in
     let low = c.if-tag-tag_limit.false in
     let tag = c.tag.ensures.field in
     let limit = c.tag_limit.ensures in

@@ -15,7 +15,7 @@ returns-in-Some g c begun stops =
     let stack = c.args.self.now in
     let o = c.args.operation.now in
     let x = c.args.value in
-    let s = c.load_tagged_step-top in
+    let s = c.load_top_step-top in
     let at = subst (Stops stack o begun c.args.by [] (wanting x)) c.in-NoneFree.is stops in
     let told = subst (λ (r : Slot _). MatchOption r (AllowsPut (limit_of stack) s.result) (RefusesPut g.row.T.Denot (limit_of stack) s.result)) c.in-Some.is c.bars_put.ensures in
     let e = refused_barred stack o c.args.by (record { seat = s.new.seat }) s.ensures.seat.0 x x s.result c.in-Some.why c.of_put.result c.requires.of at.0 s.ensures.steps s.ensures.seat.1 told c.of_put.ensures in
@@ -26,7 +26,7 @@ returns-in-None g c begun stops =
     let stack = c.args.self.now in
     let o = c.args.operation.now in
     let x = c.args.value in
-    let s = c.load_tagged_step-top in
+    let s = c.load_top_step-top in
     let at = subst (Stops stack o begun c.args.by [] (wanting x)) c.in-NoneFree.is stops in
     let told = subst (λ (r : Slot _). MatchOption r (AllowsPut (limit_of stack) s.result) (RefusesPut g.row.T.Denot (limit_of stack) s.result)) c.in-None.is c.bars_put.ensures in
     let e = refused_full stack o c.args.by (record { seat = s.new.seat }) s.ensures.seat.0 x x s.result c.requires.of at.0 s.ensures.steps s.ensures.seat.1 told in

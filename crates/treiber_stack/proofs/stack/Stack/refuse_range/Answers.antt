@@ -25,7 +25,7 @@ pub returns-in-Some : goal.returns-in-Some
 returns-in-Some g c v vs stops =
     let stack = c.args.self.now in
     let o = c.args.operation.now in
-    let s = c.load_tagged_step-top in
+    let s = c.load_top_step-top in
     let why = c.in-Some.why in
     let at = subst (IsStopped stack o v c.args.by vs) c.in-NoneFree.is stops in
     let told = subst (λ (r : Slot _). MatchOption r (AllowsPut (limit_of stack) s.result) (RefusesPut g.row.T.Denot (limit_of stack) s.result)) c.in-Some.is c.bars_put.ensures in
@@ -39,7 +39,7 @@ pub returns-in-None : goal.returns-in-None
 returns-in-None g c v vs stops =
     let stack = c.args.self.now in
     let o = c.args.operation.now in
-    let s = c.load_tagged_step-top in
+    let s = c.load_top_step-top in
     let at = subst (IsStopped stack o v c.args.by vs) c.in-NoneFree.is stops in
     let told = subst (λ (r : Slot _). MatchOption r (AllowsPut (limit_of stack) s.result) (RefusesPut g.row.T.Denot (limit_of stack) s.result)) c.in-None.is c.bars_put.ensures in
     let e = ends_so (machine_of stack) at.0.0 (record { seat = s.new.seat }) s.result [] s.ensures.steps s.ensures.seat.0 (ends (AnswerPut (Err (PutFull vs)))) (s.ensures.seat.1 ∙ at.0.0.at.has) (allows_full (limit_of stack) s.result vs told) refl in

@@ -1,10 +1,9 @@
-use Rattle.std.proofs.Common.{ℕ, [], ◌∷◌, ◌++◌, refl, sym, ◌∙◌, arith, ap}
+use Rattle.std.proofs.Common.{ℕ, [], ◌∷◌, ◌++◌, refl, ◌∙◌, arith, ap}
 use Rattle.tagged_index.specs.Limits.{capacity_of}
-use Rattle.running.specs.Machine.{loads}
 use Rattle.stack_machine.specs.declared.lines.Line.TheVariants.{LoadLinkToFold}
 use Rattle.stack_table.specs.declared.operation.Operation.TheVariants.{Fold as FoldFirst}
 use Rattle.treiber_stack.specs.Folding.{folding}
-use Rattle.treiber_stack.proofs.Gives.{ready}
+use Rattle.treiber_stack.proofs.Gives.{ready_step}
 use Rattle.treiber_stack.proofs.Walking.{Folds_more, walk_start, index_low, count_low, front_full, taken_out, next_low, walk_goes, walk_ends}
 use Rattle.treiber_stack.proofs.stack.Stack.walk.Goals as goal
 
@@ -19,11 +18,8 @@ take_out-value-requires-clause-full g c =
     let i = c.loop-before.invariant in
     front_full c.args.self.now c.args.front c.args.top c.loop-before.pass i.0 c.args.first c.loop-before.before c.loop-before.index i.1
 
-pub link-at-requires : goal.link-at-requires
-link-at-requires g c = let i = c.loop-before.invariant in let low = index_low c.args.self.now c.args.front c.args.top c.loop-before.pass i.0 c.args.first c.loop-before.before c.loop-before.index i.1 in let most = c.args.self.now.table.shared.key.capacity_in_range in omega arith
-
-pub load_step-found-requires-clause-table : goal.load_step-found-requires-clause-table
-load_step-found-requires-clause-table g c =
+pub load_link_step-found-requires-clause-table : goal.load_link_step-found-requires-clause-table
+load_link_step-found-requires-clause-table g c =
     let stack = c.args.self.now in
     let front = c.args.front in
     let w : ℕ = c.args.top in
@@ -32,11 +28,11 @@ load_step-found-requires-clause-table g c =
     let x = c.take_out-value.result in
     let low = index_low stack front w c.loop-before.pass i.0 c.args.first c.loop-before.before c.loop-before.index i.1 in
     let words = stack.words in
-    let at = c.link-at.ensures in
-    (e.table ∙ i.1.at.table, omega arith)
+    let most = stack.table.shared.key.capacity_in_range in
+    (e.table ∙ i.1.at.table, omega arith, omega arith, omega arith)
 
-pub load_step-found-requires-clause-access : goal.load_step-found-requires-clause-access
-load_step-found-requires-clause-access g c =
+pub load_link_step-found-requires-clause-access : goal.load_link_step-found-requires-clause-access
+load_link_step-found-requires-clause-access g c =
     let stack = c.args.self.now in
     let front = c.args.front in
     let w : ℕ = c.args.top in
@@ -44,7 +40,7 @@ load_step-found-requires-clause-access g c =
     let e = c.take_out-value.ensures in
     let x = c.take_out-value.result in
     let a = taken_out stack front w c.loop-before.pass i.0 c.args.first c.loop-before.before c.loop-before.index i.1 c.take_out-value.new.by x e.table e.value e.out in
-    ready stack (FoldFirst front) c.take_out-value.new.by (LoadLinkToFold (folding i.1.chain i.1.folded w) c.loop-before.index) _ _ a.0 (λ y. loads (sym c.link-at.ensures y))
+    ready_step stack (FoldFirst front) c.take_out-value.new.by (LoadLinkToFold (folding i.1.chain i.1.folded w) c.loop-before.index) _ _ _ a.0 refl
 
 pub overflow_cast-next : goal.overflow_cast-next
 overflow_cast-next g c =
@@ -54,7 +50,7 @@ overflow_cast-next g c =
     let i = c.loop-before.invariant in
     let e = c.take_out-value.ensures in
     let x = c.take_out-value.result in
-    let l = c.load_step-found in
+    let l = c.load_link_step-found in
     let low = next_low stack front w c.loop-before.pass i.0 c.args.first c.loop-before.before c.loop-before.index i.1 c.take_out-value.new.by x e.table e.value e.out l.result (record { seat = l.new.seat }) l.ensures.steps l.ensures.seat.0 l.ensures.seat.1 in
     omega arith
 
@@ -66,7 +62,7 @@ returns-then-next-eq-NULL g c =
     let i = c.loop-before.invariant in
     let e = c.take_out-value.ensures in
     let x = c.take_out-value.result in
-    let l = c.load_step-found in
+    let l = c.load_link_step-found in
     let all = walk_ends stack front w c.loop-before.pass i.0 c.args.first c.loop-before.before c.loop-before.index i.1 c.take_out-value.new.by x e.table e.value e.out l.result (record { seat = l.new.seat }) l.ensures.steps l.ensures.seat.0 l.ensures.seat.1 c.if-next-eq-NULL.true in
     record {
       chain = i.1.chain;
@@ -85,7 +81,7 @@ loop-before-preserved g c =
     let i = c.loop-before.invariant in
     let e = c.take_out-value.ensures in
     let x = c.take_out-value.result in
-    let l = c.load_step-found in
+    let l = c.load_link_step-found in
     let all = walk_goes stack front w c.loop-before.pass i.0 c.args.first c.loop-before.before c.loop-before.index i.1 c.take_out-value.new.by x e.table e.value e.out l.result (record { seat = l.new.seat }) l.ensures.steps l.ensures.seat.0 l.ensures.seat.1 c.if-next-eq-NULL.false in
     (i.0 ++ x ∷ [], all.0, Folds_more _ _ i.0 _ _ x i.2 c.f-folded.ensures, all.1 ∙ i.3)
 

@@ -1,0 +1,14 @@
+//! What a seat knows of the list. No value of it is made at run time: it stands in views.
+use tagged_index::Fields;
+
+pub enum Knows {
+    Nothing,
+    /// The top, as it was read.
+    Top(Fields),
+    /// The top, and the link of its index, as it was read after.
+    Below(Fields, u64),
+    /// A cell in hand.
+    Has(u32),
+    /// A cell in hand, and what the seat has stored in its link.
+    Linked(u32, u64),
+}

@@ -1,0 +1,147 @@
+-- What the queue's machine shows of its two lists, and the laws of their host.
+use Rattle.std.proofs.Common.{◌≡◌, ℕ, zero, suc, ◌+◌, ◌*◌, ◌<◌, ◌≤◌, Bool, true, false, cond, ltb, eqb, List, [], ◌∷◌, refl, sym, ap, inl, inr, arith}
+use Rattle.std.proofs.lemmas.Bool.{false≢true}
+use Rattle.std.proofs.lemmas.Bool.Decides.{nat_tests}
+use Rattle.std.specs.Prelude.{Option as Slot}
+use mathlib.Core.Option.{Option}
+use Rattle.tagged_index.specs.declared.word.TheConstants.{NULL}
+use Rattle.bounded_model.specs.declared.history.Event.{Event}
+use Rattle.index_list.specs.Lists.{Leads, Holds, Distinct}
+use Rattle.index_list.specs.Steps.{numbers}
+use Rattle.index_list.specs.Host.{Laws}
+use Rattle.machine.specs.Words.{Tagged, times, total}
+use Rattle.machine.specs.Words as core
+use Rattle.machine.proofs.Lists.{times_here}
+use Rattle.machine.proofs.Sums.{total_one}
+use Rattle.machine.proofs.Tests.{at_most_one, cases}
+use Rattle.queue_machine.specs.declared.lines.Line.{Line}
+use Rattle.queue_machine.specs.declared.lines.Line.TheVariants.{LoadCells, LoadCellLink, TakeCell, LoadNodes, LoadNodeLink, TakeNode, LoadNodesToGive, LinkToNodes, GiveNode, LoadCellsToGive, LinkToCells, GiveCell}
+use Rattle.queue_machine.specs.Machine.{Memory, held_cells, held_nodes}
+use Rattle.queue_machine.specs.Rule.{Lists as CoreLists, IsFine, Kept}
+use Rattle.running.specs.Rule.{Rule}
+use Rattle.running.specs.Lists.{Listed, Hosts, Agrees, Ready, Moved, host}
+use Rattle.running.proofs.Hosting.{laws}
+use Rattle.queue_table.specs.Layout.{clink_at, nlink_at}
+use Rattle.queue_table.specs.Core.{core}
+use Rattle.queue_table.specs.Memories.{memory_of}
+use Rattle.queue_table.specs.Lists.{lists, list_step}
+use Rattle.queue_table.proofs.Laws.{queue, idle_empty, first_empty}
+
+holds_times : (xs : List ℕ) (i : ℕ) → Holds xs i → 0 < times i xs
+holds_times [] i h = absurd h
+holds_times (x ∷ xs) i (inl e) = let h = times_here i xs in let s : times i (x ∷ xs) ≡ times i (i ∷ xs) = ap (λ (y : ℕ). times i (y ∷ xs)) (sym e) in omega arith
+holds_times (x ∷ xs) i (inr h) = let t = holds_times xs i h in omega arith
+
+distinct_times : (xs : List ℕ) → ((i : ℕ) → times i xs ≤ 1) → Distinct xs
+distinct_times [] once = tt
+distinct_times (x ∷ xs) once = (
+  (λ h. absurd (let t = holds_times xs x h in let u = once x in let v = times_here x xs in omega arith)),
+  distinct_times xs (λ i. let u = once i in let t : times i xs ≤ times i (x ∷ xs) = omega arith in omega arith),
+)
+
+leads_low : (link : ℕ → ℕ) (i : ℕ) (xs : List ℕ) (j : ℕ) → core.Leads link i xs j → ((x : ℕ) → 0 < times x xs → x < NULL) → Leads link i xs j
+leads_low link i [] j c low = c
+leads_low link i (x ∷ xs) j c low = (c.0, low x (let t = times_here x xs in omega arith), leads_low link (link x) xs j c.1 (λ z there. low z (omega arith)))
+
+-- an index that is once in a place of k, is below k
+once_below : (i k places : ℕ) → places ≡ cond (ltb i k) 1 0 → 0 < places → i < k
+once_below i k places e some_there = cases (λ z. places ≡ z → i < k) (ltb i k) 1 0 (λ b e. grind (arith, nat_tests)) (λ b e. absurd (omega arith)) e
+
+module _ {T : Type 0} (n limit : ℕ) where
+  agrees : (line : Line T) → Agrees (lists {T = T}) ((core T n limit).access line) (list_step line)
+  agrees (LoadCells v) = refl
+  agrees (LoadCellLink v w) = refl
+  agrees (TakeCell v w k) = refl
+  agrees (LoadNodes put) = refl
+  agrees (LoadNodeLink put w) = refl
+  agrees (TakeNode put w k) = refl
+  agrees (LoadNodesToGive give) = refl
+  agrees (LinkToNodes give w) = refl
+  agrees (GiveNode give w) = refl
+  agrees (LoadCellsToGive give) = refl
+  agrees (LinkToCells give w) = refl
+  agrees (GiveCell give w) = refl
+  agrees l = tt
+
+module _ {T : Type 0} (n limit : ℕ) (words : List ℕ) (homes : List (Option (Slot T))) (of : ℕ → Option ℕ) (lines : List (Line T)) (h : List (Event T)) (k : Kept T n limit (memory_of words homes) of lines h) where
+  abbrev m : Memory T
+  m = memory_of words homes
+
+  abbrev g : CoreLists
+  g = k.lists
+
+  abbrev cell_places : ℕ → ℕ
+  cell_places i = times i g.cells + times i g.queued + total (λ (l : Line T). times i (held_cells l)) lines
+
+  abbrev node_places : ℕ → ℕ
+  node_places j = times j g.nodes + times j g.chain + total (λ (l : Line T). times j (held_nodes l)) lines
+
+  cells_stand : Listed (lists {T = T}) 0 words lines g.cells
+  cells_stand = record {
+    leads = leads_low m.clink m.cells.index g.cells NULL k.good.linked.cells_stand (λ i has. let small = k.good.linked.small in let b = once_below i n (cell_places i) (k.good.linked.cells_once i) (omega arith) in omega arith);
+    distinct = distinct_times g.cells (λ i. let o = k.good.linked.cells_once i in let u = at_most_one i n in omega arith);
+    free = λ q line e i has mine. absurd (let o = k.good.linked.cells_once i in let u = at_most_one i n in let a = holds_times g.cells i has in let b = holds_times (held_cells line) i mine in let t = total_one (λ (l : Line T). times i (held_cells l)) lines q line e in omega arith);
+  }
+
+  nodes_stand : Listed (lists {T = T}) 1 words lines g.nodes
+  nodes_stand = record {
+    leads = leads_low m.nlink m.nodes.index g.nodes NULL k.good.linked.nodes_stand (λ i has. let small = k.good.linked.small in let b = once_below i (n + 1) (node_places i) (k.good.linked.nodes_once i) (omega arith) in omega arith);
+    distinct = distinct_times g.nodes (λ i. let o = k.good.linked.nodes_once i in let u = at_most_one i (n + 1) in omega arith);
+    free = λ q line e i has mine. absurd (let o = k.good.linked.nodes_once i in let u = at_most_one i (n + 1) in let a = holds_times g.nodes i has in let b = holds_times (held_nodes line) i mine in let t = total_one (λ (l : Line T). times i (held_nodes l)) lines q line e in omega arith);
+  }
+
+  stands : (l : ℕ) → l < 2 → (xs : List ℕ) × Listed (lists {T = T}) l words lines xs
+  stands zero low = (g.cells, cells_stand)
+  stands (suc zero) low = (g.nodes, nodes_stand)
+  stands (suc (suc l)) low = absurd (omega arith)
+
+  ready : (line : Line T) → IsFine limit m g line → Ready (lists {T = T}) words line (list_step line)
+  ready (TakeCell v w j) f = λ hit. f.1 (ap (λ (y : Tagged). y.tag) (sym hit))
+  ready (TakeNode put w j) f = λ hit. f.1 (ap (λ (y : Tagged). y.tag) (sym hit))
+  ready (LinkToNodes give w) f = inl refl
+  ready (GiveNode give w) f = (inl refl, f)
+  ready (LinkToCells give w) f = inl refl
+  ready (GiveCell give w) f = (inl refl, f)
+  ready l f = tt
+
+moved : {T : Type 0} (n limit : ℕ) (words : List ℕ) (line : Line T) (zs : List (ℕ × Slot T)) → (core T n limit).Fits line zs → Moved (lists {T = T}) words line zs (list_step line)
+moved n limit words (LoadCells v) zs fits = λ c. tt
+moved n limit words (LoadCellLink v w) zs fits = λ c. tt
+moved n limit words (TakeCell v w j) zs fits = λ c. ap (λ (ys : List (ℕ × Slot _)). numbers ys) fits
+moved n limit words (LoadNodes put) zs fits = λ c. tt
+moved n limit words (LoadNodeLink put w) zs fits = λ c. tt
+moved n limit words (TakeNode put w j) zs fits = λ c. absurd (false≢true c)
+moved n limit words (LoadNodesToGive give) zs fits = λ c. tt
+moved n limit words (LinkToNodes give w) zs fits = λ c. tt
+moved n limit words (GiveNode give w) zs fits = λ c. absurd (false≢true c)
+moved n limit words (LoadCellsToGive give) zs fits = λ c. tt
+moved n limit words (LinkToCells give w) zs fits = λ c. tt
+moved n limit words (GiveCell give w) zs fits = λ c. ap (λ (ys : List (ℕ × Slot _)). numbers ys) fits
+moved n limit words l zs fits = tt
+
+top_low : (first_list : Bool) (n : ℕ) → cond first_list 0 16 < 68 + 4 * n
+top_low true n = omega arith
+top_low false n = omega arith
+
+link_off : (first_list : Bool) (i : ℕ) → cond first_list (clink_at i) (nlink_at i) ≡ cond first_list 0 16 → ⊥
+link_off true i e = omega arith
+link_off false i e = omega arith
+
+both_empty : (first_list : Bool) (xs ys : List ℕ) → xs ≡ [] → ys ≡ [] → cond first_list xs ys ≡ []
+both_empty true xs ys a b = a
+both_empty false xs ys a b = b
+
+hosts : (T : Type 0) (n limit : ℕ) → Hosts (queue T n limit) (lists {T = T}) 2
+hosts T n limit = record {
+  idle = λ l line e. both_empty (eqb l 0) (held_cells line) (held_nodes line) (idle_empty line e).cells (idle_empty line e).nodes;
+  first = λ l o. both_empty (eqb l 0) _ _ (first_empty o).cells (first_empty o).nodes;
+  apart = λ l i low e. link_off (eqb l 0) i e;
+  placed = λ l words homes low sane. let t = top_low (eqb l 0) n in let w = sane.words_are in omega arith;
+  access = agrees n limit;
+  stands = λ l words homes of lines h low sane k. stands n limit words homes of lines h k l low;
+  ready = λ words homes of lines h q line sane k at. ready n limit words homes of lines h k line (k.good.linked.fine q line at);
+  moved = λ words homes of lines h q p line zs sane k at is fits leads. moved n limit words line zs fits;
+}
+
+pub list_laws : (T : Type 0) (n limit : ℕ) → Laws (lists {T = T}).layout (host (queue T n limit) (lists {T = T})) (Rule (queue T n limit)) 2
+list_laws T n limit = laws (queue T n limit) (lists {T = T}) 2 (hosts T n limit)

@@ -1,0 +1,238 @@
+-- What the stack's machine shows of its two lists, and the laws of their host.
+use Rattle.std.proofs.Common.{◌≡◌, ◌≢◌, ℕ, zero, suc, ◌+◌, ◌<◌, ◌≤◌, Bool, true, false, cond, ltb, eqb, List, [], ◌∷◌, ◌++◌, length, reverse, refl, sym, ap, ◌∙◌, subst, arith}
+use Rattle.std.proofs.lemmas.Bool.Decides.{nat_tests}
+use Rattle.std.proofs.lemmas.List.{length-reverse, length-take-le}
+use Rattle.std.specs.Prelude.{slice_index, Option as Slot}
+use mathlib.Core.Option.{Option, some}
+use lib.ListN.{get_elem?}
+use Rattle.tagged_index.specs.declared.word.TheConstants.{NULL}
+use Rattle.bounded_model.specs.declared.history.Event.{Event}
+use Rattle.index_list.specs.Lists.{Leads, Holds}
+use Rattle.index_list.specs.Steps.{numbers}
+use Rattle.index_list.specs.Kinds.{in_order as slots_in_order}
+use Rattle.index_list.specs.Host.{Laws}
+use Rattle.index_list.proofs.Lists.{leads_one}
+use Rattle.machine.specs.Words.{Tagged, times, total, same}
+use Rattle.machine.specs.Words as core
+use Rattle.machine.specs.Chains.{first, last, chain_from, values_in}
+use Rattle.machine.proofs.Chains.{chain_leads, first_in, last_in}
+use Rattle.machine.proofs.Lists.{times_here, times_append}
+use Rattle.machine.proofs.Sums.{total_one}
+use Rattle.machine.proofs.Tests.{at_most_one, cases, same-self}
+use Rattle.stack_machine.specs.declared.lines.Direction.{Direction}
+use Rattle.stack_machine.specs.declared.lines.Direction.TheVariants.{Down, Up}
+use Rattle.stack_machine.specs.declared.lines.Taking.TheVariants.{Whole}
+use Rattle.stack_machine.specs.declared.lines.Line.{Line}
+use Rattle.stack_machine.specs.declared.lines.Line.TheVariants.{Idle, LoadFree, LoadFreeLink, TakeFree, LinkTaken, LoadTop, LinkToTop, SwapTop, LoadTopToRefuse, LoadTopToTake, LoadTopLink, TakeTop, TakeChain, LoadLinkToTurn, TurnLink, LoadLinkToFold, LoadFreeToGive, LinkToFree, GiveBack, LoadTopToClose, MarkTop, LoadTopToShut, ShutTop, LoadTopToLook}
+use Rattle.stack_machine.specs.Machine.{Memory, held, step, placed, wins_chain, at_take_chain, goes_on}
+use Rattle.stack_machine.specs.Answers.{shape}
+use Rattle.stack_machine.specs.Rule.{Lists as BothLists, IsFine, Turns}
+use Rattle.stack_machine.specs.Deeds.{in_order}
+use Rattle.stack_machine.proofs.Moves.{Kept, all_nodes}
+use Rattle.running.specs.Rule.{Rule}
+use Rattle.running.specs.Lists.{Listed, Hosts, Agrees, Ready, Moved, at_of, host}
+use Rattle.running.proofs.Hosting.{laws}
+use Rattle.stack_table.specs.Layout.{link_at}
+use Rattle.index_list.specs.declared.front.Front.{Front}
+use Rattle.index_list.specs.declared.front.Front.TheVariants.{First, Last}
+use Rattle.stack_table.specs.Core.{core}
+use Rattle.stack_table.specs.Lines.{direction, next, won_chain}
+use Rattle.stack_table.specs.Memories.{memory_of}
+use Rattle.stack_table.specs.Lists.{lists, list_step, front_of}
+use Rattle.stack_table.proofs.Slots.{holds_times, times_holds, distinct_times, in_order_twice, numbers_vacant, numbers_full}
+use Rattle.stack_table.proofs.Laws.{stack, idle_holds, first_empty}
+
+-- the machine's chains are the host's lists: no index is null
+leads_low : (link : ℕ → ℕ) (i : ℕ) (xs : List ℕ) (j : ℕ) → core.Leads link i xs j → ((x : ℕ) → 0 < times x xs → x < NULL) → Leads link i xs j
+leads_low link i [] j c low = c
+leads_low link i (x ∷ xs) j c low = (c.0, low x (let t = times_here x xs in omega arith), leads_low link (link x) xs j c.1 (λ z there. low z (omega arith)))
+
+stands_here : (link : ℕ → ℕ) (i : ℕ) (xs : List ℕ) → core.Stands link i xs → i ≢ NULL → 0 < times i xs
+stands_here link i [] s here = absurd (here s)
+stands_here link i (x ∷ xs) s here = subst (λ (z : ℕ). 0 < times i (z ∷ xs)) s.0 (let t = times_here i xs in omega arith)
+
+same_order : (d : Direction) (xs : List ℕ) → in_order d xs ≡ slots_in_order (front_of d) xs
+same_order Down xs = refl
+same_order Up xs = refl
+
+module _ {T : Type 0} where
+  agrees : (n limit : ℕ) (line : Line T) → Agrees (lists {T = T}) ((core T n limit).access line) (list_step line)
+  agrees n limit (Idle a) = tt
+  agrees n limit (LoadFree put) = refl
+  agrees n limit (LoadFreeLink put w) = refl
+  agrees n limit (TakeFree put w k) = refl
+  agrees n limit (LinkTaken put) = refl
+  agrees n limit (LoadTop put) = refl
+  agrees n limit (LinkToTop put w) = refl
+  agrees n limit (SwapTop put w) = refl
+  agrees n limit (LoadTopToRefuse values) = refl
+  agrees n limit (LoadTopToTake taking) = refl
+  agrees n limit (LoadTopLink w) = refl
+  agrees n limit (TakeTop w k) = refl
+  agrees n limit (TakeChain d w) = refl
+  agrees n limit (LoadLinkToTurn give above i) = refl
+  agrees n limit (TurnLink give above i k) = refl
+  agrees n limit (LoadLinkToFold give i) = refl
+  agrees n limit (LoadFreeToGive give) = refl
+  agrees n limit (LinkToFree give w) = refl
+  agrees n limit (GiveBack give w) = refl
+  agrees n limit LoadTopToClose = refl
+  agrees n limit (MarkTop w) = refl
+  agrees n limit LoadTopToShut = refl
+  agrees n limit (ShutTop w) = refl
+  agrees n limit LoadTopToLook = refl
+
+  whole : (d : Direction) (w : Tagged) (chain : List ℕ) (vs : List T) → held (at_take_chain d w chain vs) ≡ chain
+  whole Down w chain vs = refl
+  whole Up w chain vs = refl
+
+module _ {T : Type 0} (n limit : ℕ) (words : List ℕ) (homes : List (Option (Slot T))) (of : ℕ → Option ℕ) (lines : List (Line T)) (h : List (Event T)) (k : Kept T n limit (memory_of words homes) of lines h) where
+  abbrev m : Memory T
+  m = memory_of words homes
+
+  abbrev g : BothLists
+  g = k.lists
+
+  abbrev everywhere : ℕ → ℕ
+  everywhere i = times i g.frees + times i g.stack + total (λ (u : Line T). times i (held u)) lines
+
+  once_there : (i : ℕ) → everywhere i ≤ 1
+  once_there i = let o = k.good.linked.once i in let u = at_most_one i n in omega arith
+
+  below : (i : ℕ) → 0 < everywhere i → i < NULL
+  below i some_there =
+      let small = k.good.linked.small in
+      let b : i < n = cases (λ z. everywhere i ≡ z → i < n) (ltb i n) 1 0 (λ b e. grind (arith, nat_tests)) (λ b e. absurd (omega arith)) (k.good.linked.once i) in
+      omega arith
+
+  in_hand : (q : ℕ) (line : Line T) (i : ℕ) → get_elem? lines q ≡ some line → times i (held line) ≤ total (λ (u : Line T). times i (held u)) lines
+  in_hand q line i e = total_one (λ (u : Line T). times i (held u)) lines q line e
+
+  frees_stand : Listed (lists {T = T}) 0 words lines g.frees
+  frees_stand = record {
+    leads = leads_low m.link m.free.index g.frees NULL k.good.linked.free_stands (λ x has. below x (omega arith));
+    distinct = distinct_times g.frees (λ i. let o = once_there i in omega arith);
+    free = λ q line e i has mine. absurd (let o = once_there i in let a = holds_times g.frees i has in let b = holds_times (held line) i mine in let t = in_hand q line i e in omega arith);
+  }
+
+  stack_stands : Listed (lists {T = T}) 1 words lines g.stack
+  stack_stands = record {
+    leads = leads_low m.link m.top.index g.stack NULL k.good.linked.top_stands (λ x has. below x (omega arith));
+    distinct = distinct_times g.stack (λ i. let o = once_there i in omega arith);
+    free = λ q line e i has mine. absurd (let o = once_there i in let a = holds_times g.stack i has in let b = holds_times (held line) i mine in let t = in_hand q line i e in omega arith);
+  }
+
+  stands : (l : ℕ) → l < 2 → (xs : List ℕ) × Listed (lists {T = T}) l words lines xs
+  stands zero low = (g.frees, frees_stand)
+  stands (suc zero) low = (g.stack, stack_stands)
+  stands (suc (suc l)) low = absurd (omega arith)
+
+  module _ (q : ℕ) where
+    -- a chain in hand that was linked to the seen top
+    chain_on : (line : Line T) (chain : List ℕ) (x : ℕ) → get_elem? lines q ≡ some line → held line ≡ chain → 0 < length chain → core.IsChain m.link chain → m.link (last chain) ≡ x → Leads (λ j. slice_index words (link_at j)) (first chain) chain x
+    chain_on line chain x at mine some_node chained linked =
+        leads_low m.link (first chain) chain x (subst (λ (y : ℕ). core.Leads m.link (first chain) chain y) linked (chain_leads m.link chain some_node chained))
+        (λ j has. below j (let t = in_hand q line j at in let u : times j (held line) ≡ times j chain = ap (times j) mine in omega arith))
+
+    turned_here : (chain : List ℕ) (above i : ℕ) → Turns m.link chain above i → Holds chain i
+    turned_here chain above i t =
+        let here = stands_here m.link i t.left t.downwards t.here in
+        let both = times_append i (reverse t.turned) t.left in
+        let e : times i chain ≡ times i (reverse t.turned ++ t.left) = ap (times i) t.is in
+        times_holds chain i (omega arith)
+
+    ready : (line : Line T) → get_elem? lines q ≡ some line → IsFine limit m g line → Ready (lists {T = T}) words line (list_step line)
+    ready (Idle a) at f = tt
+    ready (LoadFree put) at f = tt
+    ready (LoadFreeLink put w) at f = tt
+    ready (TakeFree put w j) at f = λ hit. f.2 (ap (λ (y : Tagged). y.tag) (sym hit))
+    ready (LinkTaken put) at f = times_holds put.chain (first put.chain) (first_in put.chain f.some_node)
+    ready (LoadTop put) at f = tt
+    ready (LinkToTop put w) at f = times_holds put.chain (last put.chain) (last_in put.chain f.0.some_node)
+    ready (SwapTop put w) at f = chain_on (SwapTop put w) put.chain w.index at refl f.0.some_node f.0.chained f.3
+    ready (LoadTopToRefuse values) at f = tt
+    ready (LoadTopToTake taking) at f = tt
+    ready (LoadTopLink w) at f = tt
+    ready (TakeTop w j) at f = λ hit. f.2 (ap (λ (y : Tagged). y.tag) (sym hit))
+    ready (TakeChain d w) at f = tt
+    ready (LoadLinkToTurn give above i) at f = tt
+    ready (TurnLink give above i j) at f = turned_here give.chain above i f.0
+    ready (LoadLinkToFold give i) at f = tt
+    ready (LoadFreeToGive give) at f = tt
+    ready (LinkToFree give w) at f = times_holds give.chain (last give.chain) (last_in give.chain f.some_node)
+    ready (GiveBack give w) at f = chain_on (GiveBack give w) give.chain w.index at refl f.0.some_node f.0.chained f.1
+    ready LoadTopToClose at f = tt
+    ready (MarkTop w) at f = tt
+    ready LoadTopToShut at f = tt
+    ready (ShutTop w) at f = tt
+    ready LoadTopToLook at f = tt
+
+    -- the slots of the whole stack
+    whole_stack : (p : ℕ) (d : Direction) (w : Tagged) (zs : List (ℕ × Slot T)) → get_elem? lines q ≡ some (TakeChain d w) → m.top ≡ w
+        → (step (shape n limit) m p (TakeChain d w)).line ≡ next n limit (TakeChain d w) (slice_index words 16) zs
+        → (xs : List ℕ) → Leads (λ i. slice_index words (link_at i)) m.top.index xs NULL → numbers zs ≡ slots_in_order (front_of d) xs
+    whole_stack p d w zs at hit leads xs list =
+        let yes : same m.top w ≡ true = ap (λ (y : Tagged). same y w) hit ∙ same-self w in
+        let chain : List ℕ = chain_from n m.link w.index in
+        let values : List T = values_in m.home chain in
+        let lands : (step (shape n limit) m p (TakeChain d w)).line ≡ at_take_chain d w chain values = ap (λ (b : Bool). (cond b (wins_chain m p d w chain) (goes_on m (LoadTopToTake (Whole d)))).line) yes in
+        let follows : next n limit (TakeChain d w) (slice_index words 16) zs ≡ won_chain d w zs = ap (λ (b : Bool). cond b (won_chain d w zs) (LoadTopToTake (Whole d))) yes in
+        let same_chain : chain ≡ in_order d (numbers zs) = sym (whole d w chain values) ∙ ap held (sym lands ∙ leads ∙ follows) ∙ whole d w (in_order d (numbers zs)) _ in
+        let is_stack : chain ≡ g.stack = all_nodes q (TakeChain d w) w k.good at hit in
+        let one : g.stack ≡ xs = leads_one m.link m.top.index g.stack xs stack_stands.leads list in
+        sym (in_order_twice d (numbers zs)) ∙ ap (in_order d) (sym same_chain ∙ is_stack ∙ one) ∙ same_order d xs
+
+    moved : (p : ℕ) (line : Line T) (zs : List (ℕ × Slot T)) → get_elem? lines q ≡ some line → IsFine limit m g line → (core T n limit).Fits line zs → (step (shape n limit) m p line).line ≡ next n limit line (slice_index words (at_of (lists {T = T}) (list_step line))) zs → Moved (lists {T = T}) words line zs (list_step line)
+    moved p (Idle a) zs at f fits leads = tt
+    moved p (LoadFree put) zs at f fits leads = λ c. tt
+    moved p (LoadFreeLink put w) zs at f fits leads = λ c. tt
+    moved p (TakeFree put w j) zs at f fits leads = λ c. ap (λ (ys : List (ℕ × Slot T)). numbers ys) fits
+    moved p (LinkTaken put) zs at f fits leads = λ c. tt
+    moved p (LoadTop put) zs at f fits leads = λ c. tt
+    moved p (LinkToTop put w) zs at f fits leads = λ c. tt
+    moved p (SwapTop put w) zs at f fits leads =
+        let few = f.0.few in
+        λ c. ap (λ (ys : List (ℕ × Slot T)). numbers ys) fits ∙ numbers_full put.chain (reverse (placed put)) (omega (arith, length-reverse (placed put), length-take-le (length put.chain) put.values few))
+    moved p (LoadTopToRefuse values) zs at f fits leads = λ c. tt
+    moved p (LoadTopToTake taking) zs at f fits leads = λ c. tt
+    moved p (LoadTopLink w) zs at f fits leads = λ c. tt
+    moved p (TakeTop w j) zs at f fits leads = λ c. ap (λ (ys : List (ℕ × Slot T)). numbers ys) fits.1
+    moved p (TakeChain d w) zs at f fits leads = λ c hit. whole_stack p d w zs at hit leads
+    moved p (LoadLinkToTurn give above i) zs at f fits leads = λ c. tt
+    moved p (TurnLink give above i j) zs at f fits leads = λ c. tt
+    moved p (LoadLinkToFold give i) zs at f fits leads = λ c. tt
+    moved p (LoadFreeToGive give) zs at f fits leads = λ c. tt
+    moved p (LinkToFree give w) zs at f fits leads = λ c. tt
+    moved p (GiveBack give w) zs at f fits leads = λ c. ap (λ (ys : List (ℕ × Slot T)). numbers ys) fits ∙ numbers_vacant T give.chain
+    moved p LoadTopToClose zs at f fits leads = λ c. tt
+    moved p (MarkTop w) zs at f fits leads = λ c. tt
+    moved p LoadTopToShut zs at f fits leads = λ c. tt
+    moved p (ShutTop w) zs at f fits leads = λ c. tt
+    moved p LoadTopToLook zs at f fits leads = λ c. tt
+
+top_low : (first_list : Bool) (n : ℕ) → cond first_list 0 16 < 32 + n
+top_low true n = omega arith
+top_low false n = omega arith
+
+link_off : (first_list : Bool) (i : ℕ) → link_at i ≡ cond first_list 0 16 → ⊥
+link_off true i e = omega arith
+link_off false i e = omega arith
+
+hosts : (T : Type 0) (n limit : ℕ) → Hosts (stack T n limit) (lists {T = T}) 2
+hosts T n limit = record {
+  idle = λ l line e. idle_holds line e;
+  first = λ l o. (first_empty o).none_held;
+  apart = λ l i low e. link_off (eqb l 0) i e;
+  placed = λ l words homes low sane. let t = top_low (eqb l 0) n in let w = sane.words_are in omega arith;
+  access = agrees n limit;
+  stands = λ l words homes of lines h low sane k. stands n limit words homes of lines h k l low;
+  ready = λ words homes of lines h q line sane k at. ready n limit words homes of lines h k q line at (k.good.linked.fine q line at);
+  moved = λ words homes of lines h q p line zs sane k at is fits leads. moved n limit words homes of lines h k q p line zs at (k.good.linked.fine q line at) fits leads;
+}
+
+pub list_laws : (T : Type 0) (n limit : ℕ) → Laws (lists {T = T}).layout (host (stack T n limit) (lists {T = T})) (Rule (stack T n limit)) 2
+list_laws T n limit = laws (stack T n limit) (lists {T = T}) 2 (hosts T n limit)
+
+pub front_is : (front : Front) → front_of (direction front) ≡ front
+front_is First = refl
+front_is Last = refl

@@ -1,0 +1,158 @@
+-- An operation with a response has taken effect while it was pending; for near misses.
+use Rattle.std.proofs.Common.{◌≡◌, ◌⊎◌, ℕ, List, [], ◌∷◌, ◌++◌, refl, sym, ap, ◌∙◌, subst, ⊎_elim, inl, inr, append_assoc, arith}
+use Rattle.std.proofs.lemmas.Bool.Decides.{eqb_tells}
+use mathlib.Core.Option.{Option, some}
+use Rattle.bounded_model.specs.declared.history.Event.{Event}
+use Rattle.bounded_model.specs.Histories.{Among}
+use Rattle.bounded_model.proofs.Histories.{no_parts}
+use Rattle.step_core.specs.Linearizable.{Operation, Object, Entry, Invokes, Responds, Hand, Updates, Reads, Rests, Pending, TookEffect, without_points, events, stage, IsLinearization}
+use Rattle.step_core.proofs.Entries.{events-append, without_points-append}
+
+pub among_right : {B : Type 0} (b : B) (xs ys : List B) → Among b ys → Among b (xs ++ ys)
+among_right b [] ys there = there
+among_right b (x ∷ xs) ys there = inr (among_right b xs ys there)
+
+pub among_left : {B : Type 0} (b : B) (xs ys : List B) → Among b xs → Among b (xs ++ ys)
+among_left b [] ys there = absurd there
+among_left b (x ∷ xs) ys there = ⊎_elim (λ e. inl e) (λ t. inr (among_left b xs ys t)) there
+
+module _ {T C A : Type 0} (o : Object T C A) where
+  abbrev Course : Type 0
+  Course = List (Entry T C A)
+
+  still_there : (e : Event T) (m : Entry T C A) (course : Course) → Among e (events course) → Among e (events (m ∷ course))
+  still_there e (Invokes p call) course there = there
+  still_there e (Responds p answer) course there = there
+  still_there e (Hand e') course there = inr there
+  still_there e (Updates k e') course there = inr there
+  still_there e (Reads k) course there = there
+
+  -- an operation of pass p takes effect in a course, with this answer, while it is pending
+  pub record Placed (p : ℕ) (answer : Option A) (course : Course) : Type 0 where
+    pub k : Operation C A
+    pub given : some k.answer ≡ answer
+    pub newer : Course
+    pub older : Course
+    pub is : course ≡ newer ++ older
+    pub right : (o.reads k (events older)) ⊎ ((e : Event T) × (o.updates k e × Among e (events newer)))
+    pub waits : stage p older ≡ Pending k.call
+    pub run : IsLinearization o older
+
+  -- and so in a longer one
+  one_more : (m : Entry T C A) (course : Course) (p : ℕ) (answer : Option A) → Placed p answer course → Placed p answer (m ∷ course)
+  one_more m course p answer x = record {
+    k = x.k;
+    given = x.given;
+    newer = m ∷ x.newer;
+    older = x.older;
+    is = ap (λ (l : Course). m ∷ l) x.is;
+    right = ⊎_elim (λ says. inl says) (λ does. inr (does.0, (does.1.0, still_there does.0 m x.newer does.1.1))) x.right;
+    waits = x.waits;
+    run = x.run;
+  }
+
+  taken_place : (p : ℕ) (x : Option A) (course : Course) → IsLinearization o course → stage p course ≡ TookEffect x → Placed p x course
+  taken_place p x [] r is = cc
+  taken_place p x (Invokes q call ∷ course) r is = ⊎_elim
+      (λ t. let no : Pending call ≡ TookEffect x = rw t.0 at is in cc)
+      (λ t. let before : stage p course ≡ TookEffect x = rw t.0 at is in one_more (Invokes q call) course p x (taken_place p x course r.1 before))
+      (eqb_tells q p)
+  taken_place p x (Responds q y ∷ course) r is = ⊎_elim
+      (λ t. let no : Rests ≡ TookEffect x = rw t.0 at is in cc)
+      (λ t. let before : stage p course ≡ TookEffect x = rw t.0 at is in one_more (Responds q y) course p x (taken_place p x course r.1 before))
+      (eqb_tells q p)
+  taken_place p x (Hand e ∷ course) r is = one_more (Hand e) course p x (taken_place p x course r.2 is)
+  taken_place p x (Updates k e ∷ course) r is = ⊎_elim
+      (λ t. let same : TookEffect (some k.answer) ≡ TookEffect x = rw t.0 at is in
+      let given : some k.answer ≡ x = cc in
+      record { k = k; given = given; newer = Updates k e ∷ []; older = course; is = refl; right = inr (e, (r.1, inl refl)); waits = subst (λ (q : ℕ). stage q course ≡ Pending k.call) t.1 r.0; run = r.3 })
+      (λ t. let before : stage p course ≡ TookEffect x = rw t.0 at is in one_more (Updates k e) course p x (taken_place p x course r.3 before))
+      (eqb_tells k.by p)
+  taken_place p x (Reads k ∷ course) r is = ⊎_elim
+      (λ t. let same : TookEffect (some k.answer) ≡ TookEffect x = rw t.0 at is in
+      let given : some k.answer ≡ x = cc in
+      record { k = k; given = given; newer = Reads k ∷ []; older = course; is = refl; right = inl r.1; waits = subst (λ (q : ℕ). stage q course ≡ Pending k.call) t.1 r.0; run = r.2 })
+      (λ t. let before : stage p course ≡ TookEffect x = rw t.0 at is in one_more (Reads k) course p x (taken_place p x course r.2 before))
+      (eqb_tells k.by p)
+
+  -- a response is that of an operation that has taken effect
+  pub heard : (p : ℕ) (x : Option A) (course : Course) → IsLinearization o course → Among (Responds p x) (without_points course) → Placed p x course
+  heard p x [] r there = absurd there
+  heard p x (Invokes q call ∷ course) r there = ⊎_elim
+      (λ e. let no : Responds p x ≡ Invokes q call = e in cc)
+      (λ t. one_more (Invokes q call) course p x (heard p x course r.1 t))
+      there
+  heard p x (Responds q y ∷ course) r there = ⊎_elim
+      (λ e. let same : Responds p x ≡ Responds q y = e in
+      let by : q ≡ p = cc in
+      let answer : y ≡ x = cc in
+      one_more (Responds q y) course p x (taken_place p x course r.1 (subst (λ (i : ℕ). stage i course ≡ TookEffect x) by (r.0 ∙ ap (λ (z : Option A). TookEffect z) answer))))
+      (λ t. one_more (Responds q y) course p x (heard p x course r.1 t))
+      there
+  heard p x (Hand e ∷ course) r there = one_more (Hand e) course p x (heard p x course r.2 there)
+  heard p x (Updates k e ∷ course) r there = one_more (Updates k e) course p x (heard p x course r.3 there)
+  heard p x (Reads k ∷ course) r there = one_more (Reads k) course p x (heard p x course r.2 there)
+
+  -- a pending operation has its invocation
+  record Asked (p : ℕ) (call : C) (course : Course) : Type 0 where
+    since : Course
+    before : Course
+    is : course ≡ since ++ Invokes p call ∷ before
+    run : IsLinearization o before
+
+  asked_more : (m : Entry T C A) (course : Course) (p : ℕ) (call : C) → Asked p call course → Asked p call (m ∷ course)
+  asked_more m course p call x = record { since = m ∷ x.since; before = x.before; is = ap (λ (l : Course). m ∷ l) x.is; run = x.run }
+
+  asked : (p : ℕ) (call : C) (course : Course) → IsLinearization o course → stage p course ≡ Pending call → Asked p call course
+  asked p call [] r is = cc
+  asked p call (Invokes q c ∷ course) r is = ⊎_elim
+      (λ t. let same : Pending c ≡ Pending call = rw t.0 at is in
+      let call_is : c ≡ call = cc in
+      let entry : Invokes q c ≡ Invokes p call = cc in
+      record { since = []; before = course; is = ap (λ (m : Entry T C A). m ∷ course) entry; run = r.1 })
+      (λ t. let before : stage p course ≡ Pending call = rw t.0 at is in asked_more (Invokes q c) course p call (asked p call course r.1 before))
+      (eqb_tells q p)
+  asked p call (Responds q y ∷ course) r is = ⊎_elim
+      (λ t. let no : Rests ≡ Pending call = rw t.0 at is in cc)
+      (λ t. let before : stage p course ≡ Pending call = rw t.0 at is in asked_more (Responds q y) course p call (asked p call course r.1 before))
+      (eqb_tells q p)
+  asked p call (Hand e ∷ course) r is = asked_more (Hand e) course p call (asked p call course r.2 is)
+  asked p call (Updates k e ∷ course) r is = ⊎_elim
+      (λ t. let no : TookEffect (some k.answer) ≡ Pending call = rw t.0 at is in cc)
+      (λ t. let before : stage p course ≡ Pending call = rw t.0 at is in asked_more (Updates k e) course p call (asked p call course r.3 before))
+      (eqb_tells k.by p)
+  asked p call (Reads k ∷ course) r is = ⊎_elim
+      (λ t. let no : TookEffect (some k.answer) ≡ Pending call = rw t.0 at is in cc)
+      (λ t. let before : stage p course ≡ Pending call = rw t.0 at is in asked_more (Reads k) course p call (asked p call course r.2 before))
+      (eqb_tells k.by p)
+
+  -- Pass 1 has completed an operation, and then pass 0: so that of pass 1 takes effect in the history at which that of
+  -- pass 0 does
+  pub record InOrder (x y : Option A) (course : Course) : Type 0 where
+    pub later : Placed 0 x course
+    pub before : Course
+    pub earlier : Placed 1 y before
+    pub since : List (Event T)
+    pub is : events later.older ≡ since ++ events before
+
+  pub in_order : (x y : Option A) (c d : C) (course : Course) → IsLinearization o course → without_points course ≡ Responds 0 x ∷ Invokes 0 c ∷ Responds 1 y ∷ Invokes 1 d ∷ [] → InOrder x y course
+  in_order x y c d course r is =
+      let later = heard 0 x course r (subst (Among (Responds 0 x)) (sym is) (inl refl)) in
+      let begin = asked 0 later.k.call later.older later.run later.waits in
+      let parts : without_points later.newer ++ (without_points begin.since ++ Invokes 0 later.k.call ∷ without_points begin.before) ≡ Responds 0 x ∷ Invokes 0 c ∷ Responds 1 y ∷ Invokes 1 d ∷ [] =
+      ap (λ (l : Course). without_points later.newer ++ l) (sym (ap without_points begin.is ∙ without_points-append begin.since (Invokes 0 later.k.call ∷ begin.before))) ∙ sym (without_points-append later.newer later.older) ∙ sym (ap without_points later.is) ∙ is in
+      let rest : without_points begin.before ≡ Responds 1 y ∷ Invokes 1 d ∷ [] = cut (without_points later.newer ++ without_points begin.since) later.k.call (without_points begin.before) (append_assoc (without_points later.newer) (without_points begin.since) (Invokes 0 later.k.call ∷ without_points begin.before) ∙ parts) in
+      record {
+        later = later;
+        before = begin.before;
+        earlier = heard 1 y begin.before begin.run (subst (Among (Responds 1 y)) (sym rest) (inl refl));
+        since = events begin.since;
+        is = ap events begin.is ∙ events-append begin.since (Invokes 0 later.k.call ∷ begin.before);
+      }
+    where
+      cut : (xs : Course) (call : C) (zs : Course) → xs ++ Invokes 0 call ∷ zs ≡ Responds 0 x ∷ Invokes 0 c ∷ Responds 1 y ∷ Invokes 1 d ∷ [] → zs ≡ Responds 1 y ∷ Invokes 1 d ∷ []
+      cut [] call zs e = cc
+      cut (a ∷ []) call zs e = cc
+      cut (a ∷ b ∷ []) call zs e = cc
+      cut (a ∷ b ∷ f ∷ []) call zs e = let zero_is : ◌≡◌ {A = ℕ} 0 1 = cc in absurd (omega (arith, zero_is))
+      cut (a ∷ b ∷ f ∷ g ∷ more) call zs e = let none : more ++ Invokes 0 call ∷ zs ≡ [] = cc in let no : Invokes 0 call ∷ zs ≡ [] = (no_parts more (Invokes 0 call ∷ zs) none).1 in cc

@@ -1,0 +1,131 @@
+-- The queue's machine is linearizable.
+use Rattle.std.proofs.Common.{◌≡◌, ◌⊎◌, ℕ, ◌<◌, true, false, List, [], ◌∷◌, refl, sym, ap, ◌∙◌, subst, ⊎_elim, inl, inr, Some, None, Ok, Err}
+use Rattle.std.proofs.lemmas.Bool.{false≢true}
+use mathlib.Core.Option.{some}
+use Rattle.tagged_index.specs.declared.word.TheConstants.{NULL}
+use Rattle.bounded_model.specs.declared.answers.Word.TheVariants.{Cells, Next}
+use Rattle.bounded_model.specs.declared.answers.PutRefused.TheVariants.{Full, Closed, Spent}
+use Rattle.bounded_model.specs.declared.answers.TakeRefused.TheVariants.{Empty, Closed as TakeClosed, Shut as TakeShut}
+use Rattle.bounded_model.specs.declared.history.Event.{Event}
+use Rattle.bounded_model.specs.declared.history.Event.TheVariants.{Put, Take, Free, Close, Shut}
+use Rattle.bounded_model.specs.Histories.{own}
+use Rattle.bounded_model.specs.Justified.{Sometime}
+use Rattle.machine.specs.Schedule.{Act}
+use Rattle.queue_machine.specs.declared.lines.Seeking.{Seeking}
+use Rattle.queue_machine.specs.declared.lines.Seeking.TheVariants.{ToLink, ToRefuse, ToClose}
+use Rattle.queue_machine.specs.declared.lines.Call.{Call}
+use Rattle.queue_machine.specs.declared.lines.Call.TheVariants.{Put as CallPut, Take as CallTake, Close as CallClose, Shut as CallShut, Look as CallLook}
+use Rattle.queue_machine.specs.declared.lines.Answer.{Answer}
+use Rattle.queue_machine.specs.declared.lines.Answer.TheVariants.{Put as AnswerPut, Take as AnswerTake, Close as AnswerClose, Shut as AnswerShut, Look as AnswerLook}
+use Rattle.queue_machine.specs.declared.lines.Line.{Line}
+use Rattle.queue_machine.specs.declared.lines.Line.TheVariants.{Idle, LoadTail, LoadTailNext, CheckTail, SwingTail, SwingToLinked, LoadNodesToGive, LinkToNodes, GiveNode, LoadCellsToGive, LinkToCells, GiveCell}
+use Rattle.queue_machine.specs.Machine.{is_idle, starts, queue}
+use Rattle.queue_machine.specs.Answers.{shape, IsRight}
+use Rattle.queue_machine.specs.Deeds.{Makes as HasMadeAll, HasMade, HasSought}
+use Rattle.step_core.specs.Linearizable.{Linearizable}
+use Rattle.step_core.specs.queue.Object.{Makes, IsSaid, object, answer}
+use Rattle.step_core.proofs.Entries.{visible}
+use Rattle.step_core.proofs.Points.{Point, Ended, Speaks, linearizable}
+use Rattle.step_core.proofs.queue.Run.{Rule, Story, queue_told, run_stays}
+
+module _ {T : Type 0} (n limit : ℕ) where
+  -- a justified answer is one that the object gives, with what else it says
+  module _ (b seen : List (Event T)) where
+    abbrev Given : ℕ → Call T → Answer T → List (Event T) → Type 0
+    Given p c a mine =
+        ((visible mine ≡ []) × (IsRight n limit b seen a → Sometime b seen (λ h. IsSaid n limit h c a)))
+        ⊎ ((e : Event T) × (visible mine ≡ e ∷ []) × Makes p c a e)
+
+    with : {X : Type 0} {P : List (Event T) → Type 0} → X → Sometime b seen P → Sometime b seen (λ h. X × P h)
+    with w s = record { at = s.at; since = s.since; until = s.until; holds = (w, s.holds) }
+
+    given : (p : ℕ) (c : Call T) (a : Answer T) (mine : List (Event T)) → HasMadeAll p c a mine → Given p c a mine
+    given p (CallPut v) (AnswerPut (Ok k)) mine made = inr (Put p (v ∷ []) k, ap visible made, refl)
+    given p (CallPut v) (AnswerPut (Err (Full u))) mine made = inl (ap visible made.1, λ r. with made.0 r)
+    given p (CallPut v) (AnswerPut (Err (Closed u))) mine made = inl (⊎_elim (λ e. ap visible e) (λ e. ap visible e) made.1, λ r. with made.0 r)
+    given p (CallPut v) (AnswerPut (Err (Spent u Cells t))) mine made = inl (ap visible made.1, λ r. with made.0 r)
+    given p (CallPut v) (AnswerPut (Err (Spent u (Next j) t))) mine made = inl (ap visible made.1, λ r. with made.0 r)
+    given p CallTake (AnswerTake (Ok r)) mine made = inr (Take p r.0 r.1, ap visible made, refl)
+    given p CallTake (AnswerTake (Err Empty)) mine made = inl (ap visible made, λ r. r)
+    given p CallTake (AnswerTake (Err TakeClosed)) mine made = inl (ap visible made, λ r. r)
+    given p CallTake (AnswerTake (Err TakeShut)) mine made = inl (ap visible made, λ r. r)
+    given p CallClose (AnswerClose true) mine made = inr (Close p, ap visible made, refl)
+    given p CallClose (AnswerClose false) mine made = inl (ap visible made, λ r. r)
+    given p CallShut (AnswerShut true) mine made = inr (Shut p, ap visible made, refl)
+    given p CallShut (AnswerShut false) mine made = inl (ap visible made, λ r. r)
+    given p CallLook (AnswerLook empty) mine made = inl (ap visible made, λ r. r)
+    given p c a mine made = absurd made
+
+  -- what a line has done
+  freeing : (p : ℕ) (c : Call T) (a : Answer T) (mine : List (Event T)) → HasMadeAll p c a (Free p 1 ∷ mine) → Point (object n limit) p c mine
+  freeing p c a mine made = ⊎_elim (λ r. inl r.0) (λ r. inr (a, r.0, r.1, r.2)) (given [] [] p c a (Free p 1 ∷ mine) made)
+
+  sought : (p : ℕ) (c : Call T) (s : Seeking T) (mine : List (Event T)) → HasSought p c s mine → Point (object n limit) p c mine
+  sought p c (ToLink link) mine made = inl (ap visible made.1)
+  sought p c (ToRefuse v) mine made = inl (ap visible made.1)
+  sought p c ToClose mine made = inl (ap visible made.1)
+
+  point : (p : ℕ) (c : Call T) (l : Line T) (mine : List (Event T)) → HasMade p c l mine → is_idle l ≡ false → Point (object n limit) p c mine
+  point p c (Idle a) mine made busy = absurd (false≢true (sym busy))
+  point p c (LoadTail s) mine made busy = sought p c s mine made
+  point p c (LoadTailNext s w) mine made busy = sought p c s mine made
+  point p c (CheckTail s w y) mine made busy = sought p c s mine made
+  point p c (SwingTail s w y) mine made busy = sought p c s mine made
+  point p c (SwingToLinked v w y) mine made busy = inr (AnswerPut (Ok w.tag), Put p (v ∷ []) w.tag, ap visible made.1, subst (λ (k : Call T). Makes p k (AnswerPut (Ok w.tag)) (Put p (v ∷ []) w.tag)) (sym made.0) refl)
+  point p c (LoadNodesToGive give) mine made busy = freeing p c give.answer mine made
+  point p c (LinkToNodes give w) mine made busy = freeing p c give.answer mine made
+  point p c (GiveNode give w) mine made busy = freeing p c give.answer mine made
+  point p c (LoadCellsToGive give) mine made busy = freeing p c give.answer mine made
+  point p c (LinkToCells give w) mine made busy = freeing p c give.answer mine made
+  point p c (GiveCell give w) mine made busy = freeing p c give.answer mine made
+  point p c l mine made busy = inl (ap visible made.1)
+
+  one_answer : (p : ℕ) (c : Call T) (a a' : Answer T) (e : Event T) → Makes p c a e → Makes p c a' e → a ≡ a'
+  one_answer p (CallPut v) (AnswerPut (Ok k)) (AnswerPut (Ok k')) e m m' = let same : Put p (v ∷ []) k ≡ Put p (v ∷ []) k' = sym m ∙ m' in cc
+  one_answer p (CallPut v) (AnswerPut (Ok k)) a' e m m' = absurd m'
+  one_answer p CallTake (AnswerTake (Ok r)) (AnswerTake (Ok r')) e m m' =
+      let same : Take p r.0 r.1 ≡ Take p r'.0 r'.1 = sym m ∙ m' in
+      let value : r.0 ≡ r'.0 = cc in
+      let number : r.1 ≡ r'.1 = cc in
+      ap (λ (v : T). AnswerTake (Ok (v, r.1))) value ∙ ap (λ (k : ℕ). AnswerTake (Ok (r'.0, k))) number
+  one_answer p CallTake (AnswerTake (Ok r)) a' e m m' = absurd m'
+  one_answer p CallClose (AnswerClose true) (AnswerClose true) e m m' = refl
+  one_answer p CallClose (AnswerClose true) a' e m m' = absurd m'
+  one_answer p CallShut (AnswerShut true) (AnswerShut true) e m m' = refl
+  one_answer p CallShut (AnswerShut true) a' e m m' = absurd m'
+  one_answer p c a a' e m m' = absurd m
+
+  ended : (p : ℕ) (c : Call T) (l : Line T) (b seen : List (Event T)) → Story n limit p (some c) l b seen → is_idle l ≡ true → Ended (object n limit) p c (answer l) b seen
+  ended p c (Idle None) b seen story idle = absurd story.1.made
+  ended p c (Idle (Some a)) b seen story idle =
+      let d = story.1 in
+      record {
+        a = a;
+        heard = refl;
+        between = d.between;
+        is = d.is;
+        point = ⊎_elim (λ r. inl (r.0, r.1 story.0)) (λ r. inr r) (given b seen p c a (own p d.between) d.made);
+      }
+  ended p c l b seen story idle = absurd (false≢true idle)
+
+  starts_busy : (call : Call T) → is_idle (starts call) ≡ false
+  starts_busy (CallPut v) = refl
+  starts_busy CallTake = refl
+  starts_busy CallClose = refl
+  starts_busy CallShut = refl
+  starts_busy CallLook = refl
+
+  queue_speaks : Speaks {T = T} (queue (shape n limit)) answer (object n limit) (Rule n limit) (Story n limit)
+  queue_speaks = record {
+    legal = λ m lines h k. k.good.told.legal;
+    rest_idle = refl;
+    starts_busy = λ call l. starts_busy call;
+    unbegun = λ p l b seen story. ap is_idle story.1;
+    going = λ p c l b seen story busy. let d = story.1 in record { between = d.between; is = d.is; point = point p c l (own p d.between) d.made busy };
+    ended = ended;
+    one_answer = one_answer;
+  }
+
+  pub queue_linearizable : (passes : ℕ) (schedule : List (ℕ × Act (Call T))) → 0 < n → n < NULL → 0 < limit → Linearizable (queue (shape n limit)) answer (object n limit) passes schedule
+  queue_linearizable passes schedule some_cell small some_tags =
+      linearizable {T = T} (queue (shape n limit)) answer (object n limit) (Rule n limit) (Story n limit) (queue_told n limit) queue_speaks passes schedule (run_stays n limit passes [] some_cell small some_tags)

@@ -1,0 +1,175 @@
+-- The stack's machine is linearizable.
+use Rattle.std.proofs.Common.{◌≡◌, ◌⊎◌, ℕ, zero, suc, ◌<◌, ◌≤◌, true, false, List, [], ◌∷◌, ◌++◌, length, refl, sym, ap, ◌∙◌, ⊎_elim, inl, inr, Some, None, Ok, Err}
+use Rattle.std.proofs.lemmas.Bool.{false≢true}
+use Rattle.std.proofs.lemmas.List.{append_cancel_left}
+use mathlib.Core.Option.{some}
+use Rattle.tagged_index.specs.declared.word.TheConstants.{NULL}
+use Rattle.bounded_model.specs.declared.answers.Word.TheVariants.{Free as FreeWord, Top as TopWord}
+use Rattle.bounded_model.specs.declared.answers.PutRefused.{PutRefused}
+use Rattle.bounded_model.specs.declared.answers.PutRefused.TheVariants.{Full, Closed, Spent}
+use Rattle.bounded_model.specs.declared.answers.TakeRefused.{TakeRefused}
+use Rattle.bounded_model.specs.declared.answers.TakeRefused.TheVariants.{Empty, Closed as TakeClosed, Shut as TakeShut, Spent as TakeSpent}
+use Rattle.bounded_model.specs.declared.history.Event.{Event}
+use Rattle.bounded_model.specs.declared.history.Event.TheVariants.{Put, Take, TakeAll, Free, Close, Shut}
+use Rattle.bounded_model.specs.Histories.{own}
+use Rattle.bounded_model.specs.Justified.{Sometime}
+use Rattle.bounded_model.specs.Laws.{holds_of, gave_back}
+use Rattle.machine.specs.Schedule.{Act}
+use Rattle.stack_machine.specs.declared.lines.Putting.{Putting}
+use Rattle.stack_machine.specs.declared.lines.Giving.{Giving}
+use Rattle.stack_machine.specs.declared.lines.Taking.TheVariants.{One, Whole}
+use Rattle.stack_machine.specs.declared.lines.Call.{Call}
+use Rattle.stack_machine.specs.declared.lines.Call.TheVariants.{Put as CallPut, Take as CallTake, Close as CallClose, Shut as CallShut, Look as CallLook}
+use Rattle.stack_machine.specs.declared.lines.Answer.{Answer}
+use Rattle.stack_machine.specs.declared.lines.Answer.TheVariants.{Put as AnswerPut, Take as AnswerTake, Fold as AnswerFold, Close as AnswerClose, Shut as AnswerShut, Look as AnswerLook}
+use Rattle.stack_machine.specs.declared.lines.Line.{Line}
+use Rattle.stack_machine.specs.declared.lines.Line.TheVariants.{Idle, LoadFree, LoadFreeLink, TakeFree, LinkTaken, LoadTop, LinkToTop, SwapTop, LoadLinkToTurn, TurnLink, LoadLinkToFold, LoadFreeToGive, LinkToFree, GiveBack}
+use Rattle.stack_machine.specs.Machine.{is_idle, starts, stack}
+use Rattle.stack_machine.specs.Answers.{shape, IsRight}
+use Rattle.stack_machine.specs.Deeds.{Makes as HasMadeAll, MakesRefusal, MakesNothing, BackedOut, in_order, HasHeld, HasMade}
+use Rattle.step_core.specs.Linearizable.{Linearizable}
+use Rattle.step_core.specs.stack.Object.{Makes, IsSaid, object, answer}
+use Rattle.step_core.proofs.Entries.{visible}
+use Rattle.step_core.proofs.Points.{Point, Ended, Speaks, linearizable}
+use Rattle.step_core.proofs.stack.Run.{Rule, Story, stack_told, run_stays}
+
+module _ {T : Type 0} where
+  holds_hidden : (p k : ℕ) → visible (holds_of {T = T} p k) ≡ []
+  holds_hidden p zero = refl
+  holds_hidden p (suc k) = holds_hidden p k
+
+  back_hidden : (p k : ℕ) → visible (gave_back {T = T} p k) ≡ []
+  back_hidden p zero = refl
+  back_hidden p (suc k) = holds_hidden p k
+
+  backed_out : (p most : ℕ) (mine : List (Event T)) → BackedOut p most mine → visible mine ≡ []
+  backed_out p most mine b = ap visible b.is ∙ back_hidden p b.nodes
+
+  refusal_hidden : (p : ℕ) (why : PutRefused (List T)) (mine : List (Event T)) → MakesRefusal p why mine → visible mine ≡ []
+  refusal_hidden p (Full values) mine made = ap visible made
+  refusal_hidden p (Closed values) mine made = backed_out p (length values) mine made
+  refusal_hidden p (Spent values FreeWord t) mine made = ap visible made
+  refusal_hidden p (Spent values TopWord t) mine made = backed_out p (length values) mine made
+  refusal_hidden p (Spent values word t) mine made = absurd made
+
+  nothing_hidden : (p : ℕ) (why : TakeRefused) (mine : List (Event T)) → MakesNothing {T = T} p why mine → visible mine ≡ []
+  nothing_hidden p Empty mine made = ap visible made
+  nothing_hidden p TakeClosed mine made = ap visible made
+  nothing_hidden p TakeShut mine made = ap visible made
+  nothing_hidden p (TakeSpent TopWord t) mine made = ap visible made
+  nothing_hidden p (TakeSpent word t) mine made = absurd made
+
+module _ {T : Type 0} (n limit : ℕ) where
+  -- a justified answer is one that the object gives, with what else it says
+  module _ (b seen : List (Event T)) where
+    abbrev Given : ℕ → Call T → Answer T → List (Event T) → Type 0
+    Given p c a mine =
+        ((visible mine ≡ []) × (IsRight n limit b seen a → Sometime b seen (λ h. IsSaid n limit h c a)))
+        ⊎ ((e : Event T) × (visible mine ≡ e ∷ []) × Makes p c a e)
+
+    with : {X : Type 0} {P : List (Event T) → Type 0} → X → Sometime b seen P → Sometime b seen (λ h. X × P h)
+    with w s = record { at = s.at; since = s.since; until = s.until; holds = (w, s.holds) }
+
+    given : (p : ℕ) (c : Call T) (a : Answer T) (mine : List (Event T)) → HasMadeAll p c a mine → Given p c a mine
+    given p (CallPut v vs) (AnswerPut (Ok r)) mine made = inr (
+      Put p made.values r.0,
+      ap visible made.is ∙ ap (λ (l : List (Event T)). Put p made.values r.0 ∷ l) (holds_hidden p (length made.values)),
+      record { values = made.values; all = made.all; is = refl },
+    )
+    given p (CallPut v vs) (AnswerPut (Err why)) mine made = inl (refusal_hidden p why mine made.1, λ r. with made.0 r)
+    given p (CallTake One) (AnswerTake (Ok r)) mine made = inr (Take p r.0 r.1, ap visible made, refl)
+    given p (CallTake One) (AnswerTake (Err why)) mine made = inl (nothing_hidden p why mine made, λ r. r)
+    given p (CallTake (Whole d)) (AnswerFold (Ok r)) mine made = inr (TakeAll p made.values r.1, ap visible made.is, record { values = made.values; is = refl; order = made.order })
+    given p (CallTake (Whole d)) (AnswerFold (Err why)) mine made = inl (nothing_hidden p why mine made, λ r. r)
+    given p CallClose (AnswerClose true) mine made = inr (Close p, ap visible made, refl)
+    given p CallClose (AnswerClose false) mine made = inl (ap visible made, λ r. r)
+    given p CallShut (AnswerShut true) mine made = inr (Shut p, ap visible made, refl)
+    given p CallShut (AnswerShut false) mine made = inl (ap visible made, λ r. r)
+    given p CallLook (AnswerLook empty) mine made = inl (ap visible made, λ r. r)
+    given p c a mine made = absurd made
+
+  -- what a line has done
+  giving : (p : ℕ) (c : Call T) (give : Giving T) (mine : List (Event T)) → HasMadeAll p c give.answer (Free p (length give.chain) ∷ mine) → Point (object n limit) p c mine
+  giving p c give mine made = ⊎_elim (λ r. inl r.0) (λ r. inr (give.answer, r.0, r.1, r.2)) (given [] [] p c give.answer (Free p (length give.chain) ∷ mine) made)
+
+  held : (p : ℕ) (c : Call T) (put : Putting T) (mine : List (Event T)) → HasHeld p c put mine → Point (object n limit) p c mine
+  held p c put mine made = inl (ap visible made.1 ∙ holds_hidden p (length put.chain))
+
+  point : (p : ℕ) (c : Call T) (l : Line T) (mine : List (Event T)) → HasMade p c l mine → is_idle l ≡ false → Point (object n limit) p c mine
+  point p c (Idle a) mine made busy = absurd (false≢true (sym busy))
+  point p c (LoadFree put) mine made busy = held p c put mine made
+  point p c (LoadFreeLink put w) mine made busy = held p c put mine made
+  point p c (TakeFree put w k) mine made busy = held p c put mine made
+  point p c (LinkTaken put) mine made busy = held p c put mine made
+  point p c (LoadTop put) mine made busy = held p c put mine made
+  point p c (LinkToTop put w) mine made busy = held p c put mine made
+  point p c (SwapTop put w) mine made busy = held p c put mine made
+  point p c (LoadLinkToTurn give above i) mine made busy = giving p c give mine made
+  point p c (TurnLink give above i k) mine made busy = giving p c give mine made
+  point p c (LoadLinkToFold give i) mine made busy = giving p c give mine made
+  point p c (LoadFreeToGive give) mine made busy = giving p c give mine made
+  point p c (LinkToFree give w) mine made busy = giving p c give mine made
+  point p c (GiveBack give w) mine made busy = giving p c give mine made
+  point p c l mine made busy = inl (ap visible made.1)
+
+  one_answer : (p : ℕ) (c : Call T) (a a' : Answer T) (e : Event T) → Makes p c a e → Makes p c a' e → a ≡ a'
+  one_answer p (CallPut v vs) (AnswerPut (Ok r)) (AnswerPut (Ok r')) e m m' =
+      let same : Put p m.values r.0 ≡ Put p m'.values r'.0 = sym m.is ∙ m'.is in
+      let values : m.values ≡ m'.values = cc in
+      let number : r.0 ≡ r'.0 = cc in
+      let left : r.1 ≡ r'.1 = append_cancel_left m.values r.1 r'.1 (m.all ∙ sym m'.all ∙ ap (λ (l : List T). l ++ r'.1) (sym values)) in
+      ap (λ (k : ℕ). AnswerPut (Ok (k, r.1))) number ∙ ap (λ (l : List T). AnswerPut (Ok (r'.0, l))) left
+  one_answer p (CallPut v vs) (AnswerPut (Ok r)) a' e m m' = absurd m'
+  one_answer p (CallTake One) (AnswerTake (Ok r)) (AnswerTake (Ok r')) e m m' =
+      let same : Take p r.0 r.1 ≡ Take p r'.0 r'.1 = sym m ∙ m' in
+      let value : r.0 ≡ r'.0 = cc in
+      let number : r.1 ≡ r'.1 = cc in
+      ap (λ (v : T). AnswerTake (Ok (v, r.1))) value ∙ ap (λ (k : ℕ). AnswerTake (Ok (r'.0, k))) number
+  one_answer p (CallTake One) (AnswerTake (Ok r)) a' e m m' = absurd m'
+  one_answer p (CallTake (Whole d)) (AnswerFold (Ok r)) (AnswerFold (Ok r')) e m m' =
+      let same : TakeAll p m.values r.1 ≡ TakeAll p m'.values r'.1 = sym m.is ∙ m'.is in
+      let values : m.values ≡ m'.values = cc in
+      let number : r.1 ≡ r'.1 = cc in
+      let folded : r.0 ≡ r'.0 = m.order ∙ ap (in_order d) values ∙ sym m'.order in
+      ap (λ (l : List T). AnswerFold (Ok (l, r.1))) folded ∙ ap (λ (k : ℕ). AnswerFold (Ok (r'.0, k))) number
+  one_answer p (CallTake (Whole d)) (AnswerFold (Ok r)) a' e m m' = absurd m'
+  one_answer p CallClose (AnswerClose true) (AnswerClose true) e m m' = refl
+  one_answer p CallClose (AnswerClose true) a' e m m' = absurd m'
+  one_answer p CallShut (AnswerShut true) (AnswerShut true) e m m' = refl
+  one_answer p CallShut (AnswerShut true) a' e m m' = absurd m'
+  one_answer p c a a' e m m' = absurd m
+
+  ended : (p : ℕ) (c : Call T) (l : Line T) (b seen : List (Event T)) → Story n limit p (some c) l b seen → is_idle l ≡ true → Ended (object n limit) p c (answer l) b seen
+  ended p c (Idle None) b seen story idle = absurd story.1.made
+  ended p c (Idle (Some a)) b seen story idle =
+      let d = story.1 in
+      record {
+        a = a;
+        heard = refl;
+        between = d.between;
+        is = d.is;
+        point = ⊎_elim (λ r. inl (r.0, r.1 story.0)) (λ r. inr r) (given b seen p c a (own p d.between) d.made);
+      }
+  ended p c l b seen story idle = absurd (false≢true idle)
+
+  starts_busy : (call : Call T) → is_idle (starts call) ≡ false
+  starts_busy (CallPut v vs) = refl
+  starts_busy (CallTake taking) = refl
+  starts_busy CallClose = refl
+  starts_busy CallShut = refl
+  starts_busy CallLook = refl
+
+  stack_speaks : Speaks {T = T} (stack (shape n limit)) answer (object n limit) (Rule n limit) (Story n limit)
+  stack_speaks = record {
+    legal = λ m lines h k. k.good.told.legal;
+    rest_idle = refl;
+    starts_busy = λ call l. starts_busy call;
+    unbegun = λ p l b seen story. ap is_idle story.1;
+    going = λ p c l b seen story busy. let d = story.1 in record { between = d.between; is = d.is; point = point p c l (own p d.between) d.made busy };
+    ended = ended;
+    one_answer = one_answer;
+  }
+
+  pub stack_linearizable : (passes : ℕ) (schedule : List (ℕ × Act (Call T))) → 0 < n → n ≤ NULL → Linearizable (stack (shape n limit)) answer (object n limit) passes schedule
+  stack_linearizable passes schedule some_node small =
+      linearizable {T = T} (stack (shape n limit)) answer (object n limit) (Rule n limit) (Story n limit) (stack_told n limit) stack_speaks passes schedule (run_stays n limit passes [] some_node small)

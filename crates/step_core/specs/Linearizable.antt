@@ -1,0 +1,144 @@
+-- Linearizability (Herlihy and Wing, Linearizability: A Correctness Condition for Concurrent Objects, 1990) of a
+-- machine with a bounded container's events. Their history, a sequence of invocations and responses, is
+-- `concurrent_history` here; "history" alone is the list of the container's events. A history is linearizable if
+-- each operation takes effect at one point between its invocation and its response, and the operations in the
+-- order of their points are a legal sequential history of the object. Pending operations may have taken effect
+-- (their extension of the history) or not.
+use Rattle.std.specs.Prelude.{◌≡◌, ◌⊎◌, ℕ, ◌==◌, if◌then◌else◌, List, [], ◌∷◌, ◌++◌}
+use mathlib.Core.Option.{Option, none, some}
+use lib.ListN.{get_elem?}
+use Rattle.bounded_model.specs.declared.history.Event.{Event}
+use Rattle.bounded_model.specs.declared.history.Event.TheVariants.{Hold, Free}
+use Rattle.bounded_model.specs.Machine.{Shape, state, Needs}
+use Rattle.machine.specs.Schedule.{Machine, Pass, State, Act, Begin, Step, Schedule, next, run, start}
+
+-- an operation: the pass that invokes it, the call, and its answer
+pub record Operation (C A : Type 0) : Type 0 where
+  pub by : ℕ
+  pub call : C
+  pub answer : A
+
+-- A sequential specification: the bounded machine of this shape, with its hands, and which answers are right. An
+-- operation either updates the object, by one event, or reads it: then it changes nothing, and its answer is right
+-- in the state that the history leads to. Cells in hand count: a put may be refused as full while a pending
+-- operation has the last cell. Hands say no more than that: without them the operations are a run of one sequential
+-- list (`calls_alone_are_a_list` of bounded_model)
+pub record Object (T C A : Type 0) : Type 1 where
+  pub shape : Shape
+  pub updates : Operation C A → Event T → Type 0
+  pub reads : Operation C A → List (Event T) → Type 0
+
+-- What stands in a history with linearization points: an invocation of pass p; its response; a pass takes a cell
+-- into its hand or gives cells back, an event that is no operation's own; and the point of an operation, with the
+-- event by which it updates the object or with none
+pub data Entry (T C A : Type 0) : Type 0 where
+  Invokes : (p : ℕ) (call : C) → Entry T C A
+  Responds : (p : ℕ) (answer : Option A) → Entry T C A
+  Hand : (event : Event T) → Entry T C A
+  Updates : (k : Operation C A) (event : Event T) → Entry T C A
+  Reads : (k : Operation C A) → Entry T C A
+
+-- where a pass is: between two operations, in one that has not taken effect yet, or in one that has, with its
+-- answer
+pub data Stage (C A : Type 0) : Type 0 where
+  Rests : Stage C A
+  Pending : (call : C) → Stage C A
+  TookEffect : (answer : Option A) → Stage C A
+
+-- an event of a hand alone
+abbrev pub IsHand : {T : Type 0} → Event T → Type 0
+IsHand (Hold p) = Unit {0}
+IsHand (Free p k) = Unit {0}
+IsHand e = ⊥
+
+-- A course is a history with linearization points, the newest entry first
+module _ {T C A : Type 0} where
+  -- its invocations and responses
+  abbrev pub without_points : List (Entry T C A) → List (Entry T C A)
+  without_points [] = []
+  without_points (Invokes p call ∷ course) = Invokes p call ∷ without_points course
+  without_points (Responds p answer ∷ course) = Responds p answer ∷ without_points course
+  without_points (Hand e ∷ course) = without_points course
+  without_points (Updates k e ∷ course) = without_points course
+  without_points (Reads k ∷ course) = without_points course
+
+  abbrev pub events : List (Entry T C A) → List (Event T)
+  events [] = []
+  events (Invokes p call ∷ course) = events course
+  events (Responds p answer ∷ course) = events course
+  events (Hand e ∷ course) = e ∷ events course
+  events (Updates k e ∷ course) = e ∷ events course
+  events (Reads k ∷ course) = events course
+
+  abbrev pub stage : ℕ → List (Entry T C A) → Stage C A
+  stage p [] = Rests
+  stage p (Invokes q call ∷ course) = if q == p then Pending call else stage p course
+  stage p (Responds q answer ∷ course) = if q == p then Rests else stage p course
+  stage p (Hand e ∷ course) = stage p course
+  stage p (Updates k e ∷ course) = if k.by == p then TookEffect (some k.answer) else stage p course
+  stage p (Reads k ∷ course) = if k.by == p then TookEffect (some k.answer) else stage p course
+
+  -- Each operation takes effect once, after its invocation and before its response, and the response has its
+  -- answer. In the order of their points, the operations and the moves of hands are legal for the object
+  abbrev pub IsLinearization : Object T C A → List (Entry T C A) → Type 0
+  IsLinearization o [] = Unit {0}
+  IsLinearization o (Invokes p call ∷ course) = (stage p course ≡ Rests) × IsLinearization o course
+  IsLinearization o (Responds p answer ∷ course) = (stage p course ≡ TookEffect answer) × IsLinearization o course
+  IsLinearization o (Hand e ∷ course) = IsHand e × Needs o.shape (state o.shape (events course)) e × IsLinearization o course
+  IsLinearization o (Updates k e ∷ course) = (stage k.by course ≡ Pending k.call) × o.updates k e × Needs o.shape (state o.shape (events course)) e × IsLinearization o course
+  IsLinearization o (Reads k ∷ course) = (stage k.by course ≡ Pending k.call) × o.reads k (events course) × IsLinearization o course
+
+abbrev pub if_by : {C A : Type 0} → ℕ → ℕ → Option C → Option A → List (Option C × Option A)
+if_by q p call answer = if q == p then (call, answer) ∷ [] else []
+
+-- the call of a pending operation
+abbrev pub pending_call : {C A : Type 0} → Stage C A → Option C
+pending_call (Pending call) = some call
+pending_call s = none
+
+-- Real time order: an operation whose response stands before another's invocation takes effect before it (their
+-- condition L2). Said of a course, and so of each older part of it
+module _ {T C A : Type 0} where
+  -- the operations of pass p that take effect in a course, with call and answer
+  abbrev pub effective : ℕ → List (Entry T C A) → List (Option C × Option A)
+  effective p [] = []
+  effective p (Updates k e ∷ course) = if_by k.by p (some k.call) (some k.answer) ++ effective p course
+  effective p (Reads k ∷ course) = if_by k.by p (some k.call) (some k.answer) ++ effective p course
+  effective p (e ∷ course) = effective p course
+
+  -- those that pass p has completed in a history of invocations and responses
+  abbrev pub completed : ℕ → List (Entry T C A) → List (Option C × Option A)
+  completed p [] = []
+  completed p (Responds q answer ∷ heard) = if_by q p (pending_call (stage p heard)) answer ++ completed p heard
+  completed p (e ∷ heard) = completed p heard
+
+  -- of pass p, those that have taken effect are those that it has completed, or these and the pending one
+  abbrev pub KeepsRealTimeOrder : ℕ → List (Entry T C A) → Type 0
+  KeepsRealTimeOrder p course =
+      (effective p course ≡ completed p (without_points course))
+      ⊎ ((call : C) × (a : A) × (stage p (without_points course) ≡ Pending call) × (effective p course ≡ (some call, some a) ∷ completed p (without_points course)))
+
+-- `answer` says what a pass has answered at a line, if anything
+module _ {M L C T A : Type 0} (x : Machine M L C (Event T)) (answer : L → Option A) where
+  -- the response of pass p, where it is idle after an act of its own
+  abbrev pub response_of : ℕ → L → List (Entry T C A)
+  response_of p l = if x.is_idle l then Responds p (answer l) ∷ [] else []
+
+  -- the invocation and the response by one act
+  abbrev pub history_at : State M L C (Event T) → ℕ → Act C → Option (Pass L C (Event T)) → List (Entry T C A)
+  history_at s p a none = []
+  history_at s p (Begin call) (some v) = if x.is_idle v.line then response_of p (x.starts call v.line) ++ Invokes p call ∷ [] else []
+  history_at s p Step (some v) = if x.is_idle v.line then [] else response_of p (x.step s.memory p v.line).line
+
+  -- the history of a schedule: its invocations and responses
+  abbrev pub concurrent_history : Schedule C → State M L C (Event T) → List (Entry T C A)
+  concurrent_history [] s = []
+  concurrent_history (a ∷ more) s = concurrent_history more (next x s a) ++ history_at s a.0 a.1 (get_elem? s.passes a.0)
+
+  -- The history of a schedule is linearizable: linearization points can be put into it, so that it is a
+  -- linearization for the object, whose events are those that the machine has made
+  pub record Linearizable (o : Object T C A) (passes : ℕ) (schedule : Schedule C) : Type 0 where
+    pub course : List (Entry T C A)
+    pub same_calls : without_points course ≡ concurrent_history schedule (start x passes)
+    pub right : IsLinearization o course
+    pub same_history : events course ≡ (run x schedule (start x passes)).history

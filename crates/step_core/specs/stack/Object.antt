@@ -1,0 +1,63 @@
+-- The sequential specification of the bounded stack (Herlihy and Wing 1990), by calls and answers.
+use Rattle.std.specs.Prelude.{◌≡◌, ℕ, true, false, List, ◌∷◌, ◌++◌, Some, Ok, Err}
+use mathlib.Core.Option.{Option, none, some}
+use Rattle.bounded_model.specs.declared.history.Event.{Event}
+use Rattle.bounded_model.specs.declared.history.Event.TheVariants.{Put, Take, TakeAll, Close, Shut}
+use Rattle.bounded_model.specs.Justified as right
+use Rattle.stack_machine.specs.declared.lines.Direction.{Direction}
+use Rattle.stack_machine.specs.declared.lines.Taking.TheVariants.{One, Whole}
+use Rattle.stack_machine.specs.declared.lines.Call.{Call}
+use Rattle.stack_machine.specs.declared.lines.Call.TheVariants.{Put as CallPut, Take as CallTake, Close as CallClose, Shut as CallShut, Look as CallLook}
+use Rattle.stack_machine.specs.declared.lines.Answer.{Answer}
+use Rattle.stack_machine.specs.declared.lines.Answer.TheVariants.{Put as AnswerPut, Take as AnswerTake, Fold as AnswerFold, Close as AnswerClose, Shut as AnswerShut, Look as AnswerLook}
+use Rattle.stack_machine.specs.declared.lines.Line.{Line}
+use Rattle.stack_machine.specs.declared.lines.Line.TheVariants.{Idle}
+use Rattle.stack_machine.specs.Answers.{shape, refusal}
+use Rattle.stack_machine.specs.Deeds.{in_order, handed_back}
+use Rattle.step_core.specs.Linearizable.{Object}
+
+module _ {T : Type 0} where
+  -- pass p puts values at once, the first ones that it was to put, and leaves the others over
+  pub record PutsFirst (p : ℕ) (wanted : List T) (n : ℕ) (left : List T) (e : Event T) : Type 0 where
+    pub values : List T
+    pub all : values ++ left ≡ wanted
+    pub is : e ≡ Put p values n
+
+  -- pass p takes all values at once, and folds them in this direction
+  pub record FoldsAll (p : ℕ) (d : Direction) (n : ℕ) (folded : List T) (e : Event T) : Type 0 where
+    pub values : List T
+    pub is : e ≡ TakeAll p values n
+    pub order : folded ≡ in_order d values
+
+  -- an operation that updates the stack makes this event
+  abbrev pub Makes : ℕ → Call T → Answer T → Event T → Type 0
+  Makes p (CallPut v vs) (AnswerPut (Ok r)) e = PutsFirst p (v ∷ vs) r.0 r.1 e
+  Makes p (CallTake One) (AnswerTake (Ok r)) e = e ≡ Take p r.0 r.1
+  Makes p (CallTake (Whole d)) (AnswerFold (Ok r)) e = FoldsAll p d r.1 r.0 e
+  Makes p CallClose (AnswerClose true) e = e ≡ Close p
+  Makes p CallShut (AnswerShut true) e = e ≡ Shut p
+  Makes p call a e = ⊥
+
+  -- one that reads it: the answer is right in the state at the end of this history, which does not change; a
+  -- refused put hands its values back
+  abbrev pub IsSaid : ℕ → ℕ → List (Event T) → Call T → Answer T → Type 0
+  IsSaid n limit h (CallPut v vs) (AnswerPut (Err why)) = (handed_back why ≡ v ∷ vs) × right.Justifies (shape n limit) h (refusal why)
+  IsSaid n limit h (CallTake One) (AnswerTake (Err why)) = right.Justifies (shape n limit) h (right.take_answer why)
+  IsSaid n limit h (CallTake (Whole d)) (AnswerFold (Err why)) = right.Justifies (shape n limit) h (right.take_answer why)
+  IsSaid n limit h CallClose (AnswerClose false) = right.Justifies (shape n limit) h right.NotClosed
+  IsSaid n limit h CallShut (AnswerShut false) = right.Justifies (shape n limit) h right.NotShut
+  IsSaid n limit h CallLook (AnswerLook empty) = right.Justifies (shape n limit) h (right.Looked empty)
+  IsSaid n limit h call a = ⊥
+
+  -- the stack of n nodes
+  abbrev pub object : ℕ → ℕ → Object T (Call T) (Answer T)
+  object n limit = record {
+    shape = shape n limit;
+    updates = λ k e. Makes k.by k.call k.answer e;
+    reads = λ k h. IsSaid n limit h k.call k.answer;
+  }
+
+  -- the answer in the response of a pass at a line
+  abbrev pub answer : Line T → Option (Answer T)
+  answer (Idle (Some a)) = some a
+  answer l = none

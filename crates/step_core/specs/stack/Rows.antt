@@ -1,0 +1,203 @@
+-- Worked scripts of the stack: the machine computes their replies and step counts.
+use Rattle.std.specs.Prelude.{true, false, [], ◌∷◌}
+use Rattle.bounded_model.specs.declared.answers.Word.TheVariants.{Top as TopWord}
+use Rattle.bounded_model.specs.declared.answers.TakeRefused.TheVariants.{Empty, Closed, Spent, Shut}
+use Rattle.stack_machine.specs.declared.lines.Answer.TheVariants.{Close, Shut as ShutAnswer, Look}
+use Rattle.stack_machine.specs.declared.lines.Call.TheVariants.{Close as CloseCall, Shut as ShutCall, Look as LookCall}
+use Rattle.stack_machine.specs.Answers.{shape}
+use Rattle.step_core.specs.Scripts.{calls, begins, steps, finish, answers, begun, again, ended, rest, Plays}
+use Rattle.step_core.specs.Letters.{a, b, c, t, u, v, w, x, y, z}
+use Rattle.step_core.specs.stack.Cast.{plays, put, range, take, fold, reversed_fold, put_is, range_is, full, put_closed, top_spent, free_spent, take_is, no_take, fold_is, no_fold}
+
+-- how many steps each call makes alone: put and take, a full put, an empty take, close, shut, look
+abbrev pub Alone : Type 0
+Alone = Plays (plays (shape 1 15))
+    ((begins a take, begun) ∷ (steps a 40, ended (no_take Empty) 1)
+    ∷ (begins a (put x), begun) ∷ (steps a 40, ended (put_is 0) 6)
+    ∷ (begins a (put y), begun) ∷ (steps a 40, ended (full (y ∷ [])) 2)
+    ∷ (begins a take, begun) ∷ (steps a 40, ended (take_is 1 x) 6)
+    ∷ (begins a CloseCall, begun) ∷ (steps a 40, ended (Close true) 2)
+    ∷ (begins a ShutCall, begun) ∷ (steps a 40, ended (ShutAnswer true) 2)
+    ∷ (begins a LookCall, begun) ∷ (steps a 40, ended (Look true) 1)
+    ∷ [])
+
+-- at the lost exchange the top names the old node again, with tag 5 where a had read tag 2
+abbrev pub SameNodeOtherTag : Type 0
+SameNodeOtherTag = Plays (plays (shape 3 15))
+    ((calls b (put x), answers (put_is 0))
+    ∷ (calls b (put y), answers (put_is 1))
+    ∷ (begins a take, begun)
+    ∷ (steps a 2, again 2)
+    ∷ (calls b take, answers (take_is 2 y))
+    ∷ (calls b take, answers (take_is 3 x))
+    ∷ (begins c (put z), begun)
+    ∷ (steps c 3, again 3)
+    ∷ (calls b (put w), answers (put_is 4))
+    ∷ (steps a 1, again 3)
+    ∷ (steps a 6, ended (take_is 5 w) 9)
+    ∷ (steps c 3, ended (put_is 6) 6)
+    ∷ [])
+
+-- the top's tag is at the limit
+abbrev pub SpentTop : Type 0
+SpentTop = Plays (plays (shape 2 2))
+    ((calls a (put x), answers (put_is 0))
+    ∷ (calls a (put y), answers (put_is 1))
+    ∷ (calls a (put z), answers (top_spent 2 (z ∷ [])))
+    ∷ (calls a take, answers (no_take (Spent TopWord 2)))
+    ∷ (calls a CloseCall, answers (Close true))
+    ∷ (calls a (put w), answers (put_closed (w ∷ [])))
+    ∷ (calls a take, answers (no_take (Spent TopWord 2)))
+    ∷ (finish, rest (y ∷ x ∷ []))
+    ∷ [])
+
+-- a range goes in by one exchange, as much of it as finds nodes
+abbrev pub Ranges : Type 0
+Ranges = Plays (plays (shape 3 15))
+    ((calls a (range 1 (2 ∷ 3 ∷ 4 ∷ 5 ∷ [])), answers (range_is 0 (4 ∷ 5 ∷ [])))
+    ∷ (calls a take, answers (take_is 1 3))
+    ∷ (calls a (range 6 (7 ∷ [])), answers (range_is 2 (7 ∷ [])))
+    ∷ (calls a take, answers (take_is 3 6))
+    ∷ [])
+
+abbrev pub Folds : Type 0
+Folds = Plays (plays (shape 3 15))
+    ((calls a (put x), answers (put_is 0))
+    ∷ (calls a (put y), answers (put_is 1))
+    ∷ (calls a (put z), answers (put_is 2))
+    ∷ (calls a fold, answers (fold_is 3 (z ∷ y ∷ x ∷ [])))
+    ∷ (calls a (put u), answers (put_is 4))
+    ∷ (calls a (put v), answers (put_is 5))
+    ∷ (calls a (put w), answers (put_is 6))
+    ∷ (calls a reversed_fold, answers (fold_is 7 (u ∷ v ∷ w ∷ [])))
+    ∷ (calls a (put t), answers (put_is 8))
+    ∷ (calls a fold, answers (fold_is 9 (t ∷ [])))
+    ∷ (calls a fold, answers (no_fold Empty))
+    ∷ [])
+
+-- what is left, from the top down
+abbrev pub LeftOver : Type 0
+LeftOver = Plays (plays (shape 3 7))
+    ((calls a (put x), answers (put_is 0))
+    ∷ (calls a (put y), answers (put_is 1))
+    ∷ (calls a (put z), answers (put_is 2))
+    ∷ (calls b LookCall, answers (Look false))
+    ∷ (calls b take, answers (take_is 3 z))
+    ∷ (finish, rest (y ∷ x ∷ []))
+    ∷ [])
+
+-- a close overtakes a put that holds a node
+abbrev pub ClosedUnderAPut : Type 0
+ClosedUnderAPut = Plays (plays (shape 1 7))
+    ((begins a (put x), begun)
+    ∷ (steps a 3, again 3)
+    ∷ (calls b CloseCall, answers (Close true))
+    ∷ (steps a 20, ended (put_closed (x ∷ [])) 7)
+    ∷ (calls b take, answers (no_take Closed))
+    ∷ [])
+
+abbrev pub RangeSpent : Type 0
+RangeSpent = Plays (plays (shape 3 2))
+    ((calls a (range x (y ∷ z ∷ [])), answers (range_is 0 (z ∷ [])))
+    ∷ (calls a (range z []), answers (free_spent 2 (z ∷ [])))
+    ∷ (calls a take, answers (take_is 1 y))
+    ∷ (calls a fold, answers (no_fold (Spent TopWord 2)))
+    ∷ [])
+
+abbrev pub RangeClosed : Type 0
+RangeClosed = Plays (plays (shape 2 7))
+    ((calls a CloseCall, answers (Close true))
+    ∷ (calls a (range x (y ∷ [])), answers (put_closed (x ∷ y ∷ [])))
+    ∷ (calls a fold, answers (no_fold Closed))
+    ∷ [])
+
+abbrev pub RangeFull : Type 0
+RangeFull = Plays (plays (shape 1 7))
+    ((calls a (put x), answers (put_is 0))
+    ∷ (calls a (range y (z ∷ [])), answers (full (y ∷ z ∷ [])))
+    ∷ (calls b fold, answers (fold_is 1 (x ∷ [])))
+    ∷ (calls a (range y (z ∷ [])), answers (range_is 2 (z ∷ [])))
+    ∷ (calls a (put w), answers (full (w ∷ [])))
+    ∷ (calls b take, answers (take_is 3 y))
+    ∷ (calls a (put w), answers (put_is 4))
+    ∷ [])
+
+-- both tags at their limits
+abbrev pub SpentFree : Type 0
+SpentFree = Plays (plays (shape 2 2))
+    ((calls a (put x), answers (put_is 0))
+    ∷ (calls a take, answers (take_is 1 x))
+    ∷ (calls a (put y), answers (top_spent 2 (y ∷ [])))
+    ∷ (calls a (put z), answers (free_spent 2 (z ∷ [])))
+    ∷ (calls a take, answers (no_take Empty))
+    ∷ (calls a CloseCall, answers (Close true))
+    ∷ (calls a (put w), answers (free_spent 2 (w ∷ [])))
+    ∷ (calls a take, answers (no_take Closed))
+    ∷ [])
+
+abbrev pub ShutStack : Type 0
+ShutStack = Plays (plays (shape 2 7))
+    ((calls a (put x), answers (put_is 0))
+    ∷ (calls a ShutCall, answers (ShutAnswer true))
+    ∷ (calls a (put y), answers (put_is 1))
+    ∷ (calls a take, answers (no_take Shut))
+    ∷ (calls a fold, answers (no_fold Shut))
+    ∷ (finish, rest (y ∷ x ∷ []))
+    ∷ [])
+
+-- a close overtakes a put whose node is linked, and the tag is at the limit by then
+abbrev pub ClosedBeforeSpentTop : Type 0
+ClosedBeforeSpentTop = Plays (plays (shape 2 2))
+    ((begins a (put x), begun)
+    ∷ (steps a 3, again 3)
+    ∷ (calls b (put y), answers (put_is 0))
+    ∷ (calls b take, answers (take_is 1 y))
+    ∷ (calls b CloseCall, answers (Close true))
+    ∷ (steps a 20, ended (put_closed (x ∷ [])) 7)
+    ∷ (finish, rest [])
+    ∷ [])
+
+-- a shut that has read the top finds it shut at its exchange, and looks again
+abbrev pub ShutIsOvertaken : Type 0
+ShutIsOvertaken = Plays (plays (shape 2 7))
+    ((calls a (put x), answers (put_is 0))
+    ∷ (begins a ShutCall, begun)
+    ∷ (steps a 1, again 1)
+    ∷ (calls b ShutCall, answers (ShutAnswer true))
+    ∷ (steps a 1, again 2)
+    ∷ (steps a 5, ended (ShutAnswer false) 3)
+    ∷ (finish, rest (x ∷ []))
+    ∷ [])
+
+abbrev pub CloseIsOvertaken : Type 0
+CloseIsOvertaken = Plays (plays (shape 2 7))
+    ((calls a (put x), answers (put_is 0))
+    ∷ (begins a CloseCall, begun)
+    ∷ (steps a 1, again 1)
+    ∷ (calls b (put y), answers (put_is 1))
+    ∷ (steps a 1, again 2)
+    ∷ (steps a 9, ended (Close true) 4)
+    ∷ (calls b CloseCall, answers (Close false))
+    ∷ (finish, rest (y ∷ x ∷ []))
+    ∷ [])
+
+abbrev pub FoldsOfAShutStack : Type 0
+FoldsOfAShutStack = Plays (plays (shape 2 7))
+    ((calls a (put x), answers (put_is 0))
+    ∷ (calls a ShutCall, answers (ShutAnswer true))
+    ∷ (calls a fold, answers (no_fold Shut))
+    ∷ (calls a reversed_fold, answers (no_fold Shut))
+    ∷ (begins a take, begun)
+    ∷ (steps a 1, ended (no_take Shut) 1)
+    ∷ (finish, rest (x ∷ []))
+    ∷ [])
+
+abbrev pub EmptyAndShut : Type 0
+EmptyAndShut = Plays (plays (shape 1 7))
+    ((calls a ShutCall, answers (ShutAnswer true))
+    ∷ (calls a take, answers (no_take Shut))
+    ∷ (calls a fold, answers (no_fold Shut))
+    ∷ (calls a CloseCall, answers (Close true))
+    ∷ (calls a take, answers (no_take Shut))
+    ∷ (finish, rest [])
+    ∷ [])
