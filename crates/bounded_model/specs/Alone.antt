@@ -1,7 +1,7 @@
 -- The calls of a history without the moves of hands: a sequential list.
-use Rattle.std.specs.Prelude.{◌≡◌, ℕ, false, List, [], ◌∷◌}
+use Rattle.std.specs.Prelude.{◌≡◌, false, List, [], ◌∷◌}
 use Rattle.bounded_model.specs.declared.history.Event.{Event}
-use Rattle.bounded_model.specs.declared.history.Event.TheVariants.{Hold, Put, Take, TakeAll, Free, Close, Shut}
+use Rattle.bounded_model.specs.declared.history.Event.TheVariants.{Hold, Put, Free}
 use Rattle.bounded_model.specs.Machine.{Shape, State, state, MayPut, next_put, Needs}
 
 abbrev pub without_hands : {T : Type 0} → List (Event T) → List (Event T)

@@ -2,7 +2,7 @@
 -- an exchange that is won has a price, by how much it can raise the weight of another line; and a line has a
 -- harm, what the exchanges that its call may yet win cost another line. So a call costs its own weight, and
 -- its harm once for each other pass that is in a call. A step that wins nothing costs nobody else.
-use Rattle.std.proofs.Common.{◌≡◌, ◌≢◌, ◌⊎◌, ℕ, zero, suc, ◌+◌, ◌*◌, ◌<◌, ◌≤◌, ◌==◌, ◌++◌, not, Bool, true, false, cond, List, [], ◌∷◌, length, set, refl, sym, ap, ◌∙◌, subst, ⊎_elim, eq-eqb, arith}
+use Rattle.std.proofs.Common.{◌≡◌, ◌≢◌, ℕ, zero, suc, ◌+◌, ◌*◌, ◌<◌, ◌≤◌, ◌==◌, not, Bool, true, false, cond, List, [], ◌∷◌, length, set, refl, sym, ap, ◌∙◌, subst, ⊎_elim, eq-eqb, arith}
 use Rattle.std.proofs.Math.Nat.{add-mul, mul-add, mul-suc, mul-le-mul_left, mul-le-mul_right}
 use Rattle.std.proofs.lemmas.Bool.{false≢true}
 use Rattle.std.proofs.lemmas.Bool.Decides.{eqb_tells}

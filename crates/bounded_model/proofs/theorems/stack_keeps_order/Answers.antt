@@ -1,4 +1,4 @@
-use Rattle.std.proofs.Common.{◌≡◌, List, [], ◌∷◌, ◌++◌, ◌∙◌, subst, ap, append-nil, IsPermutation}
+use Rattle.std.proofs.Common.{◌∷◌, append-nil}
 use Rattle.bounded_model.specs.declared.history.Event.TheVariants.{TakeAll}
 use Rattle.bounded_model.specs.Gathers.{gather, put_of, took_of, values_of}
 use Rattle.bounded_model.proofs.Balance.{all_there}
