@@ -160,6 +160,11 @@ abbrev pub MeetGives : {T : Type 0} → PassView T → PassView T → PassView T
 MeetGives v u w true = Meets v u w
 MeetGives v u w false = w ≡ v
 
+-- heed: the pass has made steps, with no event of its own, and has now seen all that a note tells
+pub record Heeds {T : Type 0} (v : PassView T) (told : List (Event T)) (w : PassView T) : Type 0 where
+  pub adds : Adds v w []
+  pub heard : Later told w.seen
+
 -- finish: the list of a legal history that begins with what the root has seen. It adds no event of
 -- a joined pass and none of a pass that was not given, and so, where no pass is out, none at all
 pub record Leaves {T : Type 0} (c : Shape) (r : RootView T) (left : List T) : Type 0 where

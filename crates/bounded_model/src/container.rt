@@ -1,10 +1,11 @@
 //! The laws of every container.
 
-ghost use Rattle.std.specs.Prelude.{◌≡◌, ◌∷◌, [], List, MatchOption};
+ghost use Rattle.std.specs.Prelude.{◌≡◌, ◌∷◌, [], List, MatchOption, IfSome};
+ghost use Rattle.bounded_model.specs.declared.history.Event.{Event};
 ghost use Rattle.bounded_model.specs.declared.history.Order.{Order};
 ghost use Rattle.bounded_model.specs.declared.views.PassView.{PassView};
 ghost use Rattle.bounded_model.specs.declared.views.RootView.{RootView};
-ghost use Rattle.bounded_model.specs.Machine.{Shape};
+ghost use Rattle.bounded_model.specs.Machine.{Shape, Legal};
 ghost use Rattle.bounded_model.specs.Laws.{
   IsAtRest,
   IsSound,
@@ -16,6 +17,7 @@ ghost use Rattle.bounded_model.specs.Laws.{
   Splits,
   Joins,
   MeetGives,
+  Heeds,
   Leaves,
 };
 
@@ -55,6 +57,10 @@ pub trait Container<T>: Drop {
 
     type Pass: Drop + Send;
 
+    /// What a pass had seen as it was made. It may be dropped, sent to another thread, or stored
+    /// beside a message.
+    type Note: Drop + Send;
+
     type Rest: Leaving<T> + Drop + Send;
 
     /// In which order values leave.
@@ -71,11 +77,17 @@ pub trait Container<T>: Drop {
     /// Whether this is the root of this container.
     ghost is_root: { Self → Self.Root → Type 0 };
 
+    /// Whether this is a note of a pass of this container.
+    ghost is_note: { Self → Self.Note → Type 0 };
+
     /// A pass's number, what it has seen, and how many steps it has made.
     ghost pass: { Self.Pass → PassView T };
 
     /// What a root has seen, how many passes it has given, and what those joined have done.
     ghost root: { Self.Root → RootView T };
+
+    /// The history that a note tells.
+    ghost told: { Self.Note → List (Event T) };
 
     /// How many values it has room for, as it was asked for: `relay` looks at it before it starts.
     fn capacity(&self) -> u32
@@ -132,6 +144,22 @@ pub trait Container<T>: Drop {
         ensures second { is_pass self.now result.0 × (pass result.0 ≡ pass second) }
         ensures gives { MeetGives (pass first.old) (pass second) (pass first.new) result.1 };
 
+    /// What the pass has seen, as a value of its own; `None` where there is no seat for that. The
+    /// pass is as it was. Called in `example_notes`.
+    fn note(&self, by: &mut Self::Pass) -> Option<Self::Note>
+        requires { is_pass self.now by.old }
+        ensures pass { is_pass self.now by.new × (pass by.new ≡ pass by.old) }
+        ensures gives { IfSome result (λ n. is_note self.now n × (told n ≡ (pass by.old).seen)) };
+
+    /// The pass has now seen at least what the note tells: whoever is told of an event by any other
+    /// way, with a note that was made after it, hears no answer that was right only before it.
+    /// Called in `example_notes`.
+    fn heed(&self, by: &mut Self::Pass, note: Self::Note)
+        requires pass { is_pass self.now by.old }
+        requires note { is_note self.now note }
+        ensures of { is_pass self.now by.new }
+        ensures gives { Heeds (pass by.old) (told note) (pass by.new) };
+
     /// Takes a pass back: the root has now seen what the pass has. Called in `example_calls`.
     fn join(&self, parent: &mut Self::Root, by: Self::Pass)
         requires root { is_root self.now parent.old }
@@ -149,6 +177,9 @@ pub trait Container<T>: Drop {
 
     /// What a pass has seen is legal, and between its calls its hand is empty.
     ghost pass_law: { (c : Self) (p : Self.Pass) → is_pass c p → IsAtRest (shape c) (pass p) };
+
+    /// What a note tells is legal.
+    ghost note_law: { (c : Self) (n : Self.Note) → is_note c n → Legal (shape c) (told n) };
 
     /// What a root has seen is legal, and its account is right.
     ghost root_law: { (c : Self) (r : Self.Root) → is_root c r → IsSound (shape c) (root r) };

@@ -20,7 +20,7 @@ ghost use Rattle.bounded_model.specs.Gathers.{
   Counts,
 };
 
-/// A queue keeps its order: what was put is what was taken and then what is there, in order, and
+/// A queue is first in, first out: what was put is what was taken and then what is there, in order, and
 /// puts and takes are numbered 0, 1, 2, .. each. So the take numbered k gives the value of the put
 /// numbered k, and each value is taken once.
 pub fn queue_keeps_order<T>()
@@ -33,7 +33,7 @@ pub fn queue_keeps_order<T>()
         → c.order ≡ Fifo → Legal c h → Counts (λ m. m.number) 0 (gather took_of h) }
 {}
 
-/// A stack gives its values in the order from the newest to the oldest: each take gives the value of
+/// A stack is last in, first out: each take gives the value of
 /// the latest put that has not been taken. That value was put, and since then as many values have
 /// been taken as were put after it, and at no time more. A fold takes one value after another so,
 /// and none is left. Puts, takes and folds are numbered 0, 1, 2, .. together.

@@ -25,6 +25,8 @@ impl<T, C: Container<T>> Container<T> for Counting<C> {
 
     type Pass = Counted<C::Pass>;
 
+    type Note = C::Note;
+
     type Rest = C::Rest;
 
     const ORDER: Order = C::ORDER;
@@ -37,13 +39,19 @@ impl<T, C: Container<T>> Container<T> for Counting<C> {
 
     ghost is_root = { λ c r. C.is_root c.inner r };
 
+    ghost is_note = { λ c n. C.is_note c.inner n };
+
     ghost pass = { λ p. C.pass p.pass };
 
     ghost root = { C.root };
 
+    ghost told = { C.told };
+
     ghost order_law = { λ c. C.order_law c.inner };
 
     ghost pass_law = { λ c p is. C.pass_law c.inner p.pass is };
+
+    ghost note_law = { λ c n is. C.note_law c.inner n is };
 
     ghost root_law = { λ c r is. C.root_law c.inner r is };
 
@@ -98,6 +106,14 @@ impl<T, C: Container<T>> Container<T> for Counting<C> {
         let Counted { pass, takes } = second;
         let (pass, met) = self.inner.meet(&mut first.pass, pass);
         (Counted { pass, takes }, met)
+    }
+
+    fn note(&self, by: &mut Counted<C::Pass>) -> Option<C::Note> {
+        self.inner.note(&mut by.pass)
+    }
+
+    fn heed(&self, by: &mut Counted<C::Pass>, note: C::Note) {
+        self.inner.heed(&mut by.pass, note)
     }
 
     fn join(&self, parent: &mut C::Root, by: Counted<C::Pass>) {

@@ -1,16 +1,16 @@
--- What split, meet and join do to views, and what a load tells that belongs to no line.
-use Rattle.std.proofs.Common.{◌≡◌, ℕ, ◌+◌, ◌<◌, List, [], ◌∷◌, length, refl, sym, ap, ◌∙◌, subst, arith}
+-- What split, meet, join, note and heed do to views, and what a load tells that belongs to no line.
+use Rattle.std.proofs.Common.{◌≡◌, ℕ, ◌+◌, ◌<◌, List, [], ◌∷◌, ◌++◌, length, refl, sym, ap, ◌∙◌, subst, arith}
 use Rattle.std.specs.List.{AllByRecursion as Every}
 use Rattle.bounded_model.specs.declared.history.Event.{Event}
 use Rattle.bounded_model.specs.declared.views.PassView.{PassView}
 use Rattle.bounded_model.specs.declared.views.RootView.{RootView}
 use Rattle.bounded_model.specs.Machine.{Shape, state, Legal}
 use Rattle.bounded_model.specs.Histories.{pass_of as event_pass, own}
-use Rattle.bounded_model.specs.Laws.{IsSound, IsAtRest, HasRoomForPass, Splits, Joins, Meets, Adds}
-use Rattle.bounded_model.proofs.Histories.{Later-refl, Later-start, own-between, own-unknown, known_from_own}
+use Rattle.bounded_model.specs.Laws.{IsSound, IsAtRest, HasRoomForPass, Splits, Joins, Meets, Heeds, Adds}
+use Rattle.bounded_model.proofs.Histories.{Later-refl, Later-start, own-append, own-between, own-unknown, known_from_own}
 use Rattle.machine.specs.declared.seats.View.{View}
-use Rattle.machine.specs.declared.seats.View.TheVariants.{AtRoot, AtPass, AtMeeting, Left}
-use Rattle.machine.specs.Seats.{Owns, Saw, Rooted, Knows, Fine, Looks, held_at, at_rest, new_pass, gives_one, takes_back, stepped, looked, left_of, right_of, both_of, pass_of, root_of}
+use Rattle.machine.specs.declared.seats.View.TheVariants.{AtRoot, AtPass, AtMeeting, AtNote, AtHearing, Left}
+use Rattle.machine.specs.Seats.{Owns, Saw, Rooted, Knows, Fine, Looks, held_at, at_rest, new_pass, gives_one, takes_back, stepped, looked, left_of, right_of, both_of, pass_of, root_of, told_of}
 use Rattle.machine.proofs.Hands.{same_hand}
 use Rattle.machine.proofs.Seating.{below_more}
 use Rattle.bounded_model.proofs.Whole.{few}
@@ -19,6 +19,9 @@ module _ {T : Type 0} where
   -- a step that adds no event of the pass
   pub adds_none : (h : List (Event T)) (p : PassView T) → Saw h p → Adds p (stepped h p) []
   adds_none h p f = record { number = refl; steps = omega arith; between = f.seen.more; seen = f.seen.is; own_events = own-between p.number f.seen.more p.seen (sym (ap (own p.number) f.seen.is) ∙ f.own_events) }
+
+  heeds_own : (p : PassView T) (told : List (Event T)) (q : PassView T) → Heeds p told q → own p.number q.seen ≡ own p.number p.seen
+  heeds_own p told q f = ap (own p.number) f.adds.seen ∙ own-append p.number f.adds.between p.seen ∙ ap (λ (es : List (Event T)). es ++ own p.number p.seen) f.adds.own_events
 
   saw_stepped : (h : List (Event T)) (p : PassView T) → Saw h p → Saw h (stepped h p)
   saw_stepped h p f = record { seen = Later-refl h; own_events = refl }
@@ -37,18 +40,24 @@ module _ {T L : Type 0} where
   looked_owns h (AtRoot r heard) x o = o
   looked_owns h (AtPass p begun l) x o = o
   looked_owns h (AtMeeting p q) x o = o
+  looked_owns h (AtNote told) x o = o
+  looked_owns h (AtHearing p told) x o = o
   looked_owns h Left x o = o
 
   looked_knows : (h : List (Event T)) (v : View T L) → Knows h v → Knows h (looked h v)
   looked_knows h (AtRoot r heard) f = record { seen = Later-refl h; heard_seen = Later-start h; joined = f.joined; apart = f.apart; given = f.given; unknown = f.unknown }
   looked_knows h (AtPass p begun l) f = saw_stepped h p f
   looked_knows h (AtMeeting p q) f = (saw_stepped h p f.0, f.1, f.2)
+  looked_knows h (AtNote told) f = f
+  looked_knows h (AtHearing p told) f = (saw_stepped h p f.0, f.1)
   looked_knows h Left f = tt
 
   looked_holds : (held : L → ℕ) (h : List (Event T)) (v : View T L) → held_at held v ≡ held_at held (looked h v)
   looked_holds held h (AtRoot r heard) = refl
   looked_holds held h (AtPass p begun l) = refl
   looked_holds held h (AtMeeting p q) = refl
+  looked_holds held h (AtNote told) = refl
+  looked_holds held h (AtHearing p told) = refl
   looked_holds held h Left = refl
 
   pub looked_fine : (c : Shape) (held : L → ℕ) (h : List (Event T)) (v : View T L) → Fine c held h v → Fine c held h (looked h v)
@@ -59,6 +68,8 @@ module _ {T L : Type 0} where
   looks c h (AtRoot r heard) legal f = (record r { seen = h }, refl, refl, refl, f.seen, f.heard_seen, rooted_sound c h r heard legal f)
   looks c h (AtPass p begun l) legal f = (stepped h p, refl, adds_none h p f, legal)
   looks c h (AtMeeting p q) legal f = (stepped h p, refl, record { number = refl; steps = omega arith; first = f.0.seen; second = f.1.seen; own_events = f.0.own_events; others = f.1.own_events }, legal)
+  looks c h (AtNote told) legal f = tt
+  looks c h (AtHearing p told) legal f = (stepped h p, refl, record { adds = adds_none h p f.0; heard = f.1 }, legal)
   looks c h Left legal f = tt
 
   -- a view that is known to be a root's or a pass's, in terms of what is read off it
@@ -135,6 +146,42 @@ module _ {T L : Type 0} where
         rests = λ rest. subst (IsAtRest c) s (record { legal = t.3; hand = ap (state c p'.seen).hand meets.number ∙ same_hand c p.number p'.seen p.seen meets.own_events ∙ rest.hand });
         same = ap pass_of r';
         gives = subst (Meets p q) s meets;
+      }
+
+  -- a note is made of a pass, which stays as it was
+  pub record NoteView (idle : L) (v left right : View T L) : Type 0 where
+    pub pass : left ≡ at_rest idle (pass_of left)
+    pub same : pass_of left ≡ pass_of v
+    pub note : right ≡ AtNote (told_of right)
+    pub told : told_of right ≡ (pass_of v).seen
+
+  pub note_view : (idle : L) (v left right : View T L) → v ≡ at_rest idle (pass_of v) → left ≡ left_of idle v → right ≡ right_of idle v → NoteView idle v left right
+  note_view idle v left right is l r =
+      let p : PassView T = pass_of v in
+      let l' : left ≡ at_rest idle p = l ∙ ap (left_of idle) is in
+      let r' : right ≡ AtNote p.seen = r ∙ ap (right_of idle) is in
+      record { pass = at_pass idle left p l'; same = ap pass_of l'; note = r' ∙ ap AtNote (sym (ap told_of r')); told = ap told_of r' }
+
+  pub record HeedView (c : Shape) (idle : L) (v w left : View T L) : Type 0 where
+    pub pass : left ≡ at_rest idle (pass_of left)
+    pub rests : IsAtRest c (pass_of v) → IsAtRest c (pass_of left)
+    pub gives : Heeds (pass_of v) (told_of w) (pass_of left)
+
+  pub heed_view : (c : Shape) (idle : L) (v w between after left : View T L) → v ≡ at_rest idle (pass_of v) → w ≡ AtNote (told_of w) → between ≡ both_of v w → Looks c between after → left ≡ left_of idle after → HeedView c idle v w left
+  heed_view c idle v w between after left a b e tells l =
+      let p : PassView T = pass_of v in
+      let told : List (Event T) = told_of w in
+      let is : between ≡ AtHearing p told = e ∙ (λ k. both_of (a k) (b k)) in
+      let t = subst (λ (x : View T L). Looks c x after) is tells in
+      let q : PassView T = t.0 in
+      let l' : left ≡ at_rest idle q = l ∙ ap (left_of idle) t.1 in
+      let s : q ≡ pass_of left = sym (ap pass_of l') in
+      let heeds : Heeds p told q = t.2 in
+      let own_events : own p.number q.seen ≡ own p.number p.seen = heeds_own p told q heeds in
+      record {
+        pass = at_pass idle left q l';
+        rests = λ rest. subst (IsAtRest c) s (record { legal = t.3; hand = ap (state c q.seen).hand heeds.adds.number ∙ same_hand c p.number q.seen p.seen own_events ∙ rest.hand });
+        gives = subst (Heeds p told) s heeds;
       }
 
 -- a pass that is joined was out

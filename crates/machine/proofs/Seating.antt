@@ -10,7 +10,7 @@ use Rattle.bounded_model.specs.Machine.{Shape}
 use Rattle.bounded_model.specs.Histories.{own, Later}
 use Rattle.bounded_model.proofs.Histories.{Later-refl, Later-trans, own-earlier}
 use Rattle.machine.specs.declared.seats.View.{View}
-use Rattle.machine.specs.declared.seats.View.TheVariants.{AtRoot, AtPass, AtMeeting, Left}
+use Rattle.machine.specs.declared.seats.View.TheVariants.{AtRoot, AtPass, AtMeeting, AtNote, AtHearing, Left}
 use Rattle.machine.specs.Seats.{IsJoined, Owns, Saw, Rooted, Knows, Fine, Seated, held_at, first_view, left_of, right_of, both_of, takes_back}
 use Rattle.machine.proofs.Hands.{same_hand}
 use Rattle.machine.proofs.Sums.{at_set}
@@ -61,6 +61,8 @@ module _ {T L : Type 0} where
   }
   knows_later h k (AtPass p begun l) f later same = saw_later h k p f later (same p.number refl)
   knows_later h k (AtMeeting p q) f later same = (saw_later h k p f.0 later (same p.number (inl refl)), saw_later h k q f.1 later (same q.number (inr refl)), f.2)
+  knows_later h k (AtNote told) f later same = Later-trans f later
+  knows_later h k (AtHearing p told) f later same = (saw_later h k p f.0 later (same p.number refl), Later-trans f.1 later)
   knows_later h k Left f later same = tt
 
   -- how a cut shares out the numbers
@@ -69,12 +71,16 @@ module _ {T L : Type 0} where
   left_owns idle (AtRoot r heard) x (inr j) = inr j
   left_owns idle (AtPass p begun l) x o = o
   left_owns idle (AtMeeting p q) x o = inl o
+  left_owns idle (AtNote told) x o = o
+  left_owns idle (AtHearing p told) x o = o
   left_owns idle Left x o = o
 
   right_owns : (idle : L) (v : View T L) (x : ℕ) → Owns (right_of idle v) x → Owns v x
   right_owns idle (AtRoot r heard) x o = inl (omega arith)
   right_owns idle (AtPass p begun l) x o = absurd o
   right_owns idle (AtMeeting p q) x o = inr o
+  right_owns idle (AtNote told) x o = o
+  right_owns idle (AtHearing p told) x o = absurd o
   right_owns idle Left x o = o
 
   halves_apart : (idle : L) (h : List (Event T)) (v : View T L) → Knows h v → (x : ℕ) → Owns (left_of idle v) x → Owns (right_of idle v) x → ⊥
@@ -82,18 +88,24 @@ module _ {T L : Type 0} where
   halves_apart idle h (AtRoot r heard) f x (inr j) e = let l = joined-below r.given x r.account f.given j in omega arith
   halves_apart idle h (AtPass p begun l) f x o e = e
   halves_apart idle h (AtMeeting p q) f x o e = f.2 (sym o ∙ e)
+  halves_apart idle h (AtNote told) f x o e = e
+  halves_apart idle h (AtHearing p told) f x o e = e
   halves_apart idle h Left f x o e = e
 
   left_knows : (idle : L) (h : List (Event T)) (v : View T L) → Knows h v → Knows h (left_of idle v)
   left_knows idle h (AtRoot r heard) f = record { seen = f.seen; heard_seen = f.heard_seen; joined = f.joined; apart = f.apart; given = below_more r.given r.account f.given; unknown = λ x le. f.unknown x (omega arith) }
   left_knows idle h (AtPass p begun l) f = f
   left_knows idle h (AtMeeting p q) f = f.0
+  left_knows idle h (AtNote told) f = f
+  left_knows idle h (AtHearing p told) f = f.0
   left_knows idle h Left f = tt
 
   right_knows : (idle : L) (h : List (Event T)) (v : View T L) → Knows h v → Knows h (right_of idle v)
   right_knows idle h (AtRoot r heard) f = record { seen = f.seen; own_events = f.unknown r.given (omega arith) ∙ sym (own-earlier r.given f.seen (f.unknown r.given (omega arith))) }
-  right_knows idle h (AtPass p begun l) f = tt
+  right_knows idle h (AtPass p begun l) f = f.seen
   right_knows idle h (AtMeeting p q) f = f.1
+  right_knows idle h (AtNote told) f = f
+  right_knows idle h (AtHearing p told) f = f.1
   right_knows idle h Left f = tt
 
   -- and a union puts them together
@@ -103,24 +115,36 @@ module _ {T L : Type 0} where
   both_owns (AtRoot r heard) (AtPass p begun l) x (inr (inr j)) = inl (inr j)
   both_owns (AtRoot r heard) (AtRoot s heard') x o = inl o
   both_owns (AtRoot r heard) (AtMeeting p q) x o = inl o
+  both_owns (AtRoot r heard) (AtNote told) x o = inl o
+  both_owns (AtRoot r heard) (AtHearing p told) x o = inl o
   both_owns (AtRoot r heard) Left x o = inl o
   both_owns (AtPass p begun l) (AtPass q begun' l') x o = o
   both_owns (AtPass p begun l) (AtRoot s heard) x o = inl o
   both_owns (AtPass p begun l) (AtMeeting q q') x o = inl o
+  both_owns (AtPass p begun l) (AtNote told) x o = inl o
+  both_owns (AtPass p begun l) (AtHearing q told) x o = inl o
   both_owns (AtPass p begun l) Left x o = inl o
   both_owns (AtMeeting p q) w x o = inl o
+  both_owns (AtNote told) w x o = inl o
+  both_owns (AtHearing p told) w x o = inl o
   both_owns Left w x o = inl o
 
   both_knows : (h : List (Event T)) (v w : View T L) → Knows h v → Knows h w → ((x : ℕ) → Owns v x → Owns w x → ⊥) → Knows h (both_of v w)
   both_knows h (AtRoot r heard) (AtPass p begun l) f g off = takes_back_rooted h r heard p f g (λ o. off p.number o refl)
   both_knows h (AtRoot r heard) (AtRoot s heard') f g off = f
   both_knows h (AtRoot r heard) (AtMeeting p q) f g off = f
+  both_knows h (AtRoot r heard) (AtNote told) f g off = f
+  both_knows h (AtRoot r heard) (AtHearing p told) f g off = f
   both_knows h (AtRoot r heard) Left f g off = f
   both_knows h (AtPass p begun l) (AtPass q begun' l') f g off = (f, g, λ e. off p.number refl e)
   both_knows h (AtPass p begun l) (AtRoot s heard) f g off = f
   both_knows h (AtPass p begun l) (AtMeeting q q') f g off = f
+  both_knows h (AtPass p begun l) (AtNote told) f g off = (f, g)
+  both_knows h (AtPass p begun l) (AtHearing q told) f g off = f
   both_knows h (AtPass p begun l) Left f g off = f
   both_knows h (AtMeeting p q) w f g off = f
+  both_knows h (AtNote told) w f g off = f
+  both_knows h (AtHearing p told) w f g off = f
   both_knows h Left w f g off = f
 
   set_swap : (l : List (View T L)) (i j : ℕ) (a b : View T L) → i ≢ j → set (set l i a) j b ≡ set (set l j b) i a
@@ -172,12 +196,16 @@ module _ {T L : Type 0} (c : Shape) (held : L → ℕ) where
   left_holds idle (AtRoot r heard) e = refl
   left_holds idle (AtPass p begun l) e = refl
   left_holds idle (AtMeeting p q) e = sym e
+  left_holds idle (AtNote told) e = refl
+  left_holds idle (AtHearing p told) e = sym e
   left_holds idle Left e = refl
 
   right_holds : (idle : L) (v : View T L) (x : ℕ) → held idle ≡ 0 → Owns (right_of idle v) x → held_at held v ≡ held_at held (right_of idle v)
   right_holds idle (AtRoot r heard) x e o = sym e
   right_holds idle (AtPass p begun l) x e o = absurd o
   right_holds idle (AtMeeting p q) x e o = sym e
+  right_holds idle (AtNote told) x e o = refl
+  right_holds idle (AtHearing p told) x e o = refl
   right_holds idle Left x e o = refl
 
   -- a seat was cut in two
@@ -196,12 +224,18 @@ module _ {T L : Type 0} (c : Shape) (held : L → ℕ) where
   both_holds (AtRoot r heard) (AtPass p begun l) e = refl
   both_holds (AtRoot r heard) (AtRoot s heard') e = refl
   both_holds (AtRoot r heard) (AtMeeting p q) e = refl
+  both_holds (AtRoot r heard) (AtNote told) e = refl
+  both_holds (AtRoot r heard) (AtHearing p told) e = refl
   both_holds (AtRoot r heard) Left e = refl
   both_holds (AtPass p begun l) (AtPass q begun' l') e = refl
   both_holds (AtPass p begun l) (AtRoot s heard) e = sym e
   both_holds (AtPass p begun l) (AtMeeting q q') e = sym e
+  both_holds (AtPass p begun l) (AtNote told) e = refl
+  both_holds (AtPass p begun l) (AtHearing q told) e = sym e
   both_holds (AtPass p begun l) Left e = sym e
   both_holds (AtMeeting p q) w e = refl
+  both_holds (AtNote told) w e = refl
+  both_holds (AtHearing p told) w e = refl
   both_holds Left w e = refl
 
   -- a seat with empty hands was taken in by another

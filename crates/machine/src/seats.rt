@@ -13,6 +13,10 @@ pub enum View<T, L> {
     AtPass(PassView<T>, PassView<T>, L),
     /// Two passes that meet in one seat.
     AtMeeting(PassView<T>, PassView<T>),
+    /// A note: what its pass had seen when it was made.
+    AtNote(LinkedList<Event<T>>),
+    /// A pass that hears a note.
+    AtHearing(PassView<T>, LinkedList<Event<T>>),
     /// A seat that was joined to another.
     Left,
 }

@@ -1,4 +1,4 @@
--- Which passes and roots are a queue's, and what they have seen.
+-- Which passes, roots and notes are a queue's, and what they have seen.
 use Rattle.std.specs.Prelude.{ℕ, List, Option as Slot}
 use Rattle.tagged_index.specs.Limits.{capacity_of, tag_limit_of}
 use Rattle.bounded_model.specs.declared.views.PassView.{PassView}
@@ -8,6 +8,7 @@ use Rattle.running.specs.Machine as running
 use Rattle.running.specs.Passes as passes
 use Rattle.running.specs.declared.passes.Pass.{Pass}
 use Rattle.running.specs.declared.passes.Root.{Root}
+use Rattle.running.specs.declared.passes.Note.{Note}
 use Rattle.queue_table.specs.declared.operation.Operation.{Operation}
 use Rattle.queue_table.specs.Lines.{names}
 use Rattle.queue_table.proofs.Laws.{queue}
@@ -33,6 +34,10 @@ module _ {T : Type 0} where
 
   abbrev pub IsRootOf : Queue T → Root T (Line T) → Type 0
   IsRootOf c r = passes.IsRootOn (machine_of c) c.table.shared.table_id r
+
+  -- a note of one of its passes
+  abbrev pub IsNoteOf : Queue T → Note T (Line T) → Type 0
+  IsNoteOf c n = passes.IsNoteOn (machine_of c) c.table.shared.table_id n
 
   -- a pass in an operation, at a line and with these slots in hand
   abbrev pub IsAt : Queue T → Operation T → Pass T (Line T) → Line T → List (ℕ × Slot T) → Type 0

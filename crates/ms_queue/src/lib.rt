@@ -38,7 +38,7 @@ pub use closing::CloseOp;
 pub use looking::LookOp;
 pub use places::queue_places;
 pub use putting::PutOp;
-pub use queue::{Pass, Queue, Root};
+pub use queue::{Note, Pass, Queue, Root};
 pub use rest::Rest;
 pub use rule::Queued;
 pub use shutting::ShutOp;

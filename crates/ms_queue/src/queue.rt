@@ -34,3 +34,6 @@ pub type Pass<T> = running::Pass<T, Line<T>>;
 
 /// Gives passes and takes them back.
 pub type Root<T> = running::Root<T, Line<T>>;
+
+/// What a pass had seen as it was made. It has no bytes.
+pub type Note<T> = running::Note<T, Line<T>>;

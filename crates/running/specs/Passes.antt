@@ -1,16 +1,19 @@
--- Which passes and roots are those of a table, and what they have seen.
+-- Which passes, roots and notes are those of a table, and what they have seen.
 use Rattle.std.specs.Prelude.{◌≡◌, ℕ, ◌+◌, List, [], length, Option as Slot}
 use Rattle.atomic_table.specs.Seated.{TableId}
+use Rattle.bounded_model.specs.declared.history.Event.{Event}
 use Rattle.bounded_model.specs.declared.views.PassView.{PassView}
 use Rattle.bounded_model.specs.declared.views.RootView.{RootView}
+use Rattle.bounded_model.specs.Machine.{Legal}
 use Rattle.bounded_model.specs.Laws.{IsSound}
 use Rattle.bounded_model.specs.Stepping.{OneStep}
-use Rattle.machine.specs.declared.seats.View.TheVariants.{AtRoot}
-use Rattle.machine.specs.Seats.{pass_of, root_of}
+use Rattle.machine.specs.declared.seats.View.TheVariants.{AtRoot, AtNote}
+use Rattle.machine.specs.Seats.{pass_of, root_of, told_of}
 use Rattle.running.specs.Machine.{Names, Machine}
 use Rattle.running.specs.Going.{Rests, At, IsLine, begun_in}
 use Rattle.running.specs.declared.passes.Pass.{Pass}
 use Rattle.running.specs.declared.passes.Root.{Root}
+use Rattle.running.specs.declared.passes.Note.{Note}
 
 module _ {T L : Type 0} where
   abbrev pub pass_in : Pass T L → PassView T
@@ -18,6 +21,9 @@ module _ {T L : Type 0} where
 
   abbrev pub root_in : Root T L → RootView T
   root_in r = root_of r.seat.me.0
+
+  abbrev pub told_in : Note T L → List (Event T)
+  told_in n = told_of n.seat.me.0
 
 module _ {T L O : Type 0} {names : Names L O} (m : Machine T L O names) where
   -- a pass between its operations
@@ -32,6 +38,13 @@ module _ {T L O : Type 0} {names : Names L O} (m : Machine T L O names) where
     pub slots : r.seat.me.1 ≡ []
     pub sound : IsSound m.core.shape (root_in r)
     pub counted : (root_in r).given ≡ r.out + length (root_in r).account
+
+  -- a note
+  pub record IsNoteOn (id : TableId) (n : Note T L) : Type 0 where
+    pub table : n.seat.table_id ≡ id
+    pub view : n.seat.me.0 ≡ AtNote (told_in n)
+    pub slots : n.seat.me.1 ≡ []
+    pub legal : Legal m.core.shape (told_in n)
 
   -- a pass in an operation, at a line and with these slots in hand
   pub record IsAtOn (id : TableId) (o : O) (p : Pass T L) (l : L) (slots : List (ℕ × Slot T)) : Type 0 where

@@ -17,7 +17,7 @@ pub use lists::{
     load_top_step, mark_step, shut_step, store_link_step, take_all_step, take_bare_step,
     take_first_step,
 };
-pub use passes::{Pass, Root, join, meet, split};
+pub use passes::{Note, Pass, Root, heed, join, make_note, meet, split};
 pub use pause::Pause;
 pub use rule::{Machine, Running};
 pub use seats::peek;

@@ -1,7 +1,7 @@
 //! The passes and the root of a container, for all machines.
-ghost use Rattle.std.specs.Prelude.{◌≡◌, ◌<◌, MatchOption};
-ghost use Rattle.bounded_model.specs.Laws.{IsFullOfPasses, Splits, Joins, MeetGives};
-ghost use Rattle.running.specs.Passes.{IsPassOn, IsRootOn, pass_in, root_in};
+ghost use Rattle.std.specs.Prelude.{◌≡◌, ◌<◌, IfSome, MatchOption};
+ghost use Rattle.bounded_model.specs.Laws.{IsFullOfPasses, Splits, Joins, Heeds, MeetGives};
+ghost use Rattle.running.specs.Passes.{IsPassOn, IsRootOn, IsNoteOn, pass_in, root_in, told_in};
 
 use crate::rule::{Machine, Running};
 use crate::seats::{join_seats, look_round, split_seat};
@@ -22,6 +22,12 @@ pub struct Root<T, L> {
     pub seat: Seat<Option<T>, View<T, L>>,
     /// How many passes are out.
     pub out: u32,
+}
+
+/// What a pass had seen as it was made. It has no bytes.
+#[derive(Drop)]
+pub struct Note<T, L> {
+    pub seat: Seat<Option<T>, View<T, L>>,
 }
 
 /// A new pass, which has seen what the root has; `None` exactly where [`MAX_PASSES`] are out.
@@ -65,6 +71,42 @@ pub fn meet<T, L, O, M: Machine<T, L, O>>(
     look_round::<T, L, O, M>(table, &mut first.seat);
     let seat = split_seat::<T, L, O, M>(table, &mut first.seat);
     (Pass { seat }, true)
+}
+
+/// What the pass has seen, as a value of its own. The answer is always some note, since the table
+/// never lacks a seat.
+pub fn make_note<T, L, O, M: Machine<T, L, O>>(
+    table: &Shared<Option<T>, View<T, L>, Limits, Running<O, M>>,
+    by: &mut Pass<T, L>,
+) -> Option<Note<T, L>>
+    requires some_word { 0 < table.now.table_id.words }
+    requires pass { IsPassOn (M.machine table.now.key) table.now.table_id by.old }
+    ensures pass { IsPassOn (M.machine table.now.key) table.now.table_id by.new
+        × (pass_in by.new ≡ pass_in by.old) }
+    ensures gives { IfSome result (λ n. IsNoteOn (M.machine table.now.key) table.now.table_id n
+        × (told_in n ≡ (pass_in by.old).seen)) }
+{
+    let seat = split_seat::<T, L, O, M>(table, &mut by.seat);
+    Some(Note { seat })
+}
+
+/// The pass has now seen at least what the note tells.
+pub fn heed<T, L, O, M: Machine<T, L, O>>(
+    table: &Shared<Option<T>, View<T, L>, Limits, Running<O, M>>,
+    by: &mut Pass<T, L>,
+    note: Note<T, L>,
+)
+    requires some_word { 0 < table.now.table_id.words }
+    requires pass { IsPassOn (M.machine table.now.key) table.now.table_id by.old }
+    requires note { IsNoteOn (M.machine table.now.key) table.now.table_id note }
+    ensures of { IsPassOn (M.machine table.now.key) table.now.table_id by.new }
+    ensures gives { Heeds (pass_in by.old) (told_in note) (pass_in by.new) }
+{
+    let Note { seat } = note;
+    join_seats::<T, L, O, M>(table, &mut by.seat, seat);
+    look_round::<T, L, O, M>(table, &mut by.seat);
+    // What is cut off is the note again.
+    let _ = split_seat::<T, L, O, M>(table, &mut by.seat);
 }
 
 /// The root takes a pass back: it has now seen what the pass has.

@@ -1,4 +1,4 @@
--- Which passes and roots are a stack's, and what they have seen.
+-- Which passes, roots and notes are a stack's, and what they have seen.
 use Rattle.std.specs.Prelude.{ℕ, List, Option as Slot}
 use Rattle.tagged_index.specs.Limits.{capacity_of, tag_limit_of}
 use Rattle.bounded_model.specs.declared.views.PassView.{PassView}
@@ -7,9 +7,10 @@ use Rattle.bounded_model.specs.Laws.{Call}
 use Rattle.stack_machine.specs.declared.lines.Line.{Line}
 use Rattle.running.specs.Machine as running
 use Rattle.running.specs.Passes as passes
-pub use Rattle.running.specs.Passes.{pass_in, root_in}
+pub use Rattle.running.specs.Passes.{pass_in, root_in, told_in}
 use Rattle.running.specs.declared.passes.Pass.{Pass}
 use Rattle.running.specs.declared.passes.Root.{Root}
+use Rattle.running.specs.declared.passes.Note.{Note}
 use Rattle.stack_table.specs.declared.operation.Operation.{Operation}
 use Rattle.stack_table.specs.Lines.{names}
 use Rattle.stack_table.proofs.Laws.{stack}
@@ -39,6 +40,10 @@ module _ {T : Type 0} where
 
   abbrev pub IsRootOf : Stack T → Root T (Line T) → Type 0
   IsRootOf c r = passes.IsRootOn (machine_of c) c.table.shared.table_id r
+
+  -- a note of one of its passes
+  abbrev pub IsNoteOf : Stack T → Note T (Line T) → Type 0
+  IsNoteOf c n = passes.IsNoteOn (machine_of c) c.table.shared.table_id n
 
   -- a pass in an operation, at a line and with these slots in hand
   abbrev pub IsAt : Stack T → Operation T → Pass T (Line T) → Line T → List (ℕ × Slot T) → Type 0

@@ -2,18 +2,28 @@
 //! each exchange that was lost.
 use crate::closing::Mark;
 use crate::rest::Rest;
-use crate::stack::{Pass, Root, Stack};
+use crate::stack::{Note, Pass, Root, Stack};
 use bounded_model::{Container, Order, PutRefused, TakeRefused};
 use std::sync::Wait;
 
 impl<T: Drop + Send> Container<T> for Stack<T> {
     ghost use Rattle.std.proofs.Common.{refl};
     ghost use Rattle.bounded_model.specs.declared.history.Order.TheVariants.{Lifo};
-    ghost use Rattle.treiber_stack.specs.Stack.{shape_of, IsPassOf, IsRootOf, pass_in, root_in};
+    ghost use Rattle.treiber_stack.specs.Stack.{
+      shape_of,
+      IsPassOf,
+      IsRootOf,
+      IsNoteOf,
+      pass_in,
+      root_in,
+      told_in,
+    };
 
     type Root = Root<T>;
 
     type Pass = Pass<T>;
+
+    type Note = Note<T>;
 
     type Rest = Rest<T>;
 
@@ -27,13 +37,19 @@ impl<T: Drop + Send> Container<T> for Stack<T> {
 
     ghost is_root = { IsRootOf };
 
+    ghost is_note = { IsNoteOf };
+
     ghost pass = { pass_in };
 
     ghost root = { root_in };
 
+    ghost told = { told_in };
+
     ghost order_law = { λ c. refl };
 
     ghost pass_law = { λ c p is. is.rests.rests };
+
+    ghost note_law = { λ c n is. is.legal };
 
     ghost root_law = { λ c r is. is.sound };
 
@@ -68,6 +84,15 @@ impl<T: Drop + Send> Container<T> for Stack<T> {
     /// The answer is always true, since the table never lacks a seat.
     fn meet(&self, first: &mut Pass<T>, second: Pass<T>) -> (Pass<T>, bool) {
         running::meet(&self.table.shared, first, second)
+    }
+
+    /// The answer is always some note, since the table never lacks a seat.
+    fn note(&self, by: &mut Pass<T>) -> Option<Note<T>> {
+        running::make_note(&self.table.shared, by)
+    }
+
+    fn heed(&self, by: &mut Pass<T>, note: Note<T>) {
+        running::heed(&self.table.shared, by, note)
     }
 
     fn join(&self, parent: &mut Root<T>, by: Pass<T>) {

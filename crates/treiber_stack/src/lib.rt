@@ -35,6 +35,6 @@ pub use places::stack_places;
 pub use putting::PutOp;
 pub use rest::Rest;
 pub use rule::Stacked;
-pub use stack::{Pass, Root, Stack};
+pub use stack::{Note, Pass, Root, Stack};
 pub use stepwise::LookOp;
 pub use taking::TakeOp;

@@ -1,0 +1,24 @@
+use Rattle.std.proofs.Common.{ap, sym, subst, ◌∙◌}
+use Rattle.bounded_model.specs.Machine.{Legal}
+use Rattle.bounded_model.specs.Laws.{IsAtRest}
+use Rattle.machine.proofs.SeatedCalls.{note_view}
+use Rattle.running.proofs.passes.make_note.Goals as goal
+
+pub returns-clause-pass : goal.returns-clause-pass
+returns-clause-pass g c =
+    let m = g.M.Machine.machine c.args.table.now.key in
+    let e = c.split_seat-seat.ensures in
+    let v = note_view g.M.Machine.names.idle c.args.by.now.seat.me.0 c.split_seat-seat.new.seat.me.0 c.split_seat-seat.result.me.0 c.requires.pass.rests.view (ap (λ m. m.0) e.left) (ap (λ m. m.0) e.right) in (
+      record {
+        table = e.table.0 ∙ c.requires.pass.table;
+        rests = record { view = v.pass; slots = ap (λ m. m.1) e.left ∙ c.requires.pass.rests.slots; rests = subst (IsAtRest m.core.shape) (sym v.same) c.requires.pass.rests.rests };
+      },
+      v.same,
+    )
+
+pub returns-clause-gives : goal.returns-clause-gives
+returns-clause-gives g c =
+    let m = g.M.Machine.machine c.args.table.now.key in
+    let e = c.split_seat-seat.ensures in
+    let v = note_view g.M.Machine.names.idle c.args.by.now.seat.me.0 c.split_seat-seat.new.seat.me.0 c.split_seat-seat.result.me.0 c.requires.pass.rests.view (ap (λ m. m.0) e.left) (ap (λ m. m.0) e.right) in
+    (record { table = e.table.1 ∙ c.requires.pass.table; view = v.note; slots = ap (λ m. m.1) e.right; legal = subst (Legal m.core.shape) (sym v.told) c.requires.pass.rests.rests.legal }, v.told)
