@@ -4,6 +4,11 @@
 -- each operation takes effect at one point between its invocation and its response, and the operations in the
 -- order of their points are a legal sequential history of the object. Pending operations may have taken effect
 -- (their extension of the history) or not.
+--
+-- Their words: a process is a pass; an operation, `Operation`; a sequential specification, `Object`; an invocation and a
+-- response, `Invokes` and `Responds`; a pending operation, `Pending`; the completed ones of a process, `completed`; that
+-- the sequential history is legal and has the same operations (L1), `IsLinearization`; that it keeps the order of
+-- operations that do not overlap (L2), `KeepsRealTimeOrder`; linearizable, `Linearizable`.
 use Rattle.std.specs.Prelude.{◌≡◌, ◌⊎◌, ℕ, ◌==◌, if◌then◌else◌, List, [], ◌∷◌, ◌++◌}
 use mathlib.Core.Option.{Option, none, some}
 use lib.ListN.{get_elem?}

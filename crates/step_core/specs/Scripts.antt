@@ -4,17 +4,16 @@ use mathlib.Core.Option.{Option, none, some}
 use lib.ListN.{get_elem?}
 use Rattle.machine.specs.Schedule.{Machine, Pass, State, Begin, Step, acts_at, start}
 
--- what a line of a script says: a pass makes a whole call, begins one, or makes at most so many steps; at the end, what is left
+-- what a line of a script says: a pass makes a whole call, begins one and makes at most so many steps, or makes as many more; at the end, what is left
 pub data Says (C : Type 0) : Type 0 where
   calls : (p : ℕ) (call : C) → Says C
-  begins : (p : ℕ) (call : C) → Says C
+  begins : (p : ℕ) (call : C) (count : ℕ) → Says C
   steps : (p count : ℕ) → Says C
   finish : Says C
 
--- the reply: the call's answer; a call has begun; it goes on, so many steps after its begin, or has ended after so many; the values left
+-- the reply: the call's answer; it goes on, so many steps after its begin, or has ended after so many; the values left
 pub data Reply (A : Type 0) : Type 0 where
   answers : (answer : A) → Reply A
-  begun : Reply A
   again : (count : ℕ) → Reply A
   ended : (answer : A) (count : ℕ) → Reply A
   rest : (values : List ℕ) → Reply A
@@ -75,7 +74,7 @@ module _ {M L C A E : Type 0} (x : Player M L C A E) where
   abbrev pub replies : Stage M L C E → List (Says C) → List (Reply A)
   replies s [] = []
   replies s (calls p call ∷ more) = let t = after_call s p call in answer_at (x.answer (line_at t p)) ∷ replies t more
-  replies s (begins p call ∷ more) = begun ∷ replies (after_begin s p call) more
+  replies s (begins p call k ∷ more) = let t = after_steps k (after_begin s p call) p in progress (line_at t p) (count_at t p) ∷ replies t more
   replies s (steps p k ∷ more) = let t = after_steps k s p in progress (line_at t p) (count_at t p) ∷ replies t more
   replies s (finish ∷ more) = rest (x.left s.state.memory) ∷ replies s more
 

@@ -16,10 +16,11 @@ pub use list_laws::list_core;
 pub use list_shown::list_exhibits;
 pub use queue_laws::{
     queue_answers, queue_bound, queue_core, queue_linearizable, queue_lock_free, queue_nodes,
-    queue_order,
+    queue_order, queue_rule,
 };
 pub use queue_shown::queue_exhibits;
 pub use stack_laws::{
     stack_answers, stack_bound, stack_core, stack_linearizable, stack_lock_free, stack_nodes,
+    stack_rule,
 };
 pub use stack_shown::stack_exhibits;

@@ -1,10 +1,11 @@
-//! The laws of the queue's machine.
+//! The laws of the queue's machine (Michael and Scott 1996), in the words of Herlihy and Wing (1990)
+//! and Herlihy (1991, 1993).
 ghost use Rattle.std.specs.Prelude.{◌≡◌, ℕ, suc, ◌+◌, ◌*◌, ◌<◌, ◌≤◌, List, ◌++◌};
 ghost use mathlib.Core.Option.{some};
 ghost use lib.ListN.{get_elem?};
 ghost use Rattle.tagged_index.specs.declared.word.TheConstants.{NULL};
 ghost use Rattle.bounded_model.specs.Gathers.{gather, sent_of, took_of, values_of, Counts};
-ghost use Rattle.machine.specs.Schedule.{Schedule, start, after};
+ghost use Rattle.machine.specs.Schedule.{Act, Schedule, start, after, next};
 ghost use Rattle.machine.specs.Bound.{IsStretch, own_steps};
 ghost use Rattle.machine.specs.Progress.{steps_made, calls_ended, calls_cost, others_win, AtOnce, LockFree};
 ghost use Rattle.queue_machine.specs.declared.lines.Answer.{Answer};
@@ -26,6 +27,16 @@ ghost use Rattle.step_core.specs.queue.Costs.{cost};
 pub fn queue_core<T>()
     ensures { (n limit passes : ℕ) (schedule : Schedule (Call T)) → 0 < n → n < NULL → 0 < limit →
         Lawful T n limit (after (queue (shape n limit)) passes schedule) }
+{}
+
+/// The rule of the queue's machine holds before the first act of any number of passes, and whatever a
+/// pass does keeps it: a begin of each call, and the step of each line. The table of a running queue
+/// has to meet the same rule.
+pub fn queue_rule<T>()
+    ensures at_the_start { (n limit passes : ℕ) → 0 < n → n < NULL → 0 < limit →
+        MeetsRule n limit (start (queue {T = T} (shape n limit)) passes) }
+    ensures kept { (n limit p : ℕ) (act : Act (Call T)) (s : State T) →
+        MeetsRule n limit s → MeetsRule n limit (next (queue (shape n limit)) s (p, act)) }
 {}
 
 /// No cell and no node of a queue is used again while a pass holds it. Wherever the rule holds, and
@@ -68,7 +79,8 @@ pub fn queue_bound<T>()
         MeetsRule n limit (after (queue (shape n limit)) passes schedule) }
 {}
 
-/// A queue is lock-free, by number and without any fairness. Where never more than P = 1 + `others`
+/// A queue is lock-free (Herlihy 1993, there non-blocking), by number and without any fairness, and no
+/// more than that: a single pass may be overtaken for ever, so it is not wait-free (Herlihy 1991). Where never more than P = 1 + `others`
 /// passes are in a call at once, they make at most 14 * P + 6 steps for each call that ends, and for
 /// each of the P: from every state that meets the rule. So among any P * (14 * P + 6) + 1 steps after
 /// any schedule of P passes, some call ends. And in all, from the start, the passes make no more

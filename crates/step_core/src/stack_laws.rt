@@ -1,10 +1,11 @@
-//! The laws of the stack's machine.
+//! The laws of the stack's machine (Treiber 1986), in the words of Herlihy and Wing (1990) and Herlihy
+//! (1991, 1993).
 ghost use Rattle.std.specs.Prelude.{◌≡◌, ℕ, suc, ◌+◌, ◌*◌, ◌<◌, ◌≤◌, List, ◌++◌};
 ghost use mathlib.Core.Option.{some};
 ghost use lib.ListN.{get_elem?};
 ghost use Rattle.tagged_index.specs.declared.word.TheConstants.{NULL};
 ghost use Rattle.bounded_model.specs.Machine.{Shape};
-ghost use Rattle.machine.specs.Schedule.{Schedule, start, after};
+ghost use Rattle.machine.specs.Schedule.{Act, Schedule, start, after, next};
 ghost use Rattle.machine.specs.Bound.{AtLine, IsStretch, own_steps};
 ghost use Rattle.machine.specs.Progress.{Only, steps_made, calls_ended, calls_cost, others_win, AtOnce, LockFree, LockFreeOf};
 ghost use Rattle.stack_machine.specs.declared.lines.Answer.{Answer};
@@ -26,6 +27,15 @@ ghost use Rattle.step_core.specs.stack.Law.{Lawful, AllDone, NoneUnanswered, Mee
 pub fn stack_core<T>()
     ensures { (n limit passes : ℕ) (schedule : Schedule (Call T)) → 0 < n → n ≤ NULL →
         Lawful T n limit (after (stack (shape n limit)) passes schedule) }
+{}
+
+/// The rule of the stack's machine holds before the first act of any number of passes, and whatever
+/// a pass does keeps it (`queue_rule`).
+pub fn stack_rule<T>()
+    ensures at_the_start { (n limit passes : ℕ) → 0 < n → n ≤ NULL →
+        MeetsRule n limit (start (stack {T = T} (shape n limit)) passes) }
+    ensures kept { (n limit p : ℕ) (act : Act (Call T)) (s : State T) →
+        MeetsRule n limit s → MeetsRule n limit (next (stack (shape n limit)) s (p, act)) }
 {}
 
 /// No node of a stack is used again while a pass holds it. Wherever the rule holds, and so in every

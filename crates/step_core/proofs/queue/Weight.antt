@@ -1,6 +1,6 @@
 -- How many steps a line of the queue has left at most while no other pass wins an exchange, by how much an
 -- exchange raises that number for another line, and how much the exchanges that its call may yet win do.
-use Rattle.std.proofs.Common.{ℕ, ◌+◌, ◌<◌, ◌≤◌, ◌&&◌, ◌||◌, not, Bool, cond, eqb, arith}
+use Rattle.std.proofs.Common.{ℕ, ◌+◌, ◌≤◌, ◌&&◌, ◌||◌, not, Bool, cond, eqb, arith}
 use Rattle.tagged_index.specs.declared.word.TheConstants.{NULL}
 use Rattle.machine.specs.Words.{Tagged, same}
 use Rattle.machine.proofs.Tests.{one_of, lost, lost_small, lost_grows, lost_two, lost_two_small}

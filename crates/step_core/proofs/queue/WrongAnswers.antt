@@ -1,5 +1,5 @@
 -- Why those of specs/queue/WrongAnswers are refused.
-use Rattle.std.proofs.Common.{◌≡◌, ℕ, ◌+◌, true, List, length, ⊎_elim, [], ◌∷◌, ◌++◌, Ok, Err, refl, sym, ap, ◌∙◌, subst, append-nil, arith}
+use Rattle.std.proofs.Common.{◌≡◌, ℕ, true, List, length, ⊎_elim, [], ◌∷◌, ◌++◌, Ok, Err, refl, sym, ap, ◌∙◌, subst, append-nil, arith}
 use mathlib.Core.Option.{some, some-injective}
 use Rattle.bounded_model.specs.declared.answers.PutRefused.TheVariants.{Closed}
 use Rattle.bounded_model.specs.declared.history.Event.{Event}

@@ -1,6 +1,6 @@
 -- The stack's calls end: in every schedule the steps made are paid for by the calls, and each call by its own
 -- steps and by the exchanges that others win.
-use Rattle.std.proofs.Common.{◌≡◌, ℕ, suc, ◌+◌, ◌*◌, ◌-◌, ◌<◌, ◌≤◌, ◌==◌, Bool, true, false, cond, ltb, leb, List, [], ◌∷◌, length, map, refl, ap, subst, arith, Option as Slot, Some}
+use Rattle.std.proofs.Common.{◌≡◌, ℕ, suc, ◌+◌, ◌*◌, ◌<◌, ◌≤◌, ◌==◌, Bool, true, false, cond, ltb, leb, List, [], ◌∷◌, length, map, refl, ap, subst, arith, Option as Slot, Some}
 use Rattle.std.proofs.Math.Nat.{mul-le-mul_right}
 use Rattle.std.proofs.lemmas.Bool.{false≢true}
 use Rattle.std.proofs.lemmas.Bool.Decides.{nat_tests}

@@ -1,12 +1,11 @@
 -- Why those of specs/stack/Mistakes are refused.
-use Rattle.std.proofs.Common.{◌≡◌, ⊎_elim, ℕ, ◌+◌, false, List, [], ◌∷◌, refl, sym, ap, ◌∙◌, arith, Some, None, Option as Slot}
+use Rattle.std.proofs.Common.{◌≡◌, ⊎_elim, ℕ, ◌+◌, List, [], ◌∷◌, refl, sym, ap, ◌∙◌, arith, Some, None, Option as Slot}
 use Rattle.std.proofs.lemmas.Bool.{false≢true}
 use mathlib.Core.Option.{Option, some}
 use Rattle.tagged_index.specs.declared.word.TheConstants.{NULL}
 use Rattle.bounded_model.specs.declared.history.Event.TheVariants.{Hold, Put, Take, Free, Close, Shut}
 use Rattle.bounded_model.specs.Machine.{Legal}
 use Rattle.machine.specs.Words.{times, Stands}
-use Rattle.stack_machine.specs.Machine.{stack}
 use Rattle.machine.specs.Chains.{HasValues}
 use Rattle.stack_machine.specs.Answers.{shape}
 use Rattle.machine.proofs.OneList.{none_there}

@@ -16,7 +16,7 @@ use Rattle.stack_machine.specs.Answers.{shape}
 use Rattle.stack_machine.specs.Deeds.{PutAtOnce, FoldedAll, Makes}
 use Rattle.stack_machine.specs.Machine.{Pass, ends}
 use Rattle.step_core.specs.stack.Law.{HasAnswered}
-use Rattle.step_core.specs.stack.WrongAnswers.{ValueBetweenUnlawful, FoldAsATakeUnlawful, FoldWithoutATurnUnlawful, PutOnlyTheFirstUnlawful, ShutAsACloseUnlawful, between, two_values}
+use Rattle.step_core.specs.stack.WrongAnswers.{ValueBetweenUnlawful, FoldAsATakeUnlawful, FoldWithoutATurnUnlawful, PutOnlyTheFirstUnlawful, ShutAsACloseUnlawful, two_values}
 
 -- what pass 0 makes of a call, which did nothing before it
 made : (v : Pass ℕ) (a : Answer ℕ) (call : Call ℕ) → v.call ≡ some call → own 0 v.begun ≡ [] → HasAnswered (shape 3 15) 0 v a → Makes 0 call a (own 0 v.seen)

@@ -15,7 +15,7 @@ use Rattle.stack_machine.specs.declared.lines.Line.TheVariants.{Idle}
 use Rattle.stack_machine.specs.Machine.{Pass}
 use Rattle.stack_machine.specs.Answers.{state}
 use Rattle.step_core.specs.Linearizable.{Responds, without_points, events}
-use Rattle.step_core.specs.stack.Object.{Makes, IsSaid, object, answer}
+use Rattle.step_core.specs.stack.Object.{Makes, IsSaid, object}
 use Rattle.step_core.proofs.Heard.{heard, in_order, among_left, among_right}
 use Rattle.step_core.proofs.Entries.{events-append}
 use Rattle.step_core.specs.stack.WrongPoints.{LostTakeNotLinearizable, LostTakeUnanswered, StaleTakeNotLinearizable}

@@ -1,5 +1,5 @@
 -- A run of the list's machine, computed, and a wrong machine that breaks the law.
-use Rattle.std.specs.Prelude.{◌≡◌, ℕ, ◌+◌, false, List, [], ◌∷◌, ◌++◌, replicate}
+use Rattle.std.specs.Prelude.{◌≡◌, ℕ, false, List, [], ◌∷◌, ◌++◌, replicate}
 use Rattle.machine.specs.Words.{total}
 use Rattle.machine.specs.Schedule.{Machine, Act, Begin, Step, run, start}
 use Rattle.step_core.specs.list.Machine.{Memory, At, Call, Take, Give, Events, Outcome, State, step, list}

@@ -13,13 +13,20 @@ use Rattle.queue_machine.specs.declared.lines.Call.{Call}
 use Rattle.queue_machine.specs.declared.lines.Call.TheVariants.{Put as PutCall, Take as TakeCall}
 use Rattle.queue_machine.specs.declared.lines.Line.{Line}
 use Rattle.queue_machine.specs.declared.lines.Line.TheVariants.{Idle}
-use Rattle.queue_machine.specs.Machine.{Memory, queue}
+use Rattle.queue_machine.specs.Machine.{Memory, Outcome, queue}
 use Rattle.step_core.specs.queue.Law.{values_left}
 use Rattle.step_core.specs.Scripts.{Player}
 
 -- machines over the queue's words and lines, for each shape
 abbrev pub Machines : Type 0
 Machines = Shape → Machine (Memory ℕ) (Line ℕ) (Call ℕ) (Event ℕ)
+
+-- the queue's machine with other steps
+abbrev pub Moves : Type 0
+Moves = Shape → Memory ℕ → ℕ → Line ℕ → Outcome ℕ
+
+abbrev pub queue_with : Moves → Machines
+queue_with moves s = record (queue s) { step = moves s }
 
 abbrev pub Players : Type 0
 Players = Player (Memory ℕ) (Line ℕ) (Call ℕ) (Answer ℕ) (Event ℕ)

@@ -1,5 +1,5 @@
 -- Machines that are nearly the queue's, and for each a schedule in which it breaks the law.
-use Rattle.std.specs.Prelude.{◌≡◌, ℕ, ◌+◌, if◌then◌else◌, ◌==◌, true, List, [], ◌∷◌, ◌++◌, map, replicate, None}
+use Rattle.std.specs.Prelude.{◌≡◌, ℕ, if◌then◌else◌, ◌==◌, true, List, [], ◌∷◌, ◌++◌, map, replicate, None}
 use mathlib.Core.Option.{Option, none, some}
 use lib.ListN.{get_elem?}
 use Rattle.bounded_model.specs.declared.history.Event.TheVariants.{Free, Close, Shut}

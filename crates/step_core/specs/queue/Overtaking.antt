@@ -5,7 +5,7 @@ use Rattle.bounded_model.specs.declared.answers.TakeRefused.TheVariants.{Empty, 
 use Rattle.queue_machine.specs.declared.lines.Answer.{Answer}
 use Rattle.queue_machine.specs.declared.lines.Answer.TheVariants.{Close, Shut as ShutAnswer, Look}
 use Rattle.queue_machine.specs.declared.lines.Call.TheVariants.{Close as CloseCall, Shut as ShutCall, Look as LookCall}
-use Rattle.step_core.specs.Scripts.{Reply, curtain, replies, calls, begins, steps, finish, answers, begun, again, ended, rest, Plays}
+use Rattle.step_core.specs.Scripts.{Reply, curtain, replies, calls, begins, steps, finish, answers, again, ended, rest, Plays}
 use Rattle.queue_machine.specs.Answers.{shape}
 use Rattle.step_core.specs.Letters.{a, b, c, u, v, w, x, y, z}
 use Rattle.step_core.specs.queue.Cast.{plays, put, take, put_is, full, put_closed, cells_spent, next_spent, take_is, no_take}
@@ -13,24 +13,20 @@ use Rattle.step_core.specs.queue.Cast.{plays, put, take, put_is, full, put_close
 -- a look sees the value that was put while it was under way; a shut finds the queue shut by another
 abbrev pub LookAndShut : Type 0
 LookAndShut = Plays (plays (shape 2 7))
-    ((begins a LookCall, begun)
-    ∷ (steps a 1, again 1)
+    ((begins a LookCall 1, again 1)
     ∷ (calls b (put x), answers (put_is 0))
     ∷ (steps a 9, ended (Look false) 3)
-    ∷ (begins a ShutCall, begun)
-    ∷ (steps a 1, again 1)
+    ∷ (begins a ShutCall 1, again 1)
     ∷ (calls b ShutCall, answers (ShutAnswer true))
     ∷ (steps a 9, ended (ShutAnswer false) 3)
-    ∷ (begins a take, begun)
-    ∷ (steps a 9, ended (no_take Shut) 1)
+    ∷ (begins a take 9, ended (no_take Shut) 1)
     ∷ (finish, rest (x ∷ []))
     ∷ [])
 
 -- a put overtakes a close, which then closes behind it
 abbrev pub PutOvertakesClose : Type 0
 PutOvertakesClose = Plays (plays (shape 2 7))
-    ((begins a CloseCall, begun)
-    ∷ (steps a 3, again 3)
+    ((begins a CloseCall 3, again 3)
     ∷ (calls b (put x), answers (put_is 0))
     ∷ (steps a 20, ended (Close true) 8)
     ∷ (calls b (put y), answers (put_closed y))
@@ -42,8 +38,7 @@ PutOvertakesClose = Plays (plays (shape 2 7))
 -- a close finds the queue closed by another
 abbrev pub CloseOvertakesClose : Type 0
 CloseOvertakesClose = Plays (plays (shape 2 7))
-    ((begins a CloseCall, begun)
-    ∷ (steps a 2, again 2)
+    ((begins a CloseCall 2, again 2)
     ∷ (calls b CloseCall, answers (Close true))
     ∷ (steps a 20, ended (Close false) 7)
     ∷ (finish, rest ([]))
@@ -53,8 +48,7 @@ CloseOvertakesClose = Plays (plays (shape 2 7))
 abbrev pub CloseOvertakesFull : Type 0
 CloseOvertakesFull = Plays (plays (shape 1 7))
     ((calls a (put x), answers (put_is 0))
-    ∷ (begins b (put y), begun)
-    ∷ (steps b 2, again 2)
+    ∷ (begins b (put y) 2, again 2)
     ∷ (calls a CloseCall, answers (Close true))
     ∷ (steps b 20, ended (put_closed y) 4)
     ∷ (finish, rest (x ∷ []))
@@ -64,20 +58,16 @@ CloseOvertakesFull = Plays (plays (shape 1 7))
 abbrev pub FullHelps : Type 0
 FullHelps = Plays (plays (shape 2 9))
     ((calls a (put x), answers (put_is 0))
-    ∷ (begins c (put z), begun)
-    ∷ (steps c 13, again 13)
-    ∷ (begins b (put y), begun)
-    ∷ (steps b 20, ended (full y) 8)
+    ∷ (begins c (put z) 13, again 13)
+    ∷ (begins b (put y) 20, ended (full y) 8)
     ∷ (finish, rest (x ∷ z ∷ []))
     ∷ [])
 
 -- a close moves the tail on, and takes go on
 abbrev pub CloseHelps : Type 0
 CloseHelps = Plays (plays (shape 3 9))
-    ((begins a (put x), begun)
-    ∷ (steps a 13, again 13)
-    ∷ (begins b CloseCall, begun)
-    ∷ (steps b 20, ended (Close true) 8)
+    ((begins a (put x) 13, again 13)
+    ∷ (begins b CloseCall 20, ended (Close true) 8)
     ∷ (calls c take, answers (take_is 0 x))
     ∷ (calls c take, answers (no_take Closed))
     ∷ (steps a 3, ended (put_is 0) 14)
@@ -88,8 +78,7 @@ CloseHelps = Plays (plays (shape 3 9))
 abbrev pub PutLeft : Type 0
 PutLeft = Plays (plays (shape 2 7))
     ((calls a (put x), answers (put_is 0))
-    ∷ (begins b (put y), begun)
-    ∷ (steps b 7, again 7)
+    ∷ (begins b (put y) 7, again 7)
     ∷ (calls a (put z), answers (full z))
     ∷ (calls c take, answers (take_is 0 x))
     ∷ (calls c take, answers (no_take Empty))
@@ -99,8 +88,7 @@ PutLeft = Plays (plays (shape 2 7))
 -- a put that stops when it has its cell, and is dropped: another pass finds the queue full and empty
 abbrev pub PutDropped : Type 0
 PutDropped = Plays (plays (shape 1 7))
-    ((begins a (put x), begun)
-    ∷ (steps a 3, again 3)
+    ((begins a (put x) 3, again 3)
     ∷ (calls b (put y), answers (full y))
     ∷ (calls c (put z), answers (full z))
     ∷ (calls b take, answers (no_take Empty))
@@ -116,9 +104,8 @@ Looks = Plays (plays (shape 1 7))
     ∷ (calls a (put x), answers (put_is 0))
     ∷ (calls a LookCall, answers (Look false))
     ∷ (calls c LookCall, answers (Look false))
-    ∷ (begins a LookCall, begun)
-    ∷ (steps a 3, ended (Look false) 3)
-    ∷ (begins a take, begun)
+    ∷ (begins a LookCall 3, ended (Look false) 3)
+    ∷ (begins a take 0, again 0)
     ∷ (calls b take, answers (take_is 0 x))
     ∷ (steps a 40, ended (no_take Empty) 4)
     ∷ [])
@@ -150,8 +137,7 @@ NextSpentBeforeClosed = Plays (plays (shape 1 3))
     ∷ (calls a (put w), answers (put_is 1))
     ∷ (calls a take, answers (take_is 1 w))
     ∷ (calls b CloseCall, answers (Close true))
-    ∷ (begins a (put x), begun)
-    ∷ (steps a 20, ended (next_spent 1 2 x) 14)
+    ∷ (begins a (put x) 20, ended (next_spent 1 2 x) 14)
     ∷ [])
 
 -- no free cell, and the tag of their top at the limit: the queue is full
@@ -178,8 +164,7 @@ ShutBeforeEmpty = Plays (plays (shape 1 7))
 -- a close finds another tail, and so takes no link of the old one to be the last
 abbrev pub TailBeforeLink : Type 0
 TailBeforeLink = Plays (plays (shape 2 9))
-    ((begins a CloseCall, begun)
-    ∷ (steps a 1, again 1)
+    ((begins a CloseCall 1, again 1)
     ∷ (calls b (put x), answers (put_is 0))
     ∷ (calls b take, answers (take_is 0 x))
     ∷ (calls b (put y), answers (put_is 1))
@@ -191,12 +176,10 @@ TailBeforeLink = Plays (plays (shape 2 9))
 -- nor a null link, which another put has prepared by now
 abbrev pub TailBeforeNullLink : Type 0
 TailBeforeNullLink = Plays (plays (shape 2 9))
-    ((begins a CloseCall, begun)
-    ∷ (steps a 1, again 1)
+    ((begins a CloseCall 1, again 1)
     ∷ (calls b (put x), answers (put_is 0))
     ∷ (calls b take, answers (take_is 0 x))
-    ∷ (begins c (put y), begun)
-    ∷ (steps c 9, again 9)
+    ∷ (begins c (put y) 9, again 9)
     ∷ (steps a 2, again 3)
     ∷ (steps a 20, ended (Close true) 7)
     ∷ [])
@@ -204,8 +187,7 @@ TailBeforeNullLink = Plays (plays (shape 2 9))
 -- nor a link to a node: it has nothing to move on
 abbrev pub TailBeforeNode : Type 0
 TailBeforeNode = Plays (plays (shape 2 9))
-    ((begins a CloseCall, begun)
-    ∷ (steps a 1, again 1)
+    ((begins a CloseCall 1, again 1)
     ∷ (calls b (put x), answers (put_is 0))
     ∷ (steps a 20, ended (Close true) 7)
     ∷ [])
@@ -213,10 +195,8 @@ TailBeforeNode = Plays (plays (shape 2 9))
 -- a take whose head is gone moves no tail
 abbrev pub HeadBeforeTail : Type 0
 HeadBeforeTail = Plays (plays (shape 2 9))
-    ((begins c (put x), begun)
-    ∷ (steps c 13, again 13)
-    ∷ (begins a take, begun)
-    ∷ (steps a 3, again 3)
+    ((begins c (put x) 13, again 13)
+    ∷ (begins a take 3, again 3)
     ∷ (calls b take, answers (take_is 0 x))
     ∷ (steps a 20, ended (no_take Empty) 8)
     ∷ [])
@@ -224,12 +204,10 @@ HeadBeforeTail = Plays (plays (shape 2 9))
 -- a take finds another head, and so takes no link of the old one to be the first
 abbrev pub HeadBeforeLink : Type 0
 HeadBeforeLink = Plays (plays (shape 2 9))
-    ((begins a take, begun)
-    ∷ (steps a 1, again 1)
+    ((begins a take 1, again 1)
     ∷ (calls b (put x), answers (put_is 0))
     ∷ (calls b take, answers (take_is 0 x))
-    ∷ (begins c (put y), begun)
-    ∷ (steps c 9, again 9)
+    ∷ (begins c (put y) 9, again 9)
     ∷ (steps a 3, again 4)
     ∷ (steps a 20, ended (no_take Empty) 8)
     ∷ [])
@@ -237,8 +215,7 @@ HeadBeforeLink = Plays (plays (shape 2 9))
 -- nor for the mark
 abbrev pub HeadBeforeMark : Type 0
 HeadBeforeMark = Plays (plays (shape 2 9))
-    ((begins a take, begun)
-    ∷ (steps a 1, again 1)
+    ((begins a take 1, again 1)
     ∷ (calls b (put x), answers (put_is 0))
     ∷ (calls b take, answers (take_is 0 x))
     ∷ (calls b (put y), answers (put_is 1))
@@ -251,8 +228,7 @@ HeadBeforeMark = Plays (plays (shape 2 9))
 -- a look finds another head too
 abbrev pub HeadBeforeAnswer : Type 0
 HeadBeforeAnswer = Plays (plays (shape 2 9))
-    ((begins a LookCall, begun)
-    ∷ (steps a 1, again 1)
+    ((begins a LookCall 1, again 1)
     ∷ (calls b (put x), answers (put_is 0))
     ∷ (calls b take, answers (take_is 0 x))
     ∷ (steps a 2, again 3)
@@ -266,15 +242,15 @@ has_ended (ended answer count ∷ []) = true
 has_ended replies = false
 
 abbrev pub put_ends : ℕ → Bool
-put_ends k = has_ended (drop 8 (replies (plays (shape 2 7)) (curtain (plays (shape 2 7)))
-    (calls b (put v) ∷ begins a (put y) ∷ steps a k ∷ calls b (put w) ∷ calls b take ∷ calls b take ∷ calls b take ∷ calls b CloseCall ∷ steps a 32 ∷ [])))
+put_ends k = has_ended (drop 7 (replies (plays (shape 2 7)) (curtain (plays (shape 2 7)))
+    (calls b (put v) ∷ begins a (put y) k ∷ calls b (put w) ∷ calls b take ∷ calls b take ∷ calls b take ∷ calls b CloseCall ∷ steps a 32 ∷ [])))
 
 abbrev pub PutsEnd : Type 0
 PutsEnd = map put_ends (0 ∷ 1 ∷ 2 ∷ 3 ∷ 4 ∷ 5 ∷ 6 ∷ 7 ∷ 8 ∷ 9 ∷ 10 ∷ 11 ∷ 12 ∷ 13 ∷ []) ≡ replicate 14 true
 
 abbrev pub take_ends : ℕ → Bool
-take_ends k = has_ended (drop 8 (replies (plays (shape 2 7)) (curtain (plays (shape 2 7)))
-    (calls b (put v) ∷ calls b (put w) ∷ begins a take ∷ steps a k ∷ calls b take ∷ calls b take ∷ calls b (put x) ∷ calls b (put u) ∷ steps a 32 ∷ [])))
+take_ends k = has_ended (drop 7 (replies (plays (shape 2 7)) (curtain (plays (shape 2 7)))
+    (calls b (put v) ∷ calls b (put w) ∷ begins a take k ∷ calls b take ∷ calls b take ∷ calls b (put x) ∷ calls b (put u) ∷ steps a 32 ∷ [])))
 
 abbrev pub TakesEnd : Type 0
 TakesEnd = map take_ends (0 ∷ 1 ∷ 2 ∷ 3 ∷ 4 ∷ 5 ∷ 6 ∷ 7 ∷ 8 ∷ 9 ∷ 10 ∷ 11 ∷ []) ≡ replicate 12 true

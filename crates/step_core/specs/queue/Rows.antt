@@ -4,7 +4,7 @@ use Rattle.bounded_model.specs.declared.answers.TakeRefused.TheVariants.{Empty, 
 use Rattle.queue_machine.specs.declared.lines.Answer.{Answer}
 use Rattle.queue_machine.specs.declared.lines.Answer.TheVariants.{Close, Shut as ShutAnswer, Look}
 use Rattle.queue_machine.specs.declared.lines.Call.TheVariants.{Close as CloseCall, Shut as ShutCall, Look as LookCall}
-use Rattle.step_core.specs.Scripts.{Reply, curtain, replies, calls, begins, steps, finish, answers, begun, again, ended, rest, Plays}
+use Rattle.step_core.specs.Scripts.{Reply, curtain, replies, calls, begins, steps, finish, answers, again, ended, rest, Plays}
 use Rattle.queue_machine.specs.Answers.{shape}
 use Rattle.step_core.specs.Letters.{a, b, c, u, v, w, x, y, z}
 use Rattle.step_core.specs.queue.Cast.{plays, put, take, put_is, full, put_closed, cells_spent, next_spent, take_is, no_take}
@@ -22,35 +22,27 @@ Smallest = Plays (plays (shape 1 7))
 -- how many steps a put and a take make alone
 abbrev pub Alone : Type 0
 Alone = Plays (plays (shape 2 7))
-    ((begins a (put x), begun)
-    ∷ (steps a 13, again 13)
+    ((begins a (put x) 13, again 13)
     ∷ (steps a 1, ended (put_is 0) 14)
-    ∷ (begins a take, begun)
-    ∷ (steps a 11, again 11)
+    ∷ (begins a take 11, again 11)
     ∷ (steps a 1, ended (take_is 0 x) 12)
     ∷ [])
 
 -- a full put, an empty take, look, close, shut
 abbrev pub AloneRefused : Type 0
 AloneRefused = Plays (plays (shape 1 15))
-    ((begins a take, begun)
-    ∷ (steps a 40, ended (no_take Empty) 4)
+    ((begins a take 40, ended (no_take Empty) 4)
     ∷ (calls a (put x), answers (put_is 0))
-    ∷ (begins a (put y), begun)
-    ∷ (steps a 40, ended (full y) 4)
-    ∷ (begins a LookCall, begun)
-    ∷ (steps a 40, ended (Look false) 3)
-    ∷ (begins a CloseCall, begun)
-    ∷ (steps a 40, ended (Close true) 4)
-    ∷ (begins a ShutCall, begun)
-    ∷ (steps a 40, ended (ShutAnswer true) 2)
+    ∷ (begins a (put y) 40, ended (full y) 4)
+    ∷ (begins a LookCall 40, ended (Look false) 3)
+    ∷ (begins a CloseCall 40, ended (Close true) 4)
+    ∷ (begins a ShutCall 40, ended (ShutAnswer true) 2)
     ∷ [])
 
 -- full, although no value is there: a put holds the cell
 abbrev pub FullAndEmpty : Type 0
 FullAndEmpty = Plays (plays (shape 1 7))
-    ((begins a (put x), begun)
-    ∷ (steps a 3, again 3)
+    ((begins a (put x) 3, again 3)
     ∷ (calls b (put y), answers (full y))
     ∷ (steps a 20, ended (put_is 0) 14)
     ∷ (calls b take, answers (take_is 0 x))
@@ -59,10 +51,8 @@ FullAndEmpty = Plays (plays (shape 1 7))
 -- a take moves the tail that a put left behind
 abbrev pub Helped : Type 0
 Helped = Plays (plays (shape 2 7))
-    ((begins a (put x), begun)
-    ∷ (steps a 13, again 13)
-    ∷ (begins b take, begun)
-    ∷ (steps b 20, ended (take_is 0 x) 17)
+    ((begins a (put x) 13, again 13)
+    ∷ (begins b take 20, ended (take_is 0 x) 17)
     ∷ (steps a 1, ended (put_is 0) 14)
     ∷ [])
 
@@ -70,8 +60,7 @@ Helped = Plays (plays (shape 2 7))
 abbrev pub TakerHolds : Type 0
 TakerHolds = Plays (plays (shape 1 7))
     ((calls a (put x), answers (put_is 0))
-    ∷ (begins a take, begun)
-    ∷ (steps a 6, again 6)
+    ∷ (begins a take 6, again 6)
     ∷ (calls b (put y), answers (full y))
     ∷ (calls b take, answers (no_take Empty))
     ∷ (steps a 6, ended (take_is 0 x) 12)
@@ -94,8 +83,7 @@ ClosedBeforeFull = Plays (plays (shape 1 7))
 -- a close overtakes a put that is about to link its node
 abbrev pub Overtaken : Type 0
 Overtaken = Plays (plays (shape 2 7))
-    ((begins a (put x), begun)
-    ∷ (steps a 12, again 12)
+    ((begins a (put x) 12, again 12)
     ∷ (calls b CloseCall, answers (Close true))
     ∷ (steps a 1, again 13)
     ∷ (steps a 20, ended (put_closed x) 22)
@@ -108,8 +96,7 @@ abbrev pub CellsWorn : Type 0
 CellsWorn = Plays (plays (shape 4 2))
     ((calls a (put x), answers (put_is 0))
     ∷ (calls a (put y), answers (put_is 1))
-    ∷ (begins a (put z), begun)
-    ∷ (steps a 1, ended (cells_spent 2 z) 1)
+    ∷ (begins a (put z) 1, ended (cells_spent 2 z) 1)
     ∷ (calls a take, answers (take_is 0 x))
     ∷ (calls a take, answers (take_is 1 y))
     ∷ (calls a take, answers (no_take Empty))
@@ -122,8 +109,7 @@ NextWorn = Plays (plays (shape 1 3))
     ∷ (calls a take, answers (take_is 0 v))
     ∷ (calls a (put w), answers (put_is 1))
     ∷ (calls a take, answers (take_is 1 w))
-    ∷ (begins a (put x), begun)
-    ∷ (steps a 20, ended (next_spent 1 2 x) 14)
+    ∷ (begins a (put x) 20, ended (next_spent 1 2 x) 14)
     ∷ (calls a (put y), answers (cells_spent 3 y))
     ∷ [])
 
@@ -141,8 +127,7 @@ LeftOver = Plays (plays (shape 3 7))
 abbrev pub StoppedAfterLink : Type 0
 StoppedAfterLink = Plays (plays (shape 2 7))
     ((calls a (put x), answers (put_is 0))
-    ∷ (begins b (put y), begun)
-    ∷ (steps b 13, again 13)
+    ∷ (begins b (put y) 13, again 13)
     ∷ (finish, rest (x ∷ y ∷ []))
     ∷ [])
 
@@ -150,8 +135,7 @@ StoppedAfterLink = Plays (plays (shape 2 7))
 abbrev pub SameHeadOtherTag : Type 0
 SameHeadOtherTag = Plays (plays (shape 1 15))
     ((calls b (put x), answers (put_is 0))
-    ∷ (begins a take, begun)
-    ∷ (steps a 5, again 5)
+    ∷ (begins a take 5, again 5)
     ∷ (calls b take, answers (take_is 0 x))
     ∷ (calls b (put y), answers (put_is 1))
     ∷ (calls b take, answers (take_is 1 y))
@@ -164,8 +148,7 @@ SameHeadOtherTag = Plays (plays (shape 1 15))
 -- a link of a node that was used again
 abbrev pub StaleLink : Type 0
 StaleLink = Plays (plays (shape 2 15))
-    ((begins a (put x), begun)
-    ∷ (steps a 12, again 12)
+    ((begins a (put x) 12, again 12)
     ∷ (calls b (put y), answers (put_is 0))
     ∷ (calls b take, answers (take_is 0 y))
     ∷ (calls b (put u), answers (put_is 1))
@@ -178,11 +161,9 @@ StaleLink = Plays (plays (shape 2 15))
 -- at the lost exchange NODES names the old node again, with another tag
 abbrev pub SameNodeOtherTag : Type 0
 SameNodeOtherTag = Plays (plays (shape 3 15))
-    ((begins a (put x), begun)
-    ∷ (steps a 5, again 5)
+    ((begins a (put x) 5, again 5)
     ∷ (calls b (put y), answers (put_is 0))
-    ∷ (begins c (put z), begun)
-    ∷ (steps c 6, again 6)
+    ∷ (begins c (put z) 6, again 6)
     ∷ (calls b take, answers (take_is 0 y))
     ∷ (calls b (put w), answers (put_is 1))
     ∷ (calls b take, answers (take_is 1 w))
@@ -196,8 +177,7 @@ abbrev pub ShutQueue : Type 0
 ShutQueue = Plays (plays (shape 2 7))
     ((calls a (put x), answers (put_is 0))
     ∷ (calls a (put y), answers (put_is 1))
-    ∷ (begins b take, begun)
-    ∷ (steps b 5, again 5)
+    ∷ (begins b take 5, again 5)
     ∷ (calls a ShutCall, answers (ShutAnswer true))
     ∷ (steps b 1, again 6)
     ∷ (steps b 20, ended (no_take Shut) 7)
@@ -213,19 +193,17 @@ ShutQueue = Plays (plays (shape 2 7))
 -- many lost exchanges
 abbrev pub Longest : Type 0
 Longest = Plays (plays (shape 3 15))
-    ((begins a (put x), begun)
-    ∷ (steps a 2, again 2)
+    ((begins a (put x) 2, again 2)
     ∷ (calls b (put y), answers (put_is 0))
-    ∷ (begins c (put z), begun)
-    ∷ (steps c 13, again 13)
+    ∷ (begins c (put z) 13, again 13)
     ∷ (steps a 32, ended (put_is 2) 21)
     ∷ (steps c 1, ended (put_is 1) 14)
     ∷ [])
 
 -- A put stops for good after k of its steps: what other calls answer from then on
 abbrev pub after_stopped_put : ℕ → List (Reply (Answer ℕ))
-after_stopped_put k = drop 3 (replies (plays (shape 2 7)) (curtain (plays (shape 2 7)))
-    (calls b (put v) ∷ begins a (put y) ∷ steps a k ∷ calls b (put w) ∷ calls b take ∷ calls b take ∷ calls b take ∷ calls b CloseCall ∷ finish ∷ []))
+after_stopped_put k = drop 2 (replies (plays (shape 2 7)) (curtain (plays (shape 2 7)))
+    (calls b (put v) ∷ begins a (put y) k ∷ calls b (put w) ∷ calls b take ∷ calls b take ∷ calls b take ∷ calls b CloseCall ∷ finish ∷ []))
 
 abbrev pub PutStoppedEarly : Type 0
 PutStoppedEarly = map after_stopped_put (0 ∷ 1 ∷ 2 ∷ [])
@@ -242,8 +220,8 @@ PutStoppedLate = after_stopped_put 13 ≡ answers (full w) ∷ answers (take_is 
 
 -- A take stops for good after k of its steps
 abbrev pub after_stopped_take : ℕ → List (Reply (Answer ℕ))
-after_stopped_take k = drop 4 (replies (plays (shape 2 7)) (curtain (plays (shape 2 7)))
-    (calls b (put v) ∷ calls b (put w) ∷ begins a take ∷ steps a k ∷ calls b take ∷ calls b take ∷ calls b (put x) ∷ calls b (put u) ∷ finish ∷ []))
+after_stopped_take k = drop 3 (replies (plays (shape 2 7)) (curtain (plays (shape 2 7)))
+    (calls b (put v) ∷ calls b (put w) ∷ begins a take k ∷ calls b take ∷ calls b take ∷ calls b (put x) ∷ calls b (put u) ∷ finish ∷ []))
 
 abbrev pub TakeStoppedEarly : Type 0
 TakeStoppedEarly = map after_stopped_take (0 ∷ 1 ∷ 2 ∷ 3 ∷ 4 ∷ 5 ∷ [])

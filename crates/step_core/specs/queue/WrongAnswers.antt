@@ -3,7 +3,6 @@
 use Rattle.std.specs.Prelude.{ℕ, ◌+◌, if◌then◌else◌, [], ◌∷◌, ◌++◌, Err}
 use Rattle.bounded_model.specs.declared.answers.PutRefused.TheVariants.{Closed}
 use Rattle.bounded_model.specs.declared.history.Event.TheVariants.{Put}
-use Rattle.bounded_model.specs.Machine.{Shape}
 use Rattle.machine.specs.Words.{raised, same}
 use Rattle.queue_machine.specs.declared.lines.Seeking.TheVariants.{ToLink, ToRefuse, ToClose}
 use Rattle.queue_machine.specs.declared.lines.Answer.TheVariants.{Put as AnswerPut}
@@ -11,60 +10,51 @@ use Rattle.queue_machine.specs.declared.lines.Call.{Call}
 use Rattle.queue_machine.specs.declared.lines.Call.TheVariants.{Put as CallPut, Close as CallClose, Shut as CallShut}
 use Rattle.queue_machine.specs.declared.lines.Line.{Line}
 use Rattle.queue_machine.specs.declared.lines.Line.TheVariants.{LoadTail, CheckTail, LinkNext, SwingToLinked}
-use Rattle.queue_machine.specs.Machine.{Memory, State, queue, Outcome, starts, step, goes_on, wins, after_link_of, ends}
+use Rattle.queue_machine.specs.Machine.{State, queue, starts, step, goes_on, wins, after_link_of, ends}
 use Rattle.queue_machine.specs.Answers.{shape}
 use Rattle.machine.specs.Schedule.{run, start}
 use Rattle.step_core.specs.Acts.{begins}
 use Rattle.step_core.specs.queue.Law.{AllDone}
-use Rattle.step_core.specs.queue.Cast.{Machines}
+use Rattle.step_core.specs.queue.Cast.{Machines, Moves, queue_with}
 
 -- a queue of one cell and one pass, which does so
 abbrev pub called : Machines → Call ℕ → ℕ → State ℕ
 called machine call count = run (machine (shape 1 15)) (begins 0 call count) (start (machine (shape 1 15)) 1)
 
 -- A put that puts another value than its own
-abbrev pub puts_another : Machines
-puts_another s = record (queue s) { step = moves s }
-  where
-    moves : Shape → Memory ℕ → ℕ → Line ℕ → Outcome ℕ
-    moves s m p (LinkNext link w n) =
-        if same (m.next w.index) n
-        then wins (after_link_of m w n link.node link.cell (link.value + 1)) (SwingToLinked link.value w (raised n link.node)) (Put p ((link.value + 1) ∷ []) w.tag)
-        else goes_on m (LoadTail (ToLink link))
-    moves s m p l = step s m p l
+abbrev pub puts_another : Moves
+puts_another s m p (LinkNext link w n) =
+    if same (m.next w.index) n
+    then wins (after_link_of m w n link.node link.cell (link.value + 1)) (SwingToLinked link.value w (raised n link.node)) (Put p ((link.value + 1) ∷ []) w.tag)
+    else goes_on m (LoadTail (ToLink link))
+puts_another s m p l = step s m p l
 
 abbrev pub put_another : State ℕ
-put_another = called puts_another (CallPut 10) 14
+put_another = called (queue_with puts_another) (CallPut 10) 14
 
 abbrev pub PutAnotherUnlawful : Type 0
 PutAnotherUnlawful = ¬ AllDone put_another
 
 -- A put that is refused hands back another value
-abbrev pub hands_back_another : Machines
-hands_back_another s = record (queue s) { step = moves s }
-  where
-    moves : Shape → Memory ℕ → ℕ → Line ℕ → Outcome ℕ
-    moves s m p (CheckTail (ToRefuse v) w n) = goes_on m (ends (AnswerPut (Err (Closed (v + 1)))))
-    moves s m p l = step s m p l
+abbrev pub hands_back_another : Moves
+hands_back_another s m p (CheckTail (ToRefuse v) w n) = goes_on m (ends (AnswerPut (Err (Closed (v + 1)))))
+hands_back_another s m p l = step s m p l
 
 -- pass 1 has taken the only cell and stopped, and pass 2 has closed the queue
 abbrev pub handed_back : State ℕ
-handed_back = run (hands_back_another (shape 1 15)) (begins 1 (CallPut 12) 3 ++ begins 2 CallClose 4 ++ begins 0 (CallPut 10) 4) (start (hands_back_another (shape 1 15)) 3)
+handed_back = run (queue_with hands_back_another (shape 1 15)) (begins 1 (CallPut 12) 3 ++ begins 2 CallClose 4 ++ begins 0 (CallPut 10) 4) (start (queue_with hands_back_another (shape 1 15)) 3)
 
 abbrev pub HandedBackUnlawful : Type 0
 HandedBackUnlawful = ¬ AllDone handed_back
 
 -- A refused put keeps its cell: its answer comes before the cell goes back
-abbrev pub keeps_cell : Machines
-keeps_cell s = record (queue s) { step = moves s }
-  where
-    moves : Shape → Memory ℕ → ℕ → Line ℕ → Outcome ℕ
-    moves s m p (CheckTail (ToLink link) w n) =
-        if n.mark then goes_on m (ends (AnswerPut (Err (Closed link.value)))) else step s m p (CheckTail (ToLink link) w n)
-    moves s m p l = step s m p l
+abbrev pub keeps_cell : Moves
+keeps_cell s m p (CheckTail (ToLink link) w n) =
+    if n.mark then goes_on m (ends (AnswerPut (Err (Closed link.value)))) else step s m p (CheckTail (ToLink link) w n)
+keeps_cell s m p l = step s m p l
 
 abbrev pub kept_cell : State ℕ
-kept_cell = run (keeps_cell (shape 1 15)) (begins 1 CallClose 4 ++ begins 0 (CallPut 10) 12) (start (keeps_cell (shape 1 15)) 2)
+kept_cell = run (queue_with keeps_cell (shape 1 15)) (begins 1 CallClose 4 ++ begins 0 (CallPut 10) 12) (start (queue_with keeps_cell (shape 1 15)) 2)
 
 abbrev pub KeptCellUnlawful : Type 0
 KeptCellUnlawful = ¬ AllDone kept_cell

@@ -4,58 +4,50 @@ use Rattle.std.specs.Prelude.{◌≡◌, ℕ, if◌then◌else◌, List, [], ◌
 use Rattle.bounded_model.specs.declared.answers.PutRefused.TheVariants.{Full}
 use Rattle.bounded_model.specs.declared.answers.TakeRefused.TheVariants.{Empty}
 use Rattle.bounded_model.specs.declared.history.Event.{Event}
-use Rattle.bounded_model.specs.Machine.{Shape}
 use Rattle.machine.specs.Schedule.{Act, Step, after}
 use Rattle.machine.specs.Words.{same}
 use Rattle.queue_machine.specs.declared.lines.Answer.{Answer}
 use Rattle.queue_machine.specs.declared.lines.Answer.TheVariants.{Put as AnswerPut, Take as AnswerTake}
 use Rattle.queue_machine.specs.declared.lines.Call.{Call}
 use Rattle.queue_machine.specs.declared.lines.Call.TheVariants.{Put as CallPut, Take as CallTake, Close as CallClose}
-use Rattle.queue_machine.specs.declared.lines.Line.{Line}
 use Rattle.queue_machine.specs.declared.lines.Line.TheVariants.{Idle, LoadHead, TakeHead}
-use Rattle.queue_machine.specs.Machine.{Memory, queue, Outcome, step, goes_on, ends}
+use Rattle.queue_machine.specs.Machine.{queue, step, goes_on, ends}
 use Rattle.queue_machine.specs.Answers.{shape, state}
 use Rattle.step_core.specs.Acts.{begins}
 use Rattle.step_core.specs.Linearizable.{Object, Linearizable}
 use Rattle.step_core.specs.queue.Law.{Lawful, NoneUnanswered}
 use Rattle.step_core.specs.queue.Object.{IsSaid, object, answer}
-use Rattle.step_core.specs.queue.Cast.{Machines}
+use Rattle.step_core.specs.queue.Cast.{Moves, queue_with}
 
 -- A take that loses its exchange ends without an answer
-abbrev pub ends_where_it_lost : Machines
-ends_where_it_lost s = record (queue s) { step = moves s }
-  where
-    moves : Shape → Memory ℕ → ℕ → Line ℕ → Outcome ℕ
-    moves s m p (TakeHead h n k) = if same m.head h then step s m p (TakeHead h n k) else goes_on m (Idle None)
-    moves s m p l = step s m p l
+abbrev pub ends_where_it_lost : Moves
+ends_where_it_lost s m p (TakeHead h n k) = if same m.head h then step s m p (TakeHead h n k) else goes_on m (Idle None)
+ends_where_it_lost s m p l = step s m p l
 
 -- pass 0 has come to its exchange when pass 2 takes the only value
 abbrev pub lost_take : List (ℕ × Act (Call ℕ))
 lost_take = begins 1 (CallPut 10) 14 ++ begins 0 CallTake 5 ++ begins 2 CallTake 6 ++ (0, Step) ∷ []
 
 abbrev pub LostTakeUnanswered : Type 0
-LostTakeUnanswered = ¬ NoneUnanswered (after (ends_where_it_lost (shape 1 15)) 3 lost_take)
+LostTakeUnanswered = ¬ NoneUnanswered (after (queue_with ends_where_it_lost (shape 1 15)) 3 lost_take)
 
 abbrev pub LostTakeNotLinearizable : Type 0
-LostTakeNotLinearizable = ¬ Linearizable (ends_where_it_lost (shape 1 15)) answer (object 1 15) 3 lost_take
+LostTakeNotLinearizable = ¬ Linearizable (queue_with ends_where_it_lost (shape 1 15)) answer (object 1 15) 3 lost_take
 
 -- A take that answers without a look that there is no value
-abbrev pub is_always_empty : Machines
-is_always_empty s = record (queue s) { step = moves s }
-  where
-    moves : Shape → Memory ℕ → ℕ → Line ℕ → Outcome ℕ
-    moves s m p LoadHead = goes_on m (ends (AnswerTake (Err Empty)))
-    moves s m p l = step s m p l
+abbrev pub is_always_empty : Moves
+is_always_empty s m p LoadHead = goes_on m (ends (AnswerTake (Err Empty)))
+is_always_empty s m p l = step s m p l
 
 -- pass 1 has put a value when pass 0 begins. At the time of its last step, before that, there was none
 abbrev pub stale_take : List (ℕ × Act (Call ℕ))
 stale_take = begins 1 (CallPut 10) 14 ++ begins 0 CallTake 1
 
 abbrev pub StaleTakeUnlawful : Type 0
-StaleTakeUnlawful = ¬ Lawful ℕ 1 15 (after (is_always_empty (shape 1 15)) 2 stale_take)
+StaleTakeUnlawful = ¬ Lawful ℕ 1 15 (after (queue_with is_always_empty (shape 1 15)) 2 stale_take)
 
 abbrev pub StaleTakeNotLinearizable : Type 0
-StaleTakeNotLinearizable = ¬ Linearizable (is_always_empty (shape 1 15)) answer (object 1 15) 2 stale_take
+StaleTakeNotLinearizable = ¬ Linearizable (queue_with is_always_empty (shape 1 15)) answer (object 1 15) 2 stale_take
 
 -- The bounded queue without hands, which is full only where its values are as many as its cells
 abbrev pub plain_object : Object ℕ (Call ℕ) (Answer ℕ)

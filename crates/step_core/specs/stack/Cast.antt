@@ -16,12 +16,19 @@ use Rattle.stack_machine.specs.declared.lines.Call.{Call}
 use Rattle.stack_machine.specs.declared.lines.Call.TheVariants.{Put as PutCall, Take as TakeCall}
 use Rattle.stack_machine.specs.declared.lines.Line.{Line}
 use Rattle.stack_machine.specs.declared.lines.Line.TheVariants.{Idle}
-use Rattle.stack_machine.specs.Machine.{Memory, stack}
+use Rattle.stack_machine.specs.Machine.{Memory, Outcome, stack}
 use Rattle.step_core.specs.Scripts.{Player}
 
 -- machines over the stack's words and lines, for each shape
 abbrev pub Machines : Type 0
 Machines = Shape → Machine (Memory ℕ) (Line ℕ) (Call ℕ) (Event ℕ)
+
+-- the stack's machine with other steps
+abbrev pub Moves : Type 0
+Moves = Shape → Memory ℕ → ℕ → Line ℕ → Outcome ℕ
+
+abbrev pub stack_with : Moves → Machines
+stack_with moves s = record (stack s) { step = moves s }
 
 abbrev pub Players : Type 0
 Players = Player (Memory ℕ) (Line ℕ) (Call ℕ) (Answer ℕ) (Event ℕ)

@@ -5,20 +5,20 @@ use Rattle.bounded_model.specs.declared.answers.TakeRefused.TheVariants.{Empty, 
 use Rattle.stack_machine.specs.declared.lines.Answer.TheVariants.{Close, Shut as ShutAnswer, Look}
 use Rattle.stack_machine.specs.declared.lines.Call.TheVariants.{Close as CloseCall, Shut as ShutCall, Look as LookCall}
 use Rattle.stack_machine.specs.Answers.{shape}
-use Rattle.step_core.specs.Scripts.{calls, begins, steps, finish, answers, begun, again, ended, rest, Plays}
+use Rattle.step_core.specs.Scripts.{calls, begins, steps, finish, answers, again, ended, rest, Plays}
 use Rattle.step_core.specs.Letters.{a, b, c, t, u, v, w, x, y, z}
 use Rattle.step_core.specs.stack.Cast.{plays, put, range, take, fold, reversed_fold, put_is, range_is, full, put_closed, top_spent, free_spent, take_is, no_take, fold_is, no_fold}
 
 -- how many steps each call makes alone: put and take, a full put, an empty take, close, shut, look
 abbrev pub Alone : Type 0
 Alone = Plays (plays (shape 1 15))
-    ((begins a take, begun) ∷ (steps a 40, ended (no_take Empty) 1)
-    ∷ (begins a (put x), begun) ∷ (steps a 40, ended (put_is 0) 6)
-    ∷ (begins a (put y), begun) ∷ (steps a 40, ended (full (y ∷ [])) 2)
-    ∷ (begins a take, begun) ∷ (steps a 40, ended (take_is 1 x) 6)
-    ∷ (begins a CloseCall, begun) ∷ (steps a 40, ended (Close true) 2)
-    ∷ (begins a ShutCall, begun) ∷ (steps a 40, ended (ShutAnswer true) 2)
-    ∷ (begins a LookCall, begun) ∷ (steps a 40, ended (Look true) 1)
+    ((begins a take 40, ended (no_take Empty) 1)
+    ∷ (begins a (put x) 40, ended (put_is 0) 6)
+    ∷ (begins a (put y) 40, ended (full (y ∷ [])) 2)
+    ∷ (begins a take 40, ended (take_is 1 x) 6)
+    ∷ (begins a CloseCall 40, ended (Close true) 2)
+    ∷ (begins a ShutCall 40, ended (ShutAnswer true) 2)
+    ∷ (begins a LookCall 40, ended (Look true) 1)
     ∷ [])
 
 -- at the lost exchange the top names the old node again, with tag 5 where a had read tag 2
@@ -26,12 +26,10 @@ abbrev pub SameNodeOtherTag : Type 0
 SameNodeOtherTag = Plays (plays (shape 3 15))
     ((calls b (put x), answers (put_is 0))
     ∷ (calls b (put y), answers (put_is 1))
-    ∷ (begins a take, begun)
-    ∷ (steps a 2, again 2)
+    ∷ (begins a take 2, again 2)
     ∷ (calls b take, answers (take_is 2 y))
     ∷ (calls b take, answers (take_is 3 x))
-    ∷ (begins c (put z), begun)
-    ∷ (steps c 3, again 3)
+    ∷ (begins c (put z) 3, again 3)
     ∷ (calls b (put w), answers (put_is 4))
     ∷ (steps a 1, again 3)
     ∷ (steps a 6, ended (take_is 5 w) 9)
@@ -89,8 +87,7 @@ LeftOver = Plays (plays (shape 3 7))
 -- a close overtakes a put that holds a node
 abbrev pub ClosedUnderAPut : Type 0
 ClosedUnderAPut = Plays (plays (shape 1 7))
-    ((begins a (put x), begun)
-    ∷ (steps a 3, again 3)
+    ((begins a (put x) 3, again 3)
     ∷ (calls b CloseCall, answers (Close true))
     ∷ (steps a 20, ended (put_closed (x ∷ [])) 7)
     ∷ (calls b take, answers (no_take Closed))
@@ -148,8 +145,7 @@ ShutStack = Plays (plays (shape 2 7))
 -- a close overtakes a put whose node is linked, and the tag is at the limit by then
 abbrev pub ClosedBeforeSpentTop : Type 0
 ClosedBeforeSpentTop = Plays (plays (shape 2 2))
-    ((begins a (put x), begun)
-    ∷ (steps a 3, again 3)
+    ((begins a (put x) 3, again 3)
     ∷ (calls b (put y), answers (put_is 0))
     ∷ (calls b take, answers (take_is 1 y))
     ∷ (calls b CloseCall, answers (Close true))
@@ -161,8 +157,7 @@ ClosedBeforeSpentTop = Plays (plays (shape 2 2))
 abbrev pub ShutIsOvertaken : Type 0
 ShutIsOvertaken = Plays (plays (shape 2 7))
     ((calls a (put x), answers (put_is 0))
-    ∷ (begins a ShutCall, begun)
-    ∷ (steps a 1, again 1)
+    ∷ (begins a ShutCall 1, again 1)
     ∷ (calls b ShutCall, answers (ShutAnswer true))
     ∷ (steps a 1, again 2)
     ∷ (steps a 5, ended (ShutAnswer false) 3)
@@ -172,8 +167,7 @@ ShutIsOvertaken = Plays (plays (shape 2 7))
 abbrev pub CloseIsOvertaken : Type 0
 CloseIsOvertaken = Plays (plays (shape 2 7))
     ((calls a (put x), answers (put_is 0))
-    ∷ (begins a CloseCall, begun)
-    ∷ (steps a 1, again 1)
+    ∷ (begins a CloseCall 1, again 1)
     ∷ (calls b (put y), answers (put_is 1))
     ∷ (steps a 1, again 2)
     ∷ (steps a 9, ended (Close true) 4)
@@ -187,8 +181,7 @@ FoldsOfAShutStack = Plays (plays (shape 2 7))
     ∷ (calls a ShutCall, answers (ShutAnswer true))
     ∷ (calls a fold, answers (no_fold Shut))
     ∷ (calls a reversed_fold, answers (no_fold Shut))
-    ∷ (begins a take, begun)
-    ∷ (steps a 1, ended (no_take Shut) 1)
+    ∷ (begins a take 1, ended (no_take Shut) 1)
     ∷ (finish, rest (x ∷ []))
     ∷ [])
 

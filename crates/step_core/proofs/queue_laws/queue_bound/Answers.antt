@@ -1,4 +1,4 @@
-use Rattle.std.proofs.Common.{◌≤◌, arith}
+use Rattle.std.proofs.Common.{arith}
 use Rattle.step_core.proofs.queue.Run.{run_meets}
 use Rattle.step_core.proofs.queue.Ends.{queue_unhindered}
 use Rattle.step_core.proofs.queue_laws.queue_bound.Goals as goal
