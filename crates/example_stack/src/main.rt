@@ -1,4 +1,5 @@
-//! What a stack has beside puts and takes: a range, folds, single steps, and two passes that meet.
+//! What a stack has beside puts and takes: a range, folds, single steps, two passes that meet, and a
+//! note that one makes for the other.
 #![tactic(auto)]
 
 ghost use Rattle.std.specs.Prelude.{IfOk};
@@ -72,6 +73,18 @@ fn put_by_steps<R: Wait>(
     unreachable!()
 }
 
+// The first pass tells the second what it has seen.
+fn tell(stack: &Stack<u64>, first: &mut Pass<u64>, second: &mut Pass<u64>)
+    requires first { IsPassOf stack.now first.old }
+    requires second { IsPassOf stack.now second.old }
+    ensures first { IsPassOf stack.now first.new }
+    ensures second { IsPassOf stack.now second.new }
+{
+    if let Some(note) = stack.note(first) {
+        stack.heed(second, note);
+    }
+}
+
 fn calls<R: AllocGlobal + Print + Wait>(rt: &R) -> Result<(), Fault> {
     let Some(limits) = Limits::of(8, MAX_TAG) else {
         unreachable!()
@@ -85,7 +98,8 @@ fn calls<R: AllocGlobal + Print + Wait>(rt: &R) -> Result<(), Fault> {
     };
     let first = ranges(rt, &stack, first)?;
     let (mut first, second) = steps(rt, &stack, first, second)?;
-    let (second, _) = stack.meet(&mut first, second);
+    let (mut second, _) = stack.meet(&mut first, second);
+    tell(&stack, &mut first, &mut second);
     let (second, taken) = consume_one(&stack, rt, second, |value: u64| value.saturating_add(100));
     let (first, shut) = stack.shut(rt, first);
     let (first, again) = stack.shut(rt, first);
