@@ -2,7 +2,7 @@
 use Rattle.std.proofs.Common.{◌≡◌, ◌≢◌, ℕ, ◌+◌, ◌<◌, ◌≤◌, true, false, cond, eqb, ltb, leb, List, [], ◌∷◌, ◌++◌, length, reverse, set, refl, sym, ap, ◌∙◌, subst, arith, append_assoc, eqb-true}
 use Rattle.std.proofs.lemmas.Bool.Decides.{nat_tests}
 use Rattle.std.proofs.lemmas.List.{reverse-append, reverse-reverse, append-nil, length-append, length-reverse, length-take-le}
-use Rattle.std.specs.Prelude.{Option as Slot, Some, Ok, Err}
+use Rattle.std.specs.Prelude.{Option as Slot, Some, None, Ok, Err}
 use mathlib.Core.Option.{Option, some}
 use lib.ListN.{get_elem?}
 use Rattle.tagged_index.specs.declared.word.TheConstants.{NULL}
@@ -11,8 +11,8 @@ use Rattle.bounded_model.specs.declared.answers.PutRefused.TheVariants.{Full as 
 use Rattle.bounded_model.specs.declared.answers.TakeRefused.TheVariants.{Empty as TakeEmpty, Closed as TakeClosed, Spent as TakeSpent, Shut as TakeShut}
 use Rattle.bounded_model.specs.declared.answers.TakeRefused.{TakeRefused}
 use Rattle.bounded_model.specs.declared.history.Event.{Event}
-use Rattle.bounded_model.specs.declared.history.Event.TheVariants.{Hold, Put, TakeAll, Free, Close, Shut}
-use Rattle.machine.specs.Words.{Tagged, same, store, times, Stands, IsChain}
+use Rattle.bounded_model.specs.declared.history.Event.TheVariants.{Hold, Put, TakeAll}
+use Rattle.machine.specs.Words.{Tagged, store, times, Stands, IsChain}
 use Rattle.stack_machine.specs.declared.lines.Putting.{Putting}
 use Rattle.stack_machine.specs.declared.lines.Giving.{Giving}
 use Rattle.stack_machine.specs.declared.lines.Direction.{Direction}
@@ -22,11 +22,12 @@ use Rattle.stack_machine.specs.declared.lines.Taking.TheVariants.{One, Whole}
 use Rattle.stack_machine.specs.declared.lines.Answer.TheVariants.{Put as AnswerPut, Take as AnswerTake, Close as AnswerClose, Shut as AnswerShut, Look as AnswerLook}
 use Rattle.stack_machine.specs.declared.lines.Line.{Line}
 use Rattle.stack_machine.specs.declared.lines.Line.TheVariants.{Idle, LoadFree, LoadFreeLink, TakeFree, LinkTaken, LoadTop, LinkToTop, SwapTop, LoadTopToRefuse, LoadTopToTake, LoadTopLink, TakeTop, TakeChain, LoadLinkToTurn, TurnLink, LoadLinkToFold, LoadFreeToGive, LinkToFree, GiveBack, LoadTopToClose, MarkTop, LoadTopToShut, ShutTop, LoadTopToLook}
-use Rattle.stack_machine.specs.Machine.{after_put_of, Memory, Outcome, placed, unplaced, with_node, held, ends, gives, next_node, no_node, refuses, takes, at_take_free, at_take_chain, goes_on, wins, wins_value, wins_chain, step, after_hold, after_give, after_put, after_take_all, after_close, after_shut, after_store}
-use Rattle.machine.specs.Chains.{first, last, second, chain_from, values_in}
+use Rattle.stack_machine.specs.Machine.{after_put_of, Memory, memories, table, Outcome, placed, unplaced, with_node, held, ends, gives, next_node, no_node, refuses, takes, at_load_free, at_load_top_to_take, at_take_free, at_take_chain, at_turn_link, goes_on, wins, wins_value, wins_chain, step, after_hold, after_take_all, after_store}
+use Rattle.machine.specs.Chains.{first, last, second, values_in}
 use Rattle.stack_machine.specs.Answers.{shape}
 use Rattle.stack_machine.specs.Rule.{Lists, Collects, Adds, Puts, Gives, Walks, Turns, IsFine, putting, Good}
-use Rattle.machine.proofs.Tests.{cases, same-is}
+use Rattle.machine.proofs.Tests.{cases}
+use Rattle.machine.proofs.Program.{Cases, by_cases}
 use Rattle.machine.proofs.Lists.{times_here, times_append, not_there, store_here, store_else, leads_frame, leads_from}
 use Rattle.machine.proofs.OneList.{read_top, front_of}
 use Rattle.machine.proofs.Chains.{times_reverse, leads_chain, chain_store_first, chain_store_last, first_in, last_in}
@@ -113,79 +114,46 @@ module _ {T : Type 0} (n limit : ℕ) (m : Memory T) (who : ℕ → Option ℕ) 
   abbrev pub After : ℕ → Outcome T → Type 0
   After q o = Kept T n limit o.memory who (set lines q o.line) (o.events ++ history)
 
-  only : (q : ℕ) (l l' : Line T) (x : Kept T n limit m who lines history) → get_elem? lines q ≡ some l → held l' ≡ held l → length (putting l') ≤ length (putting l) → IsFine limit m x.lists l' → After q (goes_on m l')
-  only q l l' x e mine fewer f = record { lists = x.lists; good = good_goes q l l' x.good e (λ i. ap (times i) mine) (ap length mine) fewer f }
-
-  stores : (q i at : ℕ) (l l' : Line T) (x : Kept T n limit m who lines history) → get_elem? lines q ≡ some l → 0 < times i (held l) → held l' ≡ held l → length (putting l') ≤ length (putting l) → IsFine limit (after_store m i at) x.lists l' → After q (goes_on (after_store m i at) l')
-  stores q i at l l' x e here mine fewer f = record { lists = x.lists; good = good_store q i at l l' x.good e here (λ j. ap (times j) mine) (ap length mine) fewer f }
-
   -- each line in turn
   module _ (q p : ℕ) (of : who q ≡ some p) (x : Kept T n limit m who lines history) where
-    pub no_node_kept : (put : Putting T) (refused : Line T) → get_elem? lines q ≡ some (LoadFree put) → held refused ≡ [] → putting refused ≡ [] → ((g : Lists) → IsFine limit m g refused) → After q (goes_on m (no_node put refused))
-    no_node_kept put refused e none_held none_put fine =
+    -- a step that changes no word, and one that stores at in the link of node i
+    to : (l' : Line T) {l : Line T} → get_elem? lines q ≡ some l → held l' ≡ held l → length (putting l') ≤ length (putting l) → IsFine limit m x.lists l' → After q (goes_on m l')
+    to l' {l} e mine fewer f = record { lists = x.lists; good = good_goes q l l' x.good e (λ i. ap (times i) mine) (ap length mine) fewer f }
+
+    stores : (i at : ℕ) (l' : Line T) {l : Line T} → get_elem? lines q ≡ some l → 0 < times i (held l) → held l' ≡ held l → length (putting l') ≤ length (putting l) → IsFine limit (after_store m i at) x.lists l' → After q (goes_on (after_store m i at) l')
+    stores i at l' {l} e here mine fewer f = record { lists = x.lists; good = good_store q i at l l' x.good e here (λ j. ap (times j) mine) (ap length mine) fewer f }
+
+    no_node_left : (put : Putting T) (refused : Line T) → get_elem? lines q ≡ some (LoadFree put) → held refused ≡ [] → putting refused ≡ [] → ((g : Lists) → IsFine limit m g refused) → After q (goes_on m (no_node put refused))
+    no_node_left put refused e none_held none_put fine =
         let f : Collects m.link put = x.good.linked.fine q (LoadFree put) e in
         cases (λ l. After q (goes_on m l)) (eqb (length put.chain) 0) refused (LoadTop put)
-        (λ h. only q (LoadFree put) refused x e (none_held ∙ sym (no_nodes put.chain (eqb-true (length put.chain) 0 h))) (omega (arith, ap length none_put)) (fine x.lists))
-        (λ h. only q (LoadFree put) (LoadTop put) x e refl (omega arith) (record { chained = f.chained; some_node = grind (arith, nat_tests); few = omega (arith, f.wants) }))
+        (λ h. to refused e (none_held ∙ sym (no_nodes put.chain (eqb-true (length put.chain) 0 h))) (omega (arith, ap length none_put)) (fine x.lists))
+        (λ h. to (LoadTop put) e refl (omega arith) (record { chained = f.chained; some_node = grind (arith, nat_tests); few = omega (arith, f.wants) }))
 
-    pub load_free_kept : (put : Putting T) → get_elem? lines q ≡ some (LoadFree put) → After q (step (shape n limit) m p (LoadFree put))
-    load_free_kept put e =
+    load_free : (put : Putting T) → get_elem? lines q ≡ some (LoadFree put) → After q (goes_on m (at_load_free limit put m.free))
+    load_free put e =
         let f : Collects m.link put = x.good.linked.fine q (LoadFree put) e in
         let refused : Line T = ends (AnswerPut (Err (PutSpent put.values FreeWord m.free.tag))) in
         cases (λ l. After q (goes_on m l)) (eqb m.free.index NULL) (no_node put (LoadTopToRefuse put.values)) (cond (leb limit m.free.tag) (no_node put refused) (LoadFreeLink put m.free))
-        (λ h. no_node_kept put (LoadTopToRefuse put.values) e refl refl (λ g. tt))
+        (λ h. no_node_left put (LoadTopToRefuse put.values) e refl refl (λ g. tt))
         (λ h. cases (λ l. After q (goes_on m l)) (leb limit m.free.tag) (no_node put refused) (LoadFreeLink put m.free)
-        (λ h'. no_node_kept put refused e refl refl (λ g. tt))
-        (λ h'. only q (LoadFree put) (LoadFreeLink put m.free) x e refl (omega arith) (f, read_top limit m.free m.link x.lists.frees x.good.linked.free_stands (λ z. grind (arith, nat_tests)) (grind (arith, nat_tests)))))
+        (λ h'. no_node_left put refused e refl refl (λ g. tt))
+        (λ h'. to (LoadFreeLink put m.free) e refl (omega arith) (f, read_top limit m.free m.link x.lists.frees x.good.linked.free_stands (λ z. grind (arith, nat_tests)) (grind (arith, nat_tests)))))
 
-    pub take_free_kept : (put : Putting T) (w : Tagged) (k : ℕ) → get_elem? lines q ≡ some (TakeFree put w k) → After q (step (shape n limit) m p (TakeFree put w k))
-    take_free_kept put w k e =
+    take_free : (put : Putting T) (w : Tagged) (k : ℕ) → get_elem? lines q ≡ some (TakeFree put w k) → m.free ≡ w → After q (wins (after_hold m w k) (at_take_free put w) (Hold p))
+    take_free put w k e won =
         let f : IsFine limit m x.lists (TakeFree put w k) = x.good.linked.fine q (TakeFree put w k) e in
         let more : Putting T = with_node put w.index in
         let fewer : length put.chain < length put.values = f.0.wants in
-        cases (After q) (same m.free w) (wins (after_hold m w k) (at_take_free put w) (Hold p)) (goes_on m (LoadFree put))
-        (λ h. let won = same-is m.free w h in
         cases (λ l. After q (wins (after_hold m w k) l (Hold p))) (eqb (length put.chain) 0) (next_node more) (LinkTaken more)
-        (λ h'. let one : IsChain m.link more.chain = one_chain m.link w.index put.chain (eqb-true (length put.chain) 0 h') in
+        (λ h. let one : IsChain m.link more.chain = one_chain m.link w.index put.chain (eqb-true (length put.chain) 0 h) in
         cases (λ l. After q (wins (after_hold m w k) l (Hold p))) (ltb (length more.chain) (length more.values)) (LoadFree more) (LoadTop more)
         (λ b. good_hold q p (TakeFree put w k) (LoadFree more) w k x.good e of won f.1 f.2 refl (omega arith) (λ rest. record { chained = one; wants = grind (arith, nat_tests) }))
         (λ b. good_hold q p (TakeFree put w k) (LoadTop more) w k x.good e of won f.1 f.2 refl (omega arith) (λ rest. record { chained = one; some_node = omega arith; few = omega arith })))
-        (λ h'. good_hold q p (TakeFree put w k) (LinkTaken more) w k x.good e of won f.1 f.2 refl (omega arith) (λ rest. record { chained = f.0.chained; some_node = omega arith; few = omega arith })))
-        (λ h. only q (TakeFree put w k) (LoadFree put) x e refl (omega arith) f.0)
-
-    pub link_taken_kept : (put : Putting T) → get_elem? lines q ≡ some (LinkTaken put) → After q (step (shape n limit) m p (LinkTaken put))
-    link_taken_kept put e =
-        let f : Adds m.link put = x.good.linked.fine q (LinkTaken put) e in
-        let i = first put.chain in
-        let once : times i put.chain ≤ 1 = omega (arith, held_once q i (LinkTaken put) x.good.linked e) in
-        let chained : IsChain (store m.link i (second put.chain)) put.chain = chain_store_first m.link put.chain once f.chained in
-        let here = first_in put.chain f.some_node in
-        let few : length put.chain ≤ length put.values = f.few in
-        cases (λ l. After q (goes_on (after_store m i (second put.chain)) l)) (ltb (length put.chain) (length put.values)) (LoadFree put) (LoadTop put)
-        (λ b. stores q i (second put.chain) (LinkTaken put) (LoadFree put) x e here refl (omega arith) (record { chained = chained; wants = grind (arith, nat_tests) }))
-        (λ b. stores q i (second put.chain) (LinkTaken put) (LoadTop put) x e here refl (omega arith) (record { chained = chained; some_node = f.some_node; few = few }))
-
-    pub load_top_kept : (put : Putting T) → get_elem? lines q ≡ some (LoadTop put) → After q (step (shape n limit) m p (LoadTop put))
-    load_top_kept put e =
-        let f : Puts m.link put = x.good.linked.fine q (LoadTop put) e in
-        let closed : Line T = gives put.chain (AnswerPut (Err (PutClosed put.values))) in
-        let spent : Line T = gives put.chain (AnswerPut (Err (PutSpent put.values TopWord m.top.tag))) in
-        cases (λ l. After q (goes_on m l)) m.top.mark closed (cond (leb limit m.top.tag) spent (LinkToTop put m.top))
-        (λ h. only q (LoadTop put) closed x e refl (omega arith) (record { chained = f.chained; some_node = f.some_node }))
-        (λ h. cases (λ l. After q (goes_on m l)) (leb limit m.top.tag) spent (LinkToTop put m.top)
-        (λ h'. only q (LoadTop put) spent x e refl (omega arith) (record { chained = f.chained; some_node = f.some_node }))
-        (λ h'. only q (LoadTop put) (LinkToTop put m.top) x e refl (omega arith) (f, h, grind (arith, nat_tests))))
-
-    pub link_to_top_kept : (put : Putting T) (w : Tagged) → get_elem? lines q ≡ some (LinkToTop put w) → After q (step (shape n limit) m p (LinkToTop put w))
-    link_to_top_kept put w e =
-        let f : IsFine limit m x.lists (LinkToTop put w) = x.good.linked.fine q (LinkToTop put w) e in
-        let i = last put.chain in
-        let once : times i put.chain ≤ 1 = omega (arith, held_once q i (LinkToTop put w) x.good.linked e) in
-        stores q i w.index (LinkToTop put w) (SwapTop put w) x e (last_in put.chain f.0.some_node) refl (omega arith)
-        (record { chained = chain_store_last m.link put.chain w.index once f.0.chained; some_node = f.0.some_node; few = f.0.few }, f.1, f.2, store_here m.link i w.index)
+        (λ h. good_hold q p (TakeFree put w k) (LinkTaken more) w k x.good e of won f.1 f.2 refl (omega arith) (λ rest. record { chained = f.0.chained; some_node = omega arith; few = omega arith }))
 
     -- a won put, with any values in the slots that the pass brings: its line need not name them
-    pub put_won : (put : Putting T) (w : Tagged) (vs : List T) (l' : Line T) → get_elem? lines q ≡ some (SwapTop put w) → m.top ≡ w → length vs ≡ length put.chain → held l' ≡ [] → putting l' ≡ [] → ((g : Lists) → IsFine limit (after_put_of m w put.chain vs) g l')
+    put_won : (put : Putting T) (w : Tagged) (vs : List T) (l' : Line T) → get_elem? lines q ≡ some (SwapTop put w) → m.top ≡ w → length vs ≡ length put.chain → held l' ≡ [] → putting l' ≡ [] → ((g : Lists) → IsFine limit (after_put_of m w put.chain vs) g l')
         → Kept T n limit (after_put_of m w put.chain vs) who (set lines q l') (Put p vs w.tag ∷ history)
     put_won put w vs l' e won long mine' no_put fine =
         let f : IsFine limit m x.lists (SwapTop put w) = x.good.linked.fine q (SwapTop put w) e in
@@ -193,85 +161,56 @@ module _ {T : Type 0} (n limit : ℕ) (m : Memory T) (who : ℕ → Option ℕ) 
         let after : Lists = record { frees = x.lists.frees; stack = put.chain ++ x.lists.stack } in
         record { lists = after; good = good_put q p (SwapTop put w) l' w put.chain vs x.good e of won f.1 f.2 gives f.3 long refl refl mine' no_put (fine after) }
 
-    pub swap_top_kept : (put : Putting T) (w : Tagged) → get_elem? lines q ≡ some (SwapTop put w) → After q (step (shape n limit) m p (SwapTop put w))
-    swap_top_kept put w e =
-        let f : IsFine limit m x.lists (SwapTop put w) = x.good.linked.fine q (SwapTop put w) e in
-        let done : Line T = ends (AnswerPut (Ok (w.tag, unplaced put))) in
-        cases (After q) (same m.top w) (wins (after_put m w put) done (Put p (placed put) w.tag)) (goes_on m (LoadTop put))
-        (λ h. put_won put w (placed put) done e (same-is m.top w h) (length-take-le (length put.chain) put.values f.0.few) refl refl (λ g. tt))
-        (λ h. only q (SwapTop put w) (LoadTop put) x e refl (omega arith) f.0)
+    refused : (taking : Taking) (why : TakeRefused) → get_elem? lines q ≡ some (LoadTopToTake taking) → After q (goes_on m (refuses taking why))
+    refused One why e = to (refuses One why) e refl (omega arith) tt
+    refused (Whole d) why e = to (refuses (Whole d) why) e refl (omega arith) tt
 
-    pub load_top_to_refuse_kept : (values : List T) → get_elem? lines q ≡ some (LoadTopToRefuse values) → After q (step (shape n limit) m p (LoadTopToRefuse values))
-    load_top_to_refuse_kept values e =
-        let closed : Line T = ends (AnswerPut (Err (PutClosed values))) in
-        let spent : Line T = ends (AnswerPut (Err (PutSpent values TopWord m.top.tag))) in
-        let full : Line T = ends (AnswerPut (Err (PutFull values))) in
-        cases (λ l. After q (goes_on m l)) m.top.mark closed (cond (leb limit m.top.tag) spent full)
-        (λ h. only q (LoadTopToRefuse values) closed x e refl (omega arith) tt)
-        (λ h. cases (λ l. After q (goes_on m l)) (leb limit m.top.tag) spent full
-        (λ h'. only q (LoadTopToRefuse values) spent x e refl (omega arith) tt)
-        (λ h'. only q (LoadTopToRefuse values) full x e refl (omega arith) tt))
+    takes_on : (taking : Taking) → get_elem? lines q ≡ some (LoadTopToTake taking) → m.top.second ≡ false → m.top.index ≢ NULL → m.top.tag < limit → After q (goes_on m (takes taking m.top))
+    takes_on One e unshut node below = to (LoadTopLink m.top) e refl (omega arith) (read_top limit m.top m.link x.lists.stack x.good.linked.top_stands node below, unshut)
+    takes_on (Whole d) e unshut node below = to (TakeChain d m.top) e refl (omega arith) (node, unshut, below)
 
-    pub refused_kept : (taking : Taking) (why : TakeRefused) → get_elem? lines q ≡ some (LoadTopToTake taking) → After q (goes_on m (refuses taking why))
-    refused_kept One why e = only q (LoadTopToTake One) (refuses One why) x e refl (omega arith) tt
-    refused_kept (Whole d) why e = only q (LoadTopToTake (Whole d)) (refuses (Whole d) why) x e refl (omega arith) tt
-
-    pub takes_kept : (taking : Taking) → get_elem? lines q ≡ some (LoadTopToTake taking) → m.top.second ≡ false → m.top.index ≢ NULL → m.top.tag < limit → After q (goes_on m (takes taking m.top))
-    takes_kept One e unshut node below = only q (LoadTopToTake One) (LoadTopLink m.top) x e refl (omega arith) (read_top limit m.top m.link x.lists.stack x.good.linked.top_stands node below, unshut)
-    takes_kept (Whole d) e unshut node below = only q (LoadTopToTake (Whole d)) (TakeChain d m.top) x e refl (omega arith) (node, unshut, below)
-
-    pub load_top_to_take_kept : (taking : Taking) → get_elem? lines q ≡ some (LoadTopToTake taking) → After q (step (shape n limit) m p (LoadTopToTake taking))
-    load_top_to_take_kept taking e =
+    load_top_to_take : (taking : Taking) → get_elem? lines q ≡ some (LoadTopToTake taking) → After q (goes_on m (at_load_top_to_take limit taking m.top))
+    load_top_to_take taking e =
         let none_there : Line T = refuses taking (cond m.top.mark TakeClosed TakeEmpty) in
         let spent : Line T = refuses taking (TakeSpent TopWord m.top.tag) in
         cases (λ l. After q (goes_on m l)) m.top.second (refuses taking TakeShut) (cond (eqb m.top.index NULL) none_there (cond (leb limit m.top.tag) spent (takes taking m.top)))
-        (λ h. refused_kept taking TakeShut e)
+        (λ h. refused taking TakeShut e)
         (λ h. cases (λ l. After q (goes_on m l)) (eqb m.top.index NULL) none_there (cond (leb limit m.top.tag) spent (takes taking m.top))
-        (λ h'. refused_kept taking (cond m.top.mark TakeClosed TakeEmpty) e)
+        (λ h'. refused taking (cond m.top.mark TakeClosed TakeEmpty) e)
         (λ h'. cases (λ l. After q (goes_on m l)) (leb limit m.top.tag) spent (takes taking m.top)
-        (λ b. refused_kept taking (TakeSpent TopWord m.top.tag) e)
-        (λ b. takes_kept taking e h (λ z. grind (arith, nat_tests)) (grind (arith, nat_tests)))))
+        (λ b. refused taking (TakeSpent TopWord m.top.tag) e)
+        (λ b. takes_on taking e h (λ z. grind (arith, nat_tests)) (grind (arith, nat_tests)))))
 
-    pub take_top_kept : (w : Tagged) (k : ℕ) → get_elem? lines q ≡ some (TakeTop w k) → After q (step (shape n limit) m p (TakeTop w k))
-    take_top_kept w k e =
+    take_top : (w : Tagged) (k : ℕ) → get_elem? lines q ≡ some (TakeTop w k) → m.top ≡ w → After q (wins_value m p w k (m.home w.index))
+    take_top w k e top =
         let f : IsFine limit m x.lists (TakeTop w k) = x.good.linked.fine q (TakeTop w k) e in
-        let to : T → Line T = λ v. gives (w.index ∷ []) (AnswerTake (Ok (v, w.tag))) in
-        cases (After q) (same m.top w) (wins_value m p w k (m.home w.index)) (goes_on m (LoadTopToTake One))
-        (λ h. let t = good_take q p (TakeTop w k) to w k x.good e of (same-is m.top w h) f.1 f.0 f.2 refl (λ v. refl) (λ v. refl) (λ v rest. record { chained = tt; some_node = omega arith }) in
+        let given : T → Line T = λ v. gives (w.index ∷ []) (AnswerTake (Ok (v, w.tag))) in
+        let t = good_take q p (TakeTop w k) given w k x.good e of top f.1 f.0 f.2 refl (λ v. refl) (λ v. refl) (λ v rest. record { chained = tt; some_node = omega arith }) in
         let won : After q (wins_value m p w k (some (Some t.value))) = record { lists = t.lists; good = t.good } in
-        subst (λ (o : Option (Slot T)). After q (wins_value m p w k o)) (sym t.here) won)
-        (λ h. only q (TakeTop w k) (LoadTopToTake One) x e refl (omega arith) tt)
+        subst (λ (o : Option (Slot T)). After q (wins_value m p w k o)) (sym t.here) won
 
-    pub all_kept : (d : Direction) (w : Tagged) → get_elem? lines q ≡ some (TakeChain d w) → m.top ≡ w → After q (wins_chain m p d w x.lists.stack)
-    all_kept Down w e won =
-        let f : IsFine limit m x.lists (TakeChain Down w) = x.good.linked.fine q (TakeChain Down w) e in
+    -- all nodes of the stack are in hand, in either order
+    all_taken : (d : Direction) (w : Tagged) → get_elem? lines q ≡ some (TakeChain d w) → m.top ≡ w → (l' : Line T) → held l' ≡ x.lists.stack → putting l' ≡ []
+        → (Stands m.link w.index x.lists.stack → w.index ≢ NULL → IsFine limit (after_take_all m w x.lists.stack) (record { frees = x.lists.frees; stack = [] }) l')
+        → Kept T n limit (after_take_all m w x.lists.stack) who (set lines q l') (TakeAll p (values_in m.home x.lists.stack) w.tag ∷ history)
+    all_taken d w e won l' mine no_put fine =
+        let f : IsFine limit m x.lists (TakeChain d w) = x.good.linked.fine q (TakeChain d w) e in
         let stands : Stands m.link w.index x.lists.stack = leads_from m.link m.top.index w.index x.lists.stack NULL (ap (λ (y : Tagged). y.index) won) x.good.linked.top_stands in
-        let to : Line T = at_take_chain Down w x.lists.stack (values_in m.home x.lists.stack) in
+        let after : Lists = record { frees = x.lists.frees; stack = [] } in
         record {
-          lists = record { frees = x.lists.frees; stack = [] };
-          good = subst (λ (vs : List T). Good T n limit (after_take_all m w x.lists.stack) (record { frees = x.lists.frees; stack = [] }) who (set lines q to) (TakeAll p vs w.tag ∷ history)) (sym (all_values x.good))
-              (good_take_all q p (TakeChain Down w) to w x.good e of won f.1 f.2 f.0 refl refl refl
-              (record { above = []; left = x.lists.stack; is = refl; chained = leads_chain m.link w.index x.lists.stack NULL stands; stands = stands; here = f.0 }));
-        }
-    all_kept Up w e won =
-        let f : IsFine limit m x.lists (TakeChain Up w) = x.good.linked.fine q (TakeChain Up w) e in
-        let stands : Stands m.link w.index x.lists.stack = leads_from m.link m.top.index w.index x.lists.stack NULL (ap (λ (y : Tagged). y.index) won) x.good.linked.top_stands in
-        let to : Line T = at_take_chain Up w x.lists.stack (values_in m.home x.lists.stack) in
-        record {
-          lists = record { frees = x.lists.frees; stack = [] };
-          good = subst (λ (vs : List T). Good T n limit (after_take_all m w x.lists.stack) (record { frees = x.lists.frees; stack = [] }) who (set lines q to) (TakeAll p vs w.tag ∷ history)) (sym (all_values x.good))
-              (good_take_all q p (TakeChain Up w) to w x.good e of won f.1 f.2 f.0 refl refl refl
-              (record { turned = []; left = x.lists.stack; is = refl; upwards = refl; downwards = stands; here = f.0 }));
+          lists = after;
+          good = subst (λ (vs : List T). Good T n limit (after_take_all m w x.lists.stack) after who (set lines q l') (TakeAll p vs w.tag ∷ history)) (sym (all_values x.good))
+              (good_take_all q p (TakeChain d w) l' w x.good e of won f.1 f.2 f.0 refl mine no_put (fine stands f.0));
         }
 
-    pub take_chain_kept : (d : Direction) (w : Tagged) → get_elem? lines q ≡ some (TakeChain d w) → After q (step (shape n limit) m p (TakeChain d w))
-    take_chain_kept d w e =
-        cases (After q) (same m.top w) (wins_chain m p d w (chain_from n m.link w.index)) (goes_on m (LoadTopToTake (Whole d)))
-        (λ h. let won = same-is m.top w h in subst (λ (c : List ℕ). After q (wins_chain m p d w c)) (sym (all_nodes q (TakeChain d w) w x.good e won)) (all_kept d w e won))
-        (λ h. only q (TakeChain d w) (LoadTopToTake (Whole d)) x e refl (omega arith) tt)
+    take_all : (d : Direction) (w : Tagged) → get_elem? lines q ≡ some (TakeChain d w) → m.top ≡ w → After q (wins_chain m p d w x.lists.stack)
+    take_all Down w e won = all_taken Down w e won (at_take_chain Down w x.lists.stack (values_in m.home x.lists.stack)) refl refl
+        (λ stands node. record { above = []; left = x.lists.stack; is = refl; chained = leads_chain m.link w.index x.lists.stack NULL stands; stands = stands; here = node })
+    take_all Up w e won = all_taken Up w e won (at_take_chain Up w x.lists.stack (values_in m.home x.lists.stack)) refl refl
+        (λ stands node. record { turned = []; left = x.lists.stack; is = refl; upwards = refl; downwards = stands; here = node })
 
-    pub turn_link_kept : (give : Giving T) (lowest i k : ℕ) → get_elem? lines q ≡ some (TurnLink give lowest i k) → After q (step (shape n limit) m p (TurnLink give lowest i k))
-    turn_link_kept give lowest i k e =
+    turn_link : (give : Giving T) (lowest i k : ℕ) → get_elem? lines q ≡ some (TurnLink give lowest i k) → After q (goes_on (after_store m i lowest) (at_turn_link give i k))
+    turn_link give lowest i k e =
         let f : IsFine limit m x.lists (TurnLink give lowest i k) = x.good.linked.fine q (TurnLink give lowest i k) e in
         let here = turning_in m.link give.chain lowest i f.0 in
         let once : times i give.chain ≤ 1 = omega (arith, held_once q i (TurnLink give lowest i k) x.good.linked e) in
@@ -283,83 +222,92 @@ module _ {T : Type 0} (n limit : ℕ) (m : Memory T) (who : ℕ → Option ℕ) 
               (turn_ends m.link give.chain lowest i once (omega (arith, no_null q (TurnLink give lowest i k) x.good e)) f.0 (f.1 ∙ eqb-true k NULL h));
         })
         (λ h. let on : m.link i ≢ NULL = λ z. grind (arith, nat_tests, f.1) in
-        stores q i lowest (TurnLink give lowest i k) (LoadLinkToTurn give i k) x e here refl (omega arith) (subst (λ (y : ℕ). Turns (store m.link i lowest) give.chain i y) f.1 (turn_on m.link give.chain lowest i once f.0 on)))
+        stores i lowest (LoadLinkToTurn give i k) e here refl (omega arith) (subst (λ (y : ℕ). Turns (store m.link i lowest) give.chain i y) f.1 (turn_on m.link give.chain lowest i once f.0 on)))
 
-    pub load_link_to_fold_kept : (give : Giving T) (i : ℕ) → get_elem? lines q ≡ some (LoadLinkToFold give i) → After q (step (shape n limit) m p (LoadLinkToFold give i))
-    load_link_to_fold_kept give i e =
+    kept : (l : Line T) → get_elem? lines q ≡ some l → Cases memories (Idle None) m p (After q) l (table (shape n limit) l)
+    kept (Idle a) e = to (Idle a) e refl (omega arith) tt
+    kept (LoadFree put) e = load_free put e
+    kept (LoadFreeLink put w) e =
+        let f : IsFine limit m x.lists (LoadFreeLink put w) = x.good.linked.fine q (LoadFreeLink put w) e in
+        to (TakeFree put w (m.link w.index)) e refl (omega arith) (f.0, f.1, λ t. refl)
+    kept (TakeFree put w k) e =
+        let f : IsFine limit m x.lists (TakeFree put w k) = x.good.linked.fine q (TakeFree put w k) e in
+        (λ won. take_free put w k e won, to (LoadFree put) e refl (omega arith) f.0)
+    kept (LinkTaken put) e =
+        let f : Adds m.link put = x.good.linked.fine q (LinkTaken put) e in
+        let i = first put.chain in
+        let once : times i put.chain ≤ 1 = omega (arith, held_once q i (LinkTaken put) x.good.linked e) in
+        let chained : IsChain (store m.link i (second put.chain)) put.chain = chain_store_first m.link put.chain once f.chained in
+        let here = first_in put.chain f.some_node in
+        let few : length put.chain ≤ length put.values = f.few in
+        cases (λ l. After q (goes_on (after_store m i (second put.chain)) l)) (ltb (length put.chain) (length put.values)) (LoadFree put) (LoadTop put)
+        (λ b. stores i (second put.chain) (LoadFree put) e here refl (omega arith) (record { chained = chained; wants = grind (arith, nat_tests) }))
+        (λ b. stores i (second put.chain) (LoadTop put) e here refl (omega arith) (record { chained = chained; some_node = f.some_node; few = few }))
+    kept (LoadTop put) e =
+        let f : Puts m.link put = x.good.linked.fine q (LoadTop put) e in
+        let closed : Line T = gives put.chain (AnswerPut (Err (PutClosed put.values))) in
+        let spent : Line T = gives put.chain (AnswerPut (Err (PutSpent put.values TopWord m.top.tag))) in
+        cases (λ l. After q (goes_on m l)) m.top.mark closed (cond (leb limit m.top.tag) spent (LinkToTop put m.top))
+        (λ h. to closed e refl (omega arith) (record { chained = f.chained; some_node = f.some_node }))
+        (λ h. cases (λ l. After q (goes_on m l)) (leb limit m.top.tag) spent (LinkToTop put m.top)
+        (λ h'. to spent e refl (omega arith) (record { chained = f.chained; some_node = f.some_node }))
+        (λ h'. to (LinkToTop put m.top) e refl (omega arith) (f, h, grind (arith, nat_tests))))
+    kept (LinkToTop put w) e =
+        let f : IsFine limit m x.lists (LinkToTop put w) = x.good.linked.fine q (LinkToTop put w) e in
+        let i = last put.chain in
+        let once : times i put.chain ≤ 1 = omega (arith, held_once q i (LinkToTop put w) x.good.linked e) in
+        stores i w.index (SwapTop put w) e (last_in put.chain f.0.some_node) refl (omega arith)
+        (record { chained = chain_store_last m.link put.chain w.index once f.0.chained; some_node = f.0.some_node; few = f.0.few }, f.1, f.2, store_here m.link i w.index)
+    kept (SwapTop put w) e =
+        let f : IsFine limit m x.lists (SwapTop put w) = x.good.linked.fine q (SwapTop put w) e in
+        (λ won. put_won put w (placed put) (ends (AnswerPut (Ok (w.tag, unplaced put)))) e won (length-take-le (length put.chain) put.values f.0.few) refl refl (λ g. tt), to (LoadTop put) e refl (omega arith) f.0)
+    kept (LoadTopToRefuse values) e =
+        let closed : Line T = ends (AnswerPut (Err (PutClosed values))) in
+        let spent : Line T = ends (AnswerPut (Err (PutSpent values TopWord m.top.tag))) in
+        let full : Line T = ends (AnswerPut (Err (PutFull values))) in
+        cases (λ l. After q (goes_on m l)) m.top.mark closed (cond (leb limit m.top.tag) spent full)
+        (λ h. to closed e refl (omega arith) tt)
+        (λ h. cases (λ l. After q (goes_on m l)) (leb limit m.top.tag) spent full (λ h'. to spent e refl (omega arith) tt) (λ h'. to full e refl (omega arith) tt))
+    kept (LoadTopToTake taking) e = load_top_to_take taking e
+    kept (LoadTopLink w) e =
+        let f : IsFine limit m x.lists (LoadTopLink w) = x.good.linked.fine q (LoadTopLink w) e in
+        to (TakeTop w (m.link w.index)) e refl (omega arith) (f.0, f.1, λ t. refl)
+    kept (TakeTop w k) e = (λ won. take_top w k e won, to (LoadTopToTake One) e refl (omega arith) tt)
+    kept (TakeChain d w) e = (
+      λ won. subst (λ (c : List ℕ). After q (wins_chain m p d w c)) (sym (all_nodes q (TakeChain d w) w x.good e won)) (take_all d w e won),
+      to (LoadTopToTake (Whole d)) e refl (omega arith) tt,
+    )
+    kept (LoadLinkToTurn give lowest i) e = to (TurnLink give lowest i (m.link i)) e refl (omega arith) (x.good.linked.fine q (LoadLinkToTurn give lowest i) e, refl)
+    kept (TurnLink give lowest i k) e = turn_link give lowest i k e
+    kept (LoadLinkToFold give i) e =
         let f : Walks m.link give.chain i = x.good.linked.fine q (LoadLinkToFold give i) e in
         cases (λ l. After q (goes_on m l)) (eqb (m.link i) NULL) (LoadFreeToGive give) (LoadLinkToFold give (m.link i))
-        (λ h. only q (LoadLinkToFold give i) (LoadFreeToGive give) x e refl (omega arith) (walk_gives m.link give.chain i f))
-        (λ h. only q (LoadLinkToFold give i) (LoadLinkToFold give (m.link i)) x e refl (omega arith) (walk_on m.link give.chain i f (λ z. grind (arith, nat_tests))))
-
-    pub link_to_free_kept : (give : Giving T) (w : Tagged) → get_elem? lines q ≡ some (LinkToFree give w) → After q (step (shape n limit) m p (LinkToFree give w))
-    link_to_free_kept give w e =
+        (λ h. to (LoadFreeToGive give) e refl (omega arith) (walk_gives m.link give.chain i f))
+        (λ h. to (LoadLinkToFold give (m.link i)) e refl (omega arith) (walk_on m.link give.chain i f (λ z. grind (arith, nat_tests))))
+    kept (LoadFreeToGive give) e = to (LinkToFree give m.free) e refl (omega arith) (x.good.linked.fine q (LoadFreeToGive give) e)
+    kept (LinkToFree give w) e =
         let f : Gives m.link give.chain = x.good.linked.fine q (LinkToFree give w) e in
         let i = last give.chain in
         let once : times i give.chain ≤ 1 = omega (arith, held_once q i (LinkToFree give w) x.good.linked e) in
-        stores q i w.index (LinkToFree give w) (GiveBack give w) x e (last_in give.chain f.some_node) refl (omega arith)
+        stores i w.index (GiveBack give w) e (last_in give.chain f.some_node) refl (omega arith)
         (record { chained = chain_store_last m.link give.chain w.index once f.chained; some_node = f.some_node }, store_here m.link i w.index)
-
-    pub give_back_kept : (give : Giving T) (w : Tagged) → get_elem? lines q ≡ some (GiveBack give w) → After q (step (shape n limit) m p (GiveBack give w))
-    give_back_kept give w e =
-        let f : IsFine limit m x.lists (GiveBack give w) = x.good.linked.fine q (GiveBack give w) e in
-        cases (After q) (same m.free w) (wins (after_give m w give.chain) (ends give.answer) (Free p (length give.chain))) (goes_on m (LoadFreeToGive give))
-        (λ h. record { lists = record { frees = give.chain ++ x.lists.frees; stack = x.lists.stack }; good = good_give q p (GiveBack give w) (ends give.answer) w give.chain x.good e of (same-is m.free w h) f.0 f.1 refl refl refl tt })
-        (λ h. only q (GiveBack give w) (LoadFreeToGive give) x e refl (omega arith) f.0)
-
-    pub load_top_to_close_kept : get_elem? lines q ≡ some LoadTopToClose → After q (step (shape n limit) m p LoadTopToClose)
-    load_top_to_close_kept e = cases (λ l. After q (goes_on m l)) m.top.mark (ends (AnswerClose false)) (MarkTop m.top)
-        (λ h. only q LoadTopToClose (ends (AnswerClose false)) x e refl (omega arith) tt)
-        (λ h. only q LoadTopToClose (MarkTop m.top) x e refl (omega arith) h)
-
-    pub mark_top_kept : (w : Tagged) → get_elem? lines q ≡ some (MarkTop w) → After q (step (shape n limit) m p (MarkTop w))
-    mark_top_kept w e =
-        let f : w.mark ≡ false = x.good.linked.fine q (MarkTop w) e in
-        cases (After q) (same m.top w) (wins (after_close m w) (ends (AnswerClose true)) (Close p)) (goes_on m LoadTopToClose)
-        (λ h. record { lists = x.lists; good = good_close q p (MarkTop w) (ends (AnswerClose true)) w x.good e of (same-is m.top w h) f refl refl refl tt })
-        (λ h. only q (MarkTop w) LoadTopToClose x e refl (omega arith) tt)
-
-    pub load_top_to_shut_kept : get_elem? lines q ≡ some LoadTopToShut → After q (step (shape n limit) m p LoadTopToShut)
-    load_top_to_shut_kept e = cases (λ l. After q (goes_on m l)) m.top.second (ends (AnswerShut false)) (ShutTop m.top)
-        (λ h. only q LoadTopToShut (ends (AnswerShut false)) x e refl (omega arith) tt)
-        (λ h. only q LoadTopToShut (ShutTop m.top) x e refl (omega arith) h)
-
-    pub shut_top_kept : (w : Tagged) → get_elem? lines q ≡ some (ShutTop w) → After q (step (shape n limit) m p (ShutTop w))
-    shut_top_kept w e =
-        let f : w.second ≡ false = x.good.linked.fine q (ShutTop w) e in
-        cases (After q) (same m.top w) (wins (after_shut m w) (ends (AnswerShut true)) (Shut p)) (goes_on m LoadTopToShut)
-        (λ h. record { lists = x.lists; good = good_shut q p (ShutTop w) (ends (AnswerShut true)) w x.good e of (same-is m.top w h) f refl refl refl tt })
-        (λ h. only q (ShutTop w) LoadTopToShut x e refl (omega arith) tt)
+    kept (GiveBack give w) e =
+        let f : IsFine limit m x.lists (GiveBack give w) = x.good.linked.fine q (GiveBack give w) e in (
+          λ won. record { lists = record { frees = give.chain ++ x.lists.frees; stack = x.lists.stack }; good = good_give q p (GiveBack give w) (ends give.answer) w give.chain x.good e of won f.0 f.1 refl refl refl tt },
+          to (LoadFreeToGive give) e refl (omega arith) f.0,
+        )
+    kept LoadTopToClose e = cases (λ l. After q (goes_on m l)) m.top.mark (ends (AnswerClose false)) (MarkTop m.top) (λ h. to (ends (AnswerClose false)) e refl (omega arith) tt) (λ h. to (MarkTop m.top) e refl (omega arith) h)
+    kept (MarkTop w) e = (
+      λ won. record { lists = x.lists; good = good_close q p (MarkTop w) (ends (AnswerClose true)) w x.good e of won (x.good.linked.fine q (MarkTop w) e) refl refl refl tt },
+      to LoadTopToClose e refl (omega arith) tt,
+    )
+    kept LoadTopToShut e = cases (λ l. After q (goes_on m l)) m.top.second (ends (AnswerShut false)) (ShutTop m.top) (λ h. to (ends (AnswerShut false)) e refl (omega arith) tt) (λ h. to (ShutTop m.top) e refl (omega arith) h)
+    kept (ShutTop w) e = (
+      λ won. record { lists = x.lists; good = good_shut q p (ShutTop w) (ends (AnswerShut true)) w x.good e of won (x.good.linked.fine q (ShutTop w) e) refl refl refl tt },
+      to LoadTopToShut e refl (omega arith) tt,
+    )
+    kept LoadTopToLook e = to (ends (AnswerLook (eqb m.top.index NULL))) e refl (omega arith) tt
 
     -- a step of any pass, from any state where the rule holds
     pub step_kept : (l : Line T) → get_elem? lines q ≡ some l → After q (step (shape n limit) m p l)
-    step_kept (Idle a) e = only q (Idle a) (Idle a) x e refl (omega arith) tt
-    step_kept (LoadFree put) e = load_free_kept put e
-    step_kept (LoadFreeLink put w) e =
-        let f : IsFine limit m x.lists (LoadFreeLink put w) = x.good.linked.fine q (LoadFreeLink put w) e in
-        only q (LoadFreeLink put w) (TakeFree put w (m.link w.index)) x e refl (omega arith) (f.0, f.1, λ t. refl)
-    step_kept (TakeFree put w k) e = take_free_kept put w k e
-    step_kept (LinkTaken put) e = link_taken_kept put e
-    step_kept (LoadTop put) e = load_top_kept put e
-    step_kept (LinkToTop put w) e = link_to_top_kept put w e
-    step_kept (SwapTop put w) e = swap_top_kept put w e
-    step_kept (LoadTopToRefuse values) e = load_top_to_refuse_kept values e
-    step_kept (LoadTopToTake taking) e = load_top_to_take_kept taking e
-    step_kept (LoadTopLink w) e =
-        let f : IsFine limit m x.lists (LoadTopLink w) = x.good.linked.fine q (LoadTopLink w) e in
-        only q (LoadTopLink w) (TakeTop w (m.link w.index)) x e refl (omega arith) (f.0, f.1, λ t. refl)
-    step_kept (TakeTop w k) e = take_top_kept w k e
-    step_kept (TakeChain d w) e = take_chain_kept d w e
-    step_kept (LoadLinkToTurn give lowest i) e =
-        let f : Turns m.link give.chain lowest i = x.good.linked.fine q (LoadLinkToTurn give lowest i) e in
-        only q (LoadLinkToTurn give lowest i) (TurnLink give lowest i (m.link i)) x e refl (omega arith) (f, refl)
-    step_kept (TurnLink give lowest i k) e = turn_link_kept give lowest i k e
-    step_kept (LoadLinkToFold give i) e = load_link_to_fold_kept give i e
-    step_kept (LoadFreeToGive give) e = only q (LoadFreeToGive give) (LinkToFree give m.free) x e refl (omega arith) (x.good.linked.fine q (LoadFreeToGive give) e)
-    step_kept (LinkToFree give w) e = link_to_free_kept give w e
-    step_kept (GiveBack give w) e = give_back_kept give w e
-    step_kept LoadTopToClose e = load_top_to_close_kept e
-    step_kept (MarkTop w) e = mark_top_kept w e
-    step_kept LoadTopToShut e = load_top_to_shut_kept e
-    step_kept (ShutTop w) e = shut_top_kept w e
-    step_kept LoadTopToLook e = only q LoadTopToLook (ends (AnswerLook (eqb m.top.index NULL))) x e refl (omega arith) tt
+    step_kept l e = by_cases memories (Idle None) m p (After q) l (table (shape n limit) l) (kept l e)

@@ -1,5 +1,5 @@
 -- A step of the stack keeps what its line tells of the history, and adds only events of its own pass.
-use Rattle.std.proofs.Common.{◌≡◌, ◌≢◌, ℕ, Bool, true, false, cond, eqb, ltb, leb, List, ◌∷◌, ◌++◌, length, reverse, refl, sym, arith, eqb-true}
+use Rattle.std.proofs.Common.{◌≡◌, ◌≢◌, ℕ, Bool, true, false, cond, eqb, ltb, leb, List, ◌∷◌, ◌++◌, length, reverse, refl, sym, ◌∙◌, arith, eqb-true}
 use Rattle.std.proofs.lemmas.Bool.Decides.{nat_tests}
 use Rattle.std.specs.Prelude.{Option as Slot, Some, None, Ok, Err}
 use mathlib.Core.Option.{Option, none, some}
@@ -11,12 +11,12 @@ use Rattle.bounded_model.specs.declared.answers.TakeRefused.{TakeRefused}
 use Rattle.bounded_model.specs.declared.history.Event.{Event}
 use Rattle.bounded_model.specs.declared.history.Event.TheVariants.{Hold, Put, Take, TakeAll, Free, Close, Shut}
 use Rattle.bounded_model.specs.Machine.{Shape}
-use Rattle.bounded_model.specs.Histories.{Later, own}
+use Rattle.bounded_model.specs.Histories.{Later, own, pass_of}
 use Rattle.bounded_model.specs.Justified.{Sometime, Justifies, IsFull, take_answer, Looked}
 use Rattle.bounded_model.proofs.Histories.{Later-refl, Later-cons, Later-trans, own-other}
 use Rattle.bounded_model.proofs.Adding.{Sometime-now, Sometime-wider}
 use Rattle.bounded_model.proofs.Staying.{open_before}
-use Rattle.machine.specs.Words.{Tagged, same}
+use Rattle.machine.specs.Words.{Tagged}
 use Rattle.stack_machine.specs.declared.lines.Putting.{Putting}
 use Rattle.stack_machine.specs.declared.lines.Direction.{Direction}
 use Rattle.stack_machine.specs.declared.lines.Direction.TheVariants.{Down, Up}
@@ -25,12 +25,13 @@ use Rattle.stack_machine.specs.declared.lines.Taking.TheVariants.{One, Whole}
 use Rattle.stack_machine.specs.declared.lines.Answer.{Answer}
 use Rattle.stack_machine.specs.declared.lines.Answer.TheVariants.{Put as AnswerPut, Take as AnswerTake, Fold as AnswerFold, Close as AnswerClose, Shut as AnswerShut, Look as AnswerLook}
 use Rattle.stack_machine.specs.declared.lines.Line.{Line}
-use Rattle.stack_machine.specs.declared.lines.Line.TheVariants.{Idle, LoadFree, LoadFreeLink, TakeFree, LinkTaken, LoadTop, LinkToTop, SwapTop, LoadTopToRefuse, LoadTopToTake, LoadTopLink, TakeTop, TakeChain, LoadLinkToTurn, TurnLink, LoadLinkToFold, LoadFreeToGive, LinkToFree, GiveBack, LoadTopToClose, MarkTop, LoadTopToShut, ShutTop, LoadTopToLook}
-use Rattle.stack_machine.specs.Machine.{Memory, Outcome, placed, unplaced, with_node, ends, gives, next_node, no_node, at_load_free, at_load_top, at_load_top_to_refuse, at_load_top_to_take, refuses, takes, at_take_free, at_take_chain, goes_on, wins, wins_value, wins_chain, step, after_hold, after_give, after_put, after_close, after_shut}
+use Rattle.stack_machine.specs.declared.lines.Line.TheVariants.{Idle, LoadFree, LoadFreeLink, TakeFree, LinkTaken, LoadTop, LinkToTop, SwapTop, LoadTopToRefuse, LoadTopToTake, TakeTop, TakeChain, LoadLinkToTurn, TurnLink, LoadLinkToFold, LoadFreeToGive, LinkToFree, GiveBack, LoadTopToClose, MarkTop, LoadTopToShut, ShutTop, LoadTopToLook}
+use Rattle.stack_machine.specs.Machine.{Memory, memories, table, Outcome, placed, with_node, ends, gives, next_node, no_node, at_load_free, at_load_top, at_load_top_to_refuse, at_load_top_to_take, refuses, takes, at_take_free, at_take_chain, wins_value, step}
 use Rattle.machine.specs.Chains.{chain_from, values_in}
 use Rattle.stack_machine.specs.Answers.{shape, IsRight}
 use Rattle.stack_machine.specs.Rule.{Lists, Tells, Good}
 use Rattle.machine.proofs.Tests.{cases}
+use Rattle.machine.proofs.Program.{Cases, by_cases, Apart, adds_own}
 use Rattle.stack_machine.proofs.Answers.{full_now, empty_now, some_now, closed_now, open_now, shut_now, unshut_now, free_spent_now, top_spent_now}
 
 module _ {T : Type 0} where
@@ -136,82 +137,62 @@ module _ {T : Type 0} where
     abbrev Told : Outcome T → Type 0
     Told o = Tells n limit begun (o.events ++ history) o.line
 
-    pub tells_kept : (l : Line T) → Tells n limit begun seen l → let o = step (shape n limit) m p l in Tells n limit begun (o.events ++ history) o.line
-    tells_kept (Idle None) t = tt
-    tells_kept (Idle (Some a)) t = right_wider n limit begun seen history a now t
-    tells_kept (LoadFree put) t = load_free_tells put
-    tells_kept (LoadFreeLink put w) t = tt
-    tells_kept (TakeFree put w k) t = cases Told (same m.free w) (wins (after_hold m w k) (at_take_free put w) (Hold p)) (goes_on m (LoadFree put)) (λ h. at_take_free_tells (Hold p ∷ history) put w) (λ h. tt)
-    tells_kept (LinkTaken put) t = next_node_tells history put
-    tells_kept (LoadTop put) t = load_top_tells put
-    tells_kept (LinkToTop put w) t = tt
-    tells_kept (SwapTop put w) t = cases Told (same m.top w) (wins (after_put m w put) (ends (AnswerPut (Ok (w.tag, unplaced put)))) (Put p (placed put) w.tag)) (goes_on m (LoadTop put)) (λ h. tt) (λ h. tt)
-    tells_kept (LoadTopToRefuse values) t = load_top_to_refuse_tells values t
-    tells_kept (LoadTopToTake taking) t = load_top_to_take_tells taking
-    tells_kept (LoadTopLink w) t = tt
-    tells_kept (TakeTop w k) t = cases Told (same m.top w) (wins_value m p w k (m.home w.index)) (goes_on m (LoadTopToTake One)) (λ h. value_tells w k (m.home w.index)) (λ h. tt)
-    tells_kept (TakeChain d w) t =
+    told : (l : Line T) → Tells n limit begun seen l → Cases memories (Idle None) m p Told l (table (shape n limit) l)
+    told (Idle (Some a)) t = right_wider n limit begun seen history a now t
+    told (LoadFree put) t = load_free_tells put
+    told (TakeFree put w k) t = (λ won. at_take_free_tells (Hold p ∷ history) put w, tt)
+    told (LinkTaken put) t = next_node_tells history put
+    told (LoadTop put) t = load_top_tells put
+    told (SwapTop put w) t = (λ won. tt, tt)
+    told (LoadTopToRefuse values) t = load_top_to_refuse_tells values t
+    told (LoadTopToTake taking) t = load_top_to_take_tells taking
+    told (TakeTop w k) t = (λ won. value_tells w k (m.home w.index), tt)
+    told (TakeChain d w) t =
         let chain = chain_from n m.link w.index in
-        cases Told (same m.top w) (wins_chain m p d w chain) (goes_on m (LoadTopToTake (Whole d))) (λ h. chain_tells (TakeAll p (values_in m.home chain) w.tag ∷ history) d w chain (values_in m.home chain)) (λ h. tt)
-    tells_kept (LoadLinkToTurn give lowest i) t = right_wider n limit begun seen history give.answer now t
-    tells_kept (TurnLink give lowest i k) t =
+        (λ won. chain_tells (TakeAll p (values_in m.home chain) w.tag ∷ history) d w chain (values_in m.home chain), tt)
+    told (LoadLinkToTurn give lowest i) t = right_wider n limit begun seen history give.answer now t
+    told (TurnLink give lowest i k) t =
         let r = right_wider n limit begun seen history give.answer now t in
         cases (Tells n limit begun history) (eqb k NULL) (LoadLinkToFold (record give { chain = reverse give.chain }) i) (LoadLinkToTurn give i k) (λ h. r) (λ h. r)
-    tells_kept (LoadLinkToFold give i) t =
+    told (LoadLinkToFold give i) t =
         let r = right_wider n limit begun seen history give.answer now t in
         cases (Tells n limit begun history) (eqb (m.link i) NULL) (LoadFreeToGive give) (LoadLinkToFold give (m.link i)) (λ h. r) (λ h. r)
-    tells_kept (LoadFreeToGive give) t = right_wider n limit begun seen history give.answer now t
-    tells_kept (LinkToFree give w) t = right_wider n limit begun seen history give.answer now t
-    tells_kept (GiveBack give w) t =
-        let freed : Event T = Free p (length give.chain) in
-        cases Told (same m.free w) (wins (after_give m w give.chain) (ends give.answer) freed) (goes_on m (LoadFreeToGive give))
-        (λ h. right_wider n limit begun seen (freed ∷ history) give.answer (Later-trans now (Later-cons freed history)) t)
-        (λ h. right_wider n limit begun seen history give.answer now t)
-    tells_kept LoadTopToClose t = cases (Tells n limit begun history) m.top.mark (ends (AnswerClose false)) (MarkTop m.top) (λ h. Sometime-now since (closed_now x h)) (λ h. tt)
-    tells_kept (MarkTop w) t = cases Told (same m.top w) (wins (after_close m w) (ends (AnswerClose true)) (Close p)) (goes_on m LoadTopToClose) (λ h. tt) (λ h. tt)
-    tells_kept LoadTopToShut t = cases (Tells n limit begun history) m.top.second (ends (AnswerShut false)) (ShutTop m.top) (λ h. Sometime-now since (shut_now x h)) (λ h. tt)
-    tells_kept (ShutTop w) t = cases Told (same m.top w) (wins (after_shut m w) (ends (AnswerShut true)) (Shut p)) (goes_on m LoadTopToShut) (λ h. tt) (λ h. tt)
-    tells_kept LoadTopToLook t = look_tells (eqb m.top.index NULL) refl
+    told (LoadFreeToGive give) t = right_wider n limit begun seen history give.answer now t
+    told (LinkToFree give w) t = right_wider n limit begun seen history give.answer now t
+    told (GiveBack give w) t =
+        let freed : Event T = Free p (length give.chain) in (
+          λ won. right_wider n limit begun seen (freed ∷ history) give.answer (Later-trans now (Later-cons freed history)) t,
+          right_wider n limit begun seen history give.answer now t,
+        )
+    told LoadTopToClose t = cases (Tells n limit begun history) m.top.mark (ends (AnswerClose false)) (MarkTop m.top) (λ h. Sometime-now since (closed_now x h)) (λ h. tt)
+    told (MarkTop w) t = (λ won. tt, tt)
+    told LoadTopToShut t = cases (Tells n limit begun history) m.top.second (ends (AnswerShut false)) (ShutTop m.top) (λ h. Sometime-now since (shut_now x h)) (λ h. tt)
+    told (ShutTop w) t = (λ won. tt, tt)
+    told LoadTopToLook t = look_tells (eqb m.top.index NULL) refl
+    told l t = tt
+
+    pub tells_kept : (l : Line T) → Tells n limit begun seen l → let o = step (shape n limit) m p l in Tells n limit begun (o.events ++ history) o.line
+    tells_kept l t = by_cases memories (Idle None) m p Told l (table (shape n limit) l) (told l t)
 
 -- each event of a step is of the pass that makes it
 module _ {T : Type 0} (c : Shape) (m : Memory T) (p q : ℕ) (other : q ≢ p) (history : List (Event T)) where
-  abbrev Apart : Outcome T → Type 0
-  Apart o = own q (o.events ++ history) ≡ own q history
+  another : (e : Event T) → pass_of e ≡ p → own q (e ∷ history) ≡ own q history
+  another e mine = own-other q e history (λ z. other (sym z ∙ mine))
 
-  value_apart : (w : Tagged) (k : ℕ) (o : Option (Slot T)) → own q ((wins_value m p w k o).events ++ history) ≡ own q history
-  value_apart w k none = refl
-  value_apart w k (some None) = refl
-  value_apart w k (some (Some v)) = own-other q (Take p v w.tag) history (λ e. other (sym e))
+  took_apart : (w : Tagged) (k : ℕ) (o : Option (Slot T)) → own q ((wins_value m p w k o).events ++ history) ≡ own q history
+  took_apart w k none = refl
+  took_apart w k (some None) = refl
+  took_apart w k (some (Some v)) = another (Take p v w.tag) refl
+
+  apart : (l : Line T) → Apart memories (Idle None) m p q history (table c l)
+  apart (TakeFree put w k) = another (Hold p) refl
+  apart (SwapTop put w) = another (Put p (placed put) w.tag) refl
+  apart (TakeTop w k) = took_apart w k (m.home w.index)
+  apart (TakeChain d w) = another (TakeAll p (values_in m.home (chain_from c.capacity m.link w.index)) w.tag) refl
+  apart (GiveBack give w) = another (Free p (length give.chain)) refl
+  apart (MarkTop w) = another (Close p) refl
+  apart (ShutTop w) = another (Shut p) refl
+  apart l = tt
 
   pub step_apart : (l : Line T) → own q ((step c m p l).events ++ history) ≡ own q history
-  step_apart (Idle a) = refl
-  step_apart (LoadFree put) = refl
-  step_apart (LoadFreeLink put w) = refl
-  step_apart (TakeFree put w k) = cases Apart (same m.free w) (wins (after_hold m w k) (at_take_free put w) (Hold p)) (goes_on m (LoadFree put)) (λ h. own-other q (Hold p) history (λ e. other (sym e))) (λ h. refl)
-  step_apart (LinkTaken put) = refl
-  step_apart (LoadTop put) = refl
-  step_apart (LinkToTop put w) = refl
-  step_apart (SwapTop put w) =
-      let put_now : Event T = Put p (placed put) w.tag in
-      cases Apart (same m.top w) (wins (after_put m w put) (ends (AnswerPut (Ok (w.tag, unplaced put)))) put_now) (goes_on m (LoadTop put)) (λ h. own-other q put_now history (λ e. other (sym e))) (λ h. refl)
-  step_apart (LoadTopToRefuse values) = refl
-  step_apart (LoadTopToTake taking) = refl
-  step_apart (LoadTopLink w) = refl
-  step_apart (TakeTop w k) = cases Apart (same m.top w) (wins_value m p w k (m.home w.index)) (goes_on m (LoadTopToTake One)) (λ h. value_apart w k (m.home w.index)) (λ h. refl)
-  step_apart (TakeChain d w) =
-      let chain = chain_from c.capacity m.link w.index in
-      let all : Event T = TakeAll p (values_in m.home chain) w.tag in
-      cases Apart (same m.top w) (wins_chain m p d w chain) (goes_on m (LoadTopToTake (Whole d))) (λ h. own-other q all history (λ e. other (sym e))) (λ h. refl)
-  step_apart (LoadLinkToTurn give lowest i) = refl
-  step_apart (TurnLink give lowest i k) = refl
-  step_apart (LoadLinkToFold give i) = refl
-  step_apart (LoadFreeToGive give) = refl
-  step_apart (LinkToFree give w) = refl
-  step_apart (GiveBack give w) =
-      let freed : Event T = Free p (length give.chain) in
-      cases Apart (same m.free w) (wins (after_give m w give.chain) (ends give.answer) freed) (goes_on m (LoadFreeToGive give)) (λ h. own-other q freed history (λ e. other (sym e))) (λ h. refl)
-  step_apart LoadTopToClose = refl
-  step_apart (MarkTop w) = cases Apart (same m.top w) (wins (after_close m w) (ends (AnswerClose true)) (Close p)) (goes_on m LoadTopToClose) (λ h. own-other q (Close p) history (λ e. other (sym e))) (λ h. refl)
-  step_apart LoadTopToShut = refl
-  step_apart (ShutTop w) = cases Apart (same m.top w) (wins (after_shut m w) (ends (AnswerShut true)) (Shut p)) (goes_on m LoadTopToShut) (λ h. own-other q (Shut p) history (λ e. other (sym e))) (λ h. refl)
-  step_apart LoadTopToLook = refl
+  step_apart l = adds_own memories (Idle None) m p q history l (table c l) (apart l)
