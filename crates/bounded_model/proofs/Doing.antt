@@ -5,16 +5,13 @@ use Rattle.bounded_model.specs.declared.history.Event.TheVariants.{Hold, Free}
 use Rattle.bounded_model.specs.declared.views.PassView.{PassView}
 use Rattle.bounded_model.specs.Histories.{own}
 use Rattle.bounded_model.specs.Gathers.{gather, did, hold_of, holds_by}
-use Rattle.bounded_model.specs.Laws.{Adds, Idled, holds_of, gave_back, BacksOut}
-use Rattle.bounded_model.proofs.Adding.{own-adds, own-idled}
+use Rattle.bounded_model.specs.Laws.{Adds, holds_of, gave_back, BacksOut}
+use Rattle.bounded_model.proofs.Adding.{own-adds}
 use Rattle.bounded_model.proofs.Gathering.{gather-append}
 
 module _ {T A : Type 0} (f : Event T → List A) where
   pub did-adds : {v w : PassView T} {events : List (Event T)} → Adds v w events → did f w ≡ did f v ++ gather f events
   did-adds {v} {w} {events} a = ap (gather f) (own-adds a) ∙ gather-append f events (own v.number v.seen)
-
-  pub did-idled : {v w : PassView T} → Idled v w → did f w ≡ did f v
-  did-idled a = ap (gather f) (own-idled a)
 
   pub did-nothing : {v w : PassView T} → Adds v w [] → did f w ≡ did f v
   did-nothing {v} {w} a = did-adds a ∙ append-nil (did f v)

@@ -61,14 +61,6 @@ pub record Adds {T : Type 0} (v w : PassView T) (events : List (Event T)) : Type
   pub seen : w.seen ≡ between ++ v.seen
   pub own_events : own v.number between ≡ events
 
--- the same with no event of its own, and perhaps with no step
-pub record Idled {T : Type 0} (v w : PassView T) : Type 0 where
-  pub number : w.number ≡ v.number
-  pub steps : v.steps ≤ w.steps
-  pub between : List (Event T)
-  pub seen : w.seen ≡ between ++ v.seen
-  pub own_events : own v.number between ≡ []
-
 -- pass p took k cells one after another
 abbrev pub holds_of : {T : Type 0} → ℕ → ℕ → List (Event T)
 holds_of p zero = []

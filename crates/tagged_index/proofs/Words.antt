@@ -61,37 +61,10 @@ number_of_fields w f e = sym (number-fields_of w) ∙ ap number e
 pub same_fields : (v w : ℕ) → (v ≡ w) ↔ (fields_of v ≡ fields_of w)
 same_fields v w = (λ e. ap fields_of e, λ e. number_of_fields v (fields_of w) e ∙ number-fields_of w)
 
--- two fours of fields that a word has room for are equal where their numbers are
-pub number-injective : (f g : Fields) → f.index ≤ NULL → g.index ≤ NULL → number f ≡ number g → f ≡ g
-number-injective f g h k e = sym (fields_of-number f h) ∙ ap fields_of e ∙ fields_of-number g k
-
 -- Ranges.
 
 pub index_of-in_range : (w : ℕ) → index_of w ≤ NULL
 index_of-in_range w = omega arith
-
-pub fields_of-in_range : (w : ℕ) → w < 2 ^ 64 → IsInRange (fields_of w)
-fields_of-in_range w h = record { index = index_of-in_range w; tag = omega arith }
-
--- the number of fields in range fits a word
-pub number-fits : (f : Fields) → IsInRange f → number f < 2 ^ 64
-number-fits f h =
-    let below : bit f.mark < 2 = bit-below f.mark in
-    let below_too : bit f.second < 2 = bit-below f.second in
-    omega arith
-
-pub kept-in_range : (f : Fields) (i : ℕ) → IsInRange f → i ≤ NULL → IsInRange (kept f i)
-kept-in_range f i h index = record { index = index; tag = h.tag }
-
--- a tag below a limit can be raised
-pub raised-in_range : (f : Fields) (i limit : ℕ) → i ≤ NULL → f.tag < limit → limit ≤ MAX_TAG → IsInRange (raised f i)
-raised-in_range f i limit index below most = record { index = index; tag = omega arith }
-
-pub marked-in_range : (f : Fields) → IsInRange f → IsInRange (marked f)
-marked-in_range f h = record { index = h.index; tag = h.tag }
-
-pub with_second-in_range : (f : Fields) → IsInRange f → IsInRange (with_second f)
-with_second-in_range f h = record { index = h.index; tag = h.tag }
 
 -- a raised word is another word
 pub raised-differs : (f : Fields) (i : ℕ) → raised f i ≢ f
