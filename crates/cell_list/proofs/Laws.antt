@@ -12,7 +12,7 @@ use Rattle.index_list.specs.Lists.{Leads, Holds, Distinct, Disjoint}
 use Rattle.index_list.specs.Steps.{numbers, filled, word, looked, changed, Before, Goes}
 use Rattle.index_list.specs.Kinds.{Kind, read_top, read_link, write_link, exchange}
 use Rattle.index_list.specs.Host.{Host, Laws, IsReady, Takes}
-use Rattle.index_list.specs.declared.change.Change.TheVariants.{Take, TakeAll, Give, GiveChain, Mark, Shut}
+use Rattle.index_list.specs.declared.change.Change.TheVariants.{Take, Give}
 use Rattle.index_list.proofs.Lists.{leads_first, leads_kept}
 use Rattle.cell_list.specs.declared.knows.Knows.{Knows}
 use Rattle.cell_list.specs.declared.knows.Knows.TheVariants.{Nothing, Top, Below, Has, Linked}
@@ -50,10 +50,7 @@ same_hand (Linked i x) w = refl
 
 lost_hand : (v : Knows) (i : ℕ) → Holds (hand (after_lost v)) i → Holds (hand v) i
 lost_hand (Linked j x) i h = h
-lost_hand Nothing i h = absurd h
-lost_hand (Top w) i h = absurd h
-lost_hand (Below w k) i h = absurd h
-lost_hand (Has j) i h = absurd h
+lost_hand a i h = absurd h
 
 lost_true : (top : Fields) (link : ℕ → ℕ) (list : List ℕ) (v : Knows) → IsTrueOf top link list (after_lost v)
 lost_true top link list Nothing = tt
@@ -76,11 +73,9 @@ module _ {S : Type 0} (limit : ℕ) (s : State S Knows) (r : Rule limit s) where
   seen_now = record { past = omega arith; there = λ _ low. on_list low }
 
   top_true : (v : Knows) → IsTrueOf top link r.list (top_read v top)
-  top_true Nothing = seen_now
-  top_true (Top w) = seen_now
-  top_true (Below w k) = seen_now
   top_true (Has i) = tt
   top_true (Linked i x) = tt
+  top_true a = seen_now
 
   module _ (id : ℕ) (v : Knows) (mine : get_elem? s.views id ≡ some v) where
     -- the rule after a step of this seat, that now knows v'
@@ -192,30 +187,18 @@ module _ (S Line : Type 0) (limit : ℕ) where
     where
       wrote : (u : Knows) → MayWrite i u → Holds (hand u) i
       wrote (Has j) m = inl (sym m.0)
-      wrote Nothing m = absurd m
-      wrote (Top w) m = absurd m
-      wrote (Below w k) m = absurd m
-      wrote (Linked j y) m = absurd m
+      wrote a m = absurd m
   ready id v s r mine (exchange w (Take k)) may = λ hit. linked v (r.knows id v mine) may hit
     where
       linked : (u : Knows) → IsTrueOf (top_of s) (link_of s) r.list u → MayTake limit w k u → top_of s ≡ w → link_of s w.index ≡ k
       linked (Below f j) is m hit = ap (λ (z : Fields). link_of s z.index) (sym m.0) ∙ is.2 (ap (λ (z : Fields). z.tag) (m.0 ∙ sym hit)) ∙ m.1
-      linked Nothing is m hit = absurd m
-      linked (Top f) is m hit = absurd m
-      linked (Has i) is m hit = absurd m
-      linked (Linked i y) is m hit = absurd m
+      linked a is m hit = absurd m
   ready id v s r mine (exchange w (Give i)) may = given v (r.knows id v mine) may
     where
       given : (u : Knows) → IsTrueOf (top_of s) (link_of s) r.list u → MayGive w i u → Holds (hand u) i × (link_of s i ≡ w.index)
       given (Linked j y) is m = (inl (sym m.0), ap (link_of s) (sym m.0) ∙ is ∙ m.1)
-      given Nothing is m = absurd m
-      given (Top f) is m = absurd m
-      given (Below f k) is m = absurd m
-      given (Has j) is m = absurd m
-  ready id v s r mine (exchange w (TakeAll front)) may = absurd may
-  ready id v s r mine (exchange w (GiveChain i)) may = absurd may
-  ready id v s r mine (exchange w Mark) may = absurd may
-  ready id v s r mine (exchange w Shut) may = absurd may
+      given a is m = absurd m
+  ready id v s r mine a may = absurd may
 
   reads_link : (i id : ℕ) (v : Knows) (s : State S Knows) → MayRead i v → Before (Rule limit) id v (i + 1) s → Goes (Rule limit) (looked s id) (λ v'. (v' ≡ link_read v (link_of s i)) × (◌≡◌ {A = List (ℕ × S)} [] []))
   reads_link i id (Top w) s may b =
@@ -225,31 +208,19 @@ module _ (S Line : Type 0) (limit : ℕ) where
         rule = looks limit s b.rule id (Top w) b.mine (Below w (link_of s i)) (λ j none_held. absurd none_held) (is, subst (λ (j : ℕ). j < NULL) (sym may.0) may.1, (λ _. ap (link_of s) may.0));
         told = (refl, refl);
       }
-  reads_link i id Nothing s may b = absurd may
-  reads_link i id (Below w k) s may b = absurd may
-  reads_link i id (Has j) s may b = absurd may
-  reads_link i id (Linked j y) s may b = absurd may
+  reads_link i id a s may b = absurd may
 
   take_low : (w : Fields) (k : ℕ) (v : Knows) (now : Fields) (link : ℕ → ℕ) (list : List ℕ) → IsTrueOf now link list v → MayTake limit w k v → (w.index < NULL) × (w.tag < limit)
   take_low w k (Below f j) now link list is m = (subst (λ (z : Fields). z.index < NULL) m.0 is.1, m.2)
-  take_low w k Nothing now link list is m = absurd m
-  take_low w k (Top f) now link list is m = absurd m
-  take_low w k (Has i) now link list is m = absurd m
-  take_low w k (Linked i y) now link list is m = absurd m
+  take_low w k a now link list is m = absurd m
 
   give_low : (w : Fields) (i : ℕ) (v : Knows) → MayGive w i v → i < NULL
   give_low w i (Linked j y) m = m.2
-  give_low w i Nothing m = absurd m
-  give_low w i (Top f) m = absurd m
-  give_low w i (Below f k) m = absurd m
-  give_low w i (Has j) m = absurd m
+  give_low w i a m = absurd m
 
   write_low : (i : ℕ) (v : Knows) → MayWrite i v → i < 3
   write_low i (Has j) m = m.1
-  write_low i Nothing m = absurd m
-  write_low i (Top f) m = absurd m
-  write_low i (Below f k) m = absurd m
-  write_low i (Linked j y) m = absurd m
+  write_low i a m = absurd m
 
   pub cells_keep : Laws layout h (Rule limit) 1
   cells_keep = record {

@@ -35,9 +35,6 @@ pub record Layout : Type 0 where
   pub carries : ℕ → Bool
 
 module _ {S V : Type 0} (y : Layout) (held : ℕ → V → List ℕ) (l : ℕ) (s : State S V) where
-  abbrev pub links : ℕ → ℕ
-  links i = word s (y.link l i)
-
   -- the list l of the table is xs: its indexes are distinct and in no hand
   pub record Stands (xs : List ℕ) : Type 0 where
     pub leads : Leads (λ i. word s (y.link l i)) (index_of (word s (y.top l))) xs NULL

@@ -69,14 +69,8 @@ pub fn store_link<S, V, K, P: ListHost<S, V, K, L>, const L: usize>(
         list (write_link index next) (P.layout.link list index) next seat.old.me seat.new.me }
 {
     let at = P::link(list, index);
-    store_as::<S, V, K, P, (usize, u32), P::Line, Brand>(
-        table,
-        seat,
-        at,
-        next,
-        (list, index),
-        line,
-    );
+    let about = (list, index);
+    store_as::<S, V, K, P, (usize, u32), P::Line, Brand>(table, seat, at, next, about, line);
 }
 
 /// Loads the link of a held index, and answers whether it is `next`. Where it is, this was the

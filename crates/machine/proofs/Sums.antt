@@ -1,5 +1,5 @@
 -- The passes as a list, and sums over it, when one of them changes.
-use Rattle.std.proofs.Common.{◌≡◌, ◌⊎◌, inl, inr, ⊎_elim, ℕ, zero, suc, ◌+◌, ◌≤◌, ◌≢◌, List, [], ◌∷◌, set, replicate, map, refl, sym, ap, arith}
+use Rattle.std.proofs.Common.{◌≡◌, ◌⊎◌, inl, inr, ⊎_elim, ℕ, zero, suc, ◌+◌, ◌≤◌, ◌≢◌, List, [], ◌∷◌, ◌++◌, set, replicate, map, refl, sym, ap, arith}
 use mathlib.Core.Option.{some, some-injective, some-ne-none}
 use lib.ListN.{get_elem?}
 use Rattle.machine.specs.Words.{total}
@@ -51,3 +51,8 @@ module _ {A B : Type 0} (f : A → B) where
   at_map [] i x e = absurd (some-ne-none x (sym e))
   at_map (y ∷ ys) zero x e = ap (λ (z : A). some (f z)) (some-injective y x e)
   at_map (y ∷ ys) (suc i) x e = at_map ys i x e
+
+-- one more value at the end
+pub total_snoc : {A : Type 0} (f : A → ℕ) (xs : List A) (x : A) → total f (xs ++ x ∷ []) ≡ total f xs + f x
+total_snoc f [] x = omega arith
+total_snoc f (y ∷ ys) x = let r = total_snoc f ys x in omega arith

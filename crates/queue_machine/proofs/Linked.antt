@@ -13,7 +13,7 @@ use Rattle.queue_machine.specs.declared.lines.Linking.{Linking}
 use Rattle.queue_machine.specs.declared.lines.Seeking.{Seeking}
 use Rattle.queue_machine.specs.declared.lines.Seeking.TheVariants.{ToLink, ToRefuse, ToClose}
 use Rattle.queue_machine.specs.declared.lines.Line.{Line}
-use Rattle.queue_machine.specs.declared.lines.Line.TheVariants.{Idle, LoadCells, LoadCellLink, TakeCell, LoadNodes, LoadNodeLink, TakeNode, StoreCell, LoadNext, PrepareNext, LoadTail, LoadTailNext, CheckTail, SwingTail, LinkNext, SwingToLinked, MarkNext, LoadHead, LoadTailToTake, LoadHeadNext, CheckHead, SwingTailToTake, LoadCell, TakeHead, LoadNodesToGive, LinkToNodes, GiveNode, LoadCellsToGive, LinkToCells, GiveCell, LoadHeadToLook, LoadNextToLook, CheckHeadToLook, LoadHeadToShut, ShutHead}
+use Rattle.queue_machine.specs.declared.lines.Line.TheVariants.{LoadCellLink, TakeCell, LoadNodeLink, TakeNode, StoreCell, LoadNext, PrepareNext, LoadTail, LoadTailNext, CheckTail, SwingTail, LinkNext, SwingToLinked, MarkNext, LoadTailToTake, LoadHeadNext, CheckHead, SwingTailToTake, LoadCell, TakeHead, GiveNode, GiveCell, LoadNextToLook, ShutHead}
 use Rattle.queue_machine.specs.Machine.{Memory, held_cells, held_nodes, seeking_nodes, next_of}
 use Rattle.queue_machine.specs.Rule.{Lists, IsFresh, IsPrepared, Seeks, HasRoom, IsFine, IsChained, Linked}
 use Rattle.queue_machine.proofs.Chain.{past_later, was_later, PoolMoves, pool_later, ChainMoves, ChainLater, chain_later, lags_later, follows_head, follows_tail, ends_later, head_in, tail_in}
@@ -48,11 +48,8 @@ module _ {T : Type 0} where
 
   -- what holds of a pass goes on to hold where the others leave alone what it relies on
   pub fine_later : (limit : ℕ) (m : Memory T) (g : Lists) (m' : Memory T) (g' : Lists) (l : Line T) → Meanwhile m g m' g' l → IsFine limit m g l → IsFine limit m' g' l
-  fine_later limit m g m' g' (Idle a) o f = tt
-  fine_later limit m g m' g' (LoadCells v) o f = tt
   fine_later limit m g m' g' (LoadCellLink v w) o f = read_top_later w o.cells f
   fine_later limit m g m' g' (TakeCell v w k) o f = (read_top_later w o.cells f.0, read_link_later w k o.cells f.0 f.1)
-  fine_later limit m g m' g' (LoadNodes put) o f = tt
   fine_later limit m g m' g' (LoadNodeLink put w) o f = read_top_later w o.nodes f
   fine_later limit m g m' g' (TakeNode put w k) o f = (read_top_later w o.nodes f.0, read_link_later w k o.nodes f.0 f.1)
   fine_later limit m g m' g' (StoreCell link) o f = room_later limit m m' o.nodes.tag g g' link.node (o.chain.own_links link.node (omega (arith, times_here link.node []))) f
@@ -76,7 +73,6 @@ module _ {T : Type 0} where
       (prepared_later limit m m' o.nodes.tag link (o.chain.own_links link.node mine) (o.chain.own_cells link.node mine) f.0, ends_later o.chain f.1)
   fine_later limit m g m' g' (SwingToLinked v w x) o f = lags_later o.chain o.tail_there f
   fine_later limit m g m' g' (MarkNext w n) o f = ends_later o.chain f
-  fine_later limit m g m' g' LoadHead o f = tt
   fine_later limit m g m' g' (LoadTailToTake h) o f = (past_later h o.chain.heads f.0, f.1)
   fine_later limit m g m' g' (LoadHeadNext h w) o f = (past_later h o.chain.heads f.0, f.1, past_later w o.chain.tails f.2, λ e. f.3 (omega (arith, e, o.chain.heads.tag, f.0.tag)))
   fine_later limit m g m' g' (CheckHead h w n) o f = (
@@ -99,17 +95,11 @@ module _ {T : Type 0} where
         let is : next_of m m.head.index ≡ n.index = ap (next_of m) (sym (f.0.index e')) ∙ ap (λ (x : Tagged). x.index) (f.3 e' f.2) in
         o.chain.cells n.index (subst (λ (i : ℕ). 0 < times i g.chain) is (o.first_there (λ z. f.2 (sym is ∙ z)))) ∙ f.5 e',
   )
-  fine_later limit m g m' g' (LoadNodesToGive give) o f = tt
-  fine_later limit m g m' g' (LinkToNodes give w) o f = tt
   fine_later limit m g m' g' (GiveNode give w) o f = o.nlinks give.node (omega (arith, times_here give.node [])) ∙ f
-  fine_later limit m g m' g' (LoadCellsToGive give) o f = tt
-  fine_later limit m g m' g' (LinkToCells give w) o f = tt
   fine_later limit m g m' g' (GiveCell give w) o f = o.clinks give.cell (omega (arith, times_here give.cell [])) ∙ f
-  fine_later limit m g m' g' LoadHeadToLook o f = tt
   fine_later limit m g m' g' (LoadNextToLook h) o f = past_later h o.chain.heads f
-  fine_later limit m g m' g' (CheckHeadToLook h n) o f = tt
-  fine_later limit m g m' g' LoadHeadToShut o f = tt
   fine_later limit m g m' g' (ShutHead h) o f = f
+  fine_later limit m g m' g' l o f = tt
 
   -- What one step of one pass, which is at l and then at l', may do
   pub record Moves (m : Memory T) (g : Lists) (l : Line T) (m' : Memory T) (g' : Lists) (l' : Line T) : Type 0 where

@@ -6,7 +6,7 @@ use mathlib.Core.Option.{Option, none, some}
 use lib.ListN.{get_elem?}
 use Rattle.tagged_index.specs.declared.word.TheConstants.{NULL}
 use Rattle.bounded_model.specs.declared.answers.Word.TheVariants.{Cells as CellsWord, Nodes as NodesWord, Next as NextWord}
-use Rattle.bounded_model.specs.declared.answers.PutRefused.TheVariants.{Full as PutFull, Closed as PutClosed, Spent as PutSpent}
+use Rattle.bounded_model.specs.declared.answers.PutRefused.TheVariants.{Full as PutFull, Spent as PutSpent}
 use Rattle.bounded_model.specs.declared.answers.TakeRefused.TheVariants.{Empty as TakeEmpty, Closed as TakeClosed, Shut as TakeShut}
 use Rattle.bounded_model.specs.declared.history.Event.{Event}
 use Rattle.bounded_model.specs.declared.history.Event.TheVariants.{Hold, Put, Take, Free, Close, Shut}
@@ -24,7 +24,7 @@ use Rattle.queue_machine.specs.declared.lines.Linking.{Linking}
 use Rattle.queue_machine.specs.declared.lines.Seeking.{Seeking}
 use Rattle.queue_machine.specs.declared.lines.Seeking.TheVariants.{ToLink, ToRefuse, ToClose}
 use Rattle.queue_machine.specs.declared.lines.Answer.{Answer}
-use Rattle.queue_machine.specs.declared.lines.Answer.TheVariants.{Put as AnswerPut, Take as AnswerTake, Close as AnswerClose, Shut as AnswerShut, Look as AnswerLook}
+use Rattle.queue_machine.specs.declared.lines.Answer.TheVariants.{Put as AnswerPut, Take as AnswerTake, Close as AnswerClose, Shut as AnswerShut}
 use Rattle.queue_machine.specs.declared.lines.Line.{Line}
 use Rattle.queue_machine.specs.declared.lines.Line.TheVariants.{Idle, LoadCells, LoadCellLink, TakeCell, LoadNodes, LoadNodeLink, TakeNode, LoadNext, PrepareNext, LoadTail, LoadTailNext, CheckTail, SwingTail, LinkNext, SwingToLinked, MarkNext, LoadHead, LoadTailToTake, LoadHeadNext, CheckHead, SwingTailToTake, LoadCell, TakeHead, LoadNodesToGive, LinkToNodes, GiveNode, LoadCellsToGive, LinkToCells, GiveCell, LoadHeadToLook, LoadNextToLook, CheckHeadToLook, LoadHeadToShut, ShutHead}
 use Rattle.queue_machine.specs.Machine.{Memory, memories, Outcome, table, wins_value, step, ends, gives, frees, back_closed, back_null, found_cells, found_nodes, found_next, found_back, found_front}
@@ -36,17 +36,12 @@ use Rattle.queue_machine.proofs.Answers.{takes_grow, puts_stay, full_now, cells_
 module _ {T : Type 0} where
   -- an answer that was right stays so when its pass has seen more
   pub right_wider : (n limit : ℕ) (begun seen newer : List (Event T)) (a : Answer T) → Later seen newer → IsRight n limit begun seen a → IsRight n limit begun newer a
-  right_wider n limit begun seen newer (AnswerPut (Ok done)) l r = tt
   right_wider n limit begun seen newer (AnswerPut (Err (PutFull v))) l r = Sometime-wider (Later-refl begun) l r
-  right_wider n limit begun seen newer (AnswerPut (Err (PutClosed v))) l r = Sometime-wider (Later-refl begun) l r
-  right_wider n limit begun seen newer (AnswerPut (Err (PutSpent v word t))) l r = Sometime-wider (Later-refl begun) l r
+  right_wider n limit begun seen newer (AnswerPut (Ok done)) l r = tt
   right_wider n limit begun seen newer (AnswerTake (Ok done)) l r = tt
-  right_wider n limit begun seen newer (AnswerTake (Err why)) l r = Sometime-wider (Later-refl begun) l r
   right_wider n limit begun seen newer (AnswerClose true) l r = tt
-  right_wider n limit begun seen newer (AnswerClose false) l r = Sometime-wider (Later-refl begun) l r
   right_wider n limit begun seen newer (AnswerShut true) l r = tt
-  right_wider n limit begun seen newer (AnswerShut false) l r = Sometime-wider (Later-refl begun) l r
-  right_wider n limit begun seen newer (AnswerLook empty) l r = Sometime-wider (Later-refl begun) l r
+  right_wider n limit begun seen newer a l r = Sometime-wider (Later-refl begun) l r
 
   pub seeks_wider : (n limit : ℕ) (begun seen newer : List (Event T)) (s : Seeking T) → Later seen newer → SeeksFor n limit begun seen s → SeeksFor n limit begun newer s
   seeks_wider n limit begun seen newer (ToLink link) l t = tt

@@ -12,6 +12,7 @@ mod seats;
 mod steps;
 mod whole;
 
+pub use index_list::raised;
 pub use lists::{
     ListMachine, give_bare_step, give_chain_step, give_one_step, keep_link_step, load_link_step,
     load_top_step, mark_step, shut_step, store_link_step, take_all_step, take_bare_step,
@@ -22,7 +23,7 @@ pub use pause::Pause;
 pub use rule::{Machine, Running};
 pub use seats::peek;
 pub use steps::{
-    attempt_step, give_step, keep_step, load_step, load_tagged_step, raised, store_step, swap_step,
+    attempt_step, give_step, keep_step, load_step, load_tagged_step, store_step, swap_step,
     take_step,
 };
 pub use whole::{Whole, whole_call};

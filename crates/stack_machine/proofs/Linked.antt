@@ -8,7 +8,7 @@ use Rattle.machine.specs.Words.{Tagged, raised, kept, store, times, Stands}
 use Rattle.machine.specs.OneList.{Later}
 use Rattle.stack_machine.specs.declared.lines.Putting.{Putting}
 use Rattle.stack_machine.specs.declared.lines.Line.{Line}
-use Rattle.stack_machine.specs.declared.lines.Line.TheVariants.{Idle, LoadFree, LoadFreeLink, TakeFree, LinkTaken, LoadTop, LinkToTop, SwapTop, LoadTopToRefuse, LoadTopToTake, LoadTopLink, TakeTop, TakeChain, LoadLinkToTurn, TurnLink, LoadLinkToFold, LoadFreeToGive, LinkToFree, GiveBack, LoadTopToClose, MarkTop, LoadTopToShut, ShutTop, LoadTopToLook}
+use Rattle.stack_machine.specs.declared.lines.Line.TheVariants.{LoadFree, LoadFreeLink, TakeFree, LinkTaken, LoadTop, LinkToTop, SwapTop, LoadTopLink, TakeTop, TakeChain, LoadLinkToTurn, TurnLink, LoadLinkToFold, LoadFreeToGive, LinkToFree, GiveBack, MarkTop, ShutTop}
 use Rattle.stack_machine.specs.Machine.{Memory, held}
 use Rattle.machine.specs.Chains.{first, last}
 use Rattle.stack_machine.specs.Rule.{Lists, Collects, Adds, Puts, Gives, Walks, Turns, IsFine, Linked}
@@ -63,7 +63,6 @@ module _ {T : Type 0} where
   pub fine_later : (limit : ℕ) (m : Memory T) (g : Lists) (m' : Memory T) (g' : Lists) (l : Line T)
       → Later m.free m.link g.frees m'.free m'.link g'.frees → Later m.top m.link g.stack m'.top m'.link g'.stack
       → ((i : ℕ) → 0 < times i (held l) → m'.link i ≡ m.link i) → IsFine limit m g l → IsFine limit m' g' l
-  fine_later limit m g m' g' (Idle a) rf rt own f = tt
   fine_later limit m g m' g' (LoadFree put) rf rt own f = collects_later m.link m'.link put own f
   fine_later limit m g m' g' (LoadFreeLink put w) rf rt own f = (collects_later m.link m'.link put own f.0, read_top_later w rf f.1)
   fine_later limit m g m' g' (TakeFree put w k) rf rt own f = (collects_later m.link m'.link put own f.0, read_top_later w rf f.1, read_link_later w k rf f.1 f.2)
@@ -71,8 +70,6 @@ module _ {T : Type 0} where
   fine_later limit m g m' g' (LoadTop put) rf rt own f = puts_later m.link m'.link put own f
   fine_later limit m g m' g' (LinkToTop put w) rf rt own f = (puts_later m.link m'.link put own f.0, f.1, f.2)
   fine_later limit m g m' g' (SwapTop put w) rf rt own f = (puts_later m.link m'.link put own f.0, f.1, f.2, own (last put.chain) (last_in put.chain f.0.some_node) ∙ f.3)
-  fine_later limit m g m' g' (LoadTopToRefuse values) rf rt own f = tt
-  fine_later limit m g m' g' (LoadTopToTake taking) rf rt own f = tt
   fine_later limit m g m' g' (LoadTopLink w) rf rt own f = (read_top_later w rt f.0, f.1)
   fine_later limit m g m' g' (TakeTop w k) rf rt own f = (read_top_later w rt f.0, f.1, read_link_later w k rt f.0 f.2)
   fine_later limit m g m' g' (TakeChain d w) rf rt own f = f
@@ -82,11 +79,9 @@ module _ {T : Type 0} where
   fine_later limit m g m' g' (LoadFreeToGive give) rf rt own f = gives_later m.link m'.link give.chain own f
   fine_later limit m g m' g' (LinkToFree give w) rf rt own f = gives_later m.link m'.link give.chain own f
   fine_later limit m g m' g' (GiveBack give w) rf rt own f = (gives_later m.link m'.link give.chain own f.0, own (last give.chain) (last_in give.chain f.0.some_node) ∙ f.1)
-  fine_later limit m g m' g' LoadTopToClose rf rt own f = tt
   fine_later limit m g m' g' (MarkTop w) rf rt own f = f
-  fine_later limit m g m' g' LoadTopToShut rf rt own f = tt
   fine_later limit m g m' g' (ShutTop w) rf rt own f = f
-  fine_later limit m g m' g' LoadTopToLook rf rt own f = tt
+  fine_later limit m g m' g' l rf rt own f = tt
 
   -- What one step of one pass, which is at l and then at l', may do to the links and the lists
   pub record Moves (m : Memory T) (g : Lists) (l : Line T) (m' : Memory T) (g' : Lists) (l' : Line T) : Type 0 where

@@ -15,6 +15,7 @@ use Rattle.stack_machine.specs.declared.lines.Line.{Line}
 use Rattle.stack_machine.specs.Machine.{Memory, held, after_hold, after_give, after_put_of, after_take, after_take_all, after_close, after_shut, after_store}
 use Rattle.machine.specs.Chains.{first, last, chain_from, values_in, HasValues}
 use Rattle.stack_machine.specs.Answers.{state}
+pub use Rattle.stack_machine.specs.Rule.{Kept}
 use Rattle.stack_machine.specs.Rule.{Lists, Gives, IsFine, Filled, putting, Good}
 use Rattle.machine.proofs.Tests.{not_below}
 use Rattle.machine.proofs.Sums.{total_one}
@@ -24,11 +25,6 @@ use Rattle.machine.proofs.Chains.{first_value, chain_from-is, values_in-is}
 use Rattle.stack_machine.proofs.Linked.{held_once, goes_linked, store_linked, hold_linked, give_linked, put_linked, take_linked, mark_linked}
 use Rattle.stack_machine.proofs.Filled.{same_filled, hold_filled, give_filled, put_filled, take_filled, take_all_filled}
 use Rattle.stack_machine.proofs.Told.{goes_told, hold_told, give_told, put_told, take_told, take_all_told, close_told, shut_told}
-
--- good with some lists
-pub record Kept (T : Type 0) (n limit : ℕ) (m : Memory T) (who : ℕ → Option ℕ) (lines : List (Line T)) (history : List (Event T)) : Type 0 where
-  pub lists : Lists
-  pub good : Good T n limit m lists who lines history
 
 -- a won take: the value that was on top, which is taken
 pub record Took (T : Type 0) (n limit : ℕ) (m : Memory T) (who : ℕ → Option ℕ) (lines : List (Line T)) (history : List (Event T)) (q p : ℕ) (w : Tagged) (k : ℕ) (to : T → Line T) : Type 0 where

@@ -14,8 +14,8 @@ use Rattle.stack_machine.specs.declared.lines.Line.{Line}
 use Rattle.stack_machine.specs.declared.lines.Line.TheVariants.{Idle}
 use Rattle.stack_machine.specs.Answers.{shape, state}
 use Rattle.stack_machine.specs.Machine.{Memory, held, start}
-use Rattle.stack_machine.specs.Rule.{Lists, IsFine, putting, Good}
-use Rattle.stack_machine.proofs.Moves.{Kept, all_nodes, all_values}
+use Rattle.stack_machine.specs.Rule.{Kept, Lists, IsFine, putting, Good}
+use Rattle.stack_machine.proofs.Moves.{all_nodes, all_values}
 use Rattle.stack_machine.proofs.Answers.{full_now, free_spent_now}
 use Rattle.stack_machine.proofs.Doing.{Stocked, Reads}
 

@@ -25,14 +25,14 @@ use Rattle.stack_machine.specs.declared.lines.Line.TheVariants.{Idle, LoadFree, 
 use Rattle.stack_machine.specs.Machine.{after_put_of, Memory, memories, table, Outcome, placed, unplaced, with_node, held, ends, gives, next_node, no_node, refuses, takes, at_load_free, at_load_top_to_take, at_take_free, at_take_chain, at_turn_link, goes_on, wins, wins_value, wins_chain, step, after_hold, after_take_all, after_store}
 use Rattle.machine.specs.Chains.{first, last, second, values_in}
 use Rattle.stack_machine.specs.Answers.{shape}
-use Rattle.stack_machine.specs.Rule.{Lists, Collects, Adds, Puts, Gives, Walks, Turns, IsFine, putting, Good}
+use Rattle.stack_machine.specs.Rule.{Lists, Collects, Adds, Puts, Gives, Walks, Turns, IsFine, putting, Good, Kept}
 use Rattle.machine.proofs.Tests.{cases}
 use Rattle.machine.proofs.Program.{Cases, by_cases}
 use Rattle.machine.proofs.Lists.{times_here, times_append, not_there, store_here, store_else, leads_frame, leads_from}
 use Rattle.machine.proofs.OneList.{read_top, front_of}
 use Rattle.machine.proofs.Chains.{times_reverse, leads_chain, chain_store_first, chain_store_last, first_in, last_in}
 use Rattle.stack_machine.proofs.Linked.{held_once, turning_in}
-use Rattle.stack_machine.proofs.Moves.{Kept, good_goes, good_store, good_hold, good_give, good_put, good_take, good_take_all, good_close, good_shut, no_null, all_nodes, all_values}
+use Rattle.stack_machine.proofs.Moves.{good_goes, good_store, good_hold, good_give, good_put, good_take, good_take_all, good_close, good_shut, no_null, all_nodes, all_values}
 
 -- chains
 

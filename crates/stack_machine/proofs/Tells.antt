@@ -23,7 +23,7 @@ use Rattle.stack_machine.specs.declared.lines.Direction.TheVariants.{Down, Up}
 use Rattle.stack_machine.specs.declared.lines.Taking.{Taking}
 use Rattle.stack_machine.specs.declared.lines.Taking.TheVariants.{One, Whole}
 use Rattle.stack_machine.specs.declared.lines.Answer.{Answer}
-use Rattle.stack_machine.specs.declared.lines.Answer.TheVariants.{Put as AnswerPut, Take as AnswerTake, Fold as AnswerFold, Close as AnswerClose, Shut as AnswerShut, Look as AnswerLook}
+use Rattle.stack_machine.specs.declared.lines.Answer.TheVariants.{Put as AnswerPut, Take as AnswerTake, Fold as AnswerFold, Close as AnswerClose, Shut as AnswerShut}
 use Rattle.stack_machine.specs.declared.lines.Line.{Line}
 use Rattle.stack_machine.specs.declared.lines.Line.TheVariants.{Idle, LoadFree, LoadFreeLink, TakeFree, LinkTaken, LoadTop, LinkToTop, SwapTop, LoadTopToRefuse, LoadTopToTake, TakeTop, TakeChain, LoadLinkToTurn, TurnLink, LoadLinkToFold, LoadFreeToGive, LinkToFree, GiveBack, LoadTopToClose, MarkTop, LoadTopToShut, ShutTop, LoadTopToLook}
 use Rattle.stack_machine.specs.Machine.{Memory, memories, table, Outcome, placed, with_node, ends, gives, next_node, no_node, at_load_free, at_load_top, at_load_top_to_refuse, at_load_top_to_take, refuses, takes, at_take_free, at_take_chain, wins_value, step}
@@ -38,16 +38,11 @@ module _ {T : Type 0} where
   -- an answer that was right stays so when its pass has seen more
   pub right_wider : (n limit : ℕ) (begun seen newer : List (Event T)) (a : Answer T) → Later seen newer → IsRight n limit begun seen a → IsRight n limit begun newer a
   right_wider n limit begun seen newer (AnswerPut (Ok done)) l r = tt
-  right_wider n limit begun seen newer (AnswerPut (Err why)) l r = Sometime-wider (Later-refl begun) l r
   right_wider n limit begun seen newer (AnswerTake (Ok done)) l r = tt
-  right_wider n limit begun seen newer (AnswerTake (Err why)) l r = Sometime-wider (Later-refl begun) l r
   right_wider n limit begun seen newer (AnswerFold (Ok done)) l r = tt
-  right_wider n limit begun seen newer (AnswerFold (Err why)) l r = Sometime-wider (Later-refl begun) l r
   right_wider n limit begun seen newer (AnswerClose true) l r = tt
-  right_wider n limit begun seen newer (AnswerClose false) l r = Sometime-wider (Later-refl begun) l r
   right_wider n limit begun seen newer (AnswerShut true) l r = tt
-  right_wider n limit begun seen newer (AnswerShut false) l r = Sometime-wider (Later-refl begun) l r
-  right_wider n limit begun seen newer (AnswerLook empty) l r = Sometime-wider (Later-refl begun) l r
+  right_wider n limit begun seen newer a l r = Sometime-wider (Later-refl begun) l r
 
   module _ {n limit : ℕ} {m : Memory T} {g : Lists} {who : ℕ → Option ℕ} {lines : List (Line T)} {history : List (Event T)} (x : Good T n limit m g who lines history) (p : ℕ)
       (begun seen : List (Event T)) (before : Later begun seen) (now : Later seen history) where

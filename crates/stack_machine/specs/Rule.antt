@@ -145,6 +145,11 @@ pub record Good (T : Type 0) (n limit : ℕ) (m : Memory T) (g : Lists) (who : �
   pub filled : Filled T m g (state n limit history).values
   pub told : Told T n limit m.free m.top g who lines history
 
+-- good with some lists
+pub record Kept (T : Type 0) (n limit : ℕ) (m : Memory T) (who : ℕ → Option ℕ) (lines : List (Line T)) (history : List (Event T)) : Type 0 where
+  pub lists : Lists
+  pub good : Good T n limit m lists who lines history
+
 -- What a line says of the histories that its pass had seen at the begin and has seen by now: a put that
 -- found no node had found all of them taken, and the answer that is on its way is right
 module _ {T : Type 0} (n limit : ℕ) (begun seen : List (Event T)) where
