@@ -1,5 +1,5 @@
 -- What each line of the queue needs for its step to be made on the table, from the rule.
-use Rattle.std.proofs.Common.{◌≡◌, ◌≢◌, ℕ, ◌+◌, ◌<◌, ◌≤◌, ⊎_elim, Bool, true, false, cond, List, [], ◌∷◌, ◌++◌, length, set, refl, sym, ap, subst, lt_of_not-le, arith}
+use Rattle.std.proofs.Common.{◌≡◌, ◌≢◌, ℕ, ◌+◌, ◌<◌, ⊎_elim, Bool, true, false, cond, List, [], ◌∷◌, ◌++◌, length, set, refl, sym, ap, subst, lt_of_not-le, arith}
 use Rattle.std.specs.Prelude.{slice_index, Option as Slot, Some, None}
 use mathlib.Core.Option.{Option, some}
 use lib.ListN.{get_elem?}
@@ -8,13 +8,13 @@ use Rattle.tagged_index.specs.declared.word.TheConstants.{NULL}
 use Rattle.tagged_index.proofs.Words.{fields_of-number}
 use Rattle.bounded_model.specs.declared.history.Event.{Event}
 use Rattle.bounded_model.specs.declared.history.Event.TheVariants.{Put}
-use Rattle.machine.specs.Words.{Tagged, raised, same, times, Stands}
+use Rattle.machine.specs.Words.{Tagged, raised, same, times}
 use Rattle.machine.proofs.Lists.{times_here}
 use Rattle.machine.proofs.Sums.{total_one}
 use Rattle.machine.proofs.Tests.{not_below}
 use Rattle.queue_machine.specs.declared.lines.Seeking.TheVariants.{ToLink}
 use Rattle.queue_machine.specs.declared.lines.Line.{Line}
-use Rattle.queue_machine.specs.declared.lines.Line.TheVariants.{Idle, LoadCells, LoadCellLink, TakeCell, LoadNodes, LoadNodeLink, TakeNode, StoreCell, LoadNext, PrepareNext, LoadTail, LoadTailNext, CheckTail, SwingTail, LinkNext, SwingToLinked, MarkNext, LoadHead, LoadTailToTake, LoadHeadNext, CheckHead, SwingTailToTake, LoadCell, TakeHead, LoadNodesToGive, LinkToNodes, GiveNode, LoadCellsToGive, LinkToCells, GiveCell, LoadHeadToLook, LoadNextToLook, CheckHeadToLook, LoadHeadToShut, ShutHead}
+use Rattle.queue_machine.specs.declared.lines.Line.TheVariants.{LoadCells, LoadCellLink, TakeCell, LoadNodes, LoadNodeLink, TakeNode, StoreCell, PrepareNext, LoadTail, LoadTailNext, CheckTail, SwingTail, LinkNext, SwingToLinked, MarkNext, LoadHead, LoadHeadNext, CheckHead, SwingTailToTake, LoadCell, TakeHead, LinkToNodes, GiveNode, LinkToCells, GiveCell, LoadHeadToLook, ShutHead}
 use Rattle.queue_machine.specs.Machine.{Memory, table, Outcome, step, goes_on, wins, null_word, ends, with_cell, held_nodes, held_cells, found_back, found_front, after_link}
 use Rattle.queue_machine.specs.Answers.{shape}
 use Rattle.queue_machine.specs.Rule.{Lists, Ends, IsFine, Good, Kept}
@@ -26,17 +26,13 @@ use Rattle.running.specs.Machine.{Does}
 use Rattle.running.specs.Tables.{Needs}
 use Rattle.running.proofs.Does.{does_all}
 use Rattle.running.proofs.Keeps.{there}
+use Rattle.running.proofs.Indexes.{stands_in}
 use Rattle.queue_table.specs.Layout.{head_at, tail_at, next_at, cell_at}
 use Rattle.queue_table.specs.Lines.{next, HasRoom}
 use Rattle.queue_table.specs.Memories.{memory_of, Sane}
 use Rattle.queue_table.specs.Core.{board, rules, core}
 use Rattle.queue_table.proofs.Memories.{lies, plain, at_home_is}
 use Rattle.queue_machine.specs.declared.lines.Number.TheVariants.{CellLink, NodeLink, Cell}
-
--- a list that stands begins with an index of its own
-stands_in : (link : ℕ → ℕ) (x : ℕ) (xs : List ℕ) → Stands link x xs → x ≢ NULL → 0 < times x xs
-stands_in link x [] s ne = absurd (ne s)
-stands_in link x (y ∷ ys) s ne = let h = times_here y ys in let e : times x (y ∷ ys) ≡ times y (y ∷ ys) = ap (λ (z : ℕ). times z (y ∷ ys)) s.0 in omega arith
 
 alone : (i : ℕ) → 0 < times i (i ∷ [])
 alone i = omega (arith, times_here i [])
@@ -47,9 +43,6 @@ module _ {T : Type 0} (n limit : ℕ) (words : List ℕ) (homes : List (Option (
 
   abbrev steps : Line T → Outcome T
   steps l = step (shape n limit) m p l
-
-  long : 68 ≤ length words
-  long = let w = sane.words_are in omega arith
 
   inside : (i : ℕ) → i < n + 1 → cell_at i < length words
   inside i low = let w = sane.words_are in omega arith
@@ -111,7 +104,6 @@ module _ {T : Type 0} (n limit : ℕ) (words : List ℕ) (homes : List (Option (
     end_node w y ends hit = let t = tail_below k.good.linked in let e = (ends.last (ap (λ (u : Tagged). u.tag) (sym hit))).1 in omega arith
 
     needs : (l : Line T) → get_elem? lines q ≡ some l → Needs (board T n limit) words homes l (table limit l)
-    needs (Idle a) e = tt
     needs (LoadCells v) e = first_cell
     needs (LoadCellLink v w) e = sane.plain (CellLink w.index)
     needs (TakeCell v w c) e =
@@ -121,7 +113,6 @@ module _ {T : Type 0} (n limit : ℕ) (words : List ℕ) (homes : List (Option (
     needs (LoadNodeLink put w) e = sane.plain (NodeLink w.index)
     needs (TakeNode put w j) e = (λ hit. (omega arith, tt), tt)
     needs (StoreCell link) e = (inside link.node (held_node (StoreCell link) link.node e (alone link.node)), tt)
-    needs (LoadNext link) e = tt
     needs (PrepareNext link y) e =
         let low = inside link.node (held_node (PrepareNext link y) link.node e (alone link.node)) in
         (omega arith, fields_of-number (null_word (y.tag + 1)) (omega arith), tt)
@@ -143,7 +134,6 @@ module _ {T : Type 0} (n limit : ℕ) (words : List ℕ) (homes : List (Option (
     needs (SwingToLinked v w y) e = (λ hit. omega arith, tt)
     needs (MarkNext w y) e = (λ hit. (let b = inside w.index (end_node w y (k.good.linked.fine q (MarkNext w y) e) hit) in omega arith, tt), tt)
     needs LoadHead e = head_below k.good.linked
-    needs (LoadTailToTake u) e = tt
     needs (LoadHeadNext u w) e = k.good.linked.named u.index
     needs (CheckHead u w y) e =
         let l : Line T = CheckHead u w y in
@@ -158,20 +148,16 @@ module _ {T : Type 0} (n limit : ℕ) (words : List ℕ) (homes : List (Option (
               (omega arith, record { slots = (c, Some v.value) ∷ []; apart = (λ z. z, tt); home = (at_home_is homes c (Some v.value) v.here, tt); fits = (v.value, refl); are = refl; to = _; replies = refl }),
           λ hit. (finds hit).below,
         )
-    needs (LoadNodesToGive give) e = tt
     needs (LinkToNodes give w) e = (let b = inside give.node (held_node (LinkToNodes give w) give.node e (alone give.node)) in omega arith, tt)
     needs (GiveNode give w) e = (λ hit. (omega arith, tt), tt)
-    needs (LoadCellsToGive give) e = tt
     needs (LinkToCells give w) e =
         let held = held_cell (LinkToCells give w) give.cell e (alone give.cell) in
         let low : give.cell < n + 1 = let z = sane.homes_are in omega arith in
         (let b = inside give.cell low in omega arith, tt)
     needs (GiveCell give w) e = (λ hit. (omega arith, record { apart = (λ z. z, tt); low = λ i there. ⊎_elim (λ e'. subst (λ (c : ℕ). c < length homes) (sym e') (held_cell (GiveCell give w) give.cell e (alone give.cell))) (λ z. absurd z) there }), tt)
     needs LoadHeadToLook e = head_below k.good.linked
-    needs (LoadNextToLook u) e = tt
-    needs (CheckHeadToLook u y) e = tt
-    needs LoadHeadToShut e = tt
     needs (ShutHead u) e = (λ hit. (omega arith, tt), tt)
+    needs l e = tt
 
     pub does : (l : Line T) → get_elem? lines q ≡ some l → Does (core T n limit) words homes p l ((core T n limit).access l)
     does l e = does_all (board T n limit) (rules T n limit) (lies T n) plain words homes sane p l (needs l e)

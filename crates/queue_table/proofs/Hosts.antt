@@ -1,19 +1,15 @@
 -- What the queue's machine shows of its two lists, and the laws of their host.
-use Rattle.std.proofs.Common.{◌≡◌, ℕ, zero, suc, ◌+◌, ◌*◌, ◌<◌, ◌≤◌, Bool, true, false, cond, ltb, eqb, List, [], ◌∷◌, refl, sym, ap, inl, inr, arith}
+use Rattle.std.proofs.Common.{◌≡◌, ℕ, zero, suc, ◌+◌, ◌*◌, ◌<◌, Bool, true, false, cond, eqb, List, [], refl, sym, ap, inl, arith}
 use Rattle.std.proofs.lemmas.Bool.{false≢true}
-use Rattle.std.proofs.lemmas.Bool.Decides.{nat_tests}
 use Rattle.std.specs.Prelude.{Option as Slot}
 use mathlib.Core.Option.{Option}
 use Rattle.tagged_index.specs.declared.word.TheConstants.{NULL}
 use Rattle.bounded_model.specs.declared.history.Event.{Event}
-use Rattle.index_list.specs.Lists.{Leads, Holds, Distinct}
 use Rattle.index_list.specs.Steps.{numbers}
 use Rattle.index_list.specs.Host.{Laws}
 use Rattle.machine.specs.Words.{Tagged, times, total}
-use Rattle.machine.specs.Words as core
-use Rattle.machine.proofs.Lists.{times_here}
 use Rattle.machine.proofs.Sums.{total_one}
-use Rattle.machine.proofs.Tests.{at_most_one, cases}
+use Rattle.machine.proofs.Tests.{at_most_one}
 use Rattle.queue_machine.specs.declared.lines.Line.{Line}
 use Rattle.queue_machine.specs.declared.lines.Line.TheVariants.{LoadCells, LoadCellLink, TakeCell, LoadNodes, LoadNodeLink, TakeNode, LoadNodesToGive, LinkToNodes, GiveNode, LoadCellsToGive, LinkToCells, GiveCell}
 use Rattle.queue_machine.specs.Machine.{Memory, held_cells, held_nodes}
@@ -21,31 +17,12 @@ use Rattle.queue_machine.specs.Rule.{Lists as CoreLists, IsFine, Kept}
 use Rattle.running.specs.Rule.{Rule}
 use Rattle.running.specs.Lists.{Listed, Hosts, Agrees, Ready, Moved, host}
 use Rattle.running.proofs.Hosting.{laws}
+use Rattle.running.proofs.Indexes.{holds_times, distinct_times, leads_low, once_below}
 use Rattle.queue_table.specs.Layout.{clink_at, nlink_at}
 use Rattle.queue_table.specs.Core.{core}
 use Rattle.queue_table.specs.Memories.{memory_of}
 use Rattle.queue_table.specs.Lists.{lists, list_step}
 use Rattle.queue_table.proofs.Laws.{queue, idle_empty, first_empty}
-
-holds_times : (xs : List ℕ) (i : ℕ) → Holds xs i → 0 < times i xs
-holds_times [] i h = absurd h
-holds_times (x ∷ xs) i (inl e) = let h = times_here i xs in let s : times i (x ∷ xs) ≡ times i (i ∷ xs) = ap (λ (y : ℕ). times i (y ∷ xs)) (sym e) in omega arith
-holds_times (x ∷ xs) i (inr h) = let t = holds_times xs i h in omega arith
-
-distinct_times : (xs : List ℕ) → ((i : ℕ) → times i xs ≤ 1) → Distinct xs
-distinct_times [] once = tt
-distinct_times (x ∷ xs) once = (
-  (λ h. absurd (let t = holds_times xs x h in let u = once x in let v = times_here x xs in omega arith)),
-  distinct_times xs (λ i. let u = once i in let t : times i xs ≤ times i (x ∷ xs) = omega arith in omega arith),
-)
-
-leads_low : (link : ℕ → ℕ) (i : ℕ) (xs : List ℕ) (j : ℕ) → core.Leads link i xs j → ((x : ℕ) → 0 < times x xs → x < NULL) → Leads link i xs j
-leads_low link i [] j c low = c
-leads_low link i (x ∷ xs) j c low = (c.0, low x (let t = times_here x xs in omega arith), leads_low link (link x) xs j c.1 (λ z there. low z (omega arith)))
-
--- an index that is once in a place of k, is below k
-once_below : (i k places : ℕ) → places ≡ cond (ltb i k) 1 0 → 0 < places → i < k
-once_below i k places e some_there = cases (λ z. places ≡ z → i < k) (ltb i k) 1 0 (λ b e. grind (arith, nat_tests)) (λ b e. absurd (omega arith)) e
 
 module _ {T : Type 0} (n limit : ℕ) where
   agrees : (line : Line T) → Agrees (lists {T = T}) ((core T n limit).access line) (list_step line)

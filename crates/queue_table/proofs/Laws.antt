@@ -9,11 +9,12 @@ use Rattle.bounded_model.specs.declared.history.Event.{Event}
 use Rattle.bounded_model.specs.declared.views.PassView.{PassView}
 use Rattle.bounded_model.specs.Histories.{own}
 use Rattle.bounded_model.proofs.Histories.{own-between}
+use Rattle.machine.proofs.Sums.{total_snoc}
 use Rattle.machine.specs.Words.{times, total}
 use Rattle.machine.specs.Seats.{Saw}
 use Rattle.machine.proofs.Ahead.{Ahead}
 use Rattle.queue_machine.specs.declared.lines.Line.{Line}
-use Rattle.queue_machine.specs.declared.lines.Seeking.TheVariants.{ToLink, ToRefuse, ToClose}
+use Rattle.queue_machine.specs.declared.lines.Seeking.TheVariants.{ToLink}
 use Rattle.queue_machine.specs.declared.lines.Line.TheVariants.{Idle, LoadNodes, LoadNodeLink, TakeNode, StoreCell, LoadNext, PrepareNext, LoadTail, LoadTailNext, CheckTail, SwingTail, LinkNext, LoadNodesToGive, LinkToNodes, GiveNode, LoadCellsToGive, LinkToCells, GiveCell}
 use Rattle.queue_machine.specs.Machine.{Memory, is_idle, held_cells, held_nodes, step}
 use Rattle.queue_machine.specs.Answers.{shape, state}
@@ -81,10 +82,6 @@ module _ {T : Type 0} where
   first_tells n limit h ShutFirst = tt
   first_tells n limit h LookFirst = tt
 
-total_snoc : {A : Type 0} (f : A → ℕ) (xs : List A) (x : A) → total f (xs ++ x ∷ []) ≡ total f xs + f x
-total_snoc f [] x = omega arith
-total_snoc f (y ∷ ys) x = let r = total_snoc f ys x in omega arith
-
 -- the rule goes by the sums over lines and by each line
 reseated : {T : Type 0} (n limit : ℕ) (m : Memory T) (g : Lists) (of of' : ℕ → Option ℕ) (lines lines' : List (Line T)) (h : List (Event T)) → Good T n limit m g of lines h → (lines' ≡ lines) ⊎ (lines' ≡ lines ++ Idle None ∷ [])
     → ((q p : ℕ) (l : Line T) → get_elem? lines' q ≡ some l → of' q ≡ some p → (state n limit h).hand p ≡ length (held_cells l)) → ((q r p : ℕ) → of' q ≡ some p → of' r ≡ some p → q ≡ r) → Good T n limit m g of' lines' h
@@ -141,17 +138,9 @@ module _ {T : Type 0} where
   quiets (LoadNext link) e = absurd (omega (arith, e))
   quiets (PrepareNext link x) e = absurd (omega (arith, e))
   quiets (LoadTail (ToLink link)) e = absurd (omega (arith, e))
-  quiets (LoadTail (ToRefuse v)) e = steady refl
-  quiets (LoadTail ToClose) e = steady refl
   quiets (LoadTailNext (ToLink link) w) e = absurd (omega (arith, e))
-  quiets (LoadTailNext (ToRefuse v) w) e = steady refl
-  quiets (LoadTailNext ToClose w) e = steady refl
   quiets (CheckTail (ToLink link) w x) e = absurd (omega (arith, e))
-  quiets (CheckTail (ToRefuse v) w x) e = steady refl
-  quiets (CheckTail ToClose w x) e = steady refl
   quiets (SwingTail (ToLink link) w x) e = absurd (omega (arith, e))
-  quiets (SwingTail (ToRefuse v) w x) e = steady refl
-  quiets (SwingTail ToClose w x) e = steady refl
   quiets (LinkNext link w x) e = absurd (omega (arith, e))
   quiets (LoadNodesToGive give) e = absurd (omega (arith, e))
   quiets (LinkToNodes give w) e = absurd (omega (arith, e))

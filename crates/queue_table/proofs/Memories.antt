@@ -17,41 +17,17 @@ use Rattle.queue_table.specs.Core.{Plain}
 
 places : (a b : Place) → Apart place_at same_place a b
 places Cells Cells = inl (refl, refl)
-places Cells Nodes = inr (refl, λ e. omega arith)
-places Cells Head = inr (refl, λ e. omega arith)
-places Cells Tail = inr (refl, λ e. omega arith)
-places Cells (Next j) = inr (refl, λ e. omega arith)
-places Nodes Cells = inr (refl, λ e. omega arith)
 places Nodes Nodes = inl (refl, refl)
-places Nodes Head = inr (refl, λ e. omega arith)
-places Nodes Tail = inr (refl, λ e. omega arith)
-places Nodes (Next j) = inr (refl, λ e. omega arith)
-places Head Cells = inr (refl, λ e. omega arith)
-places Head Nodes = inr (refl, λ e. omega arith)
 places Head Head = inl (refl, refl)
-places Head Tail = inr (refl, λ e. omega arith)
-places Head (Next j) = inr (refl, λ e. omega arith)
-places Tail Cells = inr (refl, λ e. omega arith)
-places Tail Nodes = inr (refl, λ e. omega arith)
-places Tail Head = inr (refl, λ e. omega arith)
 places Tail Tail = inl (refl, refl)
-places Tail (Next j) = inr (refl, λ e. omega arith)
-places (Next i) Cells = inr (refl, λ e. omega arith)
-places (Next i) Nodes = inr (refl, λ e. omega arith)
-places (Next i) Head = inr (refl, λ e. omega arith)
-places (Next i) Tail = inr (refl, λ e. omega arith)
 places (Next i) (Next j) = ⊎_elim (λ t. inl (t.0, ap Next t.1)) (λ t. let ne = t.1 in inr (t.0, λ e. ne (omega arith))) (eqb_tells i j)
+places a b = inr (refl, λ e. omega arith)
 
 numbers : (a b : Number) → Apart number_at same_number a b
 numbers (CellLink i) (CellLink j) = ⊎_elim (λ t. inl (t.0, ap CellLink t.1)) (λ t. let ne = t.1 in inr (t.0, λ e. ne (omega arith))) (eqb_tells i j)
-numbers (CellLink i) (NodeLink j) = inr (refl, λ e. omega arith)
-numbers (CellLink i) (Cell j) = inr (refl, λ e. omega arith)
-numbers (NodeLink i) (CellLink j) = inr (refl, λ e. omega arith)
 numbers (NodeLink i) (NodeLink j) = ⊎_elim (λ t. inl (t.0, ap NodeLink t.1)) (λ t. let ne = t.1 in inr (t.0, λ e. ne (omega arith))) (eqb_tells i j)
-numbers (NodeLink i) (Cell j) = inr (refl, λ e. omega arith)
-numbers (Cell i) (CellLink j) = inr (refl, λ e. omega arith)
-numbers (Cell i) (NodeLink j) = inr (refl, λ e. omega arith)
 numbers (Cell i) (Cell j) = ⊎_elim (λ t. inl (t.0, ap Cell t.1)) (λ t. let ne = t.1 in inr (t.0, λ e. ne (omega arith))) (eqb_tells i j)
+numbers a b = inr (refl, λ e. omega arith)
 
 others : (a : Place) (b : Number) → place_at a ≢ number_at b
 others Cells (CellLink j) = λ e. omega arith

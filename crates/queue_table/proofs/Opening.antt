@@ -1,11 +1,10 @@
 -- The rule holds of a new queue.
-use Rattle.std.proofs.Common.{◌≡◌, ℕ, zero, suc, ◌+◌, ◌-◌, ◌*◌, ◌/◌, ◌%◌, ◌<◌, ◌≤◌, ◌⊎◌, inl, inr, ⊎_elim, cond, eqb, ltb, List, [], ◌∷◌, map, length, replicate, refl, sym, ap, ◌∙◌, subst, arith}
+use Rattle.std.proofs.Common.{◌≡◌, ℕ, ◌+◌, ◌-◌, ◌*◌, ◌/◌, ◌%◌, ◌<◌, ◌≤◌, ◌⊎◌, inl, inr, ⊎_elim, cond, eqb, ltb, List, [], ◌∷◌, length, replicate, refl, sym, ap, ◌∙◌, subst, arith}
 use Rattle.std.proofs.lemmas.Bool.Decides.{nat_tests}
 use Rattle.std.proofs.lemmas.List.{get_or_past}
 use Rattle.std.proofs.lemmas.Nat.{div-mul-add, mod-mul-add}
-use Rattle.std.specs.Prelude.{slice_index, Option as Slot, None}
-use mathlib.Core.Option.{Option, some, some-ne-none}
-use lib.ListN.{get_elem?}
+use Rattle.std.specs.Prelude.{slice_index, None}
+use mathlib.Core.Option.{some}
 use Rattle.atomic_table.specs.Table.{opening}
 use Rattle.tagged_index.specs.Fields.{fields_of}
 use Rattle.tagged_index.specs.declared.word.TheConstants.{NULL}
@@ -19,11 +18,12 @@ use Rattle.queue_machine.specs.Machine.{start_nlink}
 use Rattle.queue_machine.specs.Answers.{shape}
 use Rattle.queue_machine.specs.Rule.{Kept}
 use Rattle.queue_machine.proofs.Start.{IsNew, new_kept}
-use Rattle.running.specs.Rule.{Rule, who}
+use Rattle.running.specs.Rule.{Rule}
+use Rattle.running.proofs.Opening.{empties, home_start, homes_start, first_who, nobody, below_or_not}
 use Rattle.queue_table.specs.Layout.{clink_at, nlink_at, next_at, cell_at, words_for, start_of, start_at, number_at}
 use Rattle.queue_machine.specs.declared.lines.Number.{Number}
 use Rattle.queue_machine.specs.declared.lines.Number.TheVariants.{CellLink, NodeLink, Cell}
-use Rattle.queue_table.specs.Memories.{memory_of, at_home}
+use Rattle.queue_table.specs.Memories.{memory_of}
 use Rattle.queue_table.specs.Core.{core}
 use Rattle.queue_table.proofs.Laws.{laws, queue}
 
@@ -38,30 +38,6 @@ part_of n i r at e low = cases (λ v. v ≡ start_of n r i) (ltb at 64) (cond (e
 
 link_small : (n i : ℕ) → i + 1 ≤ NULL → start_link n i ≤ NULL
 link_small n i small = cases (λ v. v ≤ NULL) (eqb (i + 1) n) NULL (i + 1) (λ _. omega arith) (λ _. omega arith)
-
-below_or_not : (i k : ℕ) → (i < k) ⊎ (k ≤ i)
-below_or_not i k = cases (λ (b : ℕ). (i < k) ⊎ (k ≤ i)) (ltb i k) 1 0 (λ b. inl (grind (arith, nat_tests))) (λ b. inr (grind (arith, nat_tests)))
-
--- all slots are at home and empty
-abbrev empties : (T : Type 0) → ℕ → List (Option (Slot T))
-empties T n = map some (replicate n None)
-
-home_start : (T : Type 0) (n i : ℕ) → i < n → at_home (get_elem? (empties T n) i) ≡ some None
-home_start T zero i h = absurd (omega arith)
-home_start T (suc n) zero h = refl
-home_start T (suc n) (suc i) h = home_start T n i (omega arith)
-
-homes_start : (T : Type 0) (n : ℕ) → length (empties T n) ≡ n
-homes_start T zero = refl
-homes_start T (suc n) = ap suc (homes_start T n)
-
--- the only seat is the root's
-abbrev first_who : (T : Type 0) → ℕ → Option ℕ
-first_who T = who {T = T} {L = Line T} (first_view ∷ [])
-
-nobody : (T : Type 0) (q p : ℕ) → first_who T q ≡ some p → ⊥
-nobody T zero p e = some-ne-none p (sym e)
-nobody T (suc q) p e = some-ne-none p (sym e)
 
 module _ (n : ℕ) (ws : List ℕ) (small : n < NULL) (long : length ws ≡ words_for n) (is : (k : ℕ) → k < words_for n → slice_index ws k ≡ start_at n k) where
   -- a word of an index: that of a new queue, and 0 where there is none
@@ -108,10 +84,10 @@ module _ {T : Type 0} (n limit : ℕ) (ws : List ℕ) (some_cell : 0 < n) (small
     home = λ i low. home_start T n i low;
   }
 
-  good : Kept T n limit (memory_of ws (empties T n)) (first_who T) (Idle None ∷ []) []
-  good = (laws n limit).reseats (memory_of ws (empties T n)) some (first_who T) (Idle None ∷ []) (Idle None ∷ []) [] (new_kept n limit 1 (memory_of ws (empties T n)) some_cell small some_tag new) (inl refl)
-      (λ q p l _ e. absurd (nobody T q p e))
-      (λ q r p e _. absurd (nobody T q p e))
+  good : Kept T n limit (memory_of ws (empties T n)) (first_who T (Line T)) (Idle None ∷ []) []
+  good = (laws n limit).reseats (memory_of ws (empties T n)) some (first_who T (Line T)) (Idle None ∷ []) (Idle None ∷ []) [] (new_kept n limit 1 (memory_of ws (empties T n)) some_cell small some_tag new) (inl refl)
+      (λ q p l _ e. absurd (nobody T (Line T) q p e))
+      (λ q r p e _. absurd (nobody T (Line T) q p e))
 
   opens_all : Rule {names = _} (queue T n limit) (opening ws (replicate n None) first_view)
   opens_all = record {

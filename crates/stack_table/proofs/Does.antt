@@ -1,6 +1,5 @@
 -- What each line of the stack needs for its step to be made on the table, from the rule.
-use Rattle.std.proofs.Common.{◌≡◌, ◌≢◌, ℕ, ◌+◌, ◌<◌, ◌≤◌, ltb, List, [], ◌∷◌, ◌++◌, length, reverse, refl, sym, ap, ◌∙◌, subst, arith}
-use Rattle.std.proofs.lemmas.Bool.Decides.{nat_tests}
+use Rattle.std.proofs.Common.{◌≡◌, ◌≢◌, ℕ, ◌+◌, ◌<◌, ◌≤◌, List, [], ◌∷◌, ◌++◌, length, reverse, refl, sym, ap, ◌∙◌, subst, arith}
 use Rattle.std.proofs.lemmas.List.{length-reverse, length-take-le}
 use Rattle.std.specs.Prelude.{Option as Slot, Some, None}
 use mathlib.Core.Option.{Option, some}
@@ -13,37 +12,35 @@ use Rattle.machine.specs.Words.{Tagged, times, total, Stands}
 use Rattle.machine.specs.OneList.{ReadTop, ReadLink}
 use Rattle.machine.specs.Chains.{first, last, chain_from, HasValues}
 use Rattle.machine.proofs.Chains.{first_in, last_in, first_value, values_length}
-use Rattle.machine.proofs.Lists.{times_here}
 use Rattle.machine.proofs.OneList.{front_of, ready}
 use Rattle.machine.proofs.Sums.{total_one}
-use Rattle.machine.proofs.Tests.{cases, at_most_one}
+use Rattle.machine.proofs.Tests.{at_most_one}
 use Rattle.stack_machine.specs.declared.lines.Direction.{Direction}
 use Rattle.stack_machine.specs.declared.lines.Direction.TheVariants.{Down, Up}
 use Rattle.stack_machine.specs.declared.lines.Line.{Line}
-use Rattle.stack_machine.specs.declared.lines.Line.TheVariants.{Idle, LoadFree, LoadFreeLink, TakeFree, LinkTaken, LoadTop, LinkToTop, SwapTop, LoadTopToRefuse, LoadTopToTake, LoadTopLink, TakeTop, TakeChain, LoadLinkToTurn, TurnLink, LoadLinkToFold, LoadFreeToGive, LinkToFree, GiveBack, LoadTopToClose, MarkTop, LoadTopToShut, ShutTop, LoadTopToLook}
+use Rattle.stack_machine.specs.declared.lines.Line.TheVariants.{LoadFree, LoadFreeLink, TakeFree, LinkTaken, LinkToTop, SwapTop, LoadTopToTake, LoadTopLink, TakeTop, TakeChain, LoadLinkToTurn, TurnLink, LoadLinkToFold, LinkToFree, GiveBack, MarkTop, ShutTop}
 use Rattle.stack_machine.specs.Machine.{Memory, held, placed, is_up, took_all, table}
 use Rattle.stack_machine.specs.Answers.{shape, state}
 use Rattle.stack_machine.specs.Deeds.{in_order}
 use Rattle.stack_machine.specs.Rule.{Lists}
 use Rattle.stack_machine.proofs.Linked.{turning_in}
-use Rattle.stack_machine.proofs.Moves.{Kept, hold_slot, all_nodes}
+use Rattle.stack_machine.specs.Rule.{Kept}
+use Rattle.stack_machine.proofs.Moves.{hold_slot, all_nodes}
 use Rattle.running.specs.Machine.{Does}
 use Rattle.running.specs.Tables.{Needs, Comes, Goes, turned}
 use Rattle.running.proofs.Does.{does_all}
+use Rattle.running.proofs.Indexes.{holds_times, distinct_times, once_below, stands_in}
 use Rattle.stack_table.specs.Layout.{link_at}
 use Rattle.stack_table.specs.Memories.{memory_of, Sane}
 use Rattle.stack_table.specs.Slots.{Links, full, vacant}
 use Rattle.stack_table.specs.Core.{board, rules, core}
 use Rattle.stack_table.proofs.Memories.{lies, at_home_is}
-use Rattle.stack_table.proofs.Slots.{holds_times, distinct_times, links_on, in_order_twice, length_in_order, times_in_order, numbers_vacant, numbers_full, has_in_order}
+use Rattle.stack_table.proofs.Slots.{links_on, in_order_twice, length_in_order, times_in_order, numbers_vacant, numbers_full, has_in_order}
 use Rattle.stack_table.proofs.Moves.{each_home}
 
 module _ {T : Type 0} (n limit : ℕ) (words : List ℕ) (homes : List (Option (Slot T))) (sane : Sane n words homes) where
   abbrev m : Memory T
   m = memory_of words homes
-
-  long : 32 ≤ length words
-  long = let w = sane.words_are in omega arith
 
   within : (i : ℕ) → i < n → link_at i < length words
   within i low = let w = sane.words_are in omega arith
@@ -58,7 +55,7 @@ module _ {T : Type 0} (n limit : ℕ) (words : List ℕ) (homes : List (Option (
 
     -- a node in hand or on a list is one, and no other
     low_of : (i : ℕ) → 0 < times i g.frees + times i g.stack + total (λ (u : Line T). times i (held u)) lines → i < n
-    low_of i some_there = cases (λ z. times i g.frees + times i g.stack + total (λ (u : Line T). times i (held u)) lines ≡ z → i < n) (ltb i n) 1 0 (λ b e. grind (arith, nat_tests)) (λ b e. absurd (omega arith)) (k.good.linked.once i)
+    low_of i some_there = once_below i n (times i g.frees + times i g.stack + total (λ (u : Line T). times i (held u)) lines) (k.good.linked.once i) some_there
 
     below : (l : Line T) (i : ℕ) → get_elem? lines q ≡ some l → 0 < times i (held l) → i < n
     below l i here some_there = let one = total_one (λ (u : Line T). times i (held u)) lines q l here in low_of i (omega arith)
@@ -67,8 +64,7 @@ module _ {T : Type 0} (n limit : ℕ) (words : List ℕ) (homes : List (Option (
     held_once l i here = let one = total_one (λ (u : Line T). times i (held u)) lines q l here in let o = k.good.linked.once i in let u = at_most_one i n in omega arith
 
     listed_low : (x : ℕ) (xs : List ℕ) → Stands m.link x xs → ((i : ℕ) → times i xs ≤ times i g.frees + times i g.stack) → x ≢ NULL → x < n
-    listed_low x [] s part ne = absurd (ne s)
-    listed_low x (y ∷ ys) s part ne = low_of x (let e = part x in let h = times_here y ys in let q : times x (y ∷ ys) ≡ times y (y ∷ ys) = ap (λ (z : ℕ). times z (y ∷ ys)) s.0 in omega arith)
+    listed_low x xs s part ne = low_of x (let e = part x in let h = stands_in m.link x xs s ne in omega arith)
 
     free_low : m.free.index ≢ NULL → m.free.index < n
     free_low = listed_low m.free.index g.frees k.good.linked.free_stands (λ i. omega arith)
@@ -130,20 +126,17 @@ module _ {T : Type 0} (n limit : ℕ) (words : List ℕ) (homes : List (Option (
     }
 
     needs : (l : Line T) → get_elem? lines q ≡ some l → Needs (board T n limit) words homes l (table (shape n limit) l)
-    needs (Idle a) e = tt
     needs (LoadFree put) e = free_low
     needs (LoadFreeLink put w) e = sane.plain w.index
     needs (TakeFree put w j) e =
         let f = k.good.linked.fine q (TakeFree put w j) e in
         (λ hit. (omega arith, record { slots = (w.index, None) ∷ []; apart = (λ h. h, tt); home = (at_home_is homes w.index None (hold_slot w k.good hit f.1), tt); fits = refl; are = refl; to = _; replies = refl }), tt)
     needs (LinkTaken put) e = (within (first put.chain) (below (LinkTaken put) (first put.chain) e (first_in put.chain (k.good.linked.fine q (LinkTaken put) e).some_node)), tt)
-    needs (LoadTop put) e = tt
     needs (LinkToTop put w) e = (within (last put.chain) (below (LinkToTop put w) (last put.chain) e (last_in put.chain (k.good.linked.fine q (LinkToTop put w) e).0.some_node)), tt)
     needs (SwapTop put w) e =
         let few = (k.good.linked.fine q (SwapTop put w) e).0.few in
         let as_many : length put.chain ≡ length (reverse (placed put)) = omega (arith, length-reverse (placed put), length-take-le (length put.chain) put.values few) in
         (λ hit. (omega arith, chain_goes (SwapTop put w) e (full put.chain (reverse (placed put))) (numbers_full put.chain (reverse (placed put)) as_many)), tt)
-    needs (LoadTopToRefuse values) e = tt
     needs (LoadTopToTake taking) e = top_low
     needs (LoadTopLink w) e = sane.plain w.index
     needs (TakeTop w j) e =
@@ -160,14 +153,11 @@ module _ {T : Type 0} (n limit : ℕ) (words : List ℕ) (homes : List (Option (
     needs (LoadLinkToFold give i) e =
         let t = k.good.linked.fine q (LoadLinkToFold give i) e in
         (sane.plain i, links_left (LoadLinkToFold give i) t.above t.left i e t.is t.stands t.here)
-    needs (LoadFreeToGive give) e = tt
     needs (LinkToFree give w) e = (within (last give.chain) (below (LinkToFree give w) (last give.chain) e (last_in give.chain (k.good.linked.fine q (LinkToFree give w) e).some_node)), tt)
     needs (GiveBack give w) e = (λ hit. (omega arith, chain_goes (GiveBack give w) e (vacant give.chain) (numbers_vacant T give.chain)), tt)
-    needs LoadTopToClose e = tt
     needs (MarkTop w) e = (λ hit. (omega arith, tt), tt)
-    needs LoadTopToShut e = tt
     needs (ShutTop w) e = (λ hit. (omega arith, tt), tt)
-    needs LoadTopToLook e = tt
+    needs l e = tt
 
     pub does : (p : ℕ) (l : Line T) → get_elem? lines q ≡ some l → Does (core T n limit) words homes p l ((core T n limit).access l)
     does p l e = does_all (board T n limit) (rules T n limit) (lies T n) (λ i x small. small) words homes sane p l (needs l e)

@@ -1,6 +1,5 @@
 -- What the stack's machine shows of its two lists, and the laws of their host.
-use Rattle.std.proofs.Common.{◌≡◌, ◌≢◌, ℕ, zero, suc, ◌+◌, ◌<◌, ◌≤◌, Bool, true, false, cond, ltb, eqb, List, [], ◌∷◌, ◌++◌, length, reverse, refl, sym, ap, ◌∙◌, subst, arith}
-use Rattle.std.proofs.lemmas.Bool.Decides.{nat_tests}
+use Rattle.std.proofs.Common.{◌≡◌, ℕ, zero, suc, ◌+◌, ◌<◌, ◌≤◌, Bool, true, false, cond, eqb, List, ◌++◌, length, reverse, refl, sym, ap, ◌∙◌, subst, arith}
 use Rattle.std.proofs.lemmas.List.{length-reverse, length-take-le}
 use Rattle.std.specs.Prelude.{slice_index, Option as Slot}
 use mathlib.Core.Option.{Option, some}
@@ -16,22 +15,24 @@ use Rattle.machine.specs.Words.{Tagged, times, total, same}
 use Rattle.machine.specs.Words as core
 use Rattle.machine.specs.Chains.{first, last, chain_from, values_in}
 use Rattle.machine.proofs.Chains.{chain_leads, first_in, last_in}
-use Rattle.machine.proofs.Lists.{times_here, times_append}
+use Rattle.machine.proofs.Lists.{times_append}
 use Rattle.machine.proofs.Sums.{total_one}
-use Rattle.machine.proofs.Tests.{at_most_one, cases, same-self}
+use Rattle.machine.proofs.Tests.{at_most_one, same-self}
 use Rattle.stack_machine.specs.declared.lines.Direction.{Direction}
 use Rattle.stack_machine.specs.declared.lines.Direction.TheVariants.{Down, Up}
 use Rattle.stack_machine.specs.declared.lines.Taking.TheVariants.{Whole}
 use Rattle.stack_machine.specs.declared.lines.Line.{Line}
-use Rattle.stack_machine.specs.declared.lines.Line.TheVariants.{Idle, LoadFree, LoadFreeLink, TakeFree, LinkTaken, LoadTop, LinkToTop, SwapTop, LoadTopToRefuse, LoadTopToTake, LoadTopLink, TakeTop, TakeChain, LoadLinkToTurn, TurnLink, LoadLinkToFold, LoadFreeToGive, LinkToFree, GiveBack, LoadTopToClose, MarkTop, LoadTopToShut, ShutTop, LoadTopToLook}
+use Rattle.stack_machine.specs.declared.lines.Line.TheVariants.{Idle, TakeFree, LinkTaken, LinkToTop, SwapTop, LoadTopToTake, TakeTop, TakeChain, TurnLink, LinkToFree, GiveBack}
 use Rattle.stack_machine.specs.Machine.{Memory, held, step, placed, wins_chain, at_take_chain, goes_on}
 use Rattle.stack_machine.specs.Answers.{shape}
 use Rattle.stack_machine.specs.Rule.{Lists as BothLists, IsFine, Turns}
 use Rattle.stack_machine.specs.Deeds.{in_order}
-use Rattle.stack_machine.proofs.Moves.{Kept, all_nodes}
+use Rattle.stack_machine.specs.Rule.{Kept}
+use Rattle.stack_machine.proofs.Moves.{all_nodes}
 use Rattle.running.specs.Rule.{Rule}
 use Rattle.running.specs.Lists.{Listed, Hosts, Agrees, Ready, Moved, at_of, host}
 use Rattle.running.proofs.Hosting.{laws}
+use Rattle.running.proofs.Indexes.{holds_times, times_holds, distinct_times, leads_low, stands_in, once_below}
 use Rattle.stack_table.specs.Layout.{link_at}
 use Rattle.index_list.specs.declared.front.Front.{Front}
 use Rattle.index_list.specs.declared.front.Front.TheVariants.{First, Last}
@@ -39,17 +40,8 @@ use Rattle.stack_table.specs.Core.{core}
 use Rattle.stack_table.specs.Lines.{direction, next, won_chain}
 use Rattle.stack_table.specs.Memories.{memory_of}
 use Rattle.stack_table.specs.Lists.{lists, list_step, front_of}
-use Rattle.stack_table.proofs.Slots.{holds_times, times_holds, distinct_times, in_order_twice, numbers_vacant, numbers_full}
+use Rattle.stack_table.proofs.Slots.{in_order_twice, numbers_vacant, numbers_full}
 use Rattle.stack_table.proofs.Laws.{stack, idle_holds, first_empty}
-
--- the machine's chains are the host's lists: no index is null
-leads_low : (link : ℕ → ℕ) (i : ℕ) (xs : List ℕ) (j : ℕ) → core.Leads link i xs j → ((x : ℕ) → 0 < times x xs → x < NULL) → Leads link i xs j
-leads_low link i [] j c low = c
-leads_low link i (x ∷ xs) j c low = (c.0, low x (let t = times_here x xs in omega arith), leads_low link (link x) xs j c.1 (λ z there. low z (omega arith)))
-
-stands_here : (link : ℕ → ℕ) (i : ℕ) (xs : List ℕ) → core.Stands link i xs → i ≢ NULL → 0 < times i xs
-stands_here link i [] s here = absurd (here s)
-stands_here link i (x ∷ xs) s here = subst (λ (z : ℕ). 0 < times i (z ∷ xs)) s.0 (let t = times_here i xs in omega arith)
 
 same_order : (d : Direction) (xs : List ℕ) → in_order d xs ≡ slots_in_order (front_of d) xs
 same_order Down xs = refl
@@ -58,29 +50,7 @@ same_order Up xs = refl
 module _ {T : Type 0} where
   agrees : (n limit : ℕ) (line : Line T) → Agrees (lists {T = T}) ((core T n limit).access line) (list_step line)
   agrees n limit (Idle a) = tt
-  agrees n limit (LoadFree put) = refl
-  agrees n limit (LoadFreeLink put w) = refl
-  agrees n limit (TakeFree put w k) = refl
-  agrees n limit (LinkTaken put) = refl
-  agrees n limit (LoadTop put) = refl
-  agrees n limit (LinkToTop put w) = refl
-  agrees n limit (SwapTop put w) = refl
-  agrees n limit (LoadTopToRefuse values) = refl
-  agrees n limit (LoadTopToTake taking) = refl
-  agrees n limit (LoadTopLink w) = refl
-  agrees n limit (TakeTop w k) = refl
-  agrees n limit (TakeChain d w) = refl
-  agrees n limit (LoadLinkToTurn give above i) = refl
-  agrees n limit (TurnLink give above i k) = refl
-  agrees n limit (LoadLinkToFold give i) = refl
-  agrees n limit (LoadFreeToGive give) = refl
-  agrees n limit (LinkToFree give w) = refl
-  agrees n limit (GiveBack give w) = refl
-  agrees n limit LoadTopToClose = refl
-  agrees n limit (MarkTop w) = refl
-  agrees n limit LoadTopToShut = refl
-  agrees n limit (ShutTop w) = refl
-  agrees n limit LoadTopToLook = refl
+  agrees n limit l = refl
 
   whole : (d : Direction) (w : Tagged) (chain : List ℕ) (vs : List T) → held (at_take_chain d w chain vs) ≡ chain
   whole Down w chain vs = refl
@@ -102,7 +72,7 @@ module _ {T : Type 0} (n limit : ℕ) (words : List ℕ) (homes : List (Option (
   below : (i : ℕ) → 0 < everywhere i → i < NULL
   below i some_there =
       let small = k.good.linked.small in
-      let b : i < n = cases (λ z. everywhere i ≡ z → i < n) (ltb i n) 1 0 (λ b e. grind (arith, nat_tests)) (λ b e. absurd (omega arith)) (k.good.linked.once i) in
+      let b = once_below i n (everywhere i) (k.good.linked.once i) some_there in
       omega arith
 
   in_hand : (q : ℕ) (line : Line T) (i : ℕ) → get_elem? lines q ≡ some line → times i (held line) ≤ total (λ (u : Line T). times i (held u)) lines
@@ -136,36 +106,21 @@ module _ {T : Type 0} (n limit : ℕ) (words : List ℕ) (homes : List (Option (
 
     turned_here : (chain : List ℕ) (above i : ℕ) → Turns m.link chain above i → Holds chain i
     turned_here chain above i t =
-        let here = stands_here m.link i t.left t.downwards t.here in
+        let here = stands_in m.link i t.left t.downwards t.here in
         let both = times_append i (reverse t.turned) t.left in
         let e : times i chain ≡ times i (reverse t.turned ++ t.left) = ap (times i) t.is in
         times_holds chain i (omega arith)
 
     ready : (line : Line T) → get_elem? lines q ≡ some line → IsFine limit m g line → Ready (lists {T = T}) words line (list_step line)
-    ready (Idle a) at f = tt
-    ready (LoadFree put) at f = tt
-    ready (LoadFreeLink put w) at f = tt
     ready (TakeFree put w j) at f = λ hit. f.2 (ap (λ (y : Tagged). y.tag) (sym hit))
     ready (LinkTaken put) at f = times_holds put.chain (first put.chain) (first_in put.chain f.some_node)
-    ready (LoadTop put) at f = tt
     ready (LinkToTop put w) at f = times_holds put.chain (last put.chain) (last_in put.chain f.0.some_node)
     ready (SwapTop put w) at f = chain_on (SwapTop put w) put.chain w.index at refl f.0.some_node f.0.chained f.3
-    ready (LoadTopToRefuse values) at f = tt
-    ready (LoadTopToTake taking) at f = tt
-    ready (LoadTopLink w) at f = tt
     ready (TakeTop w j) at f = λ hit. f.2 (ap (λ (y : Tagged). y.tag) (sym hit))
-    ready (TakeChain d w) at f = tt
-    ready (LoadLinkToTurn give above i) at f = tt
     ready (TurnLink give above i j) at f = turned_here give.chain above i f.0
-    ready (LoadLinkToFold give i) at f = tt
-    ready (LoadFreeToGive give) at f = tt
     ready (LinkToFree give w) at f = times_holds give.chain (last give.chain) (last_in give.chain f.some_node)
     ready (GiveBack give w) at f = chain_on (GiveBack give w) give.chain w.index at refl f.0.some_node f.0.chained f.1
-    ready LoadTopToClose at f = tt
-    ready (MarkTop w) at f = tt
-    ready LoadTopToShut at f = tt
-    ready (ShutTop w) at f = tt
-    ready LoadTopToLook at f = tt
+    ready l at f = tt
 
     -- the slots of the whole stack
     whole_stack : (p : ℕ) (d : Direction) (w : Tagged) (zs : List (ℕ × Slot T)) → get_elem? lines q ≡ some (TakeChain d w) → m.top ≡ w
@@ -184,31 +139,14 @@ module _ {T : Type 0} (n limit : ℕ) (words : List ℕ) (homes : List (Option (
 
     moved : (p : ℕ) (line : Line T) (zs : List (ℕ × Slot T)) → get_elem? lines q ≡ some line → IsFine limit m g line → (core T n limit).Fits line zs → (step (shape n limit) m p line).line ≡ next n limit line (slice_index words (at_of (lists {T = T}) (list_step line))) zs → Moved (lists {T = T}) words line zs (list_step line)
     moved p (Idle a) zs at f fits leads = tt
-    moved p (LoadFree put) zs at f fits leads = λ c. tt
-    moved p (LoadFreeLink put w) zs at f fits leads = λ c. tt
     moved p (TakeFree put w j) zs at f fits leads = λ c. ap (λ (ys : List (ℕ × Slot T)). numbers ys) fits
-    moved p (LinkTaken put) zs at f fits leads = λ c. tt
-    moved p (LoadTop put) zs at f fits leads = λ c. tt
-    moved p (LinkToTop put w) zs at f fits leads = λ c. tt
     moved p (SwapTop put w) zs at f fits leads =
         let few = f.0.few in
         λ c. ap (λ (ys : List (ℕ × Slot T)). numbers ys) fits ∙ numbers_full put.chain (reverse (placed put)) (omega (arith, length-reverse (placed put), length-take-le (length put.chain) put.values few))
-    moved p (LoadTopToRefuse values) zs at f fits leads = λ c. tt
-    moved p (LoadTopToTake taking) zs at f fits leads = λ c. tt
-    moved p (LoadTopLink w) zs at f fits leads = λ c. tt
     moved p (TakeTop w j) zs at f fits leads = λ c. ap (λ (ys : List (ℕ × Slot T)). numbers ys) fits.1
     moved p (TakeChain d w) zs at f fits leads = λ c hit. whole_stack p d w zs at hit leads
-    moved p (LoadLinkToTurn give above i) zs at f fits leads = λ c. tt
-    moved p (TurnLink give above i j) zs at f fits leads = λ c. tt
-    moved p (LoadLinkToFold give i) zs at f fits leads = λ c. tt
-    moved p (LoadFreeToGive give) zs at f fits leads = λ c. tt
-    moved p (LinkToFree give w) zs at f fits leads = λ c. tt
     moved p (GiveBack give w) zs at f fits leads = λ c. ap (λ (ys : List (ℕ × Slot T)). numbers ys) fits ∙ numbers_vacant T give.chain
-    moved p LoadTopToClose zs at f fits leads = λ c. tt
-    moved p (MarkTop w) zs at f fits leads = λ c. tt
-    moved p LoadTopToShut zs at f fits leads = λ c. tt
-    moved p (ShutTop w) zs at f fits leads = λ c. tt
-    moved p LoadTopToLook zs at f fits leads = λ c. tt
+    moved p l zs at f fits leads = λ c. tt
 
 top_low : (first_list : Bool) (n : ℕ) → cond first_list 0 16 < 32 + n
 top_low true n = omega arith

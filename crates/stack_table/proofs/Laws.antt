@@ -9,6 +9,7 @@ use Rattle.bounded_model.specs.declared.history.Event.{Event}
 use Rattle.bounded_model.specs.declared.views.PassView.{PassView}
 use Rattle.bounded_model.specs.Histories.{own}
 use Rattle.bounded_model.proofs.Histories.{own-between}
+use Rattle.machine.proofs.Sums.{total_snoc}
 use Rattle.machine.specs.Words.{times, total}
 use Rattle.machine.specs.Seats.{Saw}
 use Rattle.machine.proofs.Ahead.{Ahead}
@@ -18,7 +19,8 @@ use Rattle.stack_machine.specs.Machine.{Memory, is_idle, held, step}
 use Rattle.stack_machine.specs.Answers.{shape, state}
 use Rattle.stack_machine.specs.Rule.{Lists, IsFine, putting, Tells, Good}
 use Rattle.stack_machine.specs.Deeds.{Deeds}
-use Rattle.stack_machine.proofs.Moves.{Kept, good_goes}
+use Rattle.stack_machine.specs.Rule.{Kept}
+use Rattle.stack_machine.proofs.Moves.{good_goes}
 use Rattle.stack_machine.proofs.Places.{wins_unheld}
 use Rattle.stack_machine.proofs.Start.{reads_good}
 use Rattle.stack_machine.proofs.Step.{step_kept}
@@ -34,10 +36,6 @@ use Rattle.stack_table.proofs.Does.{does}
 no_nodes : (is : List ℕ) → length is ≡ 0 → is ≡ []
 no_nodes [] h = refl
 no_nodes (j ∷ js) h = absurd (omega arith)
-
-total_snoc : {A : Type 0} (f : A → ℕ) (xs : List A) (x : A) → total f (xs ++ x ∷ []) ≡ total f xs + f x
-total_snoc f [] x = omega arith
-total_snoc f (y ∷ ys) x = let r = total_snoc f ys x in omega arith
 
 -- the rule goes by the sums over lines and by each line
 reseated : {T : Type 0} (n limit : ℕ) (m : Memory T) (g : Lists) (of of' : ℕ → Option ℕ) (lines lines' : List (Line T)) (h : List (Event T)) → Good T n limit m g of lines h → (lines' ≡ lines) ⊎ (lines' ≡ lines ++ Idle None ∷ [])
@@ -90,11 +88,7 @@ module _ {T : Type 0} where
 
   first_fine : (limit : ℕ) (m : Memory T) (g : Lists) (o : Operation T) → IsFine limit m g (first_line o)
   first_fine limit m g (PutFirst v others) = record { chained = tt; wants = omega arith }
-  first_fine limit m g TakeFirst = tt
-  first_fine limit m g CloseFirst = tt
-  first_fine limit m g ShutFirst = tt
-  first_fine limit m g LookFirst = tt
-  first_fine limit m g (FoldFirst front) = tt
+  first_fine limit m g o = tt
 
   starts : (o : Operation T) → is_idle (first_line o) ≡ false
   starts (PutFirst v others) = refl

@@ -1,5 +1,5 @@
 -- The rule holds of a new stack.
-use Rattle.std.proofs.Common.{◌≡◌, ℕ, zero, suc, ◌+◌, ◌-◌, ◌<◌, ◌≤◌, ◌⊎◌, inl, inr, ⊎_elim, cond, eqb, ltb, List, [], ◌∷◌, map, length, replicate, refl, sym, ap, ◌∙◌, subst, arith}
+use Rattle.std.proofs.Common.{◌≡◌, ℕ, zero, suc, ◌+◌, ◌-◌, ◌<◌, ◌≤◌, inl, ⊎_elim, cond, eqb, ltb, List, [], ◌∷◌, length, replicate, refl, sym, ap, ◌∙◌, subst, arith}
 use Rattle.std.proofs.lemmas.Bool.Decides.{nat_tests}
 use Rattle.std.proofs.lemmas.List.{get_or_past}
 use Rattle.std.specs.Prelude.{slice_index, Option as Slot, None}
@@ -20,11 +20,13 @@ use Rattle.machine.proofs.Tests.{cases}
 use Rattle.machine.proofs.Lists.{leads_frame}
 use Rattle.machine.proofs.Chains.{values_frame}
 use Rattle.machine.proofs.Seating.{seated_first}
-use Rattle.stack_machine.proofs.Moves.{Kept}
+use Rattle.stack_machine.specs.Rule.{Kept}
 use Rattle.stack_machine.proofs.Start.{start_kept}
-use Rattle.running.specs.Rule.{Rule, who}
+use Rattle.running.specs.Rule.{Rule}
+use Rattle.running.proofs.Indexes.{once_below}
+use Rattle.running.proofs.Opening.{empties, home_start, homes_start, first_who, nobody, below_or_not}
 use Rattle.stack_table.specs.Layout.{link_at, words_for, start_at}
-use Rattle.stack_table.specs.Memories.{at_home, memory_of}
+use Rattle.stack_table.specs.Memories.{memory_of}
 use Rattle.stack_table.specs.Core.{core}
 use Rattle.stack_table.proofs.Laws.{laws, stack}
 
@@ -40,40 +42,13 @@ start_links n i = cases (λ v. v ≡ start_link n i) (eqb (32 + i) 16) NULL (con
 start_small : (n i : ℕ) → i < n → n ≤ NULL → start_link n i ≤ NULL
 start_small n i h small = cases (λ v. v ≤ NULL) (eqb (i + 1) n) NULL (i + 1) (λ _. omega arith) (λ _. omega arith)
 
-below : (n i k : ℕ) → k ≡ cond (ltb i n) 1 0 → 0 < k → i < n
-below n i k e h = cases (λ v. k ≡ v → i < n) (ltb i n) 1 0 (λ b _. grind (arith, nat_tests)) (λ b z. absurd (omega arith)) e
-
--- all slots are at home and empty
-abbrev empties : (T : Type 0) → ℕ → List (Option (Slot T))
-empties T n = map some (replicate n None)
-
-abbrev empty : (T : Type 0) → Option (Slot T)
-empty T = some None
-
-home_start : (T : Type 0) (n i : ℕ) → i < n → at_home (get_elem? (empties T n) i) ≡ empty T
-home_start T zero i h = absurd (omega arith)
-home_start T (suc n) zero h = refl
-home_start T (suc n) (suc i) h = home_start T n i (omega arith)
-
-homes_start : (T : Type 0) (n : ℕ) → length (empties T n) ≡ n
-homes_start T zero = refl
-homes_start T (suc n) = ap suc (homes_start T n)
-
--- the only seat is the root's
-abbrev first_who : (T : Type 0) → ℕ → Option ℕ
-first_who T = who {T = T} {L = Line T} (first_view ∷ [])
-
-nobody : (T : Type 0) (q p : ℕ) → first_who T q ≡ some p → ⊥
-nobody T zero p e = some-ne-none p (sym e)
-nobody T (suc q) p e = some-ne-none p (sym e)
-
 module _ {T : Type 0} (n limit : ℕ) where
   -- only links and slots of nodes matter
   same_nodes : (m m' : Memory T) (g : Lists) (of : ℕ → Option ℕ) (lines : List (Line T)) (h : List (Event T)) → m'.free ≡ m.free → m'.top ≡ m.top → ((j : ℕ) → j < n → m'.link j ≡ m.link j) → ((j : ℕ) → j < n → m'.home j ≡ m.home j)
       → ((q : ℕ) (l : Line T) → get_elem? lines q ≡ some l → IsFine limit m' g l) → Good T n limit m g of lines h → Good T n limit m' g of lines h
   same_nodes m m' g of lines h free top link home fine x =
-      let free_node : (j : ℕ) → 0 < times j g.frees → j < n = λ j there. below n j (times j g.frees + times j g.stack + _) (x.linked.once j) (omega arith) in
-      let top_node : (j : ℕ) → 0 < times j g.stack → j < n = λ j there. below n j (times j g.frees + times j g.stack + _) (x.linked.once j) (omega arith) in
+      let free_node : (j : ℕ) → 0 < times j g.frees → j < n = λ j there. once_below j n (times j g.frees + times j g.stack + _) (x.linked.once j) (omega arith) in
+      let top_node : (j : ℕ) → 0 < times j g.stack → j < n = λ j there. once_below j n (times j g.frees + times j g.stack + _) (x.linked.once j) (omega arith) in
       record {
         linked = record {
           small = x.linked.small;
@@ -105,9 +80,9 @@ module _ {T : Type 0} (n limit : ℕ) where
       kept.good in
       record {
         history = [];
-        good = (laws n limit).reseats (memory_of ws homes) some (first_who T) (Idle None ∷ []) (Idle None ∷ []) [] (record { lists = kept.lists; good = good }) (inl refl)
-            (λ q p l _ e. absurd (nobody T q p e))
-            (λ q r p e _. absurd (nobody T q p e));
+        good = (laws n limit).reseats (memory_of ws homes) some (first_who T (Line T)) (Idle None ∷ []) (Idle None ∷ []) [] (record { lists = kept.lists; good = good }) (inl refl)
+            (λ q p l _ e. absurd (nobody T (Line T) q p e))
+            (λ q r p e _. absurd (nobody T (Line T) q p e));
         seated = seated_first (shape n limit) (core T n limit).holding;
         sane = record {
           words_are = long;
@@ -119,9 +94,6 @@ module _ {T : Type 0} (n limit : ℕ) where
         };
       }
     where
-      below_or_not : (i k : ℕ) → (i < k) ⊎ (k ≤ i)
-      below_or_not i k = cases (λ (b : ℕ). (i < k) ⊎ (k ≤ i)) (ltb i k) 1 0 (λ b. inl (grind (arith, nat_tests))) (λ b. inr (grind (arith, nat_tests)))
-
       fine_idle : (m : Memory T) (g : Lists) (q : ℕ) (l : Line T) → get_elem? (Idle None ∷ []) q ≡ some l → IsFine limit m g l
       fine_idle m g zero l e = subst (IsFine limit m g) (some-injective (Idle None) l e) tt
       fine_idle m g (suc q) l e = absurd (some-ne-none l (sym e))

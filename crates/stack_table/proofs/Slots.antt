@@ -1,44 +1,19 @@
 -- Chains of nodes, and their slots as a seat has them.
-use Rattle.std.proofs.Common.{◌≡◌, ◌≢◌, ℕ, zero, suc, ◌<◌, ◌≤◌, ◌⊎◌, inl, inr, ⊎_elim, Bool, true, false, List, [], ◌∷◌, ◌++◌, length, reverse, refl, sym, ap, ◌∙◌, subst, arith}
-use Rattle.std.proofs.lemmas.Bool.Decides.{eqb_tells}
+use Rattle.std.proofs.Common.{◌≡◌, ℕ, ◌≤◌, Bool, true, false, List, [], ◌∷◌, ◌++◌, length, reverse, refl, sym, ap, ◌∙◌, subst, arith}
 use Rattle.std.proofs.lemmas.List.{map-append, reverse-append, reverse-reverse, length-reverse}
 use Rattle.std.specs.Prelude.{Option as Slot, Some, None, map}
 use mathlib.Core.Option.{Option, some}
 use Rattle.bounded_model.specs.Machine.{without_first}
-use Rattle.index_list.specs.Lists.{Holds, Distinct}
-use Rattle.index_list.specs.Steps.{Each, numbers}
+use Rattle.index_list.specs.Steps.{numbers}
 use Rattle.machine.specs.Words.{times, Stands}
-use Rattle.machine.specs.Chains.{first, with_home, filled, values_of, HasValues}
-use Rattle.machine.proofs.Lists.{times_here, times_else, times_append}
-use Rattle.machine.proofs.Chains.{home_here, home_else, times_reverse}
+use Rattle.machine.specs.Chains.{first, values_of, HasValues}
+use Rattle.machine.proofs.Lists.{times_here, times_append}
+use Rattle.machine.proofs.Chains.{times_reverse}
 use Rattle.stack_machine.specs.declared.lines.Direction.{Direction}
 use Rattle.stack_machine.specs.declared.lines.Direction.TheVariants.{Down, Up}
 use Rattle.stack_machine.specs.Deeds.{in_order}
 use Rattle.running.specs.Tables.{turned, values}
 use Rattle.stack_table.specs.Slots.{Links, full, vacant}
-
-pub same_or_not : (a b : ℕ) → (a ≡ b) ⊎ (a ≢ b)
-same_or_not a b = ⊎_elim (λ t. inl t.1) (λ t. inr t.1) (eqb_tells a b)
-
-pub none_or_some : (k : ℕ) → (k ≡ 0) ⊎ (0 < k)
-none_or_some zero = inl refl
-none_or_some (suc k) = inr (omega arith)
-
-pub holds_times : (xs : List ℕ) (i : ℕ) → Holds xs i → 0 < times i xs
-holds_times [] i h = absurd h
-holds_times (x ∷ xs) i (inl e) = subst (λ (y : ℕ). 0 < times i (y ∷ xs)) e (let h = times_here i xs in omega arith)
-holds_times (x ∷ xs) i (inr h) = let t = holds_times xs i h in omega arith
-
-pub times_holds : (xs : List ℕ) (i : ℕ) → 0 < times i xs → Holds xs i
-times_holds [] i h = absurd (omega arith)
-times_holds (x ∷ xs) i h = ⊎_elim (λ e. inl e) (λ ne. let f = times_else i x xs ne in inr (times_holds xs i (omega arith))) (same_or_not i x)
-
-pub distinct_times : (xs : List ℕ) → ((i : ℕ) → times i xs ≤ 1) → Distinct xs
-distinct_times [] once = tt
-distinct_times (x ∷ xs) once = (
-  (λ h. absurd (let t = holds_times xs x h in let u = once x in let v = times_here x xs in omega arith)),
-  distinct_times xs (λ i. let u = once i in let t : times i xs ≤ times i (x ∷ xs) = omega arith in omega arith),
-)
 
 -- a node that stands once in a chain has one place there
 pub same_rest : (i : ℕ) (xs ys xs' ys' : List ℕ) → times i (xs ++ i ∷ ys) ≤ 1 → xs ++ i ∷ ys ≡ xs' ++ i ∷ ys' → ys ≡ ys'
@@ -86,10 +61,6 @@ module _ (T : Type 0) where
   numbers_vacant [] = refl
   numbers_vacant (i ∷ is) = ap (λ (xs : List ℕ). i ∷ xs) (numbers_vacant is)
 
-  pub all_empty : (is : List ℕ) → Each (λ _ x. x ≡ None) (vacant {T = T} is)
-  all_empty [] = tt
-  all_empty (i ∷ is) = (refl, all_empty is)
-
 module _ {T : Type 0} where
   pub vacant_append : (is js : List ℕ) → vacant {T = T} (is ++ js) ≡ vacant is ++ vacant js
   vacant_append [] js = refl
@@ -99,22 +70,6 @@ module _ {T : Type 0} where
   numbers_full [] vs e = refl
   numbers_full (i ∷ is) (v ∷ vs) e = ap (λ (xs : List ℕ). i ∷ xs) (numbers_full is vs (omega arith))
   numbers_full (i ∷ is) [] e = absurd (omega arith)
-
-  -- each slot has what the chain is filled with
-  each_kept : (home home' : ℕ → Option (Slot T)) (is : List ℕ) (vs : List T) → ((j : ℕ) → 0 < times j is → home' j ≡ home j) → Each (λ j x. home j ≡ some x) (full is vs) → Each (λ j x. home' j ≡ some x) (full is vs)
-  each_kept home home' [] vs same all = tt
-  each_kept home home' (i ∷ is) [] same all = tt
-  each_kept home home' (i ∷ is) (v ∷ vs) same all = (same i (omega (arith, times_here i is)) ∙ all.0, each_kept home home' is vs (λ j there. same j (omega arith)) all.1)
-
-  pub each_filled : (home : ℕ → Option (Slot T)) (is : List ℕ) (vs : List T) → ((j : ℕ) → times j is ≤ 1) → Each (λ j x. filled home is vs j ≡ some x) (full is vs)
-  each_filled home [] vs once = tt
-  each_filled home (i ∷ is) [] once = tt
-  each_filled home (i ∷ is) (v ∷ vs) once = (
-    home_here (filled home is vs) i (some (Some v)),
-    each_kept (filled home is vs) (with_home (filled home is vs) i (some (Some v))) is vs
-        (λ j there. home_else (filled home is vs) i (some (Some v)) j (λ e. absurd (let o = once i in let t : times j is ≡ times i is = ap (λ (k : ℕ). times k is) e in omega (arith, o, t, times_here i is))))
-        (each_filled home is vs (λ j. let o = once j in omega arith)),
-  )
 
   -- the values of full slots, also where they are turned round
   pub values_full : (way : Bool) (is : List ℕ) (vs : List T) → length is ≡ length vs → values_of (map some (turned way (values (full is vs)))) ≡ turned way vs

@@ -6,10 +6,9 @@ use Rattle.stack_machine.specs.declared.lines.Line.{Line}
 use Rattle.stack_machine.specs.declared.lines.Line.TheVariants.{Idle}
 use Rattle.stack_machine.specs.Machine.{Memory, memories, table, held}
 use Rattle.stack_machine.specs.Answers.{shape}
-use Rattle.stack_machine.specs.Rule.{Tells}
+use Rattle.stack_machine.specs.Rule.{Tells, Kept}
 use Rattle.stack_machine.specs.Deeds.{Deeds}
 use Rattle.stack_machine.specs.Places.{WinsUnheld}
-use Rattle.stack_machine.proofs.Moves.{Kept}
 use Rattle.running.specs.Machine.{Core}
 use Rattle.running.specs.Tables.{Board, Rules, core_of}
 use Rattle.stack_table.specs.declared.operation.Operation.{Operation}
