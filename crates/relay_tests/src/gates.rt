@@ -1,7 +1,8 @@
-//! A gate that counts what the workers try, lets the first of them go ahead, or has some of them
-//! wait for one another.
+//! A gate that counts what the workers try, and holds some of their tries until others have entered
+//! theirs.
 
 use crate::kinds::{KINDS, Kind, MOST, plan, relay_over};
+use audit::check_queue;
 use relay::{Gate, Relayed};
 use std::process::Abort;
 use std::sync::Wait;
@@ -12,14 +13,15 @@ use std::thread::Threads;
 /// How often a gate looks before it lets a worker go on in vain.
 const TURNS: u64 = 1_000_000_000;
 
-/// How many tries the workers have entered; workers beyond the eighth are not looked at. The first
-/// try of each worker but the first waits until the first has entered so many, and the first tries
-/// of the workers that meet wait for one another.
+/// A try, by the number of its worker and its own.
+pub(crate) type Try = (u64, u64);
+
+/// How many tries the workers have entered; workers beyond the eighth are not looked at. Of each
+/// pair of tries that it holds, the first waits until the second was entered.
 #[derive(Drop)]
 pub(crate) struct Counting {
     counts: [AtomicU64; 8],
-    ahead: u64,
-    meeting: usize,
+    holds: &'static [(Try, Try)],
     /// Whether a worker entered a try out of turn.
     wrong: AtomicU64,
     /// Whether a worker was let go in vain.
@@ -27,7 +29,7 @@ pub(crate) struct Counting {
 }
 
 impl Counting {
-    pub(crate) fn new(ahead: u64) -> Counting {
+    pub(crate) fn new(holds: &'static [(Try, Try)]) -> Counting {
         Counting {
             counts: [
                 AtomicU64::new(0),
@@ -39,18 +41,10 @@ impl Counting {
                 AtomicU64::new(0),
                 AtomicU64::new(0),
             ],
-            ahead,
-            meeting: 0,
+            holds,
             wrong: AtomicU64::new(0),
             late: AtomicU64::new(0),
         }
-    }
-
-    // The first tries of so many workers wait for one another.
-    fn meeting(workers: usize) -> Counting {
-        let mut gate = Counting::new(0);
-        gate.meeting = workers;
-        gate
     }
 
     /// How many tries this worker has entered.
@@ -61,25 +55,10 @@ impl Counting {
         }
     }
 
-    // Waits until the first worker is so far ahead.
-    fn wait_for_first(&self) {
+    // Waits until this try was entered.
+    fn wait_for(&self, (who, call): Try) {
         for _ in 0..TURNS {
-            if self.of(0) >= self.ahead {
-                return;
-            }
-            thread::yield_now();
-        }
-        self.late.store(1, Ordering::SeqCst);
-    }
-
-    // Waits until each of the workers that meet has entered a try.
-    fn wait_for_all(&self) {
-        for _ in 0..TURNS {
-            let meeting = self.counts.iter().take(self.meeting);
-            if meeting
-                .map(|count| count.load(Ordering::SeqCst))
-                .all(|tries| tries > 0)
-            {
+            if self.of(who as usize) > call {
                 return;
             }
             thread::yield_now();
@@ -101,12 +80,9 @@ impl Gate for Counting {
             }
             _ => self.wrong.store(1, Ordering::SeqCst),
         }
-        if call == 0 {
-            if who > 0 {
-                self.wait_for_first();
-            }
-            if who < self.meeting as u64 {
-                self.wait_for_all();
+        for (held, entered) in self.holds {
+            if *held == (who, call) {
+                self.wait_for(*entered);
             }
         }
     }
@@ -124,7 +100,7 @@ fn taken_by(relayed: &Relayed, consumer: u32) -> usize {
 // There is room for all messages, so each put of a producer is its last try of that message; a
 // consumer's last try is the one that finds the container closed.
 fn counts_each_try<R: Abort + AllocGlobal + Threads + Wait + Sync>(rt: &R, kind: Kind) {
-    let gate = Counting::new(0);
+    let gate = Counting::new(&[]);
     let relayed = relay_over(rt, kind, (8, MOST), &[3, 0, 2], plan(3), &gate).expect(rt, "a relay");
     assert!(rt; gate.was_in_turn());
     for (who, wanted) in [(0usize, 3u64), (1, 0), (2, 2), (6, 0), (7, 0)] {
@@ -145,19 +121,42 @@ fn each_worker_enters_each_try_under_its_own_number(rt: HostRuntime) {
     }
 }
 
-// A producer and the consumer, and then two producers, are in a try each at the same time.
-fn runs_at_once<R: Abort + AllocGlobal + Threads + Wait + Sync>(rt: &R, kind: Kind) {
-    for lengths in [[2u32].as_slice(), [1, 1].as_slice()] {
-        let gate = Counting::meeting(2);
-        let relayed = relay_over(rt, kind, (2, MOST), lengths, plan(1), &gate);
-        assert!(rt; gate.was_in_turn());
-        assert_eq!(rt; relayed.expect(rt, "a relay").delivered.len(), 2);
+// Two messages of one producer, or one of each of two, through a gate that holds two workers until
+// the other one has entered a try: a relay whose workers took turns on one thread would not end.
+fn runs_at_once<R: Abort + AllocGlobal + Threads + Wait + Sync>(
+    rt: &R,
+    kind: Kind,
+    lengths: &[u32],
+    holds: &'static [(Try, Try)],
+) -> Relayed {
+    let gate = Counting::new(holds);
+    let relayed = relay_over(rt, kind, (2, MOST), lengths, plan(1), &gate).expect(rt, "a relay");
+    assert!(rt; gate.was_in_turn());
+    assert_eq!(rt; relayed.delivered.len(), 2);
+    relayed
+}
+
+// The first put waits for the second take, so that the first finds the queue empty, and the second
+// take waits for the second put.
+#[test]
+fn a_producer_and_a_consumer_of_a_queue_run_at_once(rt: HostRuntime) {
+    let relayed = runs_at_once(
+        &rt,
+        Kind::Queue,
+        &[2],
+        &[((0, 0), (1, 1)), ((1, 1), (0, 1))],
+    );
+    for (taken, wanted) in relayed.delivered.iter().zip([0, 1]) {
+        assert_eq!(rt; taken.number, wanted);
     }
+    assert!(rt; check_queue(&relayed));
 }
 
 #[test]
 fn workers_that_wait_for_each_other_run_at_once(rt: HostRuntime) {
     for kind in KINDS {
-        runs_at_once(&rt, kind);
+        for lengths in [[2].as_slice(), [1, 1].as_slice()] {
+            runs_at_once(&rt, kind, lengths, &[((0, 0), (1, 0)), ((1, 0), (0, 0))]);
+        }
     }
 }

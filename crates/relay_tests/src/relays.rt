@@ -1,9 +1,10 @@
 //! Relays that the program never asks for: over containers whose tags end early, of more workers
-//! than there are passes, and without a gate.
+//! than there are passes, and without a gate. And relays of which the whole outcome is checked: a
+//! large one, and one that is closed early.
 
 use crate::gates::Counting;
 use crate::kinds::{KINDS, Kind, MOST, plan, relay_freely, relay_over};
-use audit::check_queue;
+use audit::{check_queue, check_stack};
 use relay::{FreeGate, Message, Plan, RelayFault, Relayed};
 use std::process::Abort;
 use std::sync::Wait;
@@ -55,7 +56,7 @@ fn a_spent_container_keeps_what_it_has(rt: HostRuntime) {
 // producer, find the tags spent.
 #[test]
 fn consumers_meet_a_spent_stack(rt: HostRuntime) {
-    let gate = Counting::new(4);
+    let gate = Counting::new(&[((1, 0), (0, 3)), ((2, 0), (0, 3))]);
     let relayed = relay_over(&rt, Kind::Stack, (2, 3), &[3], plan(2), &gate).expect(&rt, "a relay");
     assert!(rt; gate.was_in_turn());
     assert_eq!(rt; relayed.delivered.len(), 1);
@@ -86,5 +87,48 @@ fn a_relay_without_a_gate_delivers_all(rt: HostRuntime) {
     assert_eq!(rt; (of_first, relayed.delivered.len()), (3usize, 5usize));
     assert!(rt; relayed.left.is_empty());
     assert!(rt; relayed.unsent.iter().all(|messages| messages.is_empty()));
+    assert!(rt; check_queue(&relayed));
+}
+
+// 2,000 messages of four producers by three consumers, and little room.
+fn delivers_many<R: Abort + AllocGlobal + Threads + Wait + Sync>(rt: &R, kind: Kind) {
+    let lengths = [500, 500, 500, 500];
+    let relayed = relay_over(rt, kind, (8, MOST), &lengths, plan(3), &FreeGate).expect(
+        rt, "a relay",
+    );
+    assert_eq!(rt; relayed.delivered.len(), 2_000);
+    let mut numbers = Vec::new(rt.alloc());
+    for taken in &relayed.delivered {
+        numbers.push(taken.number).expect(rt, "memory");
+    }
+    assert!(rt; check_stack(&numbers));
+    assert!(rt; kind == Kind::Stack || check_queue(&relayed));
+}
+
+#[test]
+fn many_messages_are_delivered(rt: HostRuntime) {
+    for kind in KINDS {
+        delivers_many(&rt, kind);
+    }
+}
+
+// Of the second sender, which may be stopped anywhere, none is left: the consumer ends where it
+// finds the queue closed and empty.
+#[test]
+fn a_queue_closed_after_one_message_is_taken_empty(rt: HostRuntime) {
+    let plan = Plan {
+        close_after: Some(1),
+        ..plan(1)
+    };
+    let relayed = relay_over(&rt, Kind::Queue, (4, MOST), &[3, 2], plan, &FreeGate);
+    let relayed = relayed.expect(&rt, "a relay");
+    let of_first = relayed
+        .delivered
+        .iter()
+        .filter(|taken| taken.message.sender == 0);
+    assert_eq!(rt; of_first.count(), 1);
+    assert!(rt; relayed.left.is_empty());
+    let unsent = relayed.unsent.first().map(|messages| messages.len());
+    assert_eq!(rt; unsent, Some(2));
     assert!(rt; check_queue(&relayed));
 }
