@@ -1,9 +1,13 @@
 //! The program `lockfree`: it replays a script of calls on a container, or relays the lines of
-//! files through one, as the words of its command line ask. What it does stands in the crate
-//! `program`; here are the words, files and streams of a process.
+//! files through one, as the arguments of its command line ask. What it does stands in the crate
+//! `program`; here are the arguments, files and streams of a process.
 #![tactic(auto)]
 
+mod pipe;
+
+use pipe::{Errors, Output};
 use program::run;
+use std::cell::Cell;
 use std::io::{self, BufWriter};
 use std::process::ExitCode;
 use std::rt::Files;
@@ -29,12 +33,12 @@ impl<'a, T: Files> OpenFiles for HostFiles<'a, T> {
 
 fn main(rt: HostRuntime) -> ExitCode {
     let alloc = rt.alloc();
-    let words = env::args(&rt)
-        .ok()
-        .and_then(|words| words.collect(alloc).ok());
+    let words = env::args(&rt).and_then(|words| Ok(words.collect(alloc)?));
     let files = HostFiles { rt: &rt };
-    let mut errors = rt.stderr();
-    let status = match BufWriter::with_capacity(alloc, OUTPUT_BUFFER, io::writer(&rt)) {
+    let is_read = Cell::new(true);
+    let mut errors = Errors::new(rt.stderr(), &is_read);
+    let output = Output::new(io::writer(&rt), &is_read);
+    let status = match BufWriter::with_capacity(alloc, OUTPUT_BUFFER, output) {
         Ok(mut output) => run(
             &rt,
             alloc,
@@ -50,7 +54,7 @@ fn main(rt: HostRuntime) -> ExitCode {
             words,
             &files,
             rt.reader(),
-            &mut io::writer(&rt),
+            &mut Output::new(io::writer(&rt), &is_read),
             &mut errors,
         ),
     };

@@ -1,4 +1,4 @@
--- What the words ask for, and its ranges.
+-- What the arguments ask for, and its ranges.
 use Rattle.std.specs.Prelude.{◌≡◌, ◌≢◌, ◌⊎◌, ◌≤◌, IfSome, length}
 use Rattle.relay.specs.declared.outcome.Plan.{Plan}
 use Rattle.tagged_index.specs.declared.limit.TheConstants.{MAX_CAPACITY}
@@ -28,16 +28,16 @@ AreInRange (Replay file) = Unit {0}
 AreInRange (Relay args files) = IsInRange args × (1 ≤ length files.items) × (length files.items ≤ MAX_FILES)
 AreInRange (Measured args files) = IsInRange args × (1 ≤ length files.items) × (length files.items ≤ MAX_FILES)
 
--- the program is to tell of a relay on standard error
+-- the program is to write on standard error how a relay went
 abbrev pub IsTold : Chosen → Type 0
 IsTold (Replay file) = ⊥
 IsTold (Relay args files) = ⊥
 IsTold (Measured args files) = Unit {0}
 
--- words that ask for help or for the version get it, and all others that are refused are not understood
+-- arguments that ask for help or for the version get it, and all others that are refused are not understood
 abbrev pub IsRefusalOf : Error → WordsRefused → Type 0
 IsRefusalOf error (Help text) = (text ≡ error) × ((kind_of error ≡ DisplayHelp) ⊎ (kind_of error ≡ DisplayVersion))
-IsRefusalOf error Bad = (kind_of error ≢ DisplayHelp) × (kind_of error ≢ DisplayVersion)
+IsRefusalOf error (Bad reason) = (reason ≡ error) × (kind_of error ≢ DisplayHelp) × (kind_of error ≢ DisplayVersion)
 
 -- what a relay's workers are told
 abbrev pub plan_of : RelayArgs → Plan

@@ -1,4 +1,4 @@
-//! What the words of the command line ask for.
+//! What the arguments of the command line ask for.
 
 ghost use Rattle.std.specs.Prelude.{◌≡◌, ◌↔◌, ◌≤◌, Contains, IsTrue, IfOk, IfSome, codes, map};
 ghost use Rattle.words.specs.Ranges.{AreInRange, IsInRange, IsTold, plan_of};
@@ -45,30 +45,38 @@ pub enum Chosen {
     Replay(Option<String>),
     /// Relay these files.
     Relay(RelayArgs, Vec<String>),
-    /// Relay these files, and tell of it on standard error.
+    /// Relay these files, and write how it went on standard error.
     Measured(RelayArgs, Vec<String>),
 }
 
-/// Why the words ask for nothing that the program does.
+/// Why the arguments ask for nothing that the program does.
 #[derive(Debug, Drop, Error)]
 pub enum WordsRefused {
     /// They ask for help or for the version, which is this error's text.
     #[error("{0}")]
     Help(clap::Error),
-    /// They are not understood, a value is out of its range, or the allocator had no memory.
+    /// They are not understood, a value is out of its range, or memory ran out: which of these, this
+    /// error's text says.
     #[error("bad command line")]
-    Bad,
+    Bad(clap::Error),
+}
+
+impl WordsRefused {
+    /// An argument is not UTF-8.
+    pub fn not_text(alloc: Global) -> WordsRefused {
+        mistake(alloc, "invalid UTF-8 was detected in one or more arguments")
+    }
 }
 
 impl From<AllocError> for WordsRefused {
-    fn from(_: AllocError) -> WordsRefused {
-        WordsRefused::Bad
+    fn from(error: AllocError) -> WordsRefused {
+        WordsRefused::Bad(clap::Error::from(error))
     }
 }
 
 impl<T: Drop> From<AllocFailed<T>> for WordsRefused {
     fn from(_: AllocFailed<T>) -> WordsRefused {
-        WordsRefused::Bad
+        WordsRefused::from(AllocError)
     }
 }
 
@@ -80,19 +88,35 @@ impl From<clap::Error> for WordsRefused {
     fn from(error: clap::Error) -> WordsRefused {
         match error.kind() {
             ErrorKind::DisplayHelp | ErrorKind::DisplayVersion => WordsRefused::Help(error),
-            _ => WordsRefused::Bad,
+            _ => WordsRefused::Bad(error),
         }
     }
 }
 
-/// Reads the words of the command line, the program's name first.
+// A mistake that the parser leaves to this crate, in the form of the parser's own.
+fn mistake(alloc: Global, message: &str) -> WordsRefused {
+    let error = match command_line(alloc) {
+        Ok(mut command) => command.error(ErrorKind::InvalidValue, message),
+        Err(error) => Err(error),
+    };
+    match error {
+        Ok(error) => WordsRefused::Bad(error),
+        Err(error) => WordsRefused::from(error),
+    }
+}
+
+fn out_of_range(alloc: Global) -> WordsRefused {
+    mistake(alloc, "a value is missing or not in its range")
+}
+
+/// Reads the arguments of the command line, the program's name first.
 ///
 /// `Help` where they ask for it or for the version; `Bad` where they are not understood, a value is
-/// not in its range, or the allocator had no memory.
+/// not in its range, or memory ran out.
 pub fn read_words<'a>(alloc: Global, words: &'a [&'a str]) -> Result<Chosen, WordsRefused>
     // Every value lies in its range, and a relay has 1 to 16 files.
     ensures ranges { IfOk result AreInRange }
-    // A relay is told of only where the words ask for it.
+    // A relay is measured only where the arguments ask for it.
     ensures asked { IfOk result (λ chosen. IsTold chosen
         → Contains (map (λ word. word.now) words.now) (codes "--stats")) }
 {
@@ -100,7 +124,9 @@ pub fn read_words<'a>(alloc: Global, words: &'a [&'a str]) -> Result<Chosen, Wor
     match matches.subcommand() {
         None => Ok(Chosen::Replay(None)),
         Some(("replay", found)) => {
-            let file = found.get_str("file").ok_or(WordsRefused::Bad)?;
+            let Some(file) = found.get_str("file") else {
+                return Err(out_of_range(alloc));
+            };
             Ok(Chosen::Replay(Some(String::from_str(alloc, file)?)))
         }
         Some((_, found)) => {
@@ -110,7 +136,7 @@ pub fn read_words<'a>(alloc: Global, words: &'a [&'a str]) -> Result<Chosen, Wor
     }
 }
 
-// Whether a word asks for stats.
+// Whether an argument asks for stats.
 fn has_stats(words: &[&str]) -> bool
     ensures { IsTrue result
         → Contains (map (λ word. word.now) words.now) (codes "--stats") }
@@ -123,18 +149,20 @@ fn has_stats(words: &[&str]) -> bool
     false
 }
 
-// The relay that these words ask for, and whether it is told of.
+// The relay that these arguments ask for, and whether it is measured.
 fn relay_of(alloc: Global, found: &ArgMatches<'_>, is_told: bool) -> Result<Chosen, WordsRefused>
     ensures ranges { IfOk result AreInRange }
     ensures told { IfOk result (λ chosen. IsTold chosen → IsTrue is_told) }
 {
-    let args = args_of(found).ok_or(WordsRefused::Bad)?;
+    let Some(args) = args_of(found) else {
+        return Err(out_of_range(alloc));
+    };
     let mut files = Vec::new(alloc);
     for name in found.get_strs("files").unwrap_or_default() {
         files.push(String::from_str(alloc, name)?)?;
     }
     if files.is_empty() || files.len() > MAX_FILES {
-        return Err(WordsRefused::Bad);
+        return Err(out_of_range(alloc));
     }
     if is_told {
         return Ok(Chosen::Measured(args, files));
