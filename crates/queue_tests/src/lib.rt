@@ -1,6 +1,6 @@
-//! Tests of the queue alone that no script shows: how a queue is made, and what becomes of the values
-//! of a call that is dropped between two steps. Its calls and their steps are played by the program
-//! (`tests/cases`).
+//! Tests of the queue alone: how a queue is made, how many steps a put and a take make, and what
+//! becomes of the values of a call that is dropped between two steps. All other calls and their
+//! steps are played by the program (`tests/cases`).
 #![tactic(auto)]
 
 #[cfg(test)]

@@ -3,9 +3,10 @@
 ghost use Rattle.ms_queue.specs.Putting.{IsPutting};
 ghost use Rattle.ms_queue.specs.Taking.{IsTaking};
 
-use bounded_model::Stepped;
+use bounded_model::{Container, Stepped};
 use ms_queue::{PutOp, Queue, TakeOp};
 use std::process::Abort;
+use tagged_index::{Limits, MAX_TAG};
 
 /// Makes so many steps of a put, none of which ends it.
 pub(crate) fn go_on_putting<T: Drop + Send, R: Abort>(
@@ -45,4 +46,20 @@ pub(crate) fn go_on_taking<T: Drop + Send, R: Abort>(
         op = next;
     }
     op
+}
+
+// A put makes 14 steps, and a take 12.
+#[test]
+fn a_put_and_a_take_make_their_steps(rt: HostRuntime) {
+    let limits = Limits::of(1, MAX_TAG).expect(&rt, "limits");
+    let (queue, mut root) = Queue::<u32>::new(rt.alloc(), limits).expect(&rt, "memory");
+    let pass = queue.split(&mut root).expect(&rt, "a pass");
+    let put = go_on_putting(&rt, &queue, queue.begin_put(pass, 7), 13);
+    let Stepped::Done(pass, Ok(0)) = put.step(&queue) else {
+        panic!(rt; "the put ended late")
+    };
+    let take = go_on_taking(&rt, &queue, queue.begin_take(pass), 11);
+    let Stepped::Done(_, Ok((7, 0))) = take.step(&queue) else {
+        panic!(rt; "the take ended late")
+    };
 }
