@@ -1,5 +1,5 @@
 //! Tests of the list steps alone, over a list of three cells that is no container: what a won take and
-//! a lost exchange leave, and that a word which comes back (ABA) is told by its tag.
+//! a failed compare-and-swap leave, and that a word which comes back (ABA) is told by its tag.
 #![tactic(auto)]
 
 #[cfg(test)]

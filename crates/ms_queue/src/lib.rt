@@ -9,7 +9,7 @@
 //! refusal was right at some time between the pass's last step before the call and the answer.
 //!
 //! Passes are split off a root, meet and are joined again. An operation is begun and then made step
-//! by step, or by a whole call, which is straight code over the same steps, and retries, with a
+//! by step, or by a whole call, which is a fast path over the same steps, and retries, with a
 //! wait, while others interfere.
 #![tactic(auto)]
 

@@ -1,4 +1,4 @@
-//! How a whole call goes straight on from one step to the next.
+//! How a whole call goes from one step to the next on its fast path.
 
 /// What the operation has at the line that its step leads to. Where the step leads elsewhere, the
 /// function returns what it gave.

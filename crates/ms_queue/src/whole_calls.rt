@@ -1,4 +1,4 @@
-//! Whole closes, shuts and looks: their steps straight on, as they are made where no exchange is
+//! Whole closes, shuts and looks: the fast path, as it is made where no compare-and-swap is
 //! lost. Where a step leads elsewhere, the operation goes on from there by single steps.
 ghost use Rattle.ms_queue.specs.Closing.{IsClosingAt};
 ghost use Rattle.ms_queue.specs.Looking.{IsLookingAt};

@@ -1,4 +1,4 @@
-//! A whole put: its steps straight on, as a put makes them that loses no exchange. Where a step
+//! A whole put: the fast path of a put that loses no compare-and-swap. Where a step
 //! leads elsewhere, the put goes on from there by single steps.
 ghost use Rattle.ms_queue.specs.Queue.{begun_of};
 ghost use Rattle.ms_queue.specs.Putting.{IsPutting, put_op};

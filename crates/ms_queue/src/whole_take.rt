@@ -1,4 +1,4 @@
-//! A whole take: its steps straight on, as a take makes them that loses no exchange. Where a step
+//! A whole take: the fast path of a take that loses no compare-and-swap. Where a step
 //! leads elsewhere, the take goes on from there by single steps.
 ghost use Rattle.ms_queue.specs.Queue.{begun_of};
 ghost use Rattle.ms_queue.specs.Taking.{IsTakingAt};

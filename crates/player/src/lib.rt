@@ -3,7 +3,7 @@
 //! Promised (`play`, `specs/Plays.antt`): each line of a script is answered by one line of text,
 //! which is the text of the answer of the call that the line names, made on the container by the
 //! line's pass, under the container's own laws. `busy`, `nothing begun` and `no pass` come exactly
-//! where the formats say, and then nothing is done. All is kept in memory, so that want of it is
+//! where the formats say, and then nothing is done. All is kept in memory, so that running out of it is
 //! met before anything is written.
 #![tactic(auto)]
 

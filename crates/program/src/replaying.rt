@@ -58,7 +58,7 @@ pub fn replay<S: Wait, R: Read, W: Write>(
         (λ fault. IfSome (R.remaining reader.old) (λ text. IsFaultOf fault text)) }
     ensures only { IfErr result (λ fault. IfSome (R.remaining reader.old)
         (λ text. IsAccepted text → IsOutside fault)) }
-    // Nothing is written before the script was read and checked whole, nor after want of memory.
+    // Nothing is written before the script was read and checked whole, nor where memory runs out.
     ensures untouched { IfErr result (λ fault. fault ≢ Output → writer.new ≡ writer.old) }
     // After a failed write a front of that went out.
     ensures front { IfErr result (λ fault. fault ≡ Output → IfSome (R.remaining reader.old)

@@ -1,4 +1,4 @@
-//! Waiting after a lost exchange, so that the thread that won can go on with its lines of memory.
+//! Waiting after a failed compare-and-swap, so that the thread that won keeps its cache lines.
 use std::hint;
 
 /// How often a call has lost. It is handed on by value, so that a call that loses no exchange keeps

@@ -24,7 +24,7 @@ pub trait Whole<C, P, A>: Sized {
             (λ next. is_under_way on.now call next)
             (λ back answer. gives on.now call back answer) };
 
-    /// The same for an operation that was just begun: its steps straight on, as they are made where
+    /// The same for an operation that was just begun: its fast path, as it is made where
     /// no exchange is lost.
     #[inline]
     fn straight(self, on: &C) -> Stepped<Self, P, A>
@@ -53,7 +53,7 @@ pub fn whole_call<R: Wait, C, P, A, O: Whole<C, P, A>>(rt: &R, on: &C, begun: O)
 }
 
 // Runs an operation that is under way until it answers, with a wait after each exchange that it has
-// lost. A function of its own, so that the way straight on is all that a caller's code has.
+// lost. A function of its own, so that the fast path is all that a caller's code has.
 #[inline(never)]
 fn run_on<R: Wait, C, P, A, O: Whole<C, P, A>>(rt: &R, on: &C, under_way: O) -> (P, A)
     requires { (call : O.Call) × O.is_under_way on.now call under_way }

@@ -1,4 +1,4 @@
-//! A stack as a container. A whole call makes an operation's steps straight on, and again after
+//! A stack as a container. A whole call makes an operation's steps on its fast path, and again after
 //! each exchange that was lost.
 use crate::closing::Mark;
 use crate::rest::Rest;
