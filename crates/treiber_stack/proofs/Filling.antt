@@ -1,5 +1,6 @@
 -- A range takes a node for its next value.
-use Rattle.std.proofs.Common.{◌≡◌, ◌≢◌, ℕ, zero, suc, ◌+◌, ◌<◌, ◌≤◌, ◌⊎◌, inl, inr, Bool, true, false, cond, ltb, List, [], ◌∷◌, ◌++◌, length, reverse, take, refl, sym, ap, ◌∙◌, subst, arith}
+use Rattle.std.proofs.lemmas.Bool.Decides.{eqb_tells}
+use Rattle.std.proofs.Common.{◌≡◌, ◌≢◌, ℕ, zero, suc, ◌+◌, ◌<◌, ◌≤◌, ◌⊎◌, inl, inr, ⊎_elim, Bool, true, false, cond, ltb, List, [], ◌∷◌, ◌++◌, length, reverse, take, refl, sym, ap, ◌∙◌, subst, arith}
 use Rattle.std.proofs.lemmas.Bool.Decides.{nat_tests}
 use Rattle.std.specs.Prelude.{Option as Slot, Some, None}
 use Rattle.atomic_table.specs.Table.{rest}
@@ -15,7 +16,6 @@ use Rattle.stack_machine.specs.declared.lines.Line.TheVariants.{LoadFree, LoadTo
 use Rattle.stack_machine.specs.Machine.{held, next_node, starts}
 use Rattle.stack_table.specs.declared.operation.Operation.{Operation}
 use Rattle.stack_table.specs.Slots.{full}
-use Rattle.stack_table.proofs.Slots.{same_or_not}
 use Rattle.running.specs.Going.{Found}
 use Rattle.running.specs.Lists.{AtStep}
 use Rattle.index_list.specs.Kinds.{write_link}
@@ -33,6 +33,9 @@ use Rattle.treiber_stack.specs.Stack.{room_of, machine_of, begun_of, IsAt, IsPas
 use Rattle.treiber_stack.proofs.Gives.{moved, ready_step}
 use Rattle.treiber_stack.proofs.Loading.{next_value, loaded_more}
 use Rattle.treiber_stack.proofs.Placing.{linking_busy}
+
+same_or_not : (a b : ℕ) → (a ≡ b) ⊎ (a ≢ b)
+same_or_not a b = ⊎_elim (λ t. inl t.1) (λ t. inr t.1) (eqb_tells a b)
 
 is_true : (b : Bool) → (b ≡ false → ⊥) → b ≡ true
 is_true true h = refl
