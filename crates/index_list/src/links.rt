@@ -68,9 +68,9 @@ pub fn store_link<S, V, K, P: ListHost<S, V, K, L>, const L: usize>(
     ensures step { Stored P.layout (P.host table.now.key) (P.holds table.now.key) line.now seat.old.id
         list (write_link index next) (P.layout.link list index) next seat.old.me seat.new.me }
 {
-    let at = P::link(list, index);
+    let word = P::link(list, index);
     let about = (list, index);
-    store_as::<S, V, K, P, (usize, u32), P::Line, Brand>(table, seat, at, next, about, line);
+    store_as::<S, V, K, P, (usize, u32), P::Line, Brand>(table, seat, word, next, about, line);
 }
 
 /// Loads the link of a held index, and answers whether it is `next`. Where it is, this was the
