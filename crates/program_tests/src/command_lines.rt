@@ -136,7 +136,7 @@ fn words_are_refused(rt: HostRuntime) {
         let words = split(&rt, line);
         match read_words(rt.alloc(), &words) {
             Err(WordsRefused::Help(_)) => assert!(rt; is_help, "of {line}"),
-            Err(WordsRefused::Bad) => assert!(rt; !is_help, "of {line}"),
+            Err(WordsRefused::Bad(_)) => assert!(rt; !is_help, "of {line}"),
             Ok(_) => panic!(rt; "taken: {line}"),
         }
     }
