@@ -1,8 +1,0 @@
-use Rattle.std.proofs.Common.{◌≡◌}
-use Rattle.bounded_calls.proofs.by_steps.try_close.Given as goal
-
-abbrev pub invariant-loop-made : goal.invariant-loop-made
-invariant-loop-made g l = record {
-  is : g.C.Stepwise.is_closing l.fn.on l.op;
-  begun : (g.C.Stepwise.closing l.op).begun ≡ (g.C.Stepwise.closing l.fn.under_way).begun;
-}

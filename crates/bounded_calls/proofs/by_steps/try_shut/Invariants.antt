@@ -1,8 +1,0 @@
-use Rattle.std.proofs.Common.{◌≡◌}
-use Rattle.bounded_calls.proofs.by_steps.try_shut.Given as goal
-
-abbrev pub invariant-loop-made : goal.invariant-loop-made
-invariant-loop-made g l = record {
-  is : g.C.Stepwise.is_shutting l.fn.on l.op;
-  begun : (g.C.Stepwise.shutting l.op).begun ≡ (g.C.Stepwise.shutting l.fn.under_way).begun;
-}
