@@ -17,7 +17,7 @@ use std::io::Write;
 /// read, and of these how many were delivered, left in the container, and never put. The senders
 /// are the places of `unsent`.
 ///
-/// The writer has failed where a write answers an error other than an interruption, where it takes
+/// The writer has failed where a write returns an error other than an interruption, where it takes
 /// no byte, and where it is interrupted for the [`MAX_INTERRUPTIONS`](crate::MAX_INTERRUPTIONS)th
 /// time. Then so many bytes of the audit went out; the count stays at `u64::MAX`.
 pub fn write_audit<W: Write>(relayed: &Relayed, writer: &mut W) -> Result<(), AuditFault>

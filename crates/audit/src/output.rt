@@ -48,7 +48,7 @@ pub(crate) fn put_all<W: Write>(
     Ok(())
 }
 
-// Writes these bytes. The writer has failed where a write answers an error other than an
+// Writes these bytes. The writer has failed where a write returns an error other than an
 // interruption, where it takes nothing, and where it is interrupted for the `MAX_INTERRUPTIONS`th
 // time.
 fn put<W: Write>(writer: &mut W, progress: &mut Progress, bytes: &[u8]) -> Result<(), AuditFault>

@@ -10,7 +10,7 @@ const MAX_THREADS: i64 = 64;
 const ABOUT: &str = "Measures how long an item takes through a container, from its put to its take";
 
 const NOTES: &str = "The time is that of the work alone: the container is made before it starts.
-Without words a short run is made, and no time is printed.
+Without arguments a short run is made, and no time is printed.
 
 Examples:
   bench_containers --kind stack --capacity 4096 --producers 2 --consumers 2 --items 100000

@@ -39,7 +39,7 @@ fn put_at_once<C: Pool + Sync, R: Threads + Wait + Sync>(
 }
 
 /// Starts the consumers, then the producers, and closes the container when these have ended.
-/// Answers how many items came out; `None` where a thread was not started.
+/// Returns how many items came out; `None` where a thread was not started.
 pub fn send_through<C: Pool + Sync, R: Threads + Wait + Sync>(
     rt: &R,
     pool: &C,

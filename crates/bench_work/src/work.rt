@@ -30,7 +30,7 @@ fn put_one<C: Pool, R: Wait>(rt: &R, container: &C, by: C::Pass, item: u64) -> (
     unreachable!()
 }
 
-/// Puts items numbered from 0; answers how many are in.
+/// Puts items numbered from 0; returns how many are in.
 pub fn put_all<C: Pool, R: Wait>(rt: &R, container: &C, by: C::Pass, items: u32) -> u64
     requires { C.is_pass container.now by }
     ensures { result ≤ items }
@@ -48,7 +48,7 @@ pub fn put_all<C: Pool, R: Wait>(rt: &R, container: &C, by: C::Pass, items: u32)
     put
 }
 
-/// Takes items until no more will come; answers how many there were.
+/// Takes items until no more will come; returns how many there were.
 pub fn take_all<C: Pool, R: Wait>(rt: &R, container: &C, by: C::Pass) -> u64
     requires { C.is_pass container.now by }
 {
@@ -66,7 +66,7 @@ pub fn take_all<C: Pool, R: Wait>(rt: &R, container: &C, by: C::Pass) -> u64
     unreachable!()
 }
 
-/// Puts an item and takes one, in turn; answers how many were taken.
+/// Puts an item and takes one, in turn; returns how many were taken.
 pub fn put_and_take<C: Pool, R: Wait>(rt: &R, container: &C, by: C::Pass, items: u32) -> u64
     requires { C.is_pass container.now by }
     ensures { result ≤ items }

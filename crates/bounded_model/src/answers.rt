@@ -26,7 +26,7 @@ pub enum Word {
 /// Why a put was refused. The value comes back.
 #[derive(Debug, Drop, Error, PartialEq)]
 pub enum PutRefused<T> {
-    /// Every cell holds a value or is in a pass's hand.
+    /// Every cell holds a value or is held by a pass.
     #[error("full")]
     Full(T),
     /// The container is closed.

@@ -1,4 +1,4 @@
-//! Containers that put or take many values by one exchange.
+//! Containers that put or take many values by one compare-and-swap.
 
 ghost use Rattle.std.specs.Prelude.{◌≡◌, reverse, IsSome};
 ghost use Rattle.std.specs.List.{AllByRecursion as Every};
@@ -24,7 +24,7 @@ pub enum RangeRefused {
     /// The range is empty.
     #[error("nothing to put")]
     Nothing,
-    /// Every cell holds a value or is in a pass's hand.
+    /// Every cell holds a value or is held by a pass.
     #[error("full")]
     Full,
     /// The container is closed.
@@ -38,17 +38,17 @@ pub enum RangeRefused {
 /// A fold that took all values.
 #[derive(Clone, Copy, Debug, PartialEq, Eq)]
 pub struct Folded {
-    /// The number of the exchange that took them.
+    /// The number of the compare-and-swap that took them.
     pub number: u64,
     /// How many values there were.
     pub count: u32,
 }
 
-/// A container that puts several values, and takes all values, by one exchange each.
+/// A container that puts several values, and takes all values, by one compare-and-swap each.
 pub trait Bulk<T>: Stepwise<T> {
-    /// Puts as many values as cells can be had, from the front, by one exchange; their places are
-    /// then `None`. A refusal leaves every place as it was: `Nothing` for an empty range, else as
-    /// that of a put. Called in `example_stack`.
+    /// Puts as many values as cells can be had, from the front, by one compare-and-swap; their
+    /// places are then `None`. A refusal leaves every place as it was: `Nothing` for an empty
+    /// range, else as that of a put. Called in `example_stack`.
     fn put_range<R: Wait>(
         &self,
         rt: &R,
@@ -62,9 +62,9 @@ pub trait Bulk<T>: Stepwise<T> {
             (record { shape = Self.shape self.now; from = Self.pass by; to = Self.pass result.0 })
             values.old values.new result.1 };
 
-    /// Takes all values by one exchange, and folds them in the order in which takes would give
-    /// them. Answers the last state; after a refusal, which is as that of a take, it is the one
-    /// that was handed in. Called in `example_buffers`.
+    /// Takes all values by one compare-and-swap, and folds them in the order in which takes would
+    /// give them. Returns the last state; after a refusal, which is as that of a take, it is the
+    /// one that was handed in. Called in `example_buffers`.
     fn fold_all_atomic<R: Wait, S, F: Fn(S, T) -> S + Drop>(
         &self,
         rt: &R,

@@ -7,7 +7,7 @@ ghost use Rattle.bounded_model.specs.Consumes.{Folds, ConsumesAll};
 use crate::{Container, TakeRefused};
 use std::sync::Wait;
 
-/// One take: `f` is called once, and only where a value was taken. Answers what `f` made of the
+/// One take: `f` is called once, and only where a value was taken. Returns what `f` made of the
 /// value, with the take's number. Called in `example_stack`.
 pub fn consume_one<T, C: Container<T>, W: Wait, R, F: FnOnce(T) -> R + Drop>(
     c: &C,
@@ -31,7 +31,7 @@ pub fn consume_one<T, C: Container<T>, W: Wait, R, F: FnOnce(T) -> R + Drop>(
 }
 
 /// Takes one value after another until a take is refused, and folds them in the order of taking.
-/// Answers the last state, and why it stopped. Called in `example_closing`.
+/// Returns the last state, and why it stopped. Called in `example_closing`.
 pub fn consume_all<T, C: Container<T>, W: Wait, S, F: Fn(S, T) -> S + Drop>(
     c: &C,
     rt: &W,

@@ -102,7 +102,7 @@ pub trait Container<T>: Drop {
             ((root parent.new ≡ root parent.old) × IsFullOfPasses (root parent.old))
             (λ p. is_pass self.now p × Splits (root parent.old) (root parent.new) (pass p)) };
 
-    /// Puts one value; answers the put's number. A refusal hands the value back. Called in
+    /// Puts one value; returns the put's number. A refusal hands the value back. Called in
     /// `example_calls`, and again where it is full in `example_jobs`.
     fn put<R: Wait>(
         &self,
@@ -121,14 +121,14 @@ pub trait Container<T>: Drop {
         ensures of { is_pass self.now result.0 }
         ensures gives { TakeGives (shape self.now) (pass by) (pass result.0) result.1 };
 
-    /// Closes the container: no put follows. Answers whether this call closed it. Called in
+    /// Closes the container: no put follows. Returns whether this call closed it. Called in
     /// `example_closing`.
     fn close<R: Wait>(&self, rt: &R, by: Self::Pass) -> (Self::Pass, bool)
         requires { is_pass self.now by }
         ensures of { is_pass self.now result.0 }
         ensures gives { CloseGives (shape self.now) (pass by) (pass result.0) result.1 };
 
-    /// Shuts the container: no take follows, and puts go on until it is closed. Answers whether
+    /// Shuts the container: no take follows, and puts go on until it is closed. Returns whether
     /// this call shut it. Called in `example_stack`.
     fn shut<R: Wait>(&self, rt: &R, by: Self::Pass) -> (Self::Pass, bool)
         requires { is_pass self.now by }

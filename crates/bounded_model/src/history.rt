@@ -18,9 +18,9 @@ pub enum Event<T> {
     Hold(u64),
     /// The pass put values, each in a cell of its hand, by the call of this number.
     Put(u64, LinkedList<T>, u64),
-    /// The pass took one value, by the call of this number, and has its cell in hand.
+    /// The pass took one value, by the call of this number, and holds its cell.
     Take(u64, T, u64),
-    /// The pass took all values, by the call of this number, and has their cells in hand.
+    /// The pass took all values, by the call of this number, and holds their cells.
     TakeAll(u64, LinkedList<T>, u64),
     /// The pass gave so many cells of its hand back.
     Free(u64, u64),

@@ -80,7 +80,7 @@ pub fn closing_is_final<T>()
         → Legal c h → length (gather shut_of h) ≤ 1 }
 {}
 
-/// The values that are there and the cells in hand are together never more than the capacity.
+/// The values that are there and the cells held are together never more than the capacity.
 pub fn capacity_is_kept<T>()
     ensures { (c : Shape) (h : List (Event T))
         → Legal c h → length (state c h).values + (state c h).held ≤ c.capacity }

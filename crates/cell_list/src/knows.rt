@@ -7,8 +7,8 @@ pub enum Knows {
     Top(Fields),
     /// The top, and the link of its index, as it was read after.
     Below(Fields, u64),
-    /// A cell in hand.
+    /// A cell held.
     Has(u32),
-    /// A cell in hand, and what the seat has stored in its link.
+    /// A cell held, and what the seat has stored in its link.
     Linked(u32, u64),
 }

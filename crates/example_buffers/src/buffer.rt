@@ -59,7 +59,7 @@ fn borrow<C: Container<Buffer>, R: Wait>(rt: &R, pool: &C, by: C::Pass) -> (C::P
     unreachable!()
 }
 
-/// Gives a buffer to the pool, however often that is full; answers whether it went in.
+/// Gives a buffer to the pool, however often that is full; returns whether it went in.
 pub fn give<C: Container<Buffer>, R: Wait>(
     rt: &R,
     pool: &C,

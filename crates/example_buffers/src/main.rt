@@ -1,5 +1,5 @@
 //! A pool of buffers: threads borrow buffers from a stack and give them back, and at the end one
-//! exchange takes them all.
+//! compare-and-swap takes them all.
 #![tactic(auto)]
 
 mod buffer;

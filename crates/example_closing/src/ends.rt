@@ -16,7 +16,7 @@ pub struct Moved<P> {
     pub count: u64,
 }
 
-// Puts a value, however often the container is full; answers whether it went in.
+// Puts a value, however often the container is full; returns whether it went in.
 fn put_one<C: Container<u64>, R: Wait>(
     rt: &R,
     container: &C,

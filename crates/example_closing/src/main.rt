@@ -1,5 +1,5 @@
-//! Closing down cleanly: one thread closes the container and takes what is left in it, the other is
-//! told by its next put; then both passes are joined, and the container is finished.
+//! Closing down cleanly: one thread closes the container and takes what is left in it, the other
+//! learns it from its next put; then both passes are joined, and the container is finished.
 #![tactic(auto)]
 
 mod close;

@@ -55,7 +55,7 @@ fn told_by_thread<R: Threads + Wait + Sync>(
     )
 }
 
-/// Has a thread put the job and takes it here; answers the job that was told of, and what the take
+/// Has a thread put the job and takes it here; returns the job that was told of, and what the take
 /// was answered.
 pub fn hand_over<R: Threads + Wait + Sync>(
     rt: &R,

@@ -21,7 +21,7 @@ enum Fault {
     Output(#[from] io::Error),
 }
 
-// Puts three values by one exchange and folds them from the bottom up.
+// Puts three values by one compare-and-swap and folds them from the bottom up.
 fn ranges<R: Print + Wait>(rt: &R, stack: &Stack<u64>, by: Pass<u64>) -> Result<Pass<u64>, Fault>
     requires { IsPassOf stack.now by }
     ensures { IfOk result (λ pass. IsPassOf stack.now pass) }

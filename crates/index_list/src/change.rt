@@ -1,7 +1,7 @@
-//! What an exchange of a list's top is for.
+//! What a compare-and-swap of a list's top is for.
 use crate::front::Front;
 
-/// An exchange of a list's top. The contracts of the step functions speak of all six alike.
+/// A compare-and-swap of a list's top. The contracts of the step functions speak of all six alike.
 #[derive(Clone, Copy)]
 pub enum Change {
     /// A take of the first index, whose link names this next one.

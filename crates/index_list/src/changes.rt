@@ -1,5 +1,6 @@
-//! Exchanges of a list's top: takes, gives and marks. Each is one atomic step, and answers whether it
-//! won: where the top was not the one seen, nothing is changed. A list is numbered below `L`.
+//! Exchanges of a list's top: takes, gives and marks. Each is one atomic step, and returns whether
+//! it succeeded: where the top was not the one seen, nothing is changed. A list is numbered below
+//! `L`.
 ghost use Rattle.std.specs.Prelude.{◌≡◌, ◌<◌, ◌≤◌, true, false, IsTrue, IsFalse};
 ghost use Rattle.tagged_index.specs.Fields.{index_of, tag_of, fields_of, raised};
 ghost use Rattle.tagged_index.specs.declared.word.TheConstants.{MAX_TAG, NULL};
@@ -15,9 +16,9 @@ use atomic_table::{Seat, Shared};
 use std::marker::Brand;
 use tagged_index::{NULL, TAG_UNIT, Tagged};
 
-/// Exchanges the seen top for its second index, `next`, under the next tag: where it wins, the first
-/// index is the seat's, with its slot. It is the pop of Treiber 1986, with the tag of Boost.Lockfree;
-/// the seen tag is below the greatest, and `next` may be null.
+/// Compare-and-swaps the loaded top for its second index, `next`, under the next tag: where it
+/// succeeds, the first index is the seat's, with its slot. It is the pop of Treiber 1986, with the
+/// tag of Boost.Lockfree; the seen tag is below the greatest, and `next` may be null.
 #[inline]
 pub fn try_take<S, V, K, P: ListHost<S, V, K, L>, const L: usize>(
     table: &Shared<S, V, K, P>,
@@ -43,9 +44,9 @@ pub fn try_take<S, V, K, P: ListHost<S, V, K, L>, const L: usize>(
     exchange_top::<S, V, K, P, L>(table, seat, list, seen, new, change, line)
 }
 
-/// Exchanges the seen top for null under the next tag: where it wins, the whole list is the seat's,
-/// with its slots, the first or the last of the list in front, as Boost.Lockfree's `consume_all` takes
-/// it. The seen tag is below the greatest.
+/// Compare-and-swaps the loaded top for null under the next tag: where it succeeds, the whole list
+/// is the seat's, with its slots, the first or the last of the list in front, as Boost.Lockfree's
+/// `consume_all` takes it. The seen tag is below the greatest.
 #[inline]
 pub fn try_take_all<S, V, K, P: ListHost<S, V, K, L>, const L: usize>(
     table: &Shared<S, V, K, P>,
@@ -71,9 +72,10 @@ pub fn try_take_all<S, V, K, P: ListHost<S, V, K, L>, const L: usize>(
     exchange_top::<S, V, K, P, L>(table, seat, list, seen, new, change, line)
 }
 
-/// Exchanges the seen top for a held index: where it wins, the index stands before what the list
-/// was, and its slot is home. It is the push of Treiber 1986: the index's link names the seen top's
-/// index, and the tag stays, as in Boost.Lockfree, or rises, as the host says (`keeps_tag`).
+/// Compare-and-swaps the loaded top for a held index: where it succeeds, the index stands before
+/// what the list was, and its slot is home. It is the push of Treiber 1986: the index's link names
+/// the seen top's index, and the tag stays, as in Boost.Lockfree, or rises, as the host says
+/// (`keeps_tag`).
 #[inline]
 pub fn try_give<S, V, K, P: ListHost<S, V, K, L>, const L: usize>(
     table: &Shared<S, V, K, P>,
@@ -101,9 +103,9 @@ pub fn try_give<S, V, K, P: ListHost<S, V, K, L>, const L: usize>(
     exchange_top::<S, V, K, P, L>(table, seat, list, seen, new, change, line)
 }
 
-/// Exchanges the seen top for the first index of the chain that is the seat's whole hand: where it
-/// wins, the chain stands before what the list was, and its slots are home. The chain's last link
-/// names the seen top's index. The tag stays or rises as in `try_give`.
+/// Compare-and-swaps the loaded top for the first index of the chain that is the seat's whole hand:
+/// where it succeeds, the chain stands before what the list was, and its slots are home. The
+/// chain's last link names the seen top's index. The tag stays or rises as in `try_give`.
 #[inline]
 pub fn try_give_chain<S, V, K, P: ListHost<S, V, K, L>, const L: usize>(
     table: &Shared<S, V, K, P>,

@@ -1,11 +1,11 @@
 //! Lists of indexes among the words of a table, as the free lists of Treiber 1986 and of
 //! Boost.Lockfree: a tagged top names the first index, and each index's link names the next.
 //!
-//! `ListHost` says of a table where its lists are, and has a law over plain data for each kind
-//! of step. The step functions are written once for every host, each a single atomic step.
-//! Promised: a won take gives the first of the list, which no hand held; a won give puts what
-//! the pass held before the list; a won mark sets the mark and nothing else; a load gives the word
-//! as it was; a store changes the link of a held index alone.
+//! `ListHost` says of a table where its lists are, and has a law over plain data for each kind of
+//! step. The step functions are written once for every host, each a single atomic step. Promised: a
+//! successful take gives the first of the list, which no pass held; a successful give puts what the
+//! pass held before the list; a successful mark sets the mark and nothing else; a load gives the
+//! word as it was; a store changes the link of a held index alone.
 //!
 //! What a step tells its caller, the caller's proof picks (`Telling`). `specs` has the words of
 //! such facts: the homes once slots have left them or come back, the table as a step finds it and

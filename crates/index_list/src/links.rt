@@ -73,7 +73,7 @@ pub fn store_link<S, V, K, P: ListHost<S, V, K, L>, const L: usize>(
     store_as::<S, V, K, P, (usize, u32), P::Line, Brand>(table, seat, word, next, about, line);
 }
 
-/// Loads the link of a held index, and answers whether it is `next`. Where it is, this was the
+/// Loads the link of a held index, and returns whether it is `next`. Where it is, this was the
 /// store of `next`, which would leave the link as it is. Else nothing was done, and the store is
 /// still to be made.
 #[inline]

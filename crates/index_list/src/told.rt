@@ -77,7 +77,8 @@ pub fn store_as<S, V, K, P: TableRule<S, V, K>, A: Copy, X, W: Telling<S, V>>(
     table.store::<Told<W>>(seat, at, new)
 }
 
-/// Exchanges the word at `at` for `new` if it is `seen`, and answers whether it was.
+/// Compares the word at `at` with `seen`, swaps `new` in where they are equal, and returns whether
+/// they were.
 #[inline]
 pub fn try_as<S, V, K, P: TableRule<S, V, K>, A: Copy, X, W: Telling<S, V>>(
     table: &Shared<S, V, K, P>,

@@ -128,7 +128,7 @@ pub(crate) fn take<R: Abort>(
     try_take::<(), Knows, u64, Cells, 1>(table, seat, 0, top, next, &())
 }
 
-/// Gives a cell in hand back, where no other seat steps.
+/// Gives a cell held back, where no other seat steps.
 pub(crate) fn give<R: Abort>(
     rt: &R,
     table: &Shared<(), Knows, u64, Cells>,

@@ -1,4 +1,4 @@
-//! Takes by the list steps, won and lost.
+//! Takes by the list steps, successful and failed.
 use crate::cells::{another, give, look, look_below, made, take};
 
 #[test]
@@ -34,8 +34,8 @@ fn a_lost_exchange_changes_nothing(rt: HostRuntime) {
     assert_eq!(rt; (before.index(), before.tag()), (1, 1));
 }
 
-// The first cell is back on top when the late exchange comes, and its link is another: by the index
-// alone the exchange would win, and put a cell on top that is in a hand.
+// The first cell is back on top when the late compare-and-swap comes, and its link is another: by
+// the index alone it would succeed, and put a cell on top that is held.
 #[test]
 fn a_late_exchange_loses_though_its_cell_is_back(rt: HostRuntime) {
     let (table, mut late) = made(&rt);

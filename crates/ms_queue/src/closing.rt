@@ -93,7 +93,7 @@ impl<T> Queue<T> {
 }
 
 impl<T> CloseOp<T> {
-    /// One atomic step. Answers whether this operation closed the queue.
+    /// One atomic step. Returns whether this operation closed the queue.
     #[inline]
     pub fn step(self, queue: &Queue<T>) -> Stepped<CloseOp<T>, Pass<T>, bool>
         requires { IsClosing queue.now self }

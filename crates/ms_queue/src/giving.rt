@@ -26,13 +26,13 @@ pub(crate) enum Give {
     LoadNodes,
     /// Link the node to the free one.
     LinkNode(Tagged),
-    /// Exchange `NODES` for the node.
+    /// Compare-and-swap `NODES` for the node.
     GiveNode(Tagged),
     /// Load `CELLS`.
     LoadCells,
     /// Link the cell to the free one.
     LinkCell(Tagged),
-    /// Exchange `CELLS` for the cell.
+    /// Compare-and-swap `CELLS` for the cell.
     GiveCell(Tagged),
 }
 

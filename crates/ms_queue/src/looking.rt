@@ -99,7 +99,7 @@ impl<T> Queue<T> {
 }
 
 impl<T> LookOp<T> {
-    /// One atomic step. Answers whether the queue was empty.
+    /// One atomic step. Returns whether the queue was empty.
     #[inline]
     pub fn step(self, queue: &Queue<T>) -> Stepped<LookOp<T>, Pass<T>, bool>
         requires { IsLooking queue.now self }

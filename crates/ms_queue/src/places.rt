@@ -11,8 +11,8 @@ ghost use Rattle.running.specs.Rule.{Rule, line_in};
 
 /// In any table that meets the rule of a queue for `n` values, as each queue's does between any two
 /// atomic steps of any threads, no cell and no node is in two places: each is free, in the chain,
-/// or in the hand of one pass. What a step brings into its pass's hand no pass had: that is the
-/// clause `unheld` of `IsLine`, which the contract of each step has.
+/// or held by one pass. What a step brings into its pass's hand no pass had: that is the clause
+/// `unheld` of `IsLine`, which the contract of each step has.
 pub fn queue_places<T>()
     ensures { (n limit : ℕ) (s : State (Slot T) (View T (Line T))) →
         Rule (queue T n limit) s →

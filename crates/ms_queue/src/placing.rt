@@ -149,7 +149,7 @@ impl<T> Queue<T> {
         })
     }
 
-    // Moves the value out of the slot of the cell in hand.
+    // Moves the value out of the slot of the cell held.
     #[inline(always)]
     pub(crate) fn put_value_back(&self, by: &mut Pass<T>, cell: u32) -> T
         requires table { by.old.seat.table_id ≡ self.now.table.shared.table_id }

@@ -35,7 +35,7 @@ pub(crate) enum PutAt<T> {
     LoadCells(T),
     /// Load the link of the free cell.
     LoadCellLink(T, Tagged),
-    /// Exchange `CELLS` for the next free cell.
+    /// Compare-and-swap `CELLS` for the next free cell.
     TakeCell(T, Tagged, u32),
     /// No cell is free: go to the end of the chain, to say why nothing can be put.
     Refusing(T, Seek),
@@ -43,7 +43,7 @@ pub(crate) enum PutAt<T> {
     LoadNodes(u32),
     /// Load the link of the free node.
     LoadNodeLink(u32, Tagged),
-    /// Exchange `NODES` for the next free node.
+    /// Compare-and-swap `NODES` for the next free node.
     TakeNode(u32, Tagged, u32),
     /// Store the cell in the node.
     StoreCell(Held),
@@ -55,7 +55,8 @@ pub(crate) enum PutAt<T> {
     Seeking(Held, Seek),
     /// Exchange the last node's `next` for the node.
     LinkNext(Held, Tagged, Tagged),
-    /// The value is put. Exchange `TAIL` for the node that has it; the second word is the link.
+    /// The value is put. Compare-and-swap `TAIL` for the node that has it; the second word is the
+    /// link.
     SwingTail(Tagged, Tagged),
     /// Give the node and the cell back, or the cell alone.
     GiveBack(PutRefused<T>, Held, Give),
@@ -255,7 +256,7 @@ impl<T> Queue<T> {
         })
     }
 
-    // Whoever wins, the tail is then no longer behind this put.
+    // Whoever succeeds, the tail is then no longer behind this put.
     #[inline(always)]
     pub(crate) fn put_swing_tail(
         &self,

@@ -19,7 +19,7 @@ pub(crate) enum Seek {
     LoadNext(Tagged),
     /// Load `TAIL` again.
     CheckTail(Tagged, Tagged),
-    /// The tail lags: exchange it for the next node.
+    /// The tail lags: compare-and-swap it for the next node.
     SwingTail(Tagged, Tagged),
 }
 
@@ -99,7 +99,7 @@ impl<T> Queue<T> {
         Sought::On(Seek::SwingTail(tail, link))
     }
 
-    // Whoever wins, the tail is then no longer the same.
+    // Whoever succeeds, the tail is then no longer the same.
     #[inline(always)]
     fn seek_swing(
         &self,

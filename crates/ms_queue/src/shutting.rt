@@ -78,7 +78,7 @@ impl<T> Queue<T> {
 }
 
 impl<T> ShutOp<T> {
-    /// One atomic step. Answers whether this operation shut the queue.
+    /// One atomic step. Returns whether this operation shut the queue.
     #[inline]
     pub fn step(self, queue: &Queue<T>) -> Stepped<ShutOp<T>, Pass<T>, bool>
         requires { IsShutting queue.now self }

@@ -32,11 +32,11 @@ pub(crate) enum TakeAt<T> {
     LoadNext(Tagged, Tagged),
     /// Load `HEAD` again.
     CheckHead(Tagged, Tagged, Tagged),
-    /// The tail is at the dummy and a node stands behind it: exchange `TAIL` for that node.
+    /// The tail is at the dummy and a node stands behind it: compare-and-swap `TAIL` for that node.
     SwingTail(Tagged, Tagged),
     /// Load the cell of the first node.
     LoadCell(Tagged, Tagged),
-    /// Exchange `HEAD` for the first node.
+    /// Compare-and-swap `HEAD` for the first node.
     TakeHead(Tagged, Tagged, u32),
     /// Give the old dummy and the cell back.
     GiveBack(Taken<T>, Give),
@@ -147,7 +147,7 @@ impl<T> Queue<T> {
         })
     }
 
-    // Whoever wins, the tail is then no longer at the dummy.
+    // Whoever succeeds, the tail is then no longer at the dummy.
     #[inline(always)]
     pub(crate) fn take_swing_tail(&self, by: Pass<T>, tail: Tagged, link: Tagged) -> Step<T>
         requires { IsTakingAt self.now by (SwingTail tail link) }

@@ -19,7 +19,7 @@ fn handed_back<T: Drop>(refused: PutRefused<T>) -> T
     }
 }
 
-/// Puts the items in their order until a put is refused; answers those that were not put.
+/// Puts the items in their order until a put is refused; returns those that were not put.
 pub(crate) fn put_all<T: Drop, C: Container<T>, W: Wait>(
     c: &C,
     rt: &W,

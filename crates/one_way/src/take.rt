@@ -7,7 +7,7 @@ use bounded_model::{Container, TakeRefused};
 use std::alloc::{AllocError, Global};
 use std::sync::Wait;
 
-/// Takes until a take says that nothing will follow; answers the values in the order of taking.
+/// Takes until a take says that nothing will follow; returns the values in the order of taking.
 pub(crate) fn take_all<T: Drop, C: Container<T>, W: Wait>(
     c: &C,
     rt: &W,

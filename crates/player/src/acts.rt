@@ -16,7 +16,7 @@ use script::{Act, Answer};
 use std::alloc::{AllocError, Global};
 use std::sync::Wait;
 
-/// Does what a line other than a meet says at what its letter names. Answers what it names then.
+/// Does what a line other than a meet says at what its letter names. Returns what it names then.
 pub fn act_at<'a, C: Played<'a>, R: Wait>(
     container: &C,
     rt: &R,

@@ -50,7 +50,7 @@ impl<P: Drop, O: Drop> Places<P, O> {
         Ok(Places { of })
     }
 
-    /// Puts this in the letter's place, and answers what was there.
+    /// Puts this in the letter's place, and returns what was there.
     pub fn exchange(&mut self, name: PassName, place: Place<P, O>) -> Place<P, O>
         requires { IsTrue (is_ascii_lowercase name.0) }
         ensures places { self.new.of.items ≡ slice_set self.old.of.items (name.0 - 97) place }

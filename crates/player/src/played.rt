@@ -70,8 +70,8 @@ pub trait Played<'a>: Drop {
             × CallGives (reading self.now).shape ((reading self.now).made operation).begun call
             ((reading self.now).pass back) reply) };
 
-    /// Puts a range of values by one exchange, where it is a stack. Answers the values that were
-    /// not put, too.
+    /// Puts a range of values by one compare-and-swap, where it is a stack. Returns the values that
+    /// were not put, too.
     fn range<R: Wait>(
         &self,
         rt: &R,
@@ -86,8 +86,8 @@ pub trait Played<'a>: Drop {
             ((reading self.now).pass by) ((reading self.now).pass done.0)
             values.entry done.1 done.2) };
 
-    /// Takes all values by one exchange, where it is a stack, and answers them from the top down,
-    /// or the other way round.
+    /// Takes all values by one compare-and-swap, where it is a stack, and returns them from the top
+    /// down, or the other way round.
     fn fold<R: Wait>(
         &self,
         rt: &R,

@@ -19,9 +19,9 @@ use std::alloc::{AllocError, Global};
 use std::collections::VecDeque;
 use std::sync::Wait;
 
-/// Plays the lines of a script over a container from which no pass is out. Answers the text of the
-/// replies, a line for each line of the script; there may be no memory for it, or for the values of
-/// a range or a fold.
+/// Plays the lines of a script over a container from which no pass is out. Returns the text of the
+/// replies, a line for each line of the script, or that memory ran out for it or for the values of a
+/// range or a fold.
 pub fn play<'a, C: Played<'a>, R: Wait>(
     rt: &R,
     alloc: Global,
@@ -56,7 +56,7 @@ pub fn play<'a, C: Played<'a>, R: Wait>(
     Ok(output)
 }
 
-/// Does what a line says, and adds the line that answers it.
+/// Does what a line says, and adds its reply.
 fn play_line<'a, C: Played<'a>, R: Wait>(
     rt: &R,
     alloc: Global,

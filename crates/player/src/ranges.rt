@@ -12,7 +12,7 @@ use std::sync::Wait;
 /// A container of values whose calls are made by single steps, with the ranges and folds that a
 /// script's lines name where it is a stack. No line of a queue's script asks for one.
 pub trait Ranges<'a>: Stepwise<Value<'a>> {
-    /// Puts a range of values by one exchange. Answers the values that were not put, too.
+    /// Puts a range of values by one compare-and-swap. Returns the values that were not put, too.
     fn range<R: Wait>(
         &self,
         rt: &R,
@@ -26,8 +26,8 @@ pub trait Ranges<'a>: Stepwise<Value<'a>> {
             → IfOk result (λ done. RangeTold (Self.shape self.now)
             (Self.pass by) (Self.pass done.0) values.entry done.1 done.2) };
 
-    /// Takes all values by one exchange, and answers them from the top down, or the other way
-    /// round.
+    /// Takes all values by one compare-and-swap, and returns them from the top down, or the other
+    /// way round.
     fn fold<R: Wait>(
         &self,
         rt: &R,

@@ -42,7 +42,7 @@ impl<'a> Ranges<'a> for Stack<Value<'a>> {
     }
 }
 
-/// What a range's answer is called in a script.
+/// What a range's result is called in a script.
 fn reply_of(answer: Result<Ranged, RangeRefused>) -> RangeReply
     ensures { result ≡ range_reply answer }
 {
@@ -55,7 +55,7 @@ fn reply_of(answer: Result<Ranged, RangeRefused>) -> RangeReply
     }
 }
 
-/// Puts a range of values by one exchange, and answers those that were not put, too.
+/// Puts a range of values by one compare-and-swap, and returns those that were not put, too.
 fn put_values<'a, R: Wait>(
     stack: &Stack<Value<'a>>,
     rt: &R,
@@ -99,7 +99,7 @@ fn numbered<'a>(
     }
 }
 
-/// Takes all values by one exchange, and answers them from the top down.
+/// Takes all values by one compare-and-swap, and returns them from the top down.
 fn fold_down<'a, R: Wait>(
     stack: &Stack<Value<'a>>,
     rt: &R,

@@ -68,7 +68,7 @@ fn keep<R: Drop, P: Drop, O: Drop>(stage: &mut Stage<R, P, O>, name: PassName, p
     stage.places.exchange(name, place);
 }
 
-/// Does what a line says, and answers it.
+/// Does what a line says, and returns its reply.
 pub fn act<'a, C: Played<'a>, R: Wait>(
     container: &C,
     rt: &R,
@@ -226,7 +226,7 @@ fn join_one<'a, C: Played<'a>>(
     }
 }
 
-/// Ends the container, and answers the values that are left.
+/// Ends the container, and returns the values that are left.
 pub fn finish<'a, C: Played<'a>>(
     alloc: Global,
     container: C,

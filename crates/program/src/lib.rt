@@ -1,12 +1,12 @@
-//! The program `lockfree` without its process: words, files, input, output and errors are given.
+//! The program `lockfree` without its process: arguments, files, input, output and errors are given.
 //!
 //! What is accepted as a script is exactly a text of the grammar; a refused text's fault is its
 //! first bad line or its missing last newline, and what is written is a reply to each line, after
 //! the script was read and checked whole (`replay`): what the calls of a queue or a stack on atomic
-//! words answer. What a relay writes is the outcome of a relay of the messages that were read
-//! (`relay_main`), also where the relay is told of on standard error (`relay_measured`, `Stats`).
-//! After a fault of a text, of a file or of memory nothing was written. What the words ask for is
-//! read by the crate `words`; what is read and written, and how the program fails, stands in the
+//! words return. What a relay writes is the outcome of a relay of the messages that were read
+//! (`relay_main`), also where stats are written on standard error (`relay_measured`, `Stats`).
+//! After a fault of a text, of a file or of memory nothing was written. What the arguments ask for
+//! is read by the crate `words`; what is read and written, and how the program fails, stands in the
 //! crate `streams`.
 #![tactic(auto)]
 

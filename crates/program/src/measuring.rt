@@ -19,13 +19,13 @@ use std::time::{Clock, Instant};
 use streams::{ToolFault, read_inputs, write_all, write_outcome};
 use words::RelayArgs;
 
-/// Relays as [`relay_main`](crate::relay_main) does, and then tells of the relay on `errors`: its
-/// time and messages a second, how many messages each consumer took, and the refusals that were
+/// Relays as [`relay_main`](crate::relay_main) does, and then writes stats of the relay on `errors`:
+/// its time and messages a second, how many messages each consumer took, and the refusals that were
 /// met.
 ///
-/// The faults are those of `relay_main`; after a fault nothing is told. What is told is made before
-/// the outcome is written, so that `Relay(NoMemory)` also comes where there is no memory for it. It
-/// is not a fault where it cannot be written.
+/// The faults are those of `relay_main`; after a fault no stats are written. They are made before
+/// the outcome is written, so that `Relay(NoMemory)` also comes where there is no memory for them.
+/// That they cannot be written is no fault.
 pub fn relay_measured<T: Threads + Wait + Clock + Sync, R: Read + Drop, W: Write, E: Write>(
     rt: &T,
     alloc: Global,
@@ -37,8 +37,8 @@ pub fn relay_measured<T: Threads + Wait + Clock + Sync, R: Read + Drop, W: Write
     requires args { IsInRange args.now }
     requires some { 1 ≤ length readers.items }
     requires few { length readers.items ≤ MAX_FILES }
-    // What is written is the outcome of a relay of the messages that were read, and what is told is
-    // of that relay.
+    // What is written is the outcome of a relay of the messages that were read, and the stats are
+    // those of that relay.
     ensures measures { FromReaders R.remaining readers.items (MeasuresInputs args.now (record {
       output = record { old = W.contents writer.old; new = W.contents writer.new };
       errors = record { old = E.contents errors.old; new = E.contents errors.new };

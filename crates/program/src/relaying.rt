@@ -27,8 +27,8 @@ use words::{Kind, RelayArgs};
 /// Relays what the readers give, reader `k`, counted from 0, as sender `k`, and writes the outcome:
 /// the audit, and then the list where that is wanted.
 ///
-/// All readers are read, in order, before the container is made; `File` tells the first that is no
-/// message file, or fails, by its number from 1. `Relay(NoMemory)` also comes where the container
+/// All readers are read, in order, before the container is made; `File` has the number, from 1, of
+/// the first that is no message file, or fails. `Relay(NoMemory)` also comes where the container
 /// cannot be made. `Output` comes where a write fails, and then a front of the text went out. After
 /// any other fault nothing was written. The memory of what was relayed is not given back, since the
 /// process is about to end.

@@ -1,4 +1,4 @@
-//! What is told of a relay beside its outcome.
+//! What is written of a relay beside its outcome.
 
 ghost use Rattle.std.specs.Prelude.{◌≡◌, ◌==◌, ◌++◌, IfOk, OnOk, count_by, string_bytes};
 ghost use Rattle.program.specs.Stats.{IsStatsOf, consumer_lines, ended_puts, ended_takes, is_met, stats_text, time_line, took_each};
@@ -8,7 +8,7 @@ use std::alloc::{AllocError, Global};
 use std::fmt::Write;
 use words::RelayArgs;
 
-/// What is told of a relay beside its outcome.
+/// What is written of a relay beside its outcome.
 #[derive(Debug, Drop, PartialEq, Eq)]
 pub struct Stats {
     /// How long it took in nanoseconds, threads and all; `None` where no clock could be read.

@@ -91,13 +91,13 @@ pub enum Line<T> {
     LoadCells(T),
     /// Load the link of the free cell.
     LoadCellLink(T, Fields),
-    /// Exchange `CELLS` for the next free cell.
+    /// Compare-and-swap `CELLS` for the next free cell.
     TakeCell(T, Fields, u32),
     /// Load `NODES`.
     LoadNodes(Placing<T>),
     /// Load the link of the free node.
     LoadNodeLink(Placing<T>, Fields),
-    /// Exchange `NODES` for the next free node.
+    /// Compare-and-swap `NODES` for the next free node.
     TakeNode(Placing<T>, Fields, u32),
     /// Store the cell in the node.
     StoreCell(Linking<T>),
@@ -111,11 +111,12 @@ pub enum Line<T> {
     LoadTailNext(Seeking<T>, Fields),
     /// Load `TAIL` again.
     CheckTail(Seeking<T>, Fields, Fields),
-    /// The tail lags: exchange it for the next node.
+    /// The tail lags: compare-and-swap it for the next node.
     SwingTail(Seeking<T>, Fields, Fields),
     /// Exchange the last node's `next` for the held node.
     LinkNext(Linking<T>, Fields, Fields),
-    /// The value is put. Exchange `TAIL` for the node that has it; the second word is the link.
+    /// The value is put. Compare-and-swap `TAIL` for the node that has it; the second word is the
+    /// link.
     SwingToLinked(T, Fields, Fields),
     /// Exchange the last node's `next` for null with the mark.
     MarkNext(Fields, Fields),
@@ -127,23 +128,23 @@ pub enum Line<T> {
     LoadHeadNext(Fields, Fields),
     /// Load `HEAD` again.
     CheckHead(Fields, Fields, Fields),
-    /// The tail is at the dummy and a node stands behind it: exchange `TAIL` for that node.
+    /// The tail is at the dummy and a node stands behind it: compare-and-swap `TAIL` for that node.
     SwingTailToTake(Fields, Fields),
     /// Load the cell of the first node.
     LoadCell(Fields, Fields),
-    /// Exchange `HEAD` for the first node.
+    /// Compare-and-swap `HEAD` for the first node.
     TakeHead(Fields, Fields, u32),
     /// Load `NODES`.
     LoadNodesToGive(Giving<T>),
     /// Link the node to the free one.
     LinkToNodes(Giving<T>, Fields),
-    /// Exchange `NODES` for the node.
+    /// Compare-and-swap `NODES` for the node.
     GiveNode(Giving<T>, Fields),
     /// Load `CELLS`.
     LoadCellsToGive(Freeing<T>),
     /// Link the cell to the free one.
     LinkToCells(Freeing<T>, Fields),
-    /// Exchange `CELLS` for the cell.
+    /// Compare-and-swap `CELLS` for the cell.
     GiveCell(Freeing<T>, Fields),
     /// Load `HEAD`.
     LoadHeadToLook,

@@ -3,15 +3,16 @@
 //!
 //! [`run`] promises, from the laws of a container alone: every message of every input is delivered,
 //! left in the container, or unsent, each once; over a queue each sender's messages keep their
-//! order; numbers rise, over a queue 0, 1, 2, ..; nothing is unsent or left that the plan did not
-//! ask for; no consumer takes more than its share, and each takes just that where something is
-//! left. A relay that is too small for its messages is refused before anything starts.
+//! order; numbers rise, over a queue 0, 1, 2, ..; no consumer takes more than its share. While no tag
+//! can reach its limit, nothing is unsent or left that the plan did not ask for, and where something
+//! is left each consumer took its share. A relay that is too small for its messages is refused
+//! before anything starts.
 //! [`run_freely`] promises the same, and holds no thread at a gate.
 //!
-//! [`numbered`] tells whether inputs are numbered as a relay wants them, and a [`Gate`] lets a test
+//! [`numbered`] says whether inputs are numbered as a relay wants them, and a [`Gate`] lets a test
 //! hold threads where it wants them.
 //!
-//! A relay is told in `running`: its `plan` and its `memory` are looked at first, then `threads`
+//! `running` makes a relay: its `plan` and its `memory` are looked at first, then `threads`
 //! start the `workers`, which see the container as a `pool`, and `merge` puts together what they
 //! took.
 #![tactic(auto)]

@@ -80,7 +80,7 @@ fn take_greatest(lists: &mut Vec<Vec<Taken>>) -> Option<Vec<Taken>>
 }
 
 // Moves the messages at the list's end, the last first, while no other list has a greater number,
-// and until memory can be given back. Answers what is left of the list, and all that was moved.
+// and until memory can be given back. Returns what is left of the list, and all that was moved.
 fn move_run(list: Vec<Taken>, others: &[Vec<Taken>], moved: Vec<Taken>) -> (Vec<Taken>, Vec<Taken>)
     requires some { 0 < vec_len list }
     requires up { IsUp list × All IsUp others.now }

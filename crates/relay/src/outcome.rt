@@ -1,4 +1,4 @@
-//! What a relay is told to do, and what it gives.
+//! What a relay is to do, and what it gives.
 
 use crate::Message;
 

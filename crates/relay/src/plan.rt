@@ -1,4 +1,4 @@
-//! What the workers of a relay are told, and whether it is too small for its messages.
+//! What the workers of a relay are to do, and whether it is too small for its messages.
 
 ghost use Rattle.std.specs.Prelude.{◌≡◌, ℕ, Decides, ◌+◌, ◌*◌, ◌<◌, Some, None};
 ghost use Rattle.relay.specs.Promises.{total, HasNoPlace, IsTooSmall};
@@ -27,7 +27,7 @@ pub(crate) fn is_reached(limit: Option<u32>, count: u64) -> bool
     }
 }
 
-/// A limit that only the first worker of its kind is told.
+/// A limit that is only for the first worker of its kind.
 pub(crate) fn told_first(limit: Option<u32>, place: u32) -> Option<u32>
     ensures first { place ≡ 0 → result ≡ limit }
     ensures others { (most : ℕ) → result ≡ Some most → place ≡ 0 }

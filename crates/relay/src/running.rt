@@ -86,7 +86,7 @@ fn work<C: Container<Message> + Sync, G: Gate + Sync, R: Threads + Wait + Sync>(
 }
 
 /// Relays all messages: one thread for each input puts its messages in their order, and each
-/// consumer takes messages in a thread of its own. Answers where each message ended up.
+/// consumer takes messages in a thread of its own. Returns where each message ended up.
 ///
 /// The promises hold if it returns. A container whose tags may rise to no more than twice the
 /// number of messages can refuse a put or a take for good; only then may messages stay unsent or
@@ -218,7 +218,7 @@ pub(crate) fn split_jobs<C: Container<Message>, T: Drop>(
     Some(jobs)
 }
 
-/// Takes the passes of workers that have ended back; answers their lists.
+/// Takes the passes of workers that have ended back; returns their lists.
 pub(crate) fn join_done<C: Container<Message>, T: Drop, E: Drop>(
     container: &C,
     root: &mut C::Root,

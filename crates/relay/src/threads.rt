@@ -17,13 +17,13 @@ use std::sync::Wait;
 use std::thread;
 use std::thread::{Promise, PromisedHandle, Scope, Threads};
 
-/// What a worker of either kind does in a thread of its own. Its answer is a parameter, since what
+/// What a worker of either kind does in a thread of its own. Its result is a parameter, since what
 /// a thread is started with may name no more than one associated type, and `Pool` has that.
 pub(crate) trait Works<C: Pool, Did> {
     /// When it can begin: by what it sees of the container, and its orders.
     ghost is_ready: { PoolView C.Pass → Orders → Self → Type 0 };
 
-    /// What it has done, by its answer.
+    /// What it has done, by its result.
     ghost did: { PoolView C.Pass → Orders → Self → Did → Type 0 };
 
     fn work<G: Gate, W: Wait>(self, rt: &W, site: &Site<C>, gate: &G) -> Did

@@ -16,7 +16,7 @@ use std::thread;
 pub(crate) enum ProducerEnd {
     /// All its messages were put.
     SentAll,
-    /// It closed the container, as it was told.
+    /// It closed the container, as planned.
     ClosedIt,
     /// It found the container closed.
     MetClosed,
@@ -27,9 +27,9 @@ pub(crate) enum ProducerEnd {
 /// How a consumer ended.
 #[derive(Clone, Copy, Debug, PartialEq, Eq)]
 pub(crate) enum ConsumerEnd {
-    /// It took as many messages as it was told.
+    /// It took as many messages as planned.
     TookEnough,
-    /// It shut the container, as it was told.
+    /// It shut the container, as planned.
     ShutIt,
     /// It found the container empty and closed.
     FoundClosed,
@@ -41,7 +41,7 @@ pub(crate) enum ConsumerEnd {
     NoRoom,
 }
 
-/// A container, and what its workers are told.
+/// A container, and what its workers are to do.
 #[derive(Drop)]
 pub(crate) struct Site<C: Drop> {
     pub(crate) container: C,
@@ -164,7 +164,7 @@ fn stopped<P>(pass: P, rest: VecDeque<Message>, end: ProducerEnd) -> Sent<P>
     Done { pass, list, end }
 }
 
-/// Does a consumer's part: takes messages, as many as it is told.
+/// Does a consumer's part: takes messages, as many as planned.
 pub(crate) fn receive<C: Pool, G: Gate, W: Wait>(
     rt: &W,
     site: &Site<C>,

@@ -1,8 +1,8 @@
 //! Waiting after a failed compare-and-swap, so that the thread that won keeps its cache lines.
 use std::hint;
 
-/// How often a call has lost. It is handed on by value, so that a call that loses no exchange keeps
-/// it in a register.
+/// How often a compare-and-swap of a call has failed. It is handed on by value, so that a call
+/// whose every compare-and-swap succeeds keeps it in a register.
 #[derive(Drop)]
 pub struct Pause {
     lost: u32,
@@ -15,8 +15,8 @@ impl Pause {
         Pause { lost: 0 }
     }
 
-    /// Waits, and answers the next wait. The first two are short: of two threads at a small
-    /// container each soon needs what the other takes or puts. A call that loses again keeps out of
+    /// Waits, and returns the next wait. The first two are short: of two threads at a small
+    /// container each soon needs what the other takes or puts. A call that fails again keeps out of
     /// the others' way.
     #[inline(never)]
     pub fn wait(self) -> Pause {

@@ -1,5 +1,5 @@
 //! Whole calls, for all machines: an operation is run until it answers, with a wait after each
-//! exchange that it has lost.
+//! compare-and-swap that failed.
 ghost use Rattle.bounded_model.specs.Stepping.{MatchStepped};
 
 use crate::pause::Pause;
@@ -24,8 +24,8 @@ pub trait Whole<C, P, A>: Sized {
             (λ next. is_under_way on.now call next)
             (λ back answer. gives on.now call back answer) };
 
-    /// The same for an operation that was just begun: its fast path, as it is made where
-    /// no exchange is lost.
+    /// The same for an operation that was just begun: its fast path, as it is made where no
+    /// compare-and-swap is lost.
     #[inline]
     fn straight(self, on: &C) -> Stepped<Self, P, A>
         requires { (call : Self.Call) × is_under_way on.now call self }
@@ -35,7 +35,7 @@ pub trait Whole<C, P, A>: Sized {
         self.run(on)
     }
 
-    /// Whether another was faster: an exchange was lost, or a word that was read has changed.
+    /// Whether another was faster: a compare-and-swap failed, or a word that was read has changed.
     fn has_lost(&self) -> bool;
 }
 
@@ -52,8 +52,8 @@ pub fn whole_call<R: Wait, C, P, A, O: Whole<C, P, A>>(rt: &R, on: &C, begun: O)
     }
 }
 
-// Runs an operation that is under way until it answers, with a wait after each exchange that it has
-// lost. A function of its own, so that the fast path is all that a caller's code has.
+// Runs an operation that is under way until it answers, with a wait after each compare-and-swap
+// that failed. A function of its own, so that the fast path is all that a caller's code has.
 #[inline(never)]
 fn run_on<R: Wait, C, P, A, O: Whole<C, P, A>>(rt: &R, on: &C, under_way: O) -> (P, A)
     requires { (call : O.Call) × O.is_under_way on.now call under_way }

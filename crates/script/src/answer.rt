@@ -1,4 +1,4 @@
-//! What a line of a script is answered, and the text of that.
+//! The reply to a line of a script, and its text.
 
 ghost use Rattle.std.specs.Prelude.{◌≡◌, ◌++◌, OnOk, string_bytes};
 ghost use Rattle.script.specs.AnswerTexts.{fold_text, range_text};
@@ -11,7 +11,7 @@ use bounded_model::{Reply, TakeRefused, Word};
 use std::alloc::AllocError;
 use std::fmt::Write;
 
-/// What a range of values is answered.
+/// The reply to a range of values.
 #[derive(Clone, Copy, Debug, PartialEq, Eq)]
 pub enum RangeReply {
     /// The number of the put, and how many values it put.
@@ -23,7 +23,7 @@ pub enum RangeReply {
     Spent(Word, u64),
 }
 
-/// What a line of a script is answered.
+/// The reply to a line of a script.
 #[derive(Drop)]
 pub enum Answer<'a> {
     /// The reply of a whole call.
@@ -58,7 +58,7 @@ impl<'a> Answer<'a> {
     ghost use Rattle.std.specs.Prelude.{◌≡◌, ◌++◌, codes, OnOk, string_bytes};
     ghost use Rattle.script.specs.AnswerTexts.{answer_text};
 
-    /// Adds the line that says the answer to a text.
+    /// Adds the reply, as a line, to a text.
     pub fn write_line(&self, output: &mut String) -> Result<(), AllocError>
         ensures { OnOk result (string_bytes output.new ≡ string_bytes output.old
             ++ (answer_text self.now ++ codes "\n")) }
@@ -67,7 +67,7 @@ impl<'a> Answer<'a> {
         output.push_str("\n")
     }
 
-    /// Adds the words that say the answer to a text.
+    /// Adds the words of the reply to a text.
     fn write(&self, output: &mut String) -> Result<(), AllocError>
         ensures { OnOk result (string_bytes output.new ≡ string_bytes output.old
             ++ answer_text self.now) }
@@ -105,7 +105,7 @@ fn write_reply(output: &mut String, reply: &Reply<Value<'_>>) -> Result<(), Allo
     write!(output, "{reply}")
 }
 
-/// Adds the words of a range's answer to a text.
+/// Adds the words of a range's reply to a text.
 fn write_range(
     output: &mut String,
     reply: RangeReply,
@@ -127,7 +127,7 @@ fn write_range(
     kept.write(output)
 }
 
-/// Adds the words of a fold's answer to a text, where `name` says which fold it was.
+/// Adds the words of a fold's reply to a text, where `name` says which fold it was.
 fn write_fold(
     output: &mut String,
     name: &str,

@@ -33,9 +33,9 @@ pub enum Act<'a> {
     Step(u16),
     /// As many of the values as there is room for are put at once.
     Range(Values<'a>),
-    /// All values are taken at once, and told from the top down.
+    /// All values are taken at once, and listed from the top down.
     Fold,
-    /// All values are taken at once, and told from the bottom up.
+    /// All values are taken at once, and listed from the bottom up.
     ReversedFold,
     /// The pass sees what the other has seen.
     Meet(PassName),

@@ -18,7 +18,7 @@ pub enum Top {
 pub struct Putting<T> {
     /// All values of the operation, the lowest first.
     pub values: LinkedList<T>,
-    /// The nodes in hand, the one taken last first. Each node is for one value, from the front of
+    /// The nodes held, the one taken last first. Each node is for one value, from the front of
     /// `values`, and is linked to the node taken before it.
     pub chain: LinkedList<u32>,
 }
@@ -59,7 +59,7 @@ pub enum Answer<T> {
 /// What is to be done with a chain of nodes whose values have been moved out: it is given to the
 /// free list, and then the operation answers.
 pub struct Giving<T> {
-    /// The nodes in hand, each linked to the next.
+    /// The nodes held, each linked to the next.
     pub chain: LinkedList<u32>,
     pub answer: Answer<T>,
 }
@@ -73,7 +73,7 @@ pub enum Line<T> {
     LoadFree(Putting<T>),
     /// Load the link of the free node.
     LoadFreeLink(Putting<T>, Fields),
-    /// Exchange `FREE` for the next free node.
+    /// Compare-and-swap `FREE` for the next free node.
     TakeFree(Putting<T>, Fields, u32),
     /// Link the node taken last to the one taken before it.
     LinkTaken(Putting<T>),
@@ -81,7 +81,7 @@ pub enum Line<T> {
     LoadTop(Putting<T>),
     /// Link the chain's last node to the top.
     LinkToTop(Putting<T>, Fields),
-    /// Exchange `TOP` for the chain's first node.
+    /// Compare-and-swap `TOP` for the chain's first node.
     SwapTop(Putting<T>, Fields),
     /// No node is free: load `TOP`, to say why nothing can be put.
     LoadTopToRefuse(LinkedList<T>),
@@ -89,9 +89,9 @@ pub enum Line<T> {
     LoadTopToTake(Taking),
     /// Load the link of the top node.
     LoadTopLink(Fields),
-    /// Exchange `TOP` for the node below it.
+    /// Compare-and-swap `TOP` for the node below it.
     TakeTop(Fields, u32),
-    /// Exchange `TOP` for null: the whole chain is in hand.
+    /// Compare-and-swap `TOP` for null: the whole chain is held.
     TakeChain(Direction, Fields),
     /// Load the link of a node of the chain, whose upper neighbour is the first index.
     LoadLinkToTurn(Giving<T>, u32, u32),
@@ -103,7 +103,7 @@ pub enum Line<T> {
     LoadFreeToGive(Giving<T>),
     /// Link the chain's last node to the free one.
     LinkToFree(Giving<T>, Fields),
-    /// Exchange `FREE` for the chain's first node.
+    /// Compare-and-swap `FREE` for the chain's first node.
     GiveBack(Giving<T>, Fields),
     /// Load `TOP`.
     LoadTopToClose,

@@ -70,7 +70,8 @@ fn put<R: Wait>(rt: &R, stack: &Stack<u64>, by: Pass<u64>, value: u64) -> Pass<u
     unreachable!()
 }
 
-// Puts three values by one exchange where there is room, and those that found none one by one.
+// Puts three values by one compare-and-swap where there is room, and those that found none one by
+// one.
 fn put_three<R: Wait>(rt: &R, stack: &Stack<u64>, by: Pass<u64>, first: u64) -> Pass<u64>
     requires { IsPassOf stack.now by }
     ensures { IsPassOf stack.now result }

@@ -40,9 +40,9 @@ pub fn queue_rule<T>()
 {}
 
 /// No cell and no node of a queue is used again while a pass holds it. Wherever the rule holds, and
-/// so in every schedule, each of them is in one place, and once: free, in the chain, or in the hand
-/// of one pass. And whatever cell or node a step brings into its pass's hand, no pass had it: a
-/// put's was free and not in the chain, a take's was in the chain, and no other step brings any.
+/// so in every schedule, each of them is in one place, and once: free, in the chain, or held by one
+/// pass. And whatever cell or node a step brings into its pass's hand, no pass had it: a put's was
+/// free and not in the chain, a take's was in the chain, and no other step brings any.
 pub fn queue_nodes<T>()
     ensures wherever_the_rule_holds { (n limit : ℕ) (s : State T) →
         MeetsRule n limit s → NothingTwice n s.memory (lines_of s) }
@@ -56,9 +56,10 @@ pub fn queue_nodes<T>()
 {}
 
 /// In every schedule of a queue, a call ends with an answer, each pass answers the call that it
-/// began, and the events that it adds from the begin to the answer are exactly those that the answer speaks of: a put takes one
-/// cell and puts the call's value, a take takes one value and gives its cell back, a refused put
-/// hands back the call's value, and a refusal leaves nothing in hand.
+/// began, and the events that it adds from the begin to the answer are exactly those that the
+/// answer speaks of: a put takes one cell and puts the call's value, a take takes one value and
+/// gives its cell back, a refused put hands back the call's value, and a refusal leaves nothing
+/// held.
 pub fn queue_answers<T>()
     ensures answered { (n limit passes : ℕ) (schedule : Schedule (Call T)) → 0 < n → n < NULL → 0 < limit →
         NoneUnanswered (after (queue (shape n limit)) passes schedule) }
@@ -67,9 +68,9 @@ pub fn queue_answers<T>()
         AllDone (after (queue (shape n limit)) passes schedule) }
 {}
 
-/// While no other pass wins an exchange, a queue's put, take, close, shut or look has ended after
-/// at most 32 of its own steps: from every state that meets the rule, wherever the call is in it;
-/// and so from every state that a schedule leads to.
+/// While no other pass's compare-and-swap succeeds, a queue's put, take, close, shut or look has
+/// ended after at most 32 of its own steps: from every state that meets the rule, wherever the call
+/// is in it; and so from every state that a schedule leads to.
 pub fn queue_bound<T>()
     ensures wherever_the_rule_holds { (n limit p : ℕ) (s : State T) (stretch : Schedule (Call T)) →
         MeetsRule n limit s → IsStretch (queue (shape n limit)) p stretch s →
@@ -87,9 +88,9 @@ pub fn queue_bound<T>()
 /// steps than the calls cost that they begin: a put 14 * P + 4, a take 12 * P + 5, a close 8 * P, a
 /// shut 6 * P - 4, a look 3.
 ///
-/// Of each single call: it has ended after at most 20 of its own steps, and 8 for each exchange that
-/// another pass wins meanwhile. So a step that wins nothing costs nobody else, and while no other
-/// pass wins an exchange, 20 steps are enough.
+/// Of each single call: it has ended after at most 20 of its own steps, and 8 for each
+/// compare-and-swap by which another pass succeeds meanwhile. So a step that does not succeed costs
+/// nobody else, and while no other pass's compare-and-swap succeeds, 20 steps are enough.
 pub fn queue_lock_free<T>()
     ensures wherever_the_rule_holds { (n limit others : ℕ) (s : State T) (schedule : Schedule (Call T)) →
         MeetsRule n limit s → AtOnce (queue (shape n limit)) (suc others) schedule s →
@@ -132,14 +133,15 @@ pub fn queue_order<T>()
         (gather took_of (after (queue (shape n limit)) passes schedule).history) }
 {}
 
-/// A queue is linearizable (Herlihy and Wing 1990). Into the history of invocations and responses of
-/// any schedule linearization points can be put, one for each operation that is completed and for
-/// some that are pending, each between its invocation and its response, so that in the order of
-/// their points the operations are a legal history of the bounded queue as a sequential object, with
-/// the answers that are given. A put, a take, a close and a shut take effect at the exchange that
-/// makes their event, a refusal and a look at a moment at which they are right. And the order of the
-/// points keeps real time: wherever such a history is cut, of each pass the operations that have
-/// taken effect are those that it has completed by then, or these and its pending one.
+/// A queue is linearizable (Herlihy and Wing 1990). Into the history of invocations and responses
+/// of any schedule linearization points can be put, one for each operation that is completed and
+/// for some that are pending, each between its invocation and its response, so that in the order of
+/// their points the operations are a legal history of the bounded queue as a sequential object,
+/// with the answers that are given. A put, a take, a close and a shut take effect at the
+/// compare-and-swap that makes their event, a refusal and a look at a moment at which they are
+/// right. And the order of the points keeps real time: wherever such a history is cut, of each pass
+/// the operations that have taken effect are those that it has completed by then, or these and its
+/// pending one.
 pub fn queue_linearizable<T>()
     ensures points { (n limit passes : ℕ) (schedule : Schedule (Call T)) → 0 < n → n < NULL → 0 < limit →
         Linearizable (queue (shape n limit)) answer (object n limit) passes schedule }

@@ -109,7 +109,7 @@ pub fn queue_exhibits()
     ensures stale_take_unlawful { StaleTakeUnlawful }
     ensures stale_take_not_linearizable { StaleTakeNotLinearizable }
     ensures full_of_hands_not_plain { FullOfHandsNotPlain }
-    // A near miss that is not lock-free: two passes make each other lose, round after round.
+    // A near miss that is not lock-free: two passes make each other fail, round after round.
     ensures starving_not_lock_free { StarvingNotLockFree }
     ensures starving_not_unhindered { StarvingNotUnhindered }
 {}

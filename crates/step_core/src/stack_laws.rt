@@ -39,9 +39,9 @@ pub fn stack_rule<T>()
 {}
 
 /// No node of a stack is used again while a pass holds it. Wherever the rule holds, and so in every
-/// schedule, each node is in one place, and once: free, on the stack, or in the hand of one pass.
-/// And whatever node a step brings into its pass's hand, no pass had it: a put's was free and not
-/// on the stack, a take's or a fold's was on the stack, and no other step brings any.
+/// schedule, each node is in one place, and once: free, on the stack, or held by one pass. And
+/// whatever node a step brings into its pass's hand, no pass had it: a put's was free and not on
+/// the stack, a take's or a fold's was on the stack, and no other step brings any.
 pub fn stack_nodes<T>()
     ensures wherever_the_rule_holds { (n limit : ℕ) (s : State T) →
         MeetsRule n limit s → NoNodeTwice n s.memory (lines_of s) }
@@ -55,12 +55,12 @@ pub fn stack_nodes<T>()
 {}
 
 /// In every schedule of a stack, a call ends with an answer, each pass answers the call that it
-/// began, and the events that it adds from the begin to the answer are exactly those that the answer speaks of: a put takes one
-/// node for each value that it puts, by one exchange, and what it puts and leaves over are the
-/// call's values in order; a take takes one value and gives its node back; a fold takes all values
-/// by one exchange, folds them in the call's direction, and gives all nodes back by one. A refused
-/// put hands back the call's values, and a refusal leaves nothing in hand. A range leaves values
-/// out only where no node could be had.
+/// began, and the events that it adds from the begin to the answer are exactly those that the
+/// answer speaks of: a put takes one node for each value that it puts, by one compare-and-swap, and
+/// what it puts and leaves over are the call's values in order; a take takes one value and gives
+/// its node back; a fold takes all values by one compare-and-swap, folds them in the call's
+/// direction, and gives all nodes back by one. A refused put hands back the call's values, and a
+/// refusal leaves nothing held. A range leaves values out only where no node could be had.
 pub fn stack_answers<T>()
     ensures answered { (n limit passes : ℕ) (schedule : Schedule (Call T)) → 0 < n → n ≤ NULL →
         NoneUnanswered (after (stack (shape n limit)) passes schedule) }
@@ -68,8 +68,9 @@ pub fn stack_answers<T>()
         AllDone (shape n limit) (after (stack (shape n limit)) passes schedule) }
 {}
 
-/// While no other pass wins an exchange, a stack's put of one value, take, close, shut or look has
-/// ended after at most 16 of its own steps: from every state, wherever the call is in it.
+/// While no other pass's compare-and-swap succeeds, a stack's put of one value, take, close, shut
+/// or look has ended after at most 16 of its own steps: from every state, wherever the call is in
+/// it.
 pub fn stack_bound<T>()
     ensures { (c : Shape) (p : ℕ) (s : State T) (stretch : Schedule (Call T)) →
         AtLine IsSingle (get_elem? s.passes p) → IsStretch (stack c) p stretch s →
@@ -86,9 +87,9 @@ pub fn stack_bound<T>()
 /// 7 * P - 1, a close or a shut 4 * P - 2, a look 1; a put of r values, up to n, (3 * r + 4) * P + r - 1,
 /// a fold downwards 7 * P + n - 2, one upwards 7 * P + 3 * n - 2.
 ///
-/// Of each single call: it has ended after at most 9 of its own steps, with ranges and folds
-/// 4 * n + 6, and 4 for each exchange that another pass wins meanwhile. So a step that wins nothing
-/// costs nobody else.
+/// Of each single call: it has ended after at most 9 of its own steps, with ranges and folds 4 * n
+/// + 6, and 4 for each compare-and-swap by which another pass succeeds meanwhile. So a step that
+/// does not succeed costs nobody else.
 pub fn stack_lock_free<T>()
     ensures wherever_the_rule_holds { (n limit others : ℕ) (s : State T) (schedule : Schedule (Call T)) →
         0 < n → MeetsRule n limit s → AtOnce (stack (shape n limit)) (suc others) schedule s →

@@ -64,7 +64,7 @@ pub fn stack_exhibits()
     ensures lost_take_unanswered { LostTakeUnanswered }
     ensures lost_take_not_linearizable { LostTakeNotLinearizable }
     ensures stale_take_not_linearizable { StaleTakeNotLinearizable }
-    // A near miss that is not lock-free: two passes make each other lose, round after round.
+    // A near miss that is not lock-free: two passes make each other fail, round after round.
     ensures starving_not_lock_free { StarvingNotLockFree }
     ensures starving_not_unhindered { StarvingNotUnhindered }
 {}

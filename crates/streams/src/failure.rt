@@ -15,7 +15,7 @@ use thiserror::Error;
 /// Why the program failed. The message is what the program prints behind its name.
 #[derive(Clone, Copy, Debug, PartialEq, Eq, Error)]
 pub enum Failure {
-    /// The words of the command line are not understood.
+    /// The arguments of the command line are refused.
     #[error("bad command line")]
     CommandLine,
     /// The script's file could not be opened.

@@ -15,7 +15,7 @@ use std::io::Read;
 
 /// Reads all readers, in order: reader `k`, counted from 0, gives the messages of sender `k`.
 ///
-/// The first reader whose bytes are no message file, or that fails, is told by its number from 1.
+/// `File` has the number, from 1, of the first reader whose bytes are no message file, or that fails.
 pub fn read_inputs<R: Read + Drop>(
     alloc: Global,
     readers: Vec<R>,

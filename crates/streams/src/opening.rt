@@ -1,4 +1,4 @@
-//! The files that the words name, opened.
+//! The files that the arguments name, opened.
 
 ghost use Rattle.std.specs.Prelude.{◌≡◌, ◌≢◌, ◌+◌, ◌≤◌, IfErr, IfNone, IfOk, IfSome, [], ◌∷◌, codes, count_by, length, map, string_bytes};
 ghost use Rattle.streams.specs.declared.failure.Failure.TheVariants.{Output};
@@ -10,7 +10,7 @@ use audit::ReadFault;
 use std::alloc::Global;
 use std::io::{self, Read};
 
-/// Opens the files that the words name.
+/// Opens the files that the arguments name.
 pub trait OpenFiles {
     /// A file open for reading.
     type File: Read + Drop;
@@ -39,8 +39,8 @@ pub fn open_source<F: OpenFiles, I: Read + Drop>(
     }
 }
 
-/// Opens the sources of these names, in order. `FileUnopened` tells the first that cannot be
-/// opened, or that names the standard input again, by its number from 1.
+/// Opens the sources of these names, in order. `FileUnopened` has the number, from 1,
+/// of the first that cannot be opened, or that names the standard input again.
 pub fn open_sources<F: OpenFiles, I: Read + Drop>(
     alloc: Global,
     files: &F,

@@ -1,7 +1,7 @@
-//! Tagged words: an index, two marks and a tag packed into one `u64`, so that one
-//! compare-and-exchange changes them together and a stale word is told from a fresh one
-//! by its tag (the cure for ABA of IBM System/370's Principles of Operation, used by
-//! Treiber 1986, Michael and Scott 1996 and Boost.Lockfree).
+//! Tagged words: an index, two marks and a tag packed into one `u64`, so that one compare-and-swap
+//! changes them together and a stale word is told from a fresh one by its tag (the cure for ABA of
+//! IBM System/370's Principles of Operation, used by Treiber 1986, Michael and Scott 1996 and
+//! Boost.Lockfree).
 //!
 //! Promised: every `u64` is a tagged word, a word's fields read back as they were put in,
 //! each change alters the fields that it names and keeps the others, and a tag never wraps:

@@ -1,5 +1,6 @@
-//! Folds: all values are taken by one exchange of the top, and handed to a function one after
-//! another on a walk along their chain; one more exchange gives the whole chain to the free list.
+//! Folds: all values are taken by one compare-and-swap of the top, and handed to a function one
+//! after another on a walk along their chain; one more compare-and-swap gives the whole chain to
+//! the free list.
 ghost use Rattle.std.specs.Prelude.{◌≡◌, ◌++◌, [], ◌∷◌, reverse, Some, None};
 ghost use Rattle.atomic_table.specs.Table.{rest};
 ghost use Rattle.bounded_model.specs.Bulk.{FoldsAll};
@@ -29,7 +30,7 @@ pub(crate) struct Walked<T, S> {
 }
 
 impl<T> Stack<T> {
-    /// Takes all values by one exchange, and folds them from the top down. Answers the last
+    /// Takes all values by one compare-and-swap, and folds them from the top down. Returns the last
     /// state; after a refusal, which is as that of a take, it is the one that was handed in. Called
     /// in `example_buffers`.
     pub fn fold_all_atomic<R: Wait, S, F: Fn(S, T) -> S + Drop>(
@@ -102,7 +103,7 @@ impl<T> Stack<T> {
         }
     }
 
-    // Takes the whole chain, and answers the top that it had.
+    // Takes the whole chain, and returns the top that it had.
     fn take_chain<R: Wait>(
         &self,
         rt: &R,
@@ -166,7 +167,7 @@ impl<T> Stack<T> {
         unreachable!()
     }
 
-    // Moves the value out of the front slot in hand, which goes behind the others.
+    // Moves the value out of the front slot held, which goes behind the others.
     #[inline]
     pub(crate) fn take_out(&self, by: &mut Pass<T>, index: u32) -> T
         requires table { by.old.seat.table_id ≡ self.now.table.shared.table_id }

@@ -11,7 +11,7 @@ use stack_table::layout::FREE_LIST;
 use std::sync::Wait;
 use tagged_index::Tagged;
 
-/// A chain of nodes in hand, each linked to the next: its first and its last.
+/// A chain of nodes held, each linked to the next: its first and its last.
 #[derive(Clone, Copy)]
 pub(crate) struct Chain {
     pub(crate) first: u32,
@@ -38,7 +38,7 @@ pub(crate) enum Give {
     Load,
     /// Link the last node to the free one.
     Link(Tagged),
-    /// Exchange `FREE` for the first node.
+    /// Compare-and-swap `FREE` for the first node.
     Exchange(Tagged),
 }
 

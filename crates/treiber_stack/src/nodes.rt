@@ -1,5 +1,5 @@
 //! What a put of one value and one of a range share: a node is taken from the free list, and nodes
-//! in hand go onto the top.
+//! held go onto the top.
 ghost use Rattle.stack_machine.specs.declared.lines.Putting.{Putting};
 ghost use Rattle.treiber_stack.specs.Nodes.{IsCollecting, TakesFree, IsPlacing, Places};
 ghost use Rattle.treiber_stack.specs.Stack.{begun_of};
@@ -59,7 +59,7 @@ impl<T> Stack<T> {
         unreachable!()
     }
 
-    /// Puts the nodes in hand onto the stack, and answers the put's number. The put has its effect
+    /// Puts the nodes held onto the stack, and returns the put's number. The put has its effect
     /// here.
     #[inline]
     pub(crate) fn place<R: Wait>(

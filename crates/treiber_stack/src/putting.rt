@@ -39,13 +39,13 @@ pub(crate) enum PutAt<T> {
     LoadFree(T),
     /// Load the link of the free node.
     Link(T, Tagged),
-    /// Exchange `FREE` for the next free node.
+    /// Compare-and-swap `FREE` for the next free node.
     Hold(T, Tagged, u32),
     /// Load `TOP`.
     Load(u32),
     /// Link the node to the top one.
     LinkTo(u32, Tagged),
-    /// Exchange `TOP` for the node.
+    /// Compare-and-swap `TOP` for the node.
     Exchange(u32, Tagged),
     /// No node is free: load `TOP`, to say why nothing can be put.
     Refuse(T),

@@ -1,5 +1,5 @@
-//! Putting a range of values by one exchange of the top. A node is taken for each value, from the
-//! front, until there is none for the next; each is linked to the one taken before it.
+//! Putting a range of values by one compare-and-swap of the top. A node is taken for each value,
+//! from the front, until there is none for the next; each is linked to the one taken before it.
 ghost use Rattle.std.specs.Prelude.{◌≡◌, ◌<◌, List, [], ◌∷◌, map, length, Some, None, IsSome, MatchOption};
 ghost use Rattle.std.specs.List.{AllByRecursion as Every};
 ghost use Rattle.atomic_table.specs.Table.{rest};
@@ -44,9 +44,9 @@ fn name_of<T>(values: &[Option<T>]) -> Option<Operation<T>>
 }
 
 impl<T> Stack<T> {
-    /// Puts as many values as nodes can be had, from the front, by one exchange; the last of them
-    /// is the new top, and their places are then `None`. A refusal leaves every place as it was:
-    /// `Nothing` for an empty range, else as that of a put. Called in `example_stack`.
+    /// Puts as many values as nodes can be had, from the front, by one compare-and-swap; the last
+    /// of them is the new top, and their places are then `None`. A refusal leaves every place as it
+    /// was: `Nothing` for an empty range, else as that of a put. Called in `example_stack`.
     pub fn put_range<R: Wait>(
         &self,
         rt: &R,

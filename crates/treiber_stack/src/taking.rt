@@ -29,7 +29,7 @@ pub(crate) enum TakeAt<T> {
     Load,
     /// Load the link of the top node.
     Link(Tagged),
-    /// Exchange `TOP` for the node below it.
+    /// Compare-and-swap `TOP` for the node below it.
     Exchange(Tagged, u32),
     /// Give the node back.
     GiveBack(Taken<T>, Give),

@@ -191,7 +191,7 @@ fn args_of(found: &ArgMatches<'_>) -> Option<RelayArgs>
 }
 
 impl RelayArgs {
-    /// What the relay's workers are told.
+    /// What the relay's workers are to do.
     pub fn plan(&self) -> Plan
         ensures { result ≡ plan_of self.now }
     {

@@ -1,4 +1,4 @@
-//! The words that the program understands, and its help.
+//! The arguments that the program understands, and its help.
 
 use clap::{Arg, ArgAction, Command, value_parser};
 use std::alloc::{AllocError, Global};
@@ -21,9 +21,9 @@ const ABOUT: &str = "Runs bounded lock-free containers: replays a script of call
 or relays the lines of files through one";
 
 const EXAMPLES: &str = "A container is a queue, from which the first value in comes out first, or a
-stack, from which the last value in comes out first. Without words, a script is
-read from standard input. `lockfree relay --help` and `lockfree replay --help`
-tell the rest.
+stack, from which the last value in comes out first. Without arguments, a script
+is read from standard input. For the rest see `lockfree relay --help` and
+`lockfree replay --help`.
 
 Examples:
   lockfree < script.txt
@@ -40,7 +40,7 @@ first.
 Example:
   printf 'stack 2 7\\na put x\\na put y\\na take\\n' | lockfree replay -
 
-is answered with
+prints
   put 0
   put 1
   take 2 y";
@@ -179,6 +179,6 @@ fn stats<'a>(alloc: Global) -> Arg<'a> {
         .long("stats")
         .action(ArgAction::SetTrue)
         .help(
-            "Tells on standard error how long it took, how many\nlines each consumer took, and how often the container\nwas full or empty",
+            "Writes on standard error how long it took, how many\nlines each consumer took, and how often the container\nwas full or empty",
         )
 }
