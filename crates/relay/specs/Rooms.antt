@@ -23,7 +23,7 @@ pub record IsThreadRoom {C Pass : Type 0} (producers consumers : ℕ) (r : Room 
   pub took : IsRoomFor consumers r.took
 
 -- room for so many workers, and for each consumer for `most` messages
-pub record IsWorkRoom {C Root Pass Rest : Type 0} (producers consumers most : ℕ) (r : WorkRoom C Root Pass Rest) : Type 0 where
+pub record IsWorkRoom {C Root Pass Note Rest : Type 0} (producers consumers most : ℕ) (r : WorkRoom C Root Pass Note Rest) : Type 0 where
   pub senders : IsRoomFor producers r.senders
   pub takers : IsRoomFor consumers r.takers
   pub consumers_are : vec_len r.taken ≡ consumers
