@@ -17,6 +17,8 @@ impl<'a, C: Ranges<'a>> Played<'a> for C {
 
     type Operation = Operation<C::PutOp, C::TakeOp, C::CloseOp, C::ShutOp, C::LookOp>;
 
+    type Note = <C as Container<Value<'a>>>::Note;
+
     type Rest = <C as Container<Value<'a>>>::Rest;
 
     ghost reading = { λ c. record {

@@ -22,6 +22,10 @@ pub trait Played<'a>: Drop {
 
     type Operation: Drop;
 
+    /// What its passes can tell. No line of a script asks for it, but an impl for all containers has
+    /// to name each type of theirs.
+    type Note: Drop;
+
     type Rest: Leaving<Value<'a>> + Drop;
 
     /// How its roots, passes and operations are read.
