@@ -5,6 +5,10 @@
 
 mod pipe;
 
+pub use program::{relay_main, replay};
+pub use streams::{ReplayFault, ToolFault};
+pub use words::{Chosen, Kind, RelayArgs, WordsRefused, read_words};
+
 use pipe::{Errors, Output};
 use program::run;
 use std::cell::Cell;
@@ -14,7 +18,8 @@ use std::rt::Files;
 use std::{env, fs};
 use streams::OpenFiles;
 
-/// How many bytes one write to standard output has, but for the last.
+/// How many bytes one write to standard output has, but for the last. Where there is no memory for
+/// them, each write goes out by itself.
 const OUTPUT_BUFFER: usize = 65_536;
 
 /// The files of the host, by their paths.
@@ -38,25 +43,24 @@ fn main(rt: HostRuntime) -> ExitCode {
     let is_read = Cell::new(true);
     let mut errors = Errors::new(rt.stderr(), &is_read);
     let output = Output::new(io::writer(&rt), &is_read);
-    let status = match BufWriter::with_capacity(alloc, OUTPUT_BUFFER, output) {
-        Ok(mut output) => run(
-            &rt,
-            alloc,
-            words,
-            &files,
-            rt.reader(),
-            &mut output,
-            &mut errors,
-        ),
-        Err(_) => run(
-            &rt,
-            alloc,
-            words,
-            &files,
-            rt.reader(),
-            &mut Output::new(io::writer(&rt), &is_read),
-            &mut errors,
-        ),
+    let mut output = match BufWriter::with_capacity(alloc, OUTPUT_BUFFER, output) {
+        Ok(output) => output,
+        Err(_) => {
+            let output = Output::new(io::writer(&rt), &is_read);
+            let Ok(output) = BufWriter::with_capacity(alloc, 0, output) else {
+                unreachable!()
+            };
+            output
+        }
     };
+    let status = run(
+        &rt,
+        alloc,
+        words,
+        &files,
+        rt.reader(),
+        &mut output,
+        &mut errors,
+    );
     ExitCode::from(status)
 }

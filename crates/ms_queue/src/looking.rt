@@ -1,7 +1,8 @@
 //! Looking whether a queue is empty, by steps.
 ghost use Rattle.std.specs.Prelude.{◌≡◌};
+ghost use Rattle.bounded_model.specs.Laws.{LookGives};
 ghost use Rattle.running.specs.Passes.{pass_in};
-ghost use Rattle.ms_queue.specs.Queue.{IsPassOf, begun_of};
+ghost use Rattle.ms_queue.specs.Queue.{IsPassOf, begun_of, shape_of};
 ghost use Rattle.ms_queue.specs.Looking.{IsLooking, IsLookingAt, LookStep};
 ghost use Rattle.ms_queue.specs.declared.looking.LookAt.TheVariants.{LoadHead, LoadNext, CheckHead};
 
@@ -9,7 +10,8 @@ use crate::queue::{Pass, Queue};
 use bounded_model::Stepped;
 use queue_table::Operation;
 use queue_table::layout::{HEAD, next};
-use running::load_tagged_step;
+use running::{load_tagged_step, whole_call};
+use std::sync::Wait;
 use tagged_index::{NULL, Tagged};
 
 /// A look that was begun.
@@ -31,6 +33,16 @@ pub(crate) enum LookAt {
 }
 
 impl<T> Queue<T> {
+    /// Whether the queue was empty at some time since its pass's last step before the call. It
+    /// retries while takes change the head. Called in `queue_tests`.
+    pub fn look<R: Wait>(&self, rt: &R, by: Pass<T>) -> (Pass<T>, bool)
+        requires { IsPassOf self.now by }
+        ensures of { IsPassOf self.now result.0 }
+        ensures gives { LookGives (shape_of self.now) (pass_in by) (pass_in result.0) result.1 }
+    {
+        whole_call(rt, self, self.begin_look(by))
+    }
+
     /// A look that makes no step yet. Begun and stepped in `player`, as `Stepwise` has it.
     #[inline]
     pub fn begin_look(&self, by: Pass<T>) -> LookOp<T>

@@ -13,7 +13,6 @@ use crate::queue::{Pass, Queue};
 use crate::shutting::ShutOp;
 use crate::taking::TakeOp;
 use bounded_model::{PutRefused, Stepped, Stepwise, TakeRefused};
-use running::whole_call;
 use std::sync::Wait;
 
 impl<T: Drop + Send> Stepwise<T> for Queue<T> {
@@ -101,6 +100,6 @@ impl<T: Drop + Send> Stepwise<T> for Queue<T> {
     }
 
     fn look<R: Wait>(&self, rt: &R, by: Pass<T>) -> (Pass<T>, bool) {
-        whole_call(rt, self, self.begin_look(by))
+        self.look(rt, by)
     }
 }

@@ -1,4 +1,4 @@
-//! Calls of a queue by single steps.
+//! Calls of a queue by single steps, and looks.
 
 ghost use Rattle.ms_queue.specs.Putting.{IsPutting};
 ghost use Rattle.ms_queue.specs.Taking.{IsTaking};
@@ -62,4 +62,18 @@ fn a_put_and_a_take_make_their_steps(rt: HostRuntime) {
     let Stepped::Done(_, Ok((7, 0))) = take.step(&queue) else {
         panic!(rt; "the take ended late")
     };
+}
+
+// What was put is seen at once by a look, which is the queue's own call too.
+#[test]
+fn a_look_finds_what_was_put(rt: HostRuntime) {
+    let limits = Limits::of(1, MAX_TAG).expect(&rt, "limits");
+    let (queue, mut root) = Queue::<u32>::new(rt.alloc(), limits).expect(&rt, "memory");
+    let pass = queue.split(&mut root).expect(&rt, "a pass");
+    let (pass, is_empty) = queue.look(&rt, pass);
+    assert!(rt; is_empty);
+    let (pass, put) = queue.put(&rt, pass, 7);
+    assert!(rt; put.is_ok());
+    let (_, is_empty) = queue.look(&rt, pass);
+    assert!(rt; !is_empty);
 }

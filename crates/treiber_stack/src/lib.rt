@@ -30,6 +30,7 @@ mod stack;
 mod stepwise;
 mod taking;
 
+pub use bounded_model::{Folded, RangeRefused, Ranged};
 pub use closing::{CloseOp, ShutOp};
 pub use places::stack_places;
 pub use putting::PutOp;

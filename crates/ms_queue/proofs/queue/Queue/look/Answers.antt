@@ -1,5 +1,5 @@
 use Rattle.running.specs.Passes.{pass_in}
-use Rattle.ms_queue.proofs.stepwise.QueueStepwise.look.Goals as goal
+use Rattle.ms_queue.proofs.queue.Queue.look.Goals as goal
 
 pub whole_call-requires : goal.whole_call-requires
 whole_call-requires g c = (pass_in c.args.by, (c.begin_look.ensures.0, c.begin_look.ensures.1))
