@@ -1,36 +1,68 @@
 //! Waiting after a failed compare-and-swap, so that the thread that won keeps its cache lines.
+ghost use Rattle.std.specs.Prelude.{◌≡◌, ◌≢◌, ◌<◌, ◌≤◌};
+ghost use Rattle.running.specs.declared.pause.TheConstants.{MOST_HINTS};
+
 use std::hint;
 
-/// How often a compare-and-swap of a call has failed. It is handed on by value, so that a call
+/// The most hints of the processor that one wait gives, which take some tens of microseconds.
+const MOST_HINTS: u32 = 5_120;
+
+/// How many hints of the processor the next wait gives. It is handed on by value, so that a call
 /// whose every compare-and-swap succeeds keeps it in a register.
 #[derive(Drop)]
 pub struct Pause {
-    lost: u32,
+    hints: u32,
+    ghost bounded: { hints ≤ MOST_HINTS },
 }
 
 impl Pause {
     /// Before the first wait.
     #[inline]
     pub fn first() -> Pause {
-        Pause { lost: 0 }
+        Pause { hints: 80 }
     }
 
-    /// Waits, and returns the next wait. The first two are short: of two threads at a small
-    /// container each soon needs what the other takes or puts. A call that fails again keeps out of
-    /// the others' way.
+    /// Waits, and returns the next wait, which is longer until the longest is reached. The first
+    /// two are short: of two threads at a small container each soon needs what the other takes or
+    /// puts. A call that fails again keeps out of the others' way.
     #[inline(never)]
-    pub fn wait(self) -> Pause {
-        let hints = match self.lost {
-            0 => 80u32,
-            1 => 160,
-            2 => 640,
-            _ => 5_120,
-        };
-        for _ in 0..hints {
-            hint::spin_loop();
+    pub fn wait(self) -> Pause
+        ensures grows { self.hints ≢ MOST_HINTS → self.hints < result.hints }
+    {
+        self.wait_by(hint::spin_loop)
+    }
+
+    #[inline]
+    fn wait_by<F: Fn()>(self, hint: F) -> Pause
+        requires { F.IsAlwaysCallable hint }
+        ensures grows { self.hints ≢ MOST_HINTS → self.hints < result.hints }
+    {
+        for _ in 0..self.hints {
+            hint();
         }
         Pause {
-            lost: self.lost.saturating_add(1),
+            hints: match self.hints {
+                80 => 160,
+                160 => 640,
+                _ => MOST_HINTS,
+            },
+        }
+    }
+}
+
+#[cfg(test)]
+mod tests {
+    use super::Pause;
+    use std::cell::Cell;
+
+    #[test]
+    fn waits_grow_to_the_longest(rt: HostRuntime) {
+        let given = Cell::new(0u32);
+        let mut pause = Pause::first();
+        for hints in [80u32, 160, 640, 5_120, 5_120] {
+            given.set(0);
+            pause = pause.wait_by(|| given.set(given.get().wrapping_add(1)));
+            assert_eq!(rt; given.get(), hints);
         }
     }
 }
