@@ -20,8 +20,9 @@ fn first_words(alloc: Global, capacity: u32) -> Result<Vec<u64>, AllocError>
     ensures { IfOk result (λ v. (length v.items ≡ words_for capacity)
         × ((k : ℕ) → k < words_for capacity → slice_index v.items k ≡ start_at capacity k)) }
 {
-    let mut words = Vec::new(alloc);
-    for at in 0..layout::words(capacity) {
+    let count = layout::words(capacity);
+    let mut words = Vec::with_capacity(alloc, count)?;
+    for at in 0..count {
         words.push(layout::start(capacity, at))?;
     }
     Ok(words)
