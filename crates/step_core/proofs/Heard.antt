@@ -1,9 +1,12 @@
 -- An operation with a response has taken effect while it was pending; for near misses.
-use Rattle.std.proofs.Common.{◌≡◌, ◌⊎◌, ℕ, List, [], ◌∷◌, ◌++◌, refl, sym, ap, ◌∙◌, subst, ⊎_elim, inl, inr, append_assoc, arith}
+use Rattle.std.proofs.Common.{◌≡◌, ◌⊎◌, ℕ, List, [], ◌∷◌, ◌++◌, length, refl, sym, ap, ◌∙◌, subst, ⊎_elim, inl, inr, append_assoc, length-append, arith}
 use Rattle.std.proofs.lemmas.Bool.Decides.{eqb_tells}
-use mathlib.Core.Option.{Option, some}
+use mathlib.Core.Option.{Option, none, some, some-injective, some-ne-none}
 use Rattle.bounded_model.specs.declared.history.Event.{Event}
+use Rattle.bounded_model.specs.declared.history.Event.TheVariants.{Hold, Put}
 use Rattle.bounded_model.specs.Histories.{Among}
+use Rattle.bounded_model.specs.Justified.{Sometime}
+use Rattle.bounded_model.specs.Machine.{state}
 use Rattle.bounded_model.proofs.Histories.{no_parts}
 use Rattle.step_core.specs.Linearizable.{Operation, Object, Entry, Invokes, Responds, Hand, Updates, Reads, Rests, Pending, TookEffect, without_points, events, stage, IsLinearization}
 use Rattle.step_core.proofs.Entries.{events-append, without_points-append}
@@ -16,6 +19,14 @@ pub among_left : {B : Type 0} (b : B) (xs ys : List B) → Among b xs → Among 
 among_left b [] ys there = absurd there
 among_left b (x ∷ xs) ys there = ⊎_elim (λ e. inl e) (λ t. inr (among_left b xs ys t)) there
 
+-- what held at some time between a history and itself holds of it
+pub at_once : {T : Type 0} (h : List (Event T)) (P : List (Event T) → Type 0) → Sometime h h P → P h
+at_once {T} h P s = subst P (itself s.until.more s.since.more s.at s.until.is s.since.is) s.holds
+  where
+    itself : (more less at : List (Event T)) → h ≡ more ++ at → at ≡ less ++ h → at ≡ h
+    itself [] less at until since = sym until
+    itself (e ∷ more) less at until since = absurd (omega (arith, ap length until, ap length since, length-append more at, length-append less h))
+
 module _ {T C A : Type 0} (o : Object T C A) where
   abbrev Course : Type 0
   Course = List (Entry T C A)
@@ -27,6 +38,12 @@ module _ {T C A : Type 0} (o : Object T C A) where
   still_there e (Updates k e') course there = inr there
   still_there e (Reads k) course there = there
 
+  -- an answer of a call is right after these events, or by one of those that come next
+  abbrev pub Right : ℕ → C → A → List (Event T) → List (Event T) → Type 0
+  Right p c a newer older =
+      let k : Operation C A = record { by = p; call = c; answer = a } in
+      (o.reads k older) ⊎ ((e : Event T) × (o.updates k e × Among e newer))
+
   -- an operation of pass p takes effect in a course, with this answer, while it is pending
   pub record Placed (p : ℕ) (answer : Option A) (course : Course) : Type 0 where
     pub k : Operation C A
@@ -34,7 +51,7 @@ module _ {T C A : Type 0} (o : Object T C A) where
     pub newer : Course
     pub older : Course
     pub is : course ≡ newer ++ older
-    pub right : (o.reads k (events older)) ⊎ ((e : Event T) × (o.updates k e × Among e (events newer)))
+    pub right : Right k.by k.call k.answer (events newer) (events older)
     pub waits : stage p older ≡ Pending k.call
     pub run : IsLinearization o older
 
@@ -92,6 +109,13 @@ module _ {T C A : Type 0} (o : Object T C A) where
   heard p x (Hand e ∷ course) r there = one_more (Hand e) course p x (heard p x course r.2 there)
   heard p x (Updates k e ∷ course) r there = one_more (Updates k e) course p x (heard p x course r.3 there)
   heard p x (Reads k ∷ course) r there = one_more (Reads k) course p x (heard p x course r.2 there)
+
+  -- so each response has an answer, and it is right
+  pub none_heard : (p : ℕ) (course : Course) → IsLinearization o course → Among (Responds p none) (without_points course) → ⊥
+  none_heard p course r there = let x = heard p none course r there in absurd (some-ne-none x.k.answer x.given)
+
+  pub right_as : (p : ℕ) (a : A) (course : Course) (x : Placed p (some a) course) → Right x.k.by x.k.call a (events x.newer) (events x.older)
+  right_as p a course x = subst (λ (b : A). Right x.k.by x.k.call b (events x.newer) (events x.older)) (some-injective x.k.answer a x.given) x.right
 
   -- a pending operation has its invocation
   record Asked (p : ℕ) (call : C) (course : Course) : Type 0 where
@@ -156,3 +180,35 @@ module _ {T C A : Type 0} (o : Object T C A) where
       cut (a ∷ b ∷ []) call zs e = cc
       cut (a ∷ b ∷ f ∷ []) call zs e = let zero_is : ◌≡◌ {A = ℕ} 0 1 = cc in absurd (omega (arith, zero_is))
       cut (a ∷ b ∷ f ∷ g ∷ more) call zs e = let none : more ++ Invokes 0 call ∷ zs ≡ [] = cc in let no : Invokes 0 call ∷ zs ≡ [] = (no_parts more (Invokes 0 call ∷ zs) none).1 in cc
+
+  -- Pass 1 has put the only value, and then pass 0 hears that there is none
+  module _ (v : T) (no_value put_done : A) where
+    abbrev pub one_value : List (Event T)
+    one_value = Put 1 (v ∷ []) 0 ∷ Hold 1 ∷ []
+
+    module _ (there : (state o.shape one_value).values ≡ v ∷ [])
+        (is_empty : (p : ℕ) (c : C) (newer older : List (Event T)) → Right p c no_value newer older → (state o.shape older).values ≡ [])
+        (was_put : (p : ℕ) (c : C) (newer older : List (Event T)) → Right p c put_done newer older → (vs : List T) × Among (Put p vs 0) newer) where
+      -- its put is the last of all events, so all were there
+      whole : (newer older : List (Event T)) (p : ℕ) (vs : List T) → newer ++ older ≡ one_value → Among (Put p vs 0) older → older ≡ one_value
+      whole [] older p vs e among = e
+      whole (a ∷ []) older p vs e among =
+          let is : older ≡ Hold 1 ∷ [] = cc in
+          absurd (⊎_elim (λ same. let no : Put p vs 0 ≡ Hold 1 = same in cc) (λ none. none) (subst (Among (Put p vs 0)) is among))
+      whole (a ∷ b ∷ more) older p vs e among =
+          let none : more ++ older ≡ [] = cc in
+          absurd (subst (Among (Put p vs 0)) (no_parts more older none).1 among)
+
+      pub stale : (take put : C) (course : Course) → IsLinearization o course → without_points course ≡ Responds 0 (some no_value) ∷ Invokes 0 take ∷ Responds 1 (some put_done) ∷ Invokes 1 put ∷ [] → events course ≡ one_value → ⊥
+      stale take put course r same_calls same_history =
+          let x = in_order (some no_value) (some put_done) take put course r same_calls in
+          let later = x.later in
+          let earlier = x.earlier in
+          let made = was_put earlier.k.by earlier.k.call (events earlier.newer) (events earlier.older) (right_as 1 put_done x.before earlier) in
+          let e : Event T = Put earlier.k.by made.0 0 in
+          let before : Among e (events x.before) = subst (Among e) (sym (ap events earlier.is ∙ events-append earlier.newer earlier.older)) (among_left e (events earlier.newer) (events earlier.older) made.1) in
+          let parts : events later.newer ++ events later.older ≡ one_value = sym (events-append later.newer later.older) ∙ ap events (sym later.is) ∙ same_history in
+          let all : events later.older ≡ one_value = whole (events later.newer) (events later.older) earlier.k.by made.0 parts (subst (Among e) (sym x.is) (among_right e x.since (events x.before) before)) in
+          let none = is_empty later.k.by later.k.call (events later.newer) (events later.older) (right_as 0 no_value course later) in
+          let no : v ∷ [] ≡ [] = sym there ∙ ap (λ (h : List (Event T)). (state o.shape h).values) (sym all) ∙ none in
+          cc

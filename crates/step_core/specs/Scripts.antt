@@ -1,5 +1,5 @@
 -- Scripts of calls and single steps of up to three passes, played by any machine.
-use Rattle.std.specs.Prelude.{◌≡◌, ℕ, zero, suc, cond, List, [], ◌∷◌, ◌++◌, map, set}
+use Rattle.std.specs.Prelude.{◌≡◌, ℕ, zero, suc, cond, List, [], ◌∷◌, ◌++◌, map, set, take}
 use mathlib.Core.Option.{Option, none, some}
 use lib.ListN.{get_elem?}
 use Rattle.machine.specs.Schedule.{Machine, Pass, State, Begin, Step, acts_at, start}
@@ -85,6 +85,6 @@ module _ {M L C A E : Type 0} (x : Player M L C A E) where
   abbrev pub Plays : List (Says C × Reply A) → Type 0
   Plays script = replies curtain (map (λ line. line.0) script) ≡ map (λ line. line.1) script
 
-  -- the first lines of a script get their replies, and then one gets this reply in place of its own
-  abbrev pub Fails : List (Says C × Reply A) → (Says C × Reply A) → Reply A → Type 0
-  Fails script line other = replies curtain (map (λ line. line.0) (script ++ line ∷ [])) ≡ map (λ line. line.1) script ++ other ∷ []
+  -- the first k lines of a script get their replies, and the next one gets this reply in place of its own
+  abbrev pub Fails : List (Says C × Reply A) → ℕ → Reply A → Type 0
+  Fails script k other = replies curtain (map (λ line. line.0) (take (suc k) script)) ≡ map (λ line. line.1) (take k script) ++ other ∷ []

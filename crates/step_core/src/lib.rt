@@ -1,8 +1,8 @@
 //! The laws of the pure machines, true of every schedule of any number of passes.
 //!
 //! The functions here make no step: the contract of each is a law, or, of `.._exhibits`, a list of
-//! played rows, and of wrong machines with a schedule in which each breaks a law. Nothing that runs
-//! stands on this crate.
+//! played rows, and of `.._near_misses`, of wrong machines with a schedule in which each breaks a
+//! law. Nothing that runs stands on this crate.
 #![tactic(auto)]
 
 mod list_laws;
@@ -18,9 +18,9 @@ pub use queue_laws::{
     queue_answers, queue_bound, queue_core, queue_linearizable, queue_lock_free, queue_nodes,
     queue_order, queue_rule,
 };
-pub use queue_shown::queue_exhibits;
+pub use queue_shown::{queue_exhibits, queue_near_misses};
 pub use stack_laws::{
     stack_answers, stack_bound, stack_core, stack_linearizable, stack_lock_free, stack_nodes,
     stack_rule,
 };
-pub use stack_shown::stack_exhibits;
+pub use stack_shown::{stack_exhibits, stack_near_misses};

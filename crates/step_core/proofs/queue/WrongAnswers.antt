@@ -12,8 +12,8 @@ use Rattle.queue_machine.specs.declared.lines.Call.{Call}
 use Rattle.queue_machine.specs.declared.lines.Call.TheVariants.{Put as CallPut, Shut as CallShut}
 use Rattle.queue_machine.specs.Machine.{Pass, ends}
 use Rattle.queue_machine.specs.Deeds.{Makes}
-use Rattle.step_core.specs.queue.Law.{HasAnswered}
-use Rattle.step_core.specs.queue.WrongAnswers.{ClosedInsteadUnlawful, HandedBackUnlawful, KeptCellUnlawful, PutAnotherUnlawful}
+use Rattle.step_core.specs.queue.Law.{HasAnswered, AllDone}
+use Rattle.step_core.specs.queue.WrongAnswers.{put_another, handed_back, kept_cell, closed_instead}
 
 -- what pass 0 makes of a call, which did nothing before it
 made : (v : Pass ℕ) (a : Answer ℕ) (call : Call ℕ) → v.call ≡ some call → own 0 v.begun ≡ [] → HasAnswered 0 v a → Makes 0 call a (own 0 v.seen)
@@ -35,7 +35,7 @@ value_put [] = 0
 value_put (Put p (v ∷ vs) k ∷ events) = v
 value_put (e ∷ events) = value_put events
 
-pub put_another-unlawful : PutAnotherUnlawful
+pub put_another-unlawful : ¬ AllDone put_another
 put_another-unlawful done =
     let same_value : 11 ≡ 10 = ap value_put (made has_put_another put_done (CallPut 10) refl refl (done 0 has_put_another put_done refl refl)) in
     absurd (omega (arith, same_value))
@@ -46,7 +46,7 @@ put_refused = AnswerPut (Err (Closed 11))
 abbrev was_refused : Pass ℕ
 was_refused = record { line = ends put_refused; call = some (CallPut 10); begun = Close 2 ∷ Hold 1 ∷ []; seen = Close 2 ∷ Hold 1 ∷ [] }
 
-pub handed_back-unlawful : HandedBackUnlawful
+pub handed_back-unlawful : ¬ AllDone handed_back
 handed_back-unlawful done = absurd (omega (arith, (made was_refused put_refused (CallPut 10) refl refl (done 0 was_refused put_refused refl refl)).0))
 
 abbrev put_closed : Answer ℕ
@@ -55,7 +55,7 @@ put_closed = AnswerPut (Err (Closed 10))
 abbrev has_kept : Pass ℕ
 has_kept = record { line = ends put_closed; call = some (CallPut 10); begun = Close 1 ∷ []; seen = Hold 0 ∷ Close 1 ∷ [] }
 
-pub kept_cell-unlawful : KeptCellUnlawful
+pub kept_cell-unlawful : ¬ AllDone kept_cell
 kept_cell-unlawful done = ⊎_elim (λ e. absurd (omega (arith, ap length e))) (λ e. absurd (omega (arith, ap length e))) (made has_kept put_closed (CallPut 10) refl refl (done 0 has_kept put_closed refl refl)).1
 
 abbrev closed_it : Answer ℕ
@@ -64,5 +64,5 @@ closed_it = AnswerClose true
 abbrev has_closed : Pass ℕ
 has_closed = record { line = ends closed_it; call = some CallShut; begun = []; seen = Close 0 ∷ [] }
 
-pub closed_instead-unlawful : ClosedInsteadUnlawful
+pub closed_instead-unlawful : ¬ AllDone closed_instead
 closed_instead-unlawful done = made has_closed closed_it CallShut refl refl (done 0 has_closed closed_it refl refl)

@@ -1,5 +1,5 @@
 -- Who plays the scripts of the queue, and the calls and answers that they speak of.
-use Rattle.std.specs.Prelude.{ℕ, Some, Ok, Err}
+use Rattle.std.specs.Prelude.{ℕ, List, Some, Ok, Err}
 use mathlib.Core.Option.{Option, none, some}
 use Rattle.bounded_model.specs.declared.answers.Word.TheVariants.{Cells as CellsWord, Next as NextWord}
 use Rattle.bounded_model.specs.declared.answers.PutRefused.TheVariants.{Full, Closed as PutClosed, Spent as PutSpent}
@@ -15,7 +15,9 @@ use Rattle.queue_machine.specs.declared.lines.Line.{Line}
 use Rattle.queue_machine.specs.declared.lines.Line.TheVariants.{Idle}
 use Rattle.queue_machine.specs.Machine.{Memory, Outcome, queue}
 use Rattle.step_core.specs.queue.Law.{values_left}
-use Rattle.step_core.specs.Scripts.{Player}
+use Rattle.queue_machine.specs.Answers.{shape}
+use Rattle.step_core.specs.Scripts.{Player, Says, Reply}
+use Rattle.step_core.specs.Scripts as scripts
 
 -- machines over the queue's words and lines, for each shape
 abbrev pub Machines : Type 0
@@ -45,6 +47,20 @@ player machine s = record {
 
 abbrev pub plays : Shape → Players
 plays s = player (λ shape. queue shape) s
+
+-- a script for a queue of this shape, each line with its reply
+abbrev pub Row : Type 0
+Row = Shape × List (Says (Call ℕ) × Reply (Answer ℕ))
+
+abbrev pub row : ℕ → ℕ → List (Says (Call ℕ) × Reply (Answer ℕ)) → Row
+row n limit script = (shape n limit, script)
+
+-- the queue plays a row, and the machine with these steps its first k lines alone
+abbrev pub Plays : Row → Type 0
+Plays row = scripts.Plays (plays row.0) row.1
+
+abbrev pub Fails : Moves → Row → ℕ → Reply (Answer ℕ) → Type 0
+Fails moves row k other = scripts.Fails (player (queue_with moves) row.0) row.1 k other
 
 -- calls
 abbrev pub put : ℕ → Call ℕ

@@ -1,86 +1,39 @@
 -- The order of the tests at each line matters, and so does each comparison: with another one, a script
 -- gets another reply.
-use Rattle.std.specs.Prelude.{◌==◌, ◌&&◌, leb, if◌then◌else◌, true, false, [], ◌∷◌}
-use Rattle.bounded_model.specs.declared.answers.TakeRefused.TheVariants.{Empty, Closed, Shut}
+use Rattle.std.specs.Prelude.{◌==◌, ◌&&◌, leb, if◌then◌else◌, true}
+use Rattle.bounded_model.specs.declared.answers.TakeRefused.TheVariants.{Empty, Shut}
 use Rattle.queue_machine.specs.declared.lines.Answer.TheVariants.{Close, Shut as ShutAnswer, Look}
-use Rattle.queue_machine.specs.declared.lines.Call.TheVariants.{Close as CloseCall, Shut as ShutCall, Look as LookCall}
 use Rattle.tagged_index.specs.declared.word.TheConstants.{NULL}
 use Rattle.machine.specs.Words.{same}
 use Rattle.queue_machine.specs.declared.lines.Seeking.TheVariants.{ToRefuse}
 use Rattle.queue_machine.specs.declared.lines.Line.TheVariants.{LoadCells, LoadNext, PrepareNext, LoadTail, CheckTail, SwingTail, LoadHead, LoadTailToTake, CheckHead, SwingTailToTake, TakeHead, CheckHeadToLook, MarkNext, LoadHeadToShut, ShutHead}
 use Rattle.queue_machine.specs.Machine.{step, goes_on, wins_value, ends, found_cells, found_back, back_null, back_closed, found_front}
-use Rattle.step_core.specs.Scripts.{Fails, calls, begins, steps, answers, again, ended}
-use Rattle.queue_machine.specs.Answers.{shape}
-use Rattle.step_core.specs.Letters.{a, b, c, v, w, x, y, z}
-use Rattle.step_core.specs.queue.Cast.{Moves, queue_with, player, put, take, put_is, full, put_closed, cells_spent, next_spent, take_is, no_take}
+use Rattle.step_core.specs.queue.Cast.{Moves, cells_spent, no_take}
 
 -- a put that looks at the limit before it looks for a free cell
 abbrev pub limit_first : Moves
 limit_first s m p (LoadCells value) = goes_on m (if leb s.limit m.cells.tag then ends (cells_spent m.cells.tag value) else found_cells s.limit value m.cells)
 limit_first s m p l = step s m p l
 
-abbrev pub LimitFirstFails : Type 0
-LimitFirstFails = Fails (player (queue_with limit_first) (shape 2 2))
-    ((calls a (put x), answers (put_is 0))
-    ∷ (calls a (put y), answers (put_is 1))
-    ∷ [])
-    (calls a (put z), answers (full z)) (answers (cells_spent 2 z))
-
 -- a put that goes to see whether the queue is closed before it refuses at the limit
 abbrev pub closed_first : Moves
 closed_first s m p (LoadCells value) = goes_on m (if leb s.limit m.cells.tag then LoadTail (ToRefuse value) else found_cells s.limit value m.cells)
 closed_first s m p l = step s m p l
-
-abbrev pub ClosedFirstFails : Type 0
-ClosedFirstFails = Fails (player (queue_with closed_first) (shape 2 2))
-    ((calls a (put x), answers (put_is 0))
-    ∷ (calls a (put y), answers (put_is 1))
-    ∷ (calls a take, answers (take_is 0 x))
-    ∷ (calls a CloseCall, answers (Close true))
-    ∷ [])
-    (calls a (put z), answers (cells_spent 2 z)) (answers (put_closed z))
 
 -- a put that prepares its link whatever its tag
 abbrev pub next_limit_last : Moves
 next_limit_last s m p (LoadNext link) = goes_on m (PrepareNext link (m.next link.node))
 next_limit_last s m p l = step s m p l
 
-abbrev pub NextLimitLastFails : Type 0
-NextLimitLastFails = Fails (player (queue_with next_limit_last) (shape 1 3))
-    ((calls a (put v), answers (put_is 0))
-    ∷ (calls a take, answers (take_is 0 v))
-    ∷ (calls a (put w), answers (put_is 1))
-    ∷ (calls a take, answers (take_is 1 w))
-    ∷ (calls b CloseCall, answers (Close true))
-    ∷ [])
-    (begins a (put x) 20, ended (next_spent 1 2 x) 14) (ended (put_closed x) 18)
-
 -- who comes to the end of the chain takes null for open before looking at the mark
 abbrev pub null_before_mark : Moves
 null_before_mark s m p (CheckTail seek w n) = goes_on m (if same m.tail w then (if n.index == NULL then back_null seek w n else found_back seek w n) else LoadTail seek)
 null_before_mark s m p l = step s m p l
 
-abbrev pub NullBeforeMarkFails : Type 0
-NullBeforeMarkFails = Fails (player (queue_with null_before_mark) (shape 1 7))
-    ((calls a (put x), answers (put_is 0))
-    ∷ (calls a CloseCall, answers (Close true))
-    ∷ [])
-    (calls a (put y), answers (put_closed y)) (answers (full y))
-
 -- and looks at the mark before comparing with the tail
 abbrev pub link_before_tail : Moves
 link_before_tail s m p (CheckTail seek w n) = goes_on m (if n.mark then back_closed seek else if same m.tail w then found_back seek w n else LoadTail seek)
 link_before_tail s m p l = step s m p l
-
-abbrev pub LinkBeforeTailFails : Type 0
-LinkBeforeTailFails = Fails (player (queue_with link_before_tail) (shape 2 9))
-    ((begins a CloseCall 1, again 1)
-    ∷ (calls b (put x), answers (put_is 0))
-    ∷ (calls b take, answers (take_is 0 x))
-    ∷ (calls b (put y), answers (put_is 1))
-    ∷ (calls b CloseCall, answers (Close true))
-    ∷ [])
-    (steps a 2, again 3) (ended (Close false) 3)
 
 -- and takes null for the end before comparing with the tail: a close marks a node that another put has
 -- in hand
@@ -88,27 +41,10 @@ abbrev pub null_before_tail : Moves
 null_before_tail s m p (CheckTail seek w n) = goes_on m (if n.mark then back_closed seek else if n.index == NULL then back_null seek w n else if same m.tail w then found_back seek w n else LoadTail seek)
 null_before_tail s m p l = step s m p l
 
-abbrev pub NullBeforeTailFails : Type 0
-NullBeforeTailFails = Fails (player (queue_with null_before_tail) (shape 2 9))
-    ((begins a CloseCall 1, again 1)
-    ∷ (calls b (put x), answers (put_is 0))
-    ∷ (calls b take, answers (take_is 0 x))
-    ∷ (begins c (put y) 9, again 9)
-    ∷ (steps a 2, again 3)
-    ∷ [])
-    (steps a 20, ended (Close true) 7) (ended (Close true) 4)
-
 -- and moves the tail on before comparing with it: it makes an exchange that can only lose
 abbrev pub node_before_tail : Moves
 node_before_tail s m p (CheckTail seek w n) = goes_on m (if n.index == NULL then (if same m.tail w then found_back seek w n else LoadTail seek) else SwingTail seek w n)
 node_before_tail s m p l = step s m p l
-
-abbrev pub NodeBeforeTailFails : Type 0
-NodeBeforeTailFails = Fails (player (queue_with node_before_tail) (shape 2 9))
-    ((begins a CloseCall 1, again 1)
-    ∷ (calls b (put x), answers (put_is 0))
-    ∷ [])
-    (steps a 20, ended (Close true) 7) (ended (Close true) 8)
 
 -- a take that looks whether the queue is shut when it has found a value
 abbrev pub shut_last : Moves
@@ -116,36 +52,15 @@ shut_last s m p LoadHead = goes_on m (LoadTailToTake m.head)
 shut_last s m p (CheckHead h w n) = goes_on m (if same m.head h then (if n.index == NULL then found_front h w n else if h.second then ends (no_take Shut) else found_front h w n) else LoadHead)
 shut_last s m p l = step s m p l
 
-abbrev pub ShutLastFails : Type 0
-ShutLastFails = Fails (player (queue_with shut_last) (shape 1 7))
-    ((calls a ShutCall, answers (ShutAnswer true))
-    ∷ [])
-    (calls a take, answers (no_take Shut)) (answers (no_take Empty))
-
 -- a take that takes null for empty before looking at the mark
 abbrev pub empty_before_closed : Moves
 empty_before_closed s m p (CheckHead h w n) = goes_on m (if same m.head h then (if n.index == NULL then ends (no_take Empty) else found_front h w n) else LoadHead)
 empty_before_closed s m p l = step s m p l
 
-abbrev pub EmptyBeforeClosedFails : Type 0
-EmptyBeforeClosedFails = Fails (player (queue_with empty_before_closed) (shape 1 7))
-    ((calls a CloseCall, answers (Close true))
-    ∷ [])
-    (calls a take, answers (no_take Closed)) (answers (no_take Empty))
-
 -- a take that looks for null before comparing with the head
 abbrev pub link_before_head : Moves
 link_before_head s m p (CheckHead h w n) = goes_on m (if n.index == NULL then found_front h w n else if same m.head h then found_front h w n else LoadHead)
 link_before_head s m p l = step s m p l
-
-abbrev pub LinkBeforeHeadFails : Type 0
-LinkBeforeHeadFails = Fails (player (queue_with link_before_head) (shape 2 9))
-    ((begins a take 1, again 1)
-    ∷ (calls b (put x), answers (put_is 0))
-    ∷ (calls b take, answers (take_is 0 x))
-    ∷ (begins c (put y) 9, again 9)
-    ∷ [])
-    (steps a 3, again 4) (ended (no_take Empty) 4)
 
 -- and one that looks at the mark before comparing with the head: it answers closed, although a value is
 -- there
@@ -153,25 +68,10 @@ abbrev pub mark_before_head : Moves
 mark_before_head s m p (CheckHead h w n) = goes_on m (if n.mark then found_front h w n else if same m.head h then found_front h w n else LoadHead)
 mark_before_head s m p l = step s m p l
 
-abbrev pub MarkBeforeHeadFails : Type 0
-MarkBeforeHeadFails = Fails (player (queue_with mark_before_head) (shape 2 9))
-    ((begins a take 1, again 1)
-    ∷ (calls b (put x), answers (put_is 0))
-    ∷ (calls b take, answers (take_is 0 x))
-    ∷ (calls b (put y), answers (put_is 1))
-    ∷ (calls b CloseCall, answers (Close true))
-    ∷ [])
-    (steps a 3, again 4) (ended (no_take Closed) 4)
-
 -- a take that looks where the tail is before it looks for null: it moves the tail to no node
 abbrev pub tail_before_null : Moves
 tail_before_null s m p (CheckHead h w n) = goes_on m (if same m.head h then (if w.index == h.index then SwingTailToTake w n else found_front h w n) else LoadHead)
 tail_before_null s m p l = step s m p l
-
-abbrev pub TailBeforeNullFails : Type 0
-TailBeforeNullFails = Fails (player (queue_with tail_before_null) (shape 1 15))
-    []
-    (begins a take 4, ended (no_take Empty) 4) (again 4)
 
 -- a take that looks where the tail was before it compares with the head: it makes an exchange that can
 -- only lose
@@ -179,41 +79,15 @@ abbrev pub tail_before_head : Moves
 tail_before_head s m p (CheckHead h w n) = goes_on m (if n.index == NULL then (if same m.head h then found_front h w n else LoadHead) else if w.index == h.index then SwingTailToTake w n else if same m.head h then found_front h w n else LoadHead)
 tail_before_head s m p l = step s m p l
 
-abbrev pub TailBeforeHeadFails : Type 0
-TailBeforeHeadFails = Fails (player (queue_with tail_before_head) (shape 2 9))
-    ((begins c (put x) 13, again 13)
-    ∷ (begins a take 3, again 3)
-    ∷ (calls b take, answers (take_is 0 x))
-    ∷ [])
-    (steps a 20, ended (no_take Empty) 8) (ended (no_take Empty) 9)
-
 -- a look that answers without comparing with the head
 abbrev pub link_before_answer : Moves
 link_before_answer s m p (CheckHeadToLook h n) = goes_on m (ends (Look (n.index == NULL)))
 link_before_answer s m p l = step s m p l
 
-abbrev pub LinkBeforeAnswerFails : Type 0
-LinkBeforeAnswerFails = Fails (player (queue_with link_before_answer) (shape 2 9))
-    ((begins a LookCall 1, again 1)
-    ∷ (calls b (put x), answers (put_is 0))
-    ∷ (calls b take, answers (take_is 0 x))
-    ∷ [])
-    (steps a 2, again 3) (ended (Look false) 3)
-
 -- an exchange of the head that compares the index and the tag and no mark: a take wins against a shut
 abbrev pub mark_overlooked : Moves
 mark_overlooked s m p (TakeHead h n k) = if m.head.index == h.index && m.head.tag == h.tag then wins_value m p h n k (m.home k) else goes_on m LoadHead
 mark_overlooked s m p l = step s m p l
-
-abbrev pub MarkOverlookedFails : Type 0
-MarkOverlookedFails = Fails (player (queue_with mark_overlooked) (shape 2 7))
-    ((calls a (put x), answers (put_is 0))
-    ∷ (calls a (put y), answers (put_is 1))
-    ∷ (begins b take 5, again 5)
-    ∷ (calls a ShutCall, answers (ShutAnswer true))
-    ∷ (steps b 1, again 6)
-    ∷ [])
-    (steps b 20, ended (no_take Shut) 7) (ended (take_is 0 x) 12)
 
 -- a close and a shut that answer although their mark was lost
 abbrev pub marks_anyway : Moves
@@ -221,28 +95,7 @@ marks_anyway s m p (MarkNext w n) = if same (m.next w.index) n then step s m p (
 marks_anyway s m p (ShutHead h) = if same m.head h then step s m p (ShutHead h) else goes_on m (ends (ShutAnswer true))
 marks_anyway s m p l = step s m p l
 
-abbrev pub MarksAnywayCloses : Type 0
-MarksAnywayCloses = Fails (player (queue_with marks_anyway) (shape 2 7))
-    ((begins a CloseCall 3, again 3)
-    ∷ (calls b (put x), answers (put_is 0))
-    ∷ [])
-    (steps a 20, ended (Close true) 8) (ended (Close true) 4)
-
-abbrev pub MarksAnywayShuts : Type 0
-MarksAnywayShuts = Fails (player (queue_with marks_anyway) (shape 2 7))
-    ((begins a ShutCall 1, again 1)
-    ∷ (calls b ShutCall, answers (ShutAnswer true))
-    ∷ [])
-    (steps a 9, ended (ShutAnswer false) 3) (ended (ShutAnswer true) 2)
-
 -- a shut whose exchange compares no second mark: two passes have shut the queue
 abbrev pub second_overlooked : Moves
 second_overlooked s m p (ShutHead h) = if m.head.index == h.index && m.head.tag == h.tag then step s (record m { head = h }) p (ShutHead h) else goes_on m LoadHeadToShut
 second_overlooked s m p l = step s m p l
-
-abbrev pub SecondOverlookedFails : Type 0
-SecondOverlookedFails = Fails (player (queue_with second_overlooked) (shape 2 7))
-    ((begins a ShutCall 1, again 1)
-    ∷ (calls b ShutCall, answers (ShutAnswer true))
-    ∷ [])
-    (steps a 9, ended (ShutAnswer false) 3) (ended (ShutAnswer true) 2)

@@ -12,14 +12,9 @@ use Rattle.queue_machine.specs.declared.lines.Line.{Line}
 use Rattle.queue_machine.specs.declared.lines.Line.TheVariants.{LoadTail, CheckTail, LinkNext, SwingToLinked}
 use Rattle.queue_machine.specs.Machine.{State, queue, starts, step, goes_on, wins, after_link_of, ends}
 use Rattle.queue_machine.specs.Answers.{shape}
-use Rattle.machine.specs.Schedule.{run, start}
+use Rattle.machine.specs.Schedule.{after}
 use Rattle.step_core.specs.Acts.{begins}
-use Rattle.step_core.specs.queue.Law.{AllDone}
 use Rattle.step_core.specs.queue.Cast.{Machines, Moves, queue_with}
-
--- a queue of one cell and one pass, which does so
-abbrev pub called : Machines → Call ℕ → ℕ → State ℕ
-called machine call count = run (machine (shape 1 15)) (begins 0 call count) (start (machine (shape 1 15)) 1)
 
 -- A put that puts another value than its own
 abbrev pub puts_another : Moves
@@ -30,10 +25,7 @@ puts_another s m p (LinkNext link w n) =
 puts_another s m p l = step s m p l
 
 abbrev pub put_another : State ℕ
-put_another = called (queue_with puts_another) (CallPut 10) 14
-
-abbrev pub PutAnotherUnlawful : Type 0
-PutAnotherUnlawful = ¬ AllDone put_another
+put_another = after (queue_with puts_another (shape 1 15)) 1 (begins 0 (CallPut 10) 14)
 
 -- A put that is refused hands back another value
 abbrev pub hands_back_another : Moves
@@ -42,10 +34,7 @@ hands_back_another s m p l = step s m p l
 
 -- pass 1 has taken the only cell and stopped, and pass 2 has closed the queue
 abbrev pub handed_back : State ℕ
-handed_back = run (queue_with hands_back_another (shape 1 15)) (begins 1 (CallPut 12) 3 ++ begins 2 CallClose 4 ++ begins 0 (CallPut 10) 4) (start (queue_with hands_back_another (shape 1 15)) 3)
-
-abbrev pub HandedBackUnlawful : Type 0
-HandedBackUnlawful = ¬ AllDone handed_back
+handed_back = after (queue_with hands_back_another (shape 1 15)) 3 (begins 1 (CallPut 12) 3 ++ begins 2 CallClose 4 ++ begins 0 (CallPut 10) 4)
 
 -- A refused put keeps its cell: its answer comes before the cell goes back
 abbrev pub keeps_cell : Moves
@@ -54,10 +43,7 @@ keeps_cell s m p (CheckTail (ToLink link) w n) =
 keeps_cell s m p l = step s m p l
 
 abbrev pub kept_cell : State ℕ
-kept_cell = run (queue_with keeps_cell (shape 1 15)) (begins 1 CallClose 4 ++ begins 0 (CallPut 10) 12) (start (queue_with keeps_cell (shape 1 15)) 2)
-
-abbrev pub KeptCellUnlawful : Type 0
-KeptCellUnlawful = ¬ AllDone kept_cell
+kept_cell = after (queue_with keeps_cell (shape 1 15)) 2 (begins 1 CallClose 4 ++ begins 0 (CallPut 10) 12)
 
 -- A shut that begins as a close: the queue is closed, and the answer is one of a close
 abbrev pub shuts_by_closing : Machines
@@ -68,7 +54,4 @@ shuts_by_closing s = record (queue s) { starts = λ call l. begins_at call }
     begins_at call = starts call
 
 abbrev pub closed_instead : State ℕ
-closed_instead = called shuts_by_closing CallShut 4
-
-abbrev pub ClosedInsteadUnlawful : Type 0
-ClosedInsteadUnlawful = ¬ AllDone closed_instead
+closed_instead = after (shuts_by_closing (shape 1 15)) 1 (begins 0 CallShut 4)

@@ -17,7 +17,9 @@ use Rattle.stack_machine.specs.declared.lines.Call.TheVariants.{Put as PutCall, 
 use Rattle.stack_machine.specs.declared.lines.Line.{Line}
 use Rattle.stack_machine.specs.declared.lines.Line.TheVariants.{Idle}
 use Rattle.stack_machine.specs.Machine.{Memory, Outcome, stack}
-use Rattle.step_core.specs.Scripts.{Player}
+use Rattle.stack_machine.specs.Answers.{shape}
+use Rattle.step_core.specs.Scripts.{Player, Says, Reply}
+use Rattle.step_core.specs.Scripts as scripts
 
 -- machines over the stack's words and lines, for each shape
 abbrev pub Machines : Type 0
@@ -43,6 +45,20 @@ player machine s = record { machine = machine s; answer = answer; left = λ m. v
 
 abbrev pub plays : Shape → Players
 plays s = player (λ shape. stack shape) s
+
+-- a script for a stack of this shape, each line with its reply
+abbrev pub Row : Type 0
+Row = Shape × List (Says (Call ℕ) × Reply (Answer ℕ))
+
+abbrev pub row : ℕ → ℕ → List (Says (Call ℕ) × Reply (Answer ℕ)) → Row
+row n limit script = (shape n limit, script)
+
+-- the stack plays a row, and the machine with these steps its first k lines alone
+abbrev pub Plays : Row → Type 0
+Plays row = scripts.Plays (plays row.0) row.1
+
+abbrev pub Fails : Moves → Row → ℕ → Reply (Answer ℕ) → Type 0
+Fails moves row k other = scripts.Fails (player (stack_with moves) row.0) row.1 k other
 
 -- calls
 abbrev pub put : ℕ → Call ℕ

@@ -13,7 +13,7 @@ use Rattle.machine.specs.Seen.{Knows}
 use Rattle.stack_machine.specs.Answers.{shape, state, IsRight}
 use Rattle.stack_machine.specs.Deeds.{HasDone}
 use Rattle.stack_machine.specs.Machine.{Pass, State, is_idle, held}
-use Rattle.stack_machine.specs.Rule.{Lists, Good}
+use Rattle.stack_machine.specs.Rule.{Kept}
 
 -- v is pass p
 abbrev pub IsPass : {T : Type 0} → State T → ℕ → Pass T → Type 0
@@ -24,9 +24,8 @@ abbrev pub lines_of : {T : Type 0} → State T → List (Line T)
 lines_of s = map (λ v. v.line) s.passes
 
 -- the rule holds of the words, of the lines of all passes, and of the history
-pub record MeetsRule {T : Type 0} (n limit : ℕ) (s : State T) : Type 0 where
-  pub lists : Lists
-  pub good : Good T n limit s.memory lists some (lines_of s) s.history
+abbrev pub MeetsRule : {T : Type 0} → ℕ → ℕ → State T → Type 0
+MeetsRule {T} n limit s = Kept T n limit s.memory some (lines_of s) s.history
 
 -- The history is one of a bounded stack, with room for n values. The words and slots stand for it: the
 -- top for its values, the first mark for closed, the second for shut, the tags for its numbers. Each

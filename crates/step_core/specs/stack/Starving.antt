@@ -1,9 +1,7 @@
 -- What lock-freedom refuses: a machine that is nearly the stack's, in which a lost exchange of one pass makes
 -- the other lose.
-use Rattle.std.specs.Prelude.{ℕ, ◌+◌, ◌*◌, ◌≤◌, if◌then◌else◌, List, [], ◌++◌}
-use Rattle.machine.specs.Bound.{own_steps}
-use Rattle.machine.specs.Progress.{LockFree, others_win}
-use Rattle.machine.specs.Schedule.{Act, after}
+use Rattle.std.specs.Prelude.{ℕ, if◌then◌else◌, [], ◌++◌}
+use Rattle.machine.specs.Schedule.{Schedule, after}
 use Rattle.machine.specs.Words.{same, raised}
 use Rattle.stack_machine.specs.declared.lines.Call.{Call}
 use Rattle.stack_machine.specs.declared.lines.Call.TheVariants.{Put as CallPut, Close as CallClose}
@@ -19,17 +17,14 @@ spoils_where_it_lost s m p (MarkTop w) = if same m.top w then step s m p (MarkTo
 spoils_where_it_lost s m p l = step s m p l
 
 -- pass 0 has read the top when pass 1 puts a value; then pass 1 has read it too
-abbrev pub both_have_read : List (ℕ × Act (Call ℕ))
+abbrev pub both_have_read : Schedule (Call ℕ)
 both_have_read = begins 0 CallClose 1 ++ begins 1 (CallPut 10 []) 6 ++ begins 1 CallClose 1
 
 -- Each loses to what the other did where it lost, and reads the top again, round after round. So no call ends
--- among as many steps as the law allows two passes
-abbrev pub StarvingNotLockFree : Type 0
-StarvingNotLockFree = ¬ LockFree (stack_with spoils_where_it_lost (shape 1 15)) 2 ((4 * 1 + 6 + (3 * 1 + 4) * 1) * 2)
-
--- and each has made more steps than a call may that is not overtaken: the other has won nothing
+-- among as many steps as the law allows two passes; and each has made more steps than a call may that is not
+-- overtaken: the other has won nothing
 abbrev pub starving : State ℕ
 starving = after (stack_with spoils_where_it_lost (shape 1 15)) 2 both_have_read
 
-abbrev pub StarvingNotUnhindered : Type 0
-StarvingNotUnhindered = ¬ (own_steps (stack_with spoils_where_it_lost (shape 1 15)) 0 (rounds (Call ℕ) 9) starving ≤ 9 + 4 * others_win (stack_with spoils_where_it_lost (shape 1 15)) 0 (rounds (Call ℕ) 9) starving)
+abbrev pub in_turn : Schedule (Call ℕ)
+in_turn = rounds (Call ℕ) 9

@@ -7,8 +7,8 @@ use Rattle.step_core.specs.queue.Bound.{MeetsRule}
 use Rattle.step_core.proofs.queue.Run.{Rule, Story, queue_told}
 use Rattle.step_core.proofs.queue_laws.queue_rule.Goals as goal
 
-pub returns-clause-at_the_start : goal.returns-clause-at_the_start
-returns-clause-at_the_start g c n limit passes pos small below = start_rules (queue (shape n limit)) (Rule n limit) (Story n limit) passes (start_kept n limit passes pos small below)
-
-pub returns-clause-kept : goal.returns-clause-kept
-returns-clause-kept g c n limit p act s x = next_kept (queue (shape n limit)) (MeetsRule n limit) (rule_holds (queue (shape n limit)) (Rule n limit) (Story n limit) (queue_told n limit)) s (p, act) x
+pub returns : goal.returns
+returns g c = record {
+  at_the_start = λ n limit passes pos small below. start_rules (queue (shape n limit)) (Rule n limit) (Story n limit) passes (start_kept n limit passes pos small below);
+  kept = λ n limit p act s. next_kept (queue (shape n limit)) (MeetsRule n limit) (rule_holds (queue (shape n limit)) (Rule n limit) (Story n limit) (queue_told n limit)) s (p, act);
+}
