@@ -88,6 +88,7 @@ pub fn stack_near_misses()
     // Near misses that are not linearizable, or leave a call unanswered.
     ensures lost_take_unanswered { ¬ NoneUnanswered (after (stack_with ends_where_it_lost (shape 1 15)) 3 lost_take) }
     ensures lost_take_not_linearizable { ¬ Linearizable (stack_with ends_where_it_lost (shape 1 15)) answer (object 1 15) 3 lost_take }
+    ensures stale_take_unlawful { ¬ Lawful ℕ 1 15 (after (stack_with is_always_empty (shape 1 15)) 2 stale_take) }
     ensures stale_take_not_linearizable { ¬ Linearizable (stack_with is_always_empty (shape 1 15)) answer (object 1 15) 2 stale_take }
     // A near miss that is not lock-free: two passes make each other fail, round after round.
     ensures starving_not_lock_free { ¬ LockFree (stack_with spoils_where_it_lost (shape 1 15)) 2 ((4 * 1 + 6 + (3 * 1 + 4) * 1) * 2) }

@@ -11,12 +11,12 @@ use Rattle.stack_machine.specs.declared.lines.Answer.TheVariants.{Put as AnswerP
 use Rattle.stack_machine.specs.declared.lines.Call.{Call}
 use Rattle.stack_machine.specs.declared.lines.Call.TheVariants.{Put as CallPut, Take as CallTake}
 use Rattle.stack_machine.specs.declared.lines.Line.TheVariants.{Idle}
-use Rattle.stack_machine.specs.Machine.{Pass}
+use Rattle.stack_machine.specs.Machine.{Pass, ends}
 use Rattle.stack_machine.specs.Answers.{shape, state}
 use Rattle.step_core.specs.Linearizable.{Linearizable, Responds}
 use Rattle.step_core.specs.stack.Object.{object, answer}
-use Rattle.step_core.proofs.Heard.{Right, none_heard, stale}
-use Rattle.step_core.specs.stack.Law.{NoneUnanswered}
+use Rattle.step_core.proofs.Heard.{Right, none_heard, stale, at_once}
+use Rattle.step_core.specs.stack.Law.{Lawful, NoneUnanswered}
 use Rattle.step_core.specs.stack.Cast.{stack_with}
 use Rattle.step_core.specs.stack.WrongPoints.{ends_where_it_lost, lost_take, is_always_empty, stale_take}
 use Rattle.stack_machine.specs.declared.lines.Taking.TheVariants.{One, Whole}
@@ -38,6 +38,12 @@ put_done = AnswerPut (Ok (0, []))
 
 abbrev one_value : List (Event ℕ)
 one_value = Put 1 (10 ∷ []) 0 ∷ Hold 1 ∷ []
+
+pub stale_take-unlawful : ¬ Lawful ℕ 1 15 (after (stack_with is_always_empty (shape 1 15)) 2 stale_take)
+stale_take-unlawful law =
+    let right = at_once one_value _ (law.answered 0 (record { line = ends no_value; call = some (CallTake One); begun = one_value; seen = one_value }) no_value refl refl) in
+    let no : ◌≡◌ {A = List ℕ} (10 ∷ []) [] = right.0 in
+    cc
 
 pub stale_take-not_linearizable : ¬ Linearizable (stack_with is_always_empty (shape 1 15)) answer (object 1 15) 2 stale_take
 stale_take-not_linearizable l = stale (object 1 15) 10 no_value put_done refl is_empty was_put (CallTake One) (CallPut 10 []) l.course l.right l.same_calls l.same_history
