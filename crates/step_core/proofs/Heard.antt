@@ -8,7 +8,7 @@ use Rattle.bounded_model.specs.Histories.{Among}
 use Rattle.bounded_model.specs.Justified.{Sometime}
 use Rattle.bounded_model.specs.Machine.{state}
 use Rattle.bounded_model.proofs.Histories.{no_parts}
-use Rattle.step_core.specs.Linearizable.{Operation, Object, Entry, Invokes, Responds, Hand, Updates, Reads, Rests, Pending, TookEffect, without_points, events, stage, IsLinearization}
+use Rattle.step_core.specs.Linearizable.{Operation, Object, Entry, Invokes, Responds, Hand, Updates, Reads, Stage, Rests, Pending, TookEffect, without_points, events, stage, IsLinearization}
 use Rattle.step_core.proofs.Entries.{events-append, without_points-append}
 
 pub among_right : {B : Type 0} (b : B) (xs ys : List B) → Among b ys → Among b (xs ++ ys)
@@ -55,68 +55,6 @@ module _ {T C A : Type 0} (o : Object T C A) where
     pub waits : stage p older ≡ Pending k.call
     pub run : IsLinearization o older
 
-  -- and so in a longer one
-  one_more : (m : Entry T C A) (course : Course) (p : ℕ) (answer : Option A) → Placed p answer course → Placed p answer (m ∷ course)
-  one_more m course p answer x = record {
-    k = x.k;
-    given = x.given;
-    newer = m ∷ x.newer;
-    older = x.older;
-    is = ap (λ (l : Course). m ∷ l) x.is;
-    right = ⊎_elim (λ says. inl says) (λ does. inr (does.0, (does.1.0, still_there does.0 m x.newer does.1.1))) x.right;
-    waits = x.waits;
-    run = x.run;
-  }
-
-  taken_place : (p : ℕ) (x : Option A) (course : Course) → IsLinearization o course → stage p course ≡ TookEffect x → Placed p x course
-  taken_place p x [] r is = cc
-  taken_place p x (Invokes q call ∷ course) r is = ⊎_elim
-      (λ t. let no : Pending call ≡ TookEffect x = rw t.0 at is in cc)
-      (λ t. let before : stage p course ≡ TookEffect x = rw t.0 at is in one_more (Invokes q call) course p x (taken_place p x course r.1 before))
-      (eqb_tells q p)
-  taken_place p x (Responds q y ∷ course) r is = ⊎_elim
-      (λ t. let no : Rests ≡ TookEffect x = rw t.0 at is in cc)
-      (λ t. let before : stage p course ≡ TookEffect x = rw t.0 at is in one_more (Responds q y) course p x (taken_place p x course r.1 before))
-      (eqb_tells q p)
-  taken_place p x (Hand e ∷ course) r is = one_more (Hand e) course p x (taken_place p x course r.2 is)
-  taken_place p x (Updates k e ∷ course) r is = ⊎_elim
-      (λ t. let same : TookEffect (some k.answer) ≡ TookEffect x = rw t.0 at is in
-      let given : some k.answer ≡ x = cc in
-      record { k = k; given = given; newer = Updates k e ∷ []; older = course; is = refl; right = inr (e, (r.1, inl refl)); waits = subst (λ (q : ℕ). stage q course ≡ Pending k.call) t.1 r.0; run = r.3 })
-      (λ t. let before : stage p course ≡ TookEffect x = rw t.0 at is in one_more (Updates k e) course p x (taken_place p x course r.3 before))
-      (eqb_tells k.by p)
-  taken_place p x (Reads k ∷ course) r is = ⊎_elim
-      (λ t. let same : TookEffect (some k.answer) ≡ TookEffect x = rw t.0 at is in
-      let given : some k.answer ≡ x = cc in
-      record { k = k; given = given; newer = Reads k ∷ []; older = course; is = refl; right = inl r.1; waits = subst (λ (q : ℕ). stage q course ≡ Pending k.call) t.1 r.0; run = r.2 })
-      (λ t. let before : stage p course ≡ TookEffect x = rw t.0 at is in one_more (Reads k) course p x (taken_place p x course r.2 before))
-      (eqb_tells k.by p)
-
-  -- a response is that of an operation that has taken effect
-  pub heard : (p : ℕ) (x : Option A) (course : Course) → IsLinearization o course → Among (Responds p x) (without_points course) → Placed p x course
-  heard p x [] r there = absurd there
-  heard p x (Invokes q call ∷ course) r there = ⊎_elim
-      (λ e. let no : Responds p x ≡ Invokes q call = e in cc)
-      (λ t. one_more (Invokes q call) course p x (heard p x course r.1 t))
-      there
-  heard p x (Responds q y ∷ course) r there = ⊎_elim
-      (λ e. let same : Responds p x ≡ Responds q y = e in
-      let by : q ≡ p = cc in
-      let answer : y ≡ x = cc in
-      one_more (Responds q y) course p x (taken_place p x course r.1 (subst (λ (i : ℕ). stage i course ≡ TookEffect x) by (r.0 ∙ ap (λ (z : Option A). TookEffect z) answer))))
-      (λ t. one_more (Responds q y) course p x (heard p x course r.1 t))
-      there
-  heard p x (Hand e ∷ course) r there = one_more (Hand e) course p x (heard p x course r.2 there)
-  heard p x (Updates k e ∷ course) r there = one_more (Updates k e) course p x (heard p x course r.3 there)
-  heard p x (Reads k ∷ course) r there = one_more (Reads k) course p x (heard p x course r.2 there)
-
-  -- so each response has an answer, and it is right
-  pub none_heard : (p : ℕ) (course : Course) → IsLinearization o course → Among (Responds p none) (without_points course) → ⊥
-  none_heard p course r there = let x = heard p none course r there in absurd (some-ne-none x.k.answer x.given)
-
-  pub right_as : (p : ℕ) (a : A) (course : Course) (x : Placed p (some a) course) → Right x.k.by x.k.call a (events x.newer) (events x.older)
-  right_as p a course x = subst (λ (b : A). Right x.k.by x.k.call b (events x.newer) (events x.older)) (some-injective x.k.answer a x.given) x.right
-
   -- a pending operation has its invocation
   record Asked (p : ℕ) (call : C) (course : Course) : Type 0 where
     since : Course
@@ -124,31 +62,73 @@ module _ {T C A : Type 0} (o : Object T C A) where
     is : course ≡ since ++ Invokes p call ∷ before
     run : IsLinearization o before
 
-  asked_more : (m : Entry T C A) (course : Course) (p : ℕ) (call : C) → Asked p call course → Asked p call (m ∷ course)
-  asked_more m course p call x = record { since = m ∷ x.since; before = x.before; is = ap (λ (l : Course). m ∷ l) x.is; run = x.run }
+  -- what the stage of a pass says of its operation
+  abbrev Found : ℕ → Stage C A → Course → Type 0
+  Found p Rests course = Unit {0}
+  Found p (Pending call) course = Asked p call course
+  Found p (TookEffect x) course = Placed p x course
 
-  asked : (p : ℕ) (call : C) (course : Course) → IsLinearization o course → stage p course ≡ Pending call → Asked p call course
-  asked p call [] r is = cc
-  asked p call (Invokes q c ∷ course) r is = ⊎_elim
-      (λ t. let same : Pending c ≡ Pending call = rw t.0 at is in
-      let call_is : c ≡ call = cc in
-      let entry : Invokes q c ≡ Invokes p call = cc in
-      record { since = []; before = course; is = ap (λ (m : Entry T C A). m ∷ course) entry; run = r.1 })
-      (λ t. let before : stage p course ≡ Pending call = rw t.0 at is in asked_more (Invokes q c) course p call (asked p call course r.1 before))
+  -- and so in a longer course
+  more : (p : ℕ) (s : Stage C A) (m : Entry T C A) (course : Course) → Found p s course → Found p s (m ∷ course)
+  more p Rests m course f = tt
+  more p (Pending call) m course f = record { since = m ∷ f.since; before = f.before; is = ap (λ (l : Course). m ∷ l) f.is; run = f.run }
+  more p (TookEffect x) m course f = record {
+    k = f.k;
+    given = f.given;
+    newer = m ∷ f.newer;
+    older = f.older;
+    is = ap (λ (l : Course). m ∷ l) f.is;
+    right = ⊎_elim (λ says. inl says) (λ does. inr (does.0, (does.1.0, still_there does.0 m f.newer does.1.1))) f.right;
+    waits = f.waits;
+    run = f.run;
+  }
+
+  found : (p : ℕ) (course : Course) → IsLinearization o course → Found p (stage p course) course
+  found p [] r = tt
+  found p (Invokes q call ∷ course) r = ⊎_elim
+      (λ t. rw t.0 (record { since = []; before = course; is = ap (λ (i : ℕ). Invokes i call ∷ course) t.1; run = r.1 }))
+      (λ t. rw t.0 (more p (stage p course) (Invokes q call) course (found p course r.1)))
       (eqb_tells q p)
-  asked p call (Responds q y ∷ course) r is = ⊎_elim
-      (λ t. let no : Rests ≡ Pending call = rw t.0 at is in cc)
-      (λ t. let before : stage p course ≡ Pending call = rw t.0 at is in asked_more (Responds q y) course p call (asked p call course r.1 before))
+  found p (Responds q y ∷ course) r = ⊎_elim
+      (λ t. rw t.0 tt)
+      (λ t. rw t.0 (more p (stage p course) (Responds q y) course (found p course r.1)))
       (eqb_tells q p)
-  asked p call (Hand e ∷ course) r is = asked_more (Hand e) course p call (asked p call course r.2 is)
-  asked p call (Updates k e ∷ course) r is = ⊎_elim
-      (λ t. let no : TookEffect (some k.answer) ≡ Pending call = rw t.0 at is in cc)
-      (λ t. let before : stage p course ≡ Pending call = rw t.0 at is in asked_more (Updates k e) course p call (asked p call course r.3 before))
+  found p (Hand e ∷ course) r = more p (stage p course) (Hand e) course (found p course r.2)
+  found p (Updates k e ∷ course) r = ⊎_elim
+      (λ t. let waits : stage p course ≡ Pending k.call = subst (λ (q : ℕ). stage q course ≡ Pending k.call) t.1 r.0 in
+      rw t.0 (record { k = k; given = refl; newer = Updates k e ∷ []; older = course; is = refl; right = inr (e, (r.1, inl refl)); waits = waits; run = r.3 }))
+      (λ t. rw t.0 (more p (stage p course) (Updates k e) course (found p course r.3)))
       (eqb_tells k.by p)
-  asked p call (Reads k ∷ course) r is = ⊎_elim
-      (λ t. let no : TookEffect (some k.answer) ≡ Pending call = rw t.0 at is in cc)
-      (λ t. let before : stage p course ≡ Pending call = rw t.0 at is in asked_more (Reads k) course p call (asked p call course r.2 before))
+  found p (Reads k ∷ course) r = ⊎_elim
+      (λ t. let waits : stage p course ≡ Pending k.call = subst (λ (q : ℕ). stage q course ≡ Pending k.call) t.1 r.0 in
+      rw t.0 (record { k = k; given = refl; newer = Reads k ∷ []; older = course; is = refl; right = inl r.1; waits = waits; run = r.2 }))
+      (λ t. rw t.0 (more p (stage p course) (Reads k) course (found p course r.2)))
       (eqb_tells k.by p)
+
+  -- a response is that of an operation that has taken effect
+  pub heard : (p : ℕ) (x : Option A) (course : Course) → IsLinearization o course → Among (Responds p x) (without_points course) → Placed p x course
+  heard p x [] r there = absurd there
+  heard p x (Invokes q call ∷ course) r there = ⊎_elim
+      (λ e. let no : Responds p x ≡ Invokes q call = e in cc)
+      (λ t. more p (TookEffect x) (Invokes q call) course (heard p x course r.1 t))
+      there
+  heard p x (Responds q y ∷ course) r there = ⊎_elim
+      (λ e. let same : Responds p x ≡ Responds q y = e in
+      let by : q ≡ p = cc in
+      let answer : y ≡ x = cc in
+      more p (TookEffect x) (Responds q y) course (subst (λ (s : Stage C A). Found p s course) (subst (λ (i : ℕ). stage i course ≡ TookEffect x) by (r.0 ∙ ap (λ (z : Option A). TookEffect z) answer)) (found p course r.1)))
+      (λ t. more p (TookEffect x) (Responds q y) course (heard p x course r.1 t))
+      there
+  heard p x (Hand e ∷ course) r there = more p (TookEffect x) (Hand e) course (heard p x course r.2 there)
+  heard p x (Updates k e ∷ course) r there = more p (TookEffect x) (Updates k e) course (heard p x course r.3 there)
+  heard p x (Reads k ∷ course) r there = more p (TookEffect x) (Reads k) course (heard p x course r.2 there)
+
+  -- so each response has an answer, and it is right
+  pub none_heard : (p : ℕ) (course : Course) → IsLinearization o course → Among (Responds p none) (without_points course) → ⊥
+  none_heard p course r there = let x = heard p none course r there in absurd (some-ne-none x.k.answer x.given)
+
+  pub right_as : (p : ℕ) (a : A) (course : Course) (x : Placed p (some a) course) → Right x.k.by x.k.call a (events x.newer) (events x.older)
+  right_as p a course x = subst (λ (b : A). Right x.k.by x.k.call b (events x.newer) (events x.older)) (some-injective x.k.answer a x.given) x.right
 
   -- Pass 1 has completed an operation, and then pass 0: so that of pass 1 takes effect in the history at which that of
   -- pass 0 does
@@ -162,7 +142,7 @@ module _ {T C A : Type 0} (o : Object T C A) where
   pub in_order : (x y : Option A) (c d : C) (course : Course) → IsLinearization o course → without_points course ≡ Responds 0 x ∷ Invokes 0 c ∷ Responds 1 y ∷ Invokes 1 d ∷ [] → InOrder x y course
   in_order x y c d course r is =
       let later = heard 0 x course r (subst (Among (Responds 0 x)) (sym is) (inl refl)) in
-      let begin = asked 0 later.k.call later.older later.run later.waits in
+      let begin = subst (λ (s : Stage C A). Found 0 s later.older) later.waits (found 0 later.older later.run) in
       let parts : without_points later.newer ++ (without_points begin.since ++ Invokes 0 later.k.call ∷ without_points begin.before) ≡ Responds 0 x ∷ Invokes 0 c ∷ Responds 1 y ∷ Invokes 1 d ∷ [] =
       ap (λ (l : Course). without_points later.newer ++ l) (sym (ap without_points begin.is ∙ without_points-append begin.since (Invokes 0 later.k.call ∷ begin.before))) ∙ sym (without_points-append later.newer later.older) ∙ sym (ap without_points later.is) ∙ is in
       let rest : without_points begin.before ≡ Responds 1 y ∷ Invokes 1 d ∷ [] = cut (without_points later.newer ++ without_points begin.since) later.k.call (without_points begin.before) (append_assoc (without_points later.newer) (without_points begin.since) (Invokes 0 later.k.call ∷ without_points begin.before) ∙ parts) in
