@@ -1,6 +1,6 @@
 -- The queue's calls end: in every schedule the steps made are paid for by the calls, and each call by its own
 -- steps and by the exchanges that others win.
-use Rattle.std.proofs.Common.{◌≡◌, ℕ, suc, ◌+◌, ◌*◌, ◌<◌, ◌≤◌, true, false, map, refl, arith}
+use Rattle.std.proofs.Common.{◌≡◌, ℕ, suc, ◌+◌, ◌*◌, ◌<◌, ◌≤◌, true, map, refl, arith}
 use Rattle.std.proofs.Math.Nat.{mul-le-mul_right}
 use Rattle.std.proofs.lemmas.Bool.{false≢true}
 use mathlib.Core.Option.{Option, none, some}
@@ -22,7 +22,7 @@ use Rattle.queue_machine.specs.Machine.{Memory, Pass, State, is_idle, starts, qu
 use Rattle.queue_machine.proofs.Start.{start_kept}
 use Rattle.step_core.specs.queue.Bound.{MeetsRule}
 use Rattle.step_core.specs.queue.Costs.{alone, harms, cost}
-use Rattle.step_core.proofs.queue.Run.{Rule, Story, queue_told, run_meets}
+use Rattle.step_core.proofs.queue.Run.{Rule, Story, starts_busy, queue_told, run_meets}
 use Rattle.step_core.proofs.queue.Weight.{weight, price, harm, lag_small, late_small, weight_small, harm_small, price_small}
 use Rattle.step_core.proofs.queue.Pays.{step_raises, step_falls}
 
@@ -48,10 +48,6 @@ module _ {T : Type 0} (n limit : ℕ) where
   idle m (Idle a) e = (refl, refl)
   idle m l e = absurd (false≢true e)
 
-  starts_busy : (call : Call T) → is_idle (starts call) ≡ false
-  starts_busy (CallPut v) = refl
-  starts_busy call = refl
-
   begins : (m : Memory T) (call : Call T) → (weight m (starts call) ≤ alone call) × (harm (starts call) ≤ harms call)
   begins m (CallPut v) = (omega (arith, lag_small m), omega arith)
   begins m call = (omega (arith, lag_small m, late_small m), omega arith)
@@ -60,7 +56,7 @@ module _ {T : Type 0} (n limit : ℕ) where
   queue_pays = record {
     weighs = weighs;
     idle = idle;
-    starts = λ l call. starts_busy call;
+    starts = λ l call. starts_busy n limit call;
     begins = λ m l call. begins m call;
     pays = λ s p v k at busy. (step_falls k.good p p v.line (line_at s p v at) busy).1;
   }

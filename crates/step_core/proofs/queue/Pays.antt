@@ -1,6 +1,6 @@
 -- Each step of the queue is paid for: it lowers the weight of its line, an exchange that wins is paid out of
 -- the line's harm, and no other line weighs more by more than its price.
-use Rattle.std.proofs.Common.{◌≡◌, ◌≢◌, ℕ, suc, ◌+◌, ◌<◌, ◌≤◌, ◌&&◌, ◌||◌, not, Bool, true, false, cond, eqb, leb, List, [], ◌∷◌, refl, sym, ap, ◌∙◌, subst, eqb-true, eq-eqb, ne_eqb, Option as Slot, Some, Ok, Err, arith}
+use Rattle.std.proofs.Common.{◌≡◌, ◌≢◌, ℕ, suc, ◌+◌, ◌<◌, ◌≤◌, ◌&&◌, ◌||◌, not, Bool, true, false, cond, eqb, leb, List, [], refl, sym, ap, ◌∙◌, subst, eqb-true, eq-eqb, ne_eqb, Option as Slot, Some, Ok, Err, arith}
 use Rattle.std.proofs.lemmas.Bool.{false≢true}
 use Rattle.std.proofs.lemmas.Bool.Decides.{nat_tests}
 use mathlib.Core.Option.{Option, some}
@@ -10,17 +10,16 @@ use Rattle.bounded_model.specs.declared.answers.Word.TheVariants.{Cells as Cells
 use Rattle.bounded_model.specs.declared.answers.PutRefused.TheVariants.{Spent as PutSpent}
 use Rattle.bounded_model.specs.declared.answers.TakeRefused.TheVariants.{Empty as TakeEmpty, Closed as TakeClosed, Shut as TakeShut}
 use Rattle.bounded_model.specs.declared.history.Event.{Event}
-use Rattle.bounded_model.specs.declared.history.Event.TheVariants.{Hold, Put, Free, Close, Shut}
 use Rattle.machine.specs.Words.{Tagged, same, kept, raised, with_second, times}
 use Rattle.machine.proofs.Tests.{cases, same-is, same-self, fresh, lost, lost_small, lost_none, lost_all, lost_more, lost_two, lost_first, lost_both, lost_second, same_second}
 use Rattle.machine.proofs.Lists.{times_here}
 use Rattle.queue_machine.specs.declared.lines.Linking.{Linking}
 use Rattle.queue_machine.specs.declared.lines.Seeking.{Seeking}
 use Rattle.queue_machine.specs.declared.lines.Seeking.TheVariants.{ToLink, ToRefuse, ToClose}
-use Rattle.queue_machine.specs.declared.lines.Answer.TheVariants.{Put as AnswerPut, Take as AnswerTake, Close as AnswerClose, Shut as AnswerShut, Look as AnswerLook}
+use Rattle.queue_machine.specs.declared.lines.Answer.TheVariants.{Put as AnswerPut, Take as AnswerTake, Shut as AnswerShut, Look as AnswerLook}
 use Rattle.queue_machine.specs.declared.lines.Line.{Line}
-use Rattle.queue_machine.specs.declared.lines.Line.TheVariants.{Idle, LoadCells, LoadCellLink, TakeCell, LoadNodes, LoadNodeLink, TakeNode, StoreCell, LoadNext, PrepareNext, LoadTail, LoadTailNext, CheckTail, SwingTail, LinkNext, SwingToLinked, MarkNext, LoadHead, LoadTailToTake, LoadHeadNext, CheckHead, SwingTailToTake, LoadCell, TakeHead, LoadNodesToGive, LinkToNodes, GiveNode, LoadCellsToGive, LinkToCells, GiveCell, LoadHeadToLook, LoadNextToLook, CheckHeadToLook, LoadHeadToShut, ShutHead}
-use Rattle.queue_machine.specs.Machine.{Memory, Outcome, null_word, goes_on, wins, wins_value, wins_exchange, step, is_idle, ends, gives, frees, with_cell, with_node, back_closed, back_null, found_back, after_hold, after_free, after_node_take, after_node_give, after_next, after_link, after_swing, after_close, after_shut, next_of}
+use Rattle.queue_machine.specs.declared.lines.Line.TheVariants.{Idle, LoadCells, LoadCellLink, TakeCell, LoadNodes, LoadNodeLink, TakeNode, LoadNext, PrepareNext, LoadTail, LoadTailNext, CheckTail, SwingTail, LinkNext, SwingToLinked, MarkNext, LoadHead, LoadTailToTake, CheckHead, SwingTailToTake, LoadCell, TakeHead, LoadNodesToGive, GiveNode, LoadCellsToGive, GiveCell, LoadHeadToLook, CheckHeadToLook, LoadHeadToShut, ShutHead}
+use Rattle.queue_machine.specs.Machine.{Memory, Outcome, null_word, goes_on, wins_value, wins_exchange, step, is_idle, ends, gives, frees, back_closed, back_null, found_back, after_next, after_link, after_swing, after_close, next_of}
 use Rattle.queue_machine.specs.Answers.{shape}
 use Rattle.queue_machine.specs.Rule.{Lists, Lags, Ends, IsFine, Good}
 use Rattle.queue_machine.proofs.Chain.{word_else, tail_in, behind_null}
@@ -249,23 +248,17 @@ module _ {T : Type 0} where
           either (14 + lag m) 14 (eqb m.cells.index NULL) (LoadTail (ToRefuse v)) (cond (leb limit m.cells.tag) spent (LoadCellLink v m.cells))
           (omega arith, omega arith)
           (either (14 + lag m) 14 (leb limit m.cells.tag) spent (LoadCellLink v m.cells) (omega arith, omega arith) (omega (arith, fresh m.cells 3), omega arith))
-      step_falls (LoadCellLink v w) at busy = (omega arith, omega arith)
-      step_falls (TakeCell v w k) at busy =
-          swaps (same m.cells w) (wins (after_hold m w k) (LoadNodes (with_cell v w.index)) (Hold p)) (LoadCells v) 3 (12 + lag m) 3 14 (λ b. (omega arith, omega arith)) (omega arith, omega arith)
+      step_falls (TakeCell v w k) at busy = swaps (same m.cells w) _ _ 3 (12 + lag m) 3 14 (λ b. (omega arith, omega arith)) (omega arith, omega arith)
       step_falls (LoadNodes put) at busy =
           let spent : Line T = frees put.cell (AnswerPut (Err (PutSpent put.value NodesWord m.nodes.tag))) in
           either (11 + lag m) 11 (eqb m.nodes.index NULL) spent (cond (leb limit m.nodes.tag) spent (LoadNodeLink put m.nodes))
           (omega arith, omega arith)
           (either (11 + lag m) 11 (leb limit m.nodes.tag) spent (LoadNodeLink put m.nodes) (omega arith, omega arith) (omega (arith, fresh m.nodes 3), omega arith))
-      step_falls (LoadNodeLink put w) at busy = (omega arith, omega arith)
-      step_falls (TakeNode put w k) at busy =
-          swaps (same m.nodes w) (goes_on (after_node_take m w k) (StoreCell (with_node put w.index))) (LoadNodes put) 3 (9 + lag m) 3 11 (λ b. (omega arith, omega arith)) (omega arith, omega arith)
-      step_falls (StoreCell link) at busy = (omega arith, omega arith)
+      step_falls (TakeNode put w k) at busy = swaps (same m.nodes w) _ _ 3 (9 + lag m) 3 11 (λ b. (omega arith, omega arith)) (omega arith, omega arith)
       step_falls (LoadNext link) at busy =
           let y = m.next link.node in
           either (7 + lag m) 8 (leb limit (y.tag + 1)) (gives link (AnswerPut (Err (PutSpent link.value (NextWord link.node) y.tag)))) (PrepareNext link y) (omega arith, omega arith) (omega arith, omega arith)
       step_falls (PrepareNext link y) at busy = (omega (arith, prepare_lag q link y at), omega arith)
-      step_falls (LoadTail s) at busy = (omega (arith, fresh m.tail 3), omega arith)
       step_falls (LoadTailNext s w) at busy = (omega (arith, lost_second (same m.tail w) (same (m.next w.index) (m.next w.index)) 3 (same-self (m.next w.index))), omega arith)
       step_falls (CheckTail s w y) at busy =
           looks (same m.tail w) (same (m.next w.index) y) (found_back s w y) (LoadTail s) (turn s + lag m) 3 (seeking_harm s) (λ b. check_tail_low s w y at (same-is m.tail w b)) (omega arith, omega arith)
@@ -274,15 +267,13 @@ module _ {T : Type 0} where
           swaps (same m.tail w) (goes_on (after_swing m w y.index) (LoadTail s)) (LoadTail s) 0 (turn s + 3) (lag m) (seeking_harm s)
           (λ b. let f' : lag (after_swing m w y.index) ≡ 0 = (swings w y f.1 (same-is m.tail w b)).after_lag in (omega (arith, f'), omega arith))
           (omega arith, omega arith)
-      step_falls (LinkNext link w y) at busy =
-          swaps (same (m.next w.index) y) (wins (after_link m w y link) (SwingToLinked link.value w (raised y link.node)) (Put p (link.value ∷ []) w.tag)) (LoadTail (ToLink link)) 8 2 (4 + lag m) 8 (λ b. (omega arith, omega arith)) (omega arith, omega arith)
+      step_falls (LinkNext link w y) at busy = swaps (same (m.next w.index) y) _ _ 8 2 (4 + lag m) 8 (λ b. (omega arith, omega arith)) (omega arith, omega arith)
       step_falls (SwingToLinked v w y) at busy = ended (same m.tail w)
         where
           ended : (b : Bool) → Low (cond b (goes_on (after_swing m w y.index) (ends (AnswerPut (Ok w.tag)))) (goes_on m (ends (AnswerPut (Ok w.tag))))) (cond b 0 0) 1 0
           ended true = (omega arith, omega arith)
           ended false = (omega arith, omega arith)
-      step_falls (MarkNext w y) at busy =
-          swaps (same (m.next w.index) y) (wins (after_close m w y) (ends (AnswerClose true)) (Close p)) (LoadTail ToClose) 8 1 (4 + lag m) 8 (λ b. (omega arith, omega arith)) (omega arith, omega arith)
+      step_falls (MarkNext w y) at busy = swaps (same (m.next w.index) y) _ _ 8 1 (4 + lag m) 8 (λ b. (omega arith, omega arith)) (omega arith, omega arith)
       step_falls LoadHead at busy =
           either (12 + late m) 12 m.head.second (ends (AnswerTake (Err TakeShut))) (LoadTailToTake m.head) (omega arith, omega arith) (omega (arith, fresh m.head 4), omega arith)
       step_falls (LoadTailToTake h) at busy =
@@ -291,7 +282,6 @@ module _ {T : Type 0} where
           or_true : (b : Bool) → (b || true) ≡ true
           or_true true = refl
           or_true false = refl
-      step_falls (LoadHeadNext h w) at busy = (omega arith, omega arith)
       step_falls (CheckHead h w y) at busy =
           looks (same m.head h) (passed m.tail h w) _ LoadHead (9 + late m) 4 12 (λ b. check_head_low h w y at (same-is m.head h b)) (omega arith, omega arith)
       step_falls (SwingTailToTake w y) at busy =
@@ -299,22 +289,13 @@ module _ {T : Type 0} where
           swaps (same m.tail w) (goes_on (after_swing m w y.index) LoadHead) LoadHead 0 13 (late m) 12
           (λ b. let f' : late (after_swing m w y.index) ≡ 0 = (swings w y f (same-is m.tail w b)).after_late in (omega (arith, f'), omega arith))
           (omega arith, omega arith)
-      step_falls (LoadCell h y) at busy = (omega arith, omega arith)
       step_falls (TakeHead h y k) at busy = swaps (same m.head h) (wins_value m p h y k (m.home k)) LoadHead 6 (7 + late m) 6 12 (λ b. by_value (m.home k)) (omega arith, omega arith)
         where
           by_value : (o : Option (Slot T)) → Low (wins_value m p h y k o) 6 (7 + late m) 12
           by_value (some (Some v)) = (omega arith, omega arith)
           by_value o = (omega arith, omega arith)
-      step_falls (LoadNodesToGive give) at busy = (omega (arith, fresh m.nodes 3), omega arith)
-      step_falls (LinkToNodes give w) at busy = (omega arith, omega arith)
-      step_falls (GiveNode give w) at busy =
-          swaps (same m.nodes w) (goes_on (after_node_give m w give.node) (frees give.cell give.answer)) (LoadNodesToGive give) 3 4 3 6 (λ b. (omega arith, omega arith)) (omega arith, omega arith)
-      step_falls (LoadCellsToGive give) at busy = (omega (arith, fresh m.cells 3), omega arith)
-      step_falls (LinkToCells give w) at busy = (omega arith, omega arith)
-      step_falls (GiveCell give w) at busy =
-          swaps (same m.cells w) (wins (after_free m w give.cell) (ends give.answer) (Free p 1)) (LoadCellsToGive give) 3 1 3 3 (λ b. (omega arith, omega arith)) (omega arith, omega arith)
-      step_falls LoadHeadToLook at busy = (omega (arith, fresh m.head 3), omega arith)
-      step_falls (LoadNextToLook h) at busy = (omega arith, omega arith)
+      step_falls (GiveNode give w) at busy = swaps (same m.nodes w) _ _ 3 4 3 6 (λ b. (omega arith, omega arith)) (omega arith, omega arith)
+      step_falls (GiveCell give w) at busy = swaps (same m.cells w) _ _ 3 1 3 3 (λ b. (omega arith, omega arith)) (omega arith, omega arith)
       step_falls (CheckHeadToLook h y) at busy = seen (same m.head h)
         where
           seen : (b : Bool) → Low (cond b (goes_on m (ends (AnswerLook (eqb y.index NULL)))) (goes_on m LoadHeadToLook)) 0 (1 + lost b 3) 0
@@ -322,5 +303,5 @@ module _ {T : Type 0} where
           seen false = (omega (arith, lost_all false 3 refl), omega arith)
       step_falls LoadHeadToShut at busy =
           either 2 6 m.head.second (ends (AnswerShut false)) (ShutHead m.head) (omega arith, omega arith) (omega (arith, fresh m.head 2), omega arith)
-      step_falls (ShutHead h) at busy =
-          swaps (same m.head h) (wins (after_shut m h) (ends (AnswerShut true)) (Shut p)) LoadHeadToShut 6 1 2 6 (λ b. (omega arith, omega arith)) (omega arith, omega arith)
+      step_falls (ShutHead h) at busy = swaps (same m.head h) _ _ 6 1 2 6 (λ b. (omega arith, omega arith)) (omega arith, omega arith)
+      step_falls l at busy = (omega (arith, fresh), omega arith)

@@ -12,21 +12,21 @@ use Rattle.bounded_model.specs.Histories.{own}
 use Rattle.bounded_model.specs.Justified.{Sometime}
 use Rattle.machine.specs.Schedule.{Act}
 use Rattle.queue_machine.specs.declared.lines.Seeking.{Seeking}
-use Rattle.queue_machine.specs.declared.lines.Seeking.TheVariants.{ToLink, ToRefuse, ToClose}
+use Rattle.queue_machine.specs.declared.lines.Seeking.TheVariants.{ToLink}
 use Rattle.queue_machine.specs.declared.lines.Call.{Call}
 use Rattle.queue_machine.specs.declared.lines.Call.TheVariants.{Put as CallPut, Take as CallTake, Close as CallClose, Shut as CallShut, Look as CallLook}
 use Rattle.queue_machine.specs.declared.lines.Answer.{Answer}
 use Rattle.queue_machine.specs.declared.lines.Answer.TheVariants.{Put as AnswerPut, Take as AnswerTake, Close as AnswerClose, Shut as AnswerShut, Look as AnswerLook}
 use Rattle.queue_machine.specs.declared.lines.Line.{Line}
 use Rattle.queue_machine.specs.declared.lines.Line.TheVariants.{Idle, LoadTail, LoadTailNext, CheckTail, SwingTail, SwingToLinked, LoadNodesToGive, LinkToNodes, GiveNode, LoadCellsToGive, LinkToCells, GiveCell}
-use Rattle.queue_machine.specs.Machine.{is_idle, starts, queue}
+use Rattle.queue_machine.specs.Machine.{is_idle, queue}
 use Rattle.queue_machine.specs.Answers.{shape, IsRight}
 use Rattle.queue_machine.specs.Deeds.{Makes as HasMadeAll, HasMade, HasSought}
 use Rattle.step_core.specs.Linearizable.{Linearizable}
 use Rattle.step_core.specs.queue.Object.{Makes, IsSaid, object, answer}
 use Rattle.step_core.proofs.Entries.{visible}
 use Rattle.step_core.proofs.Points.{Point, Ended, Speaks, linearizable}
-use Rattle.step_core.proofs.queue.Run.{Rule, Story, queue_told, run_stays}
+use Rattle.step_core.proofs.queue.Run.{Rule, Story, starts_busy, queue_told, run_stays}
 
 module _ {T : Type 0} (n limit : ℕ) where
   -- a justified answer is one that the object gives, with what else it says
@@ -62,8 +62,7 @@ module _ {T : Type 0} (n limit : ℕ) where
 
   sought : (p : ℕ) (c : Call T) (s : Seeking T) (mine : List (Event T)) → HasSought p c s mine → Point (object n limit) p c mine
   sought p c (ToLink link) mine made = inl (ap visible made.1)
-  sought p c (ToRefuse v) mine made = inl (ap visible made.1)
-  sought p c ToClose mine made = inl (ap visible made.1)
+  sought p c s mine made = inl (ap visible made.1)
 
   point : (p : ℕ) (c : Call T) (l : Line T) (mine : List (Event T)) → HasMade p c l mine → is_idle l ≡ false → Point (object n limit) p c mine
   point p c (Idle a) mine made busy = absurd (false≢true (sym busy))
@@ -108,18 +107,11 @@ module _ {T : Type 0} (n limit : ℕ) where
       }
   ended p c l b seen story idle = absurd (false≢true idle)
 
-  starts_busy : (call : Call T) → is_idle (starts call) ≡ false
-  starts_busy (CallPut v) = refl
-  starts_busy CallTake = refl
-  starts_busy CallClose = refl
-  starts_busy CallShut = refl
-  starts_busy CallLook = refl
-
   queue_speaks : Speaks {T = T} (queue (shape n limit)) answer (object n limit) (Rule n limit) (Story n limit)
   queue_speaks = record {
     legal = λ m lines h k. k.good.told.legal;
     rest_idle = refl;
-    starts_busy = λ call l. starts_busy call;
+    starts_busy = λ call l. starts_busy n limit call;
     unbegun = λ p l b seen story. ap is_idle story.1;
     going = λ p c l b seen story busy. let d = story.1 in record { between = d.between; is = d.is; point = point p c l (own p d.between) d.made busy };
     ended = ended;

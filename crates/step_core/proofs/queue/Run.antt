@@ -15,7 +15,7 @@ use Rattle.machine.proofs.Scheduled.{run_kept}
 use Rattle.machine.proofs.Stories.{Told, Stays, stays_holds, start_stays}
 use Rattle.queue_machine.specs.declared.lines.Answer.{Answer}
 use Rattle.queue_machine.specs.declared.lines.Call.{Call}
-use Rattle.queue_machine.specs.declared.lines.Call.TheVariants.{Put as CallPut, Take as CallTake, Close as CallClose, Shut as CallShut, Look as CallLook}
+use Rattle.queue_machine.specs.declared.lines.Call.TheVariants.{Put as CallPut}
 use Rattle.queue_machine.specs.declared.lines.Line.{Line}
 use Rattle.queue_machine.specs.declared.lines.Line.TheVariants.{Idle}
 use Rattle.queue_machine.specs.Machine.{Memory, Pass, State, held_cells, held_nodes, is_idle, starts, next_of, queue}
@@ -59,18 +59,16 @@ module _ {T : Type 0} (n limit : ℕ) where
 
     pub begins_kept : (call : Call T) → Rule m (set lines p (starts call)) h
     begins_kept (CallPut y) = begun_kept (CallPut y) (idle_alike l idle (starts (CallPut y)) refl refl refl refl refl) (λ g. tt)
-    begins_kept CallTake = begun_kept CallTake (idle_alike l idle (starts CallTake) refl refl refl refl refl) (λ g. tt)
-    begins_kept CallClose = begun_kept CallClose (idle_alike l idle (starts CallClose) refl refl refl refl refl) (λ g. tt)
-    begins_kept CallShut = begun_kept CallShut (idle_alike l idle (starts CallShut) refl refl refl refl refl) (λ g. tt)
-    begins_kept CallLook = begun_kept CallLook (idle_alike l idle (starts CallLook) refl refl refl refl refl) (λ g. tt)
+    begins_kept call = begun_kept call (idle_alike l idle (starts call) refl refl refl refl refl) (λ g. tt)
 
   -- a call that has just been begun has done nothing
   begins_story : (p : ℕ) (seen : List (Event T)) (call : Call T) → Story p (some call) (starts call) seen seen
   begins_story p seen (CallPut v) = (tt, begins p seen (CallPut v))
-  begins_story p seen CallTake = (tt, begins p seen CallTake)
-  begins_story p seen CallClose = (tt, begins p seen CallClose)
-  begins_story p seen CallShut = (tt, begins p seen CallShut)
-  begins_story p seen CallLook = (tt, begins p seen CallLook)
+  begins_story p seen call = (tt, begins p seen call)
+
+  pub starts_busy : (call : Call T) → is_idle (starts call) ≡ false
+  starts_busy (CallPut v) = refl
+  starts_busy call = refl
 
   pub queue_told : Told (queue (shape n limit)) Rule Story
   queue_told = record {

@@ -32,7 +32,7 @@ use Rattle.stack_machine.specs.Rule.{Lists, IsFine, Good}
 use Rattle.stack_machine.proofs.Start.{start_kept}
 use Rattle.step_core.specs.stack.Bound.{IsSingle}
 use Rattle.step_core.specs.stack.Costs.{fit, over, alone, harms, cost, IsSingleCall}
-use Rattle.step_core.proofs.stack.Run.{Rule, Story, stack_told, run_stays}
+use Rattle.step_core.proofs.stack.Run.{Rule, Story, starts_busy, stack_told, run_stays}
 use Rattle.step_core.proofs.stack.Weight.{folding, further, need, more, weight, price, harm, price_small}
 use Rattle.step_core.proofs.stack.Pays.{from_small, same_need, step_raises, step_falls, single_ready, rule_ready}
 
@@ -203,10 +203,6 @@ module _ {T : Type 0} (n limit : ℕ) (pos : 0 < n) where
   idle m (Idle a) e = (refl, refl)
   idle m l e = absurd (false≢true e)
 
-  starts_busy : (call : Call T) → is_idle (starts call) ≡ false
-  starts_busy (CallPut v vs) = refl
-  starts_busy call = refl
-
   need_first : (v : T) (vs : List T) → need n (record { values = v ∷ vs; chain = [] }) ≡ fit n (length (v ∷ vs))
   unfolding further
   need_first v vs = omega (arith, same_need n (record { values = v ∷ vs; chain = [] }) (omega arith))
@@ -222,7 +218,7 @@ module _ {T : Type 0} (n limit : ℕ) (pos : 0 < n) where
   stack_pays = record {
     weighs = rule_weighs AnyLine (λ m p l any. tt);
     idle = idle;
-    starts = λ l call. starts_busy call;
+    starts = λ l call. starts_busy n limit call;
     begins = λ m l call. begins m call;
     pays = λ s p v k at busy. (step_falls n (shape n limit) s.memory p v.line (rule_ready k.good p v.line (line_at s p v at)) busy).1;
   }

@@ -1,6 +1,6 @@
 -- Each step of the stack is paid for: it lowers the weight of its line, an exchange that wins is paid out of
 -- the line's harm, and no other line weighs more by more than its price.
-use Rattle.std.proofs.Common.{◌≡◌, ◌≢◌, ℕ, zero, suc, ◌+◌, ◌*◌, ◌-◌, ◌<◌, ◌≤◌, ◌==◌, ◌++◌, Bool, true, false, cond, eqb, ltb, leb, List, [], ◌∷◌, length, reverse, refl, sym, ap, ◌∙◌, eq-eqb, arith, Option as Slot, Some, Ok, Err}
+use Rattle.std.proofs.Common.{◌≡◌, ◌≢◌, ℕ, zero, suc, ◌+◌, ◌*◌, ◌-◌, ◌<◌, ◌≤◌, ◌==◌, ◌++◌, Bool, true, false, cond, eqb, ltb, leb, List, [], ◌∷◌, length, reverse, refl, sym, ap, ◌∙◌, eq-eqb, arith, Option as Slot, Some, Err}
 use Rattle.std.proofs.lemmas.Bool.{false≢true}
 use Rattle.std.proofs.lemmas.Bool.Decides.{nat_tests}
 use Rattle.std.proofs.lemmas.List.{length-reverse}
@@ -12,7 +12,7 @@ use Rattle.bounded_model.specs.declared.answers.PutRefused.TheVariants.{Full as 
 use Rattle.bounded_model.specs.declared.answers.TakeRefused.{TakeRefused}
 use Rattle.bounded_model.specs.declared.answers.TakeRefused.TheVariants.{Empty as TakeEmpty, Closed as TakeClosed, Spent as TakeSpent, Shut as TakeShut}
 use Rattle.bounded_model.specs.declared.history.Event.{Event}
-use Rattle.bounded_model.specs.declared.history.Event.TheVariants.{Hold, Put, Free, Close, Shut}
+use Rattle.bounded_model.specs.declared.history.Event.TheVariants.{Hold}
 use Rattle.bounded_model.specs.Machine.{Shape}
 use Rattle.machine.specs.Words.{Tagged, kept, raised, marked, with_second, same, times, Stands}
 use Rattle.machine.specs.Chains.{first, chain_from}
@@ -28,8 +28,8 @@ use Rattle.stack_machine.specs.declared.lines.Taking.{Taking}
 use Rattle.stack_machine.specs.declared.lines.Taking.TheVariants.{One, Whole}
 use Rattle.stack_machine.specs.declared.lines.Answer.TheVariants.{Put as AnswerPut, Close as AnswerClose, Shut as AnswerShut}
 use Rattle.stack_machine.specs.declared.lines.Line.{Line}
-use Rattle.stack_machine.specs.declared.lines.Line.TheVariants.{Idle, LoadFree, LoadFreeLink, TakeFree, LinkTaken, LoadTop, LinkToTop, SwapTop, LoadTopToRefuse, LoadTopToTake, LoadTopLink, TakeTop, TakeChain, LoadLinkToTurn, TurnLink, LoadLinkToFold, LoadFreeToGive, LinkToFree, GiveBack, LoadTopToClose, MarkTop, LoadTopToShut, ShutTop, LoadTopToLook}
-use Rattle.stack_machine.specs.Machine.{Memory, Outcome, step, held, placed, unplaced, next_node, no_node, with_node, at_take_free, is_idle, goes_on, wins, wins_value, wins_chain, wins_exchange, after_hold, after_give, after_put, after_close, after_shut, ends, gives, refuses, takes}
+use Rattle.stack_machine.specs.declared.lines.Line.TheVariants.{Idle, LoadFree, LoadFreeLink, TakeFree, LinkTaken, LoadTop, LinkToTop, SwapTop, LoadTopToRefuse, LoadTopToTake, TakeTop, TakeChain, LoadLinkToTurn, TurnLink, LoadLinkToFold, LoadFreeToGive, GiveBack, LoadTopToClose, MarkTop, LoadTopToShut, ShutTop}
+use Rattle.stack_machine.specs.Machine.{Memory, Outcome, step, held, next_node, no_node, with_node, at_take_free, is_idle, goes_on, wins, wins_value, wins_chain, wins_exchange, after_hold, ends, gives, refuses, takes}
 use Rattle.stack_machine.specs.Answers.{shape}
 use Rattle.stack_machine.specs.Rule.{Lists, Walks, IsFine, Good}
 use Rattle.step_core.specs.stack.Bound.{IsSingle}
@@ -221,7 +221,6 @@ module _ {T : Type 0} (n : ℕ) where
         (either m.free m.top 0 (more n put + 3) (3 * need n put + 4) (leb c.limit m.free.tag) (no_node put spent) (LoadFreeLink put m.free)
         (no_node_low put spent (omega arith) (omega arith))
         (omega (arith, fresh m.free 3), omega arith))
-    step_falls p (LoadFreeLink put w) f busy = (omega arith, omega arith)
     step_falls p (TakeFree put w k) f busy =
         swaps (same m.free w) (wins (after_hold m w k) (at_take_free put w) (Hold p)) (LoadFree put) 3 (more n put + 1) 3 (3 * need n put + 4) (λ b. take_free_low put w (raised w k) (f b)) (omega arith, omega arith)
     step_falls p (LinkTaken put) f busy = next_low put m.free 0 (4 * further n put + over n (length put.values) + 5) (3 * further n put + 4) (omega arith) (omega arith) (omega arith)
@@ -230,16 +229,13 @@ module _ {T : Type 0} (n : ℕ) where
         let spent : Line T = gives put.chain (AnswerPut (Err (PutSpent put.values TopWord m.top.tag))) in
         either m.free m.top 0 4 4 m.top.mark closed (cond (leb c.limit m.top.tag) spent (LinkToTop put m.top)) (omega arith, omega arith)
         (either m.free m.top 0 4 4 (leb c.limit m.top.tag) spent (LinkToTop put m.top) (omega arith, omega arith) (omega (arith, fresh m.top 4), omega arith))
-    step_falls p (LinkToTop put w) f busy = (omega arith, omega arith)
-    step_falls p (SwapTop put w) f busy =
-        swaps (same m.top w) (wins (after_put m w put) (ends (AnswerPut (Ok (w.tag, unplaced put)))) (Put p (placed put) w.tag)) (LoadTop put) 4 1 4 4 (λ b. (omega arith, omega arith)) (omega arith, omega arith)
+    step_falls p (SwapTop put w) f busy = swaps (same m.top w) _ _ 4 1 4 4 (λ b. (omega arith, omega arith)) (omega arith, omega arith)
     step_falls p (LoadTopToRefuse values) f busy =
         let spent : Line T = ends (AnswerPut (Err (PutSpent values TopWord m.top.tag))) in
         let full : Line T = ends (AnswerPut (Err (PutFull values))) in
         either m.free m.top 0 1 0 m.top.mark (ends (AnswerPut (Err (PutClosed values)))) (cond (leb c.limit m.top.tag) spent full) (omega arith, omega arith)
         (either m.free m.top 0 1 0 (leb c.limit m.top.tag) spent full (omega arith, omega arith) (omega arith, omega arith))
     step_falls p (LoadTopToTake taking) f busy = take_low taking TakeShut (cond m.top.mark TakeClosed TakeEmpty) (TakeSpent TopWord m.top.tag)
-    step_falls p (LoadTopLink w) f busy = (omega arith, omega arith)
     step_falls p (TakeTop w k) f busy = swaps (same m.top w) (wins_value m p w k (m.home w.index)) (LoadTopToTake One) 4 4 3 7 (λ b. by_value (m.home w.index)) (omega arith, omega arith)
       where
         by_value : (o : Option (Slot T)) → Low (wins_value m p w k o) 4 4 7
@@ -247,7 +243,6 @@ module _ {T : Type 0} (n : ℕ) where
         by_value o = (omega arith, omega arith)
     step_falls p (TakeChain d w) f busy =
         swaps (same m.top w) (wins_chain m p d w (chain_from c.capacity m.link w.index)) (LoadTopToTake (Whole d)) 4 (folding n d + 1) 2 7 (λ b. chain_low d w p f) (omega arith, omega arith)
-    step_falls p (LoadLinkToTurn give above i) f busy = (omega arith, omega arith)
     step_falls p (TurnLink give above i k) f busy =
         let turned : Giving T = record give { chain = reverse give.chain } in
         cases (Lower m.free m.top 0 (weighs m (TurnLink give above i k)) 3) (k == NULL) (LoadLinkToFold turned i) (LoadLinkToTurn give i k)
@@ -258,19 +253,14 @@ module _ {T : Type 0} (n : ℕ) where
         cases (Lower m.free m.top 0 (weighs m (LoadLinkToFold give i)) 3) (m.link i == NULL) (LoadFreeToGive give) (LoadLinkToFold give (m.link i))
         (λ b. (omega (arith, f.some), omega arith))
         (λ b. let goes : m.link i ≢ NULL = λ e. grind (arith, nat_tests, e) in (omega (arith, f.next goes), omega arith))
-    step_falls p (LoadFreeToGive give) f busy = (omega (arith, fresh m.free 3), omega arith)
-    step_falls p (LinkToFree give w) f busy = (omega arith, omega arith)
-    step_falls p (GiveBack give w) f busy =
-        swaps (same m.free w) (wins (after_give m w give.chain) (ends give.answer) (Free p (length give.chain))) (LoadFreeToGive give) 3 1 3 3 (λ b. (omega arith, omega arith)) (omega arith, omega arith)
+    step_falls p (GiveBack give w) f busy = swaps (same m.free w) _ _ 3 1 3 3 (λ b. (omega arith, omega arith)) (omega arith, omega arith)
     step_falls p LoadTopToClose f busy =
         either m.free m.top 0 2 4 m.top.mark (ends (AnswerClose false)) (MarkTop m.top) (omega arith, omega arith) (omega (arith, fresh m.top 2), omega arith)
-    step_falls p (MarkTop w) f busy =
-        swaps (same m.top w) (wins (after_close m w) (ends (AnswerClose true)) (Close p)) LoadTopToClose 4 1 2 4 (λ b. (omega arith, omega arith)) (omega arith, omega arith)
+    step_falls p (MarkTop w) f busy = swaps (same m.top w) _ _ 4 1 2 4 (λ b. (omega arith, omega arith)) (omega arith, omega arith)
     step_falls p LoadTopToShut f busy =
         either m.free m.top 0 2 4 m.top.second (ends (AnswerShut false)) (ShutTop m.top) (omega arith, omega arith) (omega (arith, fresh m.top 2), omega arith)
-    step_falls p (ShutTop w) f busy =
-        swaps (same m.top w) (wins (after_shut m w) (ends (AnswerShut true)) (Shut p)) LoadTopToShut 4 1 2 4 (λ b. (omega arith, omega arith)) (omega arith, omega arith)
-    step_falls p LoadTopToLook f busy = (omega arith, omega arith)
+    step_falls p (ShutTop w) f busy = swaps (same m.top w) _ _ 4 1 2 4 (λ b. (omega arith, omega arith)) (omega arith, omega arith)
+    step_falls p l f busy = (omega (arith, fresh), omega arith)
 
     -- a call of one value is ready in every state
     pub single_ready : 0 < n → (l : Line T) → IsSingle l → Ready l

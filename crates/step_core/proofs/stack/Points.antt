@@ -24,14 +24,14 @@ use Rattle.stack_machine.specs.declared.lines.Answer.{Answer}
 use Rattle.stack_machine.specs.declared.lines.Answer.TheVariants.{Put as AnswerPut, Take as AnswerTake, Fold as AnswerFold, Close as AnswerClose, Shut as AnswerShut, Look as AnswerLook}
 use Rattle.stack_machine.specs.declared.lines.Line.{Line}
 use Rattle.stack_machine.specs.declared.lines.Line.TheVariants.{Idle, LoadFree, LoadFreeLink, TakeFree, LinkTaken, LoadTop, LinkToTop, SwapTop, LoadLinkToTurn, TurnLink, LoadLinkToFold, LoadFreeToGive, LinkToFree, GiveBack}
-use Rattle.stack_machine.specs.Machine.{is_idle, starts, stack}
+use Rattle.stack_machine.specs.Machine.{is_idle, stack}
 use Rattle.stack_machine.specs.Answers.{shape, IsRight}
 use Rattle.stack_machine.specs.Deeds.{Makes as HasMadeAll, MakesRefusal, MakesNothing, BackedOut, in_order, HasHeld, HasMade}
 use Rattle.step_core.specs.Linearizable.{Linearizable}
 use Rattle.step_core.specs.stack.Object.{Makes, IsSaid, object, answer}
 use Rattle.step_core.proofs.Entries.{visible}
 use Rattle.step_core.proofs.Points.{Point, Ended, Speaks, linearizable}
-use Rattle.step_core.proofs.stack.Run.{Rule, Story, stack_told, run_stays}
+use Rattle.step_core.proofs.stack.Run.{Rule, Story, starts_busy, stack_told, run_stays}
 
 module _ {T : Type 0} where
   holds_hidden : (p k : ℕ) → visible (holds_of {T = T} p k) ≡ []
@@ -152,18 +152,11 @@ module _ {T : Type 0} (n limit : ℕ) where
       }
   ended p c l b seen story idle = absurd (false≢true idle)
 
-  starts_busy : (call : Call T) → is_idle (starts call) ≡ false
-  starts_busy (CallPut v vs) = refl
-  starts_busy (CallTake taking) = refl
-  starts_busy CallClose = refl
-  starts_busy CallShut = refl
-  starts_busy CallLook = refl
-
   stack_speaks : Speaks {T = T} (stack (shape n limit)) answer (object n limit) (Rule n limit) (Story n limit)
   stack_speaks = record {
     legal = λ m lines h k. k.good.told.legal;
     rest_idle = refl;
-    starts_busy = λ call l. starts_busy call;
+    starts_busy = λ call l. starts_busy n limit call;
     unbegun = λ p l b seen story. ap is_idle story.1;
     going = λ p c l b seen story busy. let d = story.1 in record { between = d.between; is = d.is; point = point p c l (own p d.between) d.made busy };
     ended = ended;

@@ -15,7 +15,7 @@ use Rattle.stack_machine.specs.declared.lines.Answer.{Answer}
 use Rattle.stack_machine.specs.declared.lines.Line.{Line}
 use Rattle.stack_machine.specs.declared.lines.Line.TheVariants.{Idle}
 use Rattle.stack_machine.specs.declared.lines.Call.{Call}
-use Rattle.stack_machine.specs.declared.lines.Call.TheVariants.{Put as CallPut, Take as CallTake, Close as CallClose, Shut as CallShut, Look as CallLook}
+use Rattle.stack_machine.specs.declared.lines.Call.TheVariants.{Put as CallPut}
 use Rattle.stack_machine.specs.Answers.{shape}
 use Rattle.stack_machine.specs.Deeds.{Deeds}
 use Rattle.stack_machine.specs.Machine.{Memory, Pass, State, held, is_idle, starts, step, stack}
@@ -56,18 +56,16 @@ module _ {T : Type 0} (n limit : ℕ) where
 
     begins_kept : (call : Call T) → Rule m (set lines p (starts call)) h
     begins_kept (CallPut y ys) = begun_kept (CallPut y ys) refl refl (λ g. record { chained = tt; wants = omega arith })
-    begins_kept (CallTake taking) = begun_kept (CallTake taking) refl refl (λ g. tt)
-    begins_kept CallClose = begun_kept CallClose refl refl (λ g. tt)
-    begins_kept CallShut = begun_kept CallShut refl refl (λ g. tt)
-    begins_kept CallLook = begun_kept CallLook refl refl (λ g. tt)
+    begins_kept call = begun_kept call refl refl (λ g. tt)
 
   -- a call that has just been begun has done nothing
   begins_story : (p : ℕ) (seen : List (Event T)) (call : Call T) → Story p (some call) (starts call) seen seen
   begins_story p seen (CallPut v vs) = (tt, begins (shape n limit) p seen (CallPut v vs))
-  begins_story p seen (CallTake taking) = (tt, begins (shape n limit) p seen (CallTake taking))
-  begins_story p seen CallClose = (tt, begins (shape n limit) p seen CallClose)
-  begins_story p seen CallShut = (tt, begins (shape n limit) p seen CallShut)
-  begins_story p seen CallLook = (tt, begins (shape n limit) p seen CallLook)
+  begins_story p seen call = (tt, begins (shape n limit) p seen call)
+
+  pub starts_busy : (call : Call T) → is_idle (starts call) ≡ false
+  starts_busy (CallPut v vs) = refl
+  starts_busy call = refl
 
   module _ (m : Memory T) (lines : List (Line T)) (h : List (Event T)) (p : ℕ) (l : Line T) (begun seen : List (Event T)) (x : Rule m lines h) (e : get_elem? lines p ≡ some l) (busy : is_idle l ≡ false) (a : Ahead p seen h) where
     steps_did : (call : Option (Call T)) → Did p call l begun seen → Did p call (step (shape n limit) m p l).line begun ((step (shape n limit) m p l).events ++ h)
