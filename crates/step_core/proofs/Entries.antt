@@ -4,7 +4,7 @@ use Rattle.std.proofs.Common.{◌≡◌, ◌≢◌, ◌⊎◌, ℕ, ◌==◌, co
 use Rattle.std.proofs.lemmas.Bool.Decides.{eqb_tells}
 use mathlib.Core.Option.{some}
 use Rattle.bounded_model.specs.declared.history.Event.{Event}
-use Rattle.bounded_model.specs.declared.history.Event.TheVariants.{Hold, Put, Take, TakeAll, Free, Close, Shut}
+use Rattle.bounded_model.specs.declared.history.Event.TheVariants.{Hold, Free}
 use Rattle.bounded_model.specs.Histories.{own, pass_of}
 use Rattle.bounded_model.specs.Machine.{state, Needs, Legal}
 use Rattle.bounded_model.proofs.Histories.{no_parts, own-mine, own-earlier, Later-cons}
@@ -22,11 +22,7 @@ module _ {T : Type 0} where
   visible-append [] fs = refl
   visible-append (Hold p ∷ es) fs = visible-append es fs
   visible-append (Free p k ∷ es) fs = visible-append es fs
-  visible-append (Put p vs n ∷ es) fs = ap (λ (l : List (Event T)). Put p vs n ∷ l) (visible-append es fs)
-  visible-append (Take p v n ∷ es) fs = ap (λ (l : List (Event T)). Take p v n ∷ l) (visible-append es fs)
-  visible-append (TakeAll p vs n ∷ es) fs = ap (λ (l : List (Event T)). TakeAll p vs n ∷ l) (visible-append es fs)
-  visible-append (Close p ∷ es) fs = ap (λ (l : List (Event T)). Close p ∷ l) (visible-append es fs)
-  visible-append (Shut p ∷ es) fs = ap (λ (l : List (Event T)). Shut p ∷ l) (visible-append es fs)
+  visible-append (e ∷ es) fs = ap (λ (l : List (Event T)). e ∷ l) (visible-append es fs)
 
   -- an event is of a hand alone, or it is visible
   abbrev Shown : Event T → Type 0
@@ -35,11 +31,7 @@ module _ {T : Type 0} where
   shown : (e : Event T) → Shown e
   shown (Hold p) = inl (tt, λ es. refl)
   shown (Free p k) = inl (tt, λ es. refl)
-  shown (Put p vs n) = inr (λ es. refl)
-  shown (Take p v n) = inr (λ es. refl)
-  shown (TakeAll p vs n) = inr (λ es. refl)
-  shown (Close p) = inr (λ es. refl)
-  shown (Shut p) = inr (λ es. refl)
+  shown e = inr (λ es. refl)
 
   -- events of which no other pass has one are all of pass p
   pub all_mine : (p : ℕ) (es : List (Event T)) → ((q : ℕ) → q ≢ p → own q es ≡ []) → own p es ≡ es
@@ -102,17 +94,13 @@ module _ {T C A : Type 0} where
   without_points-append [] b = refl
   without_points-append (Invokes p call ∷ a) b = ap (λ (l : List (Entry T C A)). Invokes p call ∷ l) (without_points-append a b)
   without_points-append (Responds p x ∷ a) b = ap (λ (l : List (Entry T C A)). Responds p x ∷ l) (without_points-append a b)
-  without_points-append (Hand e ∷ a) b = without_points-append a b
-  without_points-append (Updates k e ∷ a) b = without_points-append a b
-  without_points-append (Reads k ∷ a) b = without_points-append a b
+  without_points-append (m ∷ a) b = without_points-append a b
 
   pub events-append : (a b : List (Entry T C A)) → events (a ++ b) ≡ events a ++ events b
   events-append [] b = refl
-  events-append (Invokes p call ∷ a) b = events-append a b
-  events-append (Responds p x ∷ a) b = events-append a b
   events-append (Hand e ∷ a) b = ap (λ (l : List (Event T)). e ∷ l) (events-append a b)
   events-append (Updates k e ∷ a) b = ap (λ (l : List (Event T)). e ∷ l) (events-append a b)
-  events-append (Reads k ∷ a) b = events-append a b
+  events-append (m ∷ a) b = events-append a b
 
   pub stage-quiet : (p : ℕ) (a b : List (Entry T C A)) → Quiets p a → stage p (a ++ b) ≡ stage p b
   stage-quiet p [] b q = refl
@@ -164,11 +152,9 @@ module _ {T C A : Type 0} where
   pub split : (a : List (Event T)) (course : List (Entry T C A)) (b : List (Event T)) → events course ≡ a ++ b → Split course a b
   split [] course b e = record { newer = []; older = course; is = refl; below = e }
   split (y ∷ a) [] b e = cc
-  split (y ∷ a) (Invokes p call ∷ course) b e = with_first (Invokes p call) refl (split (y ∷ a) course b e)
-  split (y ∷ a) (Responds p x ∷ course) b e = with_first (Responds p x) refl (split (y ∷ a) course b e)
   split (y ∷ a) (Hand z ∷ course) b e = let rest : events course ≡ a ++ b = cc in with_first (Hand z) refl (split a course b rest)
   split (y ∷ a) (Updates k z ∷ course) b e = let rest : events course ≡ a ++ b = cc in with_first (Updates k z) refl (split a course b rest)
-  split (y ∷ a) (Reads k ∷ course) b e = with_first (Reads k) refl (split (y ∷ a) course b e)
+  split (y ∷ a) (m ∷ course) b e = with_first m refl (split (y ∷ a) course b e)
 
   module _ (o : Object T C A) where
     -- a course grows by these events, and no operation takes effect

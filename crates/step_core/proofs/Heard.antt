@@ -32,11 +32,9 @@ module _ {T C A : Type 0} (o : Object T C A) where
   Course = List (Entry T C A)
 
   still_there : (e : Event T) (m : Entry T C A) (course : Course) → Among e (events course) → Among e (events (m ∷ course))
-  still_there e (Invokes p call) course there = there
-  still_there e (Responds p answer) course there = there
   still_there e (Hand e') course there = inr there
   still_there e (Updates k e') course there = inr there
-  still_there e (Reads k) course there = there
+  still_there e m course there = there
 
   -- an answer of a call is right after these events, or by one of those that come next
   abbrev pub Right : ℕ → C → A → List (Event T) → List (Event T) → Type 0

@@ -63,17 +63,13 @@ module _ {T C A : Type 0} where
   without_points [] = []
   without_points (Invokes p call ∷ course) = Invokes p call ∷ without_points course
   without_points (Responds p answer ∷ course) = Responds p answer ∷ without_points course
-  without_points (Hand e ∷ course) = without_points course
-  without_points (Updates k e ∷ course) = without_points course
-  without_points (Reads k ∷ course) = without_points course
+  without_points (m ∷ course) = without_points course
 
   abbrev pub events : List (Entry T C A) → List (Event T)
   events [] = []
-  events (Invokes p call ∷ course) = events course
-  events (Responds p answer ∷ course) = events course
   events (Hand e ∷ course) = e ∷ events course
   events (Updates k e ∷ course) = e ∷ events course
-  events (Reads k ∷ course) = events course
+  events (m ∷ course) = events course
 
   abbrev pub stage : ℕ → List (Entry T C A) → Stage C A
   stage p [] = Rests

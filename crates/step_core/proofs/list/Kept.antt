@@ -5,7 +5,7 @@ use lib.ListN.{get_elem?}
 use Rattle.tagged_index.specs.declared.word.TheConstants.{NULL}
 use Rattle.machine.specs.Words.{Tagged, raised, kept, same, store, times, Stands}
 use Rattle.machine.specs.OneList.{Later}
-use Rattle.step_core.specs.list.Machine.{Memory, At, Line, Idle, LoadTopToTake, LoadTopLink, TakeTop, LoadTopToGive, LinkToTop, GiveBack}
+use Rattle.step_core.specs.list.Machine.{Memory, At, Line, Idle, LoadTopLink, TakeTop, LinkToTop, GiveBack}
 use Rattle.step_core.specs.list.Law.{giving, holds}
 use Rattle.step_core.specs.list.Rule.{IsFine, Good, Kept}
 use Rattle.machine.proofs.Tests.{at_most_one}
@@ -16,13 +16,10 @@ use Rattle.machine.proofs.OneList.{read_top_later, read_link_later, ready}
 module _ (limit : ℕ) (top : Tagged) (link : ℕ → ℕ) (list : List ℕ) (top' : Tagged) (link' : ℕ → ℕ) (list' : List ℕ) where
   -- what holds of a pass goes on to hold where the others leave alone what it relies on
   fine_later : (l : Line) → Later top link list top' link' list' → ((i : ℕ) → 0 < times i (giving l) → link' i ≡ link i) → IsFine limit top link list l → IsFine limit top' link' list' l
-  fine_later Idle r own f = tt
-  fine_later LoadTopToTake r own f = tt
   fine_later (LoadTopLink w) r own f = read_top_later w r f
   fine_later (TakeTop w k) r own f = (read_top_later w r f.0, read_link_later w k r f.0 f.1)
-  fine_later (LoadTopToGive i) r own f = tt
-  fine_later (LinkToTop i w) r own f = tt
   fine_later (GiveBack i w) r own f = own i (omega (arith, times_here i [])) ∙ f
+  fine_later l r own f = tt
 
 -- What one step of one pass may do, which makes it from v to v'
 record Moves (limit : ℕ) (m : Memory) (list : List ℕ) (v : At) (m' : Memory) (list' : List ℕ) (v' : At) : Type 0 where

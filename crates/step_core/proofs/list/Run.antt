@@ -67,13 +67,9 @@ module _ (n limit : ℕ) where
 
   -- a list has no events
   no_events : (m : Memory) (line : Line) (hand : List ℕ) → (step limit m line hand).events ≡ []
-  no_events m Idle hand = refl
-  no_events m LoadTopToTake hand = refl
-  no_events m (LoadTopLink w) hand = refl
   no_events m (TakeTop w k) hand = cases (λ (o : Outcome). o.events ≡ []) (same m.top w) (goes_on (record m { top = raised w k }) Idle (w.index ∷ hand)) (goes_on m LoadTopToTake hand) (λ h. refl) (λ h. refl)
-  no_events m (LoadTopToGive i) hand = refl
-  no_events m (LinkToTop i w) hand = refl
   no_events m (GiveBack i w) hand = cases (λ (o : Outcome). o.events ≡ []) (same m.top w) (goes_on (record m { top = kept w i }) Idle hand) (goes_on m (LoadTopToGive i) hand) (λ h. refl) (λ h. refl)
+  no_events m l hand = refl
 
   abbrev Rule : Memory → List At → List Events → Type 0
   Rule m passes h = Kept n limit m passes

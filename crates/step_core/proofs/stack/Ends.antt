@@ -92,12 +92,7 @@ module _ {T : Type 0} (n : ℕ) (pos : 0 < n) where
   single_light m (LoadFreeLink put w) e = let f = one_fits n pos (length put.values) e in (omega (arith, f.1, one_needed put e, lost_small), omega (arith, one_needed put e))
   single_light m (TakeFree put w k) e = let f = one_fits n pos (length put.values) e in (omega (arith, f.1, one_needed put e, lost_small), omega (arith, one_needed put e))
   single_light m (LinkTaken put) e = let f = one_fits n pos (length put.values) e in (omega (arith, f.1, one_further put e), omega (arith, one_further put e))
-  single_light m (LoadTopToTake One) e = (omega arith, omega arith)
   single_light m (LoadTopToTake (Whole d)) e = absurd e
-  single_light m (TakeChain d w) e = absurd e
-  single_light m (LoadLinkToTurn give above i) e = absurd e
-  single_light m (TurnLink give above i k) e = absurd e
-  single_light m (LoadLinkToFold give i) e = absurd e
   single_light m l e = (omega (arith, lost_small), omega arith)
 
   -- and where the rule holds: a put that looks for its node has none
@@ -106,12 +101,7 @@ module _ {T : Type 0} (n : ℕ) (pos : 0 < n) where
   single_small limit m g (LoadFreeLink put w) f e = omega (arith, single_more put e f.0.wants, lost_small)
   single_small limit m g (TakeFree put w k) f e = omega (arith, single_more put e f.0.wants, lost_small)
   single_small limit m g (LinkTaken put) f e = omega (arith, (one_fits n pos (length put.values) e).1, (one_further put e).1 f.some_node)
-  single_small limit m g (LoadTopToTake One) f e = omega arith
   single_small limit m g (LoadTopToTake (Whole d)) f e = absurd e
-  single_small limit m g (TakeChain d w) f e = absurd e
-  single_small limit m g (LoadLinkToTurn give above i) f e = absurd e
-  single_small limit m g (TurnLink give above i k) f e = absurd e
-  single_small limit m g (LoadLinkToFold give i) f e = absurd e
   single_small limit m g l f e = omega (arith, lost_small)
 
 module _ {T : Type 0} where

@@ -1,17 +1,14 @@
 -- What the list's machine keeps in every schedule.
 use Rattle.std.specs.Prelude.{◌≡◌, ℕ, ◌+◌, ◌≤◌, ltb, if◌then◌else◌, List, [], ◌∷◌}
 use Rattle.machine.specs.Words.{times, total, Stands}
-use Rattle.step_core.specs.list.Machine.{Line, Idle, LoadTopToTake, LoadTopLink, TakeTop, LoadTopToGive, LinkToTop, GiveBack, At, State}
+use Rattle.step_core.specs.list.Machine.{Line, LoadTopToGive, LinkToTop, GiveBack, At, State}
 
 -- the index that a line is giving back
 abbrev pub giving : Line → List ℕ
-giving Idle = []
-giving LoadTopToTake = []
-giving (LoadTopLink w) = []
-giving (TakeTop w k) = []
 giving (LoadTopToGive i) = i ∷ []
 giving (LinkToTop i w) = i ∷ []
 giving (GiveBack i w) = i ∷ []
+giving l = []
 
 -- how often a pass holds i
 abbrev pub holds : ℕ → At → ℕ

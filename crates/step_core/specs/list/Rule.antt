@@ -4,18 +4,15 @@ use mathlib.Core.Option.{some}
 use lib.ListN.{get_elem?}
 use Rattle.machine.specs.Words.{Tagged, times, total, Stands}
 use Rattle.machine.specs.OneList.{ReadTop, ReadLink}
-use Rattle.step_core.specs.list.Machine.{Memory, At, Line, Idle, LoadTopToTake, LoadTopLink, TakeTop, LoadTopToGive, LinkToTop, GiveBack}
+use Rattle.step_core.specs.list.Machine.{Memory, At, Line, LoadTopLink, TakeTop, GiveBack}
 use Rattle.step_core.specs.list.Law.{holds}
 
 -- of what a pass has read
 abbrev pub IsFine : ℕ → Tagged → (ℕ → ℕ) → List ℕ → Line → Type 0
-IsFine limit top link list Idle = Unit {0}
-IsFine limit top link list LoadTopToTake = Unit {0}
 IsFine limit top link list (LoadTopLink w) = ReadTop limit top list w
 IsFine limit top link list (TakeTop w k) = ReadTop limit top list w × ReadLink top link w k
-IsFine limit top link list (LoadTopToGive i) = Unit {0}
-IsFine limit top link list (LinkToTop i w) = Unit {0}
 IsFine limit top link list (GiveBack i w) = link i ≡ w.index
+IsFine limit top link list l = Unit {0}
 
 -- of the whole machine, where the top and the links stand for this list
 pub record Good (n limit : ℕ) (m : Memory) (passes : List At) (list : List ℕ) : Type 0 where

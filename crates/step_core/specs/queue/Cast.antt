@@ -1,6 +1,5 @@
 -- Who plays the scripts of the queue, and the calls and answers that they speak of.
-use Rattle.std.specs.Prelude.{ℕ, List, Some, Ok, Err}
-use mathlib.Core.Option.{Option, none, some}
+use Rattle.std.specs.Prelude.{ℕ, List, Ok, Err}
 use Rattle.bounded_model.specs.declared.answers.Word.TheVariants.{Cells as CellsWord, Next as NextWord}
 use Rattle.bounded_model.specs.declared.answers.PutRefused.TheVariants.{Full, Closed as PutClosed, Spent as PutSpent}
 use Rattle.bounded_model.specs.declared.answers.TakeRefused.{TakeRefused}
@@ -12,10 +11,10 @@ use Rattle.queue_machine.specs.declared.lines.Answer.TheVariants.{Put, Take}
 use Rattle.queue_machine.specs.declared.lines.Call.{Call}
 use Rattle.queue_machine.specs.declared.lines.Call.TheVariants.{Put as PutCall, Take as TakeCall}
 use Rattle.queue_machine.specs.declared.lines.Line.{Line}
-use Rattle.queue_machine.specs.declared.lines.Line.TheVariants.{Idle}
 use Rattle.queue_machine.specs.Machine.{Memory, Outcome, queue}
 use Rattle.step_core.specs.queue.Law.{values_left}
 use Rattle.queue_machine.specs.Answers.{shape}
+use Rattle.step_core.specs.queue.Object.{answer}
 use Rattle.step_core.specs.Scripts.{Player, Says, Reply}
 use Rattle.step_core.specs.Scripts as scripts
 
@@ -32,10 +31,6 @@ queue_with moves s = record (queue s) { step = moves s }
 
 abbrev pub Players : Type 0
 Players = Player (Memory ℕ) (Line ℕ) (Call ℕ) (Answer ℕ) (Event ℕ)
-
-abbrev pub answer : Line ℕ → Option (Answer ℕ)
-answer (Idle (Some a)) = some a
-answer l = none
 
 -- a machine, the answer of a line, and what is left from the front
 abbrev pub player : Machines → Shape → Players

@@ -1,6 +1,5 @@
 -- Who plays the scripts of the stack, and the calls and answers that they speak of.
-use Rattle.std.specs.Prelude.{ℕ, List, [], Some, Ok, Err}
-use mathlib.Core.Option.{Option, none, some}
+use Rattle.std.specs.Prelude.{ℕ, List, [], Ok, Err}
 use Rattle.bounded_model.specs.declared.answers.Word.TheVariants.{Free as FreeWord, Top as TopWord}
 use Rattle.bounded_model.specs.declared.answers.PutRefused.TheVariants.{Full, Closed as PutClosed, Spent as PutSpent}
 use Rattle.bounded_model.specs.declared.answers.TakeRefused.{TakeRefused}
@@ -15,9 +14,9 @@ use Rattle.stack_machine.specs.declared.lines.Answer.TheVariants.{Put, Take, Fol
 use Rattle.stack_machine.specs.declared.lines.Call.{Call}
 use Rattle.stack_machine.specs.declared.lines.Call.TheVariants.{Put as PutCall, Take as TakeCall}
 use Rattle.stack_machine.specs.declared.lines.Line.{Line}
-use Rattle.stack_machine.specs.declared.lines.Line.TheVariants.{Idle}
 use Rattle.stack_machine.specs.Machine.{Memory, Outcome, stack}
 use Rattle.stack_machine.specs.Answers.{shape}
+use Rattle.step_core.specs.stack.Object.{answer}
 use Rattle.step_core.specs.Scripts.{Player, Says, Reply}
 use Rattle.step_core.specs.Scripts as scripts
 
@@ -34,10 +33,6 @@ stack_with moves s = record (stack s) { step = moves s }
 
 abbrev pub Players : Type 0
 Players = Player (Memory ℕ) (Line ℕ) (Call ℕ) (Answer ℕ) (Event ℕ)
-
-abbrev pub answer : Line ℕ → Option (Answer ℕ)
-answer (Idle (Some a)) = some a
-answer l = none
 
 -- a machine, the answer of a line, and what is left from the top down
 abbrev pub player : Machines → Shape → Players
