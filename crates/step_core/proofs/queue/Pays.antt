@@ -19,11 +19,12 @@ use Rattle.queue_machine.specs.declared.lines.Seeking.TheVariants.{ToLink, ToRef
 use Rattle.queue_machine.specs.declared.lines.Answer.TheVariants.{Put as AnswerPut, Take as AnswerTake, Shut as AnswerShut, Look as AnswerLook}
 use Rattle.queue_machine.specs.declared.lines.Line.{Line}
 use Rattle.queue_machine.specs.declared.lines.Line.TheVariants.{Idle, LoadCells, LoadCellLink, TakeCell, LoadNodes, LoadNodeLink, TakeNode, LoadNext, PrepareNext, LoadTail, LoadTailNext, CheckTail, SwingTail, LinkNext, SwingToLinked, MarkNext, LoadHead, LoadTailToTake, CheckHead, SwingTailToTake, LoadCell, TakeHead, LoadNodesToGive, GiveNode, LoadCellsToGive, GiveCell, LoadHeadToLook, CheckHeadToLook, LoadHeadToShut, ShutHead}
-use Rattle.queue_machine.specs.Machine.{Memory, Outcome, null_word, goes_on, wins_value, wins_exchange, step, is_idle, ends, gives, frees, back_closed, back_null, found_back, after_next, after_link, after_swing, after_close, next_of}
+use Rattle.queue_machine.specs.Machine.{Memory, null_word, goes_on, wins_value, wins_exchange, step, is_idle, ends, gives, frees, back_closed, back_null, found_back, after_next, after_link, after_swing, after_close, next_of}
 use Rattle.queue_machine.specs.Answers.{shape}
 use Rattle.queue_machine.specs.Rule.{Lists, Lags, Ends, IsFine, Good}
 use Rattle.queue_machine.proofs.Chain.{word_else, tail_in, behind_null}
 use Rattle.queue_machine.proofs.StepKinds.{outside}
+use Rattle.step_core.proofs.Falls.{raised_by, Lower, Low, either, swaps}
 use Rattle.step_core.proofs.queue.Weight.{turn, seeking_harm, passed, is_end, lag, late, lag_small, late_small, weight_of, weight, price, harm, cells_raise, nodes_raise, head_raise, next_raise, swing_raise}
 
 module _ {T : Type 0} where
@@ -122,11 +123,7 @@ module _ {T : Type 0} where
           let after : weight prepared u ≡ weight_of m.cells m.nodes m.head m.tail prepared.next (lag m) (late m) u = λ i. weight_of m.cells m.nodes m.head m.tail prepared.next (prepare_lag i) (cond (eqb (at_tail i).index NULL) 0 5) u in
           omega (arith, after, next_weight p u at')
 
-    -- an exchange: it is won, or changes nothing; and a load that is compared
-    raised_by : (u l : Line T) (b : Bool) (o : Outcome T) (d : ℕ) → (b ≡ true → weight o.memory u ≤ weight m u + d) → weight (cond b o (goes_on m l)).memory u ≤ weight m u + cond b d 0
-    raised_by u l true o d won = won refl
-    raised_by u l false o d won = omega arith
-
+    -- a load that is compared
     compared : (u l l' : Line T) (b : Bool) → weight (cond b (goes_on m l) (goes_on m l')).memory u ≤ weight m u + 0
     compared u l l' true = omega arith
     compared u l l' false = omega arith
@@ -137,61 +134,44 @@ module _ {T : Type 0} where
         next_raise m.cells m.nodes m.head m.tail m.next next' (lag m) (late m) (lag m') (late m') u (lag_small m') (late_small m')
 
     pub step_raises : (q p r : ℕ) (l u : Line T) → get_elem? lines q ≡ some l → get_elem? lines r ≡ some u → weight (step (shape n limit) m p l).memory u ≤ weight m u + spends m l
-    step_raises q p r (TakeCell v w k) u at at' = raised_by u (LoadCells v) (same m.cells w) _ 3 (λ b. cells_raise m.cells m.nodes m.head m.tail (raised w k) m.next (lag m) (late m) u)
-    step_raises q p r (TakeNode put w k) u at at' = raised_by u (LoadNodes put) (same m.nodes w) _ 3 (λ b. nodes_raise m.cells m.nodes m.head m.tail (raised w k) m.next (lag m) (late m) u)
+    step_raises q p r (TakeCell v w k) u at at' = raised_by weight m u (LoadCells v) (same m.cells w) _ 3 (λ b. cells_raise m.cells m.nodes m.head m.tail (raised w k) m.next (lag m) (late m) u)
+    step_raises q p r (TakeNode put w k) u at at' = raised_by weight m u (LoadNodes put) (same m.nodes w) _ 3 (λ b. nodes_raise m.cells m.nodes m.head m.tail (raised w k) m.next (lag m) (late m) u)
     step_raises q p r (PrepareNext link y) u at at' = prepare_raises q link y at r u at'
     step_raises q p r (CheckTail s w y) u at at' = compared u (found_back s w y) (LoadTail s) (same m.tail w)
     step_raises q p r (SwingTail s w y) u at at' =
         let f : IsFine limit m g (SwingTail s w y) = x.linked.fine q (SwingTail s w y) at in
-        raised_by u (LoadTail s) (same m.tail w) _ 0 (λ b. swing_raises w y f.1 (same-is m.tail w b) u)
-    step_raises q p r (LinkNext link w y) u at at' = raised_by u (LoadTail (ToLink link)) (same (m.next w.index) y) _ 8 (λ b. link_raises (after_link m w y link).next (after_link m w y link).home u)
-    step_raises q p r (SwingToLinked v w y) u at at' = raised_by u _ (same m.tail w) _ 0 (λ b. swing_raises w y (x.linked.fine q (SwingToLinked v w y) at) (same-is m.tail w b) u)
-    step_raises q p r (MarkNext w y) u at at' = raised_by u (LoadTail ToClose) (same (m.next w.index) y) _ 8 (λ b. link_raises (after_close m w y).next m.home u)
+        raised_by weight m u (LoadTail s) (same m.tail w) _ 0 (λ b. swing_raises w y f.1 (same-is m.tail w b) u)
+    step_raises q p r (LinkNext link w y) u at at' = raised_by weight m u (LoadTail (ToLink link)) (same (m.next w.index) y) _ 8 (λ b. link_raises (after_link m w y link).next (after_link m w y link).home u)
+    step_raises q p r (SwingToLinked v w y) u at at' = raised_by weight m u _ (same m.tail w) _ 0 (λ b. swing_raises w y (x.linked.fine q (SwingToLinked v w y) at) (same-is m.tail w b) u)
+    step_raises q p r (MarkNext w y) u at at' = raised_by weight m u (LoadTail ToClose) (same (m.next w.index) y) _ 8 (λ b. link_raises (after_close m w y).next m.home u)
     step_raises q p r (CheckHead h w y) u at at' = compared u _ LoadHead (same m.head h)
-    step_raises q p r (SwingTailToTake w y) u at at' = raised_by u LoadHead (same m.tail w) _ 0 (λ b. swing_raises w y (x.linked.fine q (SwingTailToTake w y) at) (same-is m.tail w b) u)
-    step_raises q p r (TakeHead h y k) u at at' = raised_by u LoadHead (same m.head h) _ 6 (λ b. by_value (m.home k))
+    step_raises q p r (SwingTailToTake w y) u at at' = raised_by weight m u LoadHead (same m.tail w) _ 0 (λ b. swing_raises w y (x.linked.fine q (SwingTailToTake w y) at) (same-is m.tail w b) u)
+    step_raises q p r (TakeHead h y k) u at at' = raised_by weight m u LoadHead (same m.head h) _ 6 (λ b. by_value (m.home k))
       where
         by_value : (o : Option (Slot T)) → weight (wins_value m p h y k o).memory u ≤ weight m u + 6
         by_value (some (Some v)) = head_raise m.cells m.nodes m.head m.tail (raised h y.index) m.next (lag m) (late m) u
         by_value o = omega arith
-    step_raises q p r (GiveNode give w) u at at' = raised_by u (LoadNodesToGive give) (same m.nodes w) _ 3 (λ b. nodes_raise m.cells m.nodes m.head m.tail (kept w give.node) m.next (lag m) (late m) u)
-    step_raises q p r (GiveCell give w) u at at' = raised_by u (LoadCellsToGive give) (same m.cells w) _ 3 (λ b. cells_raise m.cells m.nodes m.head m.tail (kept w give.cell) m.next (lag m) (late m) u)
+    step_raises q p r (GiveNode give w) u at at' = raised_by weight m u (LoadNodesToGive give) (same m.nodes w) _ 3 (λ b. nodes_raise m.cells m.nodes m.head m.tail (kept w give.node) m.next (lag m) (late m) u)
+    step_raises q p r (GiveCell give w) u at at' = raised_by weight m u (LoadCellsToGive give) (same m.cells w) _ 3 (λ b. cells_raise m.cells m.nodes m.head m.tail (kept w give.cell) m.next (lag m) (late m) u)
     step_raises q p r (CheckHeadToLook h y) u at at' = compared u _ LoadHeadToLook (same m.head h)
-    step_raises q p r (ShutHead h) u at at' = raised_by u LoadHeadToShut (same m.head h) _ 6 (λ b. head_raise m.cells m.nodes m.head m.tail (with_second h) m.next (lag m) (late m) u)
+    step_raises q p r (ShutHead h) u at at' = raised_by weight m u LoadHeadToShut (same m.head h) _ 6 (λ b. head_raise m.cells m.nodes m.head m.tail (with_second h) m.next (lag m) (late m) u)
     step_raises q p r l u at at' = omega arith
 
     -- What a step leaves
 
-    -- in this memory a line weighs less than r, and has paid d out of a harm of h
-    abbrev Lower : Memory T → ℕ → ℕ → ℕ → Line T → Type 0
-    Lower m' d r h l = (weight m' l < r) × (harm l + d ≤ h)
-
-    abbrev Low : Outcome T → ℕ → ℕ → ℕ → Type 0
-    Low o d r h = Lower o.memory d r h o.line
-
-    -- a test of what was loaded
-    either : (r h : ℕ) (b : Bool) (l l' : Line T) → Lower m 0 r h l → Lower m 0 r h l' → Lower m 0 r h (cond b l l')
-    either r h true l l' f f' = f
-    either r h false l l' f f' = f'
-
-    -- an exchange: it is won, or the pass begins again
-    swaps : (b : Bool) (o : Outcome T) (l : Line T) (d r more h : ℕ) → (b ≡ true → Low o d r h) → Lower m 0 (r + more) h l → Low (cond b o (goes_on m l)) (cond b d 0) (r + lost b more) h
-    swaps true o l d r more h f f' = let none = lost_none true more refl in (omega (arith, f refl), omega (arith, f refl))
-    swaps false o l d r more h f f' = let all = lost_all false more refl in (omega (arith, f'), omega (arith, f'))
-
     -- a load that is compared, with another word that has been read since
-    looks : (b c : Bool) (l l' : Line T) (r d h : ℕ) → (b ≡ true → Lower m 0 (r + lost c (suc d)) h l) → Lower m 0 (r + d) h l' → Low (cond b (goes_on m l) (goes_on m l')) 0 (r + lost_two b c d) h
+    looks : (b c : Bool) (l l' : Line T) (r d h : ℕ) → (b ≡ true → Lower weight harm m 0 (r + lost c (suc d)) h l) → Lower weight harm m 0 (r + d) h l' → Low weight harm (cond b (goes_on m l) (goes_on m l')) 0 (r + lost_two b c d) h
     looks true c l l' r d h f f' = let t = f refl in (omega (arith, t, lost_first c d), omega (arith, t))
     looks false c l l' r d h f f' = (omega (arith, f', lost_both c d), omega (arith, f'))
 
     module _ (q p : ℕ) where
       -- what a pass does that has seen the end of the chain
-      end_low : (s : Seeking T) (w y : Tagged) → Lower m 0 (turn s + lag m + lost (same (m.next w.index) y) 4) (seeking_harm s) (back_null s w y)
+      end_low : (s : Seeking T) (w y : Tagged) → Lower weight harm m 0 (turn s + lag m + lost (same (m.next w.index) y) 4) (seeking_harm s) (back_null s w y)
       end_low (ToLink link) w y = (omega (arith, lost_more (same (m.next w.index) y) 4 (lag m)), omega arith)
       end_low (ToRefuse v) w y = (omega arith, omega arith)
       end_low ToClose w y = (omega (arith, lost_more (same (m.next w.index) y) 4 (lag m)), omega arith)
 
-      closed_low : (s : Seeking T) (w y : Tagged) → m.tail ≡ w → y.mark ≡ true → Lower m 0 (turn s + lag m + lost (same (m.next w.index) y) 4) (seeking_harm s) (back_closed s)
+      closed_low : (s : Seeking T) (w y : Tagged) → m.tail ≡ w → y.mark ≡ true → Lower weight harm m 0 (turn s + lag m + lost (same (m.next w.index) y) 4) (seeking_harm s) (back_closed s)
       closed_low (ToLink link) w y won marked = (omega (arith, four (same (m.next w.index) y) refl), omega arith)
         where
           four : (b : Bool) → same (m.next w.index) y ≡ b → 4 ≤ lag m + lost (same (m.next w.index) y) 4
@@ -202,10 +182,10 @@ module _ {T : Type 0} where
       closed_low (ToRefuse v) w y won marked = (omega arith, omega arith)
       closed_low ToClose w y won marked = (omega arith, omega arith)
 
-      check_tail_low : (s : Seeking T) (w y : Tagged) → get_elem? lines q ≡ some (CheckTail s w y) → m.tail ≡ w → Lower m 0 (turn s + lag m + lost (same (m.next w.index) y) 4) (seeking_harm s) (found_back s w y)
+      check_tail_low : (s : Seeking T) (w y : Tagged) → get_elem? lines q ≡ some (CheckTail s w y) → m.tail ≡ w → Lower weight harm m 0 (turn s + lag m + lost (same (m.next w.index) y) 4) (seeking_harm s) (found_back s w y)
       check_tail_low s w y at won =
           let f : IsFine limit m g (CheckTail s w y) = x.linked.fine q (CheckTail s w y) at in
-          let low : Line T → Type 0 = Lower m 0 (turn s + lag m + lost (same (m.next w.index) y) 4) (seeking_harm s) in
+          let low : Line T → Type 0 = Lower weight harm m 0 (turn s + lag m + lost (same (m.next w.index) y) 4) (seeking_harm s) in
           cases low y.mark (back_closed s) (cond (eqb y.index NULL) (back_null s w y) (SwingTail s w y))
           (λ b. closed_low s w y won b)
           (λ b. cases low (eqb y.index NULL) (back_null s w y) (SwingTail s w y)
@@ -217,17 +197,17 @@ module _ {T : Type 0} where
 
       -- the take's second look at the head
       check_head_low : (h w y : Tagged) → get_elem? lines q ≡ some (CheckHead h w y) → m.head ≡ h
-          → Lower m 0 (9 + late m + lost (passed m.tail h w) 5) 12 (cond y.mark (ends (AnswerTake (Err TakeClosed))) (cond (eqb y.index NULL) (ends (AnswerTake (Err TakeEmpty))) (cond (eqb w.index h.index) (SwingTailToTake w y) (LoadCell h y))))
+          → Lower weight harm m 0 (9 + late m + lost (passed m.tail h w) 5) 12 (cond y.mark (ends (AnswerTake (Err TakeClosed))) (cond (eqb y.index NULL) (ends (AnswerTake (Err TakeEmpty))) (cond (eqb w.index h.index) (SwingTailToTake w y) (LoadCell h y))))
       check_head_low h w y at won =
           let f : IsFine limit m g (CheckHead h w y) = x.linked.fine q (CheckHead h w y) at in
           let r : ℕ = 9 + late m + lost (passed m.tail h w) 5 in
-          either r 12 y.mark (ends (AnswerTake (Err TakeClosed))) (cond (eqb y.index NULL) (ends (AnswerTake (Err TakeEmpty))) (cond (eqb w.index h.index) (SwingTailToTake w y) (LoadCell h y)))
+          either weight harm m r 12 y.mark (ends (AnswerTake (Err TakeClosed))) (cond (eqb y.index NULL) (ends (AnswerTake (Err TakeEmpty))) (cond (eqb w.index h.index) (SwingTailToTake w y) (LoadCell h y)))
           (omega arith, omega arith)
-          (cases (Lower m 0 r 12) (eqb y.index NULL) (ends (AnswerTake (Err TakeEmpty))) (cond (eqb w.index h.index) (SwingTailToTake w y) (LoadCell h y))
+          (cases (Lower weight harm m 0 r 12) (eqb y.index NULL) (ends (AnswerTake (Err TakeEmpty))) (cond (eqb w.index h.index) (SwingTailToTake w y) (LoadCell h y))
           (λ b. (omega arith, omega arith))
           (λ b. let node : y.index ≢ NULL = λ z. grind (arith, nat_tests) in
           let is : m.next h.index ≡ y = f.4 (ap (λ (u : Tagged). u.tag) (sym won)) node in
-          cases (Lower m 0 r 12) (eqb w.index h.index) (SwingTailToTake w y) (LoadCell h y)
+          cases (Lower weight harm m 0 r 12) (eqb w.index h.index) (SwingTailToTake w y) (LoadCell h y)
           (λ b'. (at_dummy (same m.tail w) refl (eqb-true w.index h.index b') is node, omega arith))
           (λ b'. (omega (arith, lost_none (same m.head h) 6 (ap (same m.head) (sym won) ∙ same-self m.head)), omega arith))))
         where
@@ -241,41 +221,41 @@ module _ {T : Type 0} where
               omega (arith, lost_small (same m.tail w) (late m), lost_all (passed m.tail h w) 5 behind)
 
       -- each step of a call lowers its weight, and pays what it spends
-      pub step_falls : (l : Line T) → get_elem? lines q ≡ some l → is_idle l ≡ false → Low (step (shape n limit) m p l) (spends m l) (weight m l) (harm l)
+      pub step_falls : (l : Line T) → get_elem? lines q ≡ some l → is_idle l ≡ false → Low weight harm (step (shape n limit) m p l) (spends m l) (weight m l) (harm l)
       step_falls (Idle a) at busy = absurd (false≢true (sym busy))
       step_falls (LoadCells v) at busy =
           let spent : Line T = ends (AnswerPut (Err (PutSpent v CellsWord m.cells.tag))) in
-          either (14 + lag m) 14 (eqb m.cells.index NULL) (LoadTail (ToRefuse v)) (cond (leb limit m.cells.tag) spent (LoadCellLink v m.cells))
+          either weight harm m (14 + lag m) 14 (eqb m.cells.index NULL) (LoadTail (ToRefuse v)) (cond (leb limit m.cells.tag) spent (LoadCellLink v m.cells))
           (omega arith, omega arith)
-          (either (14 + lag m) 14 (leb limit m.cells.tag) spent (LoadCellLink v m.cells) (omega arith, omega arith) (omega (arith, fresh m.cells 3), omega arith))
-      step_falls (TakeCell v w k) at busy = swaps (same m.cells w) _ _ 3 (12 + lag m) 3 14 (λ b. (omega arith, omega arith)) (omega arith, omega arith)
+          (either weight harm m (14 + lag m) 14 (leb limit m.cells.tag) spent (LoadCellLink v m.cells) (omega arith, omega arith) (omega (arith, fresh m.cells 3), omega arith))
+      step_falls (TakeCell v w k) at busy = swaps weight harm m (same m.cells w) _ _ 3 (12 + lag m) 3 14 (λ b. (omega arith, omega arith)) (omega arith, omega arith)
       step_falls (LoadNodes put) at busy =
           let spent : Line T = frees put.cell (AnswerPut (Err (PutSpent put.value NodesWord m.nodes.tag))) in
-          either (11 + lag m) 11 (eqb m.nodes.index NULL) spent (cond (leb limit m.nodes.tag) spent (LoadNodeLink put m.nodes))
+          either weight harm m (11 + lag m) 11 (eqb m.nodes.index NULL) spent (cond (leb limit m.nodes.tag) spent (LoadNodeLink put m.nodes))
           (omega arith, omega arith)
-          (either (11 + lag m) 11 (leb limit m.nodes.tag) spent (LoadNodeLink put m.nodes) (omega arith, omega arith) (omega (arith, fresh m.nodes 3), omega arith))
-      step_falls (TakeNode put w k) at busy = swaps (same m.nodes w) _ _ 3 (9 + lag m) 3 11 (λ b. (omega arith, omega arith)) (omega arith, omega arith)
+          (either weight harm m (11 + lag m) 11 (leb limit m.nodes.tag) spent (LoadNodeLink put m.nodes) (omega arith, omega arith) (omega (arith, fresh m.nodes 3), omega arith))
+      step_falls (TakeNode put w k) at busy = swaps weight harm m (same m.nodes w) _ _ 3 (9 + lag m) 3 11 (λ b. (omega arith, omega arith)) (omega arith, omega arith)
       step_falls (LoadNext link) at busy =
           let y = m.next link.node in
-          either (7 + lag m) 8 (leb limit (y.tag + 1)) (gives link (AnswerPut (Err (PutSpent link.value (NextWord link.node) y.tag)))) (PrepareNext link y) (omega arith, omega arith) (omega arith, omega arith)
+          either weight harm m (7 + lag m) 8 (leb limit (y.tag + 1)) (gives link (AnswerPut (Err (PutSpent link.value (NextWord link.node) y.tag)))) (PrepareNext link y) (omega arith, omega arith) (omega arith, omega arith)
       step_falls (PrepareNext link y) at busy = (omega (arith, prepare_lag q link y at), omega arith)
       step_falls (LoadTailNext s w) at busy = (omega (arith, lost_second (same m.tail w) (same (m.next w.index) (m.next w.index)) 3 (same-self (m.next w.index))), omega arith)
       step_falls (CheckTail s w y) at busy =
           looks (same m.tail w) (same (m.next w.index) y) (found_back s w y) (LoadTail s) (turn s + lag m) 3 (seeking_harm s) (λ b. check_tail_low s w y at (same-is m.tail w b)) (omega arith, omega arith)
       step_falls (SwingTail s w y) at busy =
           let f : IsFine limit m g (SwingTail s w y) = x.linked.fine q (SwingTail s w y) at in
-          swaps (same m.tail w) (goes_on (after_swing m w y.index) (LoadTail s)) (LoadTail s) 0 (turn s + 3) (lag m) (seeking_harm s)
+          swaps weight harm m (same m.tail w) (goes_on (after_swing m w y.index) (LoadTail s)) (LoadTail s) 0 (turn s + 3) (lag m) (seeking_harm s)
           (λ b. let f' : lag (after_swing m w y.index) ≡ 0 = (swings w y f.1 (same-is m.tail w b)).after_lag in (omega (arith, f'), omega arith))
           (omega arith, omega arith)
-      step_falls (LinkNext link w y) at busy = swaps (same (m.next w.index) y) _ _ 8 2 (4 + lag m) 8 (λ b. (omega arith, omega arith)) (omega arith, omega arith)
+      step_falls (LinkNext link w y) at busy = swaps weight harm m (same (m.next w.index) y) _ _ 8 2 (4 + lag m) 8 (λ b. (omega arith, omega arith)) (omega arith, omega arith)
       step_falls (SwingToLinked v w y) at busy = ended (same m.tail w)
         where
-          ended : (b : Bool) → Low (cond b (goes_on (after_swing m w y.index) (ends (AnswerPut (Ok w.tag)))) (goes_on m (ends (AnswerPut (Ok w.tag))))) (cond b 0 0) 1 0
+          ended : (b : Bool) → Low weight harm (cond b (goes_on (after_swing m w y.index) (ends (AnswerPut (Ok w.tag)))) (goes_on m (ends (AnswerPut (Ok w.tag))))) (cond b 0 0) 1 0
           ended true = (omega arith, omega arith)
           ended false = (omega arith, omega arith)
-      step_falls (MarkNext w y) at busy = swaps (same (m.next w.index) y) _ _ 8 1 (4 + lag m) 8 (λ b. (omega arith, omega arith)) (omega arith, omega arith)
+      step_falls (MarkNext w y) at busy = swaps weight harm m (same (m.next w.index) y) _ _ 8 1 (4 + lag m) 8 (λ b. (omega arith, omega arith)) (omega arith, omega arith)
       step_falls LoadHead at busy =
-          either (12 + late m) 12 m.head.second (ends (AnswerTake (Err TakeShut))) (LoadTailToTake m.head) (omega arith, omega arith) (omega (arith, fresh m.head 4), omega arith)
+          either weight harm m (12 + late m) 12 m.head.second (ends (AnswerTake (Err TakeShut))) (LoadTailToTake m.head) (omega arith, omega arith) (omega (arith, fresh m.head 4), omega arith)
       step_falls (LoadTailToTake h) at busy =
           (omega (arith, lost_second (same m.head h) (passed m.tail h m.tail) 4 (ap (λ (b : Bool). not (eqb m.tail.index h.index) || b) (same-self m.tail) ∙ or_true (not (eqb m.tail.index h.index)))), omega arith)
         where
@@ -286,22 +266,22 @@ module _ {T : Type 0} where
           looks (same m.head h) (passed m.tail h w) _ LoadHead (9 + late m) 4 12 (λ b. check_head_low h w y at (same-is m.head h b)) (omega arith, omega arith)
       step_falls (SwingTailToTake w y) at busy =
           let f : Lags m.tail m.next w y = x.linked.fine q (SwingTailToTake w y) at in
-          swaps (same m.tail w) (goes_on (after_swing m w y.index) LoadHead) LoadHead 0 13 (late m) 12
+          swaps weight harm m (same m.tail w) (goes_on (after_swing m w y.index) LoadHead) LoadHead 0 13 (late m) 12
           (λ b. let f' : late (after_swing m w y.index) ≡ 0 = (swings w y f (same-is m.tail w b)).after_late in (omega (arith, f'), omega arith))
           (omega arith, omega arith)
-      step_falls (TakeHead h y k) at busy = swaps (same m.head h) (wins_value m p h y k (m.home k)) LoadHead 6 (7 + late m) 6 12 (λ b. by_value (m.home k)) (omega arith, omega arith)
+      step_falls (TakeHead h y k) at busy = swaps weight harm m (same m.head h) (wins_value m p h y k (m.home k)) LoadHead 6 (7 + late m) 6 12 (λ b. by_value (m.home k)) (omega arith, omega arith)
         where
-          by_value : (o : Option (Slot T)) → Low (wins_value m p h y k o) 6 (7 + late m) 12
+          by_value : (o : Option (Slot T)) → Low weight harm (wins_value m p h y k o) 6 (7 + late m) 12
           by_value (some (Some v)) = (omega arith, omega arith)
           by_value o = (omega arith, omega arith)
-      step_falls (GiveNode give w) at busy = swaps (same m.nodes w) _ _ 3 4 3 6 (λ b. (omega arith, omega arith)) (omega arith, omega arith)
-      step_falls (GiveCell give w) at busy = swaps (same m.cells w) _ _ 3 1 3 3 (λ b. (omega arith, omega arith)) (omega arith, omega arith)
+      step_falls (GiveNode give w) at busy = swaps weight harm m (same m.nodes w) _ _ 3 4 3 6 (λ b. (omega arith, omega arith)) (omega arith, omega arith)
+      step_falls (GiveCell give w) at busy = swaps weight harm m (same m.cells w) _ _ 3 1 3 3 (λ b. (omega arith, omega arith)) (omega arith, omega arith)
       step_falls (CheckHeadToLook h y) at busy = seen (same m.head h)
         where
-          seen : (b : Bool) → Low (cond b (goes_on m (ends (AnswerLook (eqb y.index NULL)))) (goes_on m LoadHeadToLook)) 0 (1 + lost b 3) 0
+          seen : (b : Bool) → Low weight harm (cond b (goes_on m (ends (AnswerLook (eqb y.index NULL)))) (goes_on m LoadHeadToLook)) 0 (1 + lost b 3) 0
           seen true = (omega arith, omega arith)
           seen false = (omega (arith, lost_all false 3 refl), omega arith)
       step_falls LoadHeadToShut at busy =
-          either 2 6 m.head.second (ends (AnswerShut false)) (ShutHead m.head) (omega arith, omega arith) (omega (arith, fresh m.head 2), omega arith)
-      step_falls (ShutHead h) at busy = swaps (same m.head h) _ _ 6 1 2 6 (λ b. (omega arith, omega arith)) (omega arith, omega arith)
+          either weight harm m 2 6 m.head.second (ends (AnswerShut false)) (ShutHead m.head) (omega arith, omega arith) (omega (arith, fresh m.head 2), omega arith)
+      step_falls (ShutHead h) at busy = swaps weight harm m (same m.head h) _ _ 6 1 2 6 (λ b. (omega arith, omega arith)) (omega arith, omega arith)
       step_falls l at busy = (omega (arith, fresh), omega arith)

@@ -16,7 +16,7 @@ use Rattle.bounded_model.specs.declared.history.Event.TheVariants.{Hold}
 use Rattle.bounded_model.specs.Machine.{Shape}
 use Rattle.machine.specs.Words.{Tagged, kept, raised, marked, with_second, same, times, Stands}
 use Rattle.machine.specs.Chains.{first, chain_from}
-use Rattle.machine.proofs.Tests.{cases, one_of, fresh, lost, lost_small, lost_all, same-is, at_most_one}
+use Rattle.machine.proofs.Tests.{cases, one_of, fresh, lost_small, lost_all, same-is, at_most_one}
 use Rattle.machine.proofs.Sums.{total_one}
 use Rattle.machine.proofs.Lists.{times_here, times_append}
 use Rattle.machine.proofs.OneList.{front_of, ready}
@@ -29,11 +29,12 @@ use Rattle.stack_machine.specs.declared.lines.Taking.TheVariants.{One, Whole}
 use Rattle.stack_machine.specs.declared.lines.Answer.TheVariants.{Put as AnswerPut, Close as AnswerClose, Shut as AnswerShut}
 use Rattle.stack_machine.specs.declared.lines.Line.{Line}
 use Rattle.stack_machine.specs.declared.lines.Line.TheVariants.{Idle, LoadFree, LoadFreeLink, TakeFree, LinkTaken, LoadTop, LinkToTop, SwapTop, LoadTopToRefuse, LoadTopToTake, TakeTop, TakeChain, LoadLinkToTurn, TurnLink, LoadLinkToFold, LoadFreeToGive, GiveBack, LoadTopToClose, MarkTop, LoadTopToShut, ShutTop}
-use Rattle.stack_machine.specs.Machine.{Memory, Outcome, step, held, next_node, no_node, with_node, at_take_free, is_idle, goes_on, wins, wins_value, wins_chain, wins_exchange, after_hold, ends, gives, refuses, takes}
+use Rattle.stack_machine.specs.Machine.{Memory, step, held, next_node, no_node, with_node, at_take_free, is_idle, wins, wins_value, wins_chain, wins_exchange, after_hold, ends, gives, refuses, takes}
 use Rattle.stack_machine.specs.Answers.{shape}
 use Rattle.stack_machine.specs.Rule.{Lists, Walks, IsFine, Good}
 use Rattle.step_core.specs.stack.Bound.{IsSingle}
 use Rattle.step_core.specs.stack.Costs.{over}
+use Rattle.step_core.proofs.Falls.{raised_by, Lower, Low, either, swaps}
 use Rattle.step_core.proofs.stack.Weight.{from_node, folding, further, need, more, weight, price, harm, free_raises, top_raises}
 
 -- Puts
@@ -127,23 +128,18 @@ module _ {T : Type 0} (n : ℕ) where
   module _ (c : Shape) (m : Memory T) where
     -- What a step costs the others, from every state
 
-    -- an exchange: it is won, or changes nothing
-    raised_by : (u l : Line T) (b : Bool) (o : Outcome T) (d : ℕ) → (b ≡ true → weighs o.memory u ≤ weighs m u + d) → weighs (cond b o (goes_on m l)).memory u ≤ weighs m u + cond b d 0
-    raised_by u l true o d won = won refl
-    raised_by u l false o d won = omega arith
-
     pub step_raises : (p : ℕ) (l u : Line T) → weighs (step c m p l).memory u ≤ weighs m u + spends m l
-    step_raises p (TakeFree put w k) u = raised_by u (LoadFree put) (same m.free w) _ 3 (λ b. free_raises n m.free (raised w k) m.top u)
-    step_raises p (SwapTop put w) u = raised_by u (LoadTop put) (same m.top w) _ 4 (λ b. top_raises n m.free m.top (raised w (first put.chain)) u)
-    step_raises p (TakeTop w k) u = raised_by u (LoadTopToTake One) (same m.top w) _ 4 (λ b. by_value (m.home w.index))
+    step_raises p (TakeFree put w k) u = raised_by weighs m u (LoadFree put) (same m.free w) _ 3 (λ b. free_raises n m.free (raised w k) m.top u)
+    step_raises p (SwapTop put w) u = raised_by weighs m u (LoadTop put) (same m.top w) _ 4 (λ b. top_raises n m.free m.top (raised w (first put.chain)) u)
+    step_raises p (TakeTop w k) u = raised_by weighs m u (LoadTopToTake One) (same m.top w) _ 4 (λ b. by_value (m.home w.index))
       where
         by_value : (o : Option (Slot T)) → weighs (wins_value m p w k o).memory u ≤ weighs m u + 4
         by_value (some (Some v)) = top_raises n m.free m.top (raised w k) u
         by_value o = omega arith
-    step_raises p (TakeChain d w) u = raised_by u (LoadTopToTake (Whole d)) (same m.top w) _ 4 (λ b. top_raises n m.free m.top (raised w NULL) u)
-    step_raises p (GiveBack give w) u = raised_by u (LoadFreeToGive give) (same m.free w) _ 3 (λ b. free_raises n m.free (kept w (first give.chain)) m.top u)
-    step_raises p (MarkTop w) u = raised_by u LoadTopToClose (same m.top w) _ 4 (λ b. top_raises n m.free m.top (marked w) u)
-    step_raises p (ShutTop w) u = raised_by u LoadTopToShut (same m.top w) _ 4 (λ b. top_raises n m.free m.top (with_second w) u)
+    step_raises p (TakeChain d w) u = raised_by weighs m u (LoadTopToTake (Whole d)) (same m.top w) _ 4 (λ b. top_raises n m.free m.top (raised w NULL) u)
+    step_raises p (GiveBack give w) u = raised_by weighs m u (LoadFreeToGive give) (same m.free w) _ 3 (λ b. free_raises n m.free (kept w (first give.chain)) m.top u)
+    step_raises p (MarkTop w) u = raised_by weighs m u LoadTopToClose (same m.top w) _ 4 (λ b. top_raises n m.free m.top (marked w) u)
+    step_raises p (ShutTop w) u = raised_by weighs m u LoadTopToShut (same m.top w) _ 4 (λ b. top_raises n m.free m.top (with_second w) u)
     step_raises p l u = omega arith
 
     -- What a step leaves. A pass may take no more nodes than there are, and what walks along a chain comes
@@ -155,111 +151,94 @@ module _ {T : Type 0} (n : ℕ) where
     Ready (LoadLinkToFold give i) = Nearer m.link give.chain i
     Ready l = Unit {0}
 
-    -- with these tops a line weighs less than r, and has paid d out of a harm of h
-    abbrev Lower : Tagged → Tagged → ℕ → ℕ → ℕ → Line T → Type 0
-    Lower free top d r h l = (weight n free top l < r) × (harm n l + d ≤ h)
-
-    abbrev Low : Outcome T → ℕ → ℕ → ℕ → Type 0
-    Low o d r h = Lower o.memory.free o.memory.top d r h o.line
-
-    -- a test of what was loaded
-    either : (free top : Tagged) (d r h : ℕ) (b : Bool) (l l' : Line T) → Lower free top d r h l → Lower free top d r h l' → Lower free top d r h (cond b l l')
-    either free top d r h true l l' f f' = f
-    either free top d r h false l l' f f' = f'
-
-    -- an exchange: it is won, or the pass begins again
-    swaps : (b : Bool) (o : Outcome T) (l : Line T) (d r again h : ℕ) → (b ≡ true → Low o d r h) → Lower m.free m.top 0 (r + again) h l → Low (cond b o (goes_on m l)) (cond b d 0) (r + lost b again) h
-    swaps true o l d r again h f f' = let t = f refl in (omega (arith, t), omega (arith, t))
-    swaps false o l d r again h f f' = let all = lost_all false again refl in (omega (arith, f'), omega (arith, f'))
-
-    no_node_low : (put : Putting T) (refused : Line T) → weighs m refused ≤ 1 → harm n refused ≤ 0 → Lower m.free m.top 0 (more n put + 3) (3 * need n put + 4) (no_node put refused)
+    no_node_low : (put : Putting T) (refused : Line T) → weighs m refused ≤ 1 → harm n refused ≤ 0 → Lower weighs (harm n) m 0 (more n put + 3) (3 * need n put + 4) (no_node put refused)
     no_node_low put refused light harmless =
-        cases (Lower m.free m.top 0 (more n put + 3) (3 * need n put + 4)) (length put.chain == 0) refused (LoadTop put)
+        cases (Lower weighs (harm n) m 0 (more n put + 3) (3 * need n put + 4)) (length put.chain == 0) refused (LoadTop put)
         (λ b. (omega (arith, light), omega (arith, harmless)))
         (λ b. (omega (arith, some_left n put, lost_all (length put.chain == 0) 1 b), omega arith))
 
     -- the next node is looked for, or the chain is put
-    next_low : (put : Putting T) (free : Tagged) (d r h : ℕ) → 4 * further n put + over n (length put.values) + 4 < r → 4 < r → 3 * further n put + 4 + d ≤ h → Lower free m.top d r h (next_node put)
-    next_low put free d r h light light' harm =
-        cases (Lower free m.top d r h) (ltb (length put.chain) (length put.values)) (LoadFree put) (LoadTop put)
+    next_low : (put : Putting T) (m' : Memory T) (d r h : ℕ) → 4 * further n put + over n (length put.values) + 4 < r → 4 < r → 3 * further n put + 4 + d ≤ h → Lower weighs (harm n) m' d r h (next_node put)
+    next_low put m' d r h light light' pays =
+        cases (Lower weighs (harm n) m' d r h) (ltb (length put.chain) (length put.values)) (LoadFree put) (LoadTop put)
         (λ b. let same = same_need n put (grind (arith, nat_tests, b)) in (omega (arith, same, lost_small (length put.chain == 0) 1), omega (arith, same)))
         (λ b. (omega arith, omega arith))
 
-    take_free_low : (put : Putting T) (w free : Tagged) → (length put.chain < length put.values → length put.chain < n) → Lower free m.top 3 (more n put + 1) (3 * need n put + 4) (at_take_free put w)
-    take_free_low put w free room =
+    take_free_low : (put : Putting T) (w : Tagged) (m' : Memory T) → (length put.chain < length put.values → length put.chain < n) → Lower weighs (harm n) m' 3 (more n put + 1) (3 * need n put + 4) (at_take_free put w)
+    take_free_low put w m' room =
         let less = one_less n put w room in
-        cases (Lower free m.top 3 (more n put + 1) (3 * need n put + 4)) (length put.chain == 0) (next_node (with_node put w.index)) (LinkTaken (with_node put w.index))
-        (λ b. next_low (with_node put w.index) free 3 (more n put + 1) (3 * need n put + 4) (omega (arith, less)) (omega (arith, less)) (omega (arith, less)))
+        cases (Lower weighs (harm n) m' 3 (more n put + 1) (3 * need n put + 4)) (length put.chain == 0) (next_node (with_node put w.index)) (LinkTaken (with_node put w.index))
+        (λ b. next_low (with_node put w.index) m' 3 (more n put + 1) (3 * need n put + 4) (omega (arith, less)) (omega (arith, less)) (omega (arith, less)))
         (λ b. (omega (arith, less, lost_all (length put.chain == 0) 1 b), omega (arith, less)))
 
-    chain_low : (d : Direction) (w : Tagged) (p : ℕ) → c.capacity ≤ n → Low (wins_chain m p d w (chain_from c.capacity m.link w.index)) 4 (folding n d + 1) 7
+    chain_low : (d : Direction) (w : Tagged) (p : ℕ) → c.capacity ≤ n → Low weighs (harm n) (wins_chain m p d w (chain_from c.capacity m.link w.index)) 4 (folding n d + 1) 7
     chain_low d w p few = by_direction d (chain_small c.capacity m.link w.index) (from_small w.index (chain_from c.capacity m.link w.index))
       where
         by_direction : (d : Direction) → length (chain_from c.capacity m.link w.index) ≤ c.capacity → from_node w.index (chain_from c.capacity m.link w.index) ≤ length (chain_from c.capacity m.link w.index)
-            → Low (wins_chain m p d w (chain_from c.capacity m.link w.index)) 4 (folding n d + 1) 7
+            → Low weighs (harm n) (wins_chain m p d w (chain_from c.capacity m.link w.index)) 4 (folding n d + 1) 7
         by_direction Down a b = (omega (arith, a, b, few), omega arith)
         by_direction Up a b = (omega (arith, a, b, few), omega arith)
 
-    take_low : (taking : Taking) (why why' why'' : TakeRefused) → Lower m.free m.top 0 (weighs m (LoadTopToTake taking)) 7
+    take_low : (taking : Taking) (why why' why'' : TakeRefused) → Lower weighs (harm n) m 0 (weighs m (LoadTopToTake taking)) 7
         (cond m.top.second (refuses taking why) (cond (m.top.index == NULL) (refuses taking why') (cond (leb c.limit m.top.tag) (refuses taking why'') (takes taking m.top))))
     take_low One why why' why'' =
-        either m.free m.top 0 6 7 m.top.second (refuses One why) _ (omega arith, omega arith)
-        (either m.free m.top 0 6 7 (m.top.index == NULL) (refuses One why') _ (omega arith, omega arith)
-        (either m.free m.top 0 6 7 (leb c.limit m.top.tag) (refuses One why'') (takes One m.top) (omega arith, omega arith) (omega (arith, fresh m.top 3), omega arith)))
+        either weighs (harm n) m 6 7 m.top.second (refuses One why) _ (omega arith, omega arith)
+        (either weighs (harm n) m 6 7 (m.top.index == NULL) (refuses One why') _ (omega arith, omega arith)
+        (either weighs (harm n) m 6 7 (leb c.limit m.top.tag) (refuses One why'') (takes One m.top) (omega arith, omega arith) (omega (arith, fresh m.top 3), omega arith)))
     take_low (Whole d) why why' why'' =
-        either m.free m.top 0 (folding n d + 2) 7 m.top.second (refuses (Whole d) why) _ (omega arith, omega arith)
-        (either m.free m.top 0 (folding n d + 2) 7 (m.top.index == NULL) (refuses (Whole d) why') _ (omega arith, omega arith)
-        (either m.free m.top 0 (folding n d + 2) 7 (leb c.limit m.top.tag) (refuses (Whole d) why'') (takes (Whole d) m.top) (omega arith, omega arith) (omega (arith, fresh m.top 2), omega arith)))
+        either weighs (harm n) m (folding n d + 2) 7 m.top.second (refuses (Whole d) why) _ (omega arith, omega arith)
+        (either weighs (harm n) m (folding n d + 2) 7 (m.top.index == NULL) (refuses (Whole d) why') _ (omega arith, omega arith)
+        (either weighs (harm n) m (folding n d + 2) 7 (leb c.limit m.top.tag) (refuses (Whole d) why'') (takes (Whole d) m.top) (omega arith, omega arith) (omega (arith, fresh m.top 2), omega arith)))
 
     -- each step of a call lowers its weight, and pays what it spends
-    pub step_falls : (p : ℕ) (l : Line T) → Ready l → is_idle l ≡ false → Low (step c m p l) (spends m l) (weighs m l) (harm n l)
+    pub step_falls : (p : ℕ) (l : Line T) → Ready l → is_idle l ≡ false → Low weighs (harm n) (step c m p l) (spends m l) (weighs m l) (harm n l)
     step_falls p (Idle a) f busy = absurd (false≢true (sym busy))
     step_falls p (LoadFree put) f busy =
         let spent : Line T = ends (AnswerPut (Err (PutSpent put.values FreeWord m.free.tag))) in
-        either m.free m.top 0 (more n put + 3) (3 * need n put + 4) (m.free.index == NULL) (no_node put (LoadTopToRefuse put.values)) (cond (leb c.limit m.free.tag) (no_node put spent) (LoadFreeLink put m.free))
+        either weighs (harm n) m (more n put + 3) (3 * need n put + 4) (m.free.index == NULL) (no_node put (LoadTopToRefuse put.values)) (cond (leb c.limit m.free.tag) (no_node put spent) (LoadFreeLink put m.free))
         (no_node_low put (LoadTopToRefuse put.values) (omega arith) (omega arith))
-        (either m.free m.top 0 (more n put + 3) (3 * need n put + 4) (leb c.limit m.free.tag) (no_node put spent) (LoadFreeLink put m.free)
+        (either weighs (harm n) m (more n put + 3) (3 * need n put + 4) (leb c.limit m.free.tag) (no_node put spent) (LoadFreeLink put m.free)
         (no_node_low put spent (omega arith) (omega arith))
         (omega (arith, fresh m.free 3), omega arith))
     step_falls p (TakeFree put w k) f busy =
-        swaps (same m.free w) (wins (after_hold m w k) (at_take_free put w) (Hold p)) (LoadFree put) 3 (more n put + 1) 3 (3 * need n put + 4) (λ b. take_free_low put w (raised w k) (f b)) (omega arith, omega arith)
-    step_falls p (LinkTaken put) f busy = next_low put m.free 0 (4 * further n put + over n (length put.values) + 5) (3 * further n put + 4) (omega arith) (omega arith) (omega arith)
+        swaps weighs (harm n) m (same m.free w) (wins (after_hold m w k) (at_take_free put w) (Hold p)) (LoadFree put) 3 (more n put + 1) 3 (3 * need n put + 4) (λ b. take_free_low put w (after_hold m w k) (f b)) (omega arith, omega arith)
+    step_falls p (LinkTaken put) f busy = next_low put m 0 (4 * further n put + over n (length put.values) + 5) (3 * further n put + 4) (omega arith) (omega arith) (omega arith)
     step_falls p (LoadTop put) f busy =
         let closed : Line T = gives put.chain (AnswerPut (Err (PutClosed put.values))) in
         let spent : Line T = gives put.chain (AnswerPut (Err (PutSpent put.values TopWord m.top.tag))) in
-        either m.free m.top 0 4 4 m.top.mark closed (cond (leb c.limit m.top.tag) spent (LinkToTop put m.top)) (omega arith, omega arith)
-        (either m.free m.top 0 4 4 (leb c.limit m.top.tag) spent (LinkToTop put m.top) (omega arith, omega arith) (omega (arith, fresh m.top 4), omega arith))
-    step_falls p (SwapTop put w) f busy = swaps (same m.top w) _ _ 4 1 4 4 (λ b. (omega arith, omega arith)) (omega arith, omega arith)
+        either weighs (harm n) m 4 4 m.top.mark closed (cond (leb c.limit m.top.tag) spent (LinkToTop put m.top)) (omega arith, omega arith)
+        (either weighs (harm n) m 4 4 (leb c.limit m.top.tag) spent (LinkToTop put m.top) (omega arith, omega arith) (omega (arith, fresh m.top 4), omega arith))
+    step_falls p (SwapTop put w) f busy = swaps weighs (harm n) m (same m.top w) _ _ 4 1 4 4 (λ b. (omega arith, omega arith)) (omega arith, omega arith)
     step_falls p (LoadTopToRefuse values) f busy =
         let spent : Line T = ends (AnswerPut (Err (PutSpent values TopWord m.top.tag))) in
         let full : Line T = ends (AnswerPut (Err (PutFull values))) in
-        either m.free m.top 0 1 0 m.top.mark (ends (AnswerPut (Err (PutClosed values)))) (cond (leb c.limit m.top.tag) spent full) (omega arith, omega arith)
-        (either m.free m.top 0 1 0 (leb c.limit m.top.tag) spent full (omega arith, omega arith) (omega arith, omega arith))
+        either weighs (harm n) m 1 0 m.top.mark (ends (AnswerPut (Err (PutClosed values)))) (cond (leb c.limit m.top.tag) spent full) (omega arith, omega arith)
+        (either weighs (harm n) m 1 0 (leb c.limit m.top.tag) spent full (omega arith, omega arith) (omega arith, omega arith))
     step_falls p (LoadTopToTake taking) f busy = take_low taking TakeShut (cond m.top.mark TakeClosed TakeEmpty) (TakeSpent TopWord m.top.tag)
-    step_falls p (TakeTop w k) f busy = swaps (same m.top w) (wins_value m p w k (m.home w.index)) (LoadTopToTake One) 4 4 3 7 (λ b. by_value (m.home w.index)) (omega arith, omega arith)
+    step_falls p (TakeTop w k) f busy = swaps weighs (harm n) m (same m.top w) (wins_value m p w k (m.home w.index)) (LoadTopToTake One) 4 4 3 7 (λ b. by_value (m.home w.index)) (omega arith, omega arith)
       where
-        by_value : (o : Option (Slot T)) → Low (wins_value m p w k o) 4 4 7
+        by_value : (o : Option (Slot T)) → Low weighs (harm n) (wins_value m p w k o) 4 4 7
         by_value (some (Some v)) = (omega arith, omega arith)
         by_value o = (omega arith, omega arith)
     step_falls p (TakeChain d w) f busy =
-        swaps (same m.top w) (wins_chain m p d w (chain_from c.capacity m.link w.index)) (LoadTopToTake (Whole d)) 4 (folding n d + 1) 2 7 (λ b. chain_low d w p f) (omega arith, omega arith)
+        swaps weighs (harm n) m (same m.top w) (wins_chain m p d w (chain_from c.capacity m.link w.index)) (LoadTopToTake (Whole d)) 4 (folding n d + 1) 2 7 (λ b. chain_low d w p f) (omega arith, omega arith)
     step_falls p (TurnLink give above i k) f busy =
         let turned : Giving T = record give { chain = reverse give.chain } in
-        cases (Lower m.free m.top 0 (weighs m (TurnLink give above i k)) 3) (k == NULL) (LoadLinkToFold turned i) (LoadLinkToTurn give i k)
+        cases (Lower weighs (harm n) m 0 (weighs m (TurnLink give above i k)) 3) (k == NULL) (LoadLinkToFold turned i) (LoadLinkToTurn give i k)
         (λ b. (omega (arith, f.1.some, from_small i (reverse give.chain), length-reverse give.chain), omega arith))
         (λ b. let goes : m.link i ≢ NULL = λ e. grind (arith, nat_tests, f.0, e) in
         (omega (arith, f.1.next goes, ap (λ (j : ℕ). from_node j give.chain) f.0), omega arith))
     step_falls p (LoadLinkToFold give i) f busy =
-        cases (Lower m.free m.top 0 (weighs m (LoadLinkToFold give i)) 3) (m.link i == NULL) (LoadFreeToGive give) (LoadLinkToFold give (m.link i))
+        cases (Lower weighs (harm n) m 0 (weighs m (LoadLinkToFold give i)) 3) (m.link i == NULL) (LoadFreeToGive give) (LoadLinkToFold give (m.link i))
         (λ b. (omega (arith, f.some), omega arith))
         (λ b. let goes : m.link i ≢ NULL = λ e. grind (arith, nat_tests, e) in (omega (arith, f.next goes), omega arith))
-    step_falls p (GiveBack give w) f busy = swaps (same m.free w) _ _ 3 1 3 3 (λ b. (omega arith, omega arith)) (omega arith, omega arith)
+    step_falls p (GiveBack give w) f busy = swaps weighs (harm n) m (same m.free w) _ _ 3 1 3 3 (λ b. (omega arith, omega arith)) (omega arith, omega arith)
     step_falls p LoadTopToClose f busy =
-        either m.free m.top 0 2 4 m.top.mark (ends (AnswerClose false)) (MarkTop m.top) (omega arith, omega arith) (omega (arith, fresh m.top 2), omega arith)
-    step_falls p (MarkTop w) f busy = swaps (same m.top w) _ _ 4 1 2 4 (λ b. (omega arith, omega arith)) (omega arith, omega arith)
+        either weighs (harm n) m 2 4 m.top.mark (ends (AnswerClose false)) (MarkTop m.top) (omega arith, omega arith) (omega (arith, fresh m.top 2), omega arith)
+    step_falls p (MarkTop w) f busy = swaps weighs (harm n) m (same m.top w) _ _ 4 1 2 4 (λ b. (omega arith, omega arith)) (omega arith, omega arith)
     step_falls p LoadTopToShut f busy =
-        either m.free m.top 0 2 4 m.top.second (ends (AnswerShut false)) (ShutTop m.top) (omega arith, omega arith) (omega (arith, fresh m.top 2), omega arith)
-    step_falls p (ShutTop w) f busy = swaps (same m.top w) _ _ 4 1 2 4 (λ b. (omega arith, omega arith)) (omega arith, omega arith)
+        either weighs (harm n) m 2 4 m.top.second (ends (AnswerShut false)) (ShutTop m.top) (omega arith, omega arith) (omega (arith, fresh m.top 2), omega arith)
+    step_falls p (ShutTop w) f busy = swaps weighs (harm n) m (same m.top w) _ _ 4 1 2 4 (λ b. (omega arith, omega arith)) (omega arith, omega arith)
     step_falls p l f busy = (omega (arith, fresh), omega arith)
 
     -- a call of one value is ready in every state
