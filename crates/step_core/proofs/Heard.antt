@@ -1,13 +1,13 @@
 -- An operation with a response has taken effect while it was pending; for near misses.
-use Rattle.std.proofs.Common.{◌≡◌, ◌⊎◌, ℕ, List, [], ◌∷◌, ◌++◌, length, refl, sym, ap, ◌∙◌, subst, ⊎_elim, inl, inr, append_assoc, length-append, arith}
+use Rattle.std.proofs.Common.{◌≡◌, ◌⊎◌, ℕ, List, [], ◌∷◌, ◌++◌, length, refl, sym, ap, ◌∙◌, subst, ⊎_elim, inl, inr, append_assoc, length-append, append-nil, arith}
 use Rattle.std.proofs.lemmas.Bool.Decides.{eqb_tells}
 use mathlib.Core.Option.{Option, none, some, some-injective, some-ne-none}
 use Rattle.bounded_model.specs.declared.history.Event.{Event}
 use Rattle.bounded_model.specs.declared.history.Event.TheVariants.{Hold, Put}
-use Rattle.bounded_model.specs.Histories.{Among}
+use Rattle.bounded_model.specs.Histories.{Among, own}
 use Rattle.bounded_model.specs.Justified.{Sometime}
 use Rattle.bounded_model.specs.Machine.{state}
-use Rattle.bounded_model.proofs.Histories.{no_parts}
+use Rattle.bounded_model.proofs.Histories.{no_parts, own-append}
 use Rattle.step_core.specs.Linearizable.{Operation, Object, Entry, Invokes, Responds, Hand, Updates, Reads, Stage, Rests, Pending, TookEffect, without_points, events, stage, IsLinearization}
 use Rattle.step_core.proofs.Entries.{events-append, without_points-append}
 
@@ -26,6 +26,12 @@ at_once {T} h P s = subst P (itself s.until.more s.since.more s.at s.until.is s.
     itself : (more less at : List (Event T)) → h ≡ more ++ at → at ≡ less ++ h → at ≡ h
     itself [] less at until since = sym until
     itself (e ∷ more) less at until since = absurd (omega (arith, ap length until, ap length since, length-append more at, length-append less h))
+
+-- what pass 0 makes of a call, where it did nothing before
+pub own_made : {T C : Type 0} (Makes : C → List (Event T) → Type 0) (call call' : C) (begun seen between : List (Event T)) → some call' ≡ some call → own 0 begun ≡ [] → seen ≡ between ++ begun → Makes call' (own 0 between) → Makes call (own 0 seen)
+own_made Makes call call' begun seen between of new is made =
+    let all : own 0 seen ≡ own 0 between = ap (own 0) is ∙ own-append 0 between begun ∙ ap (λ es. own 0 between ++ es) new ∙ append-nil (own 0 between) in
+    subst (λ c. Makes c (own 0 seen)) (some-injective call' call of) (subst (Makes call') (sym all) made)
 
 module _ {T C A : Type 0} (o : Object T C A) where
   abbrev Course : Type 0
@@ -103,6 +109,9 @@ module _ {T C A : Type 0} (o : Object T C A) where
       (λ t. rw t.0 (more p (stage p course) (Reads k) course (found p course r.2)))
       (eqb_tells k.by p)
 
+  asked : (p : ℕ) (call : C) (course : Course) → IsLinearization o course → stage p course ≡ Pending call → Asked p call course
+  asked p call course r waits = subst (λ (s : Stage C A). Found p s course) waits (found p course r)
+
   -- a response is that of an operation that has taken effect
   pub heard : (p : ℕ) (x : Option A) (course : Course) → IsLinearization o course → Among (Responds p x) (without_points course) → Placed p x course
   heard p x [] r there = absurd there
@@ -140,7 +149,7 @@ module _ {T C A : Type 0} (o : Object T C A) where
   pub in_order : (x y : Option A) (c d : C) (course : Course) → IsLinearization o course → without_points course ≡ Responds 0 x ∷ Invokes 0 c ∷ Responds 1 y ∷ Invokes 1 d ∷ [] → InOrder x y course
   in_order x y c d course r is =
       let later = heard 0 x course r (subst (Among (Responds 0 x)) (sym is) (inl refl)) in
-      let begin = subst (λ (s : Stage C A). Found 0 s later.older) later.waits (found 0 later.older later.run) in
+      let begin = asked 0 later.k.call later.older later.run later.waits in
       let parts : without_points later.newer ++ (without_points begin.since ++ Invokes 0 later.k.call ∷ without_points begin.before) ≡ Responds 0 x ∷ Invokes 0 c ∷ Responds 1 y ∷ Invokes 1 d ∷ [] =
       ap (λ (l : Course). without_points later.newer ++ l) (sym (ap without_points begin.is ∙ without_points-append begin.since (Invokes 0 later.k.call ∷ begin.before))) ∙ sym (without_points-append later.newer later.older) ∙ sym (ap without_points later.is) ∙ is in
       let rest : without_points begin.before ≡ Responds 1 y ∷ Invokes 1 d ∷ [] = cut (without_points later.newer ++ without_points begin.since) later.k.call (without_points begin.before) (append_assoc (without_points later.newer) (without_points begin.since) (Invokes 0 later.k.call ∷ without_points begin.before) ∙ parts) in

@@ -40,6 +40,20 @@ module _ {T C A : Type 0} (o : Object T C A) where
     pub is : seen ≡ between ++ b
     pub point : ((visible (own p between) ≡ []) × Sometime b seen (λ h. o.reads (called p c a) h)) ⊎ ((e : Event T) × (visible (own p between) ≡ e ∷ []) × o.updates (called p c a) e)
 
+  -- Of what a call has made, where its answer is justified: the object gives that answer, with what else it says
+  module _ (IsRight : List (Event T) → List (Event T) → A → Type 0) (p : ℕ) (c : C) (a : A) (b seen : List (Event T)) where
+    abbrev pub Given : List (Event T) → Type 0
+    Given mine = ((visible mine ≡ []) × (IsRight b seen a → Sometime b seen (λ h. o.reads (called p c a) h))) ⊎ ((e : Event T) × (visible mine ≡ e ∷ []) × o.updates (called p c a) e)
+
+    pub point_of : (mine : List (Event T)) → Given mine → Point p c mine
+    point_of mine g = ⊎_elim (λ r. inl r.0) (λ r. inr (a, r.0, r.1, r.2)) g
+
+    pub ended_by : (between : List (Event T)) → seen ≡ between ++ b → Given (own p between) → IsRight b seen a → Ended p c (some a) b seen
+    ended_by between is g right = record { a = a; heard = refl; between = between; is = is; point = ⊎_elim (λ r. inl (r.0, r.1 right)) (λ r. inr r) g }
+
+pub with : {T X : Type 0} {b seen : List (Event T)} {P : List (Event T) → Type 0} → X → Sometime b seen P → Sometime b seen (λ h. X × P h)
+with w s = record { at = s.at; since = s.since; until = s.until; holds = (w, s.holds) }
+
 -- What a rule and a story of a machine say of the object's calls
 pub record Speaks {M L T C A : Type 0} (x : Machine M L C (Event T)) (answer : L → Option A) (o : Object T C A) (Rule : M → List L → List (Event T) → Type 0) (Story : ℕ → Option C → L → List (Event T) → List (Event T) → Type 0) : Type 0 where
   pub legal : (m : M) (lines : List L) (h : List (Event T)) → Rule m lines h → Legal o.shape h

@@ -1,5 +1,5 @@
 -- The queue's machine is linearizable.
-use Rattle.std.proofs.Common.{◌≡◌, ◌⊎◌, ℕ, ◌<◌, true, false, List, [], ◌∷◌, refl, sym, ap, ◌∙◌, subst, ⊎_elim, inl, inr, Some, None, Ok, Err}
+use Rattle.std.proofs.Common.{◌≡◌, ℕ, ◌<◌, true, false, List, [], ◌∷◌, refl, sym, ap, ◌∙◌, subst, ⊎_elim, inl, inr, Some, None, Ok, Err}
 use Rattle.std.proofs.lemmas.Bool.{false≢true}
 use mathlib.Core.Option.{some}
 use Rattle.tagged_index.specs.declared.word.TheConstants.{NULL}
@@ -9,7 +9,6 @@ use Rattle.bounded_model.specs.declared.answers.TakeRefused.TheVariants.{Empty, 
 use Rattle.bounded_model.specs.declared.history.Event.{Event}
 use Rattle.bounded_model.specs.declared.history.Event.TheVariants.{Put, Take, Free, Close, Shut}
 use Rattle.bounded_model.specs.Histories.{own}
-use Rattle.bounded_model.specs.Justified.{Sometime}
 use Rattle.machine.specs.Schedule.{Act}
 use Rattle.queue_machine.specs.declared.lines.Seeking.{Seeking}
 use Rattle.queue_machine.specs.declared.lines.Seeking.TheVariants.{ToLink}
@@ -23,23 +22,15 @@ use Rattle.queue_machine.specs.Machine.{is_idle, queue}
 use Rattle.queue_machine.specs.Answers.{shape, IsRight}
 use Rattle.queue_machine.specs.Deeds.{Makes as HasMadeAll, HasMade, HasSought}
 use Rattle.step_core.specs.Linearizable.{Linearizable}
-use Rattle.step_core.specs.queue.Object.{Makes, IsSaid, object, answer}
+use Rattle.step_core.specs.queue.Object.{Makes, object, answer}
 use Rattle.step_core.proofs.Entries.{visible}
-use Rattle.step_core.proofs.Points.{Point, Ended, Speaks, linearizable}
+use Rattle.step_core.proofs.Points.{Point, Ended, Given, point_of, ended_by, with, Speaks, linearizable}
 use Rattle.step_core.proofs.queue.Run.{Rule, Story, starts_busy, queue_told, run_stays}
 
 module _ {T : Type 0} (n limit : ℕ) where
-  -- a justified answer is one that the object gives, with what else it says
+  -- a justified answer is one that the object gives
   module _ (b seen : List (Event T)) where
-    abbrev Given : ℕ → Call T → Answer T → List (Event T) → Type 0
-    Given p c a mine =
-        ((visible mine ≡ []) × (IsRight n limit b seen a → Sometime b seen (λ h. IsSaid n limit h c a)))
-        ⊎ ((e : Event T) × (visible mine ≡ e ∷ []) × Makes p c a e)
-
-    with : {X : Type 0} {P : List (Event T) → Type 0} → X → Sometime b seen P → Sometime b seen (λ h. X × P h)
-    with w s = record { at = s.at; since = s.since; until = s.until; holds = (w, s.holds) }
-
-    given : (p : ℕ) (c : Call T) (a : Answer T) (mine : List (Event T)) → HasMadeAll p c a mine → Given p c a mine
+    given : (p : ℕ) (c : Call T) (a : Answer T) (mine : List (Event T)) → HasMadeAll p c a mine → Given (object n limit) (IsRight n limit) p c a b seen mine
     given p (CallPut v) (AnswerPut (Ok k)) mine made = inr (Put p (v ∷ []) k, ap visible made, refl)
     given p (CallPut v) (AnswerPut (Err (Full u))) mine made = inl (ap visible made.1, λ r. with made.0 r)
     given p (CallPut v) (AnswerPut (Err (Closed u))) mine made = inl (⊎_elim (λ e. ap visible e) (λ e. ap visible e) made.1, λ r. with made.0 r)
@@ -58,7 +49,7 @@ module _ {T : Type 0} (n limit : ℕ) where
 
   -- what a line has done
   freeing : (p : ℕ) (c : Call T) (a : Answer T) (mine : List (Event T)) → HasMadeAll p c a (Free p 1 ∷ mine) → Point (object n limit) p c mine
-  freeing p c a mine made = ⊎_elim (λ r. inl r.0) (λ r. inr (a, r.0, r.1, r.2)) (given [] [] p c a (Free p 1 ∷ mine) made)
+  freeing p c a mine made = point_of (object n limit) (IsRight n limit) p c a [] [] mine (given [] [] p c a (Free p 1 ∷ mine) made)
 
   sought : (p : ℕ) (c : Call T) (s : Seeking T) (mine : List (Event T)) → HasSought p c s mine → Point (object n limit) p c mine
   sought p c (ToLink link) mine made = inl (ap visible made.1)
@@ -98,13 +89,7 @@ module _ {T : Type 0} (n limit : ℕ) where
   ended p c (Idle None) b seen story idle = absurd story.1.made
   ended p c (Idle (Some a)) b seen story idle =
       let d = story.1 in
-      record {
-        a = a;
-        heard = refl;
-        between = d.between;
-        is = d.is;
-        point = ⊎_elim (λ r. inl (r.0, r.1 story.0)) (λ r. inr r) (given b seen p c a (own p d.between) d.made);
-      }
+      ended_by (object n limit) (IsRight n limit) p c a b seen d.between d.is (given b seen p c a (own p d.between) d.made) story.0
   ended p c l b seen story idle = absurd (false≢true idle)
 
   queue_speaks : Speaks {T = T} (queue (shape n limit)) answer (object n limit) (Rule n limit) (Story n limit)

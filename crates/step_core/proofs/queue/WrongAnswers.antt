@@ -1,27 +1,22 @@
 -- Why those of specs/queue/WrongAnswers are refused.
-use Rattle.std.proofs.Common.{◌≡◌, ℕ, true, List, length, ⊎_elim, [], ◌∷◌, ◌++◌, Ok, Err, refl, sym, ap, ◌∙◌, subst, append-nil, arith}
-use mathlib.Core.Option.{some, some-injective}
+use Rattle.std.proofs.Common.{◌≡◌, ℕ, true, List, length, ⊎_elim, [], ◌∷◌, Ok, Err, refl, sym, ap, ◌∙◌, arith}
+use mathlib.Core.Option.{some}
 use Rattle.bounded_model.specs.declared.answers.PutRefused.TheVariants.{Closed}
 use Rattle.bounded_model.specs.declared.history.Event.{Event}
 use Rattle.bounded_model.specs.declared.history.Event.TheVariants.{Hold, Put, Close}
 use Rattle.bounded_model.specs.Histories.{own}
-use Rattle.bounded_model.proofs.Histories.{own-append}
 use Rattle.queue_machine.specs.declared.lines.Answer.{Answer}
 use Rattle.queue_machine.specs.declared.lines.Answer.TheVariants.{Put as AnswerPut, Close as AnswerClose}
 use Rattle.queue_machine.specs.declared.lines.Call.{Call}
 use Rattle.queue_machine.specs.declared.lines.Call.TheVariants.{Put as CallPut, Shut as CallShut}
 use Rattle.queue_machine.specs.Machine.{Pass, ends}
 use Rattle.queue_machine.specs.Deeds.{Makes}
+use Rattle.step_core.proofs.Heard.{own_made}
 use Rattle.step_core.specs.queue.Law.{HasAnswered, AllDone}
 use Rattle.step_core.specs.queue.WrongAnswers.{put_another, handed_back, kept_cell, closed_instead}
 
--- what pass 0 makes of a call, which did nothing before it
 made : (v : Pass ℕ) (a : Answer ℕ) (call : Call ℕ) → v.call ≡ some call → own 0 v.begun ≡ [] → HasAnswered 0 v a → Makes 0 call a (own 0 v.seen)
-made v a call of new h =
-    let same_call : h.call ≡ call = some-injective h.call call (sym h.of ∙ of) in
-    let mine : List (Event ℕ) = own 0 h.done.between in
-    let all : own 0 v.seen ≡ mine = ap (own 0) h.done.is ∙ own-append 0 h.done.between v.begun ∙ ap (λ (e : List (Event ℕ)). mine ++ e) new ∙ append-nil mine in
-    subst (λ (k : Call ℕ). Makes 0 k a (own 0 v.seen)) same_call (subst (Makes 0 h.call a) (sym all) h.done.made)
+made v a call of new h = own_made (λ c mine. Makes 0 c a mine) call h.call v.begun v.seen h.done.between (sym h.of ∙ of) new h.done.is h.done.made
 
 abbrev put_done : Answer ℕ
 put_done = AnswerPut (Ok 0)

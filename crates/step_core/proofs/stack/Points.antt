@@ -1,5 +1,5 @@
 -- The stack's machine is linearizable.
-use Rattle.std.proofs.Common.{◌≡◌, ◌⊎◌, ℕ, zero, suc, ◌<◌, ◌≤◌, true, false, List, [], ◌∷◌, ◌++◌, length, refl, sym, ap, ◌∙◌, ⊎_elim, inl, inr, Some, None, Ok, Err}
+use Rattle.std.proofs.Common.{◌≡◌, ℕ, zero, suc, ◌<◌, ◌≤◌, true, false, List, [], ◌∷◌, ◌++◌, length, refl, sym, ap, ◌∙◌, inl, inr, Some, None, Ok, Err}
 use Rattle.std.proofs.lemmas.Bool.{false≢true}
 use Rattle.std.proofs.lemmas.List.{append_cancel_left}
 use mathlib.Core.Option.{some}
@@ -12,7 +12,6 @@ use Rattle.bounded_model.specs.declared.answers.TakeRefused.TheVariants.{Empty, 
 use Rattle.bounded_model.specs.declared.history.Event.{Event}
 use Rattle.bounded_model.specs.declared.history.Event.TheVariants.{Put, Take, TakeAll, Free, Close, Shut}
 use Rattle.bounded_model.specs.Histories.{own}
-use Rattle.bounded_model.specs.Justified.{Sometime}
 use Rattle.bounded_model.specs.Laws.{holds_of, gave_back}
 use Rattle.machine.specs.Schedule.{Act}
 use Rattle.stack_machine.specs.declared.lines.Putting.{Putting}
@@ -28,9 +27,9 @@ use Rattle.stack_machine.specs.Machine.{is_idle, stack}
 use Rattle.stack_machine.specs.Answers.{shape, IsRight}
 use Rattle.stack_machine.specs.Deeds.{Makes as HasMadeAll, MakesRefusal, MakesNothing, BackedOut, in_order, HasHeld, HasMade}
 use Rattle.step_core.specs.Linearizable.{Linearizable}
-use Rattle.step_core.specs.stack.Object.{Makes, IsSaid, object, answer}
+use Rattle.step_core.specs.stack.Object.{Makes, object, answer}
 use Rattle.step_core.proofs.Entries.{visible}
-use Rattle.step_core.proofs.Points.{Point, Ended, Speaks, linearizable}
+use Rattle.step_core.proofs.Points.{Point, Ended, Given, point_of, ended_by, with, Speaks, linearizable}
 use Rattle.step_core.proofs.stack.Run.{Rule, Story, starts_busy, stack_told, run_stays}
 
 module _ {T : Type 0} where
@@ -60,17 +59,9 @@ module _ {T : Type 0} where
   nothing_hidden p (TakeSpent word t) mine made = absurd made
 
 module _ {T : Type 0} (n limit : ℕ) where
-  -- a justified answer is one that the object gives, with what else it says
+  -- a justified answer is one that the object gives
   module _ (b seen : List (Event T)) where
-    abbrev Given : ℕ → Call T → Answer T → List (Event T) → Type 0
-    Given p c a mine =
-        ((visible mine ≡ []) × (IsRight n limit b seen a → Sometime b seen (λ h. IsSaid n limit h c a)))
-        ⊎ ((e : Event T) × (visible mine ≡ e ∷ []) × Makes p c a e)
-
-    with : {X : Type 0} {P : List (Event T) → Type 0} → X → Sometime b seen P → Sometime b seen (λ h. X × P h)
-    with w s = record { at = s.at; since = s.since; until = s.until; holds = (w, s.holds) }
-
-    given : (p : ℕ) (c : Call T) (a : Answer T) (mine : List (Event T)) → HasMadeAll p c a mine → Given p c a mine
+    given : (p : ℕ) (c : Call T) (a : Answer T) (mine : List (Event T)) → HasMadeAll p c a mine → Given (object n limit) (IsRight n limit) p c a b seen mine
     given p (CallPut v vs) (AnswerPut (Ok r)) mine made = inr (
       Put p made.values r.0,
       ap visible made.is ∙ ap (λ (l : List (Event T)). Put p made.values r.0 ∷ l) (holds_hidden p (length made.values)),
@@ -90,7 +81,7 @@ module _ {T : Type 0} (n limit : ℕ) where
 
   -- what a line has done
   giving : (p : ℕ) (c : Call T) (give : Giving T) (mine : List (Event T)) → HasMadeAll p c give.answer (Free p (length give.chain) ∷ mine) → Point (object n limit) p c mine
-  giving p c give mine made = ⊎_elim (λ r. inl r.0) (λ r. inr (give.answer, r.0, r.1, r.2)) (given [] [] p c give.answer (Free p (length give.chain) ∷ mine) made)
+  giving p c give mine made = point_of (object n limit) (IsRight n limit) p c give.answer [] [] mine (given [] [] p c give.answer (Free p (length give.chain) ∷ mine) made)
 
   held : (p : ℕ) (c : Call T) (put : Putting T) (mine : List (Event T)) → HasHeld p c put mine → Point (object n limit) p c mine
   held p c put mine made = inl (ap visible made.1 ∙ holds_hidden p (length put.chain))
@@ -143,13 +134,7 @@ module _ {T : Type 0} (n limit : ℕ) where
   ended p c (Idle None) b seen story idle = absurd story.1.made
   ended p c (Idle (Some a)) b seen story idle =
       let d = story.1 in
-      record {
-        a = a;
-        heard = refl;
-        between = d.between;
-        is = d.is;
-        point = ⊎_elim (λ r. inl (r.0, r.1 story.0)) (λ r. inr r) (given b seen p c a (own p d.between) d.made);
-      }
+      ended_by (object n limit) (IsRight n limit) p c a b seen d.between d.is (given b seen p c a (own p d.between) d.made) story.0
   ended p c l b seen story idle = absurd (false≢true idle)
 
   stack_speaks : Speaks {T = T} (stack (shape n limit)) answer (object n limit) (Rule n limit) (Story n limit)

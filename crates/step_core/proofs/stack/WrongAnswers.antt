@@ -1,10 +1,9 @@
 -- Why those of specs/stack/WrongAnswers are refused.
-use Rattle.std.proofs.Common.{◌≡◌, ℕ, true, List, reverse, [], ◌∷◌, ◌++◌, length, Ok, refl, sym, ap, ◌∙◌, subst, append-nil, arith}
-use mathlib.Core.Option.{some, some-injective}
+use Rattle.std.proofs.Common.{◌≡◌, ℕ, true, List, reverse, [], ◌∷◌, length, Ok, refl, sym, ap, ◌∙◌, append-nil, arith}
+use mathlib.Core.Option.{some}
 use Rattle.bounded_model.specs.declared.history.Event.{Event}
 use Rattle.bounded_model.specs.declared.history.Event.TheVariants.{Hold, Put, Take, TakeAll, Free, Close}
 use Rattle.bounded_model.specs.Histories.{own}
-use Rattle.bounded_model.proofs.Histories.{own-append}
 use Rattle.bounded_model.specs.Laws.{holds_of}
 use Rattle.stack_machine.specs.declared.lines.Direction.TheVariants.{Down, Up}
 use Rattle.stack_machine.specs.declared.lines.Taking.TheVariants.{Whole}
@@ -15,16 +14,12 @@ use Rattle.stack_machine.specs.declared.lines.Call.TheVariants.{Take as CallTake
 use Rattle.stack_machine.specs.Answers.{shape}
 use Rattle.stack_machine.specs.Deeds.{PutAtOnce, FoldedAll, Makes}
 use Rattle.stack_machine.specs.Machine.{Pass, ends}
+use Rattle.step_core.proofs.Heard.{own_made}
 use Rattle.step_core.specs.stack.Law.{HasAnswered, AllDone}
 use Rattle.step_core.specs.stack.WrongAnswers.{put_only_the_first, shut_as_a_close, fold_as_a_take, fold_without_a_turn, value_between, two_values}
 
--- what pass 0 makes of a call, which did nothing before it
 made : (v : Pass ℕ) (a : Answer ℕ) (call : Call ℕ) → v.call ≡ some call → own 0 v.begun ≡ [] → HasAnswered (shape 3 15) 0 v a → Makes 0 call a (own 0 v.seen)
-made v a call of new h =
-    let same_call : h.call ≡ call = some-injective h.call call (sym h.of ∙ of) in
-    let mine : List (Event ℕ) = own 0 h.done.between in
-    let all : own 0 v.seen ≡ mine = ap (own 0) h.done.is ∙ own-append 0 h.done.between v.begun ∙ ap (λ (e : List (Event ℕ)). mine ++ e) new ∙ append-nil mine in
-    subst (λ (k : Call ℕ). Makes 0 k a (own 0 v.seen)) same_call (subst (Makes 0 h.call a) (sym all) h.done.made)
+made v a call of new h = own_made (λ c mine. Makes 0 c a mine) call h.call v.begun v.seen h.done.between (sym h.of ∙ of) new h.done.is h.done.made
 
 abbrev has_put_one : Pass ℕ
 has_put_one = record { line = ends (AnswerPut (Ok (0, []))); call = some two_values; begun = []; seen = Put 0 (10 ∷ []) 0 ∷ Hold 0 ∷ [] }
