@@ -6,5 +6,4 @@ pub mod Pays
 pub mod Ends
 pub mod Mistakes
 pub mod WrongAnswers
-pub mod WrongPoints
-pub mod Starving
+pub mod WrongRuns

@@ -8,5 +8,4 @@ pub mod Overtaking
 pub mod Orders
 pub mod Mistakes
 pub mod WrongAnswers
-pub mod WrongPoints
-pub mod Starving
+pub mod WrongRuns

@@ -7,5 +7,4 @@ pub mod Rows
 pub mod Orders
 pub mod Mistakes
 pub mod WrongAnswers
-pub mod WrongPoints
-pub mod Starving
+pub mod WrongRuns

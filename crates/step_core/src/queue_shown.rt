@@ -19,8 +19,7 @@ ghost use Rattle.step_core.specs.queue.Orders.{limit_first, closed_first, next_l
 ghost use Rattle.step_core.specs.queue.Mistakes.{hands_with_cell, hands_with_node, WinsHeld, cell_held, cell_held_twice, node_held, node_held_twice, number_again, linked_late, dummy_free, left_there, overtaken, put_after_close, take_after_shut, wrong_cell, no_node, linked_aside};
 ghost use Rattle.step_core.specs.queue.Object.{object, answer};
 ghost use Rattle.step_core.specs.queue.WrongAnswers.{put_another, handed_back, kept_cell, closed_instead};
-ghost use Rattle.step_core.specs.queue.WrongPoints.{ends_where_it_lost, lost_take, is_always_empty, stale_take, plain_object, full_of_hands};
-ghost use Rattle.step_core.specs.queue.Starving.{spoils_where_it_lost, starving, in_turn};
+ghost use Rattle.step_core.specs.queue.WrongRuns.{ends_where_it_lost, lost_take, is_always_empty, stale_take, plain_object, full_of_hands, spoils_where_it_lost, starving, in_turn};
 
 /// Rows played by the queue's machine, by single steps of up to three passes, and machines that are
 /// nearly the queue's, each with the row that it fails: so many lines of it get their replies, and then

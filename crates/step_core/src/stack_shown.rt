@@ -18,8 +18,7 @@ ghost use Rattle.step_core.specs.stack.Orders.{limit_before_null, limit_before_c
 ghost use Rattle.step_core.specs.stack.Mistakes.{hands_with_node, WinsHeld, node_held, node_held_twice, number_again, cut_off, forgotten, left_there, put_after_close, take_after_shut};
 ghost use Rattle.step_core.specs.stack.Object.{object, answer};
 ghost use Rattle.step_core.specs.stack.WrongAnswers.{put_only_the_first, shut_as_a_close, fold_as_a_take, fold_without_a_turn, value_between};
-ghost use Rattle.step_core.specs.stack.WrongPoints.{ends_where_it_lost, lost_take, is_always_empty, stale_take};
-ghost use Rattle.step_core.specs.stack.Starving.{spoils_where_it_lost, starving, in_turn};
+ghost use Rattle.step_core.specs.stack.WrongRuns.{ends_where_it_lost, lost_take, is_always_empty, stale_take, spoils_where_it_lost, starving, in_turn};
 
 /// Rows played by the stack's machine, by single steps of up to three passes, and machines that are
 /// nearly the stack's, each with the row that it fails (see `queue_exhibits`).

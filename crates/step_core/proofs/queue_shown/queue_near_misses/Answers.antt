@@ -1,8 +1,7 @@
 use Rattle.std.proofs.Common.{refl}
 use Rattle.step_core.proofs.queue.Mistakes.{cell_held_twice-unlawful, cell_held_by_two, wins_held_cell, node_held_twice-unlawful, node_held_by_two, wins_held_node, number_again-unlawful, linked_late-unlawful, dummy_free-unlawful, left_there-unlawful, overtaken-unlawful, put_after_close-unlawful, take_after_shut-unlawful, wrong_cell-unlawful, no_node-unlawful, linked_aside-unlawful}
 use Rattle.step_core.proofs.queue.WrongAnswers.{put_another-unlawful, handed_back-unlawful, kept_cell-unlawful, closed_instead-unlawful}
-use Rattle.step_core.proofs.queue.WrongPoints.{lost_take-unanswered, lost_take-not_linearizable, stale_take-unlawful, stale_take-not_linearizable, full_of_hands-not_plain}
-use Rattle.step_core.proofs.queue.Starving.{starving-not_lock_free, starving-not_unhindered}
+use Rattle.step_core.proofs.queue.WrongRuns.{lost_take-unanswered, lost_take-not_linearizable, stale_take-unlawful, stale_take-not_linearizable, full_of_hands-not_plain, starving-not_lock_free, starving-not_unhindered}
 use Rattle.step_core.proofs.queue_shown.queue_near_misses.Goals as goal
 
 pub returns : goal.returns

@@ -1,22 +1,22 @@
--- What linearizability refuses: machines that are nearly the queue's, each with a schedule, and an object
+-- What linearizability and lock-freedom refuse: machines that are nearly the queue's, each with a schedule, and an object
 -- without hands.
 use Rattle.std.specs.Prelude.{◌≡◌, ℕ, if◌then◌else◌, List, ◌++◌, length, None, Err}
 use Rattle.bounded_model.specs.declared.answers.PutRefused.TheVariants.{Full}
 use Rattle.bounded_model.specs.declared.answers.TakeRefused.TheVariants.{Empty}
 use Rattle.bounded_model.specs.declared.history.Event.{Event}
-use Rattle.machine.specs.Schedule.{Schedule}
-use Rattle.machine.specs.Words.{same}
+use Rattle.machine.specs.Schedule.{Schedule, after}
+use Rattle.machine.specs.Words.{same, raised}
 use Rattle.queue_machine.specs.declared.lines.Answer.{Answer}
 use Rattle.queue_machine.specs.declared.lines.Answer.TheVariants.{Put as AnswerPut, Take as AnswerTake}
 use Rattle.queue_machine.specs.declared.lines.Call.{Call}
-use Rattle.queue_machine.specs.declared.lines.Call.TheVariants.{Put as CallPut, Take as CallTake, Close as CallClose}
-use Rattle.queue_machine.specs.declared.lines.Line.TheVariants.{Idle, LoadHead, TakeHead}
-use Rattle.queue_machine.specs.Machine.{step, goes_on, ends}
-use Rattle.queue_machine.specs.Answers.{state}
-use Rattle.step_core.specs.Acts.{begins, steps}
+use Rattle.queue_machine.specs.declared.lines.Call.TheVariants.{Put as CallPut, Take as CallTake, Close as CallClose, Shut as CallShut}
+use Rattle.queue_machine.specs.declared.lines.Line.TheVariants.{Idle, LoadHead, TakeHead, LoadHeadToShut, ShutHead}
+use Rattle.queue_machine.specs.Machine.{step, goes_on, ends, State}
+use Rattle.queue_machine.specs.Answers.{state, shape}
+use Rattle.step_core.specs.Acts.{begins, steps, rounds}
 use Rattle.step_core.specs.Linearizable.{Object}
 use Rattle.step_core.specs.queue.Object.{IsSaid, object}
-use Rattle.step_core.specs.queue.Cast.{Moves}
+use Rattle.step_core.specs.queue.Cast.{Moves, queue_with}
 
 -- A take that loses its exchange ends without an answer
 abbrev pub ends_where_it_lost : Moves
@@ -48,3 +48,21 @@ plain_object = record (object 1 15) { reads = λ k h. IsSaid 1 15 h k.call k.ans
 -- put is refused too
 abbrev pub full_of_hands : Schedule (Call ℕ)
 full_of_hands = begins 1 (CallPut 12) 3 ++ begins 0 (CallPut 10) 4 ++ begins 2 CallClose 4 ++ steps 1 15
+
+-- A shut that loses its exchange raises the tag of the head before it tries again
+abbrev pub spoils_where_it_lost : Moves
+spoils_where_it_lost s m p (ShutHead h) = if same m.head h then step s m p (ShutHead h) else goes_on (record m { head = raised m.head m.head.index }) LoadHeadToShut
+spoils_where_it_lost s m p l = step s m p l
+
+-- pass 0 has read the head when pass 1 puts and takes a value; then pass 1 has read it too
+abbrev pub both_have_read : Schedule (Call ℕ)
+both_have_read = begins 0 CallShut 1 ++ begins 1 (CallPut 10) 14 ++ begins 1 CallTake 12 ++ begins 1 CallShut 1
+
+-- Each loses to what the other did where it lost, and reads the head again, round after round. So no call ends
+-- among as many steps as the law allows two passes; and each has made more steps than a call may that is not
+-- overtaken: the other has won nothing
+abbrev pub starving : State ℕ
+starving = after (queue_with spoils_where_it_lost (shape 1 15)) 2 both_have_read
+
+abbrev pub in_turn : Schedule (Call ℕ)
+in_turn = rounds (Call ℕ) 18

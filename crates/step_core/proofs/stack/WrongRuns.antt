@@ -1,5 +1,5 @@
--- Why those of specs/stack/WrongPoints are refused.
-use Rattle.std.proofs.Common.{◌≡◌, ℕ, List, [], ◌∷◌, None, Some, Ok, Err, refl, sym, subst, ⊎_elim, inl}
+-- Why those of specs/stack/WrongRuns are refused.
+use Rattle.std.proofs.Common.{◌≡◌, ℕ, List, [], ◌∷◌, None, Some, Ok, Err, refl, sym, subst, ⊎_elim, inl, ◌+◌, ◌*◌, ◌≤◌, arith}
 use mathlib.Core.Option.{none, some}
 use Rattle.bounded_model.specs.declared.answers.TakeRefused.TheVariants.{Empty}
 use Rattle.bounded_model.specs.declared.history.Event.{Event}
@@ -18,8 +18,10 @@ use Rattle.step_core.specs.stack.Object.{object, answer}
 use Rattle.step_core.proofs.Heard.{Right, none_heard, stale, at_once}
 use Rattle.step_core.specs.stack.Law.{Lawful, NoneUnanswered}
 use Rattle.step_core.specs.stack.Cast.{stack_with}
-use Rattle.step_core.specs.stack.WrongPoints.{ends_where_it_lost, lost_take, is_always_empty, stale_take}
+use Rattle.step_core.specs.stack.WrongRuns.{ends_where_it_lost, lost_take, is_always_empty, stale_take, spoils_where_it_lost, both_have_read, starving, in_turn}
 use Rattle.stack_machine.specs.declared.lines.Taking.TheVariants.{One, Whole}
+use Rattle.machine.specs.Bound.{own_steps}
+use Rattle.machine.specs.Progress.{LockFree, steps_made, calls_ended, others_win}
 
 abbrev has_lost : Pass ℕ
 has_lost = record { line = Idle None; call = some (CallTake One); begun = Put 1 (10 ∷ []) 0 ∷ Hold 1 ∷ []; seen = Take 2 10 1 ∷ Put 1 (10 ∷ []) 0 ∷ Hold 1 ∷ [] }
@@ -58,3 +60,16 @@ stale_take-not_linearizable l = stale (object 1 15) 10 no_value put_done refl is
     was_put p (CallPut v more) newer older r = ⊎_elim (λ s. absurd s) (λ m. (m.1.0.values, subst (λ (e : Event ℕ). Among e newer) m.1.0.is m.1.1)) r
     was_put p (CallTake (Whole d)) newer older r = absurd (⊎_elim (λ s. s) (λ m. m.1.0) r)
     was_put p call newer older r = absurd (⊎_elim (λ s. s) (λ m. m.1.0) r)
+
+pub starving-not_lock_free : ¬ LockFree (stack_with spoils_where_it_lost (shape 1 15)) 2 ((4 * 1 + 6 + (3 * 1 + 4) * 1) * 2)
+starving-not_lock_free free =
+    let made : steps_made (stack_with spoils_where_it_lost (shape 1 15)) in_turn starving ≡ 36 = refl in
+    let ended : calls_ended (stack_with spoils_where_it_lost (shape 1 15)) in_turn starving ≡ 0 = refl in
+    absurd (omega (arith, ended, free both_have_read in_turn (omega (arith, made))))
+
+pub starving-not_unhindered :
+    (let machine = stack_with spoils_where_it_lost (shape 1 15) in ¬ (own_steps machine 0 in_turn starving ≤ 9 + 4 * others_win machine 0 in_turn starving))
+starving-not_unhindered few =
+    let made : own_steps (stack_with spoils_where_it_lost (shape 1 15)) 0 in_turn starving ≡ 18 = refl in
+    let won : others_win (stack_with spoils_where_it_lost (shape 1 15)) 0 in_turn starving ≡ 0 = refl in
+    absurd (omega (arith, few, made, won))

@@ -1,5 +1,5 @@
--- Why those of specs/queue/WrongPoints are refused.
-use Rattle.std.proofs.Common.{◌≡◌, ℕ, List, [], ◌∷◌, ◌++◌, length, None, Some, Ok, Err, refl, sym, ap, ◌∙◌, subst, ⊎_elim, inl, inr, arith, append-nil}
+-- Why those of specs/queue/WrongRuns are refused.
+use Rattle.std.proofs.Common.{◌≡◌, ℕ, List, [], ◌∷◌, ◌++◌, length, None, Some, Ok, Err, refl, sym, ap, ◌∙◌, subst, ⊎_elim, inl, inr, arith, append-nil, ◌+◌, ◌*◌, ◌≤◌}
 use mathlib.Core.Option.{none, some}
 use Rattle.bounded_model.specs.declared.answers.PutRefused.TheVariants.{Full}
 use Rattle.bounded_model.specs.declared.answers.TakeRefused.TheVariants.{Empty}
@@ -24,7 +24,9 @@ use Rattle.step_core.proofs.Heard.{Right, heard, none_heard, right_as, stale, at
 use Rattle.step_core.proofs.Entries.{events-append}
 use Rattle.step_core.specs.queue.Law.{Lawful, NoneUnanswered}
 use Rattle.step_core.specs.queue.Cast.{queue_with}
-use Rattle.step_core.specs.queue.WrongPoints.{ends_where_it_lost, lost_take, is_always_empty, stale_take, plain_object, full_of_hands}
+use Rattle.step_core.specs.queue.WrongRuns.{ends_where_it_lost, lost_take, is_always_empty, stale_take, plain_object, full_of_hands, spoils_where_it_lost, both_have_read, starving, in_turn}
+use Rattle.machine.specs.Bound.{own_steps}
+use Rattle.machine.specs.Progress.{LockFree, steps_made, calls_ended, others_win}
 
 abbrev has_lost : Pass ℕ
 has_lost = record { line = Idle None; call = some CallTake; begun = Put 1 (10 ∷ []) 0 ∷ Hold 1 ∷ []; seen = Take 2 10 0 ∷ Put 1 (10 ∷ []) 0 ∷ Hold 1 ∷ [] }
@@ -93,3 +95,16 @@ full_of_hands-not_plain l =
     no_event : (p : ℕ) (call : Call ℕ) (e : Event ℕ) → Makes p call put_full e → ⊥
     no_event p (CallPut v) e m = m
     no_event p call e m = m
+
+pub starving-not_lock_free : ¬ LockFree (queue_with spoils_where_it_lost (shape 1 15)) 2 ((20 + 14 * 1) * 2)
+starving-not_lock_free free =
+    let made : steps_made (queue_with spoils_where_it_lost (shape 1 15)) in_turn starving ≡ 72 = refl in
+    let ended : calls_ended (queue_with spoils_where_it_lost (shape 1 15)) in_turn starving ≡ 0 = refl in
+    absurd (omega (arith, ended, free both_have_read in_turn (omega (arith, made))))
+
+pub starving-not_unhindered :
+    (let machine = queue_with spoils_where_it_lost (shape 1 15) in ¬ (own_steps machine 0 in_turn starving ≤ 20 + 8 * others_win machine 0 in_turn starving))
+starving-not_unhindered few =
+    let made : own_steps (queue_with spoils_where_it_lost (shape 1 15)) 0 in_turn starving ≡ 36 = refl in
+    let won : others_win (queue_with spoils_where_it_lost (shape 1 15)) 0 in_turn starving ≡ 0 = refl in
+    absurd (omega (arith, few, made, won))

@@ -1,0 +1,50 @@
+-- What linearizability and lock-freedom refuse: machines that are nearly the stack's, each with a schedule.
+use Rattle.std.specs.Prelude.{ℕ, if◌then◌else◌, [], ◌++◌, None, Err}
+use Rattle.bounded_model.specs.declared.answers.TakeRefused.TheVariants.{Empty}
+use Rattle.machine.specs.Schedule.{Schedule, after}
+use Rattle.machine.specs.Words.{same, raised}
+use Rattle.stack_machine.specs.declared.lines.Answer.TheVariants.{Take as AnswerTake}
+use Rattle.stack_machine.specs.declared.lines.Call.{Call}
+use Rattle.stack_machine.specs.declared.lines.Call.TheVariants.{Put as CallPut, Take as CallTake, Close as CallClose}
+use Rattle.stack_machine.specs.declared.lines.Taking.TheVariants.{One}
+use Rattle.stack_machine.specs.declared.lines.Line.TheVariants.{Idle, LoadTopToTake, TakeTop, LoadTopToClose, MarkTop}
+use Rattle.stack_machine.specs.Machine.{step, goes_on, ends, State}
+use Rattle.step_core.specs.Acts.{begins, steps, rounds}
+use Rattle.step_core.specs.stack.Cast.{Moves, stack_with}
+use Rattle.stack_machine.specs.Answers.{shape}
+
+-- A take that loses its exchange ends without an answer
+abbrev pub ends_where_it_lost : Moves
+ends_where_it_lost s m p (TakeTop w k) = if same m.top w then step s m p (TakeTop w k) else goes_on m (Idle None)
+ends_where_it_lost s m p l = step s m p l
+
+-- pass 0 has come to its exchange when pass 2 takes the only value
+abbrev pub lost_take : Schedule (Call ℕ)
+lost_take = begins 1 (CallPut 10 []) 6 ++ begins 0 (CallTake One) 2 ++ begins 2 (CallTake One) 3 ++ steps 0 1
+
+-- A take that answers without a look that there is no value
+abbrev pub is_always_empty : Moves
+is_always_empty s m p (LoadTopToTake One) = goes_on m (ends (AnswerTake (Err Empty)))
+is_always_empty s m p l = step s m p l
+
+-- pass 1 has put a value when pass 0 begins. Before that, there was none
+abbrev pub stale_take : Schedule (Call ℕ)
+stale_take = begins 1 (CallPut 10 []) 6 ++ begins 0 (CallTake One) 1
+
+-- A close that loses its exchange raises the tag of the top before it tries again
+abbrev pub spoils_where_it_lost : Moves
+spoils_where_it_lost s m p (MarkTop w) = if same m.top w then step s m p (MarkTop w) else goes_on (record m { top = raised m.top m.top.index }) LoadTopToClose
+spoils_where_it_lost s m p l = step s m p l
+
+-- pass 0 has read the top when pass 1 puts a value; then pass 1 has read it too
+abbrev pub both_have_read : Schedule (Call ℕ)
+both_have_read = begins 0 CallClose 1 ++ begins 1 (CallPut 10 []) 6 ++ begins 1 CallClose 1
+
+-- Each loses to what the other did where it lost, and reads the top again, round after round. So no call ends
+-- among as many steps as the law allows two passes; and each has made more steps than a call may that is not
+-- overtaken: the other has won nothing
+abbrev pub starving : State ℕ
+starving = after (stack_with spoils_where_it_lost (shape 1 15)) 2 both_have_read
+
+abbrev pub in_turn : Schedule (Call ℕ)
+in_turn = rounds (Call ℕ) 9
