@@ -97,6 +97,10 @@ module _ {M L T C A : Type 0} (x : Machine M L C (Event T)) (answer : L → Opti
     history : events course ≡ s.history
     each : (p : ℕ) (v : Pass L C (Event T)) → get_elem? s.passes p ≡ some v → At p v course
 
+  -- a call goes on in a course that has grown since its begin
+  younger : {p : ℕ} {v : Pass L C (Event T)} {course course' : Course} (u : Underway p v course) (young : Course) → course' ≡ young ++ u.old → Made p u.call young u.old (own p (events young)) → Underway p v course'
+  younger u young is made = record { call = u.call; of = u.of; young = young; old = u.old; is = is; begun_at = u.begun_at; asked = u.asked; made = made }
+
   -- other passes go on over entries that are nothing of theirs
   at_more : (q : ℕ) (v : Pass L C (Event T)) (more course : Course) → Quiets q more → own q (events more) ≡ [] → At q v course → At q v (more ++ course)
   at_more q v more course quiet nothing at = record {
@@ -108,19 +112,10 @@ module _ {M L T C A : Type 0} (x : Machine M L C (Event T)) (answer : L → Opti
       more_goes u =
           let same : own q (events (more ++ u.young)) ≡ own q (events u.young) =
           ap (own q) (events-append more u.young) ∙ own-append q (events more) (events u.young) ∙ ap (λ (l : List (Event T)). l ++ own q (events u.young)) nothing in
-          record {
-            call = u.call;
-            of = u.of;
-            young = more ++ u.young;
-            old = u.old;
-            is = ap (λ (l : Course). more ++ l) u.is ∙ sym (append_assoc more u.young u.old);
-            begun_at = u.begun_at;
-            asked = u.asked;
-            made = ⊎_elim
-                (λ w. inl (quiet_append q more u.young quiet w.0, ap visible same ∙ w.1))
-                (λ w. inr (w.0, w.1, ap (stage q) (append_assoc more u.young u.old) ∙ stage-quiet q more (u.young ++ u.old) quiet ∙ w.2, ap visible same ∙ w.3, w.4))
-                u.made;
-          }
+          younger u (more ++ u.young) (ap (λ (l : Course). more ++ l) u.is ∙ sym (append_assoc more u.young u.old)) (⊎_elim
+          (λ w. inl (quiet_append q more u.young quiet w.0, ap visible same ∙ w.1))
+          (λ w. inr (w.0, w.1, ap (stage q) (append_assoc more u.young u.old) ∙ stage-quiet q more (u.young ++ u.old) quiet ∙ w.2, ap visible same ∙ w.3, w.4))
+          u.made)
 
   -- and over a point of another pass that is put in
   at_insert : (q : ℕ) (v : Pass L C (Event T)) (k : Operation C A) (a b course : Course) → k.by ≢ q → course ≡ a ++ b → At q v course → At q v (a ++ Reads k ∷ b)
@@ -138,19 +133,10 @@ module _ {M L T C A : Type 0} (x : Machine M L C (Event T)) (answer : L → Opti
               let same : events young ≡ events u.young = events-insert k a m.0 ∙ ap events (sym m.1) in
               let at_stage : stage q (young ++ u.old) ≡ stage q (u.young ++ u.old) =
               ap (stage q) (append_assoc a (Reads k ∷ m.0) u.old) ∙ stage-insert k q ne a (m.0 ++ u.old) ∙ ap (stage q) (sym (append_assoc a m.0 u.old)) ∙ ap (λ (l : Course). stage q (l ++ u.old)) (sym m.1) in
-              record {
-                call = u.call;
-                of = u.of;
-                young = young;
-                old = u.old;
-                is = ap (λ (l : Course). a ++ Reads k ∷ l) m.2 ∙ sym (append_assoc a (Reads k ∷ m.0) u.old);
-                begun_at = u.begun_at;
-                asked = u.asked;
-                made = ⊎_elim
-                    (λ w. inl (quiet_insert k q ne a m.0 (subst (Quiets q) m.1 w.0), ap (λ (l : List (Event T)). visible (own q l)) same ∙ w.1))
-                    (λ w. inr (w.0, w.1, at_stage ∙ w.2, ap (λ (l : List (Event T)). visible (own q l)) same ∙ w.3, w.4))
-                    u.made;
-              }
+              younger u young (ap (λ (l : Course). a ++ Reads k ∷ l) m.2 ∙ sym (append_assoc a (Reads k ∷ m.0) u.old)) (⊎_elim
+              (λ w. inl (quiet_insert k q ne a m.0 (subst (Quiets q) m.1 w.0), ap (λ (l : List (Event T)). visible (own q l)) same ∙ w.1))
+              (λ w. inr (w.0, w.1, at_stage ∙ w.2, ap (λ (l : List (Event T)). visible (own q l)) same ∙ w.3, w.4))
+              u.made)
 
           below : (mid : Course) × (u.old ≡ mid ++ b) × (a ≡ u.young ++ mid) → Underway q v (a ++ Reads k ∷ b)
           below m =
