@@ -1,12 +1,16 @@
 -- An operation with a response has taken effect while it was pending; for near misses.
-use Rattle.std.proofs.Common.{◌≡◌, ◌⊎◌, ℕ, List, [], ◌∷◌, ◌++◌, length, refl, sym, ap, ◌∙◌, subst, ⊎_elim, inl, inr, append_assoc, length-append, append-nil, arith}
+use Rattle.std.proofs.Common.{◌≡◌, ◌⊎◌, ℕ, List, [], ◌∷◌, ◌++◌, length, reverse, refl, sym, ap, ◌∙◌, subst, ⊎_elim, inl, inr, append_assoc, length-append, append-nil, arith}
 use Rattle.std.proofs.lemmas.Bool.Decides.{eqb_tells}
 use mathlib.Core.Option.{Option, none, some, some-injective, some-ne-none}
 use Rattle.bounded_model.specs.declared.history.Event.{Event}
-use Rattle.bounded_model.specs.declared.history.Event.TheVariants.{Hold, Put}
+use Rattle.bounded_model.specs.declared.history.Event.TheVariants.{Hold, Put, Take, TakeAll}
+use Rattle.bounded_model.specs.Gathers.{gather, put_of}
+use Rattle.bounded_model.specs.declared.history.Order.{Order}
+use Rattle.bounded_model.specs.declared.history.Order.TheVariants.{Fifo, Lifo}
 use Rattle.bounded_model.specs.Histories.{Among, own}
 use Rattle.bounded_model.specs.Justified.{Sometime}
-use Rattle.bounded_model.specs.Machine.{state}
+use Rattle.bounded_model.specs.Machine.{Shape, state, put_on, without_first}
+use Rattle.bounded_model.proofs.Gathering.{gather-append}
 use Rattle.bounded_model.proofs.Histories.{no_parts, own-append}
 use Rattle.step_core.specs.Linearizable.{Operation, Object, Entry, Invokes, Responds, Hand, Updates, Reads, Stage, Rests, Pending, TookEffect, without_points, events, stage, IsLinearization}
 use Rattle.step_core.proofs.Entries.{events-append, without_points-append}
@@ -26,6 +30,20 @@ at_once {T} h P s = subst P (itself s.until.more s.since.more s.at s.until.is s.
     itself : (more less at : List (Event T)) → h ≡ more ++ at → at ≡ less ++ h → at ≡ h
     itself [] less at until since = sym until
     itself (e ∷ more) less at until since = absurd (omega (arith, ap length until, ap length since, length-append more at, length-append less h))
+
+-- where nothing was put nothing is there
+put_nothing : {T : Type 0} (order : Order) (values new : List T) → values ≡ [] → new ≡ [] → put_on order values new ≡ []
+put_nothing Fifo values new e e' = ap (λ l. l ++ new) e ∙ e'
+put_nothing Lifo values new e e' = ap (λ l. reverse l ++ values) e' ∙ e
+
+none_there : {T : Type 0} (c : Shape) (h : List (Event T)) → gather put_of h ≡ [] → (state c h).values ≡ []
+none_there c [] none_put = refl
+none_there c (Put p vs n ∷ h) none_put =
+    let two = no_parts (gather put_of h) vs none_put in
+    put_nothing c.order (state c h).values vs (none_there c h two.0) two.1
+none_there c (Take p v n ∷ h) none_put = ap without_first (none_there c h (sym (append-nil (gather put_of h)) ∙ none_put))
+none_there c (TakeAll p vs n ∷ h) none_put = refl
+none_there c (e ∷ h) none_put = none_there c h (sym (append-nil (gather put_of h)) ∙ none_put)
 
 -- what pass 0 makes of a call, where it did nothing before
 pub own_made : {T C : Type 0} (Makes : C → List (Event T) → Type 0) (call call' : C) (begun seen between : List (Event T)) → some call' ≡ some call → own 0 begun ≡ [] → seen ≡ between ++ begun → Makes call' (own 0 between) → Makes call (own 0 seen)
@@ -136,6 +154,14 @@ module _ {T C A : Type 0} (o : Object T C A) where
 
   pub right_as : (p : ℕ) (a : A) (course : Course) (x : Placed p (some a) course) → Right x.k.by x.k.call a (events x.newer) (events x.older)
   right_as p a course x = subst (λ (b : A). Right x.k.by x.k.call b (events x.newer) (events x.older)) (some-injective x.k.answer a x.given) x.right
+
+  -- and where none puts a value, it takes effect while there is none
+  pub heard_of_none : (p : ℕ) (a : A) (course : Course) → IsLinearization o course → Among (Responds p (some a)) (without_points course) → gather put_of (events course) ≡ []
+      → (by : ℕ) × (call : C) × (newer : List (Event T)) × (older : List (Event T)) × Right by call a newer older × ((state o.shape older).values ≡ [])
+  heard_of_none p a course r there none_put =
+      let x = heard p (some a) course r there in
+      let parts : gather put_of (events x.older) ++ gather put_of (events x.newer) ≡ [] = sym (gather-append put_of (events x.newer) (events x.older)) ∙ ap (gather put_of) (sym (events-append x.newer x.older) ∙ ap events (sym x.is)) ∙ none_put in
+      (x.k.by, x.k.call, events x.newer, events x.older, right_as p a course x, none_there o.shape (events x.older) (no_parts (gather put_of (events x.older)) (gather put_of (events x.newer)) parts).0)
 
   -- Pass 1 has completed an operation, and then pass 0: so that of pass 1 takes effect in the history at which that of
   -- pass 0 does

@@ -6,6 +6,7 @@ ghost use Rattle.machine.specs.Bound.{own_steps};
 ghost use Rattle.machine.specs.Progress.{LockFree, others_win};
 ghost use Rattle.machine.specs.Schedule.{after};
 ghost use Rattle.stack_machine.specs.Answers.{shape};
+ghost use Rattle.stack_machine.specs.Machine.{stack};
 ghost use Rattle.stack_machine.specs.Places.{NoNodeTwice};
 ghost use Rattle.stack_machine.specs.declared.lines.Answer.TheVariants.{Close, Shut};
 ghost use Rattle.step_core.specs.Letters.{x, y, z};
@@ -18,7 +19,7 @@ ghost use Rattle.step_core.specs.stack.Orders.{limit_before_null, limit_before_c
 ghost use Rattle.step_core.specs.stack.Mistakes.{hands_with_node, WinsHeld, node_held, node_held_twice, number_again, cut_off, forgotten, left_there, put_after_close, take_after_shut};
 ghost use Rattle.step_core.specs.stack.Object.{object, answer};
 ghost use Rattle.step_core.specs.stack.WrongAnswers.{put_only_the_first, shut_as_a_close, fold_as_a_take, fold_without_a_turn, value_between};
-ghost use Rattle.step_core.specs.stack.WrongRuns.{ends_where_it_lost, lost_take, is_always_empty, stale_take, spoils_where_it_lost, starving, in_turn};
+ghost use Rattle.step_core.specs.stack.WrongRuns.{ends_where_it_lost, lost_take, is_always_empty, stale_take, plain_object, full_of_hands, spoils_where_it_lost, starving, in_turn};
 
 /// Rows played by the stack's machine, by single steps of up to three passes, and machines that are
 /// nearly the stack's, each with the row that it fails (see `queue_exhibits`).
@@ -89,6 +90,7 @@ pub fn stack_near_misses()
     ensures lost_take_not_linearizable { ¬ Linearizable (stack_with ends_where_it_lost (shape 1 15)) answer (object 1 15) 3 lost_take }
     ensures stale_take_unlawful { ¬ Lawful ℕ 1 15 (after (stack_with is_always_empty (shape 1 15)) 2 stale_take) }
     ensures stale_take_not_linearizable { ¬ Linearizable (stack_with is_always_empty (shape 1 15)) answer (object 1 15) 2 stale_take }
+    ensures full_of_hands_not_plain { ¬ Linearizable (stack (shape 1 15)) answer plain_object 3 full_of_hands }
     // A near miss that is not lock-free: two passes make each other fail, round after round.
     ensures starving_not_lock_free { ¬ LockFree (stack_with spoils_where_it_lost (shape 1 15)) 2 ((4 * 1 + 6 + (3 * 1 + 4) * 1) * 2) }
     ensures starving_not_unhindered { let machine = stack_with spoils_where_it_lost (shape 1 15) in

@@ -1,16 +1,13 @@
 -- Why those of specs/queue/WrongRuns are refused.
-use Rattle.std.proofs.Common.{◌≡◌, ℕ, List, [], ◌∷◌, ◌++◌, length, None, Some, Ok, Err, refl, sym, ap, ◌∙◌, subst, ⊎_elim, inl, inr, arith, append-nil, ◌+◌, ◌*◌, ◌≤◌}
+use Rattle.std.proofs.Common.{◌≡◌, ℕ, List, [], ◌∷◌, length, None, Some, Ok, Err, refl, sym, ap, subst, ⊎_elim, inl, inr, arith, ◌+◌, ◌*◌, ◌≤◌}
 use mathlib.Core.Option.{none, some}
 use Rattle.bounded_model.specs.declared.answers.PutRefused.TheVariants.{Full}
 use Rattle.bounded_model.specs.declared.answers.TakeRefused.TheVariants.{Empty}
 use Rattle.bounded_model.specs.declared.history.Event.{Event}
-use Rattle.bounded_model.specs.declared.history.Event.TheVariants.{Hold, Put, Take, TakeAll, Free, Close}
+use Rattle.bounded_model.specs.declared.history.Event.TheVariants.{Hold, Put, Take}
 use Rattle.bounded_model.specs.Gathers.{gather, put_of}
 use Rattle.bounded_model.specs.Histories.{Among}
-use Rattle.bounded_model.specs.Machine.{without_first}
-use Rattle.bounded_model.proofs.Gathering.{gather-append}
-use Rattle.bounded_model.proofs.Histories.{no_parts}
-use Rattle.machine.specs.Schedule.{start, after}
+use Rattle.machine.specs.Schedule.{after}
 use Rattle.queue_machine.specs.declared.lines.Answer.{Answer}
 use Rattle.queue_machine.specs.declared.lines.Answer.TheVariants.{Put as AnswerPut, Take as AnswerTake}
 use Rattle.queue_machine.specs.declared.lines.Call.{Call}
@@ -18,10 +15,9 @@ use Rattle.queue_machine.specs.declared.lines.Call.TheVariants.{Put as CallPut, 
 use Rattle.queue_machine.specs.declared.lines.Line.TheVariants.{Idle}
 use Rattle.queue_machine.specs.Machine.{Pass, queue, ends}
 use Rattle.queue_machine.specs.Answers.{shape, state}
-use Rattle.step_core.specs.Linearizable.{Linearizable, Responds, without_points, events, concurrent_history}
+use Rattle.step_core.specs.Linearizable.{Linearizable, Responds}
 use Rattle.step_core.specs.queue.Object.{Makes, object, answer}
-use Rattle.step_core.proofs.Heard.{Right, heard, none_heard, right_as, stale, at_once}
-use Rattle.step_core.proofs.Entries.{events-append}
+use Rattle.step_core.proofs.Heard.{Right, none_heard, heard_of_none, stale, at_once}
 use Rattle.step_core.specs.queue.Law.{Lawful, NoneUnanswered}
 use Rattle.step_core.specs.queue.Cast.{queue_with}
 use Rattle.step_core.specs.queue.WrongRuns.{ends_where_it_lost, lost_take, is_always_empty, stale_take, plain_object, full_of_hands, spoils_where_it_lost, both_have_read, starving, in_turn}
@@ -64,33 +60,14 @@ stale_take-not_linearizable l = stale (object 1 15) 10 no_value put_done refl is
     was_put p (CallPut v) newer older r = ⊎_elim (λ s. absurd s) (λ m. (v ∷ [], subst (λ (e : Event ℕ). Among e newer) m.1.0 m.1.1)) r
     was_put p call newer older r = absurd (⊎_elim (λ s. s) (λ m. m.1.0) r)
 
--- where nothing was put nothing is there
-none_there : (h : List (Event ℕ)) → gather put_of h ≡ [] → (state 1 15 h).values ≡ []
-none_there [] none_put = refl
-none_there (Put p vs n ∷ h) none_put =
-    let two = no_parts (gather put_of h) vs none_put in
-    ap (λ (l : List ℕ). l ++ vs) (none_there h two.0) ∙ two.1
-none_there (Take p v n ∷ h) none_put = ap without_first (none_there h (sym (append-nil (gather put_of h)) ∙ none_put))
-none_there (TakeAll p vs n ∷ h) none_put = refl
-none_there (e ∷ h) none_put = none_there h (sym (append-nil (gather put_of h)) ∙ none_put)
-
 abbrev put_full : Answer ℕ
 put_full = AnswerPut (Err (Full 10))
 
 pub full_of_hands-not_plain : ¬ Linearizable (queue (shape 1 15)) answer plain_object 3 full_of_hands
 full_of_hands-not_plain l =
-    let there : Among (Responds 0 (some put_full)) (without_points l.course) = subst (Among (Responds 0 (some put_full))) (sym l.same_calls) among in
-    let placed = heard plain_object 0 (some put_full) l.course l.right there in
-    let parts : events placed.newer ++ events placed.older ≡ Free 1 1 ∷ Close 2 ∷ Hold 1 ∷ [] = sym (events-append placed.newer placed.older) ∙ ap events (sym placed.is) ∙ l.same_history in
-    let none_put : gather put_of (events placed.older) ≡ [] = (no_parts (gather put_of (events placed.older)) (gather put_of (events placed.newer)) (sym (gather-append put_of (events placed.newer) (events placed.older)) ∙ ap (gather put_of) parts)).0 in
-    ⊎_elim
-    (λ r. absurd (omega (arith, r.1, ap length (none_there (events placed.older) none_put))))
-    (λ r. no_event placed.k.by placed.k.call r.0 r.1.0)
-    (right_as plain_object 0 put_full l.course placed)
+    let x = heard_of_none plain_object 0 put_full l.course l.right (subst (Among (Responds 0 (some put_full))) (sym l.same_calls) (inr (inr (inr (inl refl))))) (ap (gather put_of) l.same_history) in
+    ⊎_elim (λ r. absurd (omega (arith, r.1, ap length x.5))) (λ r. no_event x.0 x.1 r.0 r.1.0) x.4
   where
-    among : Among (Responds 0 (some put_full)) (concurrent_history (queue (shape 1 15)) answer full_of_hands (start (queue (shape 1 15)) 3))
-    among = inr (inr (inr (inl refl)))
-
     -- a refusal makes no event
     no_event : (p : ℕ) (call : Call ℕ) (e : Event ℕ) → Makes p call put_full e → ⊥
     no_event p (CallPut v) e m = m

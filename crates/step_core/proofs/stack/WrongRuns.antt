@@ -1,9 +1,11 @@
 -- Why those of specs/stack/WrongRuns are refused.
-use Rattle.std.proofs.Common.{◌≡◌, ℕ, List, [], ◌∷◌, None, Some, Ok, Err, refl, sym, subst, ⊎_elim, inl, ◌+◌, ◌*◌, ◌≤◌, arith}
+use Rattle.std.proofs.Common.{◌≡◌, ℕ, List, [], ◌∷◌, None, Some, Ok, Err, refl, sym, ap, length, subst, ⊎_elim, inl, inr, ◌+◌, ◌*◌, ◌≤◌, arith}
 use mathlib.Core.Option.{none, some}
+use Rattle.bounded_model.specs.declared.answers.PutRefused.TheVariants.{Full}
 use Rattle.bounded_model.specs.declared.answers.TakeRefused.TheVariants.{Empty}
 use Rattle.bounded_model.specs.declared.history.Event.{Event}
 use Rattle.bounded_model.specs.declared.history.Event.TheVariants.{Hold, Put, Take}
+use Rattle.bounded_model.specs.Gathers.{gather, put_of}
 use Rattle.bounded_model.specs.Histories.{Among}
 use Rattle.machine.specs.Schedule.{after}
 use Rattle.stack_machine.specs.declared.lines.Answer.{Answer}
@@ -11,14 +13,14 @@ use Rattle.stack_machine.specs.declared.lines.Answer.TheVariants.{Put as AnswerP
 use Rattle.stack_machine.specs.declared.lines.Call.{Call}
 use Rattle.stack_machine.specs.declared.lines.Call.TheVariants.{Put as CallPut, Take as CallTake}
 use Rattle.stack_machine.specs.declared.lines.Line.TheVariants.{Idle}
-use Rattle.stack_machine.specs.Machine.{Pass, ends}
+use Rattle.stack_machine.specs.Machine.{Pass, stack, ends}
 use Rattle.stack_machine.specs.Answers.{shape, state}
 use Rattle.step_core.specs.Linearizable.{Linearizable, Responds}
-use Rattle.step_core.specs.stack.Object.{object, answer}
-use Rattle.step_core.proofs.Heard.{Right, none_heard, stale, at_once}
+use Rattle.step_core.specs.stack.Object.{Makes, object, answer}
+use Rattle.step_core.proofs.Heard.{Right, none_heard, heard_of_none, stale, at_once}
 use Rattle.step_core.specs.stack.Law.{Lawful, NoneUnanswered}
 use Rattle.step_core.specs.stack.Cast.{stack_with}
-use Rattle.step_core.specs.stack.WrongRuns.{ends_where_it_lost, lost_take, is_always_empty, stale_take, spoils_where_it_lost, both_have_read, starving, in_turn}
+use Rattle.step_core.specs.stack.WrongRuns.{ends_where_it_lost, lost_take, is_always_empty, stale_take, plain_object, full_of_hands, spoils_where_it_lost, both_have_read, starving, in_turn}
 use Rattle.stack_machine.specs.declared.lines.Taking.TheVariants.{One, Whole}
 use Rattle.machine.specs.Bound.{own_steps}
 use Rattle.machine.specs.Progress.{LockFree, steps_made, calls_ended, others_win}
@@ -60,6 +62,20 @@ stale_take-not_linearizable l = stale (object 1 15) 10 no_value put_done refl is
     was_put p (CallPut v more) newer older r = ⊎_elim (λ s. absurd s) (λ m. (m.1.0.values, subst (λ (e : Event ℕ). Among e newer) m.1.0.is m.1.1)) r
     was_put p (CallTake (Whole d)) newer older r = absurd (⊎_elim (λ s. s) (λ m. m.1.0) r)
     was_put p call newer older r = absurd (⊎_elim (λ s. s) (λ m. m.1.0) r)
+
+abbrev put_full : Answer ℕ
+put_full = AnswerPut (Err (Full (10 ∷ [])))
+
+pub full_of_hands-not_plain : ¬ Linearizable (stack (shape 1 15)) answer plain_object 3 full_of_hands
+full_of_hands-not_plain l =
+    let x = heard_of_none plain_object 0 put_full l.course l.right (subst (Among (Responds 0 (some put_full))) (sym l.same_calls) (inr (inr (inr (inl refl))))) (ap (gather put_of) l.same_history) in
+    ⊎_elim (λ r. absurd (omega (arith, r.1, ap length x.5))) (λ r. no_event x.0 x.1 r.0 r.1.0) x.4
+  where
+    -- a refusal makes no event
+    no_event : (p : ℕ) (call : Call ℕ) (e : Event ℕ) → Makes p call put_full e → ⊥
+    no_event p (CallPut v vs) e m = m
+    no_event p (CallTake (Whole d)) e m = m
+    no_event p call e m = m
 
 pub starving-not_lock_free : ¬ LockFree (stack_with spoils_where_it_lost (shape 1 15)) 2 ((4 * 1 + 6 + (3 * 1 + 4) * 1) * 2)
 starving-not_lock_free free =

@@ -1,17 +1,23 @@
--- What linearizability and lock-freedom refuse: machines that are nearly the stack's, each with a schedule.
-use Rattle.std.specs.Prelude.{ℕ, if◌then◌else◌, [], ◌++◌, None, Err}
+-- What linearizability and lock-freedom refuse: machines that are nearly the stack's, each with a schedule, and an object
+-- without hands.
+use Rattle.std.specs.Prelude.{◌≡◌, ℕ, List, length, if◌then◌else◌, [], ◌++◌, None, Err}
+use Rattle.bounded_model.specs.declared.answers.PutRefused.TheVariants.{Full}
 use Rattle.bounded_model.specs.declared.answers.TakeRefused.TheVariants.{Empty}
+use Rattle.bounded_model.specs.declared.history.Event.{Event}
 use Rattle.machine.specs.Schedule.{Schedule, after}
 use Rattle.machine.specs.Words.{same, raised}
-use Rattle.stack_machine.specs.declared.lines.Answer.TheVariants.{Take as AnswerTake}
+use Rattle.stack_machine.specs.declared.lines.Answer.{Answer}
+use Rattle.stack_machine.specs.declared.lines.Answer.TheVariants.{Put as AnswerPut, Take as AnswerTake}
 use Rattle.stack_machine.specs.declared.lines.Call.{Call}
 use Rattle.stack_machine.specs.declared.lines.Call.TheVariants.{Put as CallPut, Take as CallTake, Close as CallClose}
 use Rattle.stack_machine.specs.declared.lines.Taking.TheVariants.{One}
 use Rattle.stack_machine.specs.declared.lines.Line.TheVariants.{Idle, LoadTopToTake, TakeTop, LoadTopToClose, MarkTop}
 use Rattle.stack_machine.specs.Machine.{step, goes_on, ends, State}
+use Rattle.stack_machine.specs.Answers.{shape, state}
 use Rattle.step_core.specs.Acts.{begins, steps, rounds}
+use Rattle.step_core.specs.Linearizable.{Object}
+use Rattle.step_core.specs.stack.Object.{IsSaid, object}
 use Rattle.step_core.specs.stack.Cast.{Moves, stack_with}
-use Rattle.stack_machine.specs.Answers.{shape}
 
 -- A take that loses its exchange ends without an answer
 abbrev pub ends_where_it_lost : Moves
@@ -30,6 +36,19 @@ is_always_empty s m p l = step s m p l
 -- pass 1 has put a value when pass 0 begins. Before that, there was none
 abbrev pub stale_take : Schedule (Call ℕ)
 stale_take = begins 1 (CallPut 10 []) 6 ++ begins 0 (CallTake One) 1
+
+-- The bounded stack without hands, which is full only where its values are as many as its nodes
+abbrev pub plain_object : Object ℕ (Call ℕ) (Answer ℕ)
+plain_object = record (object 1 15) { reads = λ k h. IsSaid 1 15 h k.call k.answer × FillsAll k.answer h }
+  where
+    FillsAll : Answer ℕ → List (Event ℕ) → Type 0
+    FillsAll (AnswerPut (Err (Full values))) h = length (state 1 15 h).values ≡ 1
+    FillsAll a h = Unit {0}
+
+-- pass 1 has the only node in hand when pass 0's put is refused; then pass 2 closes the stack, and pass 1's
+-- put is refused too
+abbrev pub full_of_hands : Schedule (Call ℕ)
+full_of_hands = begins 1 (CallPut 12 []) 3 ++ begins 0 (CallPut 10 []) 2 ++ begins 2 CallClose 2 ++ steps 1 4
 
 -- A close that loses its exchange raises the tag of the top before it tries again
 abbrev pub spoils_where_it_lost : Moves
