@@ -11,9 +11,9 @@ use Rattle.queue_machine.specs.declared.lines.Answer.TheVariants.{Put, Take}
 use Rattle.queue_machine.specs.declared.lines.Call.{Call}
 use Rattle.queue_machine.specs.declared.lines.Call.TheVariants.{Put as PutCall, Take as TakeCall}
 use Rattle.queue_machine.specs.declared.lines.Line.{Line}
+use Rattle.queue_machine.specs.Answers.{shape}
 use Rattle.queue_machine.specs.Machine.{Memory, Outcome, queue}
 use Rattle.step_core.specs.queue.Law.{values_left}
-use Rattle.queue_machine.specs.Answers.{shape}
 use Rattle.step_core.specs.queue.Object.{answer}
 use Rattle.step_core.specs.Scripts.{Player, Says, Reply}
 use Rattle.step_core.specs.Scripts as scripts
@@ -50,7 +50,7 @@ Row = Shape × List (Says (Call ℕ) × Reply (Answer ℕ))
 abbrev pub row : ℕ → ℕ → List (Says (Call ℕ) × Reply (Answer ℕ)) → Row
 row n limit script = (shape n limit, script)
 
--- the queue plays a row, and the machine with these steps its first k lines alone
+-- the queue plays a row; with other steps, the first k lines get their replies and the next one gets another
 abbrev pub Plays : Row → Type 0
 Plays row = scripts.Plays (plays row.0) row.1
 

@@ -14,8 +14,8 @@ use Rattle.stack_machine.specs.declared.lines.Answer.TheVariants.{Put, Take, Fol
 use Rattle.stack_machine.specs.declared.lines.Call.{Call}
 use Rattle.stack_machine.specs.declared.lines.Call.TheVariants.{Put as PutCall, Take as TakeCall}
 use Rattle.stack_machine.specs.declared.lines.Line.{Line}
-use Rattle.stack_machine.specs.Machine.{Memory, Outcome, stack}
 use Rattle.stack_machine.specs.Answers.{shape}
+use Rattle.stack_machine.specs.Machine.{Memory, Outcome, stack}
 use Rattle.step_core.specs.stack.Object.{answer}
 use Rattle.step_core.specs.Scripts.{Player, Says, Reply}
 use Rattle.step_core.specs.Scripts as scripts
@@ -48,7 +48,7 @@ Row = Shape × List (Says (Call ℕ) × Reply (Answer ℕ))
 abbrev pub row : ℕ → ℕ → List (Says (Call ℕ) × Reply (Answer ℕ)) → Row
 row n limit script = (shape n limit, script)
 
--- the stack plays a row, and the machine with these steps its first k lines alone
+-- the stack plays a row; with other steps, the first k lines get their replies and the next one gets another
 abbrev pub Plays : Row → Type 0
 Plays row = scripts.Plays (plays row.0) row.1
 
