@@ -43,10 +43,7 @@ outdated top top' link link' list list' (Linked i x) rises links is = links i �
 
 same_hand : (v : Knows) (w : Fields) → hand (top_read v w) ≡ hand v
 same_hand Nothing w = refl
-same_hand (Top u) w = refl
-same_hand (Below u k) w = refl
-same_hand (Has i) w = refl
-same_hand (Linked i x) w = refl
+same_hand v w = refl
 
 lost_hand : (v : Knows) (i : ℕ) → Holds (hand (after_lost v)) i → Holds (hand v) i
 lost_hand (Linked j x) i h = h
@@ -54,10 +51,7 @@ lost_hand a i h = absurd h
 
 lost_true : (top : Fields) (link : ℕ → ℕ) (list : List ℕ) (v : Knows) → IsTrueOf top link list (after_lost v)
 lost_true top link list Nothing = tt
-lost_true top link list (Top w) = tt
-lost_true top link list (Below w k) = tt
-lost_true top link list (Has i) = tt
-lost_true top link list (Linked i x) = tt
+lost_true top link list v = tt
 
 module _ {S : Type 0} (limit : ℕ) (s : State S Knows) (r : Rule limit s) where
   abbrev top : Fields

@@ -38,11 +38,7 @@ module _ {T L : Type 0} where
   -- a load makes a seat answer for no more, and keeps what it knows; with `seated_step` it keeps what all know
   pub looked_owns : (h : List (Event T)) (v : View T L) (x : ℕ) → Owns (looked h v) x → Owns v x
   looked_owns h (AtRoot r heard) x o = o
-  looked_owns h (AtPass p begun l) x o = o
-  looked_owns h (AtMeeting p q) x o = o
-  looked_owns h (AtNote told) x o = o
-  looked_owns h (AtHearing p told) x o = o
-  looked_owns h Left x o = o
+  looked_owns h v x o = o
 
   looked_knows : (h : List (Event T)) (v : View T L) → Knows h v → Knows h (looked h v)
   looked_knows h (AtRoot r heard) f = record { seen = Later-refl h; heard_seen = Later-start h; joined = f.joined; apart = f.apart; given = f.given; unknown = f.unknown }
@@ -54,11 +50,7 @@ module _ {T L : Type 0} where
 
   looked_holds : (held : L → ℕ) (h : List (Event T)) (v : View T L) → held_at held v ≡ held_at held (looked h v)
   looked_holds held h (AtRoot r heard) = refl
-  looked_holds held h (AtPass p begun l) = refl
-  looked_holds held h (AtMeeting p q) = refl
-  looked_holds held h (AtNote told) = refl
-  looked_holds held h (AtHearing p told) = refl
-  looked_holds held h Left = refl
+  looked_holds held h v = refl
 
   pub looked_fine : (c : Shape) (held : L → ℕ) (h : List (Event T)) (v : View T L) → Fine c held h v → Fine c held h (looked h v)
   looked_fine c held h v f = record { knows = looked_knows h v f.knows; hands = λ x o. f.hands x (looked_owns h v x o) ∙ looked_holds held h v }

@@ -69,28 +69,21 @@ module _ {T L : Type 0} where
   left_owns : (idle : L) (v : View T L) (x : ℕ) → Owns (left_of idle v) x → Owns v x
   left_owns idle (AtRoot r heard) x (inl le) = inl (omega arith)
   left_owns idle (AtRoot r heard) x (inr j) = inr j
-  left_owns idle (AtPass p begun l) x o = o
   left_owns idle (AtMeeting p q) x o = inl o
-  left_owns idle (AtNote told) x o = o
-  left_owns idle (AtHearing p told) x o = o
-  left_owns idle Left x o = o
+  left_owns idle v x o = o
 
   right_owns : (idle : L) (v : View T L) (x : ℕ) → Owns (right_of idle v) x → Owns v x
   right_owns idle (AtRoot r heard) x o = inl (omega arith)
   right_owns idle (AtPass p begun l) x o = absurd o
   right_owns idle (AtMeeting p q) x o = inr o
-  right_owns idle (AtNote told) x o = o
   right_owns idle (AtHearing p told) x o = absurd o
-  right_owns idle Left x o = o
+  right_owns idle v x o = o
 
   halves_apart : (idle : L) (h : List (Event T)) (v : View T L) → Knows h v → (x : ℕ) → Owns (left_of idle v) x → Owns (right_of idle v) x → ⊥
   halves_apart idle h (AtRoot r heard) f x (inl le) e = omega arith
   halves_apart idle h (AtRoot r heard) f x (inr j) e = let l = joined-below r.given x r.account f.given j in omega arith
-  halves_apart idle h (AtPass p begun l) f x o e = e
   halves_apart idle h (AtMeeting p q) f x o e = f.2 (sym o ∙ e)
-  halves_apart idle h (AtNote told) f x o e = e
-  halves_apart idle h (AtHearing p told) f x o e = e
-  halves_apart idle h Left f x o e = e
+  halves_apart idle h v f x o e = e
 
   left_knows : (idle : L) (h : List (Event T)) (v : View T L) → Knows h v → Knows h (left_of idle v)
   left_knows idle h (AtRoot r heard) f = record { seen = f.seen; heard_seen = f.heard_seen; joined = f.joined; apart = f.apart; given = below_more r.given r.account f.given; unknown = λ x le. f.unknown x (omega arith) }
@@ -113,39 +106,14 @@ module _ {T L : Type 0} where
   both_owns (AtRoot r heard) (AtPass p begun l) x (inl le) = inl (inl le)
   both_owns (AtRoot r heard) (AtPass p begun l) x (inr (inl e)) = inr e
   both_owns (AtRoot r heard) (AtPass p begun l) x (inr (inr j)) = inl (inr j)
-  both_owns (AtRoot r heard) (AtRoot s heard') x o = inl o
-  both_owns (AtRoot r heard) (AtMeeting p q) x o = inl o
-  both_owns (AtRoot r heard) (AtNote told) x o = inl o
-  both_owns (AtRoot r heard) (AtHearing p told) x o = inl o
-  both_owns (AtRoot r heard) Left x o = inl o
   both_owns (AtPass p begun l) (AtPass q begun' l') x o = o
-  both_owns (AtPass p begun l) (AtRoot s heard) x o = inl o
-  both_owns (AtPass p begun l) (AtMeeting q q') x o = inl o
-  both_owns (AtPass p begun l) (AtNote told) x o = inl o
-  both_owns (AtPass p begun l) (AtHearing q told) x o = inl o
-  both_owns (AtPass p begun l) Left x o = inl o
-  both_owns (AtMeeting p q) w x o = inl o
-  both_owns (AtNote told) w x o = inl o
-  both_owns (AtHearing p told) w x o = inl o
-  both_owns Left w x o = inl o
+  both_owns v w x o = inl o
 
   both_knows : (h : List (Event T)) (v w : View T L) → Knows h v → Knows h w → ((x : ℕ) → Owns v x → Owns w x → ⊥) → Knows h (both_of v w)
   both_knows h (AtRoot r heard) (AtPass p begun l) f g off = takes_back_rooted h r heard p f g (λ o. off p.number o refl)
-  both_knows h (AtRoot r heard) (AtRoot s heard') f g off = f
-  both_knows h (AtRoot r heard) (AtMeeting p q) f g off = f
-  both_knows h (AtRoot r heard) (AtNote told) f g off = f
-  both_knows h (AtRoot r heard) (AtHearing p told) f g off = f
-  both_knows h (AtRoot r heard) Left f g off = f
   both_knows h (AtPass p begun l) (AtPass q begun' l') f g off = (f, g, λ e. off p.number refl e)
-  both_knows h (AtPass p begun l) (AtRoot s heard) f g off = f
-  both_knows h (AtPass p begun l) (AtMeeting q q') f g off = f
   both_knows h (AtPass p begun l) (AtNote told) f g off = (f, g)
-  both_knows h (AtPass p begun l) (AtHearing q told) f g off = f
-  both_knows h (AtPass p begun l) Left f g off = f
-  both_knows h (AtMeeting p q) w f g off = f
-  both_knows h (AtNote told) w f g off = f
-  both_knows h (AtHearing p told) w f g off = f
-  both_knows h Left w f g off = f
+  both_knows h v w f g off = f
 
   set_swap : (l : List (View T L)) (i j : ℕ) (a b : View T L) → i ≢ j → set (set l i a) j b ≡ set (set l j b) i a
   set_swap [] i j a b ne = refl
@@ -204,9 +172,7 @@ module _ {T L : Type 0} (c : Shape) (held : L → ℕ) where
   right_holds idle (AtRoot r heard) x e o = sym e
   right_holds idle (AtPass p begun l) x e o = absurd o
   right_holds idle (AtMeeting p q) x e o = sym e
-  right_holds idle (AtNote told) x e o = refl
-  right_holds idle (AtHearing p told) x e o = refl
-  right_holds idle Left x e o = refl
+  right_holds idle v x e o = refl
 
   -- a seat was cut in two
   pub seated_split : (idle : L) (h : List (Event T)) (views : List (View T L)) (id : ℕ) (v : View T L) → held idle ≡ 0 → Seated c held h views → get_elem? views id ≡ some v → Seated c held h (set views id (left_of idle v) ++ right_of idle v ∷ [])
@@ -222,21 +188,11 @@ module _ {T L : Type 0} (c : Shape) (held : L → ℕ) where
 
   both_holds : (v w : View T L) → held_at held v ≡ 0 → 0 ≡ held_at held (both_of v w)
   both_holds (AtRoot r heard) (AtPass p begun l) e = refl
-  both_holds (AtRoot r heard) (AtRoot s heard') e = refl
-  both_holds (AtRoot r heard) (AtMeeting p q) e = refl
-  both_holds (AtRoot r heard) (AtNote told) e = refl
-  both_holds (AtRoot r heard) (AtHearing p told) e = refl
-  both_holds (AtRoot r heard) Left e = refl
-  both_holds (AtPass p begun l) (AtPass q begun' l') e = refl
   both_holds (AtPass p begun l) (AtRoot s heard) e = sym e
   both_holds (AtPass p begun l) (AtMeeting q q') e = sym e
-  both_holds (AtPass p begun l) (AtNote told) e = refl
   both_holds (AtPass p begun l) (AtHearing q told) e = sym e
   both_holds (AtPass p begun l) Left e = sym e
-  both_holds (AtMeeting p q) w e = refl
-  both_holds (AtNote told) w e = refl
-  both_holds (AtHearing p told) w e = refl
-  both_holds Left w e = refl
+  both_holds v w e = refl
 
   -- a seat with empty hands was taken in by another
   pub seated_join : (h : List (Event T)) (views : List (View T L)) (id other : ℕ) (v w : View T L) → Seated c held h views → get_elem? views id ≡ some v → other ≢ id → get_elem? views other ≡ some w → held_at held v ≡ 0 → held_at held w ≡ 0

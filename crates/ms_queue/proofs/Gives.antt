@@ -11,18 +11,14 @@ use Rattle.running.specs.declared.passes.Pass.{Pass}
 use Rattle.ms_queue.specs.declared.queue.Queue.{Queue}
 use Rattle.ms_queue.specs.declared.giving.Held.{Held}
 use Rattle.ms_queue.specs.declared.giving.Give.{Give}
-use Rattle.ms_queue.specs.declared.giving.Give.TheVariants.{LoadNodes, LinkNode, GiveNode, LoadCells, LinkCell, GiveCell}
+use Rattle.ms_queue.specs.declared.giving.Give.TheVariants.{LoadNodes}
 use Rattle.ms_queue.specs.declared.giving.Gave.{Gave}
 use Rattle.ms_queue.specs.Queue.{limit_of, machine_of, begun_of}
 use Rattle.ms_queue.specs.Giving.{give_line, gave_line, left_slots, IsGiving, Led, Way, way}
 
 pub busy_giving : {T : Type 0} (a : Answer T) (held : Held) (at : Give) → is_idle (give_line a held at) ≡ false
 busy_giving a held LoadNodes = refl
-busy_giving a held (LinkNode w) = refl
-busy_giving a held (GiveNode w) = refl
-busy_giving a held LoadCells = refl
-busy_giving a held (LinkCell w) = refl
-busy_giving a held (GiveCell w) = refl
+busy_giving a held at = refl
 
 module _ {T : Type 0} {c : Queue T} {w : Way T} (is : IsGiving c w) (q : Pass T (Line T)) (found : ℕ) (zs : List (ℕ × Slot T)) (steps : Found (machine_of c) w.operation w.pass.seat.me.0 q.seat.me.0 found zs) (table : q.seat.table_id ≡ w.pass.seat.table_id) where
   -- the step leads on as the machine's does

@@ -14,7 +14,7 @@ use Rattle.running.specs.declared.passes.Pass.{Pass}
 use Rattle.running.proofs.Ways.{hits, misses}
 use Rattle.ms_queue.specs.declared.queue.Queue.{Queue}
 use Rattle.ms_queue.specs.declared.seeking.Seek.{Seek}
-use Rattle.ms_queue.specs.declared.seeking.Seek.TheVariants.{LoadTail as SeekTail, LoadNext as SeekNext, CheckTail as SeekCheck, SwingTail as SeekSwing}
+use Rattle.ms_queue.specs.declared.seeking.Seek.TheVariants.{LoadTail as SeekTail}
 use Rattle.ms_queue.specs.declared.seeking.Sought.{Sought}
 use Rattle.ms_queue.specs.Queue.{room_of, limit_of, machine_of, begun_of, IsAt}
 use Rattle.ms_queue.specs.Seeking.{seek_line, led_line, IsRead, HasRead, IsSeeking, Led, Way, way}
@@ -25,9 +25,7 @@ seeking s at line read = record { line = record { table = line.table; at = recor
 
 pub busy : {T : Type 0} (s : Seeking T) (at : Seek) → is_idle (seek_line s at) ≡ false
 busy s SeekTail = refl
-busy s (SeekNext w) = refl
-busy s (SeekCheck w x) = refl
-busy s (SeekSwing w x) = refl
+busy s at = refl
 
 module _ {T : Type 0} {c : Queue T} {w : Way T} (is : IsSeeking c w) (q : Pass T (Line T)) (found : ℕ) (steps : Found (machine_of c) w.operation w.pass.seat.me.0 q.seat.me.0 found []) (table : q.seat.table_id ≡ w.pass.seat.table_id) (slots : q.seat.me.1 ≡ w.pass.seat.me.1) where
   -- the step leads on as the machine's does

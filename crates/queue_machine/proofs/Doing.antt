@@ -42,10 +42,7 @@ module _ {T : Type 0} where
   -- an operation that has just been begun has done nothing
   pub begins : (p : ℕ) (h : List (Event T)) (call : Call T) → Deeds p call (starts call) h h
   begins p h (CallPut v) = record { between = []; is = refl; made = (refl, refl) }
-  begins p h CallTake = record { between = []; is = refl; made = (refl, refl) }
-  begins p h CallClose = record { between = []; is = refl; made = (refl, refl) }
-  begins p h CallShut = record { between = []; is = refl; made = (refl, refl) }
-  begins p h CallLook = record { between = []; is = refl; made = (refl, refl) }
+  begins p h call = record { between = []; is = refl; made = (refl, refl) }
 
 module _ {T : Type 0} {n limit : ℕ} {m : Memory T} {g : Lists} {who : ℕ → Option ℕ} {lines : List (Line T)} {h : List (Event T)} (x : Good T n limit m g who lines h) (q p : ℕ) (call : Call T) (begun : List (Event T)) where
   abbrev At : Line T → Type 0

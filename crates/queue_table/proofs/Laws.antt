@@ -27,7 +27,7 @@ use Rattle.queue_machine.proofs.Tells.{tells_kept, step_apart}
 use Rattle.queue_machine.proofs.Doing.{begins, meanwhile, step_does}
 use Rattle.running.specs.Machine.{Laws, Machine}
 use Rattle.queue_table.specs.declared.operation.Operation.{Operation}
-use Rattle.queue_table.specs.declared.operation.Operation.TheVariants.{Put as PutFirst, Take as TakeFirst, Close as CloseFirst, Shut as ShutFirst, Look as LookFirst}
+use Rattle.queue_table.specs.declared.operation.Operation.TheVariants.{Put as PutFirst}
 use Rattle.queue_table.specs.Lines.{names, call_of, first_line}
 use Rattle.queue_table.specs.Core.{core}
 use Rattle.queue_table.proofs.Does.{does}
@@ -52,10 +52,7 @@ module _ {T : Type 0} where
 
   pub first_empty : (o : Operation T) → Empty (first_line o)
   first_empty (PutFirst v) = record { cells = refl; nodes = refl; none_bare = refl; none_wanting = refl; none_putting = refl }
-  first_empty TakeFirst = record { cells = refl; nodes = refl; none_bare = refl; none_wanting = refl; none_putting = refl }
-  first_empty CloseFirst = record { cells = refl; nodes = refl; none_bare = refl; none_wanting = refl; none_putting = refl }
-  first_empty ShutFirst = record { cells = refl; nodes = refl; none_bare = refl; none_wanting = refl; none_putting = refl }
-  first_empty LookFirst = record { cells = refl; nodes = refl; none_bare = refl; none_wanting = refl; none_putting = refl }
+  first_empty o = record { cells = refl; nodes = refl; none_bare = refl; none_wanting = refl; none_putting = refl }
 
   pub idle_empty : (l : Line T) → is_idle l ≡ true → Empty l
   idle_empty (Idle a) e = record { cells = refl; nodes = refl; none_bare = refl; none_wanting = refl; none_putting = refl }
@@ -63,24 +60,15 @@ module _ {T : Type 0} where
 
   first_fine : (limit : ℕ) (m : Memory T) (g : Lists) (o : Operation T) → IsFine limit m g (first_line o)
   first_fine limit m g (PutFirst v) = tt
-  first_fine limit m g TakeFirst = tt
-  first_fine limit m g CloseFirst = tt
-  first_fine limit m g ShutFirst = tt
-  first_fine limit m g LookFirst = tt
+  first_fine limit m g o = tt
 
   starts : (o : Operation T) → is_idle (first_line o) ≡ false
   starts (PutFirst v) = refl
-  starts TakeFirst = refl
-  starts CloseFirst = refl
-  starts ShutFirst = refl
-  starts LookFirst = refl
+  starts o = refl
 
   first_tells : (n limit : ℕ) (h : List (Event T)) (o : Operation T) → Tells n limit h h (first_line o)
   first_tells n limit h (PutFirst v) = tt
-  first_tells n limit h TakeFirst = tt
-  first_tells n limit h CloseFirst = tt
-  first_tells n limit h ShutFirst = tt
-  first_tells n limit h LookFirst = tt
+  first_tells n limit h o = tt
 
 -- the rule goes by the sums over lines and by each line
 reseated : {T : Type 0} (n limit : ℕ) (m : Memory T) (g : Lists) (of of' : ℕ → Option ℕ) (lines lines' : List (Line T)) (h : List (Event T)) → Good T n limit m g of lines h → (lines' ≡ lines) ⊎ (lines' ≡ lines ++ Idle None ∷ [])

@@ -31,37 +31,23 @@ numbers a b = inr (refl, λ e. omega arith)
 
 others : (a : Place) (b : Number) → place_at a ≢ number_at b
 others Cells (CellLink j) = λ e. omega arith
-others Cells (NodeLink j) = λ e. omega arith
-others Cells (Cell j) = λ e. omega arith
 others Nodes (CellLink j) = λ e. omega arith
-others Nodes (NodeLink j) = λ e. omega arith
-others Nodes (Cell j) = λ e. omega arith
 others Head (CellLink j) = λ e. omega arith
-others Head (NodeLink j) = λ e. omega arith
-others Head (Cell j) = λ e. omega arith
 others Tail (CellLink j) = λ e. omega arith
-others Tail (NodeLink j) = λ e. omega arith
-others Tail (Cell j) = λ e. omega arith
 others (Next i) (CellLink j) = λ e. omega arith
-others (Next i) (NodeLink j) = λ e. omega arith
-others (Next i) (Cell j) = λ e. omega arith
+others a b = λ e. omega arith
 
 word_is : {T : Type 0} (f : Place → Tagged) (g : Number → ℕ) (h : ℕ → Option (Slot T)) (a : Place) → memories.word (memories.of f g h) a ≡ f a
 word_is f g h Cells = refl
-word_is f g h Nodes = refl
-word_is f g h Head = refl
-word_is f g h Tail = refl
-word_is f g h (Next j) = refl
+word_is f g h a = refl
 
 number_is : {T : Type 0} (f : Place → Tagged) (g : Number → ℕ) (h : ℕ → Option (Slot T)) (a : Number) → memories.link (memories.of f g h) a ≡ g a
 number_is f g h (CellLink i) = refl
-number_is f g h (NodeLink j) = refl
-number_is f g h (Cell j) = refl
+number_is f g h a = refl
 
 pub lies : (T : Type 0) (n : ℕ) → Lies (memories {T = T}) (layout n)
 lies T n = record { places = places; links = numbers; others = others; word_is = word_is; link_is = number_is; home_is = λ f g h. refl }
 
 pub plain : (a : Number) (x : ℕ) → Plain (number_at a) x → x ≤ NULL
 plain (CellLink i) x h = h (λ j e. omega arith)
-plain (NodeLink i) x h = h (λ j e. omega arith)
-plain (Cell i) x h = h (λ j e. omega arith)
+plain a x h = h (λ j e. omega arith)

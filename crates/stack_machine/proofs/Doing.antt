@@ -94,10 +94,7 @@ module _ {T : Type 0} (c : Shape) where
   -- a call that has just been begun has done nothing
   pub begins : (p : ℕ) (h : List (Event T)) (call : Call T) → Deeds c p call (starts call) h h
   begins p h (CallPut v vs) = record { between = []; is = refl; made = (refl, refl); all = tt }
-  begins p h (CallTake taking) = record { between = []; is = refl; made = (refl, refl); all = tt }
-  begins p h CallClose = record { between = []; is = refl; made = (refl, refl); all = tt }
-  begins p h CallShut = record { between = []; is = refl; made = (refl, refl); all = tt }
-  begins p h CallLook = record { between = []; is = refl; made = (refl, refl); all = tt }
+  begins p h call = record { between = []; is = refl; made = (refl, refl); all = tt }
 
 module _ {T : Type 0} (n limit : ℕ) (p : ℕ) (call : Call T) (begun h : List (Event T)) where
   abbrev c : Shape

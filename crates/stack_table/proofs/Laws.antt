@@ -17,9 +17,8 @@ use Rattle.stack_machine.specs.declared.lines.Line.{Line}
 use Rattle.stack_machine.specs.declared.lines.Line.TheVariants.{Idle}
 use Rattle.stack_machine.specs.Machine.{Memory, is_idle, held, step}
 use Rattle.stack_machine.specs.Answers.{shape, state}
-use Rattle.stack_machine.specs.Rule.{Lists, IsFine, putting, Tells, Good}
+use Rattle.stack_machine.specs.Rule.{Lists, IsFine, putting, Tells, Good, Kept}
 use Rattle.stack_machine.specs.Deeds.{Deeds}
-use Rattle.stack_machine.specs.Rule.{Kept}
 use Rattle.stack_machine.proofs.Moves.{good_goes}
 use Rattle.stack_machine.proofs.Places.{wins_unheld}
 use Rattle.stack_machine.proofs.Start.{reads_good}
@@ -28,7 +27,7 @@ use Rattle.stack_machine.proofs.Tells.{tells_kept, step_apart}
 use Rattle.stack_machine.proofs.Doing.{begins, meanwhile, step_does}
 use Rattle.running.specs.Machine.{Laws, Machine}
 use Rattle.stack_table.specs.declared.operation.Operation.{Operation}
-use Rattle.stack_table.specs.declared.operation.Operation.TheVariants.{Put as PutFirst, Take as TakeFirst, Close as CloseFirst, Shut as ShutFirst, Look as LookFirst, Fold as FoldFirst}
+use Rattle.stack_table.specs.declared.operation.Operation.TheVariants.{Put as PutFirst}
 use Rattle.stack_table.specs.Lines.{names, call_of, first_line}
 use Rattle.stack_table.specs.Core.{core}
 use Rattle.stack_table.proofs.Does.{does}
@@ -80,11 +79,7 @@ module _ {T : Type 0} where
 
   pub first_empty : (o : Operation T) → Empty (first_line o)
   first_empty (PutFirst v others) = record { none_held = refl; none_put = refl }
-  first_empty TakeFirst = record { none_held = refl; none_put = refl }
-  first_empty CloseFirst = record { none_held = refl; none_put = refl }
-  first_empty ShutFirst = record { none_held = refl; none_put = refl }
-  first_empty LookFirst = record { none_held = refl; none_put = refl }
-  first_empty (FoldFirst front) = record { none_held = refl; none_put = refl }
+  first_empty o = record { none_held = refl; none_put = refl }
 
   first_fine : (limit : ℕ) (m : Memory T) (g : Lists) (o : Operation T) → IsFine limit m g (first_line o)
   first_fine limit m g (PutFirst v others) = record { chained = tt; wants = omega arith }
@@ -92,11 +87,7 @@ module _ {T : Type 0} where
 
   starts : (o : Operation T) → is_idle (first_line o) ≡ false
   starts (PutFirst v others) = refl
-  starts TakeFirst = refl
-  starts CloseFirst = refl
-  starts ShutFirst = refl
-  starts LookFirst = refl
-  starts (FoldFirst front) = refl
+  starts o = refl
 
   pub idle_holds : (l : Line T) → is_idle l ≡ true → held l ≡ []
   idle_holds (Idle a) e = refl
@@ -104,11 +95,7 @@ module _ {T : Type 0} where
 
   first_tells : (n limit : ℕ) (h : List (Event T)) (o : Operation T) → Tells n limit h h (first_line o)
   first_tells n limit h (PutFirst v others) = tt
-  first_tells n limit h TakeFirst = tt
-  first_tells n limit h CloseFirst = tt
-  first_tells n limit h ShutFirst = tt
-  first_tells n limit h LookFirst = tt
-  first_tells n limit h (FoldFirst front) = tt
+  first_tells n limit h o = tt
 
 module _ {T : Type 0} (n limit : ℕ) where
   -- a pass with nothing in hand goes to another such line

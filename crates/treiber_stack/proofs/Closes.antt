@@ -63,6 +63,5 @@ module _ (T : Type 0) where
 
   pub mark_busy : (mark : Mark) (seen : Slot ℕ) → is_idle {T = T} (mark_line mark seen) ≡ false
   mark_busy Closed None = refl
-  mark_busy Closed (Some w) = refl
   mark_busy Shut None = refl
-  mark_busy Shut (Some w) = refl
+  mark_busy mark seen = refl

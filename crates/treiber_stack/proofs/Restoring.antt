@@ -21,7 +21,7 @@ use Rattle.stack_machine.specs.Machine.{starts}
 use Rattle.stack_machine.specs.Rule.{IsFine, Gives}
 use Rattle.stack_machine.specs.declared.lines.Answer.TheVariants.{Put as AnswerPut}
 use Rattle.stack_machine.specs.declared.lines.Call.{Call}
-use Rattle.stack_machine.specs.declared.lines.Call.TheVariants.{Put as CallPut, Take as CallTake, Close as CallClose, Shut as CallShut, Look as CallLook}
+use Rattle.stack_machine.specs.declared.lines.Call.TheVariants.{Put as CallPut}
 use Rattle.stack_machine.specs.declared.lines.Giving.{Giving}
 use Rattle.stack_machine.specs.declared.lines.Line.{Line}
 use Rattle.stack_machine.specs.declared.lines.Line.TheVariants.{Idle, LoadFreeToGive}
@@ -84,10 +84,7 @@ module _ {T : Type 0} (c : Stack T) where
   module _ (o : Operation T) where
     no_start : (call : Call T) (giving : Giving T) → starts call ≡ LoadFreeToGive giving → ⊥
     no_start (CallPut v vs) giving e = cc
-    no_start (CallTake taking) giving e = cc
-    no_start CallClose giving e = cc
-    no_start CallShut giving e = cc
-    no_start CallLook giving e = cc
+    no_start call giving e = cc
 
     begun_same : (l : Line T) (giving : Giving T) (p q b : PassView T) → line_now names o l ≡ LoadFreeToGive giving → begun_now names q b l ≡ begun_now names p b l
     begun_same (Idle a) giving p q b e = absurd (no_start (call_of o) giving e)
