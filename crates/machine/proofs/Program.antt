@@ -4,7 +4,7 @@ use Rattle.bounded_model.specs.declared.history.Event.{Event}
 use Rattle.bounded_model.specs.Histories.{own}
 use Rattle.machine.specs.Words.{same}
 use Rattle.machine.specs.Schedule.{Outcome}
-use Rattle.machine.specs.Program.{Memories, Deed, with_word, with_link, onward, won, does, rests, loads, checks, follows, stores, links, attempts, swaps}
+use Rattle.machine.specs.Program.{Memories, Deed, new_word, with_word, with_link, onward, won, does, rests, loads, checks, follows, stores, links, attempts, swaps}
 use Rattle.machine.proofs.Tests.{cases, same-is}
 
 module _ {T M P Q L E : Type 0} (x : Memories T M P Q) (idle : L) (m : M) (p : ℕ) (Is : Outcome M L E → Type 0) where
@@ -17,7 +17,7 @@ module _ {T M P Q L E : Type 0} (x : Memories T M P Q) (idle : L) (m : M) (p : �
   Cases l (stores at w to) = Is (onward x (with_word x m at w (x.home m)) to)
   Cases l (links at k to) = Is (onward x (with_link x m at k) to)
   Cases l (attempts at old new to) = (x.word m at ≡ old → Is (onward x (with_word x m at new (x.home m)) to)) × Is (onward x m to)
-  Cases l (swaps at old new w lost) = (x.word m at ≡ old → Is (won x idle m p at new w)) × Is (onward x m lost)
+  Cases l (swaps at old change w lost) = (x.word m at ≡ old → Is (won x idle m p at (new_word (x.keeps at) old change) w)) × Is (onward x m lost)
 
   pub by_cases : (l : L) (d : Deed T M P Q L E) → Cases l d → Is (does x idle m p l d)
   by_cases l rests h = h
@@ -27,13 +27,13 @@ module _ {T M P Q L E : Type 0} (x : Memories T M P Q) (idle : L) (m : M) (p : �
   by_cases l (stores at w to) h = h
   by_cases l (links at k to) h = h
   by_cases l (attempts at old new to) h = cases Is (same (x.word m at) old) (onward x (with_word x m at new (x.home m)) to) (onward x m to) (λ b. h.0 (same-is (x.word m at) old b)) (λ b. h.1)
-  by_cases l (swaps at old new w lost) h = cases Is (same (x.word m at) old) (won x idle m p at new w) (onward x m lost) (λ b. h.0 (same-is (x.word m at) old b)) (λ b. h.1)
+  by_cases l (swaps at old change w lost) h = cases Is (same (x.word m at) old) (won x idle m p at (new_word (x.keeps at) old change) w) (onward x m lost) (λ b. h.0 (same-is (x.word m at) old b)) (λ b. h.1)
 
 -- an event is added by an exchange alone
 module _ {T M P Q L : Type 0} (x : Memories T M P Q) (idle : L) (m : M) (p q : ℕ) (history : List (Event T)) where
   -- and it is of no other pass
   abbrev pub Apart : Deed T M P Q L (Event T) → Type 0
-  Apart (swaps at old new w lost) = own q ((won x idle m p at new w).events ++ history) ≡ own q history
+  Apart (swaps at old change w lost) = own q ((won x idle m p at (new_word (x.keeps at) old change) w).events ++ history) ≡ own q history
   Apart d = Unit {0}
 
   abbrev Kept : Outcome M L (Event T) → Type 0
@@ -47,4 +47,4 @@ module _ {T M P Q L : Type 0} (x : Memories T M P Q) (idle : L) (m : M) (p q : �
   adds_own l (stores at w to) h = refl
   adds_own l (links at k to) h = refl
   adds_own l (attempts at old new to) h = by_cases x idle m p Kept l (attempts at old new to) (λ won. refl, refl)
-  adds_own l (swaps at old new w lost) h = by_cases x idle m p Kept l (swaps at old new w lost) (λ won. h, refl)
+  adds_own l (swaps at old change w lost) h = by_cases x idle m p Kept l (swaps at old change w lost) (λ won. h, refl)

@@ -3,7 +3,7 @@ pub mod OneList
 pub mod Chains
 pub mod Schedule
 pub mod Program
-pub mod FreeList
+pub mod IndexList
 pub mod Bound
 pub mod Progress
 pub mod Seen

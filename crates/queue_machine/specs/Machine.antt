@@ -12,8 +12,8 @@ use Rattle.bounded_model.specs.Machine.{Shape}
 use Rattle.machine.specs.Schedule as schedule
 use Rattle.machine.specs.Words.{Tagged, kept, raised, marked, with_second, store, start_word, start_link}
 use Rattle.machine.specs.Chains.{with_home}
-use Rattle.machine.specs.Program.{Memories, Then, stays, returns, brings, Deed, rests, loads, checks, follows, stores, links, attempts, swaps, answered, does, wins as won_by}
-use Rattle.machine.specs.FreeList.{FreeList, load_top, follow_link, take_top, link_to_top, give_top}
+use Rattle.machine.specs.Program.{Memories, becomes, shuts, Then, stays, returns, brings, Deed, rests, loads, checks, follows, stores, links, attempts, swaps, answered, does, wins as won_by}
+use Rattle.machine.specs.IndexList.{IndexList, load_top, follow_link, take_top, take_slot, link_to_top, give_top}
 use Rattle.queue_machine.specs.declared.lines.Placing.{Placing}
 use Rattle.queue_machine.specs.declared.lines.Linking.{Linking}
 use Rattle.queue_machine.specs.declared.lines.Seeking.{Seeking}
@@ -181,11 +181,21 @@ same_number (NodeLink i) (NodeLink j) = i == j
 same_number (CellOf i) (CellOf j) = i == j
 same_number a b = false
 
--- the free cells and the free nodes
-abbrev pub free_cells : FreeList Place Number
+-- the free cells are list 0, the free nodes list 1
+abbrev pub top_of : Place → Option ℕ
+top_of AtCells = some 0
+top_of AtNodes = some 1
+top_of at = none
+
+abbrev pub link_of : Number → Option (ℕ × ℕ)
+link_of (CellLink i) = some (0, i)
+link_of (NodeLink j) = some (1, j)
+link_of (CellOf j) = none
+
+abbrev pub free_cells : IndexList Place Number
 free_cells = record { top = AtCells; link = CellLink }
 
-abbrev pub free_nodes : FreeList Place Number
+abbrev pub free_nodes : IndexList Place Number
 free_nodes = record { top = AtNodes; link = NodeLink }
 
 -- What one step does
@@ -216,6 +226,9 @@ module _ {T : Type 0} where
   memories = record {
     same_place = same_place;
     same_link = same_number;
+    top_of = top_of;
+    keeps = λ at. true;
+    link_of = link_of;
     of = λ word number home. record {
       cells = word AtCells;
       nodes = word AtNodes;
@@ -250,7 +263,7 @@ module _ {T : Type 0} where
   -- put: a cell from its free list ..
   table limit (LoadCells v) = load_top free_cells (found_cells limit v)
   table limit (LoadCellLink v w) = follow_link free_cells w (TakeCell v w)
-  table limit (TakeCell v w k) = take_top free_cells w k (brings false (λ m. w.index ∷ []) (λ is were. some (by (LoadNodes (with_cell v w.index)) Hold))) (LoadCells v)
+  table limit (TakeCell v w k) = take_slot free_cells w k (λ was. some (by (LoadNodes (with_cell v w.index)) Hold)) (LoadCells v)
   -- .. a node from its own ..
   table limit (LoadNodes put) = load_top free_nodes (found_nodes limit put)
   table limit (LoadNodeLink put w) = follow_link free_nodes w (TakeNode put w)
@@ -264,9 +277,9 @@ module _ {T : Type 0} where
   table limit (LoadTailNext s w) = loads (AtNext w.index) (CheckTail s w)
   table limit (CheckTail s w n) = checks AtTail w (found_back s w n) (LoadTail s)
   table limit (SwingTail s w n) = attempts AtTail w (raised w n.index) (LoadTail s)
-  table limit (LinkNext link w n) = swaps (AtNext w.index) n (raised n link.node) (returns ((link.cell, Some link.value) ∷ []) (by (SwingToLinked link.value w (raised n link.node)) (λ p. Put p (link.value ∷ []) w.tag))) (LoadTail (ToLink link))
+  table limit (LinkNext link w n) = swaps (AtNext w.index) n (becomes (raised n link.node)) (returns ((link.cell, Some link.value) ∷ []) (by (SwingToLinked link.value w (raised n link.node)) (λ p. Put p (link.value ∷ []) w.tag))) (LoadTail (ToLink link))
   table limit (SwingToLinked v w x) = attempts AtTail w (raised w x.index) (ends (AnswerPut (Ok w.tag)))
-  table limit (MarkNext w n) = swaps (AtNext w.index) n (marked (raised n NULL)) (stays (by (ends (AnswerClose true)) Close)) (LoadTail ToClose)
+  table limit (MarkNext w n) = swaps (AtNext w.index) n (becomes (marked (raised n NULL))) (stays (by (ends (AnswerClose true)) Close)) (LoadTail ToClose)
   -- take
   table limit LoadHead = loads AtHead found_head
   table limit (LoadTailToTake h) = loads AtTail (LoadHeadNext h)
@@ -274,7 +287,7 @@ module _ {T : Type 0} where
   table limit (CheckHead h w n) = checks AtHead h (found_front h w n) LoadHead
   table limit (SwingTailToTake w n) = attempts AtTail w (raised w n.index) LoadHead
   table limit (LoadCell h n) = follows (CellOf n.index) (TakeHead h n)
-  table limit (TakeHead h n k) = swaps AtHead h (raised h n.index) (brings false (λ m. k ∷ []) (λ is. took h k)) LoadHead
+  table limit (TakeHead h n k) = swaps AtHead h (becomes (raised h n.index)) (brings false (λ m. k ∷ []) (λ is. took h k)) LoadHead
   -- a node and a cell go back to their free lists
   table limit (LoadNodesToGive give) = load_top free_nodes (LinkToNodes give)
   table limit (LinkToNodes give w) = link_to_top free_nodes give.node w (GiveNode give w)
@@ -287,7 +300,7 @@ module _ {T : Type 0} where
   table limit (LoadNextToLook h) = loads (AtNext h.index) (CheckHeadToLook h)
   table limit (CheckHeadToLook h n) = checks AtHead h (ends (AnswerLook (n.index == NULL))) LoadHeadToLook
   table limit LoadHeadToShut = loads AtHead found_head_to_shut
-  table limit (ShutHead h) = swaps AtHead h (with_second h) (stays (by (ends (AnswerShut true)) Shut)) LoadHeadToShut
+  table limit (ShutHead h) = swaps AtHead h shuts (stays (by (ends (AnswerShut true)) Shut)) LoadHeadToShut
 
   -- the step of pass p at a line, and whether it is an exchange that wins
   abbrev pub step : Shape → Memory T → ℕ → Line T → Outcome T

@@ -1,6 +1,5 @@
 -- What the queue's machine shows of its two lists, and the laws of their host.
 use Rattle.std.proofs.Common.{◌≡◌, ℕ, zero, suc, ◌+◌, ◌*◌, ◌<◌, Bool, true, false, cond, eqb, List, [], refl, sym, ap, inl, arith}
-use Rattle.std.proofs.lemmas.Bool.{false≢true}
 use Rattle.std.specs.Prelude.{Option as Slot}
 use mathlib.Core.Option.{Option}
 use Rattle.tagged_index.specs.declared.word.TheConstants.{NULL}
@@ -11,11 +10,11 @@ use Rattle.machine.specs.Words.{Tagged, times, total}
 use Rattle.machine.proofs.Sums.{total_one}
 use Rattle.machine.proofs.Tests.{at_most_one}
 use Rattle.queue_machine.specs.declared.lines.Line.{Line}
-use Rattle.queue_machine.specs.declared.lines.Line.TheVariants.{LoadCells, LoadCellLink, TakeCell, LoadNodes, LoadNodeLink, TakeNode, LoadNodesToGive, LinkToNodes, GiveNode, LoadCellsToGive, LinkToCells, GiveCell}
+use Rattle.queue_machine.specs.declared.lines.Line.TheVariants.{Idle, TakeCell, TakeNode, LinkToNodes, GiveNode, LinkToCells, GiveCell}
 use Rattle.queue_machine.specs.Machine.{Memory, held_cells, held_nodes}
 use Rattle.queue_machine.specs.Rule.{Lists as CoreLists, IsFine, Kept}
 use Rattle.running.specs.Rule.{Rule}
-use Rattle.running.specs.Lists.{Listed, Hosts, Agrees, Ready, Moved, host}
+use Rattle.running.specs.Lists.{Listed, Hosts, Ready, BroughtBy, ReturnedBy, step_access, host}
 use Rattle.running.proofs.Hosting.{laws}
 use Rattle.running.proofs.Indexes.{holds_times, distinct_times, leads_low, once_below}
 use Rattle.queue_table.specs.Layout.{clink_at, nlink_at}
@@ -24,21 +23,9 @@ use Rattle.queue_table.specs.Memories.{memory_of}
 use Rattle.queue_table.specs.Lists.{lists, list_step}
 use Rattle.queue_table.proofs.Laws.{queue, idle_empty, first_empty}
 
-module _ {T : Type 0} (n limit : ℕ) where
-  agrees : (line : Line T) → Agrees (lists {T = T}) ((core T n limit).access line) (list_step line)
-  agrees (LoadCells v) = refl
-  agrees (LoadCellLink v w) = refl
-  agrees (TakeCell v w k) = refl
-  agrees (LoadNodes put) = refl
-  agrees (LoadNodeLink put w) = refl
-  agrees (TakeNode put w k) = refl
-  agrees (LoadNodesToGive give) = refl
-  agrees (LinkToNodes give w) = refl
-  agrees (GiveNode give w) = refl
-  agrees (LoadCellsToGive give) = refl
-  agrees (LinkToCells give w) = refl
-  agrees (GiveCell give w) = refl
-  agrees l = tt
+agrees : {T : Type 0} (n limit : ℕ) (line : Line T) → (core T n limit).access line ≡ step_access (lists {T = T}) ((core T n limit).access line) (list_step line)
+agrees n limit (Idle a) = refl
+agrees n limit l = refl
 
 module _ {T : Type 0} (n limit : ℕ) (words : List ℕ) (homes : List (Option (Slot T))) (of : ℕ → Option ℕ) (lines : List (Line T)) (h : List (Event T)) (k : Kept T n limit (memory_of words homes) of lines h) where
   abbrev m : Memory T
@@ -81,20 +68,13 @@ module _ {T : Type 0} (n limit : ℕ) (words : List ℕ) (homes : List (Option (
   ready (GiveCell give w) f = (inl refl, f)
   ready l f = tt
 
-moved : {T : Type 0} (n limit : ℕ) (words : List ℕ) (line : Line T) (zs : List (ℕ × Slot T)) → (core T n limit).Fits line zs → Moved (lists {T = T}) words line zs (list_step line)
-moved n limit words (LoadCells v) zs fits = λ c. tt
-moved n limit words (LoadCellLink v w) zs fits = λ c. tt
-moved n limit words (TakeCell v w j) zs fits = λ c. ap (λ (ys : List (ℕ × Slot _)). numbers ys) fits
-moved n limit words (LoadNodes put) zs fits = λ c. tt
-moved n limit words (LoadNodeLink put w) zs fits = λ c. tt
-moved n limit words (TakeNode put w j) zs fits = λ c. absurd (false≢true c)
-moved n limit words (LoadNodesToGive give) zs fits = λ c. tt
-moved n limit words (LinkToNodes give w) zs fits = λ c. tt
-moved n limit words (GiveNode give w) zs fits = λ c. absurd (false≢true c)
-moved n limit words (LoadCellsToGive give) zs fits = λ c. tt
-moved n limit words (LinkToCells give w) zs fits = λ c. tt
-moved n limit words (GiveCell give w) zs fits = λ c. ap (λ (ys : List (ℕ × Slot _)). numbers ys) fits
-moved n limit words l zs fits = tt
+brought : {T : Type 0} (n limit : ℕ) (words : List ℕ) (homes : List (Option (Slot T))) (line : Line T) (zs : List (ℕ × Slot T)) → (core T n limit).Moves (memory_of words homes) line zs → BroughtBy (lists {T = T}) words zs (list_step line)
+brought n limit words homes (TakeCell v w j) zs moves = moves
+brought n limit words homes l zs moves = tt
+
+returned : {T : Type 0} (n limit : ℕ) (line : Line T) (zs : List (ℕ × Slot T)) → (core T n limit).Fits line zs → ReturnedBy (lists {T = T}) line zs (list_step line)
+returned n limit (GiveCell give w) zs fits = ap (λ (ys : List (ℕ × Slot _)). numbers ys) fits
+returned n limit l zs fits = tt
 
 top_low : (first_list : Bool) (n : ℕ) → cond first_list 0 16 < 68 + 4 * n
 top_low true n = omega arith
@@ -117,7 +97,8 @@ hosts T n limit = record {
   access = agrees n limit;
   stands = λ l words homes of lines h low sane k. stands n limit words homes of lines h k l low;
   ready = λ words homes of lines h q line sane k at. ready n limit words homes of lines h k line (k.good.linked.fine q line at);
-  moved = λ words homes of lines h q p line zs sane k at is fits leads. moved n limit words line zs fits;
+  brought = λ words homes of lines h q line zs k at moves. brought n limit words homes line zs moves;
+  returned = λ words homes of lines h q line zs k at fits. returned n limit line zs fits;
 }
 
 pub list_laws : (T : Type 0) (n limit : ℕ) → Laws (lists {T = T}).layout (host (queue T n limit) (lists {T = T})) (Rule (queue T n limit)) 2

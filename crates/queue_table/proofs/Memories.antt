@@ -12,7 +12,7 @@ use Rattle.queue_machine.specs.declared.lines.Number.TheVariants.{CellLink, Node
 use Rattle.queue_machine.specs.Machine.{memories, same_place, same_number}
 use Rattle.running.specs.Tables.{Apart, Lies}
 pub use Rattle.running.proofs.Slots.{at_home_is}
-use Rattle.queue_table.specs.Layout.{place_at, number_at, layout}
+use Rattle.queue_table.specs.Layout.{clink_at, nlink_at, next_at, cell_at, place_at, number_at, layout}
 use Rattle.queue_table.specs.Core.{Plain}
 
 places : (a b : Place) → Apart place_at same_place a b
@@ -20,13 +20,13 @@ places Cells Cells = inl (refl, refl)
 places Nodes Nodes = inl (refl, refl)
 places Head Head = inl (refl, refl)
 places Tail Tail = inl (refl, refl)
-places (Next i) (Next j) = ⊎_elim (λ t. inl (t.0, ap Next t.1)) (λ t. let ne = t.1 in inr (t.0, λ e. ne (omega arith))) (eqb_tells i j)
+places (Next i) (Next j) = ⊎_elim (λ t. inl (t.0, ap next_at t.1)) (λ t. let ne = t.1 in inr (t.0, λ e. ne (omega arith))) (eqb_tells i j)
 places a b = inr (refl, λ e. omega arith)
 
 numbers : (a b : Number) → Apart number_at same_number a b
-numbers (CellLink i) (CellLink j) = ⊎_elim (λ t. inl (t.0, ap CellLink t.1)) (λ t. let ne = t.1 in inr (t.0, λ e. ne (omega arith))) (eqb_tells i j)
-numbers (NodeLink i) (NodeLink j) = ⊎_elim (λ t. inl (t.0, ap NodeLink t.1)) (λ t. let ne = t.1 in inr (t.0, λ e. ne (omega arith))) (eqb_tells i j)
-numbers (Cell i) (Cell j) = ⊎_elim (λ t. inl (t.0, ap Cell t.1)) (λ t. let ne = t.1 in inr (t.0, λ e. ne (omega arith))) (eqb_tells i j)
+numbers (CellLink i) (CellLink j) = ⊎_elim (λ t. inl (t.0, ap clink_at t.1)) (λ t. let ne = t.1 in inr (t.0, λ e. ne (omega arith))) (eqb_tells i j)
+numbers (NodeLink i) (NodeLink j) = ⊎_elim (λ t. inl (t.0, ap nlink_at t.1)) (λ t. let ne = t.1 in inr (t.0, λ e. ne (omega arith))) (eqb_tells i j)
+numbers (Cell i) (Cell j) = ⊎_elim (λ t. inl (t.0, ap cell_at t.1)) (λ t. let ne = t.1 in inr (t.0, λ e. ne (omega arith))) (eqb_tells i j)
 numbers a b = inr (refl, λ e. omega arith)
 
 others : (a : Place) (b : Number) → place_at a ≢ number_at b
@@ -41,7 +41,7 @@ word_is : {T : Type 0} (f : Place → Tagged) (g : Number → ℕ) (h : ℕ → 
 word_is f g h Cells = refl
 word_is f g h a = refl
 
-number_is : {T : Type 0} (f : Place → Tagged) (g : Number → ℕ) (h : ℕ → Option (Slot T)) (a : Number) → memories.link (memories.of f g h) a ≡ g a
+number_is : {T : Type 0} (f : Place → Tagged) (g : ℕ → ℕ) (h : ℕ → Option (Slot T)) (a : Number) → memories.link (memories.of f (λ b. g (number_at b)) h) a ≡ g (number_at a)
 number_is f g h (CellLink i) = refl
 number_is f g h a = refl
 

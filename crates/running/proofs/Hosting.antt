@@ -2,7 +2,7 @@
 use Rattle.std.proofs.Common.{◌≡◌, ◌≢◌, ℕ, ◌<◌, Bool, true, false, cond, List, [], ◌∷◌, set, refl, sym, ap, ◌∙◌, subst}
 use Rattle.std.proofs.lemmas.Bool.{false≢true}
 use Rattle.std.specs.Prelude.{Option as Slot}
-use mathlib.Core.Option.{Option, some}
+use mathlib.Core.Option.{some}
 use Rattle.atomic_table.specs.Table.{State}
 use Rattle.tagged_index.specs.Fields.{Fields as Tagged, fields_of}
 use Rattle.tagged_index.proofs.Words.{same_fields}
@@ -19,8 +19,8 @@ use Rattle.machine.specs.declared.seats.View.TheVariants.{AtPass}
 use Rattle.running.specs.Machine.{Names, Machine, Side, stays, brings, returns, swaps, Leaves}
 use Rattle.running.specs.Rule.{Rule, line_in, line_now}
 use Rattle.running.specs.Going.{AtAccess, now_in}
-use Rattle.running.specs.Lists.{Lists, Hosts, Agrees, Ready, Moved, Moving, AtStep, Tells, Rests, kind_access, at_of, side, host}
-use Rattle.running.proofs.Keeps.{at_map, goes, ready, ready_here, ready_who}
+use Rattle.running.specs.Lists.{Lists, Hosts, Ready, Bringing, BroughtBy, Returning, ReturnedBy, AtStep, Tells, Rests, kind_access, step_access, side, host}
+use Rattle.running.proofs.Keeps.{at_map, goes, ready, ready_here}
 use Rattle.running.proofs.Made.{ready_does, load_law, store_law}
 
 abbrev does_bring : Side → Bool
@@ -51,7 +51,7 @@ no_return is sd not e e' = absurd (false≢true (sym not ∙ ap does_return (sym
 
 module _ {T L O : Type 0} {names : Names L O} (m : Machine T L O names) (y : Lists L) (n : ℕ) (hosts : Hosts m y n) where
   agrees : (line : L) (l : ℕ) (kind : Kind) → y.step line ≡ some (l, kind) → m.core.access line ≡ kind_access y.layout l kind
-  agrees line l kind e = subst (Agrees y (m.core.access line)) e (hosts.access line)
+  agrees line l kind e = hosts.access line ∙ ap (step_access y (m.core.access line)) e
 
   pub at_access : (o : O) (v : View T L) (l : ℕ) (kind : Kind) → AtStep m y o v l kind → AtAccess m o v (kind_access y.layout l kind)
   at_access o v l kind a = record { begun = a.begun; line = a.line; going = a.going; access = agrees a.line l kind a.step }
@@ -110,7 +110,7 @@ module _ {T L O : Type 0} {names : Names L O} (m : Machine T L O names) (y : Lis
     take_none v xs may es met none = record { slots = []; are = none; distinct = tt; home = tt; goes = stay v may es met }
 
     bring : (v : View T L) (xs : List ℕ) → AtStep m y o v l kind → side (y.layout.carries l) c ≡ brings → y.layout.carries l ≡ true → Before (Rule m) id v at s
-        → ((zs : List (ℕ × Slot T)) (hand : List ℕ) → Moving y s.words hand zs l kind → numbers zs ≡ cond (y.layout.carries l) (arranged c (taken (fields_of w) c xs)) [])
+        → ((zs : List (ℕ × Slot T)) → Bringing y true s.words zs l kind → numbers zs ≡ cond (y.layout.carries l) (arranged c (taken (fields_of w) c xs)) [])
         → Takes y.layout (host m y) (Rule m) o l id w x c v s xs
     bring v xs may es ec met are = of_step (λ u. Before (Rule m) id u at s → Takes y.layout (host m y) (Rule m) o l id w x c u s xs) o v l kind may
         (λ p from line e met.
@@ -120,7 +120,7 @@ module _ {T L O : Type 0} {names : Names L O} (m : Machine T L O names) (y : Lis
         (subst (λ (k : ℕ). Leaves m.core s.words s.homes p.number now k d.slots (set s.words at x) (emptied s.homes d.slots)) hit d.leaves) in
         record {
           slots = d.slots;
-          are = are d.slots (y.held l now) (subst (Moved y s.words now d.slots) e (hosts.moved s.words s.homes _ _ met.rule.history id p.number now d.slots met.rule.sane (ready m o id at p from line s met) (ready_here m o id at p from line s met) (ready_who m o id at p from line s met) d.fits (subst (λ (z : Option (ℕ × Kind)). m.core.lands (m.core.read s.words s.homes) p.number now ≡ m.core.next now (word s (at_of y z)) d.slots) (sym e) d.leaves.leads)) ec);
+          are = are d.slots (subst (λ (b : Bool). Bringing y b s.words d.slots l kind) ec (subst (BroughtBy y s.words d.slots) e (hosts.brought s.words s.homes _ _ met.rule.history id now d.slots (ready m o id at p from line s met) (ready_here m o id at p from line s met) d.moves)));
           distinct = d.apart;
           home = d.home;
           goes = record { view = g.view; rule = g.rule; told = (g.told, (λ _ _. d.fits), (λ _ b. no_return (side (y.layout.carries l) c) brings refl es b)) };
@@ -134,14 +134,14 @@ module _ {T L O : Type 0} {names : Names L O} (m : Machine T L O names) (y : Lis
         (none, stay v may es met)
 
     give_back : (v : View T L) → AtStep m y o v l kind → side (y.layout.carries l) c ≡ returns → y.layout.carries l ≡ true → Before (Rule m) id v at s → (zs : List (ℕ × Slot T)) → m.core.Fits (now_in m o v) zs
-        → ((ys : List (ℕ × Slot T)) (hand : List ℕ) → Moving y s.words hand ys l kind → numbers ys ≡ cond (y.layout.carries l) (given c hand) [])
+        → ((ys : List (ℕ × Slot T)) (hand : List ℕ) → Returning y true hand ys kind → numbers ys ≡ cond (y.layout.carries l) (given c hand) [])
         → AreSlots y.layout (host m y) (Rule m) l (given c (y.held l (line_in names v))) zs × Goes (Rule m) (changed s at x (filled s.homes zs) id) (Tells m y o l kind w zs v)
     give_back v may es ec met zs fits are = of_step (λ u. Before (Rule m) id u at s → m.core.Fits (now_in m o u) zs → AreSlots y.layout (host m y) (Rule m) l (given c (y.held l (line_in names u))) zs × Goes (Rule m) (changed s at x (filled s.homes zs) id) (Tells m y o l kind w zs u)) o v l kind may
         (λ p from line e met fits.
         let now : L = line_now names o line in
         let does = (ready_does m o id at p from line (swaps at (fields_of w) (fields_of x) returns) s met (access_is returns es now e)).0 x (ap fields_of hit) refl in
         let g = goes m o id at p from line s met w zs (set s.words at x) (filled s.homes zs) (subst (λ (k : ℕ). Leaves m.core s.words s.homes p.number now k zs (set s.words at x) (filled s.homes zs)) hit (does zs fits)) in
-        let moved : (ys : List (ℕ × Slot T)) → m.core.Fits now ys → Moving y s.words (y.held l now) ys l kind = λ ys fit. subst (Moved y s.words now ys) e (hosts.moved s.words s.homes _ _ met.rule.history id p.number now ys met.rule.sane (ready m o id at p from line s met) (ready_here m o id at p from line s met) (ready_who m o id at p from line s met) fit (subst (λ (z : Option (ℕ × Kind)). m.core.lands (m.core.read s.words s.homes) p.number now ≡ m.core.next now (word s (at_of y z)) ys) (sym e) (does ys fit).leads)) ec in (
+        let moved : (ys : List (ℕ × Slot T)) → m.core.Fits now ys → Returning y true (y.held l now) ys kind = λ ys fit. subst (λ (b : Bool). Returning y b (y.held l now) ys kind) ec (subst (ReturnedBy y now ys) e (hosts.returned s.words s.homes _ _ met.rule.history id now ys (ready m o id at p from line s met) (ready_here m o id at p from line s met) fit)) in (
           subst (λ (hand : List ℕ). numbers zs ≡ cond (y.layout.carries l) (given c hand) []) (held_now o l line) (are zs (y.held l now) (moved zs fits)),
           record { view = g.view; rule = g.rule; told = (g.told, (λ _ b. no_bring (side (y.layout.carries l) c) returns refl es b), (λ _ _ ys fit. are ys (y.held l now) (moved ys fit) ∙ sym (are zs (y.held l now) (moved zs fits)))) },
         )) met fits
@@ -153,19 +153,19 @@ module _ {T L O : Type 0} {names : Names L O} (m : Machine T L O names) (y : Lis
   takes_law k o l id w x v s xs low may is met hit st = by_carries (y.layout.carries l) refl
     where
       by_carries : (b : Bool) → y.layout.carries l ≡ b → Takes y.layout (host m y) (Rule m) o l id w x (Take k) v s xs
-      by_carries true e = bring o l id w x (Take k) s is hit v xs may.0 (ap (side_of (Take k)) e) e met (λ zs hand mv. mv ∙ sym (ap (λ (b : Bool). cond b ((fields_of w).index ∷ []) []) e))
+      by_carries true e = bring o l id w x (Take k) s is hit v xs may.0 (ap (side_of (Take k)) e) e met (λ zs mv. mv ∙ sym (ap (λ (b : Bool). cond b ((fields_of w).index ∷ []) []) e))
       by_carries false e = take_none o l id w x (Take k) s is hit v xs may.0 (ap (side_of (Take k)) e) met (sym (ap (λ (b : Bool). cond b ((fields_of w).index ∷ []) []) e))
 
   takes_all_law : (front : Front) → Exchanges y.layout (host m y) (Rule m) n (TakeAll front)
   takes_all_law front o l id w x v s xs low may is met hit st = by_carries (y.layout.carries l) refl
     where
       by_carries : (b : Bool) → y.layout.carries l ≡ b → Takes y.layout (host m y) (Rule m) o l id w x (TakeAll front) v s xs
-      by_carries true e = bring o l id w x (TakeAll front) s is hit v xs may.0 (ap (side_of (TakeAll front)) e) e met (λ zs hand mv. mv (ap fields_of hit) xs st.leads ∙ sym (ap (λ (b : Bool). cond b (in_order front xs) []) e))
+      by_carries true e = bring o l id w x (TakeAll front) s is hit v xs may.0 (ap (side_of (TakeAll front)) e) e met (λ zs mv. mv (ap fields_of hit) xs st.leads ∙ sym (ap (λ (b : Bool). cond b (in_order front xs) []) e))
       by_carries false e = take_none o l id w x (TakeAll front) s is hit v xs may.0 (ap (side_of (TakeAll front)) e) met (sym (ap (λ (b : Bool). cond b (in_order front xs) []) e))
 
   gives_law : (c : Change) → side true c ≡ returns → side false c ≡ stays
       → (o : O) (l id w x : ℕ) (v : View T L) (s : State (Slot T) (View T L)) → AtStep m y o v l (exchange (fields_of w) c) → fields_of x ≡ new_top (y.layout.keeps l) (fields_of w) c → Before (Rule m) id v (y.layout.top l) s → word s (y.layout.top l) ≡ w
-      → ((zs : List (ℕ × Slot T)) (hand : List ℕ) → Moving y s.words hand zs l (exchange (fields_of w) c) → numbers zs ≡ given c hand)
+      → ((zs : List (ℕ × Slot T)) (hand : List ℕ) → Returning y true hand zs (exchange (fields_of w) c) → numbers zs ≡ given c hand)
       → (zs : List (ℕ × Slot T)) → Rests m y (y.layout.carries l) o v zs
       → AreSlots y.layout (host m y) (Rule m) l (given c (y.held l (line_in names v))) zs × Goes (Rule m) (changed s (y.layout.top l) x (filled s.homes zs) id) (Tells m y o l (exchange (fields_of w) c) w zs v)
   gives_law c gives_so keeps_so o l id w x v s may is met hit are zs = by_carries (y.layout.carries l) refl

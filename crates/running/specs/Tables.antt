@@ -10,7 +10,7 @@ use Rattle.index_list.specs.Lists.{Holds, Distinct}
 use Rattle.index_list.specs.Steps.{Each, IsHome, numbers}
 use Rattle.machine.specs.Words.{Tagged, same}
 pub use Rattle.machine.specs.Chains.{turned}
-use Rattle.machine.specs.Program.{Memories, Then, Won, Deed, does}
+use Rattle.machine.specs.Program.{Memories, Then, Won, Deed, new_word, does}
 use Rattle.machine.specs.Program as program
 use Rattle.running.specs.Machine.{Access, Side, Core, rests, loads, stores, swaps, stays, brings, returns}
 
@@ -26,18 +26,22 @@ abbrev pub at_home : {S : Type 0} → Option (Option S) → Option S
 at_home none = none
 at_home (some x) = x
 
--- two places are one, or two words; a test says which
+-- two places are one word, or two; a test says which
 abbrev pub Apart : {A : Type 0} → (A → ℕ) → (A → A → Bool) → A → A → Type 0
-Apart at test a b = ((test a b ≡ true) × (a ≡ b)) ⊎ ((test a b ≡ false) × (at a ≢ at b))
+Apart at test a b = ((test a b ≡ true) × (at a ≡ at b)) ⊎ ((test a b ≡ false) × (at a ≢ at b))
 
--- each place has a word of its own, and a memory is what its places have
+-- each place lies at a word, no tagged word at that of a number, and a memory is what its places have
 pub record Lies {T M P Q : Type 0} (x : Memories T M P Q) (y : Layout P Q) : Type 0 where
   pub places : (a b : P) → Apart y.place x.same_place a b
   pub links : (a b : Q) → Apart y.link x.same_link a b
   pub others : (a : P) (q : Q) → y.place a ≢ y.link q
   pub word_is : (f : P → Tagged) (g : Q → ℕ) (h : ℕ → Option (Slot T)) (a : P) → x.word (x.of f g h) a ≡ f a
-  pub link_is : (f : P → Tagged) (g : Q → ℕ) (h : ℕ → Option (Slot T)) (q : Q) → x.link (x.of f g h) q ≡ g q
+  pub link_is : (f : P → Tagged) (g : ℕ → ℕ) (h : ℕ → Option (Slot T)) (q : Q) → x.link (x.of f (λ a. g (y.link a)) h) q ≡ g (y.link q)
   pub home_is : (f : P → Tagged) (g : Q → ℕ) (h : ℕ → Option (Slot T)) → x.home (x.of f g h) ≡ h
+
+-- the memory that a table of words and slots shows
+abbrev pub memory_in : {T M P Q : Type 0} → Memories T M P Q → Layout P Q → List ℕ → List (Option (Slot T)) → M
+memory_in x y words homes = x.of (λ a. fields_of (slice_index words (y.place a))) (λ q. slice_index words (y.link q)) (λ i. at_home (get_elem? homes i))
 
 -- a machine on a table: besides the data what slots a won exchange may bring, and what the word that a
 -- line finds tells the code
@@ -78,11 +82,11 @@ next_of idle l (program.follows at to) y zs = to y
 next_of idle l (program.stores at w to) y zs = to
 next_of idle l (program.links at k to) y zs = to
 next_of idle l (program.attempts at old new to) y zs = to
-next_of idle l (program.swaps at old new w lost) y zs = if same (fields_of y) old then won_line idle w zs else lost
+next_of idle l (program.swaps at old change w lost) y zs = if same (fields_of y) old then won_line idle w zs else lost
 
 module _ {T M P Q L : Type 0} (b : Board T M P Q L) where
   abbrev pub read : List ℕ → List (Option (Slot T)) → M
-  read words homes = b.memories.of (λ a. fields_of (slice_index words (b.layout.place a))) (λ q. slice_index words (b.layout.link q)) (λ i. at_home (get_elem? homes i))
+  read words homes = memory_in b.memories b.layout words homes
 
   abbrev pub side_of : Won T M L (Event T) → Side
   side_of (program.stays t) = stays
@@ -97,7 +101,7 @@ module _ {T M P Q L : Type 0} (b : Board T M P Q L) where
   access_of (program.stores at w to) = stores (b.layout.place at) (number w)
   access_of (program.links at k to) = stores (b.layout.link at) k
   access_of (program.attempts at old new to) = swaps (b.layout.place at) old new stays
-  access_of (program.swaps at old new w lost) = swaps (b.layout.place at) old new (side_of w)
+  access_of (program.swaps at old change w lost) = swaps (b.layout.place at) old (new_word (b.memories.keeps at) old change) (side_of w)
 
   -- the slots that an exchange moves
   abbrev pub fits_won : L → Won T M L (Event T) → List (ℕ × Slot T) → Type 0
@@ -106,8 +110,17 @@ module _ {T M P Q L : Type 0} (b : Board T M P Q L) where
   fits_won l (program.brings way which reply) zs = b.Brings l zs
 
   abbrev pub fits_of : L → Deed T M P Q L (Event T) → List (ℕ × Slot T) → Type 0
-  fits_of l (program.swaps at old new w lost) zs = fits_won l w zs
+  fits_of l (program.swaps at old change w lost) zs = fits_won l w zs
   fits_of l d zs = Unit {0}
+
+  -- in which memory an exchange brings these slots
+  abbrev pub moves_won : M → Won T M L (Event T) → List (ℕ × Slot T) → Type 0
+  moves_won m (program.brings way which reply) zs = turned way (numbers zs) ≡ which m
+  moves_won m w zs = Unit {0}
+
+  abbrev pub moves_of : M → Deed T M P Q L (Event T) → List (ℕ × Slot T) → Type 0
+  moves_of m (program.swaps at old change w lost) zs = moves_won m w zs
+  moves_of m d zs = Unit {0}
 
   -- What a container shows of a line, from its rule alone, for its step to be made on the table
 
@@ -143,7 +156,7 @@ module _ {T M P Q L : Type 0} (b : Board T M P Q L) where
     Needs l (program.stores at w to) = (b.layout.place at < length words) × (fields_of (number w) ≡ w) × b.Says l (number w)
     Needs l (program.links at k to) = (b.layout.link at < length words) × b.Says l k
     Needs l (program.attempts at old new to) = (fields_of (found (b.layout.place at)) ≡ old → b.layout.place at < length words) × b.Says l (found (b.layout.place at))
-    Needs l (program.swaps at old new w lost) = (fields_of (found (b.layout.place at)) ≡ old → (b.layout.place at < length words) × NeedsWon l w) × b.Says l (found (b.layout.place at))
+    Needs l (program.swaps at old change w lost) = (fields_of (found (b.layout.place at)) ≡ old → (b.layout.place at < length words) × NeedsWon l w) × b.Says l (found (b.layout.place at))
 
 -- what the rule of a container says, for its core
 pub record Rules (T M L O : Type 0) : Type 1 where
@@ -172,6 +185,7 @@ module _ {T M P Q L O : Type 0} (b : Board T M P Q L) (r : Rules T M L O) where
     access = λ l. access_of b (b.table l);
     next = λ l. next_of b.idle l (b.table l);
     Fits = λ l. fits_of b l (b.table l);
+    Moves = λ m l. moves_of b m (b.table l);
     Says = b.Says;
     Plain = b.Plain;
   }

@@ -21,11 +21,12 @@ use Rattle.stack_machine.specs.declared.lines.Answer.{Answer}
 use Rattle.stack_machine.specs.declared.lines.Answer.TheVariants.{Put as AnswerPut, Take as AnswerTake, Fold as AnswerFold, Close as AnswerClose, Shut as AnswerShut, Look as AnswerLook}
 use Rattle.machine.specs.Schedule as schedule
 use Rattle.machine.specs.Chains.{first, last, second, chain_from, with_home, away, full, vacant, filled, emptied, values_of, values_in}
-use Rattle.machine.specs.Program.{Memories, Then, stays, returns, brings, Deed, rests, loads, follows, links, swaps, answered, does, wins as won_by}
-use Rattle.machine.specs.FreeList.{FreeList, load_top, follow_link, take_top, link_to_top, give_top}
+use Rattle.machine.specs.Program.{Memories, marks, shuts, Then, stays, returns, Deed, rests, follows, links, swaps, answered, does, wins as won_by}
+use Rattle.machine.specs.IndexList.{IndexList, load_top, follow_link, take_slot, take_all, link_to_top, give_chain}
 use Rattle.stack_machine.specs.declared.lines.Giving.{Giving}
 use Rattle.stack_machine.specs.declared.lines.Top.{Top}
 use Rattle.stack_machine.specs.declared.lines.Top.TheVariants.{Free as FreeTop, Stack as StackTop}
+use Rattle.stack_machine.specs.declared.lines.Link.{Link}
 use Rattle.stack_machine.specs.declared.lines.Line.{Line}
 use Rattle.stack_machine.specs.declared.lines.Line.TheVariants.{Idle, LoadFree, LoadFreeLink, TakeFree, LinkTaken, LoadTop, LinkToTop, SwapTop, LoadTopToRefuse, LoadTopToTake, LoadTopLink, TakeTop, TakeChain, LoadLinkToTurn, TurnLink, LoadLinkToFold, LoadFreeToGive, LinkToFree, GiveBack, LoadTopToClose, MarkTop, LoadTopToShut, ShutTop, LoadTopToLook}
 use Rattle.stack_machine.specs.declared.lines.Call.{Call}
@@ -157,9 +158,24 @@ same_top FreeTop FreeTop = true
 same_top StackTop StackTop = true
 same_top a b = false
 
--- the free nodes; one link serves whichever list a node is on
-abbrev pub free_nodes : FreeList Top ℕ
-free_nodes = record { top = FreeTop; link = λ i. i }
+-- the free nodes are list 0, the stack is list 1
+abbrev pub list_of : Top → ℕ
+list_of FreeTop = 0
+list_of StackTop = 1
+
+-- a give to the free nodes keeps the tag
+abbrev pub keeps_tag : Top → Bool
+keeps_tag FreeTop = true
+keeps_tag StackTop = false
+
+abbrev pub nodes_on : Top → IndexList Top Link
+nodes_on top = record { top = top; link = λ i. record { top = top; index = i } }
+
+abbrev pub free_nodes : IndexList Top Link
+free_nodes = nodes_on FreeTop
+
+abbrev pub stacked : IndexList Top Link
+stacked = nodes_on StackTop
 
 -- What one step does
 abbrev pub Outcome : Type 0 → Type 0
@@ -177,13 +193,17 @@ module _ {T : Type 0} where
   top_in m FreeTop = m.free
   top_in m StackTop = m.top
 
-  abbrev pub memories : Memories T (Memory T) Top ℕ
+  -- one link serves whichever list a node is on
+  abbrev pub memories : Memories T (Memory T) Top Link
   memories = record {
     same_place = same_top;
-    same_link = λ a b. a == b;
-    of = λ tops link home. record { free = tops FreeTop; top = tops StackTop; link = link; home = home };
+    same_link = λ a b. a.index == b.index;
+    top_of = λ t. some (list_of t);
+    keeps = keeps_tag;
+    link_of = λ a. some (list_of a.top, a.index);
+    of = λ tops link home. record { free = tops FreeTop; top = tops StackTop; link = λ i. link (stacked.link i); home = home };
     word = top_in;
-    link = λ m. m.link;
+    link = λ m a. m.link a.index;
     home = λ m. m.home;
   }
 
@@ -201,37 +221,37 @@ module _ {T : Type 0} where
   took_all d w chain were = some (by (at_take_chain d w chain (values_of were)) (λ p. TakeAll p (values_of were) w.tag))
 
   -- What each line does
-  abbrev pub table : Shape → Line T → Deed T (Memory T) Top ℕ (Line T) (Event T)
+  abbrev pub table : Shape → Line T → Deed T (Memory T) Top Link (Line T) (Event T)
   table c (Idle a) = rests
   -- put: a node from the free list ..
   table c (LoadFree put) = load_top free_nodes (at_load_free c.limit put)
   table c (LoadFreeLink put w) = follow_link free_nodes w (TakeFree put w)
-  table c (TakeFree put w k) = take_top free_nodes w k (brings false (λ m. w.index ∷ []) (λ is were. some (by (at_take_free put w) Hold))) (LoadFree put)
-  table c (LinkTaken put) = links (first put.chain) (second put.chain) (next_node put)
+  table c (TakeFree put w k) = take_slot free_nodes w k (λ was. some (by (at_take_free put w) Hold)) (LoadFree put)
+  table c (LinkTaken put) = links (stacked.link (first put.chain)) (second put.chain) (next_node put)
   -- .. then onto the top
-  table c (LoadTop put) = loads StackTop (at_load_top c.limit put)
-  table c (LinkToTop put w) = links (last put.chain) w.index (SwapTop put w)
-  table c (SwapTop put w) = swaps StackTop w (raised w (first put.chain)) (returns (full put.chain (reverse (placed put))) (by (ends (AnswerPut (Ok (w.tag, unplaced put)))) (λ p. Put p (placed put) w.tag))) (LoadTop put)
-  table c (LoadTopToRefuse values) = loads StackTop (at_load_top_to_refuse c.limit values)
+  table c (LoadTop put) = load_top stacked (at_load_top c.limit put)
+  table c (LinkToTop put w) = link_to_top stacked (last put.chain) w (SwapTop put w)
+  table c (SwapTop put w) = give_chain stacked w (first put.chain) (returns (full put.chain (reverse (placed put))) (by (ends (AnswerPut (Ok (w.tag, unplaced put)))) (λ p. Put p (placed put) w.tag))) (LoadTop put)
+  table c (LoadTopToRefuse values) = load_top stacked (at_load_top_to_refuse c.limit values)
   -- take
-  table c (LoadTopToTake taking) = loads StackTop (at_load_top_to_take c.limit taking)
-  table c (LoadTopLink w) = follows w.index (TakeTop w)
-  table c (TakeTop w k) = swaps StackTop w (raised w k) (brings false (λ m. w.index ∷ []) (λ is. took w)) (LoadTopToTake One)
+  table c (LoadTopToTake taking) = load_top stacked (at_load_top_to_take c.limit taking)
+  table c (LoadTopLink w) = follow_link stacked w (TakeTop w)
+  table c (TakeTop w k) = take_slot stacked w k (took w) (LoadTopToTake One)
   -- fold: the whole chain, turned round where it is wanted from the bottom up, then its values
-  table c (TakeChain d w) = swaps StackTop w (raised w NULL) (brings (is_up d) (λ m. chain_from c.capacity m.link w.index) (took_all d w)) (LoadTopToTake (Whole d))
-  table c (LoadLinkToTurn give above i) = follows i (TurnLink give above i)
-  table c (TurnLink give above i k) = links i above (at_turn_link give i k)
-  table c (LoadLinkToFold give i) = follows i (at_load_link_to_fold give)
+  table c (TakeChain d w) = take_all stacked w (is_up d) (λ m. chain_from c.capacity m.link w.index) (took_all d w) (LoadTopToTake (Whole d))
+  table c (LoadLinkToTurn give above i) = follows (stacked.link i) (TurnLink give above i)
+  table c (TurnLink give above i k) = links (stacked.link i) above (at_turn_link give i k)
+  table c (LoadLinkToFold give i) = follows (stacked.link i) (at_load_link_to_fold give)
   -- a chain goes back to the free list
   table c (LoadFreeToGive give) = load_top free_nodes (LinkToFree give)
   table c (LinkToFree give w) = link_to_top free_nodes (last give.chain) w (GiveBack give w)
-  table c (GiveBack give w) = give_top free_nodes w (first give.chain) (returns (vacant give.chain) (by (ends give.answer) (λ p. Free p (length give.chain)))) (LoadFreeToGive give)
+  table c (GiveBack give w) = give_chain free_nodes w (first give.chain) (returns (vacant give.chain) (by (ends give.answer) (λ p. Free p (length give.chain)))) (LoadFreeToGive give)
   -- close, shut, look
-  table c LoadTopToClose = loads StackTop at_load_top_to_close
-  table c (MarkTop w) = swaps StackTop w (marked w) (stays (by (ends (AnswerClose true)) Close)) LoadTopToClose
-  table c LoadTopToShut = loads StackTop at_load_top_to_shut
-  table c (ShutTop w) = swaps StackTop w (with_second w) (stays (by (ends (AnswerShut true)) Shut)) LoadTopToShut
-  table c LoadTopToLook = loads StackTop (λ w. ends (AnswerLook (w.index == NULL)))
+  table c LoadTopToClose = load_top stacked at_load_top_to_close
+  table c (MarkTop w) = swaps StackTop w marks (stays (by (ends (AnswerClose true)) Close)) LoadTopToClose
+  table c LoadTopToShut = load_top stacked at_load_top_to_shut
+  table c (ShutTop w) = swaps StackTop w shuts (stays (by (ends (AnswerShut true)) Shut)) LoadTopToShut
+  table c LoadTopToLook = load_top stacked (λ w. ends (AnswerLook (w.index == NULL)))
 
   -- the step of pass p at a line, and whether it is an exchange that wins
   abbrev pub step : Shape → Memory T → ℕ → Line T → Outcome T

@@ -7,4 +7,4 @@
 
 pub mod lines;
 
-pub use lines::{Answer, Call, Direction, Giving, Line, Putting, Taking, Top};
+pub use lines::{Answer, Call, Direction, Giving, Line, Link, Putting, Taking, Top};

@@ -14,6 +14,12 @@ pub enum Top {
     Stack,
 }
 
+/// The link of a node, where it is on this list.
+pub struct Link {
+    pub top: Top,
+    pub index: u32,
+}
+
 /// A put of one value or of a range, which is the same operation: the first value is put lowest.
 pub struct Putting<T> {
     /// All values of the operation, the lowest first.

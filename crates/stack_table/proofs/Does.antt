@@ -19,12 +19,11 @@ use Rattle.stack_machine.specs.declared.lines.Direction.{Direction}
 use Rattle.stack_machine.specs.declared.lines.Direction.TheVariants.{Down, Up}
 use Rattle.stack_machine.specs.declared.lines.Line.{Line}
 use Rattle.stack_machine.specs.declared.lines.Line.TheVariants.{LoadFree, LoadFreeLink, TakeFree, LinkTaken, LinkToTop, SwapTop, LoadTopToTake, LoadTopLink, TakeTop, TakeChain, LoadLinkToTurn, TurnLink, LoadLinkToFold, LinkToFree, GiveBack, MarkTop, ShutTop}
-use Rattle.stack_machine.specs.Machine.{Memory, held, placed, is_up, took_all, table}
+use Rattle.stack_machine.specs.Machine.{Memory, held, placed, is_up, took_all, free_nodes, stacked, table}
 use Rattle.stack_machine.specs.Answers.{shape, state}
 use Rattle.stack_machine.specs.Deeds.{in_order}
-use Rattle.stack_machine.specs.Rule.{Lists}
+use Rattle.stack_machine.specs.Rule.{Lists, Kept}
 use Rattle.stack_machine.proofs.Linked.{turning_in}
-use Rattle.stack_machine.specs.Rule.{Kept}
 use Rattle.stack_machine.proofs.Moves.{hold_slot, all_nodes}
 use Rattle.running.specs.Machine.{Does}
 use Rattle.running.specs.Tables.{Needs, Comes, Goes, turned}
@@ -127,7 +126,7 @@ module _ {T : Type 0} (n limit : ℕ) (words : List ℕ) (homes : List (Option (
 
     needs : (l : Line T) → get_elem? lines q ≡ some l → Needs (board T n limit) words homes l (table (shape n limit) l)
     needs (LoadFree put) e = free_low
-    needs (LoadFreeLink put w) e = sane.plain w.index
+    needs (LoadFreeLink put w) e = sane.plain (free_nodes.link w.index)
     needs (TakeFree put w j) e =
         let f = k.good.linked.fine q (TakeFree put w j) e in
         (λ hit. (omega arith, record { slots = (w.index, None) ∷ []; apart = (λ h. h, tt); home = (at_home_is homes w.index None (hold_slot w k.good hit f.1), tt); fits = refl; are = refl; to = _; replies = refl }), tt)
@@ -138,7 +137,7 @@ module _ {T : Type 0} (n limit : ℕ) (words : List ℕ) (homes : List (Option (
         let as_many : length put.chain ≡ length (reverse (placed put)) = omega (arith, length-reverse (placed put), length-take-le (length put.chain) put.values few) in
         (λ hit. (omega arith, chain_goes (SwapTop put w) e (full put.chain (reverse (placed put))) (numbers_full put.chain (reverse (placed put)) as_many)), tt)
     needs (LoadTopToTake taking) e = top_low
-    needs (LoadTopLink w) e = sane.plain w.index
+    needs (LoadTopLink w) e = sane.plain (stacked.link w.index)
     needs (TakeTop w j) e =
         let f = k.good.linked.fine q (TakeTop w j) e in (
           λ hit. let v = value_there w j hit f.0 f.2 in
@@ -148,11 +147,11 @@ module _ {T : Type 0} (n limit : ℕ) (words : List ℕ) (homes : List (Option (
     needs (TakeChain d w) e = (λ hit. (omega arith, whole_comes d w e hit), tt)
     needs (LoadLinkToTurn give above i) e =
         let t = k.good.linked.fine q (LoadLinkToTurn give above i) e in
-        (sane.plain i, links_left (LoadLinkToTurn give above i) (reverse t.turned) t.left i e t.is t.downwards t.here)
+        (sane.plain (stacked.link i), links_left (LoadLinkToTurn give above i) (reverse t.turned) t.left i e t.is t.downwards t.here)
     needs (TurnLink give above i j) e = (within i (below (TurnLink give above i j) i e (turning_in m.link give.chain above i (k.good.linked.fine q (TurnLink give above i j) e).0)), tt)
     needs (LoadLinkToFold give i) e =
         let t = k.good.linked.fine q (LoadLinkToFold give i) e in
-        (sane.plain i, links_left (LoadLinkToFold give i) t.above t.left i e t.is t.stands t.here)
+        (sane.plain (stacked.link i), links_left (LoadLinkToFold give i) t.above t.left i e t.is t.stands t.here)
     needs (LinkToFree give w) e = (within (last give.chain) (below (LinkToFree give w) (last give.chain) e (last_in give.chain (k.good.linked.fine q (LinkToFree give w) e).some_node)), tt)
     needs (GiveBack give w) e = (λ hit. (omega arith, chain_goes (GiveBack give w) e (vacant give.chain) (numbers_vacant T give.chain)), tt)
     needs (MarkTop w) e = (λ hit. (omega arith, tt), tt)
@@ -160,4 +159,4 @@ module _ {T : Type 0} (n limit : ℕ) (words : List ℕ) (homes : List (Option (
     needs l e = tt
 
     pub does : (p : ℕ) (l : Line T) → get_elem? lines q ≡ some l → Does (core T n limit) words homes p l ((core T n limit).access l)
-    does p l e = does_all (board T n limit) (rules T n limit) (lies T n) (λ i x small. small) words homes sane p l (needs l e)
+    does p l e = does_all (board T n limit) (rules T n limit) (lies T n) (λ a x small. small) words homes sane p l (needs l e)

@@ -8,53 +8,38 @@ use Rattle.tagged_index.specs.declared.word.TheConstants.{NULL}
 use Rattle.bounded_model.specs.declared.history.Event.{Event}
 use Rattle.index_list.specs.Lists.{Leads, Holds}
 use Rattle.index_list.specs.Steps.{numbers}
-use Rattle.index_list.specs.Kinds.{in_order as slots_in_order}
 use Rattle.index_list.specs.Host.{Laws}
 use Rattle.index_list.proofs.Lists.{leads_one}
-use Rattle.machine.specs.Words.{Tagged, times, total, same}
+use Rattle.machine.specs.Words.{Tagged, times, total}
 use Rattle.machine.specs.Words as core
-use Rattle.machine.specs.Chains.{first, last, chain_from, values_in}
+use Rattle.machine.specs.Chains.{first, last, turned}
 use Rattle.machine.proofs.Chains.{chain_leads, first_in, last_in}
 use Rattle.machine.proofs.Lists.{times_append}
 use Rattle.machine.proofs.Sums.{total_one}
-use Rattle.machine.proofs.Tests.{at_most_one, same-self}
-use Rattle.stack_machine.specs.declared.lines.Direction.{Direction}
-use Rattle.stack_machine.specs.declared.lines.Direction.TheVariants.{Down, Up}
-use Rattle.stack_machine.specs.declared.lines.Taking.TheVariants.{Whole}
+use Rattle.machine.proofs.Tests.{at_most_one}
 use Rattle.stack_machine.specs.declared.lines.Line.{Line}
-use Rattle.stack_machine.specs.declared.lines.Line.TheVariants.{Idle, TakeFree, LinkTaken, LinkToTop, SwapTop, LoadTopToTake, TakeTop, TakeChain, TurnLink, LinkToFree, GiveBack}
-use Rattle.stack_machine.specs.Machine.{Memory, held, step, placed, wins_chain, at_take_chain, goes_on}
-use Rattle.stack_machine.specs.Answers.{shape}
-use Rattle.stack_machine.specs.Rule.{Lists as BothLists, IsFine, Turns}
-use Rattle.stack_machine.specs.Deeds.{in_order}
-use Rattle.stack_machine.specs.Rule.{Kept}
+use Rattle.stack_machine.specs.declared.lines.Line.TheVariants.{Idle, TakeFree, LinkTaken, LinkToTop, SwapTop, TakeTop, TakeChain, TurnLink, LinkToFree, GiveBack}
+use Rattle.stack_machine.specs.Machine.{Memory, held, placed, is_up}
+use Rattle.stack_machine.specs.Rule.{Lists as BothLists, IsFine, Turns, Kept}
 use Rattle.stack_machine.proofs.Moves.{all_nodes}
 use Rattle.running.specs.Rule.{Rule}
-use Rattle.running.specs.Lists.{Listed, Hosts, Agrees, Ready, Moved, at_of, host}
+use Rattle.running.specs.Lists.{Listed, Hosts, Ready, BroughtBy, ReturnedBy, step_access, front_of, host}
 use Rattle.running.proofs.Hosting.{laws}
+use Rattle.running.proofs.Slots.{turned_twice, turned_so}
 use Rattle.running.proofs.Indexes.{holds_times, times_holds, distinct_times, leads_low, stands_in, once_below}
 use Rattle.stack_table.specs.Layout.{link_at}
 use Rattle.index_list.specs.declared.front.Front.{Front}
 use Rattle.index_list.specs.declared.front.Front.TheVariants.{First, Last}
 use Rattle.stack_table.specs.Core.{core}
-use Rattle.stack_table.specs.Lines.{direction, next, won_chain}
+use Rattle.stack_table.specs.Lines.{direction}
 use Rattle.stack_table.specs.Memories.{memory_of}
-use Rattle.stack_table.specs.Lists.{lists, list_step, front_of}
-use Rattle.stack_table.proofs.Slots.{in_order_twice, numbers_vacant, numbers_full}
+use Rattle.stack_table.specs.Lists.{lists, list_step}
+use Rattle.stack_table.proofs.Slots.{numbers_vacant, numbers_full}
 use Rattle.stack_table.proofs.Laws.{stack, idle_holds, first_empty}
 
-same_order : (d : Direction) (xs : List ℕ) → in_order d xs ≡ slots_in_order (front_of d) xs
-same_order Down xs = refl
-same_order Up xs = refl
-
-module _ {T : Type 0} where
-  agrees : (n limit : ℕ) (line : Line T) → Agrees (lists {T = T}) ((core T n limit).access line) (list_step line)
-  agrees n limit (Idle a) = tt
-  agrees n limit l = refl
-
-  whole : (d : Direction) (w : Tagged) (chain : List ℕ) (vs : List T) → held (at_take_chain d w chain vs) ≡ chain
-  whole Down w chain vs = refl
-  whole Up w chain vs = refl
+agrees : {T : Type 0} (n limit : ℕ) (line : Line T) → (core T n limit).access line ≡ step_access (lists {T = T}) ((core T n limit).access line) (list_step line)
+agrees n limit (Idle a) = refl
+agrees n limit l = refl
 
 module _ {T : Type 0} (n limit : ℕ) (words : List ℕ) (homes : List (Option (Slot T))) (of : ℕ → Option ℕ) (lines : List (Line T)) (h : List (Event T)) (k : Kept T n limit (memory_of words homes) of lines h) where
   abbrev m : Memory T
@@ -122,31 +107,20 @@ module _ {T : Type 0} (n limit : ℕ) (words : List ℕ) (homes : List (Option (
     ready (GiveBack give w) at f = chain_on (GiveBack give w) give.chain w.index at refl f.0.some_node f.0.chained f.1
     ready l at f = tt
 
-    -- the slots of the whole stack
-    whole_stack : (p : ℕ) (d : Direction) (w : Tagged) (zs : List (ℕ × Slot T)) → get_elem? lines q ≡ some (TakeChain d w) → m.top ≡ w
-        → (step (shape n limit) m p (TakeChain d w)).line ≡ next n limit (TakeChain d w) (slice_index words 16) zs
-        → (xs : List ℕ) → Leads (λ i. slice_index words (link_at i)) m.top.index xs NULL → numbers zs ≡ slots_in_order (front_of d) xs
-    whole_stack p d w zs at hit leads xs list =
-        let yes : same m.top w ≡ true = ap (λ (y : Tagged). same y w) hit ∙ same-self w in
-        let chain : List ℕ = chain_from n m.link w.index in
-        let values : List T = values_in m.home chain in
-        let lands : (step (shape n limit) m p (TakeChain d w)).line ≡ at_take_chain d w chain values = ap (λ (b : Bool). (cond b (wins_chain m p d w chain) (goes_on m (LoadTopToTake (Whole d)))).line) yes in
-        let follows : next n limit (TakeChain d w) (slice_index words 16) zs ≡ won_chain d w zs = ap (λ (b : Bool). cond b (won_chain d w zs) (LoadTopToTake (Whole d))) yes in
-        let same_chain : chain ≡ in_order d (numbers zs) = sym (whole d w chain values) ∙ ap held (sym lands ∙ leads ∙ follows) ∙ whole d w (in_order d (numbers zs)) _ in
-        let is_stack : chain ≡ g.stack = all_nodes q (TakeChain d w) w k.good at hit in
-        let one : g.stack ≡ xs = leads_one m.link m.top.index g.stack xs stack_stands.leads list in
-        sym (in_order_twice d (numbers zs)) ∙ ap (in_order d) (sym same_chain ∙ is_stack ∙ one) ∙ same_order d xs
+    brought : (line : Line T) (zs : List (ℕ × Slot T)) → get_elem? lines q ≡ some line → (core T n limit).Moves m line zs → BroughtBy (lists {T = T}) words zs (list_step line)
+    brought (TakeFree put w j) zs at moves = moves
+    brought (TakeTop w j) zs at moves = moves
+    brought (TakeChain d w) zs at moves = λ hit xs list.
+        let are : turned (is_up d) (numbers zs) ≡ xs = moves ∙ all_nodes q (TakeChain d w) w k.good at hit ∙ leads_one m.link m.top.index g.stack xs stack_stands.leads list in
+        sym (turned_twice (is_up d) (numbers zs)) ∙ ap (turned (is_up d)) are ∙ turned_so (is_up d) xs
+    brought l zs at moves = tt
 
-    moved : (p : ℕ) (line : Line T) (zs : List (ℕ × Slot T)) → get_elem? lines q ≡ some line → IsFine limit m g line → (core T n limit).Fits line zs → (step (shape n limit) m p line).line ≡ next n limit line (slice_index words (at_of (lists {T = T}) (list_step line))) zs → Moved (lists {T = T}) words line zs (list_step line)
-    moved p (Idle a) zs at f fits leads = tt
-    moved p (TakeFree put w j) zs at f fits leads = λ c. ap (λ (ys : List (ℕ × Slot T)). numbers ys) fits
-    moved p (SwapTop put w) zs at f fits leads =
+    returned : (line : Line T) (zs : List (ℕ × Slot T)) → IsFine limit m g line → (core T n limit).Fits line zs → ReturnedBy (lists {T = T}) line zs (list_step line)
+    returned (SwapTop put w) zs f fits =
         let few = f.0.few in
-        λ c. ap (λ (ys : List (ℕ × Slot T)). numbers ys) fits ∙ numbers_full put.chain (reverse (placed put)) (omega (arith, length-reverse (placed put), length-take-le (length put.chain) put.values few))
-    moved p (TakeTop w j) zs at f fits leads = λ c. ap (λ (ys : List (ℕ × Slot T)). numbers ys) fits.1
-    moved p (TakeChain d w) zs at f fits leads = λ c hit. whole_stack p d w zs at hit leads
-    moved p (GiveBack give w) zs at f fits leads = λ c. ap (λ (ys : List (ℕ × Slot T)). numbers ys) fits ∙ numbers_vacant T give.chain
-    moved p l zs at f fits leads = λ c. tt
+        ap (λ (ys : List (ℕ × Slot T)). numbers ys) fits ∙ numbers_full put.chain (reverse (placed put)) (omega (arith, length-reverse (placed put), length-take-le (length put.chain) put.values few))
+    returned (GiveBack give w) zs f fits = ap (λ (ys : List (ℕ × Slot T)). numbers ys) fits ∙ numbers_vacant T give.chain
+    returned l zs f fits = tt
 
 top_low : (first_list : Bool) (n : ℕ) → cond first_list 0 16 < 32 + n
 top_low true n = omega arith
@@ -165,12 +139,13 @@ hosts T n limit = record {
   access = agrees n limit;
   stands = λ l words homes of lines h low sane k. stands n limit words homes of lines h k l low;
   ready = λ words homes of lines h q line sane k at. ready n limit words homes of lines h k q line at (k.good.linked.fine q line at);
-  moved = λ words homes of lines h q p line zs sane k at is fits leads. moved n limit words homes of lines h k q p line zs at (k.good.linked.fine q line at) fits leads;
+  brought = λ words homes of lines h q line zs k at moves. brought n limit words homes of lines h k q line zs at moves;
+  returned = λ words homes of lines h q line zs k at fits. returned n limit words homes of lines h k q line zs (k.good.linked.fine q line at) fits;
 }
 
 pub list_laws : (T : Type 0) (n limit : ℕ) → Laws (lists {T = T}).layout (host (stack T n limit) (lists {T = T})) (Rule (stack T n limit)) 2
 list_laws T n limit = laws (stack T n limit) (lists {T = T}) 2 (hosts T n limit)
 
-pub front_is : (front : Front) → front_of (direction front) ≡ front
+pub front_is : (front : Front) → front_of (is_up (direction front)) ≡ front
 front_is First = refl
 front_is Last = refl

@@ -14,13 +14,12 @@ use Rattle.stack_machine.specs.declared.lines.Line.{Line}
 use Rattle.stack_machine.specs.declared.lines.Line.TheVariants.{Idle}
 use Rattle.stack_machine.specs.Machine.{Memory, start}
 use Rattle.stack_machine.specs.Answers.{shape, state}
-use Rattle.stack_machine.specs.Rule.{Lists, IsFine, Told, Good}
+use Rattle.stack_machine.specs.Rule.{Lists, IsFine, Told, Good, Kept}
 use Rattle.machine.specs.Seats.{first_view}
 use Rattle.machine.proofs.Tests.{cases}
 use Rattle.machine.proofs.Lists.{leads_frame}
 use Rattle.machine.proofs.Chains.{values_frame}
 use Rattle.machine.proofs.Seating.{seated_first}
-use Rattle.stack_machine.specs.Rule.{Kept}
 use Rattle.stack_machine.proofs.Start.{start_kept}
 use Rattle.running.specs.Rule.{Rule}
 use Rattle.running.proofs.Indexes.{once_below}
@@ -87,10 +86,10 @@ module _ {T : Type 0} (n limit : ℕ) where
         sane = record {
           words_are = long;
           homes_are = homes_start T n;
-          plain = λ i. ⊎_elim
-              (λ low. subst (λ (k : ℕ). k ≤ NULL) (sym (is (link_at i) (omega arith) ∙ start_links n i)) (start_small n i low small))
-              (λ high. subst (λ (k : ℕ). k ≤ NULL) (sym (get_or_past ws (link_at i) 0 (omega arith))) (omega arith))
-              (below_or_not i n);
+          plain = λ a. ⊎_elim
+              (λ low. subst (λ (k : ℕ). k ≤ NULL) (sym (is (link_at a.index) (omega arith) ∙ start_links n a.index)) (start_small n a.index low small))
+              (λ high. subst (λ (k : ℕ). k ≤ NULL) (sym (get_or_past ws (link_at a.index) 0 (omega arith))) (omega arith))
+              (below_or_not a.index n);
         };
       }
     where

@@ -2,6 +2,7 @@
 use Rattle.std.specs.Prelude.{ℕ, ◌≤◌, length, None}
 use Rattle.tagged_index.specs.declared.word.TheConstants.{NULL}
 use Rattle.stack_machine.specs.declared.lines.Top.{Top}
+use Rattle.stack_machine.specs.declared.lines.Link.{Link}
 use Rattle.stack_machine.specs.declared.lines.Line.{Line}
 use Rattle.stack_machine.specs.declared.lines.Line.TheVariants.{Idle}
 use Rattle.stack_machine.specs.Machine.{Memory, memories, table, held}
@@ -16,7 +17,7 @@ use Rattle.stack_table.specs.Layout.{layout}
 use Rattle.stack_table.specs.Lines.{call_of, Brings, Says}
 
 module _ (T : Type 0) (n limit : ℕ) where
-  abbrev pub board : Board T (Memory T) Top ℕ (Line T)
+  abbrev pub board : Board T (Memory T) Top Link (Line T)
   board = record {
     memories = memories;
     layout = layout n;

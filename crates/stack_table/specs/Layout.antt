@@ -4,6 +4,7 @@ use Rattle.std.specs.Prelude.{ℕ, ◌+◌, ◌-◌, ◌==◌, ltb, if◌then◌
 use Rattle.tagged_index.specs.declared.word.TheConstants.{NULL}
 use Rattle.stack_machine.specs.declared.lines.Top.{Top}
 use Rattle.stack_machine.specs.declared.lines.Top.TheVariants.{Free, Stack}
+use Rattle.stack_machine.specs.declared.lines.Link.{Link}
 use Rattle.running.specs.Tables.{Layout}
 
 abbrev pub free_at : ℕ
@@ -23,8 +24,8 @@ abbrev pub place_at : Top → ℕ
 place_at Free = free_at
 place_at Stack = top_at
 
-abbrev pub layout : ℕ → Layout Top ℕ
-layout n = record { place = place_at; link = link_at; words = words_for n; slots = n }
+abbrev pub layout : ℕ → Layout Top Link
+layout n = record { place = place_at; link = λ a. link_at a.index; words = words_for n; slots = n }
 
 -- the words of a new stack of n nodes: all nodes are free, each linked to the next
 abbrev pub start_at : ℕ → ℕ → ℕ

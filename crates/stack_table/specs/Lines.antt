@@ -11,7 +11,7 @@ use Rattle.stack_machine.specs.declared.lines.Call.{Call}
 use Rattle.stack_machine.specs.declared.lines.Call.TheVariants.{Put as CallPut, Take as CallTake, Close as CallClose, Shut as CallShut, Look as CallLook}
 use Rattle.stack_machine.specs.declared.lines.Line.{Line}
 use Rattle.stack_machine.specs.declared.lines.Line.TheVariants.{Idle, LoadFree, LoadFreeLink, TakeFree, LoadTopToTake, LoadTopLink, TakeTop, TakeChain, LoadLinkToTurn, LoadLinkToFold}
-use Rattle.stack_machine.specs.Machine.{is_idle, starts}
+use Rattle.stack_machine.specs.Machine.{is_idle, starts, is_up, took, took_all, table}
 use Rattle.running.specs.Machine.{Names}
 use Rattle.stack_table.specs.declared.operation.Operation.{Operation}
 use Rattle.stack_table.specs.declared.operation.Operation.TheVariants.{Put as PutFirst, Take as TakeFirst, Close as CloseFirst, Shut as ShutFirst, Look as LookFirst, Fold as FoldFirst}
@@ -22,7 +22,6 @@ use Rattle.index_list.specs.Steps.{numbers}
 use Rattle.machine.specs.Words.{Tagged}
 use Rattle.machine.specs.Chains.{turned}
 use Rattle.stack_machine.specs.Answers.{shape}
-use Rattle.stack_machine.specs.Machine.{is_up, took, took_all, table}
 use Rattle.running.specs.Tables.{next_of, line_of, values}
 use Rattle.stack_table.specs.Slots.{Links, IsWhole}
 

@@ -14,6 +14,7 @@ use Rattle.machine.specs.Words.{times, Leads}
 use Rattle.stack_machine.specs.declared.lines.Line.{Line}
 use Rattle.machine.specs.declared.seats.View.{View}
 use Rattle.machine.specs.declared.seats.View.TheVariants.{AtRoot}
+use Rattle.stack_machine.specs.Machine.{stacked}
 use Rattle.stack_machine.specs.Answers.{shape}
 use Rattle.machine.specs.Chains.{HasValues}
 use Rattle.machine.specs.Seats.{Rooted, Knows}
@@ -119,7 +120,7 @@ module _ {T : Type 0} where
       let s = final.0 in
       let g = rule.good.lists in
       let rooted : Rooted rule.history r [] = subst (Knows rule.history) is (rule.seated.each id v final.1.1).knows in
-      let plain : (j : ℕ) → slice_index words (link_at j) ≤ NULL = λ j. subst (λ (ws : List ℕ). slice_index ws (link_at j) ≤ NULL) final.2 (rule.sane.plain j) in
+      let plain : (j : ℕ) → slice_index words (link_at j) ≤ NULL = λ j. subst (λ (ws : List ℕ). slice_index ws (link_at j) ≤ NULL) final.2 (rule.sane.plain (stacked.link j)) in
       let stands : Leads (λ j. slice_index words (link_at j)) index g.stack NULL =
       subst (λ (x : ℕ). Leads (λ j. slice_index words (link_at j)) x g.stack NULL) (sym top)
       (subst (λ (ws : List ℕ). Leads (λ j. slice_index ws (link_at j)) (index_of (slice_index ws top_at)) g.stack NULL) final.2 rule.good.good.linked.top_stands) in

@@ -17,7 +17,7 @@ use Rattle.machine.specs.declared.seats.View.{View}
 use Rattle.machine.specs.declared.seats.View.TheVariants.{AtPass}
 use Rattle.machine.proofs.Lists.{times_here, times_append}
 use Rattle.stack_machine.specs.Deeds.{Deeds}
-use Rattle.stack_machine.specs.Machine.{starts}
+use Rattle.stack_machine.specs.Machine.{starts, stacked}
 use Rattle.stack_machine.specs.Rule.{IsFine, Gives}
 use Rattle.stack_machine.specs.declared.lines.Answer.TheVariants.{Put as AnswerPut}
 use Rattle.stack_machine.specs.declared.lines.Call.{Call}
@@ -79,7 +79,7 @@ module _ {T : Type 0} (c : Stack T) where
       let fine : IsFine (limit_of c) m peeked.good.lists (line_in names v) = peeked.good.good.linked.fine peeked.seat (line_in names v) peeked.here in
       let gives : Gives m.link giving.chain = subst (IsFine (limit_of c) m peeked.good.lists) line fine in
       let is : m.link i ≡ found = ap (λ (k : ℕ). slice_index peeked.words k) (sym e) ∙ peeked.is in
-      ap index_of (sym is) ∙ plain_index (m.link i) (peeked.sane.plain i) ∙ chain_link m.link before i next others (subst (λ (xs : List ℕ). IsChain m.link xs) parts gives.chained)
+      ap index_of (sym is) ∙ plain_index (m.link i) (peeked.sane.plain (stacked.link i)) ∙ chain_link m.link before i next others (subst (λ (xs : List ℕ). IsChain m.link xs) parts gives.chained)
 
   module _ (o : Operation T) where
     no_start : (call : Call T) (giving : Giving T) → starts call ≡ LoadFreeToGive giving → ⊥

@@ -6,8 +6,7 @@ ghost use Rattle.atomic_table.specs.Table.{rest};
 ghost use Rattle.bounded_model.specs.declared.views.PassView.{PassView};
 ghost use Rattle.bounded_model.specs.Bulk.{PutsRange};
 ghost use Rattle.machine.specs.Seats.{Looks};
-ghost use Rattle.treiber_stack.specs.Ranging.{NotPut, IsRange, IsNext, IsFilling, HasTaken, FillsOne, Fills};
-ghost use Rattle.treiber_stack.specs.Ranging.{Collects, IsStopped, IsRefused, Restores, ReadsAgain, places_from};
+ghost use Rattle.treiber_stack.specs.Ranging.{NotPut, IsRange, IsNext, IsFilling, HasTaken, FillsOne, Fills, Collects, IsStopped, IsRefused, Restores, ReadsAgain, places_from};
 ghost use Rattle.treiber_stack.specs.Stack.{room_of, shape_of, call_of, IsPassOf, pass_in};
 ghost use Rattle.treiber_stack.specs.declared.refusing.Barred.{Barred};
 

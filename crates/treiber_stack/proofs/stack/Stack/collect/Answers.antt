@@ -2,11 +2,10 @@ use Rattle.std.proofs.Common.{◌≡◌, ℕ, ◌+◌, ◌<◌, ◌≤◌, List,
 use Rattle.std.specs.Prelude.{Option as Slot}
 use Rattle.bounded_model.specs.declared.views.PassView.{PassView}
 use Rattle.treiber_stack.specs.Ranging.{NotPut, IsNext, Fills, places_from}
-use Rattle.treiber_stack.specs.Stack.{begun_of, pass_in, shape_of}
+use Rattle.treiber_stack.specs.Stack.{begun_of, pass_in, shape_of, machine_of}
 use Rattle.treiber_stack.proofs.Filling.{fill_start, holds_all, holds_some, stops_none, some_in}
 use Rattle.treiber_stack.proofs.Loading.{length_some, place_next, place_left, place_stays}
 use Rattle.running.proofs.Ways.{begun_is}
-use Rattle.treiber_stack.specs.Stack.{machine_of}
 use Rattle.treiber_stack.proofs.stack.Stack.collect.Goals as goal
 
 pub loop-at-init : goal.loop-at-init
