@@ -2,13 +2,10 @@
 use Rattle.std.proofs.Common.{◌≡◌, ℕ, zero, suc, ◌+◌, ◌*◌, ◌<◌, Bool, true, false, cond, eqb, List, [], refl, sym, ap, inl, arith}
 use Rattle.std.specs.Prelude.{Option as Slot}
 use mathlib.Core.Option.{Option}
-use Rattle.tagged_index.specs.declared.word.TheConstants.{NULL}
 use Rattle.bounded_model.specs.declared.history.Event.{Event}
 use Rattle.index_list.specs.Steps.{numbers}
 use Rattle.index_list.specs.Host.{Laws}
-use Rattle.machine.specs.Words.{Tagged, times, total}
-use Rattle.machine.proofs.Sums.{total_one}
-use Rattle.machine.proofs.Tests.{at_most_one}
+use Rattle.machine.specs.Words.{Tagged, times}
 use Rattle.queue_machine.specs.declared.lines.Line.{Line}
 use Rattle.queue_machine.specs.declared.lines.Line.TheVariants.{Idle, TakeCell, TakeNode, LinkToNodes, GiveNode, LinkToCells, GiveCell}
 use Rattle.queue_machine.specs.Machine.{Memory, held_cells, held_nodes}
@@ -16,7 +13,7 @@ use Rattle.queue_machine.specs.Rule.{Lists as CoreLists, IsFine, Kept}
 use Rattle.running.specs.Rule.{Rule}
 use Rattle.running.specs.Lists.{Listed, Hosts, Ready, BroughtBy, ReturnedBy, step_access, host}
 use Rattle.running.proofs.Hosting.{laws}
-use Rattle.running.proofs.Indexes.{holds_times, distinct_times, leads_low, once_below}
+use Rattle.running.proofs.Indexes.{listed}
 use Rattle.queue_table.specs.Layout.{clink_at, nlink_at}
 use Rattle.queue_table.specs.Core.{core}
 use Rattle.queue_table.specs.Memories.{memory_of}
@@ -34,29 +31,9 @@ module _ {T : Type 0} (n limit : ℕ) (words : List ℕ) (homes : List (Option (
   abbrev g : CoreLists
   g = k.lists
 
-  abbrev cell_places : ℕ → ℕ
-  cell_places i = times i g.cells + times i g.queued + total (λ (l : Line T). times i (held_cells l)) lines
-
-  abbrev node_places : ℕ → ℕ
-  node_places j = times j g.nodes + times j g.chain + total (λ (l : Line T). times j (held_nodes l)) lines
-
-  cells_stand : Listed (lists {T = T}) 0 words lines g.cells
-  cells_stand = record {
-    leads = leads_low m.clink m.cells.index g.cells NULL k.good.linked.cells_stand (λ i has. let small = k.good.linked.small in let b = once_below i n (cell_places i) (k.good.linked.cells_once i) (omega arith) in omega arith);
-    distinct = distinct_times g.cells (λ i. let o = k.good.linked.cells_once i in let u = at_most_one i n in omega arith);
-    free = λ q line e i has mine. absurd (let o = k.good.linked.cells_once i in let u = at_most_one i n in let a = holds_times g.cells i has in let b = holds_times (held_cells line) i mine in let t = total_one (λ (l : Line T). times i (held_cells l)) lines q line e in omega arith);
-  }
-
-  nodes_stand : Listed (lists {T = T}) 1 words lines g.nodes
-  nodes_stand = record {
-    leads = leads_low m.nlink m.nodes.index g.nodes NULL k.good.linked.nodes_stand (λ i has. let small = k.good.linked.small in let b = once_below i (n + 1) (node_places i) (k.good.linked.nodes_once i) (omega arith) in omega arith);
-    distinct = distinct_times g.nodes (λ i. let o = k.good.linked.nodes_once i in let u = at_most_one i (n + 1) in omega arith);
-    free = λ q line e i has mine. absurd (let o = k.good.linked.nodes_once i in let u = at_most_one i (n + 1) in let a = holds_times g.nodes i has in let b = holds_times (held_nodes line) i mine in let t = total_one (λ (l : Line T). times i (held_nodes l)) lines q line e in omega arith);
-  }
-
   stands : (l : ℕ) → l < 2 → (xs : List ℕ) × Listed (lists {T = T}) l words lines xs
-  stands zero low = (g.cells, cells_stand)
-  stands (suc zero) low = (g.nodes, nodes_stand)
+  stands zero low = (g.cells, listed lists 0 n words lines g.cells (λ i. times i g.queued) (omega (arith, k.good.linked.small)) k.good.linked.cells_stand k.good.linked.cells_once)
+  stands (suc zero) low = (g.nodes, listed lists 1 (n + 1) words lines g.nodes (λ j. times j g.chain) (omega (arith, k.good.linked.small)) k.good.linked.nodes_stand k.good.linked.nodes_once)
   stands (suc (suc l)) low = absurd (omega arith)
 
   ready : (line : Line T) → IsFine limit m g line → Ready (lists {T = T}) words line (list_step line)

@@ -4,7 +4,6 @@ use Rattle.std.proofs.lemmas.List.{length-reverse, length-take-le}
 use Rattle.std.specs.Prelude.{slice_index, Option as Slot}
 use mathlib.Core.Option.{Option, some}
 use lib.ListN.{get_elem?}
-use Rattle.tagged_index.specs.declared.word.TheConstants.{NULL}
 use Rattle.bounded_model.specs.declared.history.Event.{Event}
 use Rattle.index_list.specs.Lists.{Leads, Holds}
 use Rattle.index_list.specs.Steps.{numbers}
@@ -16,7 +15,6 @@ use Rattle.machine.specs.Chains.{first, last, turned}
 use Rattle.machine.proofs.Chains.{chain_leads, first_in, last_in}
 use Rattle.machine.proofs.Lists.{times_append}
 use Rattle.machine.proofs.Sums.{total_one}
-use Rattle.machine.proofs.Tests.{at_most_one}
 use Rattle.stack_machine.specs.declared.lines.Line.{Line}
 use Rattle.stack_machine.specs.declared.lines.Line.TheVariants.{Idle, TakeFree, LinkTaken, LinkToTop, SwapTop, TakeTop, TakeChain, TurnLink, LinkToFree, GiveBack}
 use Rattle.stack_machine.specs.Machine.{Memory, held, placed, is_up}
@@ -26,7 +24,7 @@ use Rattle.running.specs.Rule.{Rule}
 use Rattle.running.specs.Lists.{Listed, Hosts, Ready, BroughtBy, ReturnedBy, step_access, front_of, host}
 use Rattle.running.proofs.Hosting.{laws}
 use Rattle.running.proofs.Slots.{turned_twice, turned_so}
-use Rattle.running.proofs.Indexes.{holds_times, times_holds, distinct_times, leads_low, stands_in, once_below}
+use Rattle.running.proofs.Indexes.{times_holds, leads_low, stands_in, once_below, listed}
 use Rattle.stack_table.specs.Layout.{link_at}
 use Rattle.index_list.specs.declared.front.Front.{Front}
 use Rattle.index_list.specs.declared.front.Front.TheVariants.{First, Last}
@@ -48,37 +46,14 @@ module _ {T : Type 0} (n limit : ℕ) (words : List ℕ) (homes : List (Option (
   abbrev g : BothLists
   g = k.lists
 
-  abbrev everywhere : ℕ → ℕ
-  everywhere i = times i g.frees + times i g.stack + total (λ (u : Line T). times i (held u)) lines
-
-  once_there : (i : ℕ) → everywhere i ≤ 1
-  once_there i = let o = k.good.linked.once i in let u = at_most_one i n in omega arith
-
-  below : (i : ℕ) → 0 < everywhere i → i < NULL
-  below i some_there =
-      let small = k.good.linked.small in
-      let b = once_below i n (everywhere i) (k.good.linked.once i) some_there in
-      omega arith
-
   in_hand : (q : ℕ) (line : Line T) (i : ℕ) → get_elem? lines q ≡ some line → times i (held line) ≤ total (λ (u : Line T). times i (held u)) lines
   in_hand q line i e = total_one (λ (u : Line T). times i (held u)) lines q line e
 
-  frees_stand : Listed (lists {T = T}) 0 words lines g.frees
-  frees_stand = record {
-    leads = leads_low m.link m.free.index g.frees NULL k.good.linked.free_stands (λ x has. below x (omega arith));
-    distinct = distinct_times g.frees (λ i. let o = once_there i in omega arith);
-    free = λ q line e i has mine. absurd (let o = once_there i in let a = holds_times g.frees i has in let b = holds_times (held line) i mine in let t = in_hand q line i e in omega arith);
-  }
-
   stack_stands : Listed (lists {T = T}) 1 words lines g.stack
-  stack_stands = record {
-    leads = leads_low m.link m.top.index g.stack NULL k.good.linked.top_stands (λ x has. below x (omega arith));
-    distinct = distinct_times g.stack (λ i. let o = once_there i in omega arith);
-    free = λ q line e i has mine. absurd (let o = once_there i in let a = holds_times g.stack i has in let b = holds_times (held line) i mine in let t = in_hand q line i e in omega arith);
-  }
+  stack_stands = listed lists 1 n words lines g.stack (λ i. times i g.frees) k.good.linked.small k.good.linked.top_stands (λ i. omega (arith, k.good.linked.once i))
 
   stands : (l : ℕ) → l < 2 → (xs : List ℕ) × Listed (lists {T = T}) l words lines xs
-  stands zero low = (g.frees, frees_stand)
+  stands zero low = (g.frees, listed lists 0 n words lines g.frees (λ i. times i g.stack) k.good.linked.small k.good.linked.free_stands k.good.linked.once)
   stands (suc zero) low = (g.stack, stack_stands)
   stands (suc (suc l)) low = absurd (omega arith)
 
@@ -87,7 +62,7 @@ module _ {T : Type 0} (n limit : ℕ) (words : List ℕ) (homes : List (Option (
     chain_on : (line : Line T) (chain : List ℕ) (x : ℕ) → get_elem? lines q ≡ some line → held line ≡ chain → 0 < length chain → core.IsChain m.link chain → m.link (last chain) ≡ x → Leads (λ j. slice_index words (link_at j)) (first chain) chain x
     chain_on line chain x at mine some_node chained linked =
         leads_low m.link (first chain) chain x (subst (λ (y : ℕ). core.Leads m.link (first chain) chain y) linked (chain_leads m.link chain some_node chained))
-        (λ j has. below j (let t = in_hand q line j at in let u : times j (held line) ≡ times j chain = ap (times j) mine in omega arith))
+        (λ j has. let low = once_below j n (times j g.frees + times j g.stack + total (λ (u : Line T). times j (held u)) lines) (k.good.linked.once j) (omega (arith, in_hand q line j at, ap (times j) mine)) in omega (arith, k.good.linked.small))
 
     turned_here : (chain : List ℕ) (above i : ℕ) → Turns m.link chain above i → Holds chain i
     turned_here chain above i t =
