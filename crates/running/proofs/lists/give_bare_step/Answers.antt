@@ -1,8 +1,6 @@
-use Rattle.std.proofs.Common.{Bool, [], ◌∙◌, refl, subst, sym}
-use Rattle.running.specs.Going.{Found}
+use Rattle.std.proofs.Common.{Bool, true, [], ◌∙◌, refl, subst, sym}
 use Rattle.running.specs.Lists.{Rests}
-use Rattle.running.proofs.Going.{steps_so}
-use Rattle.running.proofs.Listing.{none_moved, by_cases, no_change, none_carried}
+use Rattle.running.proofs.Listing.{by_cases, no_change, none_carried, missed, unmoved}
 use Rattle.running.proofs.lists.give_bare_step.Goals as goal
 
 pub try_give-requires-clause-may : goal.try_give-requires-clause-may
@@ -21,12 +19,7 @@ returns-clause-seat g c = let t = c.try_give in (
 )
 
 pub returns-clause-won : goal.returns-clause-won
-returns-clause-won g c h =
-    let m = (g.M.Machine.machine c.args.table.now.key) in
-    let a = c.args in
-    let won = c.try_give.ensures.won h in
-    subst (λ zs. Found m a.operation.now a.seat.now.me.0 c.try_give.new.seat.me.0 a.seen zs) (none_moved won.slots (won.moves.1 ∙ none_carried _ c.requires.carries)) (λ begun l going. steps_so m going won.said.0)
+returns-clause-won g c h = let won = c.try_give.ensures.won h in unmoved (g.M.Machine.machine c.args.table.now.key) g.M.ListMachine.lists true won (won.moves.1 ∙ none_carried _ c.requires.carries)
 
 pub returns-clause-lost : goal.returns-clause-lost
-returns-clause-lost g c h = let miss = c.try_give.ensures.lost h in
-    record { found = miss.found; other = miss.other; steps = λ begun l going. steps_so (g.M.Machine.machine c.args.table.now.key) going miss.step.said.0 }
+returns-clause-lost g c h = (missed (g.M.Machine.machine c.args.table.now.key) g.M.ListMachine.lists (c.try_give.ensures.lost h)).1

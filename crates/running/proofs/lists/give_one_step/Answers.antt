@@ -1,9 +1,7 @@
-use Rattle.std.proofs.Common.{Bool, [], ap, refl, subst, sym}
+use Rattle.std.proofs.Common.{Bool, [], ap, subst, sym}
 use Rattle.index_list.specs.declared.change.Change.TheVariants.{Give}
 use Rattle.running.specs.Lists.{side, Rests}
-use Rattle.running.specs.Going.{Found}
-use Rattle.running.proofs.Going.{steps_so}
-use Rattle.running.proofs.Listing.{all_given, no_more}
+use Rattle.running.proofs.Listing.{no_more, missed, returned}
 use Rattle.running.proofs.lists.give_one_step.Goals as goal
 
 pub try_give-requires-clause-may : goal.try_give-requires-clause-may
@@ -14,13 +12,7 @@ try_give-requires-clause-slots g c = let a = c.args in let me = a.seat.now.me in
     (me.1, subst (λ (b : Bool). Rests (g.M.Machine.machine c.args.table.now.key) g.M.ListMachine.lists b a.operation.now me.0 me.1) (sym c.requires.carries) c.requires.fits, ([], no_more me.1))
 
 pub returns-clause-won : goal.returns-clause-won
-returns-clause-won g c h =
-    let m = (g.M.Machine.machine c.args.table.now.key) in
-    let a = c.args in
-    let won = c.try_give.ensures.won h in
-    let all = all_given a.seat.now.me.1 won.slots c.try_give.new.seat.me.1 won.moves.0 (won.said.2 refl (ap (λ (b : Bool). side b (Give c.args.index)) c.requires.carries) a.seat.now.me.1 c.requires.fits) in
-    (all.1, subst (λ zs. Found m a.operation.now a.seat.now.me.0 c.try_give.new.seat.me.0 a.seen zs) all.0 (λ begun l going. steps_so m going won.said.0))
+returns-clause-won g c h = returned (g.M.Machine.machine c.args.table.now.key) g.M.ListMachine.lists (ap (λ (b : Bool). side b (Give c.args.index)) c.requires.carries) c.requires.fits (c.try_give.ensures.won h)
 
 pub returns-clause-lost : goal.returns-clause-lost
-returns-clause-lost g c h = let miss = c.try_give.ensures.lost h in
-    (miss.unmoved, record { found = miss.found; other = miss.other; steps = λ begun l going. steps_so (g.M.Machine.machine c.args.table.now.key) going miss.step.said.0 })
+returns-clause-lost g c h = missed (g.M.Machine.machine c.args.table.now.key) g.M.ListMachine.lists (c.try_give.ensures.lost h)

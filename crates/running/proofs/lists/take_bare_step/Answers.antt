@@ -1,27 +1,16 @@
-use Rattle.std.proofs.Common.{◌∙◌, subst}
-use Rattle.running.specs.Going.{Found}
-use Rattle.running.proofs.Going.{steps_so}
-use Rattle.running.proofs.Listing.{none_moved, by_cases, no_change, none_carried}
+use Rattle.running.proofs.Listing.{none_carried, missed, bare_seat, bare_won}
 use Rattle.running.proofs.lists.take_bare_step.Goals as goal
 
 pub try_take-requires-clause-may : goal.try_take-requires-clause-may
 try_take-requires-clause-may g c = (c.requires.access, tt)
 
 pub returns-clause-seat : goal.returns-clause-seat
-returns-clause-seat g c = let t = c.try_take in (
-  t.ensures.seat.0,
-  by_cases t.result
-      (λ h. let won = t.ensures.won h in no_change won.slots _ _ (won.moves.2 ∙ none_carried _ c.requires.carries) won.moves.0)
-      (λ h. (t.ensures.lost h).unmoved),
-)
+returns-clause-seat g c = let t = c.try_take in
+    (t.ensures.seat.0, bare_seat (g.M.Machine.machine c.args.table.now.key) g.M.ListMachine.lists t.result t.ensures.won (λ xs. none_carried _ c.requires.carries) t.ensures.lost)
 
 pub returns-clause-won : goal.returns-clause-won
-returns-clause-won g c h =
-    let m = (g.M.Machine.machine c.args.table.now.key) in
-    let a = c.args in
-    let won = c.try_take.ensures.won h in
-    subst (λ zs. Found m a.operation.now a.seat.now.me.0 c.try_take.new.seat.me.0 a.seen zs) (none_moved won.slots (won.moves.2 ∙ none_carried _ c.requires.carries)) (λ begun l going. steps_so m going won.said.0)
+returns-clause-won g c = let t = c.try_take in
+    bare_won (g.M.Machine.machine c.args.table.now.key) g.M.ListMachine.lists t.result t.ensures.won (λ xs. none_carried _ c.requires.carries)
 
 pub returns-clause-lost : goal.returns-clause-lost
-returns-clause-lost g c h = let miss = c.try_take.ensures.lost h in
-    record { found = miss.found; other = miss.other; steps = λ begun l going. steps_so (g.M.Machine.machine c.args.table.now.key) going miss.step.said.0 }
+returns-clause-lost g c h = (missed (g.M.Machine.machine c.args.table.now.key) g.M.ListMachine.lists (c.try_take.ensures.lost h)).1
