@@ -1,12 +1,26 @@
 -- A pass's hand hangs on its own events alone.
-use Rattle.std.proofs.Common.{◌≡◌, ◌≢◌, ℕ, ◌+◌, ◌-◌, List, [], ◌∷◌, length, refl, sym, ap, ◌∙◌, ⊎_elim}
+use Rattle.std.proofs.Common.{◌≡◌, ◌≢◌, ℕ, ◌+◌, ◌-◌, List, [], ◌∷◌, length, set, refl, sym, ap, ◌∙◌, subst, ⊎_elim}
 use Rattle.std.proofs.lemmas.Bool.Decides.{eqb_tells}
+use mathlib.Core.Option.{Option, some, some-injective}
+use lib.ListN.{get_elem?}
 use Rattle.bounded_model.specs.declared.history.Event.{Event}
 use Rattle.bounded_model.specs.declared.history.Event.TheVariants.{Hold, Put, Take, TakeAll, Free, Close, Shut}
 use Rattle.bounded_model.specs.Machine.{Shape, state}
 use Rattle.bounded_model.specs.Histories.{pass_of, own}
 use Rattle.bounded_model.proofs.Histories.{own-mine, own-other}
 use Rattle.bounded_model.proofs.Hands.{with_hand-same, with_hand-other}
+use Rattle.machine.proofs.Sums.{at_set}
+
+-- one pass's hand changes with its line, of which `size` tells
+pub hands_set : {L : Type 0} (size : L → ℕ) (who : ℕ → Option ℕ) (lines : List L) (hand hand' : ℕ → ℕ) (q p : ℕ) (l' : L) → ((q r p : ℕ) → who q ≡ some p → who r ≡ some p → q ≡ r) → who q ≡ some p
+    → ((q p : ℕ) (l : L) → get_elem? lines q ≡ some l → who q ≡ some p → hand p ≡ size l)
+    → hand' p ≡ size l' → ((x : ℕ) → x ≢ p → hand' x ≡ hand x) → (r x : ℕ) (u : L) → get_elem? (set lines q l') r ≡ some u → who r ≡ some x → hand' x ≡ size u
+hands_set {L} size who lines hand hand' q p l' alone is h here else r x u at of = ⊎_elim
+    (λ t.
+    let same : p ≡ x = some-injective p x (sym is ∙ ap who (sym t.0) ∙ of) in
+    subst (λ (y : ℕ). hand' y ≡ size u) same (here ∙ ap size t.1))
+    (λ t. let ne = t.0 in else x (λ e. ne (alone r q p (of ∙ ap some e) is)) ∙ h r x u t.1 of)
+    (at_set lines q r l' u at)
 
 -- what an event leaves in its pass's hand
 abbrev pub hand_after : {T : Type 0} → Event T → ℕ → ℕ

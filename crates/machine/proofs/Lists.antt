@@ -1,8 +1,12 @@
 -- How often an index stands in a list, and lists that stand in links.
-use Rattle.std.proofs.Common.{◌≡◌, ℕ, zero, suc, ◌+◌, ◌<◌, ◌≢◌, List, [], ◌∷◌, ◌++◌, remove, refl, sym, ap, subst, eq-eqb, ne_eqb, arith}
+use Rattle.std.proofs.Common.{◌≡◌, ℕ, zero, suc, ◌+◌, ◌<◌, ◌≢◌, List, [], ◌∷◌, ◌++◌, remove, refl, sym, ap, subst, eq-eqb, ne_eqb, arith, length}
 use mathlib.Core.Option.{some, some-injective, some-ne-none}
 use lib.ListN.{get_elem?}
 use Rattle.machine.specs.Words.{store, times, Leads}
+
+pub none_of : (is : List ℕ) → length is ≡ 0 → is ≡ []
+none_of [] h = refl
+none_of (j ∷ js) h = absurd (omega arith)
 
 pub times_here : (i : ℕ) (is : List ℕ) → times i (i ∷ is) ≡ 1 + times i is
 times_here i is = rw (eq-eqb i i refl) refl

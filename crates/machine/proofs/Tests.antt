@@ -1,13 +1,35 @@
 -- Tests of the machines, and what each outcome tells.
-use Rattle.std.proofs.Common.{◌≡◌, ◌≤◌, ℕ, suc, ◌+◌, ◌&&◌, ◌||◌, Bool, true, false, cond, eqb, ltb, refl, sym, eqb-true, eq-eqb, arith}
+use Rattle.std.proofs.Common.{◌≡◌, ◌≢◌, ◌<◌, ◌≤◌, ◌⊎◌, inl, inr, ⊎_elim, ℕ, suc, ◌+◌, ◌&&◌, ◌||◌, Bool, true, false, cond, eqb, ltb, leb, refl, sym, eqb-true, eq-eqb, arith}
 use Rattle.std.proofs.lemmas.Bool.{false≢true}
-use Rattle.std.proofs.lemmas.Bool.Decides.{nat_tests}
+use Rattle.std.proofs.lemmas.Bool.Decides.{nat_tests, eqb_tells}
 use Rattle.machine.specs.Words.{Tagged, same_mark, same}
 
 -- a choice has what both of its values have
 pub cases : {A : Type 0} (P : A → Type 0) (b : Bool) (x y : A) → (b ≡ true → P x) → (b ≡ false → P y) → P (cond b x y)
 cases P true x y f g = f refl
 cases P false x y f g = g refl
+
+pub either_way : {C : Type 0} (b : Bool) → (b ≡ true → C) → (b ≡ false → C) → C
+either_way true f g = f refl
+either_way false f g = g refl
+
+-- a test that cannot fail holds, and one that cannot hold fails
+pub is_true : (b : Bool) → (b ≡ false → ⊥) → b ≡ true
+is_true true h = refl
+is_true false h = absurd (h refl)
+
+pub is_false : (b : Bool) → (b ≡ true → ⊥) → b ≡ false
+is_false true h = absurd (h refl)
+is_false false h = refl
+
+pub leb_yes : (a b : ℕ) → a ≤ b → leb a b ≡ true
+leb_yes a b h = is_true (leb a b) (λ e. grind (arith, nat_tests))
+
+pub leb_not : (a b : ℕ) → b < a → leb a b ≡ false
+leb_not a b h = is_false (leb a b) (λ e. grind (arith, nat_tests))
+
+pub same_or_not : (a b : ℕ) → (a ≡ b) ⊎ (a ≢ b)
+same_or_not a b = ⊎_elim (λ t. inl t.1) (λ t. inr t.1) (eqb_tells a b)
 
 pub both : (a b : Bool) → (a && b) ≡ true → (a ≡ true) × (b ≡ true)
 both true b h = (refl, h)
@@ -42,6 +64,9 @@ same-is a b h =
 -- and one word is the same as itself
 pub same-self : (a : Tagged) → same a a ≡ true
 same-self a = rw (eq-eqb a.index a.index refl, same_mark-self a.mark, same_mark-self a.second, eq-eqb a.tag a.tag refl) refl
+
+pub not_same : (a b : Tagged) → a ≢ b → same a b ≡ false
+not_same a b ne = is_false (same a b) (λ e. ne (same-is a b e))
 
 pub at_most_one : (i n : ℕ) → cond (ltb i n) 1 0 ≤ 1
 at_most_one i n = grind arith

@@ -18,7 +18,7 @@ use Rattle.machine.specs.Chains.{HasValues}
 use Rattle.machine.specs.Seats.{Rooted, Knows}
 use Rattle.machine.proofs.Tests.{cases}
 use Rattle.machine.proofs.Lists.{times_here, not_there}
-use Rattle.machine.proofs.Chains.{values_frame}
+use Rattle.machine.proofs.Chains.{values_frame, times_rest}
 use Rattle.machine.proofs.SeatedEnds.{leaves}
 use Rattle.queue_machine.specs.declared.lines.Line.{Line}
 use Rattle.queue_machine.specs.Answers.{shape}
@@ -44,10 +44,6 @@ no_slot_past (x ∷ xs) (suc i) h = no_slot_past xs i (omega arith)
 behind_first : (next : ℕ → ℕ) (x : ℕ) (chain : List ℕ) → 0 < times x chain → Leads next x chain NULL → Leads next (next x) (without_first chain) NULL
 behind_first next x [] there stands = absurd (omega arith)
 behind_first next x (d ∷ js) there stands = subst (λ (y : ℕ). Leads next (next y) js NULL) (sym stands.0) stands.1
-
-among_all : (j : ℕ) (chain : List ℕ) → times j (without_first chain) ≤ times j chain
-among_all j [] = omega arith
-among_all j (d ∷ js) = omega arith
 
 module _ {T : Type 0} where
   count_taken : (slots : List (Slot T)) (i : ℕ) (v : T) → get_elem? slots i ≡ some (Some v) → count_full slots ≡ suc (count_full (set slots i None))
@@ -155,7 +151,7 @@ module _ {T : Type 0} where
       let cells : queued ≡ map (cell_of words) (without_first chain) = subst (λ (ws : List ℕ). queued ≡ map (cell_of ws) (without_first chain)) final.2 linked.chained.stored in
       let stored : HasValues (λ i. get_elem? slots i) (map (cell_of words) (without_first chain)) values = subst (λ (is : List ℕ). HasValues (λ i. get_elem? slots i) is values) cells (values_home s.homes slots final.4 queued values k.good.filled.stored) in
       let are = values_along words (without_first chain) values slots (node_behind words (index_of (slice_index words head_at))) (omega (arith, long, linked.small))
-      (λ j there. let low = node_below j linked (omega (arith, there, among_all j chain)) in omega (arith, long, low))
+      (λ j there. let low = node_below j linked (omega (arith, there, times_rest j chain)) in omega (arith, long, low))
       (λ i. subst (λ (is : List ℕ). times i is ≤ 1) cells (at_most_once i n _ _ _ (linked.cells_once i)))
       stands stored in
       (front, subst (λ (vs : List T). Leaves (shape n limit) r vs) (sym are) (leaves (shape n limit) rule.history r [] k.good.told.legal rooted sound))

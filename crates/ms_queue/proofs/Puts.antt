@@ -1,6 +1,5 @@
 -- What a put gives, and where its steps lead.
-use Rattle.std.proofs.Common.{◌≡◌, ◌≢◌, ℕ, ◌+◌, ◌<◌, ◌≤◌, ⊎_elim, Bool, true, false, leb, List, [], ◌∷◌, refl, sym, ap, ◌∙◌, subst, eq-eqb, ne_eqb, arith}
-use Rattle.std.proofs.lemmas.Bool.Decides.{nat_tests}
+use Rattle.std.proofs.Common.{◌≡◌, ◌≢◌, ℕ, ◌+◌, ◌<◌, ◌≤◌, ⊎_elim, List, [], ◌∷◌, refl, sym, ap, ◌∙◌, subst, eq-eqb, ne_eqb, arith}
 use Rattle.std.specs.Prelude.{Option as Slot, Some, Result, Ok, Err}
 use Rattle.tagged_index.specs.Fields.{fields_of, index_of, tag_of}
 use Rattle.tagged_index.specs.declared.word.TheConstants.{NULL}
@@ -14,6 +13,7 @@ use Rattle.bounded_model.specs.Histories.{own}
 use Rattle.bounded_model.specs.Laws.{Adds, PutGives, BacksOut}
 use Rattle.machine.specs.Seats.{pass_of}
 use Rattle.machine.specs.declared.seats.View.{View}
+use Rattle.machine.proofs.Tests.{leb_yes, leb_not}
 use Rattle.queue_machine.specs.declared.lines.Answer.TheVariants.{Put as AnswerPut}
 use Rattle.queue_machine.specs.declared.lines.Linking.{Linking}
 use Rattle.queue_machine.specs.declared.lines.Placing.{Placing}
@@ -71,20 +71,6 @@ module _ {T : Type 0} (c : Queue T) (o : Operation T) (v : View T (Line T)) (beg
 -- an operation that is a put of x gives what a put of x promises
 pub put_gives : {T : Type 0} (c : Queue T) (x : T) (o : Operation T) {v : View T (Line T)} {begun : PassView T} → call_of o ≡ CallPut x → (r : Result ℕ (PutRefused T)) → Ended (machine_of c) o v begun (ends (AnswerPut r)) → PutGives (shape_of c) begun x (pass_of v) r
 put_gives c x o {v} {begun} is r e = gives_so c o v begun x r e (subst (λ (k : Call _). Deeds (pass_of v).number k (ends (AnswerPut r)) begun.seen (pass_of v).seen) is e.deeds)
-
-is_true : (b : Bool) → (b ≡ false → ⊥) → b ≡ true
-is_true true h = refl
-is_true false h = absurd (h refl)
-
-is_false : (b : Bool) → (b ≡ true → ⊥) → b ≡ false
-is_false false h = refl
-is_false true h = absurd (h refl)
-
-leb_yes : (a b : ℕ) → a ≤ b → leb a b ≡ true
-leb_yes a b h = is_true (leb a b) (λ e. grind (arith, nat_tests))
-
-leb_not : (a b : ℕ) → b < a → leb a b ≡ false
-leb_not a b h = is_false (leb a b) (λ e. grind (arith, nat_tests))
 
 -- where the load of `CELLS` leads
 module _ {T : Type 0} (limit w : ℕ) (y : T) where

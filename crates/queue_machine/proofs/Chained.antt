@@ -5,6 +5,7 @@ use Rattle.std.proofs.lemmas.List.{length-append, map-append}
 use Rattle.tagged_index.specs.declared.word.TheConstants.{NULL}
 use Rattle.bounded_model.specs.Machine.{without_first}
 use Rattle.machine.specs.Words.{Tagged, raised, marked, with_second, store, times, Leads, Stands}
+use Rattle.machine.proofs.Chains.{times_rest}
 use Rattle.machine.proofs.Lists.{times_here, times_append, not_there, store_else, leads_frame, leads_append}
 use Rattle.queue_machine.specs.Machine.{store_word}
 use Rattle.queue_machine.specs.Rule.{Lists, IsChained}
@@ -13,10 +14,6 @@ use Rattle.queue_machine.proofs.Chain.{word_here, word_else, word_each, leads_cu
 map_frame : (f f' : ℕ → ℕ) (is : List ℕ) → ((j : ℕ) → 0 < times j is → f' j ≡ f j) → map f' is ≡ map f is
 map_frame f f' [] h = refl
 map_frame f f' (i ∷ is) h = let here = h i (omega (arith, times_here i is)) in let rest = map_frame f f' is (λ j there. h j (omega arith)) in rw (here, rest) refl
-
-times_rest : (i : ℕ) (is : List ℕ) → times i (without_first is) ≤ times i is
-times_rest i [] = omega arith
-times_rest i (j ∷ js) = omega arith
 
 -- a list that is not empty keeps its first where something is put behind it
 rest_append : (is js : List ℕ) → 0 < length is → without_first (is ++ js) ≡ without_first is ++ js

@@ -25,10 +25,6 @@ word_apart next i x held mine j out = word_else next i x j (λ q. absurd (let a 
 node_apart : (next : ℕ → Tagged) (i : ℕ) (x : Tagged) → (next i).index ≡ NULL → (j : ℕ) → (next j).index ≢ NULL → store_word next i x j ≡ next j
 node_apart next i x null j node = word_else next i x j (λ q. node (ap (λ (k : ℕ). (next k).index) q ∙ null))
 
--- and those of nodes outside the chain
-chain_apart : (next : ℕ → Tagged) (i : ℕ) (x : Tagged) (chain : List ℕ) → 0 < times i chain → (j : ℕ) → times j chain ≡ 0 → store_word next i x j ≡ next j
-chain_apart next i x chain there j out = word_apart next i x chain there j out
-
 tag_of : (a b : Tagged) → a ≡ b → a.tag ≡ b.tag
 tag_of a b e = ap (λ (x : Tagged). x.tag) e
 
@@ -169,7 +165,7 @@ module _ {T : Type 0} {n limit : ℕ} {m : Memory T} {g : Lists} {lines : List (
         tails = past_refl m.tail;
         words = word_each (λ i u. Was u (m.next i)) m.next w.index y (was_higher y (m.next w.index) (omega (arith, tag_of (m.next w.index) x won))) (λ i ne. was_refl (m.next i));
         links = λ i h node. node_apart m.next w.index y null i node;
-        others = λ i h out. chain_apart m.next w.index y g.chain there i out;
+        others = λ i h out. word_apart m.next w.index y g.chain there i out;
         cells = λ i h. refl;
         still = λ h. refl;
       }

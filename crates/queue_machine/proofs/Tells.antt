@@ -17,7 +17,7 @@ use Rattle.bounded_model.proofs.Histories.{Later-refl, Later-cons, Later-trans, 
 use Rattle.bounded_model.proofs.Adding.{Sometime-now, Sometime-wider}
 use Rattle.bounded_model.proofs.Staying.{open_before, unshut_before, closed_stays}
 use Rattle.machine.specs.Words.{Tagged}
-use Rattle.machine.proofs.Tests.{cases}
+use Rattle.machine.proofs.Tests.{cases, is_false}
 use Rattle.machine.proofs.Program.{Cases, by_cases, Apart, adds_own}
 use Rattle.queue_machine.specs.declared.lines.Placing.{Placing}
 use Rattle.queue_machine.specs.declared.lines.Linking.{Linking}
@@ -30,7 +30,6 @@ use Rattle.queue_machine.specs.declared.lines.Line.TheVariants.{Idle, LoadCells,
 use Rattle.queue_machine.specs.Machine.{Memory, memories, Outcome, table, wins_value, step, ends, gives, frees, back_closed, back_null, found_cells, found_nodes, found_next, found_back, found_front}
 use Rattle.queue_machine.specs.Answers.{shape, state, IsRight}
 use Rattle.queue_machine.specs.Rule.{Lists, IsFine, SeeksFor, EndTells, FrontTells, Tells, Good}
-use Rattle.queue_machine.proofs.Told.{not_true}
 use Rattle.queue_machine.proofs.Answers.{takes_grow, puts_stay, full_now, cells_spent_now, next_spent_now, node_there, node_below, shut_now, unshut_now, closed_tail, end_tells, front_tells}
 
 module _ {T : Type 0} where
@@ -93,7 +92,7 @@ module _ {T : Type 0} where
 
     -- the end of the chain was null while the tail was what it is now, so the history was open then
     open_then : (w y : Tagged) → m.tail ≡ w → EndTells n limit seen w y → y.mark ≡ false → y.index ≡ NULL → IsOpen (shape n limit) seen
-    open_then w y won t b null = not_true (state n limit seen).closed (λ h. false≢true (sym b ∙ t.null h (
+    open_then w y won t b null = is_false (state n limit seen).closed (λ h. false≢true (sym b ∙ t.null h (
         ap (λ (u : Tagged). u.tag) (sym won) ∙ closed_tail x (closed_stays (shape n limit) now h) ∙ puts_stay (shape n limit) now x.told.legal h) null))
 
     end_tells_kept : (s : Seeking T) (w y : Tagged) → m.tail ≡ w → SeeksFor n limit begun seen s → EndTells n limit seen w y → y.mark ≡ false → y.index ≡ NULL → Tells n limit begun history (back_null s w y)

@@ -1,8 +1,8 @@
 -- Each kind of step of the queue keeps the history legal, and what the words say of it.
-use Rattle.std.proofs.Common.{◌≡◌, ◌≢◌, ℕ, suc, ◌+◌, ◌-◌, ◌<◌, ◌≤◌, Bool, true, false, List, [], ◌∷◌, length, set, refl, sym, ap, ◌∙◌, subst, ⊎_elim, arith}
+use Rattle.std.proofs.Common.{◌≡◌, ℕ, suc, ◌+◌, ◌-◌, ◌<◌, ◌≤◌, true, false, List, [], ◌∷◌, length, set, refl, sym, ap, ◌∙◌, ⊎_elim, arith}
 use Rattle.std.proofs.lemmas.Bool.{false≢true}
 use Rattle.std.proofs.lemmas.List.{length-append, length-map}
-use mathlib.Core.Option.{Option, some, some-injective}
+use mathlib.Core.Option.{Option, some}
 use lib.ListN.{get_elem?}
 use Rattle.tagged_index.specs.declared.word.TheConstants.{NULL}
 use Rattle.bounded_model.specs.declared.history.Event.{Event}
@@ -10,17 +10,14 @@ use Rattle.bounded_model.specs.declared.history.Event.TheVariants.{Hold, Put, Ta
 use Rattle.bounded_model.specs.Machine.{with_hand, without_first}
 use Rattle.bounded_model.proofs.Hands.{with_hand-same, with_hand-other}
 use Rattle.machine.specs.Words.{Tagged, raised, marked}
+use Rattle.machine.proofs.Hands.{hands_set}
+use Rattle.machine.proofs.Tests.{is_false}
 use Rattle.machine.proofs.Sums.{total_set, total_one, at_set}
 use Rattle.queue_machine.specs.declared.lines.Line.{Line}
 use Rattle.queue_machine.specs.Machine.{Memory, held_cells, store_word, after_hold, after_free, after_link_of, after_close, after_take, after_shut}
 use Rattle.queue_machine.specs.Answers.{state}
 use Rattle.queue_machine.specs.Rule.{Lists, IsChained, bare, putting, Told}
 use Rattle.queue_machine.proofs.Chain.{word_here, word_each, chain_length}
-
--- a test that cannot hold fails
-pub not_true : (b : Bool) → (b ≡ true → ⊥) → b ≡ false
-not_true true h = absurd (h refl)
-not_true false h = refl
 
 length_rest : {A : Type 0} (is : List A) → 0 < length is → length (without_first is) + 1 ≡ length is
 length_rest [] h = absurd (omega arith)
@@ -39,17 +36,6 @@ module _ {T : Type 0} where
   -- how many cells a line holds
   abbrev size : Line T → ℕ
   size l = length (held_cells l)
-
-  -- one pass's hand changes with its line
-  hands_set : (who : ℕ → Option ℕ) (lines : List (Line T)) (hand hand' : ℕ → ℕ) (q p : ℕ) (l' : Line T) → ((q r p : ℕ) → who q ≡ some p → who r ≡ some p → q ≡ r) → who q ≡ some p
-      → ((q p : ℕ) (l : Line T) → get_elem? lines q ≡ some l → who q ≡ some p → hand p ≡ length (held_cells l))
-      → hand' p ≡ length (held_cells l') → ((x : ℕ) → x ≢ p → hand' x ≡ hand x) → (r x : ℕ) (u : Line T) → get_elem? (set lines q l') r ≡ some u → who r ≡ some x → hand' x ≡ length (held_cells u)
-  hands_set who lines hand hand' q p l' alone is h here else r x u at of = ⊎_elim
-      (λ t.
-      let same : p ≡ x = some-injective p x (sym is ∙ ap who (sym t.0) ∙ of) in
-      subst (λ (y : ℕ). hand' y ≡ length (held_cells u)) same (here ∙ ap (λ (y : Line T). length (held_cells y)) t.1))
-      (λ t. let ne = t.0 in else x (λ e. ne (alone r q p (of ∙ ap some e) is)) ∙ h r x u t.1 of)
-      (at_set lines q r l' u at)
 
   module _ {n limit : ℕ} {m : Memory T} {g : Lists} {who : ℕ → Option ℕ} {lines : List (Line T)} {history : List (Event T)} (q : ℕ) (l l' : Line T) (e : get_elem? lines q ≡ some l) (t : Told T n limit m g who lines history) where
     -- No event: the pass holds as many cells as before. Where a free node comes or goes, the pass has
@@ -87,7 +73,7 @@ module _ {T : Type 0} where
             spare = omega (arith, t.spare, total_set bare lines q l l' e);
             out = omega (arith, t.out, total_set size lines q l l' e);
             listed = t.listed;
-            hands = hands_set who lines hand (with_hand hand p (hand p + 1)) q p l' t.alone of t.hands (omega (arith, with_hand-same hand p (hand p + 1), t.hands q p l e of)) (λ x ne. with_hand-other hand p (hand p + 1) x ne);
+            hands = hands_set size who lines hand (with_hand hand p (hand p + 1)) q p l' t.alone of t.hands (omega (arith, with_hand-same hand p (hand p + 1), t.hands q p l e of)) (λ x ne. with_hand-other hand p (hand p + 1) x ne);
             alone = t.alone;
             closed_marked = t.closed_marked;
             marked_closed = t.marked_closed;
@@ -110,7 +96,7 @@ module _ {T : Type 0} where
             spare = omega (arith, t.spare, total_set bare lines q l l' e);
             out = omega (arith, t.out, total_set size lines q l l' e);
             listed = t.listed;
-            hands = hands_set who lines hand (with_hand hand p (hand p - 1)) q p l' t.alone of t.hands (omega (arith, with_hand-same hand p (hand p - 1), t.hands q p l e of)) (λ x ne. with_hand-other hand p (hand p - 1) x ne);
+            hands = hands_set size who lines hand (with_hand hand p (hand p - 1)) q p l' t.alone of t.hands (omega (arith, with_hand-same hand p (hand p - 1), t.hands q p l e of)) (λ x ne. with_hand-other hand p (hand p - 1) x ne);
             alone = t.alone;
             closed_marked = t.closed_marked;
             marked_closed = t.marked_closed;
@@ -123,7 +109,7 @@ module _ {T : Type 0} where
 
       -- while the last link is not marked the history is open
       pub open_now : (i : ℕ) (x : Tagged) → i ≡ m.tail.index → m.next i ≡ x → x.mark ≡ false → (state n limit history).closed ≡ false
-      open_now i x at is unmarked = not_true (state n limit history).closed (λ h. false≢true (sym unmarked ∙ ap (λ (y : Tagged). y.mark) (sym is) ∙ ap (λ (j : ℕ). (m.next j).mark) at ∙ t.closed_marked h))
+      open_now i x at is unmarked = is_false (state n limit history).closed (λ h. false≢true (sym unmarked ∙ ap (λ (y : Tagged). y.mark) (sym is) ∙ ap (λ (j : ℕ). (m.next j).mark) at ∙ t.closed_marked h))
 
       pub link_told : (w x : Tagged) (j c : ℕ) (v : T) (g' : Lists) → w.index ≡ m.tail.index → m.next w.index ≡ x → x.mark ≡ false → w.tag ≡ (state n limit history).puts
           → g'.cells ≡ g.cells → g'.nodes ≡ g.nodes → length g'.queued ≡ length g.queued + 1 → length (held_cells l) ≡ 1 → length (held_cells l') ≡ 0 → bare l' ≡ bare l → putting l ≡ 1 → putting l' ≡ 0
@@ -138,7 +124,7 @@ module _ {T : Type 0} where
             spare = omega (arith, t.spare, ap length cells, ap length nodes, total_set bare lines q l l' e);
             out = omega (arith, t.out, total_set size lines q l l' e);
             listed = omega (arith, t.listed, queued, length-append s.values (v ∷ []));
-            hands = hands_set who lines s.hand (with_hand s.hand p (s.hand p - 1)) q p l' t.alone of t.hands (omega (arith, with_hand-same s.hand p (s.hand p - 1), t.hands q p l e of)) (λ x ne. with_hand-other s.hand p (s.hand p - 1) x ne);
+            hands = hands_set size who lines s.hand (with_hand s.hand p (s.hand p - 1)) q p l' t.alone of t.hands (omega (arith, with_hand-same s.hand p (s.hand p - 1), t.hands q p l e of)) (λ x ne. with_hand-other s.hand p (s.hand p - 1) x ne);
             alone = t.alone;
             closed_marked = λ h. absurd (false≢true (sym is_open ∙ h));
             marked_closed = word_each (λ i y. y.mark ≡ true → s.closed ≡ true) m.next w.index (raised x j) (λ h. absurd (false≢true (sym unmarked ∙ h))) (λ i ne. t.marked_closed i);
@@ -160,7 +146,7 @@ module _ {T : Type 0} where
             spare = omega (arith, t.spare, total_set bare lines q l l' e);
             out = omega (arith, t.out, total_set size lines q l l' e);
             listed = t.listed;
-            hands = hands_set who lines s.hand s.hand q p l' t.alone of t.hands (t.hands q p l e of ∙ sym same) (λ x ne. refl);
+            hands = hands_set size who lines s.hand s.hand q p l' t.alone of t.hands (t.hands q p l e of ∙ sym same) (λ x ne. refl);
             alone = t.alone;
             closed_marked = λ h. ap (λ (u : Tagged). u.mark) (ap (store_word m.next w.index y) (sym at) ∙ word_here m.next w.index y);
             marked_closed = λ j h. refl;
@@ -186,7 +172,7 @@ module _ {T : Type 0} where
             spare = omega (arith, t.spare, ap length cells, ap length nodes, total_set bare lines q l l' e);
             out = omega (arith, t.out, total_set size lines q l l' e);
             listed = omega (arith, t.listed, queued);
-            hands = hands_set who lines s.hand (with_hand s.hand p (s.hand p + 1)) q p l' t.alone of t.hands (omega (arith, with_hand-same s.hand p (s.hand p + 1), t.hands q p l e of)) (λ x ne. with_hand-other s.hand p (s.hand p + 1) x ne);
+            hands = hands_set size who lines s.hand (with_hand s.hand p (s.hand p + 1)) q p l' t.alone of t.hands (omega (arith, with_hand-same s.hand p (s.hand p + 1), t.hands q p l e of)) (λ x ne. with_hand-other s.hand p (s.hand p + 1) x ne);
             alone = t.alone;
             closed_marked = t.closed_marked;
             marked_closed = t.marked_closed;
@@ -209,7 +195,7 @@ module _ {T : Type 0} where
             spare = omega (arith, t.spare, total_set bare lines q l l' e);
             out = omega (arith, t.out, total_set size lines q l l' e);
             listed = t.listed;
-            hands = hands_set who lines s.hand s.hand q p l' t.alone of t.hands (t.hands q p l e of ∙ sym same) (λ x ne. refl);
+            hands = hands_set size who lines s.hand s.hand q p l' t.alone of t.hands (t.hands q p l e of ∙ sym same) (λ x ne. refl);
             alone = t.alone;
             closed_marked = t.closed_marked;
             marked_closed = t.marked_closed;

@@ -8,6 +8,7 @@ use Rattle.index_list.specs.Kinds.{taken, arranged}
 use Rattle.index_list.specs.Results.{Missed as Lost, ChangedBy}
 use Rattle.index_list.specs.declared.change.Change.{Change}
 use Rattle.machine.specs.declared.seats.View.{View}
+use Rattle.machine.proofs.Tests.{either_way}
 use Rattle.running.specs.Machine.{Names, Machine, brings, returns}
 use Rattle.running.specs.Rule.{Rule}
 use Rattle.running.specs.Going.{Found, Missed, Brings, now_in}
@@ -17,10 +18,6 @@ use Rattle.running.proofs.Going.{steps_so, now_going}
 pub no_more : {A : Type 0} (xs : List A) → xs ≡ xs ++ []
 no_more [] = refl
 no_more (x ∷ xs) = ap (λ ys. x ∷ ys) (no_more xs)
-
-pub by_cases : {C : Type 0} (b : Bool) → (b ≡ true → C) → (b ≡ false → C) → C
-by_cases true a b = a refl
-by_cases false a b = b refl
 
 pub no_indexes : (b : Bool) → ◌≡◌ {A = List ℕ} (cond b [] []) []
 no_indexes true = refl
@@ -78,7 +75,7 @@ module _ {T L O : Type 0} {names : Names L O} (m : Machine T L O names) (y : Lis
   -- a take of no slots, or a mark, won or lost
   module _ (won : Bool) (wins : won ≡ true → ChangedBy y.layout (host m y) (Rule m) o id l false w c me me') (none : (xs : List ℕ) → cond (y.layout.carries l) (arranged c (taken (fields_of w) c xs)) [] ≡ []) where
     pub bare_seat : (won ≡ false → Lost y.layout (host m y) (Rule m) o id l w c me me') → me'.1 ≡ me.1
-    bare_seat loses = by_cases won (λ h. let x = wins h in no_change x.slots me.1 me'.1 (x.moves.2 ∙ none x.list) x.moves.0) (λ h. (loses h).unmoved)
+    bare_seat loses = either_way won (λ h. let x = wins h in no_change x.slots me.1 me'.1 (x.moves.2 ∙ none x.list) x.moves.0) (λ h. (loses h).unmoved)
 
     pub bare_won : won ≡ true → Found m o me.0 me'.0 w []
     bare_won h = let x = wins h in unmoved false x (x.moves.2 ∙ none x.list)

@@ -4,8 +4,8 @@ use Rattle.std.specs.Prelude.{Option as Slot}
 use Rattle.atomic_table.specs.Seated.{TableId}
 use Rattle.tagged_index.specs.Fields.{fields_of}
 use Rattle.tagged_index.proofs.Words.{same_fields}
-use Rattle.machine.specs.Words.{Tagged, same}
-use Rattle.machine.proofs.Tests.{same-is, same-self}
+use Rattle.machine.specs.Words.{same}
+use Rattle.machine.proofs.Tests.{not_same, same-self}
 use Rattle.running.specs.Machine.{Names, Machine}
 use Rattle.running.specs.Going.{Ended, Found, Steps}
 use Rattle.running.specs.Passes.{IsPassOn, IsAtOn, OneLine, WentOn, begun_of, pass_in}
@@ -44,13 +44,6 @@ module _ {T L O : Type 0} {names : Names L O} (m : Machine T L O names) where
 
   pub begun_is : (id : TableId) (p : Pass T L) → IsPassOn m id p → begun_of m p ≡ pass_in p
   begun_is id p is = begun_at_rest m p.seat.me.0 is.rests.view
-
-not_same : (a b : Tagged) → a ≢ b → same a b ≡ false
-not_same a b ne = told (same a b) refl
-  where
-    told : (x : Bool) → same a b ≡ x → x ≡ false
-    told true e = absurd (ne (same-is a b e))
-    told false e = refl
 
 -- an exchange found the word that it expected, or another
 pub hits : {L : Type 0} (w : ℕ) (won lost : L) → cond (same (fields_of w) (fields_of w)) won lost ≡ won

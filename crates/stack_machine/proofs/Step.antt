@@ -28,17 +28,13 @@ use Rattle.stack_machine.specs.Answers.{shape}
 use Rattle.stack_machine.specs.Rule.{Lists, Collects, Adds, Puts, Gives, Walks, Turns, IsFine, putting, Good, Kept}
 use Rattle.machine.proofs.Tests.{cases}
 use Rattle.machine.proofs.Program.{Cases, by_cases}
-use Rattle.machine.proofs.Lists.{times_here, times_append, not_there, store_here, store_else, leads_frame, leads_from}
+use Rattle.machine.proofs.Lists.{times_here, times_append, not_there, store_here, store_else, leads_frame, leads_from, none_of}
 use Rattle.machine.proofs.OneList.{read_top, front_of}
 use Rattle.machine.proofs.Chains.{times_reverse, leads_chain, chain_store_first, chain_store_last, first_in, last_in}
 use Rattle.stack_machine.proofs.Linked.{held_once, turning_in}
 use Rattle.stack_machine.proofs.Moves.{good_goes, good_store, good_hold, good_give, good_put, good_take, good_take_all, good_close, good_shut, no_null, all_nodes, all_values}
 
 -- chains
-
-no_nodes : (is : List ℕ) → length is ≡ 0 → is ≡ []
-no_nodes [] h = refl
-no_nodes (j ∷ js) h = absurd (omega arith)
 
 one_chain : (link : ℕ → ℕ) (i : ℕ) (is : List ℕ) → length is ≡ 0 → IsChain link (i ∷ is)
 one_chain link i [] h = tt
@@ -127,7 +123,7 @@ module _ {T : Type 0} (n limit : ℕ) (m : Memory T) (who : ℕ → Option ℕ) 
     no_node_left put refused e none_held none_put fine =
         let f : Collects m.link put = x.good.linked.fine q (LoadFree put) e in
         cases (λ l. After q (goes_on m l)) (eqb (length put.chain) 0) refused (LoadTop put)
-        (λ h. to refused e (none_held ∙ sym (no_nodes put.chain (eqb-true (length put.chain) 0 h))) (omega (arith, ap length none_put)) (fine x.lists))
+        (λ h. to refused e (none_held ∙ sym (none_of put.chain (eqb-true (length put.chain) 0 h))) (omega (arith, ap length none_put)) (fine x.lists))
         (λ h. to (LoadTop put) e refl (omega arith) (record { chained = f.chained; some_node = grind (arith, nat_tests); few = omega (arith, f.wants) }))
 
     load_free : (put : Putting T) → get_elem? lines q ≡ some (LoadFree put) → After q (goes_on m (at_load_free limit put m.free))

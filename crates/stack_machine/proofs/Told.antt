@@ -1,23 +1,19 @@
 -- Each kind of step of the stack keeps what is told of its history.
-use Rattle.std.proofs.Common.{◌≡◌, ◌≢◌, ℕ, suc, ◌+◌, ◌-◌, ◌<◌, ◌≤◌, false, List, [], ◌∷◌, ◌++◌, length, reverse, set, refl, sym, ap, ◌∙◌, subst, ⊎_elim, eq-eqb, ne_eqb, arith}
+use Rattle.std.proofs.Common.{◌≡◌, ℕ, suc, ◌+◌, ◌-◌, ◌<◌, ◌≤◌, false, List, [], ◌∷◌, ◌++◌, length, reverse, set, refl, sym, ap, ◌∙◌, ⊎_elim, arith}
 use Rattle.std.proofs.lemmas.List.{length-append, length-reverse}
-use mathlib.Core.Option.{Option, some, some-injective}
+use mathlib.Core.Option.{Option, some}
 use lib.ListN.{get_elem?}
 use Rattle.bounded_model.specs.declared.history.Event.{Event}
 use Rattle.bounded_model.specs.declared.history.Event.TheVariants.{Hold, Put, Take, TakeAll, Free, Close, Shut}
 use Rattle.bounded_model.specs.Machine.{with_hand, without_first}
+use Rattle.bounded_model.proofs.Hands.{with_hand-same, with_hand-other}
 use Rattle.machine.specs.Words.{Tagged, raised, kept, marked, with_second}
 use Rattle.stack_machine.specs.declared.lines.Line.{Line}
 use Rattle.stack_machine.specs.Machine.{held}
 use Rattle.stack_machine.specs.Answers.{state}
 use Rattle.stack_machine.specs.Rule.{Lists, putting, Told}
+use Rattle.machine.proofs.Hands.{hands_set}
 use Rattle.machine.proofs.Sums.{total_set, total_one, at_set}
-
-hand_here : (hand : ℕ → ℕ) (p k : ℕ) → with_hand hand p k p ≡ k
-hand_here hand p k = rw (eq-eqb p p refl) refl
-
-hand_else : (hand : ℕ → ℕ) (p k q : ℕ) → q ≢ p → with_hand hand p k q ≡ hand q
-hand_else hand p k q ne = rw (ne_eqb q p ne) refl
 
 module _ {T : Type 0} where
   -- how many nodes a line holds, and how many of them for a put
@@ -26,17 +22,6 @@ module _ {T : Type 0} where
 
   abbrev spent : Line T → ℕ
   spent l = length (putting l)
-
-  -- one pass's hand changes with its line
-  hands_set : (who : ℕ → Option ℕ) (lines : List (Line T)) (hand hand' : ℕ → ℕ) (q p : ℕ) (l' : Line T) → ((q r p : ℕ) → who q ≡ some p → who r ≡ some p → q ≡ r) → who q ≡ some p
-      → ((q p : ℕ) (l : Line T) → get_elem? lines q ≡ some l → who q ≡ some p → hand p ≡ length (held l))
-      → hand' p ≡ length (held l') → ((x : ℕ) → x ≢ p → hand' x ≡ hand x) → (r x : ℕ) (u : Line T) → get_elem? (set lines q l') r ≡ some u → who r ≡ some x → hand' x ≡ length (held u)
-  hands_set who lines hand hand' q p l' alone is h here else r x u at of = ⊎_elim
-      (λ t.
-      let same : p ≡ x = some-injective p x (sym is ∙ ap who (sym t.0) ∙ of) in
-      subst (λ (y : ℕ). hand' y ≡ length (held u)) same (here ∙ ap (λ (y : Line T). length (held y)) t.1))
-      (λ t. let ne = t.0 in else x (λ e. ne (alone r q p (of ∙ ap some e) is)) ∙ h r x u t.1 of)
-      (at_set lines q r l' u at)
 
   length_rest : (values : List T) (v : T) (left : List T) → values ≡ v ∷ left → length (without_first values) ≡ length left
   length_rest values v left e = ap (λ (vs : List T). length (without_first vs)) e
@@ -73,7 +58,7 @@ module _ {T : Type 0} where
           room = omega (arith, t.room);
           out = omega (arith, t.out, total_set size lines q l l' e);
           listed = t.listed;
-          hands = hands_set who lines hand (with_hand hand p (hand p + 1)) q p l' t.alone of t.hands (omega (arith, hand_here hand p (hand p + 1), t.hands q p l e of)) (hand_else hand p (hand p + 1));
+          hands = hands_set size who lines hand (with_hand hand p (hand p + 1)) q p l' t.alone of t.hands (omega (arith, with_hand-same hand p (hand p + 1), t.hands q p l e of)) (with_hand-other hand p (hand p + 1));
           alone = t.alone;
           closed = t.closed;
           shut = t.shut;
@@ -97,7 +82,7 @@ module _ {T : Type 0} where
           room = omega (arith, t.room, t.out, length-append chain g.frees);
           out = omega (arith, t.out, total_set size lines q l l' e);
           listed = t.listed;
-          hands = hands_set who lines hand (with_hand hand p (hand p - k)) q p l' t.alone of t.hands (omega (arith, hand_here hand p (hand p - k), t.hands q p l e of)) (hand_else hand p (hand p - k));
+          hands = hands_set size who lines hand (with_hand hand p (hand p - k)) q p l' t.alone of t.hands (omega (arith, with_hand-same hand p (hand p - k), t.hands q p l e of)) (with_hand-other hand p (hand p - k));
           alone = t.alone;
           closed = t.closed;
           shut = t.shut;
@@ -123,7 +108,7 @@ module _ {T : Type 0} where
           room = omega (arith, t.room, t.out, length-append chain g.stack);
           out = omega (arith, t.out, total_set size lines q l l' e);
           listed = omega (arith, t.listed, length-append chain g.stack, length-append (reverse vs) s.values, length-reverse vs);
-          hands = hands_set who lines s.hand (with_hand s.hand p left) q p l' t.alone of t.hands (omega (arith, hand_here s.hand p left, t.hands q p l e of)) (hand_else s.hand p left);
+          hands = hands_set size who lines s.hand (with_hand s.hand p left) q p l' t.alone of t.hands (omega (arith, with_hand-same s.hand p left, t.hands q p l e of)) (with_hand-other s.hand p left);
           alone = t.alone;
           closed = mark ∙ t.closed;
           shut = second ∙ t.shut;
@@ -148,7 +133,7 @@ module _ {T : Type 0} where
           room = omega (arith, t.room, t.out);
           out = omega (arith, t.out, total_set size lines q l l' e);
           listed = omega (arith, t.listed, ap length first, length_rest s.values v left first);
-          hands = hands_set who lines s.hand (with_hand s.hand p (s.hand p + 1)) q p l' t.alone of t.hands (omega (arith, hand_here s.hand p (s.hand p + 1), t.hands q p l e of)) (hand_else s.hand p (s.hand p + 1));
+          hands = hands_set size who lines s.hand (with_hand s.hand p (s.hand p + 1)) q p l' t.alone of t.hands (omega (arith, with_hand-same s.hand p (s.hand p + 1), t.hands q p l e of)) (with_hand-other s.hand p (s.hand p + 1));
           alone = t.alone;
           closed = mark ∙ t.closed;
           shut = second ∙ t.shut;
@@ -173,7 +158,7 @@ module _ {T : Type 0} where
           room = omega (arith, t.room, t.out, t.listed);
           out = omega (arith, t.out, t.listed, total_set size lines q l l' e);
           listed = refl;
-          hands = hands_set who lines s.hand (with_hand s.hand p more) q p l' t.alone of t.hands (omega (arith, hand_here s.hand p more, t.hands q p l e of, t.listed)) (hand_else s.hand p more);
+          hands = hands_set size who lines s.hand (with_hand s.hand p more) q p l' t.alone of t.hands (omega (arith, with_hand-same s.hand p more, t.hands q p l e of, t.listed)) (with_hand-other s.hand p more);
           alone = t.alone;
           closed = mark ∙ t.closed;
           shut = second ∙ t.shut;
@@ -196,7 +181,7 @@ module _ {T : Type 0} where
           room = t.room;
           out = omega (arith, t.out, total_set size lines q l l' e);
           listed = t.listed;
-          hands = hands_set who lines s.hand s.hand q p l' t.alone of t.hands (t.hands q p l e of ∙ sym same) (λ x ne. refl);
+          hands = hands_set size who lines s.hand s.hand q p l' t.alone of t.hands (t.hands q p l e of ∙ sym same) (λ x ne. refl);
           alone = t.alone;
           closed = refl;
           shut = second ∙ t.shut;
@@ -219,7 +204,7 @@ module _ {T : Type 0} where
           room = t.room;
           out = omega (arith, t.out, total_set size lines q l l' e);
           listed = t.listed;
-          hands = hands_set who lines s.hand s.hand q p l' t.alone of t.hands (t.hands q p l e of ∙ sym same) (λ x ne. refl);
+          hands = hands_set size who lines s.hand s.hand q p l' t.alone of t.hands (t.hands q p l e of ∙ sym same) (λ x ne. refl);
           alone = t.alone;
           closed = mark ∙ t.closed;
           shut = refl;

@@ -16,7 +16,6 @@ use Rattle.machine.proofs.OneList.{front_of, ready}
 use Rattle.machine.proofs.Sums.{total_one}
 use Rattle.machine.proofs.Tests.{at_most_one}
 use Rattle.stack_machine.specs.declared.lines.Direction.{Direction}
-use Rattle.stack_machine.specs.declared.lines.Direction.TheVariants.{Down, Up}
 use Rattle.stack_machine.specs.declared.lines.Line.{Line}
 use Rattle.stack_machine.specs.declared.lines.Line.TheVariants.{LoadFree, LoadFreeLink, TakeFree, LinkTaken, LinkToTop, SwapTop, LoadTopToTake, LoadTopLink, TakeTop, TakeChain, LoadLinkToTurn, TurnLink, LoadLinkToFold, LinkToFree, GiveBack, MarkTop, ShutTop}
 use Rattle.stack_machine.specs.Machine.{Memory, held, placed, is_up, took_all, free_nodes, stacked, table}
@@ -28,13 +27,14 @@ use Rattle.stack_machine.proofs.Moves.{hold_slot, all_nodes}
 use Rattle.running.specs.Machine.{Does}
 use Rattle.running.specs.Tables.{Needs, Comes, Goes, turned}
 use Rattle.running.proofs.Does.{does_all}
+use Rattle.running.proofs.Slots.{turned_twice, times_turned}
 use Rattle.running.proofs.Indexes.{holds_times, distinct_times, once_below, stands_in}
 use Rattle.stack_table.specs.Layout.{link_at}
 use Rattle.stack_table.specs.Memories.{memory_of, Sane}
 use Rattle.stack_table.specs.Slots.{Links, full, vacant}
 use Rattle.stack_table.specs.Core.{board, rules, core}
 use Rattle.stack_table.proofs.Memories.{lies, at_home_is}
-use Rattle.stack_table.proofs.Slots.{links_on, in_order_twice, length_in_order, times_in_order, numbers_vacant, numbers_full, has_in_order}
+use Rattle.stack_table.proofs.Slots.{links_on, length_in_order, numbers_vacant, numbers_full, has_in_order}
 use Rattle.stack_table.proofs.Moves.{each_home}
 
 module _ {T : Type 0} (n limit : ℕ) (words : List ℕ) (homes : List (Option (Slot T))) (sane : Sane n words homes) where
@@ -43,10 +43,6 @@ module _ {T : Type 0} (n limit : ℕ) (words : List ℕ) (homes : List (Option (
 
   within : (i : ℕ) → i < n → link_at i < length words
   within i low = let w = sane.words_are in omega arith
-
-  turned_in_order : {A : Type 0} (d : Direction) (xs : List A) → turned (is_up d) (in_order d xs) ≡ xs
-  turned_in_order Down xs = refl
-  turned_in_order Up xs = in_order_twice Up xs
 
   module _ (of : ℕ → Option ℕ) (lines : List (Line T)) (h : List (Event T)) (q : ℕ) (k : Kept T n limit m of lines h) where
     abbrev g : Lists
@@ -102,7 +98,7 @@ module _ {T : Type 0} (n limit : ℕ) (words : List ℕ) (homes : List (Option (
         let room : length g.stack ≤ n = let r = k.good.told.room in omega arith in
         record {
           slots = full chain' values';
-          apart = subst Distinct (sym is) (distinct_times chain' (λ i. let t = times_in_order d i g.stack in let o = once i in omega arith));
+          apart = subst Distinct (sym is) (distinct_times chain' (λ i. let t = times_turned (is_up d) i g.stack in let o = once i in omega arith));
           home = each_home homes chain' values' (has_in_order m.home d g.stack vs stored);
           fits = record {
             chain = g.stack;
@@ -112,7 +108,7 @@ module _ {T : Type 0} (n limit : ℕ) (words : List ℕ) (homes : List (Option (
             others = first_node.rest;
             begins = first_node.is ∙ ap (λ (u : Tagged). u.index ∷ first_node.rest) hit;
           };
-          are = ap (turned (is_up d)) is ∙ turned_in_order d g.stack ∙ sym (all_nodes q (TakeChain d w) w k.good e hit);
+          are = ap (turned (is_up d)) is ∙ turned_twice (is_up d) g.stack ∙ sym (all_nodes q (TakeChain d w) w k.good e hit);
           to = _;
           replies = refl;
         }

@@ -9,6 +9,7 @@ use Rattle.bounded_model.specs.declared.history.Event.{Event}
 use Rattle.bounded_model.specs.declared.views.PassView.{PassView}
 use Rattle.bounded_model.specs.Histories.{own}
 use Rattle.bounded_model.proofs.Histories.{own-between}
+use Rattle.machine.proofs.Lists.{none_of}
 use Rattle.machine.proofs.Sums.{total_snoc}
 use Rattle.machine.specs.Words.{times, total}
 use Rattle.machine.specs.Seats.{Saw}
@@ -31,10 +32,6 @@ use Rattle.stack_table.specs.declared.operation.Operation.TheVariants.{Put as Pu
 use Rattle.stack_table.specs.Lines.{names, call_of, first_line}
 use Rattle.stack_table.specs.Core.{core}
 use Rattle.stack_table.proofs.Does.{does}
-
-no_nodes : (is : List ℕ) → length is ≡ 0 → is ≡ []
-no_nodes [] h = refl
-no_nodes (j ∷ js) h = absurd (omega arith)
 
 -- the rule goes by the sums over lines and by each line
 reseated : {T : Type 0} (n limit : ℕ) (m : Memory T) (g : Lists) (of of' : ℕ → Option ℕ) (lines lines' : List (Line T)) (h : List (Event T)) → Good T n limit m g of lines h → (lines' ≡ lines) ⊎ (lines' ≡ lines ++ Idle None ∷ [])
@@ -116,7 +113,7 @@ module _ {T : Type 0} (n limit : ℕ) where
     starts = starts;
     empty = λ l e. ap length (idle_holds l e);
     begins = λ m of lines h q l o k e idle. goes_empty m of lines h q l (first_line o) k e (idle_holds l idle) (first_empty o) (first_fine limit m k.lists o);
-    quiets = λ m of lines h q l k e none_held. goes_empty m of lines h q l (Idle None) k e (no_nodes (held l) none_held) (record { none_held = refl; none_put = refl }) tt;
+    quiets = λ m of lines h q l k e none_held. goes_empty m of lines h q l (Idle None) k e (none_of (held l) none_held) (record { none_held = refl; none_put = refl }) tt;
     reseats = λ m of of' lines lines' h k which hands alone. record { lists = k.lists; good = reseated n limit m k.lists of of' lines lines' h k.good which hands alone };
     kept = λ m of lines h q p l k e is. step_kept n limit m of lines h q p is k l e;
     legal = λ m of lines h k. k.good.told.legal;

@@ -1,6 +1,6 @@
 -- Chains of nodes, and their slots as a seat has them.
 use Rattle.std.proofs.Common.{◌≡◌, ℕ, ◌≤◌, Bool, true, false, List, [], ◌∷◌, ◌++◌, length, reverse, refl, sym, ap, ◌∙◌, subst, arith}
-use Rattle.std.proofs.lemmas.List.{map-append, reverse-append, reverse-reverse, length-reverse}
+use Rattle.std.proofs.lemmas.List.{map-append, reverse-append, length-reverse}
 use Rattle.std.specs.Prelude.{Option as Slot, Some, None, map}
 use mathlib.Core.Option.{Option, some}
 use Rattle.bounded_model.specs.Machine.{without_first}
@@ -8,7 +8,6 @@ use Rattle.index_list.specs.Steps.{numbers}
 use Rattle.machine.specs.Words.{times, Stands}
 use Rattle.machine.specs.Chains.{first, values_of, HasValues}
 use Rattle.machine.proofs.Lists.{times_here, times_append}
-use Rattle.machine.proofs.Chains.{times_reverse}
 use Rattle.stack_machine.specs.declared.lines.Direction.{Direction}
 use Rattle.stack_machine.specs.declared.lines.Direction.TheVariants.{Down, Up}
 use Rattle.stack_machine.specs.Deeds.{in_order}
@@ -44,17 +43,9 @@ reverse_map f [] = refl
 reverse_map f (x ∷ xs) = reverse-append (f x ∷ []) (map f xs) ∙ ap (λ (ys : List _). ys ++ f x ∷ []) (reverse_map f xs) ∙ sym (map-append f (reverse xs) (x ∷ [])) ∙ ap (map f) (sym (reverse-append (x ∷ []) xs))
 
 module _ {A : Type 0} where
-  pub in_order_twice : (d : Direction) (xs : List A) → in_order d (in_order d xs) ≡ xs
-  in_order_twice Down xs = refl
-  in_order_twice Up xs = reverse-reverse xs
-
   pub length_in_order : (d : Direction) (xs : List A) → length (in_order d xs) ≡ length xs
   length_in_order Down xs = refl
   length_in_order Up xs = length-reverse xs
-
-pub times_in_order : (d : Direction) (i : ℕ) (xs : List ℕ) → times i (in_order d xs) ≡ times i xs
-times_in_order Down i xs = refl
-times_in_order Up i xs = times_reverse i xs
 
 module _ (T : Type 0) where
   pub numbers_vacant : (is : List ℕ) → numbers (vacant {T = T} is) ≡ is

@@ -1,14 +1,15 @@
 -- A range takes a node for its next value.
-use Rattle.std.proofs.lemmas.Bool.Decides.{eqb_tells, nat_tests}
-use Rattle.std.proofs.Common.{◌≡◌, ◌≢◌, ℕ, zero, suc, ◌+◌, ◌<◌, ◌≤◌, ◌⊎◌, inl, inr, ⊎_elim, Bool, true, false, cond, ltb, List, [], ◌∷◌, ◌++◌, length, reverse, take, refl, sym, ap, ◌∙◌, subst, arith}
+use Rattle.std.proofs.lemmas.Bool.Decides.{nat_tests}
+use Rattle.std.proofs.Common.{◌≡◌, ◌≢◌, ℕ, zero, suc, ◌+◌, ◌<◌, ◌≤◌, ◌⊎◌, inl, inr, Bool, cond, ltb, List, [], ◌∷◌, ◌++◌, length, reverse, take, refl, sym, ap, ◌∙◌, subst, arith}
 use Rattle.std.specs.Prelude.{Option as Slot, Some, None}
 use Rattle.atomic_table.specs.Table.{rest}
 use Rattle.tagged_index.specs.declared.word.TheConstants.{NULL}
 use Rattle.machine.specs.Words.{times}
 use Rattle.machine.specs.Chains.{first, last}
 use Rattle.machine.proofs.Chains.{first_in, last_in}
-use Rattle.machine.proofs.Lists.{times_else}
+use Rattle.machine.proofs.Lists.{none_of, times_else}
 use Rattle.machine.proofs.Sums.{total_one}
+use Rattle.machine.proofs.Tests.{same_or_not, is_true, is_false}
 use Rattle.stack_machine.specs.declared.lines.Putting.{Putting}
 use Rattle.stack_machine.specs.declared.lines.Line.{Line}
 use Rattle.stack_machine.specs.declared.lines.Line.TheVariants.{LoadFree, LoadTop, LinkTaken}
@@ -33,25 +34,10 @@ use Rattle.treiber_stack.proofs.Gives.{moved, ready_step}
 use Rattle.treiber_stack.proofs.Loading.{next_value, loaded_more}
 use Rattle.treiber_stack.proofs.Placing.{linking_busy}
 
-same_or_not : (a b : ℕ) → (a ≡ b) ⊎ (a ≢ b)
-same_or_not a b = ⊎_elim (λ t. inl t.1) (λ t. inr t.1) (eqb_tells a b)
-
-is_true : (b : Bool) → (b ≡ false → ⊥) → b ≡ true
-is_true true h = refl
-is_true false h = absurd (h refl)
-
-is_false : (b : Bool) → (b ≡ true → ⊥) → b ≡ false
-is_false false h = refl
-is_false true h = absurd (h refl)
-
 -- a chain that is not empty
 parts_of : (chain : List ℕ) → 0 < length chain → (x : ℕ) × (xs : List ℕ) × (chain ≡ x ∷ xs)
 parts_of [] h = absurd (omega arith)
 parts_of (x ∷ xs) h = (x, xs, refl)
-
-none_of : (chain : List ℕ) → length chain ≡ 0 → chain ≡ []
-none_of [] h = refl
-none_of (x ∷ xs) h = absurd (omega arith)
 
 module _ {T : Type 0} where
   pub some_in : (o : Operation T) (vs : List T) → IsRange o vs → 0 < length vs

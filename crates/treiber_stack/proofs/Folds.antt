@@ -29,10 +29,11 @@ use Rattle.stack_table.specs.declared.operation.Operation.{Operation}
 use Rattle.stack_table.specs.declared.operation.Operation.TheVariants.{Fold as FoldFirst}
 use Rattle.stack_table.specs.Lines.{direction, won_chain}
 use Rattle.stack_table.specs.Slots.{full}
-use Rattle.stack_table.proofs.Slots.{in_order_twice, length_in_order, numbers_full, values_full}
+use Rattle.stack_table.proofs.Slots.{length_in_order, numbers_full, values_full}
 use Rattle.running.specs.Tables.{values as slot_values}
 use Rattle.running.specs.Going.{Ended, Found, Missed, Brings}
 use Rattle.running.specs.declared.passes.Pass.{Pass}
+use Rattle.running.proofs.Slots.{turned_twice}
 use Rattle.running.proofs.Ways.{goes_on, ends_so, hits, misses}
 use Rattle.treiber_stack.specs.declared.folding.Walked.{Walked}
 use Rattle.treiber_stack.specs.declared.stack.Stack.{Stack}
@@ -102,8 +103,8 @@ module _ {T : Type 0} (c : Stack T) (front : Front) where
         let slots : List (ℕ × Slot T) = full (in_order d chain) (in_order d values) in
         let as_many : length (in_order d chain) ≡ length (in_order d values) = length_in_order d chain ∙ fits.hand.as_many ∙ sym (length_in_order d values) in
         let has = won.moved ∙ (λ t. fits.slots t ++ at.at.has t) ∙ no_more slots in
-        let nodes = ap (λ (zs : List (ℕ × Slot T)). in_order d (numbers zs)) fits.slots ∙ ap (in_order d) (numbers_full (in_order d chain) (in_order d values) as_many) ∙ in_order_twice d chain in
-        let are = ap (λ (zs : List (ℕ × Slot T)). values_of (map some (in_order d (slot_values zs)))) fits.slots ∙ values_full (is_up d) (in_order d chain) (in_order d values) as_many ∙ in_order_twice d values in
+        let nodes = ap (λ (zs : List (ℕ × Slot T)). in_order d (numbers zs)) fits.slots ∙ ap (in_order d) (numbers_full (in_order d chain) (in_order d values) as_many) ∙ turned_twice (is_up d) chain in
+        let are = ap (λ (zs : List (ℕ × Slot T)). values_of (map some (in_order d (slot_values zs)))) fits.slots ∙ values_full (is_up d) (in_order d chain) (in_order d values) as_many ∙ turned_twice (is_up d) values in
         let on = goes_on (machine_of c) at q w won.slots won.steps table slots (at_take_chain d (fields_of w) chain values) has
         (hits w (won_chain d (fields_of w) won.slots) (LoadTopToTake (Whole d)) ∙ (λ t. at_take_chain d (fields_of w) (nodes t) (are t))) (chain_busy d (fields_of w) chain values) in
         (record { chain = chain; values = values; at = on.0; hand = fits.hand; others = fits.others; begins = fits.begins }, on.1.0)

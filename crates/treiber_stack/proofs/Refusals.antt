@@ -1,12 +1,12 @@
 -- Where a load of the top leads.
-use Rattle.std.proofs.Common.{◌≡◌, ◌≢◌, ℕ, ◌<◌, ◌≤◌, Bool, true, false, cond, leb, List, refl, eq-eqb, ne_eqb, arith}
-use Rattle.std.proofs.lemmas.Bool.Decides.{nat_tests}
+use Rattle.std.proofs.Common.{◌≡◌, ◌≢◌, ℕ, ◌<◌, ◌≤◌, Bool, true, false, cond, List, refl, eq-eqb, ne_eqb}
 use Rattle.std.specs.Prelude.{Err}
 use Rattle.tagged_index.specs.Fields.{fields_of, index_of, tag_of, mark_of, second_of}
 use Rattle.tagged_index.specs.declared.word.TheConstants.{NULL}
 use Rattle.bounded_model.specs.declared.answers.Word.TheVariants.{Top as TopWord, Free as FreeWord}
 use Rattle.bounded_model.specs.declared.answers.PutRefused.TheVariants.{Full as PutFull, Spent as PutSpent}
 use Rattle.bounded_model.specs.declared.answers.TakeRefused.TheVariants.{Empty, Closed, Spent, Shut}
+use Rattle.machine.proofs.Tests.{leb_yes, leb_not}
 use Rattle.stack_machine.specs.declared.lines.Putting.{Putting}
 use Rattle.stack_machine.specs.declared.lines.Taking.{Taking}
 use Rattle.stack_machine.specs.declared.lines.Answer.TheVariants.{Put as AnswerPut}
@@ -14,20 +14,6 @@ use Rattle.stack_machine.specs.declared.lines.Line.TheVariants.{LinkToTop, LoadF
 use Rattle.stack_machine.specs.Machine.{at_load_top, at_load_top_to_refuse, at_load_top_to_take, at_load_free, no_node, ends, takes}
 use Rattle.treiber_stack.specs.declared.refusing.Barred.TheVariants.{Closed as BarredClosed, Spent as BarredSpent}
 use Rattle.treiber_stack.specs.Refusing.{AllowsPut, AllowsTake, RefusesPut, RefusesTake}
-
-is_true : (b : Bool) → (b ≡ false → ⊥) → b ≡ true
-is_true true h = refl
-is_true false h = absurd (h refl)
-
-is_false : (b : Bool) → (b ≡ true → ⊥) → b ≡ false
-is_false false h = refl
-is_false true h = absurd (h refl)
-
-leb_yes : (a b : ℕ) → a ≤ b → leb a b ≡ true
-leb_yes a b h = is_true (leb a b) (λ e. grind (arith, nat_tests))
-
-leb_not : (a b : ℕ) → b < a → leb a b ≡ false
-leb_not a b h = is_false (leb a b) (λ e. grind (arith, nat_tests))
 
 module _ {T : Type 0} (limit w : ℕ) where
   -- a put

@@ -1,6 +1,7 @@
 use Rattle.std.proofs.Common.{Bool, true, [], ◌∙◌, refl, subst, sym}
+use Rattle.machine.proofs.Tests.{either_way}
 use Rattle.running.specs.Lists.{Rests}
-use Rattle.running.proofs.Listing.{by_cases, no_change, none_carried, missed, unmoved}
+use Rattle.running.proofs.Listing.{no_change, none_carried, missed, unmoved}
 use Rattle.running.proofs.lists.give_bare_step.Goals as goal
 
 pub try_give-requires-clause-may : goal.try_give-requires-clause-may
@@ -13,7 +14,7 @@ try_give-requires-clause-slots g c = let a = c.args in let me = a.seat.now.me in
 pub returns-clause-seat : goal.returns-clause-seat
 returns-clause-seat g c = let t = c.try_give in (
   t.ensures.seat.0,
-  by_cases t.result
+  either_way t.result
       (λ h. let won = t.ensures.won h in sym (no_change won.slots _ _ (won.moves.1 ∙ none_carried _ c.requires.carries) won.moves.0))
       (λ h. (t.ensures.lost h).unmoved),
 )
