@@ -1,0 +1,80 @@
+-- What a call gives, by its reply, and which operations make which calls.
+use Rattle.std.specs.Prelude.{◌≡◌}
+use Rattle.bounded_model.specs.declared.commands.Command.{Command}
+use Rattle.bounded_model.specs.declared.commands.Command.TheVariants as command
+use Rattle.bounded_model.specs.declared.commands.Reply.{Reply}
+use Rattle.bounded_model.specs.declared.commands.Reply.TheVariants as reply
+use Rattle.bounded_model.specs.declared.views.PassView.{PassView}
+use Rattle.bounded_model.specs.Laws.{PutGives, TakeGives, CloseGives, ShutGives, LookGives}
+use Rattle.bounded_model.specs.Machine.{Shape}
+use Rattle.bounded_model.specs.Stepping.{Underway, no_step, MatchStepped}
+use Rattle.bounded_model.specs.declared.answers.Stepped.{Stepped}
+use Rattle.bounded_calls.specs.declared.operation.Operation.{Operation}
+use Rattle.bounded_calls.specs.declared.operation.Operation.TheVariants.{Put, Take, Close, Shut, Look}
+
+-- what a whole call gives: its own kind of reply, by its own law
+abbrev pub CallGives : {T : Type 0} → Shape → PassView T → Command T → PassView T → Reply T → Type 0
+CallGives c v (command.Put x) w (reply.Put said) = PutGives c v x w said
+CallGives c v command.Take w (reply.Take said) = TakeGives c v w said
+CallGives c v command.Close w (reply.Close said) = CloseGives c v w said
+CallGives c v command.Shut w (reply.Shut said) = ShutGives c v w said
+CallGives c v command.Look w (reply.Look said) = LookGives c v w said
+CallGives c v call w said = ⊥
+
+-- how a container's passes and operations are read
+pub record Reading (T P O : Type 0) : Type 1 where
+  pub shape : Shape
+  pub is_pass : P → Type 0
+  pub pass : P → PassView T
+  pub is_making : Command T → O → Type 0
+  pub making : O → Underway T
+
+module _ {T A B C S L : Type 0} where
+  -- an operation that makes this call, by what its kind of call says
+  abbrev pub IsMaking : (T → A → Type 0) → (B → Type 0) → (C → Type 0) → (S → Type 0) → (L → Type 0) → Command T → Operation A B C S L → Type 0
+  IsMaking put take close shut look (command.Put x) (Put op) = put x op
+  IsMaking put take close shut look command.Take (Take op) = take op
+  IsMaking put take close shut look command.Close (Close op) = close op
+  IsMaking put take close shut look command.Shut (Shut op) = shut op
+  IsMaking put take close shut look command.Look (Look op) = look op
+  IsMaking put take close shut look call op = ⊥
+
+  -- what its pass had seen as it was begun, and has seen by now
+  abbrev pub making_in : (A → Underway T) → (B → Underway T) → (C → Underway T) → (S → Underway T) → (L → Underway T) → Operation A B C S L → Underway T
+  making_in put take close shut look (Put op) = put op
+  making_in put take close shut look (Take op) = take op
+  making_in put take close shut look (Close op) = close op
+  making_in put take close shut look (Shut op) = shut op
+  making_in put take close shut look (Look op) = look op
+
+  -- of a container with single steps
+  abbrev pub by_steps : {P : Type 0} → Shape → (P → Type 0) → (P → PassView T)
+      → (T → A → Type 0) → (B → Type 0) → (C → Type 0) → (S → Type 0) → (L → Type 0)
+      → (A → Underway T) → (B → Underway T) → (C → Underway T) → (S → Underway T) → (L → Underway T)
+      → Reading T P (Operation A B C S L)
+  by_steps c is_pass pass is_putting is_taking is_closing is_shutting is_looking putting taking closing shutting looking = record {
+    shape = c;
+    is_pass = is_pass;
+    pass = pass;
+    is_making = IsMaking is_putting is_taking is_closing is_shutting is_looking;
+    making = making_in putting taking closing shutting looking;
+  }
+
+module _ {T P O : Type 0} (r : Reading T P O) where
+  abbrev pub MakesSome : O → Type 0
+  MakesSome op = (call : Command T) × r.is_making call op
+
+  -- a call was begun by this pass, and has made no step yet
+  pub record Begins (by : P) (call : Command T) (op : O) : Type 0 where
+    pub makes : r.is_making call op
+    pub begun : r.making op ≡ no_step (r.pass by)
+
+  -- a call that its pass began as this was tried: it goes on, begun as before, or it gave what the whole call gives
+  abbrev pub TriedFrom : PassView T → Command T → Stepped O P (Reply T) → Type 0
+  TriedFrom begun call made = MatchStepped made
+      (λ next. r.is_making call next × ((r.making next).begun ≡ begun))
+      (λ back said. r.is_pass back × CallGives r.shape begun call (r.pass back) said)
+
+  -- the same of an operation, whichever call it makes
+  abbrev pub Tried : O → Stepped O P (Reply T) → Type 0
+  Tried op made = (call : Command T) → r.is_making call op → TriedFrom (r.making op).begun call made

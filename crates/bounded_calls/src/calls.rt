@@ -1,0 +1,86 @@
+//! Containers whose calls give up after so many tries.
+
+ghost use Rattle.bounded_model.specs.declared.commands.Command.TheVariants.{Put, Take};
+ghost use Rattle.bounded_calls.specs.Calls.{MakesSome, Tried, TriedFrom, by_steps};
+
+use crate::operation::Operation;
+use bounded_model::{Command, Reply, Stepped, Stepwise};
+
+/// A container whose calls give up after so many tries, and can then be gone on with.
+pub trait BoundedCalls<T>: Stepwise<T> {
+    /// A call: the steps of one that loses no compare-and-swap, and where those do not end it, the
+    /// steps to its next compare-and-swap, `tries` times at the most. Answers what the whole call
+    /// answers; or the call is still under way.
+    fn try_call(
+        &self,
+        by: Self::Pass,
+        command: Command<T>,
+        tries: u64,
+    ) -> Stepped<
+        Operation<Self::PutOp, Self::TakeOp, Self::CloseOp, Self::ShutOp, Self::LookOp>,
+        Self::Pass,
+        Reply<T>,
+    >
+        requires { Self.is_pass self.now by }
+        ensures { TriedFrom (by_steps (Self.shape self.now) (Self.is_pass self.now) Self.pass
+            (Self.is_putting self.now) (Self.is_taking self.now) (Self.is_closing self.now)
+            (Self.is_shutting self.now) (Self.is_looking self.now)
+            Self.putting Self.taking Self.closing Self.shutting Self.looking)
+            (Self.pass by) command result };
+
+    /// The same of a put, whose fast path is all of it in the code of its caller.
+    fn try_put(
+        &self,
+        by: Self::Pass,
+        value: T,
+        tries: u64,
+    ) -> Stepped<
+        Operation<Self::PutOp, Self::TakeOp, Self::CloseOp, Self::ShutOp, Self::LookOp>,
+        Self::Pass,
+        Reply<T>,
+    >
+        requires { Self.is_pass self.now by }
+        ensures { TriedFrom (by_steps (Self.shape self.now) (Self.is_pass self.now) Self.pass
+            (Self.is_putting self.now) (Self.is_taking self.now) (Self.is_closing self.now)
+            (Self.is_shutting self.now) (Self.is_looking self.now)
+            Self.putting Self.taking Self.closing Self.shutting Self.looking)
+            (Self.pass by) (Put value) result };
+
+    /// The same of a take.
+    fn try_take(
+        &self,
+        by: Self::Pass,
+        tries: u64,
+    ) -> Stepped<
+        Operation<Self::PutOp, Self::TakeOp, Self::CloseOp, Self::ShutOp, Self::LookOp>,
+        Self::Pass,
+        Reply<T>,
+    >
+        requires { Self.is_pass self.now by }
+        ensures { TriedFrom (by_steps (Self.shape self.now) (Self.is_pass self.now) Self.pass
+            (Self.is_putting self.now) (Self.is_taking self.now) (Self.is_closing self.now)
+            (Self.is_shutting self.now) (Self.is_looking self.now)
+            Self.putting Self.taking Self.closing Self.shutting Self.looking)
+            (Self.pass by) Take result };
+
+    /// Goes on with a call in the same way. One that is still under way was begun as before.
+    fn try_on(
+        &self,
+        operation: Operation<Self::PutOp, Self::TakeOp, Self::CloseOp, Self::ShutOp, Self::LookOp>,
+        tries: u64,
+    ) -> Stepped<
+        Operation<Self::PutOp, Self::TakeOp, Self::CloseOp, Self::ShutOp, Self::LookOp>,
+        Self::Pass,
+        Reply<T>,
+    >
+        requires { MakesSome (by_steps (Self.shape self.now) (Self.is_pass self.now) Self.pass
+            (Self.is_putting self.now) (Self.is_taking self.now) (Self.is_closing self.now)
+            (Self.is_shutting self.now) (Self.is_looking self.now)
+            Self.putting Self.taking Self.closing Self.shutting Self.looking)
+            operation }
+        ensures { Tried (by_steps (Self.shape self.now) (Self.is_pass self.now) Self.pass
+            (Self.is_putting self.now) (Self.is_taking self.now) (Self.is_closing self.now)
+            (Self.is_shutting self.now) (Self.is_looking self.now)
+            Self.putting Self.taking Self.closing Self.shutting Self.looking)
+            operation result };
+}

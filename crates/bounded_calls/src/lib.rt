@@ -1,0 +1,16 @@
+//! Whole calls with a bounded number of tries, for callers that may not wait.
+//!
+//! Promised: a call either answers what the container's law gives for it, from its begin on, or it
+//! is still under way, begun as before, and can be gone on with. No call here waits or runs forever,
+//! so no handle is needed.
+#![tactic(auto)]
+
+mod by_steps;
+mod calls;
+mod operation;
+mod queue;
+mod stack;
+mod whole;
+
+pub use calls::BoundedCalls;
+pub use operation::Operation;

@@ -1,0 +1,42 @@
+//! Whole calls over operations that run several steps at a time.
+ghost use Rattle.bounded_model.specs.Stepping.{MatchStepped};
+
+use bounded_model::Stepped;
+use running::{Pause, Whole};
+
+// Goes on with an operation, so many times at most, with a wait after each exchange that it has
+// lost. A function of its own, so that the way straight on is all that a caller's code has.
+#[inline(never)]
+fn run_on<C, P, A, O: Whole<C, P, A>>(on: &C, under_way: O, tries: u64) -> Stepped<O, P, A>
+    requires { (call : O.Call) × O.is_under_way on.now call under_way }
+    ensures { (call : O.Call) → O.is_under_way on.now call under_way → MatchStepped result
+        (λ next. O.is_under_way on.now call next) (λ back answer. O.gives on.now call back answer) }
+{
+    let mut made = Stepped::Again(under_way);
+    let mut pause = Pause::first();
+    for _ in 0..tries {
+        match made {
+            Stepped::Done(back, answer) => return Stepped::Done(back, answer),
+            Stepped::Again(next) => {
+                if next.has_lost() {
+                    pause = pause.wait();
+                }
+                made = next.run(on);
+            }
+        }
+    }
+    made
+}
+
+/// Runs an operation: straight on, and then so many times at most.
+#[inline(always)]
+pub fn try_whole<C, P, A, O: Whole<C, P, A>>(on: &C, operation: O, tries: u64) -> Stepped<O, P, A>
+    requires { (call : O.Call) × O.is_under_way on.now call operation }
+    ensures { (call : O.Call) → O.is_under_way on.now call operation → MatchStepped result
+        (λ next. O.is_under_way on.now call next) (λ back answer. O.gives on.now call back answer) }
+{
+    match operation.straight(on) {
+        Stepped::Done(back, answer) => Stepped::Done(back, answer),
+        Stepped::Again(next) => run_on(on, next, tries),
+    }
+}
