@@ -6,8 +6,6 @@
 // an array, which is Boost's fastest form. Prints nanoseconds per item.
 
 #include <atomic>
-#include <boost/lockfree/queue.hpp>
-#include <boost/lockfree/stack.hpp>
 #include <chrono>
 #include <cstdint>
 #include <cstdio>
@@ -17,6 +15,15 @@
 #include <thread>
 #include <vector>
 
+#ifdef OURS
+#include "../c/lockfree.hpp"
+namespace containers = lockfree;
+#else
+#include <boost/lockfree/queue.hpp>
+#include <boost/lockfree/stack.hpp>
+namespace containers = boost::lockfree;
+#endif
+
 #ifndef CAPACITY
 #define CAPACITY 4096
 #endif
@@ -25,8 +32,8 @@ namespace {
 
 using Item = std::uint64_t;
 using Clock = std::chrono::steady_clock;
-using Stack = boost::lockfree::stack<Item, boost::lockfree::capacity<CAPACITY>>;
-using Queue = boost::lockfree::queue<Item, boost::lockfree::capacity<CAPACITY>>;
+using Stack = containers::stack<Item, containers::capacity<CAPACITY>>;
+using Queue = containers::queue<Item, containers::capacity<CAPACITY>>;
 
 struct Load {
     unsigned producers;

@@ -1,0 +1,64 @@
+// A program over Boost's queue and stack that runs over these too: -DOVER_LOCKFREE switches it.
+#ifdef OVER_LOCKFREE
+#include <lockfree.hpp>
+namespace containers = lockfree;
+#else
+#include <boost/lockfree/queue.hpp>
+#include <boost/lockfree/stack.hpp>
+namespace containers = boost::lockfree;
+#endif
+
+#include <atomic>
+#include <cstdio>
+#include <thread>
+#include <vector>
+
+struct order {
+    short client;
+    short lot;
+};
+
+template <class Container> void one_thread(const char *name, Container &container) {
+    std::printf("%s: empty %d\n", name, container.empty());
+    int put = 0;
+    while (container.bounded_push(order{static_cast<short>(put), 7})) ++put;
+    std::printf("%s: %d fit\n", name, put);
+    order out{};
+    while (container.pop(out)) std::printf("%s: client %d lot %d\n", name, out.client, out.lot);
+    for (short i = 0; i < 3; ++i) container.push(order{i, i});
+    const bool one = container.consume_one([&](order value) { std::printf("%s: one %d\n", name, value.client); });
+    const auto rest = container.consume_all([&](order value) { std::printf("%s: then %d\n", name, value.client); });
+    std::printf("%s: %d and %d consumed, empty %d\n", name, one, static_cast<int>(rest), container.empty());
+}
+
+template <class Container> void many_threads(const char *name, Container &container) {
+    constexpr int sides = 4, each = 50000;
+    std::atomic<long> taken{0}, sum{0};
+    std::vector<std::thread> threads;
+    for (int side = 0; side < sides; ++side) {
+        threads.emplace_back([&, side] {
+            for (int i = 0; i < each; ++i)
+                while (!container.push(side * each + i)) std::this_thread::yield();
+        });
+        threads.emplace_back([&] {
+            while (taken < sides * each) {
+                int value = 0;
+                if (container.pop(value)) sum += value, ++taken;
+                else std::this_thread::yield();
+            }
+        });
+    }
+    for (auto &thread : threads) thread.join();
+    std::printf("%s: %ld values, sum %ld\n", name, taken.load(), sum.load());
+}
+
+int main() {
+    containers::queue<order, containers::fixed_sized<true>> orders(5);
+    containers::stack<order, containers::capacity<5>> held;
+    one_thread("queue", orders);
+    one_thread("stack", held);
+    containers::queue<int, containers::capacity<128>> numbers;
+    containers::stack<int, containers::fixed_sized<true>> pile(128);
+    many_threads("queue", numbers);
+    many_threads("stack", pile);
+}

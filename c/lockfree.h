@@ -1,0 +1,132 @@
+/* A bounded queue and a bounded stack that many threads share without locks, proved. For C and C++.
+ *
+ * What the library keeps in your memory is a handle: a root or a pass of one container. All zero
+ * bytes are an empty handle. A root gives passes, one to each thread; a pass makes the calls. Each
+ * handle has a share of its container, so that no pass is used with another one, and the last of a
+ * container's handles that is freed frees it.
+ *
+ * What you must keep to, since no check can:
+ *   - only the functions below write a handle; it may be moved in memory, between calls, but what
+ *     was copied is not used twice;
+ *   - a handle is given to one call at a time. Different handles, also of one container, may be used
+ *     in different threads at the same time; a handle that goes to another thread goes there by what
+ *     orders the two, as a thread's start or join, a lock, or a sequentially consistent atomic;
+ *   - malloc, realloc and free are of one allocator, and align as the C standard has it;
+ *   - no call is made in a signal handler, or in the child of a fork of a process with threads.
+ *
+ * All else that could go wrong is answered by a code, and then nothing has changed but what is said
+ * here. No call but the two _new, _split and _free takes or gives back memory, and none waits for
+ * another thread: a call makes a bounded number of steps.
+ */
+#ifndef LOCKFREE_H
+#define LOCKFREE_H
+
+#include <stdbool.h>
+#include <stdint.h>
+
+#ifdef __cplusplus
+extern "C" {
+#endif
+
+enum {
+    LOCKFREE_OK = 0,
+    LOCKFREE_FULL = 1,          /* put: each cell holds a value or is held by a call */
+    LOCKFREE_EMPTY = 2,         /* take: no value, and more may come. look: it was empty */
+    LOCKFREE_CLOSED = 3,        /* put: closed. take: no value, and none will come. close: it was closed before */
+    LOCKFREE_SHUT = 4,          /* take: shut. shut: it was shut before */
+    LOCKFREE_SPENT = 5,         /* put, take: a tag is at its limit of 2^42 - 1; number is the tag */
+    LOCKFREE_BUSY = 6,          /* the tries are used up: go on with lockfree_go_on */
+    LOCKFREE_UNDER_WAY = 7,     /* the pass has a call under way: lockfree_go_on first */
+    LOCKFREE_NO_CALL = 8,       /* go_on: the pass has no call under way */
+    LOCKFREE_NO_MEMORY = 9,
+    LOCKFREE_NO_PASS = 10,      /* split: the root has given as many passes as it may, 65,535 */
+    LOCKFREE_BAD_CAPACITY = 11, /* new: a capacity is 1 to 1,048,573 */
+    LOCKFREE_OTHER_HANDLE = 12, /* a root in the place of a pass, or the other way round */
+    LOCKFREE_NO_HANDLE = 13,    /* the handle is empty: never made, or freed */
+    LOCKFREE_IN_USE = 14        /* the handle to be made is not empty */
+};
+
+typedef struct lockfree_handle {
+    void *at;
+    bool full;
+} lockfree_handle;
+
+/* value: of a take that is done. number: of a put or a take that is done, counted from 0 (puts and
+ * takes of a queue each by themselves, those of a stack together); of one that is spent, the tag. */
+typedef struct lockfree_answer {
+    uint64_t value;
+    uint64_t number;
+    uint32_t code;
+} lockfree_answer;
+
+/* A new container, and its root in an empty handle. OK, BAD_CAPACITY, NO_MEMORY, IN_USE. */
+uint32_t lockfree_queue_new(lockfree_handle *root, uint32_t capacity);
+uint32_t lockfree_stack_new(lockfree_handle *root, uint32_t capacity);
+
+/* A new pass in an empty handle. OK, NO_PASS, NO_MEMORY, OTHER_HANDLE, NO_HANDLE, IN_USE. */
+uint32_t lockfree_split(lockfree_handle *root, lockfree_handle *pass);
+
+/* Gives up a root or a pass, and empties the handle. A call that is under way ends where it is: its
+ * value is out of reach, and its cell stays held. OK, NO_HANDLE. */
+uint32_t lockfree_free(lockfree_handle *handle);
+
+/* The calls of a pass. Each goes straight on, and where another thread was faster it tries again up
+ * to `tries` times; 0 is allowed. Then it answers BUSY, and is under way: lockfree_go_on continues
+ * it, and answers what it would have answered. All: BUSY, UNDER_WAY, OTHER_HANDLE, NO_HANDLE.
+ * put:   OK, FULL, CLOSED, SPENT
+ * take:  OK, EMPTY, CLOSED, SHUT, SPENT
+ * close: OK, CLOSED. No put follows
+ * shut:  OK, SHUT. No take follows
+ * look:  OK where it was not empty, EMPTY where it was */
+lockfree_answer lockfree_put(lockfree_handle *pass, uint64_t value, uint64_t tries);
+lockfree_answer lockfree_take(lockfree_handle *pass, uint64_t tries);
+lockfree_answer lockfree_close(lockfree_handle *pass, uint64_t tries);
+lockfree_answer lockfree_shut(lockfree_handle *pass, uint64_t tries);
+lockfree_answer lockfree_look(lockfree_handle *pass, uint64_t tries);
+lockfree_answer lockfree_go_on(lockfree_handle *pass, uint64_t tries);
+
+/* Goes on until there is another answer than BUSY. */
+static inline lockfree_answer lockfree_until(lockfree_handle *pass, lockfree_answer answer)
+{
+    while (answer.code == LOCKFREE_BUSY)
+        answer = lockfree_go_on(pass, UINT64_MAX);
+    return answer;
+}
+
+/* Whole puts and takes: never BUSY. */
+static inline uint32_t lockfree_push(lockfree_handle *pass, uint64_t value)
+{
+    return lockfree_until(pass, lockfree_put(pass, value, UINT64_MAX)).code;
+}
+
+static inline uint32_t lockfree_pop(lockfree_handle *pass, uint64_t *value)
+{
+    lockfree_answer answer = lockfree_until(pass, lockfree_take(pass, UINT64_MAX));
+    if (answer.code == LOCKFREE_OK)
+        *value = answer.value;
+    return answer.code;
+}
+
+/* Takes one value and hands it to `use`. OK, or why there was none. */
+static inline uint32_t lockfree_consume_one(lockfree_handle *pass, void (*use)(uint64_t value, void *with), void *with)
+{
+    uint64_t value;
+    uint32_t code = lockfree_pop(pass, &value);
+    if (code == LOCKFREE_OK)
+        use(value, with);
+    return code;
+}
+
+/* Takes values, one after another, until there is none; answers how many. */
+static inline uint64_t lockfree_consume_all(lockfree_handle *pass, void (*use)(uint64_t value, void *with), void *with)
+{
+    uint64_t count = 0;
+    while (lockfree_consume_one(pass, use, with) == LOCKFREE_OK)
+        count++;
+    return count;
+}
+
+#ifdef __cplusplus
+}
+#endif
+#endif

@@ -1,0 +1,217 @@
+//! A bounded queue and a bounded stack that many threads share without locks, over the proved library
+//! (`c/lockfree.h`). A value is boxed by `push`, and crosses as a pointer.
+//!
+//! ```
+//! let queue = lockfree::Queue::new(2).unwrap();
+//! let mut pass = queue.pass().unwrap();
+//! assert_eq!(pass.push("a"), Ok(0));
+//! assert_eq!(pass.pop(), Ok("a"));
+//! ```
+use std::marker::PhantomData;
+use std::sync::Mutex;
+
+#[repr(C)]
+struct Handle {
+    at: *mut u8,
+    full: bool,
+}
+
+#[repr(C)]
+struct Answer {
+    value: u64,
+    number: u64,
+    code: u32,
+}
+
+const OK: u32 = 0;
+const FULL: u32 = 1;
+const EMPTY: u32 = 2;
+const CLOSED: u32 = 3;
+const BUSY: u32 = 6;
+const NO_PASS: u32 = 10;
+const BAD_CAPACITY: u32 = 11;
+
+extern "C" {
+    fn lockfree_queue_new(root: *mut Handle, capacity: u32) -> u32;
+    fn lockfree_stack_new(root: *mut Handle, capacity: u32) -> u32;
+    fn lockfree_split(root: *mut Handle, pass: *mut Handle) -> u32;
+    fn lockfree_free(handle: *mut Handle) -> u32;
+    fn lockfree_put(pass: *mut Handle, value: u64, tries: u64) -> Answer;
+    fn lockfree_take(pass: *mut Handle, tries: u64) -> Answer;
+    fn lockfree_close(pass: *mut Handle, tries: u64) -> Answer;
+    fn lockfree_go_on(pass: *mut Handle, tries: u64) -> Answer;
+}
+
+impl Handle {
+    const EMPTY: Handle = Handle { at: std::ptr::null_mut(), full: false };
+
+    // Goes on until there is an answer.
+    fn until(&mut self, answer: Answer) -> Answer {
+        let mut answer = answer;
+        while answer.code == BUSY {
+            // SAFETY: a handle is reached by `&mut` alone, so by one call at a time, and only the library writes it.
+            answer = unsafe { lockfree_go_on(self, u64::MAX) };
+        }
+        answer
+    }
+}
+
+impl Drop for Handle {
+    fn drop(&mut self) {
+        // SAFETY: as in `until`; an empty handle is answered by a code.
+        unsafe { lockfree_free(self) };
+    }
+}
+
+// SAFETY: behind a handle are a share of the container, which threads share, and a root or a pass, which crosses threads.
+unsafe impl Send for Handle {}
+
+/// Why a push was refused. The value comes back.
+#[derive(Debug, PartialEq)]
+pub enum PushError<T> {
+    Full(T),
+    Closed(T),
+    /// A tag is at its limit.
+    Spent(T),
+}
+
+/// Why there was no value.
+#[derive(Debug, PartialEq)]
+pub enum PopError {
+    /// More may come.
+    Empty,
+    /// None will come.
+    Closed,
+    /// A tag is at its limit.
+    Spent,
+}
+
+/// Why there is no container, or no pass.
+#[derive(Debug, PartialEq)]
+pub enum MakeError {
+    NoMemory,
+    /// 65,535 passes are out.
+    NoPass,
+    /// A capacity is 1 to 1,048,573.
+    BadCapacity,
+}
+
+type New = unsafe extern "C" fn(*mut Handle, u32) -> u32;
+
+struct Root<T> {
+    handle: Mutex<Handle>,
+    values: PhantomData<fn(T) -> T>,
+}
+
+impl<T: Send> Root<T> {
+    fn new(make: New, capacity: u32) -> Result<Root<T>, MakeError> {
+        let mut handle = Handle::EMPTY;
+        // SAFETY: the handle is empty.
+        match unsafe { make(&mut handle, capacity) } {
+            OK => Ok(Root { handle: Mutex::new(handle), values: PhantomData }),
+            BAD_CAPACITY => Err(MakeError::BadCapacity),
+            _ => Err(MakeError::NoMemory),
+        }
+    }
+
+    fn pass(&self) -> Result<Pass<T>, MakeError> {
+        let mut handle = Handle::EMPTY;
+        let mut root = self.handle.lock().unwrap_or_else(|held| held.into_inner());
+        // SAFETY: both handles are this call's alone, and the second is empty.
+        match unsafe { lockfree_split(&mut *root, &mut handle) } {
+            OK => Ok(Pass { handle, values: PhantomData }),
+            NO_PASS => Err(MakeError::NoPass),
+            _ => Err(MakeError::NoMemory),
+        }
+    }
+
+    // Drops the values that are left. Those that a pass puts afterwards leak.
+    fn drain(&self) {
+        if let Ok(mut pass) = self.pass() {
+            while pass.pop().is_ok() {}
+        }
+    }
+}
+
+/// One thread's way to a container. It keeps the container's memory.
+pub struct Pass<T: Send> {
+    handle: Handle,
+    values: PhantomData<fn(T) -> T>,
+}
+
+impl<T: Send> Pass<T> {
+    /// Puts a value; the answer is the put's number.
+    pub fn push(&mut self, value: T) -> Result<u64, PushError<T>> {
+        let at = Box::into_raw(Box::new(value));
+        // SAFETY: as in `Handle::until`.
+        let answer = unsafe { lockfree_put(&mut self.handle, at as u64, u64::MAX) };
+        let answer = self.handle.until(answer);
+        if answer.code == OK {
+            return Ok(answer.number);
+        }
+        // SAFETY: a value that was refused is in no container.
+        let value = *unsafe { Box::from_raw(at) };
+        Err(match answer.code {
+            FULL => PushError::Full(value),
+            CLOSED => PushError::Closed(value),
+            _ => PushError::Spent(value),
+        })
+    }
+
+    /// Takes a value.
+    pub fn pop(&mut self) -> Result<T, PopError> {
+        // SAFETY: as in `Handle::until`.
+        let answer = unsafe { lockfree_take(&mut self.handle, u64::MAX) };
+        let answer = self.handle.until(answer);
+        match answer.code {
+            // SAFETY: each pointer that was put comes out at most once: that is proved.
+            OK => Ok(*unsafe { Box::from_raw(answer.value as *mut T) }),
+            EMPTY => Err(PopError::Empty),
+            CLOSED => Err(PopError::Closed),
+            _ => Err(PopError::Spent),
+        }
+    }
+
+    /// Closes the container: no push follows. Whether this call closed it.
+    pub fn close(&mut self) -> bool {
+        // SAFETY: as in `Handle::until`.
+        let answer = unsafe { lockfree_close(&mut self.handle, u64::MAX) };
+        self.handle.until(answer).code == OK
+    }
+}
+
+macro_rules! container {
+    ($(#[$doc:meta])* $name:ident, $make:ident) => {
+        $(#[$doc])*
+        pub struct $name<T: Send>(Root<T>);
+
+        impl<T: Send> $name<T> {
+            /// An empty one, for so many values.
+            pub fn new(capacity: u32) -> Result<Self, MakeError> {
+                Ok(Self(Root::new($make, capacity)?))
+            }
+
+            /// A pass, for one thread at a time.
+            pub fn pass(&self) -> Result<Pass<T>, MakeError> {
+                self.0.pass()
+            }
+        }
+
+        impl<T: Send> Drop for $name<T> {
+            fn drop(&mut self) {
+                self.0.drain();
+            }
+        }
+    };
+}
+
+container!(
+    /// First in, first out.
+    Queue,
+    lockfree_queue_new
+);
+container!(
+    /// Last in, first out.
+    Stack,
+    lockfree_stack_new
+);

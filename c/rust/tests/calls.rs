@@ -1,0 +1,89 @@
+use lockfree::{MakeError, Pass, PopError, PushError, Queue, Stack};
+use std::sync::atomic::{AtomicU64, Ordering};
+use std::sync::Arc;
+
+#[test]
+fn one_thread() {
+    assert_eq!(Queue::<u8>::new(0).err(), Some(MakeError::BadCapacity));
+    let queue = Queue::new(2).unwrap();
+    let mut pass = queue.pass().unwrap();
+    assert_eq!(pass.pop(), Err(PopError::Empty));
+    assert_eq!(pass.push("a".to_string()), Ok(0));
+    assert_eq!(pass.push("b".to_string()), Ok(1));
+    assert_eq!(pass.push("c".to_string()), Err(PushError::Full("c".to_string())));
+    assert_eq!(pass.pop(), Ok("a".to_string()));
+    assert!(pass.close());
+    assert_eq!(pass.push("d".to_string()), Err(PushError::Closed("d".to_string())));
+    assert_eq!(pass.pop(), Ok("b".to_string()));
+    assert_eq!(pass.pop(), Err(PopError::Closed));
+}
+
+#[test]
+fn the_last_comes_first() {
+    let stack = Stack::new(8).unwrap();
+    let mut pass = stack.pass().unwrap();
+    for value in 1..=3 {
+        assert!(pass.push(value).is_ok());
+    }
+    assert_eq!((pass.pop(), pass.pop(), pass.pop()), (Ok(3), Ok(2), Ok(1)));
+}
+
+#[test]
+fn values_are_dropped_once() {
+    let value = Arc::new(());
+    let stack = Stack::new(8).unwrap();
+    let mut pass = stack.pass().unwrap();
+    for _ in 0..5 {
+        assert!(pass.push(value.clone()).is_ok());
+    }
+    drop(pass.pop());
+    assert_eq!(Arc::strong_count(&value), 5);
+    drop(stack);
+    assert_eq!(Arc::strong_count(&value), 1);
+}
+
+fn many_threads(pass: impl Fn() -> Pass<Box<u64>> + Sync) {
+    const EACH: u64 = 50_000;
+    let (sum, count, pass) = (&AtomicU64::new(0), &AtomicU64::new(0), &pass);
+    std::thread::scope(|scope| {
+        let putting = (0..4u64).map(|side| scope.spawn(move || {
+            let mut pass = pass();
+            for i in 0..EACH {
+                let mut value = Box::new(side * EACH + i);
+                while let Err(PushError::Full(back)) = pass.push(value) {
+                    value = back;
+                    std::thread::yield_now();
+                }
+            }
+        }));
+        let putting: Vec<_> = putting.collect();
+        for _ in 0..4 {
+            scope.spawn(move || {
+                let mut pass = pass();
+                loop {
+                    match pass.pop() {
+                        Ok(value) => {
+                            sum.fetch_add(*value, Ordering::Relaxed);
+                            count.fetch_add(1, Ordering::Relaxed);
+                        }
+                        Err(PopError::Closed) => break,
+                        Err(_) => std::thread::yield_now(),
+                    }
+                }
+            });
+        }
+        for thread in putting {
+            thread.join().unwrap();
+        }
+        pass().close();
+    });
+    let all = 4 * EACH;
+    assert_eq!((count.load(Ordering::Relaxed), sum.load(Ordering::Relaxed)), (all, all * (all - 1) / 2));
+}
+
+#[test]
+fn each_value_once() {
+    let (queue, stack) = (Queue::new(64).unwrap(), Stack::new(64).unwrap());
+    many_threads(|| queue.pass().unwrap());
+    many_threads(|| stack.pass().unwrap());
+}

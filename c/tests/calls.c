@@ -1,0 +1,192 @@
+/* Plain C: each code that one thread can meet, misuse among them; refused memory; and 4 + 4 threads. */
+#include "lockfree.h"
+
+#include <pthread.h>
+#include <sched.h>
+#include <stdio.h>
+#include <stdlib.h>
+
+#define CHECK(holds)                                                         \
+    do {                                                                     \
+        if (!(holds)) {                                                      \
+            printf("%s:%d: not so: %s\n", __FILE__, __LINE__, #holds);       \
+            exit(1);                                                         \
+        }                                                                    \
+    } while (0)
+
+typedef uint32_t make_new(lockfree_handle *root, uint32_t capacity);
+
+/* The Nth allocation from now is refused; 0: none is (linked with --wrap). */
+static long refused = 0;
+void *__real_malloc(size_t size);
+void *__real_realloc(void *at, size_t size);
+void *__wrap_malloc(size_t size);
+void *__wrap_realloc(void *at, size_t size);
+void *__wrap_malloc(size_t size) { return refused > 0 && --refused == 0 ? NULL : __real_malloc(size); }
+void *__wrap_realloc(void *at, size_t size) { return refused > 0 && --refused == 0 ? NULL : __real_realloc(at, size); }
+
+static void codes_of_handles(make_new *make)
+{
+    lockfree_handle root = {0}, pass = {0}, other = {0};
+    CHECK(make(&root, 0) == LOCKFREE_BAD_CAPACITY && make(&root, 1048574) == LOCKFREE_BAD_CAPACITY);
+    CHECK(lockfree_put(&pass, 1, 1).code == LOCKFREE_NO_HANDLE && lockfree_take(&pass, 1).code == LOCKFREE_NO_HANDLE);
+    CHECK(lockfree_close(&pass, 1).code == LOCKFREE_NO_HANDLE && lockfree_go_on(&pass, 1).code == LOCKFREE_NO_HANDLE);
+    CHECK(lockfree_split(&root, &pass) == LOCKFREE_NO_HANDLE && lockfree_free(&root) == LOCKFREE_NO_HANDLE);
+    CHECK(make(&root, 2) == LOCKFREE_OK && make(&root, 2) == LOCKFREE_IN_USE);
+    CHECK(lockfree_put(&root, 1, 1).code == LOCKFREE_OTHER_HANDLE && lockfree_look(&root, 1).code == LOCKFREE_OTHER_HANDLE);
+    CHECK(lockfree_go_on(&root, 1).code == LOCKFREE_OTHER_HANDLE);
+    CHECK(lockfree_split(&root, &pass) == LOCKFREE_OK && lockfree_split(&root, &pass) == LOCKFREE_IN_USE);
+    CHECK(lockfree_split(&pass, &other) == LOCKFREE_OTHER_HANDLE && lockfree_go_on(&pass, 1).code == LOCKFREE_NO_CALL);
+    CHECK(lockfree_free(&root) == LOCKFREE_OK && lockfree_free(&root) == LOCKFREE_NO_HANDLE);
+    CHECK(lockfree_push(&pass, 7) == LOCKFREE_OK); /* the pass keeps its container */
+    CHECK(lockfree_free(&pass) == LOCKFREE_OK && lockfree_take(&pass, 1).code == LOCKFREE_NO_HANDLE);
+}
+
+static void codes_of_calls(make_new *make, int first_out)
+{
+    lockfree_handle root = {0}, a = {0}, b = {0};
+    uint64_t value = 0;
+    CHECK(make(&root, 2) == LOCKFREE_OK && lockfree_split(&root, &a) == LOCKFREE_OK && lockfree_split(&root, &b) == LOCKFREE_OK);
+    CHECK(lockfree_pop(&a, &value) == LOCKFREE_EMPTY && lockfree_look(&a, 9).code == LOCKFREE_EMPTY);
+    lockfree_answer put = lockfree_put(&a, 10, 0);
+    CHECK(put.code == LOCKFREE_OK && put.number == 0);
+    put = lockfree_put(&b, 20, 9);
+    CHECK(put.code == LOCKFREE_OK && put.number == 1 && lockfree_push(&a, 30) == LOCKFREE_FULL);
+    CHECK(lockfree_look(&a, 9).code == LOCKFREE_OK);
+    CHECK(lockfree_pop(&b, &value) == LOCKFREE_OK && value == (first_out ? 10u : 20u));
+    lockfree_answer taken = lockfree_take(&a, 9);
+    CHECK(taken.code == LOCKFREE_OK && taken.value == (first_out ? 20u : 10u) && taken.number == (first_out ? 1u : 3u));
+    CHECK(lockfree_push(&a, 40) == LOCKFREE_OK);
+    CHECK(lockfree_close(&a, 9).code == LOCKFREE_OK && lockfree_close(&b, 9).code == LOCKFREE_CLOSED);
+    CHECK(lockfree_push(&b, 1) == LOCKFREE_CLOSED && lockfree_pop(&b, &value) == LOCKFREE_OK && value == 40);
+    CHECK(lockfree_pop(&b, &value) == LOCKFREE_CLOSED);
+    CHECK(lockfree_shut(&a, 9).code == LOCKFREE_OK && lockfree_shut(&b, 9).code == LOCKFREE_SHUT);
+    CHECK(lockfree_pop(&a, &value) == LOCKFREE_SHUT);
+    lockfree_free(&a), lockfree_free(&root), lockfree_free(&b);
+}
+
+static void refused_memory(make_new *make)
+{
+    for (long at = 1;; at++) {
+        lockfree_handle root = {0}, pass = {0};
+        refused = at;
+        uint32_t made = make(&root, 8);
+        uint32_t split = made == LOCKFREE_OK ? lockfree_split(&root, &pass) : LOCKFREE_NO_MEMORY;
+        int all = refused > 0;
+        refused = 0;
+        CHECK(made == LOCKFREE_OK || made == LOCKFREE_NO_MEMORY);
+        CHECK(split == (all ? LOCKFREE_OK : LOCKFREE_NO_MEMORY) && pass.full == (split == LOCKFREE_OK));
+        if (made == LOCKFREE_OK)
+            CHECK(lockfree_split(&root, &pass) == (all ? LOCKFREE_IN_USE : LOCKFREE_OK) && lockfree_push(&pass, 1) == LOCKFREE_OK);
+        lockfree_free(&root), lockfree_free(&pass);
+        if (all)
+            return;
+    }
+}
+
+enum { EACH = 100000, SIDES = 4 };
+static unsigned char *seen;
+
+struct work {
+    lockfree_handle pass;
+    uint64_t from, count;
+    int by_single_tries;
+};
+
+static void *puts_all(void *at)
+{
+    struct work *work = at;
+    for (uint64_t i = 0; i < EACH; i++)
+        for (;;) {
+            lockfree_answer put = lockfree_put(&work->pass, work->from + i, work->by_single_tries ? 0 : UINT64_MAX);
+            while (put.code == LOCKFREE_BUSY) {
+                CHECK(lockfree_take(&work->pass, 1).code == LOCKFREE_UNDER_WAY);
+                put = lockfree_go_on(&work->pass, 1);
+            }
+            if (put.code == LOCKFREE_OK)
+                break;
+            CHECK(put.code == LOCKFREE_FULL);
+            sched_yield();
+        }
+    return NULL;
+}
+
+static void *takes_all(void *at)
+{
+    struct work *work = at;
+    uint64_t value, last[SIDES] = {0};
+    for (;;) {
+        uint32_t code = lockfree_pop(&work->pass, &value);
+        if (code == LOCKFREE_CLOSED)
+            return NULL;
+        if (code != LOCKFREE_OK) {
+            CHECK(code == LOCKFREE_EMPTY);
+            sched_yield();
+            continue;
+        }
+        if (work->by_single_tries) { /* of a queue: the order of each sender */
+            CHECK(value + 1 > last[value / EACH]);
+            last[value / EACH] = value + 1;
+        }
+        CHECK(__atomic_add_fetch(&seen[value], 1, __ATOMIC_RELAXED) == 1);
+        work->count++;
+    }
+}
+
+static void many_threads(make_new *make, uint32_t capacity, int first_out)
+{
+    lockfree_handle root = {0}, closing = {0};
+    struct work works[2 * SIDES] = {0};
+    pthread_t threads[2 * SIDES];
+    seen = calloc(SIDES, EACH);
+    CHECK(seen && make(&root, capacity) == LOCKFREE_OK && lockfree_split(&root, &closing) == LOCKFREE_OK);
+    for (int i = 0; i < 2 * SIDES; i++) {
+        works[i].from = (uint64_t)i * EACH;
+        works[i].by_single_tries = i < SIDES ? i % 2 : first_out;
+        CHECK(lockfree_split(&root, &works[i].pass) == LOCKFREE_OK);
+        CHECK(pthread_create(&threads[i], NULL, i < SIDES ? puts_all : takes_all, &works[i]) == 0);
+    }
+    CHECK(lockfree_free(&root) == LOCKFREE_OK); /* while the passes are out */
+    for (int i = 0; i < SIDES; i++)
+        pthread_join(threads[i], NULL);
+    CHECK(lockfree_until(&closing, lockfree_close(&closing, 0)).code == LOCKFREE_OK);
+    uint64_t count = 0;
+    for (int i = SIDES; i < 2 * SIDES; i++) {
+        pthread_join(threads[i], NULL);
+        count += works[i].count;
+    }
+    CHECK(count == (uint64_t)SIDES * EACH);
+    for (int i = 0; i < 2 * SIDES; i++)
+        CHECK(lockfree_free(&works[i].pass) == LOCKFREE_OK);
+    CHECK(lockfree_free(&closing) == LOCKFREE_OK);
+    free(seen);
+}
+
+static void add(uint64_t value, void *sum) { *(uint64_t *)sum += value; }
+
+static void consuming(make_new *make)
+{
+    lockfree_handle root = {0}, pass = {0};
+    uint64_t sum = 0;
+    CHECK(make(&root, 8) == LOCKFREE_OK && lockfree_split(&root, &pass) == LOCKFREE_OK);
+    for (uint64_t i = 1; i <= 5; i++)
+        CHECK(lockfree_push(&pass, i) == LOCKFREE_OK);
+    CHECK(lockfree_consume_one(&pass, add, &sum) == LOCKFREE_OK && lockfree_consume_all(&pass, add, &sum) == 4 && sum == 15);
+    CHECK(lockfree_consume_one(&pass, add, &sum) == LOCKFREE_EMPTY);
+    lockfree_free(&pass), lockfree_free(&root);
+}
+
+int main(void)
+{
+    make_new *const makes[] = {lockfree_queue_new, lockfree_stack_new};
+    for (int i = 0; i < 2; i++) {
+        codes_of_handles(makes[i]);
+        codes_of_calls(makes[i], i == 0);
+        refused_memory(makes[i]);
+        consuming(makes[i]);
+        many_threads(makes[i], 64, i == 0);
+        many_threads(makes[i], 3, i == 0);
+    }
+    puts("passed");
+    return 0;
+}

@@ -1,0 +1,5 @@
+pub mod Codes
+pub mod Stages
+pub mod Held
+pub mod Owned
+pub mod Slots

@@ -1,0 +1,54 @@
+-- What C keeps is as the library left it, and what the exports do to it.
+use Rattle.std.specs.Prelude.{◌≡◌, ℕ, Bool, true, false, Result, MatchResult}
+use Rattle.bounded_model.specs.declared.commands.Command.{Command}
+use Rattle.lockfree_c.specs.Held.{IsHeld, HeldCalled, HeldWentOn, HeldSplit, NewRefused}
+use Rattle.lockfree_c.specs.declared.answers.Answer.{Answer}
+use Rattle.lockfree_c.specs.declared.answers.TheConstants.{OK, NO_HANDLE, IN_USE}
+use Rattle.lockfree_c.specs.declared.held.Held.{Held}
+use Rattle.lockfree_c.specs.declared.slot.Slot.{Slot}
+
+abbrev pub IsSlot : Slot → Type 0
+IsSlot s = s.full ≡ true → IsHeld s.handle.held
+
+-- a slot is full, with this behind it; or it is empty
+abbrev pub Holds : Slot → Held → Type 0
+Holds s held = (s.full ≡ true) × (s.handle.held ≡ held)
+
+abbrev pub IsEmpty : Slot → Type 0
+IsEmpty s = s.full ≡ false
+
+-- P where it is so, and Q where it is not
+abbrev pub Either : Bool → Type 0 → Type 0 → Type 0
+Either true P Q = P
+Either false P Q = Q
+
+abbrev pub SlotCalled : Slot → Command ℕ → Slot → Answer → Type 0
+SlotCalled s call t a = Either s.full
+    ((t.full ≡ true) × HeldCalled s.handle.held call t.handle.held a)
+    (IsEmpty t × (a.code ≡ NO_HANDLE))
+
+abbrev pub SlotWentOn : Slot → Slot → Answer → Type 0
+SlotWentOn s t a = Either s.full
+    ((t.full ≡ true) × HeldWentOn s.handle.held t.handle.held a)
+    (IsEmpty t × (a.code ≡ NO_HANDLE))
+
+-- a new root, of which `IsNew` says what it is; a slot that is full is left as it is
+abbrev pub SlotNew : (Held → Type 0) → ℕ → Slot → Slot → ℕ → Type 0
+SlotNew IsNew n s t code = Either s.full
+    ((t ≡ s) × (code ≡ IN_USE))
+    ((made : Result Held ℕ) × MatchResult made
+    (λ held. Holds t held × IsNew held × (code ≡ OK))
+    (λ why. IsEmpty t × NewRefused n why × (code ≡ why)))
+
+-- a pass that a root gives, into a slot that is empty
+abbrev pub SlotSplit : Slot → Slot → Slot → Slot → ℕ → Type 0
+SlotSplit root pass root' pass' code = Either pass.full
+    ((root' ≡ root) × (pass' ≡ pass) × (code ≡ IN_USE))
+    (Either root.full
+    ((root'.full ≡ true) × ((made : Result Held ℕ) × HeldSplit root.handle.held root'.handle.held made
+    × MatchResult made (λ held. Holds pass' held × (code ≡ OK)) (λ why. IsEmpty pass' × (code ≡ why))))
+    (IsEmpty root' × IsEmpty pass' × (code ≡ NO_HANDLE)))
+
+-- what was behind it is given up
+abbrev pub SlotFreed : Slot → Slot → ℕ → Type 0
+SlotFreed s t code = IsEmpty t × Either s.full (code ≡ OK) (code ≡ NO_HANDLE)

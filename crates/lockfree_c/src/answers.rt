@@ -1,0 +1,126 @@
+//! What a call answers C: a code, and with some of them a value and a number.
+ghost use Rattle.std.specs.Prelude.{◌≡◌};
+
+use bounded_model::{PutRefused, Reply, TakeRefused};
+
+/// Done.
+pub const OK: u32 = 0;
+
+/// A put: each cell holds a value or is held by a pass.
+pub const FULL: u32 = 1;
+
+/// A take: there is no value, and more may come. A look: it was empty.
+pub const EMPTY: u32 = 2;
+
+/// A put: the container is closed. A take: it is closed, and there is no value. A close: it was
+/// closed before.
+pub const CLOSED: u32 = 3;
+
+/// A take: the container is shut. A shut: it was shut before.
+pub const SHUT: u32 = 4;
+
+/// A tag is at its limit; the number is the tag.
+pub const SPENT: u32 = 5;
+
+/// The tries are used up: the call is under way.
+pub const BUSY: u32 = 6;
+
+/// The pass has a call under way already.
+pub const UNDER_WAY: u32 = 7;
+
+/// The pass has no call under way.
+pub const NO_CALL: u32 = 8;
+
+/// There is no memory.
+pub const NO_MEMORY: u32 = 9;
+
+/// As many passes are out as there may be.
+pub const NO_PASS: u32 = 10;
+
+/// The capacity is out of range.
+pub const BAD_CAPACITY: u32 = 11;
+
+/// A root in the place of a pass, or the other way round.
+pub const OTHER_HANDLE: u32 = 12;
+
+/// The handle is empty.
+pub const NO_HANDLE: u32 = 13;
+
+/// The handle that is to be made is not empty.
+pub const IN_USE: u32 = 14;
+
+/// A code; of a take that is done its value; the number of a put or a take that is done, or the tag
+/// of one that is spent. What is not said is 0.
+#[repr(C)]
+#[derive(Clone, Copy)]
+pub struct Answer {
+    pub value: u64,
+    pub number: u64,
+    pub code: u32,
+}
+
+impl Answer {
+    ghost use Rattle.lockfree_c.specs.Codes.{SaysPut, SaysTake, Says};
+
+    /// A code alone.
+    #[inline(always)]
+    pub fn of(code: u32) -> Answer
+        ensures { result.code ≡ code }
+    {
+        Answer::numbered(code, 0)
+    }
+
+    #[inline(always)]
+    fn numbered(code: u32, number: u64) -> Answer
+        ensures { (result.code ≡ code) × (result.number ≡ number) }
+    {
+        Answer {
+            value: 0,
+            number,
+            code,
+        }
+    }
+
+    #[inline(always)]
+    fn of_put(said: Result<u64, PutRefused<u64>>) -> Answer
+        ensures { SaysPut said result }
+    {
+        match said {
+            Ok(number) => Answer::numbered(OK, number),
+            Err(PutRefused::Full(_)) => Answer::of(FULL),
+            Err(PutRefused::Closed(_)) => Answer::of(CLOSED),
+            Err(PutRefused::Spent(_, _, tag)) => Answer::numbered(SPENT, tag),
+        }
+    }
+
+    #[inline(always)]
+    fn of_take(said: Result<(u64, u64), TakeRefused>) -> Answer
+        ensures { SaysTake said result }
+    {
+        match said {
+            Ok((value, number)) => Answer {
+                value,
+                number,
+                code: OK,
+            },
+            Err(TakeRefused::Empty) => Answer::of(EMPTY),
+            Err(TakeRefused::Closed) => Answer::of(CLOSED),
+            Err(TakeRefused::Shut) => Answer::of(SHUT),
+            Err(TakeRefused::Spent(_, tag)) => Answer::numbered(SPENT, tag),
+        }
+    }
+
+    /// What a whole call answered.
+    #[inline(always)]
+    pub fn of_reply(said: Reply<u64>) -> Answer
+        ensures { Says said result }
+    {
+        match said {
+            Reply::Put(said) => Answer::of_put(said),
+            Reply::Take(said) => Answer::of_take(said),
+            Reply::Close(closed) => Answer::of(if closed { OK } else { CLOSED }),
+            Reply::Shut(shut) => Answer::of(if shut { OK } else { SHUT }),
+            Reply::Look(is_empty) => Answer::of(if is_empty { EMPTY } else { OK }),
+        }
+    }
+}

@@ -1,0 +1,141 @@
+//! The calls on what lies in a box behind a handle.
+ghost use Rattle.std.specs.Prelude.{Ok, Err, IfOk, MatchResult};
+ghost use Rattle.bounded_model.specs.declared.commands.Command.TheVariants.{Put, Take};
+ghost use Rattle.lockfree_c.specs.Held.{
+  HeldCalled,
+  HeldSplit,
+  HeldWentOn,
+  IsHeld,
+  IsNewQueue,
+  IsNewStack,
+  NewRefused,
+};
+
+use crate::answers::{Answer, NO_MEMORY, OTHER_HANDLE};
+use crate::held::Held;
+use crate::queue::{new_queue, split_queue};
+use crate::stack::{new_stack, split_stack};
+use bounded_model::Command;
+use std::alloc::Global;
+use std::mem;
+
+/// A new queue's root in a box, or why there is none.
+pub fn boxed_queue(alloc: Global, capacity: u32) -> Result<Box<Held, Global>, u32>
+    ensures { MatchResult result
+        (λ b. IsNewQueue capacity b.value) (λ code. NewRefused capacity code) }
+{
+    let root = new_queue(alloc, capacity)?;
+    match Box::new(alloc, Held::QueueRoot(root)) {
+        Ok(held) => Ok(held),
+        Err(_) => Err(NO_MEMORY),
+    }
+}
+
+/// A new stack's root in a box, or why there is none.
+pub fn boxed_stack(alloc: Global, capacity: u32) -> Result<Box<Held, Global>, u32>
+    ensures { MatchResult result
+        (λ b. IsNewStack capacity b.value) (λ code. NewRefused capacity code) }
+{
+    let root = new_stack(alloc, capacity)?;
+    match Box::new(alloc, Held::StackRoot(root)) {
+        Ok(held) => Ok(held),
+        Err(_) => Err(NO_MEMORY),
+    }
+}
+
+// A pass of this root, and the root again.
+fn split(held: Held) -> (Held, Result<Held, u32>)
+    requires { IsHeld held }
+    ensures root { IsHeld result.0 }
+    ensures pass { IfOk result.1 (λ p. IsHeld p) }
+    ensures gives { HeldSplit held result.0 result.1 }
+{
+    match held {
+        Held::QueueRoot(root) => match split_queue(root) {
+            (root, Ok(pass)) => (Held::QueueRoot(root), Ok(Held::QueuePass(pass))),
+            (root, Err(code)) => (Held::QueueRoot(root), Err(code)),
+        },
+        Held::StackRoot(root) => match split_stack(root) {
+            (root, Ok(pass)) => (Held::StackRoot(root), Ok(Held::StackPass(pass))),
+            (root, Err(code)) => (Held::StackRoot(root), Err(code)),
+        },
+        other => (other, Err(OTHER_HANDLE)),
+    }
+}
+
+/// A pass of the root that lies here, in a box of its own.
+pub fn split_from(alloc: Global, held: &mut Held) -> Result<Box<Held, Global>, u32>
+    requires { IsHeld held.old }
+    ensures root { IsHeld held.new }
+    ensures gives { MatchResult result
+        (λ b. HeldSplit held.old held.new (Ok b.value) × IsHeld b.value)
+        (λ code. HeldSplit held.old held.new (Err code)) }
+{
+    let Ok(room) = Box::new(alloc, Held::Nothing) else {
+        return Err(NO_MEMORY);
+    };
+    let mut room = room;
+    let (root, made) = split(mem::replace(held, Held::Nothing));
+    *held = root;
+    match made {
+        Ok(pass) => {
+            Box::replace(&mut room, pass);
+            Ok(room)
+        }
+        Err(code) => Err(code),
+    }
+}
+
+/// A put by what lies in the box, if that is a pass.
+#[inline(always)]
+pub fn put_by(held: &mut Held, value: u64, tries: u64) -> Answer
+    requires { IsHeld held.old }
+    ensures of { IsHeld held.new }
+    ensures gives { HeldCalled held.old (Put value) held.new result }
+{
+    match held {
+        Held::QueuePass(pass) => pass.put(value, tries),
+        Held::StackPass(pass) => pass.put(value, tries),
+        _ => Answer::of(OTHER_HANDLE),
+    }
+}
+
+/// A take by what lies in the box, if that is a pass.
+#[inline(always)]
+pub fn take_by(held: &mut Held, tries: u64) -> Answer
+    requires { IsHeld held.old }
+    ensures of { IsHeld held.new }
+    ensures gives { HeldCalled held.old Take held.new result }
+{
+    match held {
+        Held::QueuePass(pass) => pass.take(tries),
+        Held::StackPass(pass) => pass.take(tries),
+        _ => Answer::of(OTHER_HANDLE),
+    }
+}
+
+/// Any call by what lies in the box, if that is a pass.
+pub fn call_by(held: &mut Held, command: Command<u64>, tries: u64) -> Answer
+    requires { IsHeld held.old }
+    ensures of { IsHeld held.new }
+    ensures gives { HeldCalled held.old command held.new result }
+{
+    match held {
+        Held::QueuePass(pass) => pass.call(command, tries),
+        Held::StackPass(pass) => pass.call(command, tries),
+        _ => Answer::of(OTHER_HANDLE),
+    }
+}
+
+/// Goes on with the call of what lies in the box, if that is a pass.
+pub fn go_on_by(held: &mut Held, tries: u64) -> Answer
+    requires { IsHeld held.old }
+    ensures of { IsHeld held.new }
+    ensures gives { HeldWentOn held.old held.new result }
+{
+    match held {
+        Held::QueuePass(pass) => pass.go_on(tries),
+        Held::StackPass(pass) => pass.go_on(tries),
+        _ => Answer::of(OTHER_HANDLE),
+    }
+}

@@ -1,0 +1,205 @@
+//! The functions that C calls. A slot is written by them alone, and given to one call at a time.
+ghost use Rattle.bounded_model.specs.declared.commands.Command.TheVariants.{
+  Put,
+  Take,
+  Close,
+  Shut,
+  Look,
+};
+ghost use Rattle.lockfree_c.specs.Held.{IsNewQueue, IsNewStack};
+ghost use Rattle.lockfree_c.specs.Slots.{
+  IsSlot,
+  SlotCalled,
+  SlotFreed,
+  SlotNew,
+  SlotSplit,
+  SlotWentOn,
+};
+
+use crate::answers::{Answer, IN_USE, NO_HANDLE, OK};
+use crate::boxed::{boxed_queue, boxed_stack, call_by, go_on_by, put_by, split_from, take_by};
+use crate::slot::Slot;
+use bounded_model::Command;
+use std::alloc::Global;
+
+/// A new queue's root: an empty queue of this capacity, open and not shut.
+#[unsafe(no_mangle)]
+pub extern "C" fn lockfree_queue_new(alloc: Global, root: &mut Slot, capacity: u32) -> u32
+    requires { IsSlot root.old }
+    ensures of { IsSlot root.new }
+    ensures gives { SlotNew (IsNewQueue capacity) capacity root.old root.new result }
+{
+    if root.full {
+        return IN_USE;
+    }
+    match boxed_queue(alloc, capacity) {
+        Ok(held) => {
+            root.put(held);
+            OK
+        }
+        Err(code) => code,
+    }
+}
+
+/// A new stack's root: an empty stack of this capacity, open and not shut.
+#[unsafe(no_mangle)]
+pub extern "C" fn lockfree_stack_new(alloc: Global, root: &mut Slot, capacity: u32) -> u32
+    requires { IsSlot root.old }
+    ensures of { IsSlot root.new }
+    ensures gives { SlotNew (IsNewStack capacity) capacity root.old root.new result }
+{
+    if root.full {
+        return IN_USE;
+    }
+    match boxed_stack(alloc, capacity) {
+        Ok(held) => {
+            root.put(held);
+            OK
+        }
+        Err(code) => code,
+    }
+}
+
+/// A new pass of the root's container.
+#[unsafe(no_mangle)]
+pub extern "C" fn lockfree_split(alloc: Global, root: &mut Slot, pass: &mut Slot) -> u32
+    requires { IsSlot root.old × IsSlot pass.old }
+    ensures of { IsSlot root.new × IsSlot pass.new }
+    ensures gives { SlotSplit root.old pass.old root.new pass.new result }
+{
+    if pass.full {
+        return IN_USE;
+    }
+    match root.take(alloc) {
+        None => NO_HANDLE,
+        Some(held) => {
+            let mut held = held;
+            let made = split_from(alloc, &mut held);
+            root.put(held);
+            match made {
+                Ok(held) => {
+                    pass.put(held);
+                    OK
+                }
+                Err(code) => code,
+            }
+        }
+    }
+}
+
+// Any call of what the slot holds.
+fn call(alloc: Global, pass: &mut Slot, command: Command<u64>, tries: u64) -> Answer
+    requires { IsSlot pass.old }
+    ensures of { IsSlot pass.new }
+    ensures gives { SlotCalled pass.old command pass.new result }
+{
+    match pass.take(alloc) {
+        None => Answer::of(NO_HANDLE),
+        Some(held) => {
+            let mut held = held;
+            let answer = call_by(&mut held, command, tries);
+            pass.put(held);
+            answer
+        }
+    }
+}
+
+/// Puts a value.
+#[unsafe(no_mangle)]
+pub extern "C" fn lockfree_put(alloc: Global, pass: &mut Slot, value: u64, tries: u64) -> Answer
+    requires { IsSlot pass.old }
+    ensures of { IsSlot pass.new }
+    ensures gives { SlotCalled pass.old (Put value) pass.new result }
+{
+    match pass.take(alloc) {
+        None => Answer::of(NO_HANDLE),
+        Some(held) => {
+            let mut held = held;
+            let answer = put_by(&mut held, value, tries);
+            pass.put(held);
+            answer
+        }
+    }
+}
+
+/// Takes a value.
+#[unsafe(no_mangle)]
+pub extern "C" fn lockfree_take(alloc: Global, pass: &mut Slot, tries: u64) -> Answer
+    requires { IsSlot pass.old }
+    ensures of { IsSlot pass.new }
+    ensures gives { SlotCalled pass.old Take pass.new result }
+{
+    match pass.take(alloc) {
+        None => Answer::of(NO_HANDLE),
+        Some(held) => {
+            let mut held = held;
+            let answer = take_by(&mut held, tries);
+            pass.put(held);
+            answer
+        }
+    }
+}
+
+/// Closes the container.
+#[unsafe(no_mangle)]
+pub extern "C" fn lockfree_close(alloc: Global, pass: &mut Slot, tries: u64) -> Answer
+    requires { IsSlot pass.old }
+    ensures of { IsSlot pass.new }
+    ensures gives { SlotCalled pass.old Close pass.new result }
+{
+    call(alloc, pass, Command::Close, tries)
+}
+
+/// Shuts the container.
+#[unsafe(no_mangle)]
+pub extern "C" fn lockfree_shut(alloc: Global, pass: &mut Slot, tries: u64) -> Answer
+    requires { IsSlot pass.old }
+    ensures of { IsSlot pass.new }
+    ensures gives { SlotCalled pass.old Shut pass.new result }
+{
+    call(alloc, pass, Command::Shut, tries)
+}
+
+/// Looks whether the container is empty.
+#[unsafe(no_mangle)]
+pub extern "C" fn lockfree_look(alloc: Global, pass: &mut Slot, tries: u64) -> Answer
+    requires { IsSlot pass.old }
+    ensures of { IsSlot pass.new }
+    ensures gives { SlotCalled pass.old Look pass.new result }
+{
+    call(alloc, pass, Command::Look, tries)
+}
+
+/// Goes on with the call that answered `BUSY`.
+#[unsafe(no_mangle)]
+pub extern "C" fn lockfree_go_on(alloc: Global, pass: &mut Slot, tries: u64) -> Answer
+    requires { IsSlot pass.old }
+    ensures of { IsSlot pass.new }
+    ensures gives { SlotWentOn pass.old pass.new result }
+{
+    match pass.take(alloc) {
+        None => Answer::of(NO_HANDLE),
+        Some(held) => {
+            let mut held = held;
+            let answer = go_on_by(&mut held, tries);
+            pass.put(held);
+            answer
+        }
+    }
+}
+
+/// Gives up a root or a pass. The last of a container's handles frees it.
+#[unsafe(no_mangle)]
+pub extern "C" fn lockfree_free(alloc: Global, handle: &mut Slot) -> u32
+    requires { IsSlot handle.old }
+    ensures of { IsSlot handle.new }
+    ensures gives { SlotFreed handle.old handle.new result }
+{
+    match handle.take(alloc) {
+        None => NO_HANDLE,
+        Some(held) => {
+            drop(held);
+            OK
+        }
+    }
+}

@@ -1,0 +1,62 @@
+//! What lies behind a handle.
+use crate::stage::Stage;
+use bounded_calls::Operation;
+use ms_queue::Queue;
+use std::alloc::Global;
+use std::sync::Arc;
+use treiber_stack::Stack;
+
+/// A call of a queue's pass that was begun.
+pub type QueueOperation = Operation<
+    ms_queue::PutOp<u64>,
+    ms_queue::TakeOp<u64>,
+    ms_queue::CloseOp<u64>,
+    ms_queue::ShutOp<u64>,
+    ms_queue::LookOp<u64>,
+>;
+
+/// A call of a stack's pass that was begun.
+pub type StackOperation = Operation<
+    treiber_stack::PutOp<u64>,
+    treiber_stack::TakeOp<u64>,
+    treiber_stack::CloseOp<u64>,
+    treiber_stack::ShutOp<u64>,
+    treiber_stack::LookOp<u64>,
+>;
+
+/// A queue's root, with a share of the queue.
+#[derive(Drop)]
+pub struct QueueRoot {
+    pub queue: Arc<Queue<u64>, Global>,
+    pub root: ms_queue::Root<u64>,
+}
+
+/// A queue's pass, with a share of the queue: so it is used with no other.
+#[derive(Drop)]
+pub struct QueuePass {
+    pub queue: Arc<Queue<u64>, Global>,
+    pub stage: Stage<ms_queue::Pass<u64>, QueueOperation>,
+}
+
+/// A stack's root, with a share of the stack.
+#[derive(Drop)]
+pub struct StackRoot {
+    pub stack: Arc<Stack<u64>, Global>,
+    pub root: treiber_stack::Root<u64>,
+}
+
+/// A stack's pass, with a share of the stack: so it is used with no other.
+#[derive(Drop)]
+pub struct StackPass {
+    pub stack: Arc<Stack<u64>, Global>,
+    pub stage: Stage<treiber_stack::Pass<u64>, StackOperation>,
+}
+
+#[derive(Drop)]
+pub enum Held {
+    Nothing,
+    QueueRoot(QueueRoot),
+    QueuePass(QueuePass),
+    StackRoot(StackRoot),
+    StackPass(StackPass),
+}

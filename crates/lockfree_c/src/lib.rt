@@ -1,0 +1,18 @@
+//! The queue and the stack for C, C++ and Rust: what a program that is not Rattle holds, and the
+//! calls that it makes.
+//!
+//! Promised, as long as C keeps to `c/lockfree.h`: each export's answer says what the container's
+//! law says of the call. A pass is used with its own container alone, and the last handle of a
+//! container frees it.
+#![tactic(auto)]
+
+mod answers;
+mod boxed;
+mod exports;
+mod handle;
+mod held;
+mod parts;
+mod queue;
+mod slot;
+mod stack;
+mod stage;

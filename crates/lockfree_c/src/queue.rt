@@ -1,0 +1,137 @@
+//! A queue's root and passes.
+ghost use Rattle.std.specs.Prelude.{◌≡◌, MatchResult};
+ghost use Rattle.bounded_model.specs.Laws.{fresh};
+ghost use Rattle.bounded_model.specs.declared.commands.Command.TheVariants.{Put, Take};
+ghost use Rattle.queue_machine.specs.Answers.{shape};
+ghost use Rattle.running.specs.Passes.{root_in};
+ghost use Rattle.tagged_index.specs.declared.word.TheConstants.{MAX_TAG};
+ghost use Rattle.ms_queue.specs.Queue.{shape_of};
+ghost use Rattle.lockfree_c.specs.Held.{
+  IsQueuePass,
+  IsQueueRoot,
+  IsCapacity,
+  QueueCalled,
+  QueueWentOn,
+  NewRefused,
+  SplitOff,
+  SplitRefused,
+};
+
+use crate::answers::{Answer, BAD_CAPACITY, NO_CALL, NO_MEMORY, NO_PASS, UNDER_WAY};
+use crate::held::{QueuePass, QueueRoot};
+use crate::stage::Stage;
+use bounded_calls::BoundedCalls;
+use bounded_model::{Command, Container};
+use ms_queue::Queue;
+use std::alloc::Global;
+use std::sync::Arc;
+use tagged_index::{Limits, MAX_TAG};
+
+/// A new queue's root, or why there is none.
+pub fn new_queue(alloc: Global, capacity: u32) -> Result<QueueRoot, u32>
+    ensures { MatchResult result
+        (λ r. IsQueueRoot r × (root_in r.root ≡ fresh)
+        × (shape_of r.queue.value ≡ shape capacity MAX_TAG))
+        (λ code. NewRefused capacity code) }
+{
+    let Some(limits) = Limits::of(capacity, MAX_TAG) else {
+        return Err(BAD_CAPACITY);
+    };
+    let Ok((queue, root)) = Queue::new(alloc, limits) else {
+        return Err(NO_MEMORY);
+    };
+    match Arc::new(alloc, queue) {
+        Ok(queue) => Ok(QueueRoot { queue, root }),
+        Err(_) => Err(NO_MEMORY),
+    }
+}
+
+/// A pass with a share of the queue.
+pub fn split_queue(root: QueueRoot) -> (QueueRoot, Result<QueuePass, u32>)
+    requires { IsQueueRoot root }
+    ensures root { IsQueueRoot result.0 × (result.0.queue.value ≡ root.queue.value) }
+    ensures gives { MatchResult result.1
+        (λ p. (p.queue.value ≡ root.queue.value) × IsQueuePass p
+        × SplitOff (root_in root.root) (root_in result.0.root) p.stage)
+        (λ code. SplitRefused (root_in root.root) (root_in result.0.root) code) }
+{
+    let QueueRoot { queue, root } = root;
+    let mut root = root;
+    let Ok(shared) = Arc::try_clone(&queue) else {
+        return (QueueRoot { queue, root }, Err(NO_MEMORY));
+    };
+    match queue.split(&mut root) {
+        Some(by) => {
+            let pass = QueuePass {
+                queue: shared,
+                stage: Stage::of(by),
+            };
+            (QueueRoot { queue, root }, Ok(pass))
+        }
+        None => (QueueRoot { queue, root }, Err(NO_PASS)),
+    }
+}
+
+impl QueuePass {
+    /// A put; where the pass is in a call already, nothing.
+    #[inline(always)]
+    pub fn put(&mut self, value: u64, tries: u64) -> Answer
+        requires { IsQueuePass self.old }
+        ensures of { IsQueuePass self.new }
+        ensures gives { QueueCalled self.old (Put value) self.new result }
+    {
+        match self.stage.resting.take() {
+            Some(by) => {
+                let made = self.queue.try_put(by, value, tries);
+                self.stage.leave(made)
+            }
+            None => Answer::of(UNDER_WAY),
+        }
+    }
+
+    /// A take; where the pass is in a call already, nothing.
+    #[inline(always)]
+    pub fn take(&mut self, tries: u64) -> Answer
+        requires { IsQueuePass self.old }
+        ensures of { IsQueuePass self.new }
+        ensures gives { QueueCalled self.old Take self.new result }
+    {
+        match self.stage.resting.take() {
+            Some(by) => {
+                let made = self.queue.try_take(by, tries);
+                self.stage.leave(made)
+            }
+            None => Answer::of(UNDER_WAY),
+        }
+    }
+
+    /// Any call; where the pass is in one already, nothing.
+    pub fn call(&mut self, command: Command<u64>, tries: u64) -> Answer
+        requires { IsQueuePass self.old }
+        ensures of { IsQueuePass self.new }
+        ensures gives { QueueCalled self.old command self.new result }
+    {
+        match self.stage.resting.take() {
+            Some(by) => {
+                let made = self.queue.try_call(by, command, tries);
+                self.stage.leave(made)
+            }
+            None => Answer::of(UNDER_WAY),
+        }
+    }
+
+    /// Goes on with the call that the pass is in, if it is in one.
+    pub fn go_on(&mut self, tries: u64) -> Answer
+        requires { IsQueuePass self.old }
+        ensures of { IsQueuePass self.new }
+        ensures gives { QueueWentOn self.old self.new result }
+    {
+        match self.stage.under_way.take() {
+            Some(operation) => {
+                let made = self.queue.try_on(operation, tries);
+                self.stage.leave(made)
+            }
+            None => Answer::of(NO_CALL),
+        }
+    }
+}

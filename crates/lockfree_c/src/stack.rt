@@ -1,0 +1,137 @@
+//! A stack's root and passes.
+ghost use Rattle.std.specs.Prelude.{◌≡◌, MatchResult};
+ghost use Rattle.bounded_model.specs.Laws.{fresh};
+ghost use Rattle.bounded_model.specs.declared.commands.Command.TheVariants.{Put, Take};
+ghost use Rattle.stack_machine.specs.Answers.{shape};
+ghost use Rattle.running.specs.Passes.{root_in};
+ghost use Rattle.tagged_index.specs.declared.word.TheConstants.{MAX_TAG};
+ghost use Rattle.treiber_stack.specs.Stack.{shape_of};
+ghost use Rattle.lockfree_c.specs.Held.{
+  IsStackPass,
+  IsStackRoot,
+  IsCapacity,
+  StackCalled,
+  StackWentOn,
+  NewRefused,
+  SplitOff,
+  SplitRefused,
+};
+
+use crate::answers::{Answer, BAD_CAPACITY, NO_CALL, NO_MEMORY, NO_PASS, UNDER_WAY};
+use crate::held::{StackPass, StackRoot};
+use crate::stage::Stage;
+use bounded_calls::BoundedCalls;
+use bounded_model::{Command, Container};
+use std::alloc::Global;
+use std::sync::Arc;
+use tagged_index::{Limits, MAX_TAG};
+use treiber_stack::Stack;
+
+/// A new stack's root, or why there is none.
+pub fn new_stack(alloc: Global, capacity: u32) -> Result<StackRoot, u32>
+    ensures { MatchResult result
+        (λ r. IsStackRoot r × (root_in r.root ≡ fresh)
+        × (shape_of r.stack.value ≡ shape capacity MAX_TAG))
+        (λ code. NewRefused capacity code) }
+{
+    let Some(limits) = Limits::of(capacity, MAX_TAG) else {
+        return Err(BAD_CAPACITY);
+    };
+    let Ok((stack, root)) = Stack::new(alloc, limits) else {
+        return Err(NO_MEMORY);
+    };
+    match Arc::new(alloc, stack) {
+        Ok(stack) => Ok(StackRoot { stack, root }),
+        Err(_) => Err(NO_MEMORY),
+    }
+}
+
+/// A pass with a share of the stack.
+pub fn split_stack(root: StackRoot) -> (StackRoot, Result<StackPass, u32>)
+    requires { IsStackRoot root }
+    ensures root { IsStackRoot result.0 × (result.0.stack.value ≡ root.stack.value) }
+    ensures gives { MatchResult result.1
+        (λ p. (p.stack.value ≡ root.stack.value) × IsStackPass p
+        × SplitOff (root_in root.root) (root_in result.0.root) p.stage)
+        (λ code. SplitRefused (root_in root.root) (root_in result.0.root) code) }
+{
+    let StackRoot { stack, root } = root;
+    let mut root = root;
+    let Ok(shared) = Arc::try_clone(&stack) else {
+        return (StackRoot { stack, root }, Err(NO_MEMORY));
+    };
+    match stack.split(&mut root) {
+        Some(by) => {
+            let pass = StackPass {
+                stack: shared,
+                stage: Stage::of(by),
+            };
+            (StackRoot { stack, root }, Ok(pass))
+        }
+        None => (StackRoot { stack, root }, Err(NO_PASS)),
+    }
+}
+
+impl StackPass {
+    /// A put; where the pass is in a call already, nothing.
+    #[inline(always)]
+    pub fn put(&mut self, value: u64, tries: u64) -> Answer
+        requires { IsStackPass self.old }
+        ensures of { IsStackPass self.new }
+        ensures gives { StackCalled self.old (Put value) self.new result }
+    {
+        match self.stage.resting.take() {
+            Some(by) => {
+                let made = self.stack.try_put(by, value, tries);
+                self.stage.leave(made)
+            }
+            None => Answer::of(UNDER_WAY),
+        }
+    }
+
+    /// A take; where the pass is in a call already, nothing.
+    #[inline(always)]
+    pub fn take(&mut self, tries: u64) -> Answer
+        requires { IsStackPass self.old }
+        ensures of { IsStackPass self.new }
+        ensures gives { StackCalled self.old Take self.new result }
+    {
+        match self.stage.resting.take() {
+            Some(by) => {
+                let made = self.stack.try_take(by, tries);
+                self.stage.leave(made)
+            }
+            None => Answer::of(UNDER_WAY),
+        }
+    }
+
+    /// Any call; where the pass is in one already, nothing.
+    pub fn call(&mut self, command: Command<u64>, tries: u64) -> Answer
+        requires { IsStackPass self.old }
+        ensures of { IsStackPass self.new }
+        ensures gives { StackCalled self.old command self.new result }
+    {
+        match self.stage.resting.take() {
+            Some(by) => {
+                let made = self.stack.try_call(by, command, tries);
+                self.stage.leave(made)
+            }
+            None => Answer::of(UNDER_WAY),
+        }
+    }
+
+    /// Goes on with the call that the pass is in, if it is in one.
+    pub fn go_on(&mut self, tries: u64) -> Answer
+        requires { IsStackPass self.old }
+        ensures of { IsStackPass self.new }
+        ensures gives { StackWentOn self.old self.new result }
+    {
+        match self.stage.under_way.take() {
+            Some(operation) => {
+                let made = self.stack.try_on(operation, tries);
+                self.stage.leave(made)
+            }
+            None => Answer::of(NO_CALL),
+        }
+    }
+}
