@@ -8,6 +8,7 @@
 
 mod answers;
 mod boxed;
+mod crossing;
 mod exports;
 mod handle;
 mod held;

@@ -1,0 +1,48 @@
+//! C may give a handle to another thread: the parts of what lies behind one may cross threads. Of a
+//! queue's put that is under way this is not proved here.
+
+use crate::held::{QueueOperation, QueuePass, QueueRoot, StackOperation, StackPass, StackRoot};
+use bounded_calls::Operation;
+
+// Asks that its type may cross threads, and does nothing.
+fn crosses<T: Send>(_part: &T) {}
+
+/// The parts of a queue's root.
+pub fn queue_root_crosses(root: &QueueRoot) {
+    crosses(&root.queue);
+    crosses(&root.root);
+}
+
+/// The parts of a queue's pass, but for the call that it is in.
+pub fn queue_pass_crosses(pass: &QueuePass) {
+    crosses(&pass.queue);
+    crosses(&pass.stage.resting);
+}
+
+/// A call that a queue's pass is in, but for a put.
+pub fn queue_operation_crosses(operation: &QueueOperation) {
+    match operation {
+        Operation::Put(_) => {}
+        Operation::Take(take) => crosses(take),
+        Operation::Close(close) => crosses(close),
+        Operation::Shut(shut) => crosses(shut),
+        Operation::Look(look) => crosses(look),
+    }
+}
+
+/// The parts of a stack's root.
+pub fn stack_root_crosses(root: &StackRoot) {
+    crosses(&root.stack);
+    crosses(&root.root);
+}
+
+/// The parts of a stack's pass, but for the call that it is in.
+pub fn stack_pass_crosses(pass: &StackPass) {
+    crosses(&pass.stack);
+    crosses(&pass.stage.resting);
+}
+
+/// A call that a stack's pass is in.
+pub fn stack_operation_crosses(operation: &StackOperation) {
+    crosses(operation);
+}
