@@ -5,18 +5,17 @@
 
 mod pipe;
 
-pub use program::{relay_main, replay};
-pub use streams::{ReplayFault, ToolFault};
-pub use words::{Chosen, Kind, RelayArgs, WordsRefused, read_words};
-
 use pipe::{Errors, Output};
 use program::run;
+pub use program::{relay_main, replay};
 use std::cell::Cell;
 use std::io::{self, BufWriter};
 use std::process::ExitCode;
 use std::rt::Files;
 use std::{env, fs};
 use streams::OpenFiles;
+pub use streams::{ReplayFault, ToolFault};
+pub use words::{Chosen, Kind, RelayArgs, WordsRefused, read_words};
 
 /// How many bytes one write to standard output has, but for the last. Where there is no memory for
 /// them, each write goes out by itself.
