@@ -154,19 +154,19 @@ module _ {T : Type 0} (n limit : ℕ) where
     rests = refl;
     starts = starts;
     empty = λ l e. ap length (idle_empty l e).cells;
-    begins = λ m of lines h q l o k e idle. goes_empty m of lines h q l (first_line o) k e (idle_empty l idle) (first_empty o) (λ g. first_fine limit m g o);
-    quiets = λ m of lines h q l k e none_held. record { lists = k.lists; good = good_goes q l (Idle None) k.good e (quiets l none_held) tt };
-    reseats = λ m of of' lines lines' h k which hands alone. record { lists = k.lists; good = reseated n limit m k.lists of of' lines lines' h k.good which hands alone };
-    kept = λ m of lines h q p l k e is. step_kept n limit m of lines h q p is k l e;
+    begins = λ m s o idle. goes_empty m s.who s.lines s.history s.seat s.line (first_line o) s.good s.here (idle_empty s.line idle) (first_empty o) (λ g. first_fine limit m g o);
+    quiets = λ m s none_held. record { lists = s.good.lists; good = good_goes s.seat s.line (Idle None) s.good.good s.here (quiets s.line none_held) tt };
+    reseats = λ m r. record { lists = r.good.lists; good = reseated n limit m r.good.lists r.who r.who' r.lines r.lines' r.history r.good.good r.grows r.hands r.alone };
+    kept = λ m t. step_kept n limit m t.at.who t.at.lines t.at.history t.at.seat t.pass t.is t.at.good t.at.line t.at.here;
     legal = λ m of lines h k. k.good.told.legal;
-    hands = λ m of lines h q p l k e is. k.good.told.hands q p l e is;
-    apart = λ m p q h l ne. step_apart (shape n limit) m p q ne h l;
-    deeds = λ o m of lines h q l p b k e saw d. deeds o m of lines h q l k e p b saw d;
-    tells = λ m of lines h q l p b k e before saw t. tells_kept k.good q p.number b p.seen before saw.seen l e t;
+    hands = λ m t. t.at.good.good.told.hands t.at.seat t.pass t.at.line t.at.here t.is;
+    apart = λ m p l h q ne. step_apart (shape n limit) m p q ne h l;
+    deeds = λ o m s d. deeds o m s.at.who s.at.lines s.at.history s.at.seat s.at.line s.at.good s.at.here s.pass s.begun s.saw d;
+    tells = λ m s before t. tells_kept s.at.good.good s.at.seat s.pass.number s.begun s.pass.seen before s.saw.seen s.at.line s.at.here t;
     first_deeds = λ p h o. begins p h (call_of o);
     first_tells = first_tells n limit;
-    unheld = λ m of lines h q p l k e. wins_unheld k.good q p l e;
-    does = λ words homes of lines h q p l sane k e is. does n limit words homes sane p of lines h q k is l e;
+    unheld = λ m s p. wins_unheld s.good.good s.seat p s.line s.here;
+    does = λ words homes t sane. does n limit words homes sane t.pass t.at.who t.at.lines t.at.history t.at.seat t.at.good t.is t.at.line t.at.here;
   }
 
 abbrev pub queue : (T : Type 0) (n limit : ℕ) → Machine T (Line T) (Operation T) names
