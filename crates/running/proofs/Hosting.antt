@@ -27,11 +27,11 @@ abbrev does_bring : Side → Bool
 does_bring brings = true
 does_bring sd = false
 
-mark_stays : (b : Bool) → side b Mark ≡ stays
+pub mark_stays : (b : Bool) → side b Mark ≡ stays
 mark_stays true = refl
 mark_stays false = refl
 
-shut_stays : (b : Bool) → side b Shut ≡ stays
+pub shut_stays : (b : Bool) → side b Shut ≡ stays
 shut_stays true = refl
 shut_stays false = refl
 

@@ -4,14 +4,21 @@
 //! functions here.
 #![tactic(auto)]
 
+mod access;
+mod calls;
+mod code;
 mod lists;
 mod passes;
 mod pause;
 mod rule;
 mod seats;
+mod stepping;
 mod steps;
 mod whole;
 
+pub use access::{Access, Outcome};
+pub use calls::to_the_end;
+pub use code::{Code, Next};
 pub use index_list::raised;
 pub use lists::{
     ListMachine, give_bare_step, give_chain_step, give_one_step, keep_link_step, load_link_step,
@@ -22,6 +29,7 @@ pub use passes::{Note, Pass, Root, heed, join, make_note, meet, split};
 pub use pause::Pause;
 pub use rule::{Machine, Running};
 pub use seats::peek;
+pub use stepping::{any, single_step, step};
 pub use steps::{
     attempt_step, give_step, keep_step, load_step, load_tagged_step, store_step, swap_step,
     take_step,

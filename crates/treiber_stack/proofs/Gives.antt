@@ -1,19 +1,24 @@
 -- Where a step of giving back leads.
-use Rattle.std.proofs.Common.{◌≡◌, ℕ, ◌<◌, false, List, [], ◌∷◌, refl, sym, ap, ◌∙◌, subst}
+use Rattle.std.proofs.Common.{◌≡◌, ℕ, ◌<◌, true, false, List, [], ◌∷◌, refl, sym, ap, ◌∙◌, subst}
 use Rattle.std.specs.Prelude.{Option as Slot}
 use Rattle.bounded_model.specs.declared.views.PassView.{PassView}
 use Rattle.stack_machine.specs.declared.lines.Giving.{Giving}
 use Rattle.stack_machine.specs.declared.lines.Line.{Line}
 use Rattle.stack_machine.specs.Machine.{is_idle, ends}
 use Rattle.stack_table.specs.declared.operation.Operation.{Operation}
-use Rattle.stack_table.specs.Lines.{next}
+use Rattle.stack_table.specs.Lines.{names, next}
 use Rattle.stack_table.specs.Slots.{vacant}
 use mathlib.Core.Option.{some}
 use Rattle.index_list.specs.Kinds.{Kind}
 use Rattle.stack_table.specs.Lists.{lists, list_step}
 use Rattle.running.specs.Lists.{AtStep}
 use Rattle.running.specs.Going.{Found, Steps, Going, Ended, Missed, begun_in}
+use Rattle.running.specs.Code.{Finding, Leads, MatchNext}
+use Rattle.running.specs.declared.access.Outcome.{Outcome}
+use Rattle.running.specs.declared.code.Next.{Next}
+use Rattle.running.specs.declared.code.Next.TheVariants.{On as NextOn, Lost as NextLost, Done as NextDone}
 use Rattle.running.specs.declared.passes.Pass.{Pass}
+use Rattle.running.proofs.Leading.{finding}
 use Rattle.running.proofs.Ways.{goes_on, ends_so, hits, misses}
 use Rattle.treiber_stack.specs.declared.stack.Stack.{Stack}
 use Rattle.treiber_stack.specs.declared.giving.Chain.{Chain}
@@ -21,7 +26,7 @@ use Rattle.treiber_stack.specs.declared.giving.Give.{Give}
 use Rattle.treiber_stack.specs.declared.giving.Give.TheVariants.{Load, Link, Exchange}
 use Rattle.treiber_stack.specs.declared.giving.Gave.{Gave}
 use Rattle.treiber_stack.specs.Stack.{room_of, limit_of, machine_of, begun_of, IsAt, IsPassOf}
-use Rattle.treiber_stack.specs.Giving.{AreNodes, give_line, gave_line, left_slots, IsGiving, Led}
+use Rattle.treiber_stack.specs.Giving.{AreNodes, give_line, gave_line, left_slots, IsGiving, Led, GaveTo}
 
 module _ {T : Type 0} where
   -- a pass at a line makes its step on a list
@@ -68,6 +73,32 @@ module _ {T : Type 0} where
             let before = linked in
             let e = goes_on (machine_of c) before.0.line s lost.found [] lost.steps table'' (vacant giving.chain) (give_line giving Load) (kept ∙ before.0.line.at.has) (misses lost.found w lost.other (ends giving.answer) (give_line giving Load)) refl in
             (record { line = e.0; are = is.are }, e.1.0 ∙ before.1)
+
+-- a give inside an operation leads on as the operation's
+abbrev pub within : {S A : Type 0} → (Give → S) → A → Next Give (Unit {0}) → Next S A
+within inside a (NextOn at) = NextOn (inside at)
+within inside a (NextLost at) = NextLost (inside at)
+within inside a (NextDone x) = NextDone a
+
+module _ {T S A : Type 0} (c : Stack T) (operation : S → Operation T) (line : S → Line T) (slots : S → List (ℕ × Slot T)) (Knows : S → Type 0) (answer : Operation T → A → Line T) (giving : Giving T) (inside : Give → S) (a : A) (s : S)
+    (same : (at : Give) → operation (inside at) ≡ operation s) (is : (at : Give) → give_line giving at ≡ line (inside at)) (hand : (at : Give) → vacant giving.chain ≡ slots (inside at)) (knows : (at : Give) → Knows (inside at)) (answers : ends giving.answer ≡ answer (operation s) a)
+    (at : Give) (r : Outcome) (has : List (ℕ × Slot T)) where
+  abbrev led : ℕ → List (ℕ × Slot T) → Line T
+  led found came = next (room_of c) (limit_of c) (give_line giving at) found came
+
+  abbrev GaveSo : Next Give (Unit {0}) → ℕ → List (ℕ × Slot T) → Type 0
+  GaveSo to found came = MatchNext to (λ at'. (led found came ≡ give_line giving at') × (has ≡ vacant giving.chain)) (λ done. (led found came ≡ ends giving.answer) × (has ≡ []))
+
+  abbrev LeadsSo : Next Give (Unit {0}) → ℕ → List (ℕ × Slot T) → Type 0
+  LeadsSo to found came = Leads names operation line slots Knows answer s (led found came) has (within inside a to)
+
+  follows : (to : Next Give (Unit {0})) (found : ℕ) (came : List (ℕ × Slot T)) → GaveSo to found came → LeadsSo to found came
+  follows (NextOn at') found came e = record { same = same at'; is = e.0 ∙ is at'; busy = subst (λ (l : Line T). is_idle l ≡ false) (is at') (busy_giving giving at'); hand = e.1 ∙ hand at'; knows = knows at' }
+  follows (NextLost at') found came e = record { same = same at'; is = e.0 ∙ is at'; busy = subst (λ (l : Line T). is_idle l ≡ false) (is at') (busy_giving giving at'); hand = e.1 ∙ hand at'; knows = knows at' }
+  follows (NextDone x) found came e = record { is = e.0 ∙ answers; idle = subst (λ (l : Line T). is_idle l ≡ true) answers refl; hand = e.1 }
+
+  pub gave_within : (to : Next Give (Unit {0})) → GaveTo c giving at r has to → Finding (machine_of c).core (give_line giving at) r (vacant giving.chain) has (LeadsSo to)
+  gave_within to so = finding (machine_of c).core (give_line giving at) r (vacant giving.chain) has (GaveSo to) (LeadsSo to) (follows to) ((machine_of c).core.access (give_line giving at)) so
 
 -- a chain of one node
 pub one_node : (n i : ℕ) (nodes : Chain) → nodes ≡ record { first = i; last = i } → i < n → AreNodes n (i ∷ []) nodes

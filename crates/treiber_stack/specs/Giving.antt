@@ -9,14 +9,18 @@ use Rattle.stack_machine.specs.Machine.{ends}
 use Rattle.running.specs.Going.{Steps, Ended}
 use Rattle.running.specs.declared.passes.Pass.{Pass}
 use Rattle.stack_table.specs.declared.operation.Operation.{Operation}
+use Rattle.stack_table.specs.Lines.{next}
 use Rattle.stack_table.specs.Slots.{vacant}
+use Rattle.running.specs.Code.{Finding, MatchNext}
+use Rattle.running.specs.declared.access.Outcome.{Outcome}
+use Rattle.running.specs.declared.code.Next.{Next}
 use Rattle.treiber_stack.specs.declared.stack.Stack.{Stack}
 use Rattle.treiber_stack.specs.declared.giving.Chain.{Chain}
 use Rattle.treiber_stack.specs.declared.giving.Give.{Give}
 use Rattle.treiber_stack.specs.declared.giving.Give.TheVariants.{Load, Link, Exchange}
 use Rattle.treiber_stack.specs.declared.giving.Gave.{Gave}
 use Rattle.treiber_stack.specs.declared.giving.Gave.TheVariants.{On, All}
-use Rattle.treiber_stack.specs.Stack.{room_of, machine_of, begun_of, IsPassOf, IsAt}
+use Rattle.treiber_stack.specs.Stack.{room_of, limit_of, machine_of, begun_of, IsPassOf, IsAt}
 
 -- a chain of nodes below n, by its ends
 pub record AreNodes (n : ℕ) (chain : List ℕ) (nodes : Chain) : Type 0 where
@@ -54,3 +58,10 @@ module _ {T : Type 0} where
   abbrev pub GaveBack : Stack T → Operation T → Pass T (Line T) → Chain → Pass T (Line T) → Type 0
   GaveBack c o p nodes q = (giving : Giving T) → IsGiving c o p giving nodes Load
       → IsPassOf c q × Ended (machine_of c) o q.seat.me.0 (begun_of c p) (ends giving.answer)
+
+  -- where a step leads that came to r, with these slots in hand after it
+  abbrev pub GaveTo : Stack T → Giving T → Give → Outcome → List (ℕ × Slot T) → Next Give (Unit {0}) → Type 0
+  GaveTo c giving at r has to = Finding (machine_of c).core (give_line giving at) r (vacant giving.chain) has
+      (λ found came. MatchNext to
+      (λ at'. (next (room_of c) (limit_of c) (give_line giving at) found came ≡ give_line giving at') × (has ≡ vacant giving.chain))
+      (λ done. (next (room_of c) (limit_of c) (give_line giving at) found came ≡ ends giving.answer) × (has ≡ [])))

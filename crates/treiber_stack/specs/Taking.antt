@@ -12,7 +12,9 @@ use Rattle.stack_machine.specs.declared.lines.Taking.TheVariants.{One}
 use Rattle.stack_machine.specs.declared.lines.Line.{Line}
 use Rattle.stack_machine.specs.declared.lines.Line.TheVariants.{LoadTopToTake, LoadTopLink, TakeTop}
 use Rattle.stack_machine.specs.Machine.{ends}
+use Rattle.running.specs.Steps.{Ran}
 use Rattle.running.specs.declared.passes.Pass.{Pass}
+use Rattle.running.specs.declared.code.Next.{Next}
 use Rattle.stack_table.specs.declared.operation.Operation.TheVariants.{Take as TakeFirst}
 use Rattle.stack_table.specs.Slots.{vacant}
 use Rattle.treiber_stack.specs.declared.stack.Stack.{Stack}
@@ -21,7 +23,7 @@ use Rattle.treiber_stack.specs.declared.taking.TakeOp.{TakeOp}
 use Rattle.treiber_stack.specs.declared.taking.TakeAt.{TakeAt}
 use Rattle.treiber_stack.specs.declared.taking.TakeAt.TheVariants.{Load, Link, Exchange, GiveBack}
 use Rattle.treiber_stack.specs.Giving.{give_line}
-use Rattle.treiber_stack.specs.Stack.{room_of, limit_of, shape_of, pass_in, begun_of, IsPassOf, IsAt, OneLine, WentOn}
+use Rattle.treiber_stack.specs.Stack.{room_of, limit_of, shape_of, pass_in, begun_of, IsPassOf, IsAt, OneLine, WentOn, machine_of}
 
 module _ {T : Type 0} where
   -- the node that is given back, and then the answer
@@ -58,3 +60,7 @@ module _ {T : Type 0} where
   abbrev pub TakeStep : Stack T → Pass T (Line T) → TakeAt T → Stepped (TakeOp T) (Pass T (Line T)) (Result (T × ℕ) TakeRefused) → Type 0
   TakeStep c p at (Again next) = IsTaking c next × WentOn c p next.pass (take_line at) (take_line next.at)
   TakeStep c p at (Done q r) = IsPassOf c q × TakeGives (shape_of c) (begun_of c p) (pass_in q) r × OneLine c p q (take_line at) (ends (AnswerTake r))
+
+  -- what some steps of a whole call give
+  abbrev pub TakeRan : Stack T → Pass T (Line T) → Pass T (Line T) → Next (TakeAt T) (Result (T × ℕ) TakeRefused) → Type 0
+  TakeRan c p q r = Ran (machine_of c) (λ x. TakeFirst) take_line take_slots (λ at. HasReadToTake (room_of c) (limit_of c) at) (λ x a. ends (AnswerTake a)) c.table.shared.table_id p Load q r

@@ -1,11 +1,15 @@
 //! Giving a chain of nodes back to the free list: after a take, a fold, or a put that is refused.
-ghost use Rattle.std.specs.Prelude.{◌≡◌};
+ghost use Rattle.std.specs.Prelude.{◌≡◌, ℕ, ◌<◌, List, Option as Slot};
 ghost use Rattle.stack_machine.specs.declared.lines.Giving.{Giving};
-ghost use Rattle.treiber_stack.specs.Giving.{IsGiving, Led, GaveBack};
+ghost use Rattle.running.specs.Code.{IsAccess};
+ghost use Rattle.stack_table.specs.Lists.{lists};
+ghost use Rattle.stack_table.specs.Slots.{vacant};
+ghost use Rattle.treiber_stack.specs.Giving.{IsGiving, Led, GaveBack, GaveTo, AreNodes, give_line};
+ghost use Rattle.treiber_stack.specs.Stack.{machine_of, room_of};
 ghost use Rattle.treiber_stack.specs.declared.giving.Give.TheVariants.{Load, Link, Exchange};
 
 use crate::stack::{Pass, Stack};
-use running::{Pause, give_chain_step, load_top_step, store_link_step};
+use running::{Access, Next, Outcome, Pause, give_chain_step, load_top_step, store_link_step};
 use stack_table::Operation;
 use stack_table::layout::FREE_LIST;
 use std::sync::Wait;
@@ -51,6 +55,40 @@ pub(crate) enum Gave {
 }
 
 impl<T> Stack<T> {
+    /// What the next step of giving a chain back does.
+    #[inline(always)]
+    pub(crate) fn give_access(&self, chain: Chain, at: &Give) -> Access
+        requires { (chain.first < room_of self.now) × (chain.last < room_of self.now) }
+        ensures { (giving : Giving T) → AreNodes (room_of self.now) giving.chain chain
+            → IsAccess (machine_of self.now).core lists 2 self.now.table.shared.table_id.words
+            (give_line giving at.now) (vacant giving.chain) result }
+    {
+        match at {
+            Give::Load => Access::LoadTop(FREE_LIST),
+            Give::Link(free) => Access::StoreLink(FREE_LIST, chain.last, free.index() as u64),
+            Give::Exchange(free) => Access::GiveChain(FREE_LIST, *free, chain.first),
+        }
+    }
+
+    /// Where it goes on from a step that came to this.
+    #[inline(always)]
+    pub(crate) fn give_next(&self, at: Give, outcome: Outcome) -> Next<Give, ()>
+        ensures { (giving : Giving T) (has : List (ℕ × Slot T))
+            → GaveTo self.now giving at outcome has result }
+    {
+        match at {
+            Give::Load => Next::On(Give::Link(Tagged::from_word(outcome.word))),
+            Give::Link(free) => Next::On(Give::Exchange(free)),
+            Give::Exchange(_) => {
+                if outcome.won {
+                    Next::Done(())
+                } else {
+                    Next::Lost(Give::Load)
+                }
+            }
+        }
+    }
+
     /// One step of giving a chain back.
     #[inline]
     pub(crate) fn give(

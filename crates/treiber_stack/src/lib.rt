@@ -28,6 +28,7 @@ mod rest;
 mod rule;
 mod stack;
 mod stepwise;
+mod straight;
 mod taking;
 
 pub use bounded_model::{Folded, RangeRefused, Ranged};

@@ -1,15 +1,20 @@
 //! Taking one value: by steps, and by a whole call.
 ghost use Rattle.std.specs.Prelude.{◌≡◌};
 ghost use Rattle.bounded_model.specs.Laws.{TakeGives};
+ghost use Rattle.stack_table.specs.declared.operation.Operation.TheVariants.{Take as TakeFirst};
 ghost use Rattle.treiber_stack.specs.Stack.{IsPassOf, shape_of, pass_in, begun_of};
-ghost use Rattle.treiber_stack.specs.Taking.{IsTaking, IsTakingAt, TakeStep};
-ghost use Rattle.treiber_stack.specs.declared.taking.TakeAt.TheVariants.{Load, Link, Exchange, GiveBack};
+ghost use Rattle.treiber_stack.specs.Taking.{IsTaking, TakeStep, TakeRan};
 
-use crate::giving::{Chain, Gave, Give};
+use crate::giving::{Chain, Give};
+use crate::rule::Stacked;
 use crate::stack::{Pass, Stack};
+use crate::straight::straight;
+use atomic_table::Seat;
 use bounded_model::{Stepped, TakeRefused};
 use index_list::move_out;
-use running::{Pause, load_link_step, load_top_step, take_first_step};
+use machine::View;
+use running::{Access, Code, Next, Outcome, any, single_step, to_the_end};
+use stack_machine::Line;
 use stack_table::Operation;
 use stack_table::layout::STACK_LIST;
 use std::sync::Wait;
@@ -43,7 +48,7 @@ pub(crate) struct Taken<T> {
     pub(crate) index: u32,
 }
 
-type Step<T> = Stepped<TakeOp<T>, Pass<T>, Result<(T, u64), TakeRefused>>;
+type Answer<T> = Result<(T, u64), TakeRefused>;
 
 impl<T> Stack<T> {
     /// A take that makes no step yet. Begun and stepped in `player`, as `Stepwise` has it.
@@ -59,104 +64,6 @@ impl<T> Stack<T> {
         }
     }
 
-    // Why nothing can be taken, or the word whose node may be.
-    #[inline]
-    fn take_load(&self, by: Pass<T>) -> Step<T>
-        requires { IsTakingAt self.now by Load }
-        ensures { TakeStep self.now by Load result }
-    {
-        let mut pass = by;
-        let top = load_top_step(
-            &self.table.shared,
-            &mut pass.seat,
-            STACK_LIST,
-            &Operation::Take,
-        );
-        match self.bars_take(top) {
-            Some(why) => Stepped::Done(pass, Err(why)),
-            None => Stepped::Again(TakeOp {
-                pass,
-                at: TakeAt::Link(top),
-            }),
-        }
-    }
-
-    #[inline]
-    fn take_link(&self, by: Pass<T>, top: Tagged) -> Step<T>
-        requires { IsTakingAt self.now by (Link top) }
-        ensures { TakeStep self.now by (Link top) result }
-    {
-        let mut pass = by;
-        let table = &self.table.shared;
-        let index = top.index();
-        let found = load_link_step(table, &mut pass.seat, STACK_LIST, index, &Operation::Take);
-        let below = found as u32;
-        Stepped::Again(TakeOp {
-            pass,
-            at: TakeAt::Exchange(top, below),
-        })
-    }
-
-    // The take has its effect here; the value moves out with the node's slot.
-    #[inline]
-    fn take_exchange(&self, by: Pass<T>, top: Tagged, below: u32) -> Step<T>
-        requires { IsTakingAt self.now by (Exchange top below) }
-        ensures { TakeStep self.now by (Exchange top below) result }
-    {
-        let mut pass = by;
-        let table = &self.table.shared;
-        if take_first_step(
-            table,
-            &mut pass.seat,
-            STACK_LIST,
-            top,
-            below,
-            &Operation::Take,
-        ) {
-            let index = top.index();
-            let value = move_out(table, &mut pass.seat, index);
-            let number = top.tag();
-            return Stepped::Again(TakeOp {
-                pass,
-                at: TakeAt::GiveBack(
-                    Taken {
-                        value,
-                        number,
-                        index,
-                    },
-                    Give::Load,
-                ),
-            });
-        }
-        Stepped::Again(TakeOp {
-            pass,
-            at: TakeAt::Load,
-        })
-    }
-
-    #[inline]
-    fn take_give_back(&self, by: Pass<T>, taken: Taken<T>, at: Give) -> Step<T>
-        requires { IsTakingAt self.now by (GiveBack taken at) }
-        ensures { TakeStep self.now by (GiveBack taken at) result }
-    {
-        let mut pass = by;
-        let chain = Chain::of(taken.index);
-        match self.give(&mut pass, chain, at, &Operation::Take) {
-            Gave::On(at) => Stepped::Again(TakeOp {
-                pass,
-                at: TakeAt::GiveBack(taken, at),
-            }),
-            Gave::All => {
-                let Taken {
-                    value,
-                    number,
-                    index: _,
-                } = taken;
-                Stepped::Done(pass, Ok((value, number)))
-            }
-        }
-    }
-
     /// Takes a value by a whole call.
     #[inline(always)]
     pub(crate) fn take_one<R: Wait>(
@@ -168,33 +75,115 @@ impl<T> Stack<T> {
         ensures { IsPassOf self.now result.0
             × TakeGives (shape_of self.now) (pass_in by) (pass_in result.0) result.1 }
     {
-        let mut pass = by;
-        let mut pause = Pause::first();
+        let take = Operation::Take;
+        let first = self.take_straight(by, &take);
+        to_the_end(rt, &self.table.shared, self, first, &take)
+    }
+
+    // A take's steps straight on, as far as nobody is faster.
+    #[inline]
+    fn take_straight(
+        &self,
+        by: Pass<T>,
+        take: &Operation<T>,
+    ) -> (Pass<T>, Next<TakeAt<T>, Answer<T>>)
+        requires named { take.now ≡ TakeFirst }
+        requires pass { IsPassOf self.now by }
+        ensures { TakeRan self.now by result.0 result.1 }
+    {
         let table = &self.table.shared;
-        for _ in rt.forever() {
-            let top = load_top_step(table, &mut pass.seat, STACK_LIST, &Operation::Take);
-            if let Some(why) = self.bars_take(top) {
-                return (pass, Err(why));
-            }
-            let index = top.index();
-            let found = load_link_step(table, &mut pass.seat, STACK_LIST, index, &Operation::Take);
-            let below = found as u32;
-            if take_first_step(
-                table,
-                &mut pass.seat,
-                STACK_LIST,
-                top,
-                below,
-                &Operation::Take,
-            ) {
-                let value = move_out(table, &mut pass.seat, index);
-                let number = top.tag();
-                let pass = self.give_back(rt, pass, Chain::of(index), &Operation::Take);
-                return (pass, Ok((value, number)));
-            }
-            pause = pause.wait();
+        let (pass, top) = straight!(
+            any(table, self, by, TakeAt::Load, take),
+            TakeAt::Link(top) => top
+        );
+        let (pass, top, below) = straight!(
+            any(table, self, pass, TakeAt::Link(top), take),
+            TakeAt::Exchange(top, below) => top, below
+        );
+        let (pass, taken, at) = straight!(
+            any(table, self, pass, TakeAt::Exchange(top, below), take),
+            TakeAt::GiveBack(taken, at) => taken, at
+        );
+        let (pass, taken, at) = straight!(
+            any(table, self, pass, TakeAt::GiveBack(taken, at), take),
+            TakeAt::GiveBack(taken, at) => taken, at
+        );
+        let (pass, taken, at) = straight!(
+            any(table, self, pass, TakeAt::GiveBack(taken, at), take),
+            TakeAt::GiveBack(taken, at) => taken, at
+        );
+        any(table, self, pass, TakeAt::GiveBack(taken, at), take)
+    }
+}
+
+impl<T> Code<Stack<T>, T, Line<T>, Operation<T>, Stacked, Answer<T>, 2> for TakeAt<T> {
+    ghost use Rattle.stack_machine.specs.declared.lines.Answer.TheVariants.{Take as AnswerTake};
+    ghost use Rattle.stack_machine.specs.Machine.{ends};
+    ghost use Rattle.stack_table.specs.declared.operation.Operation.TheVariants.{Take as TakeFirst};
+    ghost use Rattle.treiber_stack.specs.Stack.{room_of, limit_of};
+    ghost use Rattle.treiber_stack.specs.Taking.{take_line, take_slots, HasReadToTake};
+
+    ghost key = { λ c. c.table.shared.key };
+
+    ghost id = { λ c. c.table.shared.table_id };
+
+    ghost operation = { λ _. TakeFirst };
+
+    ghost line = { take_line };
+
+    ghost slots = { take_slots };
+
+    ghost knows = { λ c at. HasReadToTake (room_of c) (limit_of c) at };
+
+    ghost answer = { λ _ r. ends (AnswerTake r) };
+
+    #[inline(always)]
+    fn access(&self, on: &Stack<T>) -> Access {
+        match self {
+            TakeAt::Load => Access::LoadTop(STACK_LIST),
+            TakeAt::Link(top) => Access::LoadLink(STACK_LIST, top.index()),
+            TakeAt::Exchange(top, below) => Access::Take(STACK_LIST, *top, *below),
+            TakeAt::GiveBack(taken, at) => on.give_access(Chain::of(taken.index), at),
         }
-        unreachable!()
+    }
+
+    #[inline(always)]
+    fn next(
+        self,
+        on: &Stack<T>,
+        seat: &mut Seat<Option<T>, View<T, Line<T>>>,
+        outcome: Outcome,
+    ) -> Next<TakeAt<T>, Answer<T>> {
+        match self {
+            TakeAt::Load => {
+                let top = Tagged::from_word(outcome.word);
+                match on.bars_take(top) {
+                    Some(why) => Next::Done(Err(why)),
+                    None => Next::On(TakeAt::Link(top)),
+                }
+            }
+            TakeAt::Link(top) => Next::On(TakeAt::Exchange(top, outcome.word as u32)),
+            TakeAt::Exchange(top, _) => {
+                if !outcome.won {
+                    return Next::Lost(TakeAt::Load);
+                }
+                // The take has its effect here; the value moves out with the node's slot.
+                let index = top.index();
+                let value = move_out(&on.table.shared, seat, index);
+                let number = top.tag();
+                let taken = Taken {
+                    value,
+                    number,
+                    index,
+                };
+                Next::On(TakeAt::GiveBack(taken, Give::Load))
+            }
+            TakeAt::GiveBack(taken, at) => match on.give_next(at, outcome) {
+                Next::On(at) => Next::On(TakeAt::GiveBack(taken, at)),
+                Next::Lost(at) => Next::Lost(TakeAt::GiveBack(taken, at)),
+                Next::Done(()) => Next::Done(Ok((taken.value, taken.number))),
+            },
+        }
     }
 }
 
@@ -209,12 +198,11 @@ impl<T> TakeOp<T> {
         requires { IsTaking stack.now self }
         ensures { TakeStep stack.now self.pass self.at result }
     {
-        let TakeOp { pass, at } = self;
-        match at {
-            TakeAt::Load => stack.take_load(pass),
-            TakeAt::Link(top) => stack.take_link(pass, top),
-            TakeAt::Exchange(top, below) => stack.take_exchange(pass, top, below),
-            TakeAt::GiveBack(taken, at) => stack.take_give_back(pass, taken, at),
+        let table = &stack.table.shared;
+        let made = single_step(table, stack, self.pass, self.at, &Operation::Take);
+        match made {
+            Stepped::Again((pass, at)) => Stepped::Again(TakeOp { pass, at }),
+            Stepped::Done(pass, answer) => Stepped::Done(pass, answer),
         }
     }
 }

@@ -1,0 +1,81 @@
+-- What the code of an operation has to do with its machine.
+use Rattle.std.specs.Prelude.{◌≡◌, ℕ, ◌<◌, ◌≤◌, false, true, List, [], ◌++◌, Option as Slot}
+use mathlib.Core.Option.{some}
+use Rattle.tagged_index.specs.Fields.{fields_of, index_of, tag_of}
+use Rattle.tagged_index.specs.declared.word.TheConstants.{NULL, MAX_TAG}
+use Rattle.index_list.specs.Kinds.{Kind, read_top, read_link, write_link, exchange}
+use Rattle.index_list.specs.declared.change.Change.TheVariants as change
+use Rattle.machine.specs.Words.{same}
+use Rattle.running.specs.Machine.{Names, Core, Access as Deed, Side, stays, brings, returns, swaps}
+use Rattle.running.specs.Lists.{Lists, kind_access}
+use Rattle.running.specs.declared.access.Access.{Access}
+use Rattle.running.specs.declared.access.Access.TheVariants.{LoadTop, LoadLink, StoreLink, Take, GiveChain, Mark, Shut}
+use Rattle.running.specs.declared.access.Outcome.{Outcome}
+use Rattle.running.specs.declared.code.Next.{Next}
+use Rattle.running.specs.declared.code.Next.TheVariants.{On, Lost, Done}
+
+module _ {T L O : Type 0} (c : Core T L O) (y : Lists L) (lists words : ℕ) where
+  -- a line is this step on a list
+  abbrev pub IsStep : L → ℕ → Kind → Type 0
+  IsStep l list kind = (list < lists) × (y.step l ≡ some (list, kind)) × (c.access l ≡ kind_access y.layout list kind)
+
+  -- this is the access of a line, with these slots in hand
+  abbrev pub IsAccess : L → List (ℕ × Slot T) → Access → Type 0
+  IsAccess l slots (LoadTop list) = IsStep l list read_top × (y.layout.top list < words)
+  IsAccess l slots (LoadLink list i) = IsStep l list (read_link i) × (i ≤ NULL) × (y.layout.link list i < words)
+  IsAccess l slots (StoreLink list i next) = IsStep l list (write_link i next) × (i ≤ NULL) × (y.layout.link list i < words) × c.Plain (y.layout.link list i) next
+  IsAccess l slots (Take list seen next) = IsStep l list (exchange (fields_of seen) (change.Take next)) × (y.layout.top list < words) × (y.layout.carries list ≡ true) × (index_of seen < NULL) × (tag_of seen < MAX_TAG) × (next ≤ NULL)
+  IsAccess l slots (GiveChain list seen first) = IsStep l list (exchange (fields_of seen) (change.GiveChain first)) × (y.layout.top list < words) × (y.layout.carries list ≡ true) × (first ≤ NULL) × (y.layout.keeps list ≡ false → tag_of seen < MAX_TAG) × c.Fits l slots
+  IsAccess l slots (Mark list seen) = IsStep l list (exchange (fields_of seen) change.Mark) × (y.layout.top list < words)
+  IsAccess l slots (Shut list seen) = IsStep l list (exchange (fields_of seen) change.Shut) × (y.layout.top list < words)
+
+module _ {T L O : Type 0} (c : Core T L O) where
+  -- what a won exchange did to the slots in hand
+  abbrev pub Won : Side → L → List (ℕ × Slot T) → List (ℕ × Slot T) → List (ℕ × Slot T) → Type 0
+  Won stays l had has came = (has ≡ had) × (came ≡ [])
+  Won brings l had has came = (has ≡ came ++ had) × c.Fits l came
+  Won returns l had has came = (has ≡ []) × (came ≡ had)
+
+  -- an access that came to r found this word, and these slots came or went
+  abbrev pub FoundBy : Deed → L → Outcome → List (ℕ × Slot T) → List (ℕ × Slot T) → ℕ → List (ℕ × Slot T) → Type 0
+  FoundBy (swaps at old new side) l r had has found came = (same (fields_of found) old ≡ r.won) × (r.won ≡ true → Won side l had has came) × (r.won ≡ false → (has ≡ had) × (came ≡ []))
+  FoundBy deed l r had has found came = (found ≡ r.word) × (has ≡ had) × (came ≡ [])
+
+  -- what an operation is told that goes on
+  abbrev pub CameBy : Deed → L → Outcome → List (ℕ × Slot T) → List (ℕ × Slot T) → Type 0
+  CameBy (swaps at old new side) l r had has = (found : ℕ) × (came : List (ℕ × Slot T)) × FoundBy (swaps at old new side) l r had has found came
+  CameBy deed l r had has = (has ≡ had) × c.Says l r.word
+
+  -- and what it shows, of whatever was found
+  abbrev pub FindingBy : Deed → L → Outcome → List (ℕ × Slot T) → List (ℕ × Slot T) → (ℕ → List (ℕ × Slot T) → Type 0) → Type 0
+  FindingBy (swaps at old new side) l r had has So = (found : ℕ) (came : List (ℕ × Slot T)) → FoundBy (swaps at old new side) l r had has found came → So found came
+  FindingBy deed l r had has So = has ≡ had → So r.word []
+
+  abbrev pub Came : L → Outcome → List (ℕ × Slot T) → List (ℕ × Slot T) → Type 0
+  Came l r had has = CameBy (c.access l) l r had has
+
+  abbrev pub Finding : L → Outcome → List (ℕ × Slot T) → List (ℕ × Slot T) → (ℕ → List (ℕ × Slot T) → Type 0) → Type 0
+  Finding l r had has So = FindingBy (c.access l) l r had has So
+
+abbrev pub MatchNext : {S A : Type 0} → Next S A → (S → Type 0) → (A → Type 0) → Type 0
+MatchNext (On s) goes ends = goes s
+MatchNext (Lost s) goes ends = goes s
+MatchNext (Done a) goes ends = ends a
+
+module _ {T L O S A : Type 0} (names : Names L O) (operation : S → O) (line : S → L) (slots : S → List (ℕ × Slot T)) (Knows : S → Type 0) (answer : O → A → L) where
+  -- it goes on at s', as the machine at l
+  pub record GoesTo (s : S) (l : L) (has : List (ℕ × Slot T)) (s' : S) : Type 0 where
+    pub same : operation s' ≡ operation s
+    pub is : l ≡ line s'
+    pub busy : names.is_idle (line s') ≡ false
+    pub hand : has ≡ slots s'
+    pub knows : Knows s'
+
+  -- or answers
+  pub record Answers (s : S) (l : L) (has : List (ℕ × Slot T)) (a : A) : Type 0 where
+    pub is : l ≡ answer (operation s) a
+    pub idle : names.is_idle (answer (operation s) a) ≡ true
+    pub hand : has ≡ []
+
+  abbrev pub Leads : S → L → List (ℕ × Slot T) → Next S A → Type 0
+  Leads s l has r = MatchNext r (GoesTo s l has) (Answers s l has)

@@ -1,0 +1,44 @@
+-- What a step of an operation leaves.
+use Rattle.std.specs.Prelude.{◌≡◌, ℕ, List, Option as Slot}
+use Rattle.atomic_table.specs.Seated.{TableId}
+use Rattle.bounded_model.specs.declared.answers.Stepped.{Stepped}
+use Rattle.bounded_model.specs.declared.answers.Stepped.TheVariants.{Again, Done as Done'}
+use Rattle.machine.specs.declared.seats.View.{View}
+use Rattle.running.specs.Machine.{Names, Machine}
+use Rattle.running.specs.Going.{Found, Ended}
+use Rattle.running.specs.Passes.{IsAtOn, IsPassOn, WentOn, OneLine, begun_of}
+use Rattle.running.specs.Code.{FoundBy, MatchNext}
+use Rattle.running.specs.declared.passes.Pass.{Pass}
+use Rattle.running.specs.declared.access.Outcome.{Outcome}
+use Rattle.running.specs.declared.code.Next.{Next}
+use Rattle.running.specs.declared.code.Next.TheVariants.{On, Done}
+
+module _ {T L O : Type 0} {names : Names L O} (m : Machine T L O names) where
+  -- the step of the line l came to r
+  pub record Made (o : O) (l : L) (me me' : View T L × List (ℕ × Slot T)) (r : Outcome) : Type 0 where
+    pub found : ℕ
+    pub came : List (ℕ × Slot T)
+    pub is : FoundBy m.core (m.core.access l) l r me.1 me'.1 found came
+    pub steps : Found m o me.0 me'.0 found came
+
+  module _ {S A : Type 0} (operation : S → O) (line : S → L) (slots : S → List (ℕ × Slot T)) (Knows : S → Type 0) (answer : O → A → L) (id : TableId) where
+    -- a pass is in an operation that is at s
+    pub record Stands (p : Pass T L) (s : S) : Type 0 where
+      pub at : IsAtOn m id (operation s) p (line s) (slots s)
+      pub knows : Knows s
+
+    -- what a step gives
+    abbrev pub Gives : Pass T L → S → Pass T L → Next S A → Type 0
+    Gives p s q r = MatchNext r
+        (λ s'. Stands q s' × (operation s' ≡ operation s) × WentOn m p q (line s) (line s'))
+        (λ a. IsPassOn m id q × Ended m (operation s) q.seat.me.0 (begun_of m p) (answer (operation s) a) × OneLine m p q (line s) (answer (operation s) a))
+
+    abbrev pub GivesSingle : Pass T L → S → Stepped (Pass T L × S) (Pass T L) A → Type 0
+    GivesSingle p s (Again next) = Gives p s next.0 (On next.1)
+    GivesSingle p s (Done' back a) = Gives p s back (Done a)
+
+    -- what some steps give
+    abbrev pub Ran : Pass T L → S → Pass T L → Next S A → Type 0
+    Ran p s q r = MatchNext r
+        (λ s'. Stands q s' × (operation s' ≡ operation s) × (begun_of m q ≡ begun_of m p))
+        (λ a. IsPassOn m id q × Ended m (operation s) q.seat.me.0 (begun_of m p) (answer (operation s) a))

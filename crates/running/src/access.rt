@@ -1,0 +1,31 @@
+//! An atomic step of an operation, as data.
+use tagged_index::Tagged;
+
+/// What an operation's next atomic step does to the table: a step on one of its lists, which is
+/// made through `index_list`.
+#[derive(Clone, Copy)]
+pub enum Access {
+    /// Load the top of this list.
+    LoadTop(usize),
+    /// Load the link of an index on this list.
+    LoadLink(usize, u32),
+    /// Store in the link of a held index.
+    StoreLink(usize, u32, u64),
+    /// Compare-and-swap the top of this list, which was seen, for its second index.
+    Take(usize, Tagged, u32),
+    /// Compare-and-swap it for the first index of the chain held.
+    GiveChain(usize, Tagged, u32),
+    /// Compare-and-swap it for itself with its mark set.
+    Mark(usize, Tagged),
+    /// Compare-and-swap it for itself with its second mark set.
+    Shut(usize, Tagged),
+}
+
+/// What such a step came to.
+#[derive(Clone, Copy)]
+pub struct Outcome {
+    /// The word that was loaded or stored; of a compare-and-swap, the word that it expected.
+    pub word: u64,
+    /// Whether the compare-and-swap succeeded. Loads and stores do.
+    pub won: bool,
+}

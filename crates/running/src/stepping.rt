@@ -1,0 +1,167 @@
+//! One atomic step of an operation, for all operations on all machines.
+ghost use Rattle.std.specs.Prelude.{◌≡◌};
+ghost use Rattle.running.specs.Going.{At};
+ghost use Rattle.running.specs.Code.{IsAccess};
+ghost use Rattle.running.specs.Steps.{Made, Stands, Gives, GivesSingle, Ran};
+
+use crate::access::{Access, Outcome};
+use crate::code::{Code, Next};
+use crate::lists::{
+    ListMachine, give_chain_step, load_link_step, load_top_step, mark_step, shut_step,
+    store_link_step, take_first_step,
+};
+use crate::passes::Pass;
+use crate::rule::Running;
+use atomic_table::{Seat, Shared};
+use bounded_model::Stepped;
+use machine::View;
+use tagged_index::Limits;
+
+// Makes the access of the line that an operation is at.
+#[inline(always)]
+fn make<C, T, L, O, M: ListMachine<T, L, O, N>, A, S: Code<C, T, L, O, M, A, N>, const N: usize>(
+    table: &Shared<Option<T>, View<T, L>, Limits, Running<O, M>>,
+    seat: &mut Seat<Option<T>, View<T, L>>,
+    access: Access,
+    operation: &O,
+    at: &S,
+) -> Outcome
+    requires table { seat.old.table_id ≡ table.now.table_id }
+    requires access { IsAccess (M.machine table.now.key).core M.lists N table.now.table_id.words
+        (S.line at.now) (S.slots at.now) access }
+    requires at { At (M.machine table.now.key) operation.now seat.old.me (S.line at.now)
+        (S.slots at.now) }
+    ensures table { seat.new.table_id ≡ seat.old.table_id }
+    ensures made { Made (M.machine table.now.key) operation.now (S.line at.now) seat.old.me
+        seat.new.me result }
+{
+    let _ = at;
+    match access {
+        Access::LoadTop(list) => {
+            let top = load_top_step::<T, L, O, M, N>(table, seat, list, operation);
+            Outcome {
+                word: top.word(),
+                won: true,
+            }
+        }
+        Access::LoadLink(list, index) => {
+            let word = load_link_step::<T, L, O, M, N>(table, seat, list, index, operation);
+            Outcome { word, won: true }
+        }
+        Access::StoreLink(list, index, word) => {
+            store_link_step::<T, L, O, M, N>(table, seat, list, index, word, operation);
+            Outcome { word, won: true }
+        }
+        Access::Take(list, seen, next) => {
+            let won = take_first_step::<T, L, O, M, N>(table, seat, list, seen, next, operation);
+            Outcome {
+                word: seen.word(),
+                won,
+            }
+        }
+        Access::GiveChain(list, seen, first) => {
+            let won = give_chain_step::<T, L, O, M, N>(table, seat, list, seen, first, operation);
+            Outcome {
+                word: seen.word(),
+                won,
+            }
+        }
+        Access::Mark(list, seen) => {
+            let won = mark_step::<T, L, O, M, N>(table, seat, list, seen, operation);
+            Outcome {
+                word: seen.word(),
+                won,
+            }
+        }
+        Access::Shut(list, seen) => {
+            let won = shut_step::<T, L, O, M, N>(table, seat, list, seen, operation);
+            Outcome {
+                word: seen.word(),
+                won,
+            }
+        }
+    }
+}
+
+/// Makes the next atomic step of an operation that is at this.
+#[inline(always)]
+pub fn step<
+    C,
+    T,
+    L,
+    O,
+    M: ListMachine<T, L, O, N>,
+    A,
+    S: Code<C, T, L, O, M, A, N>,
+    const N: usize,
+>(
+    table: &Shared<Option<T>, View<T, L>, Limits, Running<O, M>>,
+    on: &C,
+    by: Pass<T, L>,
+    at: S,
+    operation: &O,
+) -> (Pass<T, L>, Next<S, A>)
+    requires table { (table.now.key ≡ S.key on.now) × (table.now.table_id ≡ S.id on.now) }
+    requires named { operation.now ≡ S.operation at }
+    requires stands { Stands (M.machine (S.key on.now)) S.operation S.line S.slots (S.knows on.now)
+        S.answer (S.id on.now) by at }
+    ensures { Gives (M.machine (S.key on.now)) S.operation S.line S.slots (S.knows on.now)
+        S.answer (S.id on.now) by at result.0 result.1 }
+{
+    let mut pass = by;
+    let access = at.access(on);
+    let outcome = make::<C, T, L, O, M, A, S, N>(table, &mut pass.seat, access, operation, &at);
+    let next = at.next(on, &mut pass.seat, outcome);
+    (pass, next)
+}
+
+/// The same, for a caller to whom it is one that an operation goes on.
+#[inline(always)]
+pub fn single_step<
+    C,
+    T,
+    L,
+    O,
+    M: ListMachine<T, L, O, N>,
+    A,
+    S: Code<C, T, L, O, M, A, N>,
+    const N: usize,
+>(
+    table: &Shared<Option<T>, View<T, L>, Limits, Running<O, M>>,
+    on: &C,
+    by: Pass<T, L>,
+    at: S,
+    operation: &O,
+) -> Stepped<(Pass<T, L>, S), Pass<T, L>, A>
+    requires table { (table.now.key ≡ S.key on.now) × (table.now.table_id ≡ S.id on.now) }
+    requires named { operation.now ≡ S.operation at }
+    requires stands { Stands (M.machine (S.key on.now)) S.operation S.line S.slots (S.knows on.now)
+        S.answer (S.id on.now) by at }
+    ensures { GivesSingle (M.machine (S.key on.now)) S.operation S.line S.slots (S.knows on.now)
+        S.answer (S.id on.now) by at result }
+{
+    match step::<C, T, L, O, M, A, S, N>(table, on, by, at, operation) {
+        (pass, Next::On(at)) => Stepped::Again((pass, at)),
+        (pass, Next::Lost(at)) => Stepped::Again((pass, at)),
+        (pass, Next::Done(answer)) => Stepped::Done(pass, answer),
+    }
+}
+
+/// The same as a step of a whole call, and what that has to know of it.
+#[inline(always)]
+pub fn any<C, T, L, O, M: ListMachine<T, L, O, N>, A, S: Code<C, T, L, O, M, A, N>, const N: usize>(
+    table: &Shared<Option<T>, View<T, L>, Limits, Running<O, M>>,
+    on: &C,
+    by: Pass<T, L>,
+    at: S,
+    operation: &O,
+) -> (Pass<T, L>, Next<S, A>)
+    requires table { (table.now.key ≡ S.key on.now) × (table.now.table_id ≡ S.id on.now) }
+    requires named { operation.now ≡ S.operation at }
+    requires stands { Stands (M.machine (S.key on.now)) S.operation S.line S.slots (S.knows on.now)
+        S.answer (S.id on.now) by at }
+    ensures { Ran (M.machine (S.key on.now)) S.operation S.line S.slots (S.knows on.now)
+        S.answer (S.id on.now) by at result.0 result.1 }
+{
+    step::<C, T, L, O, M, A, S, N>(table, on, by, at, operation)
+}
