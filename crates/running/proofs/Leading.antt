@@ -50,16 +50,13 @@ module _ {T L O S A : Type 0} {names : Names L O} (m : Machine T L O names) (ope
       (e.0, e.1, e.2)
 
   -- a step is the first of some
-  pub ran : (p q : Pass T L) (s : S) (r : Next S A) → Gives m operation line slots Knows answer id p s q r → Ran m operation line slots Knows answer id p s q r
-  ran p q s (On s') e = (e.0, e.1, e.2.0)
-  ran p q s (Lost s') e = (e.0, e.1, e.2.0)
-  ran p q s (Done a) e = (e.0, e.1)
+  pub ran : (o : O) (p q : Pass T L) (s : S) → o ≡ operation s → (r : Next S A) → Gives m operation line slots Knows answer id p s q r → Ran m operation line slots Knows answer id o p q r
+  ran o p q s named (On s') e = (e.0, named ∙ sym e.1, e.2.0)
+  ran o p q s named (Lost s') e = (e.0, named ∙ sym e.1, e.2.0)
+  ran o p q s named (Done a) e = (e.0, subst (λ (k : O). Ended m k q.seat.me.0 (begun_of m p) (answer k a)) (sym named) e.1)
 
   -- and others may follow it
-  pub ran_on : (p q t : Pass T L) (s s' : S) → operation s' ≡ operation s → begun_of m q ≡ begun_of m p → (r : Next S A) → Ran m operation line slots Knows answer id q s' t r → Ran m operation line slots Knows answer id p s t r
-  ran_on p q t s s' same begun (On u) e = (e.0, e.1 ∙ same, e.2 ∙ begun)
-  ran_on p q t s s' same begun (Lost u) e = (e.0, e.1 ∙ same, e.2 ∙ begun)
-  ran_on p q t s s' same begun (Done a) e = (
-    e.0,
-    subst (λ (o : O). Ended m o t.seat.me.0 (begun_of m p) (answer o a)) same (subst (λ (v : PassView T). Ended m (operation s') t.seat.me.0 v (answer (operation s') a)) begun e.1),
-  )
+  pub ran_on : (o : O) (p q t : Pass T L) → begun_of m q ≡ begun_of m p → (r : Next S A) → Ran m operation line slots Knows answer id o q t r → Ran m operation line slots Knows answer id o p t r
+  ran_on o p q t begun (On u) e = (e.0, e.1, e.2 ∙ begun)
+  ran_on o p q t begun (Lost u) e = (e.0, e.1, e.2 ∙ begun)
+  ran_on o p q t begun (Done a) e = (e.0, subst (λ (v : PassView T). Ended m o t.seat.me.0 v (answer o a)) begun e.1)

@@ -37,8 +37,12 @@ module _ {T L O : Type 0} {names : Names L O} (m : Machine T L O names) where
     GivesSingle p s (Again next) = Gives p s next.0 (On next.1)
     GivesSingle p s (Done' back a) = Gives p s back (Done a)
 
-    -- what some steps give
-    abbrev pub Ran : Pass T L → S → Pass T L → Next S A → Type 0
-    Ran p s q r = MatchNext r
-        (λ s'. Stands q s' × (operation s' ≡ operation s) × (begun_of m q ≡ begun_of m p))
-        (λ a. IsPassOn m id q × Ended m (operation s) q.seat.me.0 (begun_of m p) (answer (operation s) a))
+    -- what some steps of the operation o give
+    abbrev pub Ran : O → Pass T L → Pass T L → Next S A → Type 0
+    Ran o p q r = MatchNext r
+        (λ s'. Stands q s' × (o ≡ operation s') × (begun_of m q ≡ begun_of m p))
+        (λ a. IsPassOn m id q × Ended m o q.seat.me.0 (begun_of m p) (answer o a))
+
+    abbrev pub RanFor : O → Pass T L → Stepped (Pass T L × S) (Pass T L) A → Type 0
+    RanFor o p (Again next) = Ran o p next.0 (On next.1)
+    RanFor o p (Done' back a) = Ran o p back (Done a)

@@ -3,7 +3,7 @@ ghost use Rattle.std.specs.Prelude.{◌≡◌};
 ghost use Rattle.running.specs.Going.{Ended};
 ghost use Rattle.running.specs.Passes.{IsPassOn, begun_of};
 ghost use Rattle.running.specs.declared.passes.Pass.{Pass};
-ghost use Rattle.running.specs.Steps.{Stands, Ran};
+ghost use Rattle.running.specs.Steps.{Stands, Ran, RanFor};
 
 use crate::code::{Code, Next};
 use crate::lists::ListMachine;
@@ -12,6 +12,7 @@ use crate::pause::Pause;
 use crate::rule::Running;
 use crate::stepping::any;
 use atomic_table::Shared;
+use bounded_model::Stepped;
 use machine::View;
 use std::sync::Wait;
 use tagged_index::Limits;
@@ -37,14 +38,13 @@ pub fn to_the_end<
     operation: &O,
 ) -> (Pass<T, L>, A)
     requires table { (table.now.key ≡ S.key on.now) × (table.now.table_id ≡ S.id on.now) }
-    requires ran { (by : Pass T L) × (at : S) × (operation.now ≡ S.operation at)
-        × Ran (M.machine (S.key on.now)) S.operation S.line S.slots (S.knows on.now) S.answer
-        (S.id on.now) by at first.0 first.1 }
-    ensures { (by : Pass T L) (at : S) → Ran (M.machine (S.key on.now)) S.operation
-        S.line S.slots (S.knows on.now) S.answer (S.id on.now) by at first.0 first.1
+    requires ran { (by : Pass T L) × Ran (M.machine (S.key on.now)) S.operation S.line S.slots
+        (S.knows on.now) S.answer (S.id on.now) operation.now by first.0 first.1 }
+    ensures { (by : Pass T L) → Ran (M.machine (S.key on.now)) S.operation S.line S.slots
+        (S.knows on.now) S.answer (S.id on.now) operation.now by first.0 first.1
         → IsPassOn (M.machine (S.key on.now)) (S.id on.now) result.0
-        × Ended (M.machine (S.key on.now)) (S.operation at) result.0.seat.me.0
-        (begun_of (M.machine (S.key on.now)) by) (S.answer (S.operation at) result.1) }
+        × Ended (M.machine (S.key on.now)) operation.now result.0.seat.me.0
+        (begun_of (M.machine (S.key on.now)) by) (S.answer operation.now result.1) }
 {
     match first {
         (pass, Next::Done(answer)) => (pass, answer),
@@ -86,8 +86,8 @@ fn run_on<
     requires stands { Stands (M.machine (S.key on.now)) S.operation S.line S.slots (S.knows on.now)
         S.answer (S.id on.now) by under_way }
     ensures { IsPassOn (M.machine (S.key on.now)) (S.id on.now) result.0
-        × Ended (M.machine (S.key on.now)) (S.operation under_way) result.0.seat.me.0
-        (begun_of (M.machine (S.key on.now)) by) (S.answer (S.operation under_way) result.1) }
+        × Ended (M.machine (S.key on.now)) operation.now result.0.seat.me.0
+        (begun_of (M.machine (S.key on.now)) by) (S.answer operation.now result.1) }
 {
     let mut pass = by;
     let mut at = under_way;
@@ -107,4 +107,82 @@ fn run_on<
         }
     }
     unreachable!()
+}
+
+/// Goes on from the first steps of an operation, for at most so many more, with a wait wherever
+/// another was faster. Where they are used up, the operation comes back as it is.
+#[inline(always)]
+pub fn try_for<
+    C,
+    T,
+    L,
+    O,
+    M: ListMachine<T, L, O, N>,
+    A,
+    S: Code<C, T, L, O, M, A, N>,
+    const N: usize,
+>(
+    table: &Shared<Option<T>, View<T, L>, Limits, Running<O, M>>,
+    on: &C,
+    first: (Pass<T, L>, Next<S, A>),
+    operation: &O,
+    steps: u64,
+) -> Stepped<(Pass<T, L>, S), Pass<T, L>, A>
+    requires table { (table.now.key ≡ S.key on.now) × (table.now.table_id ≡ S.id on.now) }
+    requires ran { (by : Pass T L) × Ran (M.machine (S.key on.now)) S.operation S.line S.slots
+        (S.knows on.now) S.answer (S.id on.now) operation.now by first.0 first.1 }
+    ensures { (by : Pass T L) → Ran (M.machine (S.key on.now)) S.operation S.line S.slots
+        (S.knows on.now) S.answer (S.id on.now) operation.now by first.0 first.1
+        → RanFor (M.machine (S.key on.now)) S.operation S.line S.slots
+        (S.knows on.now) S.answer (S.id on.now) operation.now by result }
+{
+    match first {
+        (pass, Next::Done(answer)) => Stepped::Done(pass, answer),
+        (pass, Next::On(at)) => {
+            let pause = Pause::first();
+            run_for::<C, T, L, O, M, A, S, N>(table, on, pass, at, operation, pause, steps)
+        }
+        (pass, Next::Lost(at)) => {
+            let pause = Pause::first().wait();
+            run_for::<C, T, L, O, M, A, S, N>(table, on, pass, at, operation, pause, steps)
+        }
+    }
+}
+
+// Makes at most so many steps of an operation that is under way.
+#[inline(never)]
+fn run_for<C, T, L, O, M: ListMachine<T, L, O, N>, A, S: Code<C, T, L, O, M, A, N>, const N: usize>(
+    table: &Shared<Option<T>, View<T, L>, Limits, Running<O, M>>,
+    on: &C,
+    by: Pass<T, L>,
+    under_way: S,
+    operation: &O,
+    pause: Pause,
+    steps: u64,
+) -> Stepped<(Pass<T, L>, S), Pass<T, L>, A>
+    requires table { (table.now.key ≡ S.key on.now) × (table.now.table_id ≡ S.id on.now) }
+    requires named { operation.now ≡ S.operation under_way }
+    requires stands { Stands (M.machine (S.key on.now)) S.operation S.line S.slots (S.knows on.now)
+        S.answer (S.id on.now) by under_way }
+    ensures { RanFor (M.machine (S.key on.now)) S.operation S.line S.slots (S.knows on.now)
+        S.answer (S.id on.now) operation.now by result }
+{
+    let mut pass = by;
+    let mut at = under_way;
+    let mut pause = pause;
+    for _ in 0..steps {
+        match any::<C, T, L, O, M, A, S, N>(table, on, pass, at, operation) {
+            (back, Next::Done(answer)) => return Stepped::Done(back, answer),
+            (next, Next::On(to)) => {
+                pass = next;
+                at = to;
+            }
+            (next, Next::Lost(to)) => {
+                pass = next;
+                at = to;
+                pause = pause.wait();
+            }
+        }
+    }
+    Stepped::Again((pass, at))
 }

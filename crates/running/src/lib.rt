@@ -17,7 +17,7 @@ mod steps;
 mod whole;
 
 pub use access::{Access, Outcome};
-pub use calls::to_the_end;
+pub use calls::{to_the_end, try_for};
 pub use code::{Code, Next};
 pub use index_list::raised;
 pub use lists::{

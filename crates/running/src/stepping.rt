@@ -161,7 +161,7 @@ pub fn any<C, T, L, O, M: ListMachine<T, L, O, N>, A, S: Code<C, T, L, O, M, A, 
     requires stands { Stands (M.machine (S.key on.now)) S.operation S.line S.slots (S.knows on.now)
         S.answer (S.id on.now) by at }
     ensures { Ran (M.machine (S.key on.now)) S.operation S.line S.slots (S.knows on.now)
-        S.answer (S.id on.now) by at result.0 result.1 }
+        S.answer (S.id on.now) operation.now by result.0 result.1 }
 {
     step::<C, T, L, O, M, A, S, N>(table, on, by, at, operation)
 }

@@ -1,7 +1,5 @@
 -- What a close, a shut and a look give.
-use Rattle.std.proofs.Common.{◌≡◌, ℕ, Bool, true, false, cond, List, [], ◌∷◌, refl, sym, ap, ◌∙◌}
-use Rattle.std.specs.Prelude.{Option as Slot, Some, None}
-use Rattle.tagged_index.specs.Fields.{fields_of}
+use Rattle.std.proofs.Common.{◌≡◌, ℕ, Bool, true, false, List, [], ◌∷◌, refl, sym, ap, ◌∙◌}
 use Rattle.bounded_model.specs.declared.history.Event.{Event}
 use Rattle.bounded_model.specs.declared.history.Event.TheVariants.{Close, Shut as ShutEvent}
 use Rattle.bounded_model.specs.declared.views.PassView.{PassView}
@@ -11,19 +9,14 @@ use Rattle.machine.specs.Seats.{pass_of}
 use Rattle.machine.specs.declared.seats.View.{View}
 use Rattle.stack_machine.specs.declared.lines.Answer.TheVariants.{Look as AnswerLook}
 use Rattle.stack_machine.specs.declared.lines.Line.{Line}
-use Rattle.stack_machine.specs.Machine.{ends, is_idle}
+use Rattle.stack_machine.specs.Machine.{ends}
 use Rattle.stack_table.specs.declared.operation.Operation.{Operation}
 use Rattle.stack_table.specs.declared.operation.Operation.TheVariants.{Look as LookFirst}
-use Rattle.stack_table.specs.Lines.{next}
-use Rattle.stack_table.specs.Lists.{list_step}
-use mathlib.Core.Option.{some}
-use Rattle.index_list.specs.Kinds.{exchange}
 use Rattle.running.specs.Going.{Ended}
-use Rattle.machine.specs.Words.{same}
 use Rattle.treiber_stack.specs.declared.stack.Stack.{Stack}
 use Rattle.treiber_stack.specs.declared.closing.Mark.{Mark}
 use Rattle.treiber_stack.specs.declared.closing.Mark.TheVariants.{Closed, Shut}
-use Rattle.treiber_stack.specs.Closing.{is_set, mark_change, mark_name, mark_answer, mark_line, MarkGives}
+use Rattle.treiber_stack.specs.Closing.{mark_name, mark_answer, mark_ends, MarkGives}
 use Rattle.treiber_stack.specs.Stack.{machine_of, shape_of}
 
 module _ {T : Type 0} (c : Stack T) where
@@ -47,21 +40,7 @@ module _ {T : Type 0} (c : Stack T) where
     pub look_gives : (b : Bool) → Ended (machine_of c) LookFirst v begun (ends (AnswerLook b)) → LookGives (shape_of c) begun (pass_of v) b
     look_gives b e = (adds_of e [] e.deeds.made, e.tells)
 
--- the lines that set a mark
-module _ (T : Type 0) where
-  pub mark_loaded : (n limit : ℕ) (mark : Mark) (w : ℕ) → next {T = T} n limit (mark_line mark None) w [] ≡ cond (is_set mark (fields_of w)) (ends (mark_answer mark false)) (mark_line mark (Some w))
-  mark_loaded n limit Closed w = refl
-  mark_loaded n limit Shut w = refl
-
-  pub mark_swapped : (n limit : ℕ) (mark : Mark) (w found : ℕ) → next {T = T} n limit (mark_line mark (Some w)) found [] ≡ cond (same (fields_of found) (fields_of w)) (ends (mark_answer mark true)) (mark_line mark None)
-  mark_swapped n limit Closed w found = refl
-  mark_swapped n limit Shut w found = refl
-
-  pub mark_step_is : (mark : Mark) (w : ℕ) → list_step {T = T} (mark_line mark (Some w)) ≡ some (1, exchange (fields_of w) (mark_change mark))
-  mark_step_is Closed w = refl
-  mark_step_is Shut w = refl
-
-  pub mark_busy : (mark : Mark) (seen : Slot ℕ) → is_idle {T = T} (mark_line mark seen) ≡ false
-  mark_busy Closed None = refl
-  mark_busy Shut None = refl
-  mark_busy mark seen = refl
+-- the line of an operation that sets a mark, once it has answered
+pub mark_ends_so : {T : Type 0} (mark : Mark) (done : Bool) → mark_ends {T = T} (mark_name mark) done ≡ ends (mark_answer mark done)
+mark_ends_so Closed done = refl
+mark_ends_so Shut done = refl

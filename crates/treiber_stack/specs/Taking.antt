@@ -15,6 +15,7 @@ use Rattle.stack_machine.specs.Machine.{ends}
 use Rattle.running.specs.Steps.{Ran}
 use Rattle.running.specs.declared.passes.Pass.{Pass}
 use Rattle.running.specs.declared.code.Next.{Next}
+use Rattle.stack_table.specs.declared.operation.Operation.{Operation}
 use Rattle.stack_table.specs.declared.operation.Operation.TheVariants.{Take as TakeFirst}
 use Rattle.stack_table.specs.Slots.{vacant}
 use Rattle.treiber_stack.specs.declared.stack.Stack.{Stack}
@@ -62,5 +63,5 @@ module _ {T : Type 0} where
   TakeStep c p at (Done q r) = IsPassOf c q × TakeGives (shape_of c) (begun_of c p) (pass_in q) r × OneLine c p q (take_line at) (ends (AnswerTake r))
 
   -- what some steps of a whole call give
-  abbrev pub TakeRan : Stack T → Pass T (Line T) → Pass T (Line T) → Next (TakeAt T) (Result (T × ℕ) TakeRefused) → Type 0
-  TakeRan c p q r = Ran (machine_of c) (λ x. TakeFirst) take_line take_slots (λ at. HasReadToTake (room_of c) (limit_of c) at) (λ x a. ends (AnswerTake a)) c.table.shared.table_id p Load q r
+  abbrev pub TakeRan : Stack T → Operation T → Pass T (Line T) → Pass T (Line T) → Next (TakeAt T) (Result (T × ℕ) TakeRefused) → Type 0
+  TakeRan c o p q r = Ran (machine_of c) (λ x. TakeFirst) take_line take_slots (λ at. HasReadToTake (room_of c) (limit_of c) at) (λ x a. ends (AnswerTake a)) c.table.shared.table_id o p q r

@@ -89,7 +89,7 @@ impl<T> Stack<T> {
     ) -> (Pass<T>, Next<TakeAt<T>, Answer<T>>)
         requires named { take.now ≡ TakeFirst }
         requires pass { IsPassOf self.now by }
-        ensures { TakeRan self.now by result.0 result.1 }
+        ensures { TakeRan self.now take.now by result.0 result.1 }
     {
         let table = &self.table.shared;
         let (pass, top) = straight!(

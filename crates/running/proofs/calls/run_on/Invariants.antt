@@ -9,4 +9,4 @@ invariant-loop g l =
     let m = g.M.Machine.machine (s.key l.fn.on) in
     (goal.iterator-loop g).can_next l.iterator' × (goal.iterator-loop g).is_finite l.iterator'
     × Stands m s.operation s.line s.slots (s.knows l.fn.on) s.answer (s.id l.fn.on) l.pass l.at
-    × (s.operation l.at ≡ s.operation l.fn.under_way) × (begun_of m l.pass ≡ begun_of m l.fn.by)
+    × (l.fn.operation ≡ s.operation l.at) × (begun_of m l.pass ≡ begun_of m l.fn.by)
