@@ -1,12 +1,13 @@
-//! Measures how long an item takes through a container, from its put to its take, and how many
-//! come out in a second: each producer puts its items, and the consumers take them all. With no
-//! producer one thread puts and takes in turn. `--help` tells the words; without words it makes a
-//! short run and prints no time.
+//! Measures how long an item takes through a container, from its put to its take, how many come out
+//! in a second, and how long a call takes: each producer puts its items, and the consumers take them
+//! all, with work between their calls if it is asked for. With no producer one thread puts and takes
+//! in turn. `--help` tells the words; without words it makes short runs and prints no time.
 #![tactic(auto)]
 
 mod command_line;
 mod fault;
 mod measure;
+mod ring;
 mod run;
 
 use crate::command_line::command_line;
@@ -47,6 +48,11 @@ fn report<R: Print + Clock + AllocGlobal + Threads + Wait + Sync>(
     println!(rt; "items taken: {}", measured.taken)?;
     println!(rt; "items per second: {}", measured.items_per_second())?;
     println!(rt; "nanoseconds per item: {}.{}", tenths / 10, tenths % 10)?;
+    if let Some(call) = measured.call {
+        println!(rt; "nanoseconds of a call, 50th percentile: {}", call.p50)?;
+        println!(rt; "nanoseconds of a call, 99th percentile: {}", call.p99)?;
+        println!(rt; "nanoseconds of a call, 99.9th percentile: {}", call.p99_9)?;
+    }
     Ok(())
 }
 
@@ -57,7 +63,8 @@ fn bench<R: Env + Print + Clock + AllocGlobal + Threads + Wait + Sync>(
     let words: Vec<String> = env::args(rt)?.collect(rt.alloc())?;
     if words.len() < 2 {
         try_out(rt, Kind::Stack)?;
-        return try_out(rt, Kind::Queue);
+        try_out(rt, Kind::Queue)?;
+        return try_out(rt, Kind::Ring);
     }
     let mut texts = Vec::new(rt.alloc());
     for word in &words {

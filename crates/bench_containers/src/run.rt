@@ -13,6 +13,8 @@ const TAG_LIMIT: u64 = (1 << 42) - 1;
 pub enum Kind {
     Stack,
     Queue,
+    /// The kit's `crossbeam_queue::ArrayQueue`, to compare with.
+    Ring,
 }
 
 impl Kind {
@@ -21,6 +23,7 @@ impl Kind {
         match name {
             "stack" => Ok(Kind::Stack),
             "queue" => Ok(Kind::Queue),
+            "ring" => Ok(Kind::Ring),
             _ => Err(BenchFault::Range),
         }
     }
@@ -29,6 +32,7 @@ impl Kind {
         match self {
             Kind::Stack => "stack",
             Kind::Queue => "queue",
+            Kind::Ring => "ring",
         }
     }
 }
@@ -39,6 +43,8 @@ pub struct Run {
     pub kind: Kind,
     pub limits: Limits,
     pub load: Load,
+    /// Nanoseconds of work before each put and after each take.
+    pub work: u32,
 }
 
 impl Run {
@@ -48,6 +54,7 @@ impl Run {
             kind,
             limits: Limits::of(8, TAG_LIMIT)?,
             load: Load::of(2, 2, 1_000)?,
+            work: 0,
         })
     }
 
@@ -63,6 +70,11 @@ impl Run {
         let producers = found.get_one("producers")?;
         let consumers = found.get_one("consumers")?;
         let load = Load::of(producers, consumers, found.get_one("items")?)?;
-        Some(Run { kind, limits, load })
+        Some(Run {
+            kind,
+            limits,
+            load,
+            work: found.get_one("work")?,
+        })
     }
 }

@@ -1,17 +1,27 @@
 //! What the threads of a benchmark's run do: each producer puts its items into a container, the
 //! consumers take them all, and with no producer one thread puts and takes in turn. It is generic
-//! over the container, and knows neither clocks nor words.
+//! over the container, and over what is noted of each call. Of clocks it knows only that they can
+//! be read.
 //!
 //! Promised: a load with producers has a consumer (`Load::of`), no more is counted as put or as
-//! taken in turn than there are items (`put_all`, `put_and_take`).
+//! taken in turn than there are items (`put_all`, `put_and_take`), work is as long as it was asked
+//! to be by the clock's word (`turns_for`), and percentiles are those of the times given
+//! (`Percentiles::of`).
 #![tactic(auto)]
 
+mod calls;
 mod load;
+mod meter;
+mod percentiles;
 mod pool;
+mod tally;
 mod threads;
 mod work;
 
 pub use load::Load;
+pub use meter::{MOST_TIMED, Meter, Timed, Untimed};
+pub use percentiles::Percentiles;
 pub use pool::Pool;
-pub use threads::send_through;
-pub use work::put_and_take;
+pub use tally::Tally;
+pub use threads::{Worker, send_alone, send_through};
+pub use work::{Work, turns_for};

@@ -1,35 +1,83 @@
 //! The threads of a run.
 
-ghost use Rattle.std.specs.Prelude.{All};
+ghost use Rattle.std.specs.Prelude.{◌≤◌, All};
 
+use crate::calls::{put_all, put_and_take, take_all};
+use crate::meter::Meter;
 use crate::pool::Pool;
-use crate::work::{put_all, take_all};
-use std::sync::Wait;
-use std::sync::atomic::{AtomicU64, Ordering};
+use crate::tally::Tally;
+use crate::work::Work;
+use std::alloc::Global;
+use std::sync::{Mutex, Wait};
 use std::thread;
 use std::thread::Threads;
+use std::time::Clock;
 
-// Starts the producers; they have ended when this returns. `false` where one was not started.
-fn put_at_once<C: Pool + Sync, R: Threads + Wait + Sync>(
+/// What a thread of a run is started with.
+#[derive(Drop)]
+pub struct Worker<P, M> {
+    pub pass: P,
+    pub meter: M,
+}
+
+// What a producer does.
+fn produce<C: Pool, M: Meter, R: Wait + Clock>(
     rt: &R,
     pool: &C,
-    producers: Vec<C::Pass>,
+    worker: Worker<C::Pass, M>,
     items: u32,
+    work: Work,
+    tally: &Mutex<Tally>,
+)
+    requires { C.is_pass pool.now worker.pass }
+{
+    let Worker { pass, meter } = worker;
+    let mut meter = meter;
+    put_all(rt, pool, pass, items, work, &mut meter);
+    let mut all = tally.lock(rt);
+    all.add(0, meter.times());
+}
+
+// What a consumer does.
+fn consume<C: Pool, M: Meter, R: Wait + Clock>(
+    rt: &R,
+    pool: &C,
+    worker: Worker<C::Pass, M>,
+    work: Work,
+    tally: &Mutex<Tally>,
+)
+    requires { C.is_pass pool.now worker.pass }
+{
+    let Worker { pass, meter } = worker;
+    let mut meter = meter;
+    let taken = take_all(rt, pool, pass, work, &mut meter);
+    let mut all = tally.lock(rt);
+    all.add(taken, meter.times());
+}
+
+// Starts the producers; they have ended when this returns. `false` where one was not started.
+fn put_at_once<C: Pool + Sync, M: Meter + Send, R: Threads + Wait + Clock + Sync>(
+    rt: &R,
+    pool: &C,
+    producers: Vec<Worker<C::Pass, M>>,
+    items: u32,
+    work: Work,
+    tally: &Mutex<Tally>,
 ) -> bool
-    requires { All (C.is_pass pool.now) producers.items }
+    requires { All (λ w. C.is_pass pool.now w.pass) producers.items }
 {
     thread::scope(
         thread::scope_env(),
         rt,
         |scope| -> bool
-            requires { All (C.is_pass pool.now) producers.items }
+            requires { All (λ w. C.is_pass pool.now w.pass) producers.items }
         {
             let mut started = true;
-            for pass in producers {
+            for worker in producers {
                 let producer = scope.spawn(
-                    move || -> u64
-                        requires { C.is_pass pool.now pass }
-                    { put_all(rt, pool, pass, items) },
+                    move ||
+                        requires { C.is_pass pool.now worker.pass }
+                    { produce(rt, pool, worker, items, work, tally) },
                 );
                 started &= producer.is_ok();
             }
@@ -38,48 +86,69 @@ fn put_at_once<C: Pool + Sync, R: Threads + Wait + Sync>(
     )
 }
 
-/// Starts the consumers, then the producers, and closes the container when these have ended.
-/// Returns how many items came out; `None` where a thread was not started.
-pub fn send_through<C: Pool + Sync, R: Threads + Wait + Sync>(
+/// Starts the consumers, then the producers, and closes the container when these have ended. Each
+/// thread works so long after each item. Returns what they have done; `None` where a thread was not
+/// started.
+pub fn send_through<C: Pool + Sync, M: Meter + Send, R: Threads + Wait + Clock + Sync>(
     rt: &R,
+    alloc: Global,
     pool: &C,
-    producers: Vec<C::Pass>,
-    consumers: Vec<C::Pass>,
+    producers: Vec<Worker<C::Pass, M>>,
+    consumers: Vec<Worker<C::Pass, M>>,
     closer: C::Pass,
     items: u32,
-) -> Option<u64>
-    requires producers { All (C.is_pass pool.now) producers.items }
-    requires consumers { All (C.is_pass pool.now) consumers.items }
+    work: Work,
+) -> Option<Tally>
+    requires producers { All (λ w. C.is_pass pool.now w.pass) producers.items }
+    requires consumers { All (λ w. C.is_pass pool.now w.pass) consumers.items }
     requires closer { C.is_pass pool.now closer }
 {
-    let taken = AtomicU64::new(0);
-    let sum = &taken;
+    let tally = Mutex::new(Tally::new(alloc));
+    let shared = &tally;
     let started = thread::scope(
         thread::scope_env(),
         rt,
         |scope| -> bool
-            requires producers { All (C.is_pass pool.now) producers.items }
-            requires consumers { All (C.is_pass pool.now) consumers.items }
+            requires producers { All (λ w. C.is_pass pool.now w.pass) producers.items }
+            requires consumers { All (λ w. C.is_pass pool.now w.pass) consumers.items }
             requires closer { C.is_pass pool.now closer }
         {
             let mut started = true;
-            for pass in consumers {
+            for worker in consumers {
                 let consumer = scope.spawn(
                     move ||
-                        requires { C.is_pass pool.now pass }
-                    {
-                        let count = take_all(rt, pool, pass);
-                        sum.fetch_add(count, Ordering::SeqCst);
-                    },
+                        requires { C.is_pass pool.now worker.pass }
+                    { consume(rt, pool, worker, work, shared) },
                 );
                 started &= consumer.is_ok();
             }
             if started {
-                started = put_at_once(rt, pool, producers, items);
+                started = put_at_once(rt, pool, producers, items, work, shared);
             }
             let _ = pool.close(rt, closer);
             started
         },
     );
-    started.then_some(taken.load(Ordering::SeqCst))
+    let all = tally.into_inner();
+    if started { Some(all) } else { None }
+}
+
+/// Puts and takes in turn on this thread; returns what it has done.
+pub fn send_alone<C: Pool, M: Meter, R: Wait + Clock>(
+    rt: &R,
+    alloc: Global,
+    pool: &C,
+    worker: Worker<C::Pass, M>,
+    items: u32,
+    work: Work,
+) -> Tally
+    requires { C.is_pass pool.now worker.pass }
+    ensures { result.taken ≤ items }
+{
+    let Worker { pass, meter } = worker;
+    let mut meter = meter;
+    let taken = put_and_take(rt, pool, pass, items, work, &mut meter);
+    let mut all = Tally::new(alloc);
+    all.add(taken, meter.times());
+    all
 }

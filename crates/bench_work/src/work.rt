@@ -1,86 +1,76 @@
-//! What the threads of a run do.
+//! Work that a thread does between two calls.
 
-ghost use Rattle.std.specs.Prelude.{◌≤◌};
+ghost use Rattle.std.specs.Prelude.{◌≡◌, ◌<◌, ◌≤◌, ◌*◌, ◌+◌, ◌-◌, ◌^◌, ◌⊎◌};
 
-use crate::pool::Pool;
-use bounded_model::{PutRefused, TakeRefused};
-use std::sync::Wait;
-use std::thread;
+use std::io;
+use std::sync::atomic::{AtomicU64, Ordering};
+use std::time::{Clock, Instant};
 
-// Tries until the item is in; `false` where none can be put any more.
-#[inline(always)]
-fn put_one<C: Pool, R: Wait>(rt: &R, container: &C, by: C::Pass, item: u64) -> (C::Pass, bool)
-    requires { C.is_pass container.now by }
-    ensures { C.is_pass container.now result.0 }
-{
-    let mut pass = by;
-    let mut item = item;
-    for _ in rt.forever() {
-        let (back, answer) = container.put(rt, pass, item);
-        pass = back;
-        match answer {
-            Ok(_) => return (pass, true),
-            Err(PutRefused::Full(refused)) => {
-                item = refused;
-                thread::yield_now();
-            }
-            Err(_) => return (pass, false),
-        }
-    }
-    unreachable!()
+/// The turns of one trial, which take some tens of microseconds.
+const TRIAL: u32 = 10_000;
+
+/// How many trials there are; the shortest is believed, since nothing else ran in it.
+const TRIALS: u32 = 30;
+
+// An odd number, so that no turn loses what was there before.
+const FACTOR: u64 = 6_364_136_223_846_793_005;
+
+/// A loop of so many turns, in which each multiplies what the one before has made.
+#[derive(Clone, Copy)]
+pub struct Work {
+    pub turns: u32,
 }
 
-/// Puts items numbered from 0; returns how many are in.
-pub fn put_all<C: Pool, R: Wait>(rt: &R, container: &C, by: C::Pass, items: u32) -> u64
-    requires { C.is_pass container.now by }
-    ensures { result ≤ items }
+/// The most turns that take no longer than so many nanoseconds, where `trial` of them took `spent`;
+/// no more than a `u32` holds.
+pub fn turns_for(nanoseconds: u32, trial: u32, spent: u64) -> u32
+    requires { 0 < spent }
+    ensures no_longer { result * spent ≤ nanoseconds * trial }
+    ensures longest { (nanoseconds * trial < (result + 1) * spent) ⊎ (result ≡ 2 ^ 32 - 1) }
 {
-    let mut pass = by;
-    let mut put = 0;
-    for item in 0..items {
-        let (back, is_in) = put_one(rt, container, pass, u64::from(item));
-        pass = back;
-        if !is_in {
-            break;
-        }
-        put += 1;
-    }
-    put
+    let turns = u64::from(nanoseconds) * u64::from(trial) / spent;
+    u32::try_from(turns).unwrap_or(u32::MAX)
 }
 
-/// Takes items until no more will come; returns how many there were.
-pub fn take_all<C: Pool, R: Wait>(rt: &R, container: &C, by: C::Pass) -> u64
-    requires { C.is_pass container.now by }
-{
-    let mut pass = by;
-    let mut taken: u64 = 0;
-    for _ in rt.forever() {
-        let (back, answer) = container.take(rt, pass);
-        pass = back;
-        match answer {
-            Ok(_) => taken = taken.saturating_add(1),
-            Err(TakeRefused::Empty) => thread::yield_now(),
-            Err(_) => return taken,
-        }
-    }
-    unreachable!()
+/// Keeps the compiler from leaving out what has made this value.
+pub(crate) fn keep(value: u64) {
+    AtomicU64::new(0).fetch_add(value, Ordering::SeqCst);
 }
 
-/// Puts an item and takes one, in turn; returns how many were taken.
-pub fn put_and_take<C: Pool, R: Wait>(rt: &R, container: &C, by: C::Pass, items: u32) -> u64
-    requires { C.is_pass container.now by }
-    ensures { result ≤ items }
-{
-    let mut pass = by;
-    let mut taken = 0;
-    for item in 0..items {
-        let (back, is_in) = put_one(rt, container, pass, u64::from(item));
-        let (back, answer) = container.take(rt, back);
-        pass = back;
-        if !is_in || answer.is_err() {
-            break;
-        }
-        taken += 1;
+impl Work {
+    /// No work.
+    pub const fn none() -> Work
+        ensures { result.turns ≡ 0 }
+    {
+        Work { turns: 0 }
     }
-    taken
+
+    /// Work of about so many nanoseconds, by what the clock says of some trials.
+    pub fn lasting<R: Clock>(rt: &R, nanoseconds: u32) -> io::Result<Work> {
+        let trial = Work { turns: TRIAL };
+        let mut shortest = u64::MAX;
+        let mut made = 1;
+        for _ in 0..TRIALS {
+            let start = Instant::now(rt)?;
+            made = trial.on(made);
+            let spent = start.elapsed(rt)?.as_nanos();
+            shortest = shortest.min(u64::try_from(spent).unwrap_or(u64::MAX));
+        }
+        keep(made);
+        Ok(Work {
+            turns: turns_for(nanoseconds, TRIAL, shortest.max(1)),
+        })
+    }
+
+    /// Works on an item, and returns what has become of it: with no turns the item itself.
+    #[inline(always)]
+    pub fn on(self, item: u64) -> u64
+        ensures { self.turns ≡ 0 → result ≡ item }
+    {
+        let mut made = item;
+        for _ in 0..self.turns {
+            made = (made ^ (made >> 32)).wrapping_mul(FACTOR);
+        }
+        made
+    }
 }

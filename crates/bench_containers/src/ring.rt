@@ -1,0 +1,66 @@
+//! The kit's ring, as the threads of a run call it.
+
+ghost use Rattle.std.specs.Prelude.{◌<◌, ⊤};
+
+use bench_work::Pool;
+use bounded_model::{PutRefused, TakeRefused};
+use crossbeam_queue::ArrayQueue;
+use std::alloc::{AllocError, Global};
+use std::sync::Wait;
+use std::sync::atomic::{AtomicBool, Ordering};
+
+/// A ring with a flag beside it, since a ring cannot be closed. It numbers no calls: each answers 0.
+#[derive(Drop)]
+pub struct Ring {
+    items: ArrayQueue<u64>,
+    closed: AtomicBool,
+}
+
+/// A thread's leave to call a ring: any thread has it.
+#[derive(Drop)]
+pub struct AnyThread;
+
+impl Ring {
+    pub fn new(alloc: Global, capacity: u32) -> Result<Ring, AllocError>
+        requires { 0 < capacity }
+    {
+        Ok(Ring {
+            items: ArrayQueue::new(alloc, capacity as usize)?,
+            closed: AtomicBool::new(false),
+        })
+    }
+}
+
+impl Pool for Ring {
+    type Pass = AnyThread;
+
+    ghost is_pass = { λ _ _. ⊤ };
+
+    #[inline(always)]
+    fn put<W: Wait>(
+        &self,
+        rt: &W,
+        by: AnyThread,
+        item: u64,
+    ) -> (AnyThread, Result<u64, PutRefused<u64>>) {
+        match self.items.push(rt, item) {
+            Ok(()) => (by, Ok(0)),
+            Err(refused) => (by, Err(PutRefused::Full(refused))),
+        }
+    }
+
+    // No put follows the flag: an item that is there when it is read is still found.
+    #[inline(always)]
+    fn take<W: Wait>(&self, rt: &W, by: AnyThread) -> (AnyThread, Result<(u64, u64), TakeRefused>) {
+        let closed = self.closed.load(Ordering::SeqCst);
+        match self.items.pop(rt) {
+            Some(item) => (by, Ok((item, 0))),
+            None if closed => (by, Err(TakeRefused::Closed)),
+            None => (by, Err(TakeRefused::Empty)),
+        }
+    }
+
+    fn close<W: Wait>(&self, _rt: &W, by: AnyThread) -> (AnyThread, bool) {
+        (by, !self.closed.swap(true, Ordering::SeqCst))
+    }
+}
