@@ -1,19 +1,31 @@
-// Boost.Lockfree's bounded stack and queue at the work of crates/bench_containers: each producer
-// puts its items, the consumers take them all. With no producer one thread puts and takes in turn.
+// Other containers at the work of crates/bench_containers: each producer puts its items, the
+// consumers take them all. With no producer one thread puts and takes in turn.
 //
-// usage: peers KIND PRODUCERS CONSUMERS ITEMS      KIND: stack or queue
-// CAPACITY is given when it is compiled (-DCAPACITY=4096): the nodes then lie in the container, as
-// an array, which is Boost's fastest form. Prints nanoseconds per item.
+// usage: peers KIND PRODUCERS CONSUMERS ITEMS [WORK]
+//
+// KIND: stack or queue: Boost.Lockfree's, bounded, with its nodes in the container, as an array, which
+// is its fastest form; mutex-stack or mutex-queue: a std::mutex over a std::vector or a std::deque;
+// moodycamel: moodycamel::ConcurrentQueue, where its header is there. WORK: nanoseconds of work before
+// each put and after each take. CAPACITY is given when it is compiled (-DCAPACITY=4096). With -DOURS the
+// stack and the queue are those of this repository, as C++ calls them, and there are no others.
+//
+// Two runs are made, as there: the first gives nanoseconds per item, the second, with the clock read
+// before and after each call, the percentiles. A refused caller gives 50 spin hints and then yields.
 
+#include <algorithm>
 #include <atomic>
 #include <chrono>
 #include <cstdint>
 #include <cstdio>
 #include <cstdlib>
+#include <deque>
 #include <memory>
+#include <mutex>
 #include <string>
 #include <thread>
 #include <vector>
+
+#include <immintrin.h>
 
 #ifdef OURS
 #include "../c/lockfree.hpp"
@@ -22,6 +34,13 @@ namespace containers = lockfree;
 #include <boost/lockfree/queue.hpp>
 #include <boost/lockfree/stack.hpp>
 namespace containers = boost::lockfree;
+#if __has_include(<concurrentqueue/moodycamel/concurrentqueue.h>)
+#include <concurrentqueue/moodycamel/concurrentqueue.h>
+#define MOODYCAMEL
+#elif __has_include(<concurrentqueue/concurrentqueue.h>)
+#include <concurrentqueue/concurrentqueue.h>
+#define MOODYCAMEL
+#endif
 #endif
 
 #ifndef CAPACITY
@@ -35,68 +54,201 @@ using Clock = std::chrono::steady_clock;
 using Stack = containers::stack<Item, containers::capacity<CAPACITY>>;
 using Queue = containers::queue<Item, containers::capacity<CAPACITY>>;
 
+class MutexStack {
+public:
+    MutexStack() { items_.reserve(CAPACITY); }
+
+    bool push(Item item) {
+        const std::lock_guard<std::mutex> guard(mutex_);
+        if (items_.size() >= CAPACITY) return false;
+        items_.push_back(item);
+        return true;
+    }
+
+    bool pop(Item& item) {
+        const std::lock_guard<std::mutex> guard(mutex_);
+        if (items_.empty()) return false;
+        item = items_.back();
+        items_.pop_back();
+        return true;
+    }
+
+private:
+    std::mutex mutex_;
+    std::vector<Item> items_;
+};
+
+class MutexQueue {
+public:
+    bool push(Item item) {
+        const std::lock_guard<std::mutex> guard(mutex_);
+        if (items_.size() >= CAPACITY) return false;
+        items_.push_back(item);
+        return true;
+    }
+
+    bool pop(Item& item) {
+        const std::lock_guard<std::mutex> guard(mutex_);
+        if (items_.empty()) return false;
+        item = items_.front();
+        items_.pop_front();
+        return true;
+    }
+
+private:
+    std::mutex mutex_;
+    std::deque<Item> items_;
+};
+
+#ifdef MOODYCAMEL
+class Moodycamel {
+public:
+    bool push(Item item) { return items_.try_enqueue(item); }
+    bool pop(Item& item) { return items_.try_dequeue(item); }
+
+private:
+    moodycamel::ConcurrentQueue<Item> items_{CAPACITY};
+};
+#endif
+
 struct Load {
     unsigned producers;
     unsigned consumers;
     Item items;
+    std::uint64_t turns;
 };
+
+// How many calls of a thread are timed: its first ones.
+constexpr std::size_t MOST_TIMED = 65536;
+
+// Notes nothing.
+struct Untimed {
+    static std::uint64_t begin() { return 0; }
+    void end(std::uint64_t) {}
+    std::vector<std::uint64_t> times;
+};
+
+std::uint64_t now() {
+    return static_cast<std::uint64_t>(
+        std::chrono::duration_cast<std::chrono::nanoseconds>(Clock::now().time_since_epoch()).count());
+}
+
+// Reads the clock before and after each call.
+struct Timed {
+    // The memory is written once, so that no page is missing while calls are timed.
+    Timed() : times(MOST_TIMED, ~std::uint64_t{0}) { times.clear(); }
+    static std::uint64_t begin() { return now(); }
+    void end(std::uint64_t begun) {
+        const std::uint64_t spent = now() - begun;
+        if (times.size() < MOST_TIMED) times.push_back(spent);
+    }
+    std::vector<std::uint64_t> times;
+};
+
+// Work on an item: so many turns, each of which needs the one before.
+Item worked(Item item, std::uint64_t turns) {
+    for (std::uint64_t turn = 0; turn < turns; ++turn) item = (item ^ (item >> 32)) * 6364136223846793005u;
+    return item;
+}
+
+std::atomic<Item> kept{0};
+
+// The turns that take so many nanoseconds, by the shortest of some trials.
+std::uint64_t turns_for(std::uint64_t nanoseconds) {
+    constexpr std::uint64_t TRIAL = 10000;
+    std::uint64_t shortest = ~std::uint64_t{0};
+    Item made = 1;
+    for (int trial = 0; trial < 30; ++trial) {
+        const std::uint64_t start = now();
+        made = worked(made, TRIAL);
+        shortest = std::min(shortest, now() - start);
+    }
+    kept += made;
+    return nanoseconds * TRIAL / std::max<std::uint64_t>(shortest, 1);
+}
+
+void give_way() {
+    for (int hint = 0; hint < 50; ++hint) _mm_pause();
+    std::this_thread::yield();
+}
 
 // What the items that came out add up to, so that no take can be left out.
 struct Outcome {
-    Item taken;
-    Item sum;
+    Item taken = 0;
+    Item sum = 0;
 };
 
-template <class Container>
-Outcome put_and_take(Container& container, Item items) {
-    Outcome outcome{0, 0};
-    for (Item item = 0; item < items; ++item) {
+template <class Container, class Meter>
+bool put(Container& container, Item item, Meter& meter) {
+    const std::uint64_t begun = Meter::begin();
+    const bool done = container.push(item);
+    meter.end(begun);
+    return done;
+}
+
+template <class Container, class Meter>
+bool take(Container& container, Item& item, Meter& meter) {
+    const std::uint64_t begun = Meter::begin();
+    const bool done = container.pop(item);
+    meter.end(begun);
+    return done;
+}
+
+template <class Container, class Meter>
+Outcome put_and_take(Container& container, const Load& load, Meter& meter) {
+    Outcome outcome;
+    for (Item item = 0; item < load.items; ++item) {
         Item found = 0;
-        if (!container.push(item) || !container.pop(found)) break;
-        outcome.sum += found;
+        if (!put(container, worked(item, load.turns), meter) || !take(container, found, meter)) break;
+        outcome.sum += worked(found, load.turns);
         ++outcome.taken;
     }
     return outcome;
 }
 
-template <class Container>
-void put_all(Container& container, Item items) {
-    for (Item item = 0; item < items; ++item)
-        while (!container.push(item)) std::this_thread::yield();
+template <class Container, class Meter>
+void put_all(Container& container, const Load& load, Meter& meter) {
+    for (Item item = 0; item < load.items; ++item) {
+        const Item made = worked(item, load.turns);
+        while (!put(container, made, meter)) give_way();
+    }
 }
 
 // Takes until the producers have ended and nothing is left.
-template <class Container>
-Outcome take_all(Container& container, const std::atomic<bool>& closed) {
-    Outcome outcome{0, 0};
+template <class Container, class Meter>
+Outcome take_all(Container& container, const Load& load, const std::atomic<bool>& closed, Meter& meter) {
+    Outcome outcome;
     for (;;) {
         const bool last = closed.load();
         Item found = 0;
-        if (container.pop(found)) {
-            outcome.sum += found;
+        if (take(container, found, meter)) {
+            outcome.sum += worked(found, load.turns);
             ++outcome.taken;
         } else if (last) {
             return outcome;
         } else {
-            std::this_thread::yield();
+            give_way();
         }
     }
 }
 
-template <class Container>
-Outcome send_through(Container& container, const Load& load) {
+template <class Container, class Meter>
+Outcome send_through(Container& container, const Load& load, std::vector<Meter>& meters) {
     std::atomic<bool> closed{false};
     std::vector<Outcome> outcomes(load.consumers);
     std::vector<std::thread> takers;
-    for (auto& outcome : outcomes)
-        takers.emplace_back([&container, &closed, &outcome] { outcome = take_all(container, closed); });
+    for (unsigned k = 0; k < load.consumers; ++k)
+        takers.emplace_back([&, k] {
+            Outcome outcome = take_all(container, load, closed, meters[k]);
+            outcomes[k] = outcome;
+        });
     std::vector<std::thread> putters;
     for (unsigned k = 0; k < load.producers; ++k)
-        putters.emplace_back([&container, &load] { put_all(container, load.items); });
+        putters.emplace_back([&, k] { put_all(container, load, meters[load.consumers + k]); });
     for (auto& putter : putters) putter.join();
     closed = true;
     for (auto& taker : takers) taker.join();
-    Outcome all{0, 0};
+    Outcome all;
     for (const auto& outcome : outcomes) {
         all.taken += outcome.taken;
         all.sum += outcome.sum;
@@ -104,37 +256,72 @@ Outcome send_through(Container& container, const Load& load) {
     return all;
 }
 
+// What all items add up to when they have been worked on twice.
+Item expected_sum(const Load& load) {
+    Item sum = 0;
+    for (Item item = 0; item < load.items; ++item) sum += worked(worked(item, load.turns), load.turns);
+    return sum * std::max(load.producers, 1u);
+}
+
+// Sends the items through a new container; answers the nanoseconds, and the times of the calls.
+template <class Container, class Meter>
+double send(const Load& load, Item sum, std::vector<std::uint64_t>& times) {
+    const auto container = std::make_unique<Container>();
+    std::vector<Meter> meters(std::max(1u, load.producers + load.consumers));
+    const auto start = Clock::now();
+    const Outcome outcome = load.producers == 0 ? put_and_take(*container, load, meters[0])
+                                                : send_through(*container, load, meters);
+    const std::chrono::duration<double, std::nano> spent = Clock::now() - start;
+    if (outcome.taken != std::max(load.producers, 1u) * load.items || outcome.sum != sum) {
+        std::fprintf(stderr, "peers: items were lost\n");
+        std::exit(1);
+    }
+    for (const auto& meter : meters) times.insert(times.end(), meter.times.begin(), meter.times.end());
+    return spent.count();
+}
+
+// The least time at or below which so many thousandths of the times lie.
+std::uint64_t percentile(const std::vector<std::uint64_t>& sorted, std::size_t thousandths) {
+    return sorted[(sorted.size() * thousandths + 999) / 1000 - 1];
+}
+
 template <class Container>
 int measure(const Load& load) {
-    const auto container = std::make_unique<Container>();
-    const auto start = Clock::now();
-    const Outcome outcome =
-        load.producers == 0 ? put_and_take(*container, load.items) : send_through(*container, load);
-    const std::chrono::duration<double, std::nano> spent = Clock::now() - start;
-    const Item threads = load.producers == 0 ? 1 : load.producers;
-    const Item expected = threads * (load.items * (load.items - 1) / 2);
-    if (outcome.taken != threads * load.items || outcome.sum != expected) {
-        std::fprintf(stderr, "peers: items were lost\n");
-        return 1;
-    }
-    std::printf("items taken: %llu\n", static_cast<unsigned long long>(outcome.taken));
-    std::printf("nanoseconds per item: %.1f\n", spent.count() / static_cast<double>(outcome.taken));
+    const Item sum = expected_sum(load);
+    std::vector<std::uint64_t> times;
+    const double spent = send<Container, Untimed>(load, sum, times);
+    const Item items = std::max(load.producers, 1u) * load.items;
+    std::printf("items taken: %llu\n", static_cast<unsigned long long>(items));
+    std::printf("nanoseconds per item: %.1f\n", spent / static_cast<double>(items));
+    send<Container, Timed>(load, sum, times);
+    std::sort(times.begin(), times.end());
+    const std::pair<const char*, std::size_t> shares[] = {{"50th", 500}, {"99th", 990}, {"99.9th", 999}};
+    for (const auto& share : shares)
+        std::printf("nanoseconds of a call, %s percentile: %llu\n", share.first,
+                    static_cast<unsigned long long>(percentile(times, share.second)));
     return 0;
 }
 
 }  // namespace
 
 int main(int count, char** words) {
-    if (count != 5) {
-        std::fprintf(stderr, "usage: peers stack|queue PRODUCERS CONSUMERS ITEMS\n");
+    if (count != 5 && count != 6) {
+        std::fprintf(stderr, "usage: peers KIND PRODUCERS CONSUMERS ITEMS [WORK]\n");
         return 2;
     }
     const std::string kind = words[1];
-    const Load load{static_cast<unsigned>(std::atoi(words[2])),
-                    static_cast<unsigned>(std::atoi(words[3])),
-                    static_cast<Item>(std::atoll(words[4]))};
-    if (load.producers > 0 && load.consumers == 0) return 2;
+    const std::uint64_t work = count == 6 ? std::strtoull(words[5], nullptr, 10) : 0;
+    const Load load{static_cast<unsigned>(std::atoi(words[2])), static_cast<unsigned>(std::atoi(words[3])),
+                    static_cast<Item>(std::atoll(words[4])), work == 0 ? 0 : turns_for(work)};
+    if (load.items == 0 || (load.producers > 0 && load.consumers == 0)) return 2;
     if (kind == "stack") return measure<Stack>(load);
     if (kind == "queue") return measure<Queue>(load);
+#ifndef OURS
+    if (kind == "mutex-stack") return measure<MutexStack>(load);
+    if (kind == "mutex-queue") return measure<MutexQueue>(load);
+#endif
+#ifdef MOODYCAMEL
+    if (kind == "moodycamel") return measure<Moodycamel>(load);
+#endif
     return 2;
 }
