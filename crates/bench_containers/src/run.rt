@@ -48,13 +48,13 @@ pub struct Run {
 }
 
 impl Run {
-    /// A short run, with more items than room.
+    /// A short run, with more items than room, and a little work.
     pub fn short(kind: Kind) -> Option<Run> {
         Some(Run {
             kind,
             limits: Limits::of(8, TAG_LIMIT)?,
             load: Load::of(2, 2, 1_000)?,
-            work: 0,
+            work: 100,
         })
     }
 

@@ -1,1 +1,2 @@
 pub mod Percentiles
+pub mod Meters

@@ -1,5 +1,8 @@
 //! What a thread notes of each of its calls.
 
+ghost use Rattle.std.specs.Prelude.{◌≡◌, [], ℕ, List, IfOk};
+ghost use Rattle.bench_work.specs.Meters.{NotesAtMostOne};
+
 use std::alloc::{AllocError, Global};
 use std::time::Clock;
 
@@ -8,17 +11,23 @@ pub const MOST_TIMED: usize = 65_536;
 
 /// Stands around each call of a thread.
 pub trait Meter: Drop {
+    /// The nanoseconds of each call that was timed.
+    ghost noted: { Self → List ℕ };
+
     /// A meter that has noted nothing, with all the memory that it will need.
-    fn new(alloc: Global) -> Result<Self, AllocError>;
+    fn new(alloc: Global) -> Result<Self, AllocError>
+        ensures { IfOk result (λ m. noted m ≡ []) };
 
     /// Right before a call; the result is handed to `end`.
     fn begin<R: Clock>(&self, rt: &R) -> u64;
 
     /// Right after it, whether it succeeded or was refused.
-    fn end<R: Clock>(&mut self, rt: &R, begun: u64);
+    fn end<R: Clock>(&mut self, rt: &R, begun: u64)
+        ensures { NotesAtMostOne (noted self.old) (noted self.new) };
 
     /// How many nanoseconds each call took that was timed.
-    fn times(&self) -> &[u64];
+    fn times(&self) -> &[u64]
+        ensures { result.now ≡ noted self.now };
 }
 
 /// Notes nothing, and costs nothing.
@@ -26,6 +35,8 @@ pub trait Meter: Drop {
 pub struct Untimed;
 
 impl Meter for Untimed {
+    ghost noted = { λ _. [] };
+
     fn new(_alloc: Global) -> Result<Untimed, AllocError> {
         Ok(Untimed)
     }
@@ -59,6 +70,8 @@ fn nanoseconds<R: Clock>(rt: &R) -> u64 {
 }
 
 impl Meter for Timed {
+    ghost noted = { λ m. m.times.items };
+
     // The memory is written once, so that no page is missing while calls are timed.
     fn new(alloc: Global) -> Result<Timed, AllocError> {
         let mut times = vec![in alloc; u64::MAX; MOST_TIMED]?;

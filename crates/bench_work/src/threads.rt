@@ -86,9 +86,9 @@ fn put_at_once<C: Pool + Sync, M: Meter + Send, R: Threads + Wait + Clock + Sync
     )
 }
 
-/// Starts the consumers, then the producers, and closes the container when these have ended. Each
-/// thread works so long after each item. Returns what they have done; `None` where a thread was not
-/// started.
+/// Starts the consumers, then the producers, and closes the container when these have ended. A
+/// producer works before each put, a consumer after each take. Returns what they have done; `None`
+/// where a thread was not started.
 pub fn send_through<C: Pool + Sync, M: Meter + Send, R: Threads + Wait + Clock + Sync>(
     rt: &R,
     alloc: Global,
