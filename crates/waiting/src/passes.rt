@@ -1,0 +1,61 @@
+//! Passes for many threads.
+
+ghost use Rattle.std.specs.Prelude.{◌≡◌, All, MatchResult, map, length};
+ghost use Rattle.waiting.specs.Passes.{SplitsMany, SplitsNone, JoinsEach};
+
+use bounded_model::Container;
+use std::alloc::{AllocError, Global};
+use thiserror::Error;
+
+/// Why not so many passes were split off.
+#[derive(Debug, Drop, Error)]
+pub enum SplitRefused {
+    /// The allocator had no memory for the list of passes.
+    #[error("no memory")]
+    NoMemory,
+    /// More than [`MAX_PASSES`](bounded_model::MAX_PASSES) would be out at one time.
+    #[error("no pass")]
+    NoPass,
+}
+
+/// Splits off so many passes. `NoMemory`: nothing was split off. `NoPass`: those that there were are
+/// joined again. Called in `example_jobs`.
+pub fn split_many<T, C: Container<T>>(
+    c: &C,
+    alloc: Global,
+    root: &mut C::Root,
+    count: u32,
+) -> Result<Vec<C::Pass>, SplitRefused>
+    requires { C.is_root c.now root.old }
+    ensures root { C.is_root c.now root.new }
+    ensures gives { MatchResult result
+        (λ passes. All (C.is_pass c.now) passes.items
+        × SplitsMany count (C.root root.old) (map C.pass passes.items) (C.root root.new))
+        (λ why. SplitsNone count (C.root root.old) (C.root root.new) why) }
+{
+    let Ok(room) = Vec::with_capacity(alloc, count as usize) else {
+        return Err(SplitRefused::NoMemory);
+    };
+    let mut passes = room;
+    while passes.len() < count as usize {
+        let Some(pass) = c.split(root) else {
+            join_all(c, root, passes);
+            return Err(SplitRefused::NoPass);
+        };
+        passes.push_reserved(pass);
+    }
+    Ok(passes)
+}
+
+/// Takes passes back, the first one first: the root has then seen what each of them has. Called in
+/// `waiting_tests`.
+pub fn join_all<T, C: Container<T>>(c: &C, root: &mut C::Root, passes: Vec<C::Pass>)
+    requires root { C.is_root c.now root.old }
+    requires passes { All (C.is_pass c.now) passes.items }
+    ensures root { C.is_root c.now root.new }
+    ensures gives { JoinsEach (C.root root.old) (map C.pass passes.items) (C.root root.new) }
+{
+    for pass in passes {
+        c.join(root, pass);
+    }
+}

@@ -1,0 +1,16 @@
+//! Waiting between two tries.
+
+use std::{hint, thread};
+
+/// How many hints of the processor a wait gives before it yields. They take as long as another
+/// thread's call does; a wait that only yields makes a small container a fifth to a third slower.
+const HINTS: u32 = 50;
+
+/// Lets the other threads go on.
+#[inline]
+pub(crate) fn wait_a_little() {
+    for _ in 0..HINTS {
+        hint::spin_loop();
+    }
+    thread::yield_now();
+}
