@@ -4,7 +4,7 @@
 
 ghost use Rattle.ms_queue.specs.Queue.{IsPassOf};
 
-use bounded_model::{Container, MakeRefused, PutRefused, TakeRefused};
+use bounded_model::{Container, MakeRefused};
 use ms_queue::{Pass, Queue};
 use std::process::ExitCode;
 use std::sync::Wait;
@@ -12,6 +12,7 @@ use std::thread::Threads;
 use std::{io, thread};
 use tagged_index::{Limits, MAX_TAG};
 use thiserror::Error;
+use waiting::{put_all, take_all_until_closed};
 
 #[derive(Debug, Drop, Error)]
 enum Fault {
@@ -29,38 +30,16 @@ const COUNT: u64 = 100_000;
 fn produce<R: Wait>(rt: &R, queue: &Queue<u64>, by: Pass<u64>)
     requires { IsPassOf queue.now by }
 {
-    let mut pass = by;
-    let mut next = 0;
-    for _ in rt.forever() {
-        if next >= COUNT {
-            queue.close(rt, pass);
-            return;
-        }
-        let (back, answer) = queue.put(rt, pass, next);
-        pass = back;
-        match answer {
-            Ok(_) => next += 1,
-            Err(PutRefused::Full(_)) => thread::yield_now(),
-            Err(_) => return,
-        }
-    }
+    let (pass, _) = put_all(queue, rt, by, 0..COUNT);
+    queue.close(rt, pass);
 }
 
 fn consume<R: Wait>(rt: &R, queue: &Queue<u64>, by: Pass<u64>) -> u64
     requires { IsPassOf queue.now by }
 {
-    let mut pass = by;
-    let mut sum: u64 = 0;
-    for _ in rt.forever() {
-        let (back, taken) = queue.take(rt, pass);
-        pass = back;
-        match taken {
-            Ok((value, _number)) => sum = sum.wrapping_add(value),
-            Err(TakeRefused::Empty) => thread::yield_now(),
-            Err(_) => return sum,
-        }
-    }
-    unreachable!()
+    let add = |sum: u64, (value, _number): (u64, u64)| sum.wrapping_add(value);
+    let (_, sum, _) = take_all_until_closed(queue, rt, by, 0, add);
+    sum
 }
 
 // Starts the producer, and consumes here. `None` where there was no thread.
