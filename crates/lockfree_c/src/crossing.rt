@@ -1,5 +1,5 @@
-//! C may give a handle to another thread: the parts of what lies behind one may cross threads. Of a
-//! queue's put that is under way this is not proved here.
+//! C may give a handle to another thread, also one with a call under way: the parts of what lies
+//! behind one may cross threads.
 
 use crate::held::{QueueOperation, QueuePass, QueueRoot, StackOperation, StackPass, StackRoot};
 use bounded_calls::Operation;
@@ -19,10 +19,10 @@ pub fn queue_pass_crosses(pass: &QueuePass) {
     crosses(&pass.stage.resting);
 }
 
-/// A call that a queue's pass is in, but for a put.
+/// A call that a queue's pass is in.
 pub fn queue_operation_crosses(operation: &QueueOperation) {
     match operation {
-        Operation::Put(_) => {}
+        Operation::Put(put) => crosses(put),
         Operation::Take(take) => crosses(take),
         Operation::Close(close) => crosses(close),
         Operation::Shut(shut) => crosses(shut),
