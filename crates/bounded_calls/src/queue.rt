@@ -12,7 +12,7 @@ ghost use Rattle.ms_queue.specs.Whole.{PutRun, TakeRun, CloseRun, ShutRun, LookR
 
 use crate::calls::BoundedCalls;
 use crate::operation::Operation;
-use crate::whole::try_whole;
+use crate::whole::{try_further, try_whole};
 use bounded_model::{Command, PutRefused, Reply, Stepped, Stepwise, TakeRefused};
 use ms_queue::{CloseOp, LookOp, Pass, PutOp, Queue, ShutOp, TakeOp};
 
@@ -39,6 +39,32 @@ fn take_on(
     ensures { TakeRun queue.now (begun_of queue.now op.pass) result }
 {
     try_whole(queue, op, tries)
+}
+
+// The same of a put and of a take that are under way.
+#[inline]
+fn put_further(
+    queue: &Queue<u64>,
+    op: PutOp<u64>,
+    tries: u64,
+) -> Stepped<PutOp<u64>, Pass<u64>, Result<u64, PutRefused<u64>>>
+    requires { (x : ℕ) × IsPutting queue.now x op }
+    ensures { (x : ℕ) → IsPutting queue.now x op
+        → PutRun queue.now (begun_of queue.now op.pass) x result }
+{
+    try_further(queue, op, tries)
+}
+
+#[inline]
+fn take_further(
+    queue: &Queue<u64>,
+    op: TakeOp<u64>,
+    tries: u64,
+) -> Stepped<TakeOp<u64>, Pass<u64>, Result<(u64, u64), TakeRefused>>
+    requires { IsTaking queue.now op }
+    ensures { TakeRun queue.now (begun_of queue.now op.pass) result }
+{
+    try_further(queue, op, tries)
 }
 
 #[inline]
@@ -107,7 +133,11 @@ impl BoundedCalls<u64> for Queue<u64> {
         requires { IsPassOf self.now by }
         ensures { TriedFrom (queue_reading self.now) (pass_in by) command result }
     {
-        self.try_on(begin(self, by, command), tries)
+        match command {
+            Command::Put(value) => self.try_put(by, value, tries),
+            Command::Take => self.try_take(by, tries),
+            other => self.try_on(begin(self, by, other), tries),
+        }
     }
 
     #[inline(always)]
@@ -162,11 +192,11 @@ impl BoundedCalls<u64> for Queue<u64> {
         ensures { Tried (queue_reading self.now) operation result }
     {
         match operation {
-            Operation::Put(op) => match put_on(self, op, tries) {
+            Operation::Put(op) => match put_further(self, op, tries) {
                 Stepped::Again(op) => Stepped::Again(Operation::Put(op)),
                 Stepped::Done(pass, answer) => Stepped::Done(pass, Reply::Put(answer)),
             },
-            Operation::Take(op) => match take_on(self, op, tries) {
+            Operation::Take(op) => match take_further(self, op, tries) {
                 Stepped::Again(op) => Stepped::Again(Operation::Take(op)),
                 Stepped::Done(pass, answer) => Stepped::Done(pass, Reply::Take(answer)),
             },

@@ -28,7 +28,8 @@ fn run_on<C, P, A, O: Whole<C, P, A>>(on: &C, under_way: O, tries: u64) -> Stepp
     made
 }
 
-/// Runs an operation: straight on, and then so many times at most.
+/// Runs an operation: straight on, and then so many times at most. With no tries known to the
+/// compiler, the way straight on is all of it.
 #[inline(always)]
 pub fn try_whole<C, P, A, O: Whole<C, P, A>>(on: &C, operation: O, tries: u64) -> Stepped<O, P, A>
     requires { (call : O.Call) × O.is_under_way on.now call operation }
@@ -37,6 +38,22 @@ pub fn try_whole<C, P, A, O: Whole<C, P, A>>(on: &C, operation: O, tries: u64) -
 {
     match operation.straight(on) {
         Stepped::Done(back, answer) => Stepped::Done(back, answer),
-        Stepped::Again(next) => run_on(on, next, tries),
+        Stepped::Again(next) => {
+            if tries == 0 {
+                return Stepped::Again(next);
+            }
+            run_on(on, next, tries)
+        }
     }
+}
+
+/// Goes on with an operation that is under way: once, and then so many times at most, each time with
+/// a wait before it where an exchange was lost.
+#[inline]
+pub fn try_further<C, P, A, O: Whole<C, P, A>>(on: &C, under_way: O, tries: u64) -> Stepped<O, P, A>
+    requires { (call : O.Call) × O.is_under_way on.now call under_way }
+    ensures { (call : O.Call) → O.is_under_way on.now call under_way → MatchStepped result
+        (λ next. O.is_under_way on.now call next) (λ back answer. O.gives on.now call back answer) }
+{
+    run_on(on, under_way, tries.saturating_add(1))
 }

@@ -82,8 +82,11 @@ impl QueuePass {
     {
         match self.stage.resting.take() {
             Some(by) => {
-                let made = self.queue.try_put(by, value, tries);
-                self.stage.leave(made)
+                let made = self.queue.try_put(by, value, 0);
+                match self.stage.settle(made) {
+                    Some(answer) => answer,
+                    None => self.go_on(tries),
+                }
             }
             None => Answer::of(UNDER_WAY),
         }
@@ -98,8 +101,11 @@ impl QueuePass {
     {
         match self.stage.resting.take() {
             Some(by) => {
-                let made = self.queue.try_take(by, tries);
-                self.stage.leave(made)
+                let made = self.queue.try_take(by, 0);
+                match self.stage.settle(made) {
+                    Some(answer) => answer,
+                    None => self.go_on(tries),
+                }
             }
             None => Answer::of(UNDER_WAY),
         }
@@ -120,7 +126,9 @@ impl QueuePass {
         }
     }
 
-    /// Goes on with the call that the pass is in, if it is in one.
+    /// Goes on with the call that the pass is in, if it is in one. A function of its own, so that a
+    /// put and a take that lose nothing have no room for what it needs, and need not clear it.
+    #[inline(never)]
     pub fn go_on(&mut self, tries: u64) -> Answer
         requires { IsQueuePass self.old }
         ensures of { IsQueuePass self.new }
