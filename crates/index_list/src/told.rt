@@ -1,9 +1,8 @@
 //! A table's steps whose telling is picked by the proof of the caller. They cost what the
 //! table's own steps do.
-ghost use Rattle.std.specs.Prelude.{◌≡◌, ◌==◌, ◌↔◌, ℕ, ◌<◌, IsTrue};
-ghost use mathlib.Core.Option.{none};
-ghost use prog.Atomic.{either};
-ghost use Rattle.atomic_table.specs.Table.{Step, step, Me, Allows};
+ghost use Rattle.std.specs.Prelude.{◌≡◌, ◌↔◌, ℕ, ◌<◌, IsTrue};
+ghost use Rattle.atomic_table.specs.Table.{Step, Me};
+ghost use Rattle.index_list.specs.Instructions.{MayMake, compare_and_swap, load, store};
 
 use atomic_table::{Play, Seat, Shared, TableRule};
 use std::marker::{Brand, PhantomData};
@@ -41,11 +40,10 @@ pub fn load_as<S, V, K, P: TableRule<S, V, K>, A: Copy, X, W: Telling<S, V>>(
 ) -> u64
     requires table { seat.old.table_id ≡ table.now.table_id }
     requires word { at < table.now.table_id.words }
-    requires allowed { Allows (P.holds table.now.key) table.now.table_id.slots
-        seat.old.id seat.old.me at
-        (λ n. n) (W.told (step table.now.table_id.slots at 0 0 none) seat.old.me) }
+    requires allowed { MayMake (P.holds table.now.key) seat.old
+        (load table.now.table_id.slots at) W.told }
     ensures seat { (seat.new.table_id ≡ seat.old.table_id) × (seat.new.id ≡ seat.old.id) }
-    ensures told { W.told (step table.now.table_id.slots at 0 0 none)
+    ensures told { W.told (load table.now.table_id.slots at).step
         seat.old.me result seat.new.me }
 {
     let _ = about;
@@ -65,11 +63,10 @@ pub fn store_as<S, V, K, P: TableRule<S, V, K>, A: Copy, X, W: Telling<S, V>>(
 )
     requires table { seat.old.table_id ≡ table.now.table_id }
     requires word { at < table.now.table_id.words }
-    requires allowed { Allows (P.holds table.now.key) table.now.table_id.slots
-        seat.old.id seat.old.me at
-        (λ _. new) (λ _. W.told (step table.now.table_id.slots at new 0 none) seat.old.me new) }
+    requires allowed { MayMake (P.holds table.now.key) seat.old
+        (store table.now.table_id.slots at new) W.told }
     ensures seat { (seat.new.table_id ≡ seat.old.table_id) × (seat.new.id ≡ seat.old.id) }
-    ensures told { W.told (step table.now.table_id.slots at new 0 none)
+    ensures told { W.told (store table.now.table_id.slots at new).step
         seat.old.me new seat.new.me }
 {
     let _ = about;
@@ -91,13 +88,12 @@ pub fn try_as<S, V, K, P: TableRule<S, V, K>, A: Copy, X, W: Telling<S, V>>(
 ) -> bool
     requires table { seat.old.table_id ≡ table.now.table_id }
     requires word { at < table.now.table_id.words }
-    requires allowed { Allows (P.holds table.now.key) table.now.table_id.slots
-        seat.old.id seat.old.me at
-        (λ n. either (n == seen) new n)
-        (W.told (step table.now.table_id.slots at seen new none) seat.old.me) }
+    requires allowed { MayMake (P.holds table.now.key) seat.old
+        (compare_and_swap table.now.table_id.slots at seen new) W.told }
     ensures seat { (seat.new.table_id ≡ seat.old.table_id) × (seat.new.id ≡ seat.old.id) }
     ensures told { (found : ℕ) × (IsTrue result ↔ (found ≡ seen))
-        × W.told (step table.now.table_id.slots at seen new none) seat.old.me found seat.new.me }
+        × W.told (compare_and_swap table.now.table_id.slots at seen new).step
+        seat.old.me found seat.new.me }
 {
     let _ = about;
     let _ = line;
