@@ -6,6 +6,7 @@ pub mod Left
 pub mod Taking
 pub mod Shutting
 pub mod Looking
+pub mod Naming
 pub mod Putting
 pub mod Stepwise
 pub mod Whole

@@ -19,6 +19,7 @@ mod ending;
 mod giving;
 mod looking;
 mod making;
+mod naming;
 mod places;
 mod placing;
 mod putting;

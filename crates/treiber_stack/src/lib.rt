@@ -19,6 +19,7 @@ mod ending;
 mod folding;
 mod giving;
 mod making;
+mod naming;
 mod nodes;
 mod places;
 mod putting;

@@ -1,0 +1,162 @@
+//! The names of the next steps of operations under way.
+ghost use Rattle.queue_machine.specs.declared.lines.Answer.{Answer};
+ghost use Rattle.queue_machine.specs.declared.lines.Seeking.{Seeking};
+ghost use Rattle.ms_queue.specs.Closing.{close_line};
+ghost use Rattle.ms_queue.specs.Giving.{give_line};
+ghost use Rattle.ms_queue.specs.Looking.{look_line};
+ghost use Rattle.ms_queue.specs.Naming.{IsNextStep};
+ghost use Rattle.ms_queue.specs.Putting.{put_line};
+ghost use Rattle.ms_queue.specs.Seeking.{seek_line};
+ghost use Rattle.ms_queue.specs.Shutting.{shut_line};
+ghost use Rattle.ms_queue.specs.Taking.{take_line};
+
+use crate::closing::{CloseAt, CloseOp};
+use crate::giving::{Give, Held};
+use crate::looking::{LookAt, LookOp};
+use crate::putting::{PutAt, PutOp};
+use crate::queue::Queue;
+use crate::seeking::Seek;
+use crate::shutting::{ShutAt, ShutOp};
+use crate::taking::{TakeAt, TakeOp};
+use step_names::{Location, Named, StepName};
+
+// Of the way to the end of the chain.
+fn seek_step<T>(at: &Seek) -> StepName
+    ensures { (aim : Seeking T) → IsNextStep (seek_line aim at.now) result }
+{
+    match at {
+        Seek::LoadTail => StepName::Load(Location::Tail),
+        Seek::LoadNext(tail) => StepName::Load(Location::Next(tail.index())),
+        Seek::CheckTail(_, _) => StepName::Load(Location::Tail),
+        Seek::SwingTail(_, _) => StepName::Attempt(Location::Tail),
+    }
+}
+
+// Of giving a node and a cell back.
+fn give_step<T>(held: &Held, at: &Give) -> StepName
+    ensures { (answer : Answer T) → IsNextStep (give_line answer held.now at.now) result }
+{
+    match at {
+        Give::LoadNodes => StepName::Load(Location::Nodes),
+        Give::LinkNode(_) => StepName::Store(Location::NodeLink(held.node)),
+        Give::GiveNode(_) => StepName::CompareAndSwap(Location::Nodes, Location::Nodes),
+        Give::LoadCells => StepName::Load(Location::Cells),
+        Give::LinkCell(_) => StepName::Store(Location::CellLink(held.cell)),
+        Give::GiveCell(_) => StepName::CompareAndSwap(Location::Cells, Location::Cells),
+    }
+}
+
+impl<T> PutOp<T> {
+    // Of a put.
+    fn next_step(&self) -> StepName
+        ensures { (x : T) → IsNextStep (put_line x self.now.at) result }
+    {
+        match &self.at {
+            PutAt::LoadCells(_) => StepName::Load(Location::Cells),
+            PutAt::LoadCellLink(_, cells) => StepName::Load(Location::CellLink(cells.index())),
+            PutAt::TakeCell(_, _, _) => StepName::CompareAndSwap(Location::Cells, Location::Cells),
+            PutAt::Refusing(_, at) => seek_step::<T>(at),
+            PutAt::LoadNodes(_) => StepName::Load(Location::Nodes),
+            PutAt::LoadNodeLink(_, nodes) => StepName::Load(Location::NodeLink(nodes.index())),
+            PutAt::TakeNode(_, _, _) => StepName::CompareAndSwap(Location::Nodes, Location::Nodes),
+            PutAt::StoreCell(held) => StepName::Store(Location::Cell(held.node)),
+            PutAt::LoadNext(held) => StepName::Load(Location::Next(held.node)),
+            PutAt::PrepareNext(held, _) => StepName::Store(Location::Next(held.node)),
+            PutAt::Seeking(_, at) => seek_step::<T>(at),
+            PutAt::LinkNext(_, tail, _) => {
+                StepName::CompareAndSwap(Location::Next(tail.index()), Location::Tail)
+            }
+            PutAt::SwingTail(_, _) => StepName::Attempt(Location::Tail),
+            PutAt::GiveBack(_, held, at) => give_step::<T>(held, at),
+        }
+    }
+}
+
+impl<T> TakeOp<T> {
+    // Of a take.
+    fn next_step(&self) -> StepName
+        ensures { IsNextStep (take_line self.now.at) result }
+    {
+        match &self.at {
+            TakeAt::LoadHead => StepName::Load(Location::Head),
+            TakeAt::LoadTail(_) => StepName::Load(Location::Tail),
+            TakeAt::LoadNext(head, _) => StepName::Load(Location::Next(head.index())),
+            TakeAt::CheckHead(_, _, _) => StepName::Load(Location::Head),
+            TakeAt::SwingTail(_, _) => StepName::Attempt(Location::Tail),
+            TakeAt::LoadCell(_, link) => StepName::Load(Location::Cell(link.index())),
+            TakeAt::TakeHead(_, _, _) => StepName::CompareAndSwap(Location::Head, Location::Head),
+            TakeAt::GiveBack(taken, at) => give_step::<T>(&taken.held, at),
+        }
+    }
+}
+
+impl<T> CloseOp<T> {
+    // Of a close.
+    fn next_step(&self) -> StepName
+        ensures { IsNextStep {T = T} (close_line self.now.at) result }
+    {
+        match &self.at {
+            CloseAt::Seeking(at) => seek_step::<T>(at),
+            CloseAt::Mark(tail, _) => {
+                StepName::CompareAndSwap(Location::Next(tail.index()), Location::Tail)
+            }
+        }
+    }
+}
+
+impl<T> ShutOp<T> {
+    // Of a shut.
+    fn next_step(&self) -> StepName
+        ensures { IsNextStep {T = T} (shut_line self.now.at) result }
+    {
+        match self.at {
+            ShutAt::LoadHead => StepName::Load(Location::Head),
+            ShutAt::Mark(_) => StepName::CompareAndSwap(Location::Head, Location::Head),
+        }
+    }
+}
+
+impl<T> LookOp<T> {
+    // Of a look.
+    fn next_step(&self) -> StepName
+        ensures { IsNextStep {T = T} (look_line self.now.at) result }
+    {
+        match &self.at {
+            LookAt::LoadHead => StepName::Load(Location::Head),
+            LookAt::LoadNext(head) => StepName::Load(Location::Next(head.index())),
+            LookAt::CheckHead(_, _) => StepName::Load(Location::Head),
+        }
+    }
+}
+
+impl<T: Drop + Send> Named<T> for Queue<T> {
+    ghost is_put_step = { λ op name. (x : T) → IsNextStep (put_line x op.at) name };
+
+    ghost is_take_step = { λ op name. IsNextStep (take_line op.at) name };
+
+    ghost is_close_step = { λ op name. IsNextStep {T = T} (close_line op.at) name };
+
+    ghost is_shut_step = { λ op name. IsNextStep {T = T} (shut_line op.at) name };
+
+    ghost is_look_step = { λ op name. IsNextStep {T = T} (look_line op.at) name };
+
+    fn put_step(op: &PutOp<T>) -> StepName {
+        op.next_step()
+    }
+
+    fn take_step(op: &TakeOp<T>) -> StepName {
+        op.next_step()
+    }
+
+    fn close_step(op: &CloseOp<T>) -> StepName {
+        op.next_step()
+    }
+
+    fn shut_step(op: &ShutOp<T>) -> StepName {
+        op.next_step()
+    }
+
+    fn look_step(op: &LookOp<T>) -> StepName {
+        op.next_step()
+    }
+}
