@@ -1,8 +1,8 @@
 """A plain interpreter of scripts, by which the program is tested.
 
-It is Treiber's stack and Michael and Scott's queue, over a fixed pool of nodes, one load, store or exchange at a time,
-and it shares nothing with the program but docs/formats.md. An operation is a generator: it makes one atomic step,
-yields, makes the next, and the step that ends it also returns the answer.
+It is Treiber's stack and Michael and Scott's queue, over a fixed pool of nodes, one load, store or compare-and-swap at a
+time, and it shares nothing with the program but docs/formats.md. An operation is a generator: it makes one atomic step,
+yields, makes the next, and the step that ends it also returns the answer. Each step is noted in the container's log.
 """
 
 from typing import NamedTuple
@@ -26,26 +26,57 @@ class Word(NamedTuple):
 
 
 class Cell:
-    """A word in shared memory."""
+    """A word in shared memory, by its name, and the log of the steps that are made."""
 
-    def __init__(self, word):
-        self.word = word
+    def __init__(self, word, name, log):
+        self.word, self.name, self.log = word, name, log
 
     def load(self):
+        self.log.append(f"load {self.name}")
         return self.word
 
+    def store(self, word):
+        self.log.append(f"store {self.name}")
+        self.word = word
+
     def exchange(self, seen, new):
-        won = self.word == seen
-        if won:
+        """A compare-and-swap. Answers whether it succeeded."""
+        has_succeeded = self.swapped(seen, new)
+        self.log.append(f"compare-and-swap {self.name} {'succeeded' if has_succeeded else 'failed'}")
+        return has_succeeded
+
+    def try_exchange(self, seen, new):
+        """The same, where it does not matter whether it succeeds."""
+        self.swapped(seen, new)
+        self.log.append(f"compare-and-swap {self.name} tried")
+
+    def swapped(self, seen, new):
+        is_same = self.word == seen
+        if is_same:
             self.word = new
-        return won
+        return is_same
+
+
+class Numbers:
+    """Plain numbers in shared memory, each by this name and its place."""
+
+    def __init__(self, numbers, name, log):
+        self.numbers, self.name, self.log = numbers, name, log
+
+    def load(self, place):
+        self.log.append(f"load {self.name} {place}")
+        return self.numbers[place]
+
+    def store(self, place, number):
+        self.log.append(f"store {self.name} {place}")
+        self.numbers[place] = number
 
 
 class FreeList:
     """A free list of indexes: taking from it raises its tag, giving back keeps it."""
 
-    def __init__(self, first, links, limit):
-        self.top, self.links, self.limit = Cell(Word(first)), links, limit
+    def __init__(self, top, links, limit):
+        self.top, self.links, self.limit = top, links, limit
 
     def take(self):
         """Answers an index, or the word that stopped it."""
@@ -54,7 +85,7 @@ class FreeList:
             if seen.index == NULL or seen.tag == self.limit:
                 return None, seen
             yield
-            link = self.links[seen.index]
+            link = self.links.load(seen.index)
             yield
             if self.top.exchange(seen, seen.raised(link)):
                 return seen.index, seen
@@ -62,9 +93,9 @@ class FreeList:
 
     def count(self):
         """How many indexes are free."""
-        count, index = 0, self.top.load().index
+        count, index = 0, self.top.word.index
         while index != NULL:
-            count, index = count + 1, self.links[index]
+            count, index = count + 1, self.links.numbers[index]
         return count
 
     def give(self, first, last):
@@ -72,7 +103,7 @@ class FreeList:
         while True:
             seen = self.top.load()
             yield
-            self.links[last] = seen.index
+            self.links.store(last, seen.index)
             yield
             if self.top.exchange(seen, seen.kept(first)):
                 return
@@ -85,9 +116,10 @@ class Stack:
     operations = ("put", "take", "close", "shut")
 
     def __init__(self, capacity, limit):
-        links = [*range(1, capacity), NULL]
-        self.links, self.limit = links, limit
-        self.free, self.top = FreeList(0, links, limit), Cell(Word(NULL))
+        self.log, self.limit = [], limit
+        self.links = Numbers([*range(1, capacity), NULL], "link", self.log)
+        self.free = FreeList(Cell(Word(0), "FREE", self.log), self.links, limit)
+        self.top = Cell(Word(NULL), "TOP", self.log)
         self.values = [None] * capacity
 
     def put(self, value):
@@ -121,7 +153,7 @@ class Stack:
             if seen.tag == self.limit:
                 return seen, f"spent top {seen.tag}"
             yield
-            self.links[last] = seen.index
+            self.links.store(last, seen.index)
             yield
             if self.top.exchange(seen, seen.raised(first)):
                 return seen, None
@@ -141,7 +173,7 @@ class Stack:
             if refusal:
                 return refusal
             yield
-            link = self.links[seen.index]
+            link = self.links.load(seen.index)
             yield
             if self.top.exchange(seen, seen.raised(link)):
                 break
@@ -186,7 +218,7 @@ class Stack:
             self.values[node] = value
             yield
             if held:
-                self.links[node] = held[-1]
+                self.links.store(node, held[-1])
                 yield
             held.append(node)
         if not held:
@@ -213,7 +245,7 @@ class Stack:
         if is_reversed:
             chain.reverse()
             for above, below in zip(chain, chain[1:]):
-                self.links[above] = below
+                self.links.numbers[above] = below
         values = [self.values[node] for node in chain]
         yield from self.free.give(chain[0], chain[-1])
         return " ".join([f"{name} {seen.tag}", *values])
@@ -228,11 +260,11 @@ class Stack:
         nodes = []
         while first != NULL:
             nodes.append(first)
-            first = self.links[first]
+            first = self.links.numbers[first]
         return nodes
 
     def left(self):
-        return [self.values[node] for node in self.chain(self.top.load().index)]
+        return [self.values[node] for node in self.chain(self.top.word.index)]
 
     def room(self):
         """How many more values it has room for."""
@@ -245,12 +277,14 @@ class Queue:
     operations = ("put", "take", "close", "shut", "look")
 
     def __init__(self, capacity, limit):
-        self.limit = limit
-        self.cells = FreeList(0, [*range(1, capacity), NULL], limit)
-        self.nodes = FreeList(1, [NULL, *range(2, capacity + 1), NULL], limit)
-        self.head, self.tail = Cell(Word(0)), Cell(Word(0))
-        self.next = [Cell(Word(NULL)) for _ in range(capacity + 1)]
-        self.data = [NULL] * (capacity + 1)
+        self.log, self.limit = [], limit
+        cell_links = Numbers([*range(1, capacity), NULL], "cell link", self.log)
+        node_links = Numbers([NULL, *range(2, capacity + 1), NULL], "node link", self.log)
+        self.cells = FreeList(Cell(Word(0), "CELLS", self.log), cell_links, limit)
+        self.nodes = FreeList(Cell(Word(1), "NODES", self.log), node_links, limit)
+        self.head, self.tail = Cell(Word(0), "HEAD", self.log), Cell(Word(0), "TAIL", self.log)
+        self.next = [Cell(Word(NULL), f"next {node}", self.log) for node in range(capacity + 1)]
+        self.data = Numbers([NULL] * (capacity + 1), "cell", self.log)
         self.values = [None] * capacity
 
     def end(self):
@@ -264,7 +298,7 @@ class Queue:
                 if following.closed or following.index == NULL:
                     return tail, following
                 yield
-                self.tail.exchange(tail, tail.raised(following.index))
+                self.tail.try_exchange(tail, tail.raised(following.index))
             yield
 
     def put(self, value):
@@ -283,14 +317,14 @@ class Queue:
             yield from self.cells.give(cell, cell)
             return f"spent nodes {seen.tag} {value}"
         yield
-        self.data[node] = cell
+        self.data.store(node, cell)
         yield
         ready = self.next[node].load()
         yield
         if ready.tag + 2 > self.limit:
             yield from self.give_back(node, cell)
             return f"spent next {node} {ready.tag} {value}"
-        self.next[node].word = Word(NULL, ready.tag + 1)
+        self.next[node].store(Word(NULL, ready.tag + 1))
         yield
         while True:
             tail, following = yield from self.end()
@@ -302,7 +336,7 @@ class Queue:
                 break
             yield
         yield
-        self.tail.exchange(tail, tail.raised(node))
+        self.tail.try_exchange(tail, tail.raised(node))
         return f"put {tail.tag}"
 
     def give_back(self, node, cell):
@@ -327,9 +361,9 @@ class Queue:
                     return "empty"
                 yield
                 if tail.index == head.index:
-                    self.tail.exchange(tail, tail.raised(following.index))
+                    self.tail.try_exchange(tail, tail.raised(following.index))
                 else:
-                    cell = self.data[following.index]
+                    cell = self.data.load(following.index)
                     yield
                     if self.head.exchange(head, head.raised(following.index)):
                         break
@@ -370,10 +404,10 @@ class Queue:
             yield
 
     def left(self):
-        values, node = [], self.next[self.head.load().index].load().index
+        values, node = [], self.next[self.head.word.index].word.index
         while node != NULL:
-            values.append(self.values[self.data[node]])
-            node = self.next[node].load().index
+            values.append(self.values[self.data.numbers[node]])
+            node = self.next[node].word.index
         return values
 
     def room(self):
@@ -424,6 +458,16 @@ class Player:
             return "begun"
         return finished(getattr(self.container, act)(*given))
 
+    def traced(self, line):
+        """The reply to a line, and the lines of its trace. The steps of a range and of a fold are not shown."""
+        name, act = [*line.split(" "), ""][:2]
+        made = self.begun[name][1] if name in self.begun else 0
+        self.container.log.clear()
+        reply = self.reply(line)
+        if act in ("range", "fold", "rfold") and reply != "busy":
+            return reply, [f"{name} whole {act}"]
+        return reply, [f"{name} {number} {step}" for number, step in enumerate(self.container.log, made + 1)]
+
     def step(self, name, count):
         begun = self.begun[name]
         for _ in range(count):
@@ -448,8 +492,15 @@ def replies(lines):
     return [player.reply(line) for line in lines[1:]]
 
 
+def traces(lines):
+    """The replies to a script, and the lines of its trace."""
+    player = player_of(lines[0])
+    traced = [player.traced(line) for line in lines[1:]]
+    return [reply for reply, _ in traced], [step for _, steps in traced for step in steps]
+
+
 def script(kind, random):
-    """A script of this container, by chance: short of room and of tags, with many operations under way."""
+    """A random script of this container: short of room and of tags, with many operations under way."""
     limit = random.choice((2, 3, 4, 5, 7, 9, 15, 60, 4398046511103))
     lines = [f"{kind} {random.choice((1, 1, 2, 2, 3, 4))} {limit}"]
     player = player_of(lines[0])

@@ -14,6 +14,7 @@ use Rattle.script.specs.AnswerTexts.{answer_text}
 use Rattle.script.specs.Script.{text_of}
 use Rattle.script.specs.declared.answer.Answer.{Answer}
 use Rattle.script.specs.declared.line.Line.{Line}
+use Rattle.step_names.specs.declared.step_name.StepName.{StepName}
 use Rattle.tagged_index.specs.Limits.{capacity_of, tag_limit_of}
 use Rattle.tagged_index.specs.declared.limit.Limits.{Limits}
 
@@ -48,6 +49,21 @@ made_in views (Take op) = views.taking op
 made_in views (Close op) = views.closing op
 made_in views (Shut op) = views.shutting op
 made_in views (Look op) = views.looking op
+
+-- which names the next steps of operations have, by the kinds of their calls
+pub record NextSteps (P T C S L : Type 0) : Type 1 where
+  pub putting : P → StepName → Type 0
+  pub taking : T → StepName → Type 0
+  pub closing : C → StepName → Type 0
+  pub shutting : S → StepName → Type 0
+  pub looking : L → StepName → Type 0
+
+abbrev pub IsNextStep : {P T C S L : Type 0} → NextSteps P T C S L → Operation P T C S L → StepName → Type 0
+IsNextStep steps (Put op) name = steps.putting op name
+IsNextStep steps (Take op) name = steps.taking op name
+IsNextStep steps (Close op) name = steps.closing op name
+IsNextStep steps (Shut op) name = steps.shutting op name
+IsNextStep steps (Look op) name = steps.looking op name
 
 -- a fold's number with the values that it told
 abbrev pub numbered : List (List ℕ) → Result Folded TakeRefused → Result (ℕ × List (List ℕ)) TakeRefused

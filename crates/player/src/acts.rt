@@ -4,15 +4,16 @@ ghost use Rattle.std.specs.Prelude.{◌≡◌, ℕ, IfOk, List};
 ghost use Rattle.bounded_model.specs.declared.commands.Command.{Command};
 ghost use Rattle.bounded_model.specs.Stepping.{Underway};
 ghost use Rattle.player.specs.Plays.{Acting, ActingTold, IsFor, Named, RestingTold, StepsTold, Told};
-ghost use Rattle.player.specs.Shows.{Shows};
+ghost use Rattle.player.specs.Shows.{CallBy, Shows, StepOf};
 ghost use Rattle.player.specs.declared.place.Place.TheVariants.{Acting as AtWork};
 ghost use Rattle.script.specs.declared.line.Act.TheVariants.{Meet};
 ghost use Rattle.script.specs.declared.line.PassName.{PassName};
 
 use crate::place::{Begun, Place};
 use crate::played::Played;
-use bounded_model::Stepped;
-use script::{Act, Answer};
+use crate::trace::{MadeStep, Trace};
+use bounded_model::{Command, Reply, Stepped};
+use script::{Act, Answer, Value};
 use std::alloc::{AllocError, Global};
 use std::sync::Wait;
 
@@ -23,6 +24,7 @@ pub fn act_at<'a, C: Played<'a>, R: Wait>(
     alloc: Global,
     place: Place<C::Pass, C::Operation>,
     act: Act<'a>,
+    trace: &mut Trace,
 ) -> Result<(Place<C::Pass, C::Operation>, Answer<'a>), AllocError>
     requires place { (found : Named) × Shows (C.reading container.now) place found }
     requires alone { (other : PassName) → ¬ (act ≡ Meet other) }
@@ -33,8 +35,8 @@ pub fn act_at<'a, C: Played<'a>, R: Wait>(
 {
     match place {
         Place::Nobody => Ok((Place::Nobody, Answer::NoPass)),
-        Place::Resting(pass) => act_resting(container, rt, alloc, pass, act),
-        Place::Acting(begun) => Ok(act_begun(container, begun, act)),
+        Place::Resting(pass) => act_resting(container, rt, alloc, pass, act, trace),
+        Place::Acting(begun) => act_begun(container, begun, act, trace),
     }
 }
 
@@ -45,6 +47,7 @@ fn act_resting<'a, C: Played<'a>, R: Wait>(
     alloc: Global,
     pass: C::Pass,
     act: Act<'a>,
+    trace: &mut Trace,
 ) -> Result<(Place<C::Pass, C::Operation>, Answer<'a>), AllocError>
     requires pass { (C.reading container.now).is_pass pass }
     requires alone { (other : PassName) → ¬ (act ≡ Meet other) }
@@ -55,7 +58,7 @@ fn act_resting<'a, C: Played<'a>, R: Wait>(
 {
     match act {
         Act::Call(command) => {
-            let (pass, reply) = container.call(rt, pass, command);
+            let (pass, reply) = make_call(container, rt, pass, command, trace)?;
             Ok((Place::Resting(pass), Answer::Call(reply)))
         }
         Act::Begin(command) => {
@@ -68,14 +71,17 @@ fn act_resting<'a, C: Played<'a>, R: Wait>(
         }
         Act::Range(values) => {
             let (pass, reply, kept) = container.range(rt, alloc, pass, values)?;
+            trace.add_whole("range")?;
             Ok((Place::Resting(pass), Answer::Range(reply, kept)))
         }
         Act::Fold => {
             let (pass, told) = container.fold(rt, alloc, pass, false)?;
+            trace.add_whole("fold")?;
             Ok((Place::Resting(pass), Answer::Fold(told)))
         }
         Act::ReversedFold => {
             let (pass, told) = container.fold(rt, alloc, pass, true)?;
+            trace.add_whole("rfold")?;
             Ok((Place::Resting(pass), Answer::ReversedFold(told)))
         }
         Act::Step(_) => Ok((Place::Resting(pass), Answer::NothingBegun)),
@@ -84,23 +90,80 @@ fn act_resting<'a, C: Played<'a>, R: Wait>(
     }
 }
 
+/// Makes a whole call. Where a trace is kept it is made by steps, so that each has its line.
+fn make_call<'a, C: Played<'a>, R: Wait>(
+    container: &C,
+    rt: &R,
+    by: C::Pass,
+    command: Command<Value<'a>>,
+    trace: &mut Trace,
+) -> Result<(C::Pass, Reply<Value<'a>>), AllocError>
+    requires { (C.reading container.now).is_pass by }
+    ensures of { IfOk result (λ done. (C.reading container.now).is_pass done.0) }
+    ensures gives { IfOk result (CallBy (C.reading container.now) by command.entry) }
+{
+    if !trace.is_kept() {
+        return Ok(container.call(rt, by, command));
+    }
+    let mut operation = container.begin(by, command);
+    let mut made: u64 = 0;
+    for _ in rt.forever() {
+        made = made.saturating_add(1);
+        match make_step(container, operation, made, trace)? {
+            Stepped::Again(next) => operation = next,
+            Stepped::Done(pass, reply) => return Ok((pass, reply)),
+        }
+    }
+    unreachable!()
+}
+
+/// Makes one step of a call, its step of this number, and adds it to the trace.
+fn make_step<'a, C: Played<'a>>(
+    container: &C,
+    operation: C::Operation,
+    number: u64,
+    trace: &mut Trace,
+) -> Result<Stepped<C::Operation, C::Pass, Reply<Value<'a>>>, AllocError>
+    requires { (call : Command (List ℕ)) × (C.reading container.now).is_making call operation }
+    ensures { (call : Command (List ℕ)) → (C.reading container.now).is_making call operation
+        → IfOk result (StepOf (C.reading container.now) call operation) }
+{
+    if !trace.is_kept() {
+        return Ok(container.step(operation));
+    }
+    let name = C::step_name(&operation);
+    let stepped = container.step(operation);
+    let next = match &stepped {
+        Stepped::Again(next) => Some(C::step_name(next)),
+        Stepped::Done(_, _) => None,
+    };
+    let outcome = name.outcome(next);
+    trace.add_step(MadeStep {
+        number,
+        name,
+        outcome,
+    })?;
+    Ok(stepped)
+}
+
 /// Does it by a pass in the middle of a call. A pass that is dropped takes its operation with it.
 fn act_begun<'a, C: Played<'a>>(
     container: &C,
     begun: Begun<C::Operation>,
     act: Act<'a>,
-) -> (Place<C::Pass, C::Operation>, Answer<'a>)
+    trace: &mut Trace,
+) -> Result<(Place<C::Pass, C::Operation>, Answer<'a>), AllocError>
     requires { (call : Command (List ℕ))
         × (C.reading container.now).is_making call begun.operation }
     ensures { (call : Command (List ℕ)) (u : Underway (List ℕ))
         → Shows (C.reading container.now) (AtWork begun) (Acting call u)
-        → (after : Named) × Shows (C.reading container.now) result.0 after
-        × ActingTold (C.reading container.now).shape call u act.entry result.1 after }
+        → IfOk result (λ done. (after : Named) × Shows (C.reading container.now) done.0 after
+        × ActingTold (C.reading container.now).shape call u act.entry done.1 after) }
 {
     match act {
-        Act::Step(count) => make_steps(container, begun, count),
-        Act::Drop => (Place::Nobody, Answer::Dropped),
-        _ => (Place::Acting(begun), Answer::Busy),
+        Act::Step(count) => make_steps(container, begun, count, trace),
+        Act::Drop => Ok((Place::Nobody, Answer::Dropped)),
+        _ => Ok((Place::Acting(begun), Answer::Busy)),
     }
 }
 
@@ -109,13 +172,14 @@ fn make_steps<'a, C: Played<'a>>(
     container: &C,
     begun: Begun<C::Operation>,
     count: u16,
-) -> (Place<C::Pass, C::Operation>, Answer<'a>)
+    trace: &mut Trace,
+) -> Result<(Place<C::Pass, C::Operation>, Answer<'a>), AllocError>
     requires { (call : Command (List ℕ))
         × (C.reading container.now).is_making call begun.operation }
     ensures { (call : Command (List ℕ)) (u : Underway (List ℕ))
         → Shows (C.reading container.now) (AtWork begun) (Acting call u)
-        → (after : Named) × Shows (C.reading container.now) result.0 after
-        × StepsTold (C.reading container.now).shape call u count result.1 after }
+        → IfOk result (λ done. (after : Named) × Shows (C.reading container.now) done.0 after
+        × StepsTold (C.reading container.now).shape call u count done.1 after) }
 {
     let Begun {
         mut operation,
@@ -124,15 +188,15 @@ fn make_steps<'a, C: Played<'a>>(
     let mut made = 0;
     while made < u64::from(count) {
         made += 1;
-        match container.step(operation) {
+        let number = steps.saturating_add(made);
+        match make_step(container, operation, number, trace)? {
             Stepped::Again(next) => operation = next,
             Stepped::Done(pass, reply) => {
-                let steps = steps.saturating_add(made);
-                return (Place::Resting(pass), Answer::Ended(reply, steps));
+                return Ok((Place::Resting(pass), Answer::Ended(reply, number)));
             }
         }
     }
     let steps = steps.saturating_add(made);
     let place = Place::Acting(Begun { operation, steps });
-    (place, Answer::Again(steps))
+    Ok((place, Answer::Again(steps)))
 }

@@ -7,9 +7,10 @@ use bounded_model::{Command, Container, Reply, Stepped, Stepwise, TakeRefused};
 use script::{RangeReply, Value, ValueList, Values};
 use std::alloc::{AllocError, Global};
 use std::sync::Wait;
+use step_names::StepName;
 
 impl<'a, C: Ranges<'a>> Played<'a> for C {
-    ghost use Rattle.player.specs.Calls.{IsMaking, made_in};
+    ghost use Rattle.player.specs.Calls.{IsMaking, IsNextStep, made_in};
 
     type Root = <C as Container<Value<'a>>>::Root;
 
@@ -42,6 +43,14 @@ impl<'a, C: Ranges<'a>> Played<'a> for C {
         looking = C.looking;
       });
     } };
+
+    ghost is_step = { IsNextStep (record {
+      putting = C.is_put_step;
+      taking = C.is_take_step;
+      closing = C.is_close_step;
+      shutting = C.is_shut_step;
+      looking = C.is_look_step;
+    }) };
 
     fn split(&self, parent: &mut Self::Root) -> Option<Self::Pass> {
         Container::split(self, parent)
@@ -112,6 +121,16 @@ impl<'a, C: Ranges<'a>> Played<'a> for C {
                 Stepped::Again(op) => Stepped::Again(Operation::Look(op)),
                 Stepped::Done(pass, is_empty) => Stepped::Done(pass, Reply::Look(is_empty)),
             },
+        }
+    }
+
+    fn step_name(operation: &Self::Operation) -> StepName {
+        match operation {
+            Operation::Put(op) => C::put_step(op),
+            Operation::Take(op) => C::take_step(op),
+            Operation::Close(op) => C::close_step(op),
+            Operation::Shut(op) => C::shut_step(op),
+            Operation::Look(op) => C::look_step(op),
         }
     }
 

@@ -1,17 +1,18 @@
 //! A container as a script's lines see it.
 
-ghost use Rattle.std.specs.Prelude.{◌≡◌, ℕ, IsTrue, IfOk, List, MatchOption, true, false};
+ghost use Rattle.std.specs.Prelude.{◌≡◌, ℕ, IfOk, List};
 ghost use Rattle.bounded_model.specs.declared.commands.Command.{Command};
 ghost use Rattle.bounded_model.specs.declared.history.Order.TheVariants.{Lifo};
-ghost use Rattle.bounded_model.specs.Laws.{IsFullOfPasses, Joins, Leaves, MeetGives, Splits};
-ghost use Rattle.bounded_model.specs.Stepping.{GoesOn, MatchStepped, OneStep, no_step};
-ghost use Rattle.player.specs.Plays.{CallGives, FoldTold, RangeTold};
-ghost use Rattle.player.specs.Shows.{Reading};
+ghost use Rattle.bounded_model.specs.Laws.{Joins, Leaves, MeetGives};
+ghost use Rattle.bounded_model.specs.Stepping.{no_step};
+ghost use Rattle.player.specs.Shows.{CallBy, FoldBy, RangeBy, Reading, SplitGives, StepOf};
+ghost use Rattle.step_names.specs.declared.step_name.StepName.{StepName};
 
 use bounded_model::{Command, Leaving, Reply, Stepped, TakeRefused};
 use script::{RangeReply, Value, ValueList, Values};
 use std::alloc::{AllocError, Global};
 use std::sync::Wait;
+use step_names::StepName;
 
 /// A container of values, by the calls that a script's lines name. Its operations have one type,
 /// where a container has one for each kind of call.
@@ -31,14 +32,13 @@ pub trait Played<'a>: Drop {
     /// How its roots, passes and operations are read.
     ghost reading: { Self → Reading Self.Root Self.Pass Self.Operation };
 
+    /// Whether this is the name of an operation's next step.
+    ghost is_step: { Self.Operation → StepName → Type 0 };
+
     fn split(&self, parent: &mut Self::Root) -> Option<Self::Pass>
         requires { (reading self.now).is_root parent.old }
         ensures root { (reading self.now).is_root parent.new }
-        ensures gives { MatchOption result
-            (((reading self.now).root parent.new ≡ (reading self.now).root parent.old)
-            × IsFullOfPasses ((reading self.now).root parent.old))
-            (λ p. (reading self.now).is_pass p × Splits ((reading self.now).root parent.old)
-            ((reading self.now).root parent.new) ((reading self.now).pass p)) };
+        ensures gives { SplitGives (reading self.now) parent.old parent.new result };
 
     /// A whole call.
     fn call<R: Wait>(
@@ -49,9 +49,7 @@ pub trait Played<'a>: Drop {
     ) -> (Self::Pass, Reply<Value<'a>>)
         requires { (reading self.now).is_pass by }
         ensures of { (reading self.now).is_pass result.0 }
-        ensures gives { CallGives (reading self.now).shape
-            ((reading self.now).pass by) command.entry
-            ((reading self.now).pass result.0) result.1 };
+        ensures gives { CallBy (reading self.now) by command.entry result };
 
     /// A call that makes no step yet.
     fn begin(&self, by: Self::Pass, command: Command<Value<'a>>) -> Self::Operation
@@ -66,13 +64,11 @@ pub trait Played<'a>: Drop {
     ) -> Stepped<Self::Operation, Self::Pass, Reply<Value<'a>>>
         requires { (call : Command (List ℕ)) × (reading self.now).is_making call operation }
         ensures { (call : Command (List ℕ)) → (reading self.now).is_making call operation
-            → MatchStepped result
-            (λ next. (reading self.now).is_making call next
-            × GoesOn ((reading self.now).made operation) ((reading self.now).made next))
-            (λ back reply. (reading self.now).is_pass back
-            × OneStep ((reading self.now).made operation).now ((reading self.now).pass back)
-            × CallGives (reading self.now).shape ((reading self.now).made operation).begun call
-            ((reading self.now).pass back) reply) };
+            → StepOf (reading self.now) call operation result };
+
+    /// The name of an operation's next step.
+    fn step_name(operation: &Self::Operation) -> StepName
+        ensures { is_step operation.now result };
 
     /// Puts a range of values by one compare-and-swap, where it is a stack. Returns the values that
     /// were not put, too.
@@ -86,9 +82,7 @@ pub trait Played<'a>: Drop {
         requires { (reading self.now).is_pass by }
         ensures of { IfOk result (λ done. (reading self.now).is_pass done.0) }
         ensures gives { (reading self.now).shape.order ≡ Lifo
-            → IfOk result (λ done. RangeTold (reading self.now).shape
-            ((reading self.now).pass by) ((reading self.now).pass done.0)
-            values.entry done.1 done.2) };
+            → IfOk result (RangeBy (reading self.now) by values.entry) };
 
     /// Takes all values by one compare-and-swap, where it is a stack, and returns them from the top
     /// down, or the other way round.
@@ -102,8 +96,7 @@ pub trait Played<'a>: Drop {
         requires { (reading self.now).is_pass by }
         ensures of { IfOk result (λ done. (reading self.now).is_pass done.0) }
         ensures gives { (reading self.now).shape.order ≡ Lifo
-            → IfOk result (λ done. FoldTold (reading self.now).shape reversed
-            ((reading self.now).pass by) ((reading self.now).pass done.0) done.1) };
+            → IfOk result (FoldBy (reading self.now) reversed by) };
 
     fn meet(&self, first: &mut Self::Pass, second: Self::Pass) -> (Self::Pass, bool)
         requires first { (reading self.now).is_pass first.old }

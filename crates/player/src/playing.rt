@@ -14,20 +14,25 @@ ghost use Rattle.script.specs.declared.line.PassName.{PassName};
 
 use crate::played::Played;
 use crate::stage::{Stage, act, finish};
-use script::{Act, Answer, Line, PassName};
+use crate::trace::Trace;
+use script::{Answer, Line};
 use std::alloc::{AllocError, Global};
 use std::collections::VecDeque;
 use std::sync::Wait;
 
-/// Plays the lines of a script over a container from which no pass is out. Returns the text of the
-/// replies, a line for each line of the script, or that memory ran out for it or for the values of a
-/// range or a fold.
+/// Plays the lines of a script over a container from which no pass is out, and adds the steps that
+/// are made to the trace. Returns the text of the replies, a line for each line of the script, or
+/// that memory ran out for it, for the values of a range or a fold, or for the trace.
+///
+/// Where a trace is kept, whole calls are made by steps, but for ranges and folds: a line says that
+/// they were made whole. That each step has its line is tested.
 pub fn play<'a, C: Played<'a>, R: Wait>(
     rt: &R,
     alloc: Global,
     container: C,
     root: C::Root,
     lines: VecDeque<Line<'a>>,
+    trace: &mut Trace,
 ) -> Result<String, AllocError>
     requires root { (C.reading container).is_root root }
     requires each { AllByRecursion IsLine lines.items }
@@ -45,7 +50,9 @@ pub fn play<'a, C: Played<'a>, R: Wait>(
     while let Some(line) = lines.pop_front() {
         match line {
             Line::By(name, what) => {
-                play_line(rt, alloc, &container, &mut stage, name, what, &mut output)?;
+                trace.turn_to(name);
+                let answer = act(&container, rt, alloc, &mut stage, name, what, trace)?;
+                write_reply(answer, &mut output)?;
             }
             Line::Finish => {
                 play_end(alloc, container, stage, &mut output)?;
@@ -56,27 +63,11 @@ pub fn play<'a, C: Played<'a>, R: Wait>(
     Ok(output)
 }
 
-/// Does what a line says, and adds its reply.
-fn play_line<'a, C: Played<'a>, R: Wait>(
-    rt: &R,
-    alloc: Global,
-    container: &C,
-    stage: &mut Stage<C::Root, C::Pass, C::Operation>,
-    name: PassName,
-    what: Act<'a>,
-    output: &mut String,
-) -> Result<(), AllocError>
-    requires on { (world : World) × IsOn (C.reading container.now) stage.old world }
-    requires name { IsTrue (is_ascii_lowercase name.0) }
-    requires other { (other : PassName) → what ≡ Meet other
-        → IsTrue (is_ascii_lowercase other.0) × (name.0 ≢ other.0) }
-    requires fits { IsFor (C.reading container.now).shape.order what }
-    ensures { (world : World) → IsOn (C.reading container.now) stage.old world
-        → OnOk result ((next : World) × IsOn (C.reading container.now) stage.new next
-        × Replied (C.reading container.now).shape world name.0 what.entry
-        (string_bytes output.old) (string_bytes output.new) next) }
+/// Adds the reply of a line.
+fn write_reply(answer: Answer<'_>, output: &mut String) -> Result<(), AllocError>
+    ensures { OnOk result (string_bytes output.new
+        ≡ string_bytes output.old ++ (answer_text answer.entry ++ codes "\n")) }
 {
-    let answer = act(container, rt, alloc, stage, name, what)?;
     answer.write_line(output)
 }
 

@@ -8,6 +8,7 @@ ghost use Rattle.script.specs.Script.{FinishesLast, IsLine, is_allowed};
 
 use crate::playing::play;
 use crate::ranges::Ranges;
+use crate::trace::Trace;
 use bounded_model::{MakeRefused, TakeRefused};
 use ms_queue::{Pass, Queue};
 use script::{RangeReply, Script, Value, ValueList, Values};
@@ -39,8 +40,13 @@ impl<'a> Ranges<'a> for Queue<Value<'a>> {
     }
 }
 
-/// Plays a queue's script. `NoMemory` where there was no room for the queue or for the lines.
-pub fn play_queue<R: Wait>(rt: &R, alloc: Global, script: Script<'_>) -> Result<String, MakeRefused>
+/// Plays a queue's script, and adds its steps to the trace. `NoMemory` where there was no room for the queue or for the lines.
+pub fn play_queue<R: Wait>(
+    rt: &R,
+    alloc: Global,
+    script: Script<'_>,
+    trace: &mut Trace,
+) -> Result<String, MakeRefused>
     requires each { AllByRecursion IsLine script.lines.items }
     requires allowed { AllByRecursion (λ line. IsTrue (is_allowed Fifo line)) script.lines.items }
     requires finish_last { FinishesLast script.lines.items }
@@ -49,5 +55,5 @@ pub fn play_queue<R: Wait>(rt: &R, alloc: Global, script: Script<'_>) -> Result<
 {
     let Script { header, lines } = script;
     let (queue, root) = Queue::new(alloc, header.limits)?;
-    Ok(play(rt, alloc, queue, root, lines)?)
+    Ok(play(rt, alloc, queue, root, lines, trace)?)
 }

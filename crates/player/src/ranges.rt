@@ -4,14 +4,15 @@ ghost use Rattle.std.specs.Prelude.{◌≡◌, IfOk};
 ghost use Rattle.bounded_model.specs.declared.history.Order.TheVariants.{Lifo};
 ghost use Rattle.player.specs.Plays.{FoldTold, RangeTold};
 
-use bounded_model::{Container, Stepwise, TakeRefused};
+use bounded_model::{Container, TakeRefused};
 use script::{RangeReply, Value, ValueList, Values};
 use std::alloc::{AllocError, Global};
 use std::sync::Wait;
+use step_names::Named;
 
 /// A container of values whose calls are made by single steps, with the ranges and folds that a
 /// script's lines name where it is a stack. No line of a queue's script asks for one.
-pub trait Ranges<'a>: Stepwise<Value<'a>> {
+pub trait Ranges<'a>: Named<Value<'a>> {
     /// Puts a range of values by one compare-and-swap. Returns the values that were not put, too.
     fn range<R: Wait>(
         &self,

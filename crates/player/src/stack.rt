@@ -10,6 +10,7 @@ ghost use Rattle.treiber_stack.specs.Stack.{IsPassOf, pass_in, shape_of};
 
 use crate::playing::play;
 use crate::ranges::Ranges;
+use crate::trace::Trace;
 use bounded_model::{Bulk, Folded, MakeRefused, RangeRefused, Ranged, TakeRefused};
 use script::{RangeReply, Script, Value, ValueList, Values};
 use std::alloc::{AllocError, Global};
@@ -136,9 +137,14 @@ fn fold_up<'a, R: Wait>(
     Ok((pass, numbered(values?, answer)))
 }
 
-/// Plays a stack's script. `NoMemory` where there was no room for the stack, for the values of a
+/// Plays a stack's script, and adds its steps to the trace. `NoMemory` where there was no room for the stack, for the values of a
 /// range or a fold, or for the lines.
-pub fn play_stack<R: Wait>(rt: &R, alloc: Global, script: Script<'_>) -> Result<String, MakeRefused>
+pub fn play_stack<R: Wait>(
+    rt: &R,
+    alloc: Global,
+    script: Script<'_>,
+    trace: &mut Trace,
+) -> Result<String, MakeRefused>
     requires each { AllByRecursion IsLine script.lines.items }
     requires allowed { AllByRecursion (λ line. IsTrue (is_allowed Lifo line)) script.lines.items }
     requires finish_last { FinishesLast script.lines.items }
@@ -147,5 +153,5 @@ pub fn play_stack<R: Wait>(rt: &R, alloc: Global, script: Script<'_>) -> Result<
 {
     let Script { header, lines } = script;
     let (stack, root) = Stack::new(alloc, header.limits)?;
-    Ok(play(rt, alloc, stack, root, lines)?)
+    Ok(play(rt, alloc, stack, root, lines, trace)?)
 }

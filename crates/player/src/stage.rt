@@ -11,6 +11,7 @@ ghost use Rattle.script.specs.declared.line.PassName.{PassName};
 use crate::acts::act_at;
 use crate::place::{Place, Places};
 use crate::played::Played;
+use crate::trace::Trace;
 use bounded_model::Leaving;
 use script::{Act, Answer, PassName, Value, ValueList};
 use std::alloc::{AllocError, Global};
@@ -68,7 +69,7 @@ fn keep<R: Drop, P: Drop, O: Drop>(stage: &mut Stage<R, P, O>, name: PassName, p
     stage.places.exchange(name, place);
 }
 
-/// Does what a line says, and returns its reply.
+/// Does what a line says, adds the steps that are made to the trace, and returns the reply.
 pub fn act<'a, C: Played<'a>, R: Wait>(
     container: &C,
     rt: &R,
@@ -76,6 +77,7 @@ pub fn act<'a, C: Played<'a>, R: Wait>(
     stage: &mut Stage<C::Root, C::Pass, C::Operation>,
     name: PassName,
     act: Act<'a>,
+    trace: &mut Trace,
 ) -> Result<Answer<'a>, AllocError>
     requires on { (world : World) × IsOn (C.reading container.now) stage.old world }
     requires name { IsTrue (is_ascii_lowercase name.0) }
@@ -88,7 +90,7 @@ pub fn act<'a, C: Played<'a>, R: Wait>(
 {
     match act {
         Act::Meet(other) => Ok(meet(container, stage, name, other)),
-        act => act_alone(container, rt, alloc, stage, name, act),
+        act => act_alone(container, rt, alloc, stage, name, act, trace),
     }
 }
 
@@ -100,6 +102,7 @@ fn act_alone<'a, C: Played<'a>, R: Wait>(
     stage: &mut Stage<C::Root, C::Pass, C::Operation>,
     name: PassName,
     act: Act<'a>,
+    trace: &mut Trace,
 ) -> Result<Answer<'a>, AllocError>
     requires on { (world : World) × IsOn (C.reading container.now) stage.old world }
     requires name { IsTrue (is_ascii_lowercase name.0) }
@@ -110,7 +113,7 @@ fn act_alone<'a, C: Played<'a>, R: Wait>(
         × Does (C.reading container.now).shape world name.0 act.entry answer next) }
 {
     let place = find(container, stage, name);
-    let (place, answer) = act_at(container, rt, alloc, place, act)?;
+    let (place, answer) = act_at(container, rt, alloc, place, act, trace)?;
     keep(stage, name, place);
     Ok(answer)
 }

@@ -1,2 +1,3 @@
 pub mod AllDelivered
 pub mod Outcomes
+pub mod Asked

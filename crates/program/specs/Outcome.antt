@@ -1,5 +1,5 @@
 -- What a replay of a text does.
-use Rattle.std.specs.Prelude.{◌≡◌, ℕ, ◌⊎◌, List, map, Option}
+use Rattle.std.specs.Prelude.{◌≡◌, ℕ, ◌⊎◌, IfErr, IfSome, List, OnOk, Option, Result, map}
 use Rattle.std.specs.Io.KnownBytes.{Appends}
 use Rattle.streams.specs.declared.fault.ReplayFault.{ReplayFault}
 use Rattle.streams.specs.declared.fault.ReplayFault.TheVariants.{NoMemory, Device, NoFinalNewline, TooLong, BadLine, Output}
@@ -13,6 +13,7 @@ use Rattle.script.specs.AnswerTexts.{answer_text}
 use Rattle.script.specs.Faults.{IsUnended, IsFirstBad, IsAccepted}
 use Rattle.script.specs.Reading.{split_lines}
 use Rattle.script.specs.Script.{Head, IsScript, text_of}
+use Rattle.program.specs.Relaying.{Written}
 
 -- what is written for a script, which is played over a new container of this order: the answers of its calls, each under
 -- the container's own laws
@@ -50,3 +51,12 @@ pub record WroteFront (text : List ℕ) (old new : Option (List ℕ)) : Type 0 w
   pub output : List ℕ
   pub is : IsOutputFor text output
   pub went_out : AppendsFront old new output
+
+-- what a replay does to a writer, of the text that its reader gave: a script's replies go out, whole
+-- unless a write fails, and a fault of the text is in the text
+pub record Replays (text : Option (List ℕ)) (writer : Written) (result : Result (Unit {0}) ReplayFault) : Type 0 where
+  pub accepted : OnOk result (IfSome text IsAccepted)
+  pub replies : OnOk result (IfSome text (λ text. Wrote text writer.old writer.new))
+  pub fault : IfErr result (λ fault. IfSome text (IsFaultOf fault))
+  pub only : IfErr result (λ fault. IfSome text (λ text. IsAccepted text → IsOutside fault))
+  pub front : IfErr result (λ fault. fault ≡ Output → IfSome text (λ text. WroteFront text writer.old writer.new))

@@ -64,6 +64,9 @@ pub record Written : Type 0 where
   pub old : Option (List ℕ)
   pub new : Option (List ℕ)
 
+abbrev pub written : {W : Type 0} → (W → Option (List ℕ)) → W → W → Written
+written contents before after = record { old = contents before; new = contents after }
+
 -- what a relay of inputs does to a writer: it writes their outcome
 abbrev pub RelaysInputs : RelayArgs → Written → Lists → Result (Unit {0}) ToolFault → Type 0
 RelaysInputs args writer inputs (Ok _) =

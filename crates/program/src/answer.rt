@@ -7,14 +7,19 @@ ghost use Rattle.script.specs.Script.{FinishesLast, IsLine, is_allowed};
 ghost use Rattle.script.specs.View.{head_view};
 
 use bounded_model::{MakeRefused, Order};
-use player::{play_queue, play_stack};
+use player::{Trace, play_queue, play_stack};
 use script::Script;
 use std::alloc::Global;
 use std::sync::Wait;
 
-/// What is written for a script, which is played on a container of its own. All memory is taken
-/// here, so that no writer is touched before the whole output stands.
-pub fn answer<S: Wait>(rt: &S, alloc: Global, script: Script<'_>) -> Result<String, MakeRefused>
+/// What is written for a script, which is played on a container of its own, and its steps in the
+/// trace. All memory is taken here, so that no writer is touched before the whole output stands.
+pub fn answer<S: Wait>(
+    rt: &S,
+    alloc: Global,
+    script: Script<'_>,
+    trace: &mut Trace,
+) -> Result<String, MakeRefused>
     requires each { AllByRecursion IsLine script.lines.items }
     requires allowed { AllByRecursion
         (λ line. IsTrue (is_allowed script.header.order line)) script.lines.items }
@@ -23,7 +28,7 @@ pub fn answer<S: Wait>(rt: &S, alloc: Global, script: Script<'_>) -> Result<Stri
         (head_view script.entry.header) script.entry.lines.items (string_bytes output)) }
 {
     match script.header.order {
-        Order::Fifo => play_queue(rt, alloc, script),
-        Order::Lifo => play_stack(rt, alloc, script),
+        Order::Fifo => play_queue(rt, alloc, script, trace),
+        Order::Lifo => play_stack(rt, alloc, script, trace),
     }
 }

@@ -3,9 +3,9 @@
 ghost use Rattle.std.specs.Prelude.{◌≡◌, ◌≢◌, ◌≤◌, IfErr, length};
 ghost use Rattle.words.specs.declared.command_line.TheConstants.{MAX_FILES};
 ghost use Rattle.streams.specs.declared.tool_fault.ToolFault.TheVariants.{Output};
-ghost use Rattle.program.specs.Measuring.{MeasuresInputs};
+ghost use Rattle.program.specs.Measuring.{MeasuresInputs, Streams};
 ghost use Rattle.words.specs.Ranges.{IsInRange};
-ghost use Rattle.program.specs.Relaying.{FromReaders};
+ghost use Rattle.program.specs.Relaying.{FromReaders, written};
 
 use crate::relaying::relay_inputs;
 use crate::stats::Stats;
@@ -39,10 +39,10 @@ pub fn relay_measured<T: Threads + Wait + Clock + Sync, R: Read + Drop, W: Write
     requires few { length readers.items ≤ MAX_FILES }
     // What is written is the outcome of a relay of the messages that were read, and the stats are
     // those of that relay.
-    ensures measures { FromReaders R.remaining readers.items (MeasuresInputs args.now (record {
-      output = record { old = W.contents writer.old; new = W.contents writer.new };
-      errors = record { old = E.contents errors.old; new = E.contents errors.new };
-    })) result }
+    ensures measures { let streams : Streams = record {
+      output = written W.contents writer.old writer.new;
+      errors = written E.contents errors.old errors.new;
+    } in FromReaders R.remaining readers.items (MeasuresInputs args.now streams) result }
     ensures untouched { IfErr result (λ fault. fault ≢ Output → writer.new ≡ writer.old) }
     ensures untold { IfErr result (λ fault. errors.new ≡ errors.old) }
 {

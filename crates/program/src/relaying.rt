@@ -9,7 +9,7 @@ ghost use Rattle.streams.specs.declared.tool_fault.ToolFault.TheVariants.{Output
 ghost use Rattle.relay.specs.declared.faults.RelayFault.{RelayFault};
 ghost use Rattle.relay.specs.declared.faults.RelayFault.TheVariants.{NoMemory};
 ghost use Rattle.words.specs.Ranges.{IsInRange};
-ghost use Rattle.program.specs.Relaying.{AreReady, FromReaders, IsCause, IsRelayed, RelaysInputs, shape_for};
+ghost use Rattle.program.specs.Relaying.{AreReady, FromReaders, IsCause, IsRelayed, RelaysInputs, shape_for, written};
 
 use bounded_model::Container;
 use ms_queue::Queue;
@@ -43,8 +43,8 @@ pub fn relay_main<T: Threads + Wait + Sync, R: Read + Drop, W: Write>(
     requires some { 1 ≤ length readers.items }
     requires few { length readers.items ≤ MAX_FILES }
     // What is written is the outcome of a relay of the messages that were read.
-    ensures relays { FromReaders R.remaining readers.items (RelaysInputs args.now
-        (record { old = W.contents writer.old; new = W.contents writer.new })) result }
+    ensures relays { let output = written W.contents writer.old writer.new in
+        FromReaders R.remaining readers.items (RelaysInputs args.now output) result }
     ensures untouched { IfErr result (λ fault. fault ≢ Output → writer.new ≡ writer.old) }
 {
     let inputs = read_inputs(alloc, readers)?;

@@ -2,21 +2,24 @@
 
 ghost use Rattle.std.specs.Prelude.{◌≡◌, ◌≢◌, ◌≤◌, length, IfErr, IfOk, OnOk, IfSome, string_bytes};
 ghost use Rattle.streams.specs.declared.fault.ReplayFault.TheVariants.{Output};
-ghost use Rattle.program.specs.Outcome.{IsFaultOf, IsOutputFor, IsOutside, Wrote, WroteFront};
+ghost use Rattle.program.specs.Outcome.{IsFaultOf, IsOutputFor, IsOutside, Replays, Wrote, WroteFront};
+ghost use Rattle.program.specs.Relaying.{written};
 ghost use Rattle.script.specs.Faults.{IsAccepted};
 
 use crate::answer::answer;
+use player::Trace;
 use script::{MAX_SCRIPT_LEN, parse};
 use std::alloc::Global;
 use std::io::{Read, Write};
 use std::sync::Wait;
 use streams::{ReplayFault, read_text, write_all};
 
-/// What is to be written for the script that the reader gives, all of it.
+/// What is to be written for the script that the reader gives, all of it, and its steps in the trace.
 fn output_for<S: Wait, R: Read>(
     rt: &S,
     alloc: Global,
     reader: &mut R,
+    trace: &mut Trace,
 ) -> Result<String, ReplayFault>
     ensures output { IfOk result (λ output. IfSome (R.remaining reader.old)
         (λ text. IsOutputFor text (string_bytes output))) }
@@ -30,7 +33,7 @@ fn output_for<S: Wait, R: Read>(
 {
     let text = read_text(alloc, reader)?;
     let script = parse(alloc, &text)?;
-    Ok(answer(rt, alloc, script)?)
+    Ok(answer(rt, alloc, script, trace)?)
 }
 
 /// Reads a script to its end, checks it whole, runs it on a container, and writes a reply for each
@@ -64,6 +67,33 @@ pub fn replay<S: Wait, R: Read, W: Write>(
     ensures front { IfErr result (λ fault. fault ≡ Output → IfSome (R.remaining reader.old)
         (λ text. WroteFront text (W.contents writer.old) (W.contents writer.new))) }
 {
-    let output = output_for(rt, alloc, reader)?;
+    let output = output_for(rt, alloc, reader, &mut Trace::none())?;
     write_all(writer, output.as_bytes())
+}
+
+/// Replays as [`replay`] does, with whole calls made by steps, but for ranges and folds, and then
+/// writes the trace on `errors`: a line for each atomic step.
+///
+/// The faults are those of `replay`; after a fault no trace is written. `NoMemory` also comes where
+/// there is no memory for the trace. That it cannot be written is no fault. That each step has its
+/// line is tested; what each line says of its step is proved (`step_names`).
+pub fn replay_traced<S: Wait, R: Read, W: Write, E: Write>(
+    rt: &S,
+    alloc: Global,
+    reader: &mut R,
+    writer: &mut W,
+    errors: &mut E,
+) -> Result<(), ReplayFault>
+    // What is written is what `replay` writes.
+    ensures replays { Replays (R.remaining reader.old)
+        (written W.contents writer.old writer.new) result }
+    ensures untouched { IfErr result (λ fault. fault ≢ Output → writer.new ≡ writer.old) }
+    ensures untold { IfErr result (λ fault. errors.new ≡ errors.old) }
+{
+    let mut trace = Trace::new(alloc);
+    let output = output_for(rt, alloc, reader, &mut trace)?;
+    write_all(writer, output.as_bytes())?;
+    // Nothing is left to do where standard error fails.
+    let _ = write_all(errors, trace.text().as_bytes());
+    Ok(())
 }

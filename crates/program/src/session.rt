@@ -1,12 +1,12 @@
 //! A run of the program over what a process would give it.
 
-ghost use Rattle.std.specs.Prelude.{◌≡◌, ◌≢◌, Contains, IfErr, IfOk, OnErr, OnOk, codes, map, string_bytes};
+ghost use Rattle.std.specs.Prelude.{◌≡◌, ◌≢◌, IfErr, IfOk, OnErr, OnOk, map, string_bytes};
 ghost use Rattle.streams.specs.declared.failure.Failure.TheVariants.{Output};
-ghost use Rattle.words.specs.Ranges.{AreInRange, IsTold};
+ghost use Rattle.words.specs.Ranges.{AreInRange, AskForDetails, IsDetailed};
 
 use crate::measuring::relay_measured;
 use crate::relaying::relay_main;
-use crate::replaying::replay;
+use crate::replaying::{replay, replay_traced};
 use std::alloc::{AllocError, Global};
 use std::io::{self, ErrorKind, Read, Write};
 use std::sync::Wait;
@@ -22,7 +22,8 @@ use words::{Chosen, WordsRefused, read_words};
 ///
 /// The output is flushed before the status is known. A failure is one line on `errors`, by one write
 /// where there is memory for it; behind it stands what is wrong with arguments that are refused.
-/// Where the arguments ask for stats, a relay's are written on `errors`.
+/// Where the arguments ask for them, the stats of a relay or the trace of a script are written on
+/// `errors`.
 pub fn run<T: Threads + Wait + Clock + Sync, F: OpenFiles, I: Read + Drop, O: Write, E: Write>(
     rt: &T,
     alloc: Global,
@@ -32,9 +33,9 @@ pub fn run<T: Threads + Wait + Clock + Sync, F: OpenFiles, I: Read + Drop, O: Wr
     output: &mut O,
     errors: &mut E,
 ) -> u8
-    // A run that is done writes no error, unless the arguments ask for stats.
+    // A run that is done writes no error, unless the arguments ask for stats or for a trace.
     ensures silent { result ≡ 0
-        → ¬ (IfOk words (λ all. Contains (map string_bytes all.items) (codes "--stats")))
+        → ¬ (IfOk words (λ all. AskForDetails (map string_bytes all.items)))
         → errors.new ≡ errors.old }
     // Nothing is written where the arguments, a text, a file or a relay failed.
     ensures unwritten { result ≢ 0 → result ≢ 5 → output.new ≡ output.old }
@@ -52,8 +53,8 @@ pub fn run<T: Threads + Wait + Clock + Sync, F: OpenFiles, I: Read + Drop, O: Wr
 // What the arguments ask for.
 fn choose(alloc: Global, words: io::Result<Vec<String>>) -> Result<Chosen, WordsRefused>
     ensures ranges { IfOk result AreInRange }
-    ensures asked { IfOk result (λ chosen. IsTold chosen
-        → IfOk words (λ all. Contains (map string_bytes all.items) (codes "--stats"))) }
+    ensures asked { IfOk result (λ chosen. IsDetailed chosen
+        → IfOk words (λ all. AskForDetails (map string_bytes all.items))) }
 {
     let words = match words {
         Ok(words) => words,
@@ -117,7 +118,7 @@ fn attempt<T: Threads + Wait + Clock + Sync, F: OpenFiles, I: Read + Drop, O: Wr
     requires { AreInRange chosen }
     ensures unwritten { IfErr result (λ failure. failure ≢ Output → output.new ≡ output.old) }
     ensures untold { OnErr result (errors.new ≡ errors.old) }
-    ensures silent { OnOk result (¬ (IsTold chosen) → errors.new ≡ errors.old) }
+    ensures silent { OnOk result (¬ (IsDetailed chosen) → errors.new ≡ errors.old) }
 {
     let mut input = Some(input);
     match chosen {
@@ -126,6 +127,11 @@ fn attempt<T: Threads + Wait + Clock + Sync, F: OpenFiles, I: Read + Drop, O: Wr
             let source = open_source(files, name, &mut input);
             let mut source = source.ok_or(Failure::ScriptUnopened)?;
             Ok(replay(rt, alloc, &mut source, output)?)
+        }
+        Chosen::Traced(name) => {
+            let source = open_source(files, name.as_str(), &mut input);
+            let mut source = source.ok_or(Failure::ScriptUnopened)?;
+            Ok(replay_traced(rt, alloc, &mut source, output, errors)?)
         }
         Chosen::Relay(args, names) => {
             let sources = open_sources(alloc, files, &names, input)?;

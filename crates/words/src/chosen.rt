@@ -1,7 +1,7 @@
 //! What the arguments of the command line ask for.
 
-ghost use Rattle.std.specs.Prelude.{◌≡◌, ◌↔◌, ◌≤◌, Contains, IsTrue, IfOk, IfSome, codes, map};
-ghost use Rattle.words.specs.Ranges.{AreInRange, IsInRange, IsTold, plan_of};
+ghost use Rattle.std.specs.Prelude.{◌≡◌, ◌↔◌, ◌≤◌, Contains, IsTrue, IfOk, IfSome, map};
+ghost use Rattle.words.specs.Ranges.{AreInRange, IsAskedFor, IsInRange, IsRelay, plan_of};
 
 use crate::command_line::{MAX_CONSUMERS, MAX_COUNT, MAX_FILES, command_line};
 use clap::ArgMatches;
@@ -43,6 +43,8 @@ pub struct RelayArgs {
 pub enum Chosen {
     /// Replay the script in this file, or the one on standard input.
     Replay(Option<String>),
+    /// Replay the script in this file, and write its atomic steps on standard error.
+    Traced(String),
     /// Relay these files.
     Relay(RelayArgs, Vec<String>),
     /// Relay these files, and write how it went on standard error.
@@ -116,9 +118,8 @@ fn out_of_range(alloc: Global) -> WordsRefused {
 pub fn read_words<'a>(alloc: Global, words: &'a [&'a str]) -> Result<Chosen, WordsRefused>
     // Every value lies in its range, and a relay has 1 to 16 files.
     ensures ranges { IfOk result AreInRange }
-    // A relay is measured only where the arguments ask for it.
-    ensures asked { IfOk result (λ chosen. IsTold chosen
-        → Contains (map (λ word. word.now) words.now) (codes "--stats")) }
+    // A relay is measured, and a script traced, only where the arguments ask for it.
+    ensures asked { IfOk result (IsAskedFor (map (λ word. word.now) words.now)) }
 {
     let matches = command_line(alloc)?.try_get_matches_from(words)?;
     match matches.subcommand() {
@@ -127,22 +128,25 @@ pub fn read_words<'a>(alloc: Global, words: &'a [&'a str]) -> Result<Chosen, Wor
             let Some(file) = found.get_str("file") else {
                 return Err(out_of_range(alloc));
             };
-            Ok(Chosen::Replay(Some(String::from_str(alloc, file)?)))
+            let file = String::from_str(alloc, file)?;
+            if found.get_flag("trace") && has_word(words, "--trace") {
+                return Ok(Chosen::Traced(file));
+            }
+            Ok(Chosen::Replay(Some(file)))
         }
         Some((_, found)) => {
-            let is_told = found.get_flag("stats") && has_stats(words);
-            relay_of(alloc, found, is_told)
+            let is_measured = found.get_flag("stats") && has_word(words, "--stats");
+            relay_of(alloc, found, is_measured)
         }
     }
 }
 
-// Whether an argument asks for stats.
-fn has_stats(words: &[&str]) -> bool
-    ensures { IsTrue result
-        → Contains (map (λ word. word.now) words.now) (codes "--stats") }
+// Whether one of the arguments is this one.
+fn has_word(words: &[&str], wanted: &str) -> bool
+    ensures { IsTrue result → Contains (map (λ word. word.now) words.now) wanted.now }
 {
     for word in words {
-        if *word == "--stats" {
+        if *word == wanted {
             return true;
         }
     }
@@ -150,9 +154,13 @@ fn has_stats(words: &[&str]) -> bool
 }
 
 // The relay that these arguments ask for, and whether it is measured.
-fn relay_of(alloc: Global, found: &ArgMatches<'_>, is_told: bool) -> Result<Chosen, WordsRefused>
+fn relay_of(
+    alloc: Global,
+    found: &ArgMatches<'_>,
+    is_measured: bool,
+) -> Result<Chosen, WordsRefused>
     ensures ranges { IfOk result AreInRange }
-    ensures told { IfOk result (λ chosen. IsTold chosen → IsTrue is_told) }
+    ensures relay { IfOk result (IsRelay is_measured) }
 {
     let Some(args) = args_of(found) else {
         return Err(out_of_range(alloc));
@@ -164,7 +172,7 @@ fn relay_of(alloc: Global, found: &ArgMatches<'_>, is_told: bool) -> Result<Chos
     if files.is_empty() || files.len() > MAX_FILES {
         return Err(out_of_range(alloc));
     }
-    if is_told {
+    if is_measured {
         return Ok(Chosen::Measured(args, files));
     }
     Ok(Chosen::Relay(args, files))

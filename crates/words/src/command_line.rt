@@ -43,7 +43,14 @@ Example:
 prints
   put 0
   put 1
-  take 2 y";
+  take 2 y
+and with --trace it writes on standard error, for the last line,
+  a 1 load TOP
+  a 2 load link 1
+  a 3 compare-and-swap TOP succeeded
+  a 4 load FREE
+  a 5 store link 1
+  a 6 compare-and-swap FREE succeeded";
 
 const ABOUT_RELAY: &str = "Relays the lines of files through one container: a thread for each
 file puts its lines in, others take lines out. Writes how many lines
@@ -82,7 +89,17 @@ fn replay<'a>(alloc: Global) -> Result<Command<'a>, AllocError> {
     Command::new(alloc, "replay")
         .about(ABOUT_REPLAY)
         .after_help(REPLAY_EXAMPLE)
+        .arg(trace(alloc))?
         .arg(file)
+}
+
+fn trace<'a>(alloc: Global) -> Arg<'a> {
+    Arg::new(alloc, "trace")
+        .long("trace")
+        .action(ArgAction::SetTrue)
+        .help(
+            "Writes on standard error a line for each atomic step:\nthe pass, the step's number in its call, its name, and\nwhether a compare-and-swap succeeded",
+        )
 }
 
 fn relay<'a>(alloc: Global) -> Result<Command<'a>, AllocError> {

@@ -9,11 +9,11 @@ pub loop-made-preserved : goal.loop-made-preserved
 loop-made-preserved g c =
     let r = g.C.Played.reading c.args.container.now in
     let i = c.loop-made.invariant in
-    let one = c.in-Again.ensures i.some.0 i.some.1 in
+    let one = rw c.in-Again.is at c.in_ok-next.ensures i.some.0 i.some.1 in
     record {
       few = omega arith;
       some = (i.some.0, one.0);
-      same = λ call was. (c.in-Again.ensures call (i.same call was)).0;
+      same = λ call was. (rw c.in-Again.is at c.in_ok-next.ensures call (i.same call was)).0;
       begun = one.1.begun ∙ i.begun;
       makes = makes_more _ _ _ _ i.makes one.1.step;
     }
@@ -22,7 +22,7 @@ pub returns-in-Done : goal.returns-in-Done
 returns-in-Done g c call u shows =
     let r = g.C.Played.reading c.args.container.now in
     let i = c.loop-made.invariant in
-    let done = c.in-Done.ensures call (i.same call shows.0) in
+    let done = rw c.in-Done.is at c.in_ok-next.ensures call (i.same call shows.0) in
     let w = r.pass c.in-Done.pass in
     let makes : MakesSteps (c.loop-made.made + 1) u.now w = rw shows.1 (makes_more _ _ _ _ i.makes done.1) in
     let begun : (r.made c.loop-made.operation).begun ≡ u.begun = i.begun ∙ ap (λ (v : Underway (List ℕ)). v.begun) (sym shows.1) in
@@ -32,7 +32,7 @@ returns-in-Done g c call u shows =
       (
         record { made = c.loop-made.made + 1; some = omega arith; at_most = omega arith; makes = makes },
         gives,
-        since_more _ (c.loop-made.made + 1) u.begun u.now w _ shows.2 shows.3 makes.steps c.saturating_add-steps.ensures,
+        since_more _ (c.loop-made.made + 1) u.begun u.now w _ shows.2 shows.3 makes.steps c.saturating_add-number.ensures,
       ),
     )
 
@@ -44,6 +44,6 @@ returns g c call u shows =
     let w = r.made c.loop-made.operation in
     let makes : MakesSteps c.loop-made.made u.now w.now = rw shows.1 i.makes in
     let begun : w.begun ≡ u.begun = i.begun ∙ ap (λ (v : Underway (List ℕ)). v.begun) (sym shows.1) in
-    let told : c.saturating_add-steps-2.result ≡ steps_since w.begun w.now = rw begun (since_more _ c.loop-made.made u.begun u.now w.now _ shows.2 shows.3 makes.steps c.saturating_add-steps-2.ensures) in
+    let told : c.saturating_add-steps.result ≡ steps_since w.begun w.now = rw begun (since_more _ c.loop-made.made u.begun u.now w.now _ shows.2 shows.3 makes.steps c.saturating_add-steps.ensures) in
     let later : w.begun.steps ≤ w.now.steps = rw begun (omega (arith, makes.steps, shows.3)) in
     (Acting call w, (i.same call shows.0, refl, told, later), (refl, begun, rw (sym all) makes, told))

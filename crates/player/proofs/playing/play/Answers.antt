@@ -37,13 +37,13 @@ loop-line-preserved g c =
     let line = By c.in-By.name c.in-By.what in
     let rest = c.pop_front.new.self.items in
     let left : c.loop-line.lines.items ≡ line ∷ rest = c.in-Some.ensures.items ∙ ap (λ (l : Line). l ∷ rest) c.in-By.is in
-    let next = c.in_ok-play_line-in-By.ensures i.playing.0 i.playing.1 in
+    let next = c.in_ok-answer-in-By.ensures i.playing.0 i.playing.1 in
     let told = subst (λ (ls : List Line). Told r.shape (start (r.root c.args.root)) c.args.lines.items i.playing.0 ls (string_bytes c.loop-line.output)) left i.playing.2 in
     record {
       each = (subst (λ (ls : List Line). AllByRecursion IsLine ls) left i.each).1;
       allowed = (subst (λ (ls : List Line). AllByRecursion (λ line. IsTrue (is_allowed r.shape.order line)) ls) left i.allowed).1;
       finish_last = (subst FinishesLast left i.finish_last).1;
-      playing = (next.0, next.1, told_more r.shape _ c.args.lines.items i.playing.0 next.0 c.in-By.name c.in-By.what rest _ _ next.2.said told next.2.acts next.2.written);
+      playing = (next.0, next.1, told_more r.shape _ c.args.lines.items i.playing.0 next.0 c.in-By.name c.in-By.what rest _ _ c.in_ok-answer-in-By.answer told next.2 c.in_ok-write_reply-in-By.ensures);
     }
 
 pub returns-in-Finish : goal.returns-in-Finish
