@@ -1,16 +1,13 @@
 //! A script played over a container.
 
-ghost use Rattle.std.specs.Prelude.{◌≡◌, ◌≢◌, ◌++◌, ℕ, IfOk, OnOk, IsTrue, List, codes, map, string_bytes};
-ghost use Rattle.std.specs.Char.{is_ascii_lowercase};
+ghost use Rattle.std.specs.Prelude.{◌≡◌, ◌++◌, ℕ, IfOk, OnOk, IsTrue, List, codes, map, string_bytes};
 ghost use Rattle.std.specs.List.{AllByRecursion};
-ghost use Rattle.player.specs.Plays.{Ends, IsFor, Plays, Replied, World, start};
+ghost use Rattle.player.specs.Plays.{Ends, Plays, World, start};
 ghost use Rattle.player.specs.Shows.{IsOn};
 ghost use Rattle.script.specs.AnswerTexts.{answer_text};
 ghost use Rattle.script.specs.Script.{FinishesLast, IsLine, is_allowed, text_of};
 ghost use Rattle.script.specs.declared.answer.Answer.{Answer};
 ghost use Rattle.script.specs.declared.answer.Answer.TheVariants.{Rest as LeftOver};
-ghost use Rattle.script.specs.declared.line.Act.TheVariants.{Meet};
-ghost use Rattle.script.specs.declared.line.PassName.{PassName};
 
 use crate::played::Played;
 use crate::stage::{Stage, act, finish};
