@@ -85,9 +85,17 @@ module _ {T : Type 0} (n limit : ℕ) (ws : List ℕ) (some_cell : 0 < n) (small
   }
 
   good : Kept T n limit (memory_of ws (empties T n)) (first_who T (Line T)) (Idle None ∷ []) []
-  good = (laws n limit).reseats (memory_of ws (empties T n)) (record { who = some; lines = Idle None ∷ []; history = []; good = new_kept n limit 1 (memory_of ws (empties T n)) some_cell small some_tag new; who' = first_who T (Line T); lines' = Idle None ∷ []; grows = inl refl;
-      hands = λ q p l _ e. absurd (nobody T (Line T) q p e);
-      alone = λ q r p e _. absurd (nobody T (Line T) q p e) })
+  good = (laws n limit).reseats (memory_of ws (empties T n)) (record {
+    who = some;
+    lines = Idle None ∷ [];
+    history = [];
+    good = new_kept n limit 1 (memory_of ws (empties T n)) some_cell small some_tag new;
+    who' = first_who T (Line T);
+    lines' = Idle None ∷ [];
+    grows = inl refl;
+    hands = λ q p l _ e. absurd (nobody T (Line T) q p e);
+    alone = λ q r p e _. absurd (nobody T (Line T) q p e);
+  })
 
   opens_all : Rule {names = _} (queue T n limit) (opening ws (replicate n None) first_view)
   opens_all = record {

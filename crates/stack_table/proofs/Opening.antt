@@ -79,9 +79,17 @@ module _ {T : Type 0} (n limit : ℕ) where
       kept.good in
       record {
         history = [];
-        good = (laws n limit).reseats (memory_of ws homes) (record { who = some; lines = Idle None ∷ []; history = []; good = record { lists = kept.lists; good = good }; who' = first_who T (Line T); lines' = Idle None ∷ []; grows = inl refl;
-            hands = λ q p l _ e. absurd (nobody T (Line T) q p e);
-            alone = λ q r p e _. absurd (nobody T (Line T) q p e) });
+        good = (laws n limit).reseats (memory_of ws homes) (record {
+          who = some;
+          lines = Idle None ∷ [];
+          history = [];
+          good = record { lists = kept.lists; good = good };
+          who' = first_who T (Line T);
+          lines' = Idle None ∷ [];
+          grows = inl refl;
+          hands = λ q p l _ e. absurd (nobody T (Line T) q p e);
+          alone = λ q r p e _. absurd (nobody T (Line T) q p e);
+        });
         seated = seated_first (shape n limit) (core T n limit).holding;
         sane = record {
           words_are = long;
