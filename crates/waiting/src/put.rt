@@ -14,7 +14,7 @@ use std::sync::Wait;
 /// container is closed, `Spent` where a tag is at its limit.
 ///
 /// How long it waits is not promised, nor that it returns: where nobody takes and nobody closes, it
-/// waits for ever. Called in `example_buffers`.
+/// waits for ever. Called in `waiting_tests`.
 pub fn put_waiting<T, C: Shared<T>, W: Wait>(
     c: &C,
     rt: &W,

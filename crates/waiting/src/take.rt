@@ -29,7 +29,7 @@ fn stop_of(refused: TakeRefused) -> Option<TakeStopped>
 /// and closed, `Shut` where it is shut, `Spent` where a tag is at its limit.
 ///
 /// How long it waits is not promised, nor that it returns: where nobody puts and nobody closes, it
-/// waits for ever. Called in `example_buffers`.
+/// waits for ever. Called in `waiting_tests`.
 pub fn take_waiting<T, C: Shared<T>, W: Wait>(
     c: &C,
     rt: &W,
