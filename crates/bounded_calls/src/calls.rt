@@ -8,9 +8,9 @@ use bounded_model::{Command, Reply, Stepped, Stepwise};
 
 /// A container whose calls give up after so many tries, and can then be gone on with.
 pub trait BoundedCalls<T>: Stepwise<T> {
-    /// A call: the steps of one that loses no compare-and-swap, and where those do not end it, the
-    /// steps to its next compare-and-swap, `tries` times at the most. Answers what the whole call
-    /// answers; or the call is still under way.
+    /// A call: the steps of one whose every compare-and-swap succeeds, and where those do not end it,
+    /// the steps to its next compare-and-swap, `tries` times at the most. Returns what the whole call
+    /// returns; or the call is still under way.
     fn try_call(
         &self,
         by: Self::Pass,

@@ -1,4 +1,4 @@
-//! A queue's calls: each runs its steps straight on.
+//! A queue's calls, each on the fast path first.
 ghost use Rattle.std.specs.Prelude.{ℕ};
 ghost use Rattle.bounded_calls.specs.Calls.{Begins};
 ghost use Rattle.bounded_calls.specs.Readings.{queue_reading};

@@ -4,8 +4,8 @@ ghost use Rattle.bounded_model.specs.Stepping.{MatchStepped};
 use bounded_model::Stepped;
 use running::{Pause, Whole};
 
-// Goes on with an operation, so many times at most, with a wait after each exchange that it has
-// lost. A function of its own, so that the way straight on is all that a caller's code has.
+// Goes on with an operation, so many times at most, with a wait after each compare-and-swap that
+// failed. A function of its own, so that a caller's code has nothing but the fast path.
 #[inline(never)]
 fn run_on<C, P, A, O: Whole<C, P, A>>(on: &C, under_way: O, tries: u64) -> Stepped<O, P, A>
     requires { (call : O.Call) × O.is_under_way on.now call under_way }
@@ -28,8 +28,8 @@ fn run_on<C, P, A, O: Whole<C, P, A>>(on: &C, under_way: O, tries: u64) -> Stepp
     made
 }
 
-/// Runs an operation: straight on, and then so many times at most. With no tries known to the
-/// compiler, the way straight on is all of it.
+/// Runs an operation: once on the fast path, and then so many times at most. Where the compiler knows
+/// that `tries` is 0, nothing is left of it but the fast path.
 #[inline(always)]
 pub fn try_whole<C, P, A, O: Whole<C, P, A>>(on: &C, operation: O, tries: u64) -> Stepped<O, P, A>
     requires { (call : O.Call) × O.is_under_way on.now call operation }
@@ -48,7 +48,7 @@ pub fn try_whole<C, P, A, O: Whole<C, P, A>>(on: &C, operation: O, tries: u64) -
 }
 
 /// Goes on with an operation that is under way: once, and then so many times at most, each time with
-/// a wait before it where an exchange was lost.
+/// a wait before it where a compare-and-swap failed.
 #[inline]
 pub fn try_further<C, P, A, O: Whole<C, P, A>>(on: &C, under_way: O, tries: u64) -> Stepped<O, P, A>
     requires { (call : O.Call) × O.is_under_way on.now call under_way }

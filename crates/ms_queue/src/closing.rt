@@ -25,7 +25,7 @@ pub struct CloseOp<T> {
 pub(crate) enum CloseAt {
     /// On the way to the end of the chain.
     Seeking(Seek),
-    /// Exchange the last node's `next` for null with the mark.
+    /// Compare-and-swap the last node's `next` for null with the mark.
     Mark(Tagged, Tagged),
 }
 

@@ -53,7 +53,7 @@ pub(crate) enum PutAt<T> {
     PrepareNext(Held, Tagged),
     /// Go to the end of the chain.
     Seeking(Held, Seek),
-    /// Exchange the last node's `next` for the node.
+    /// Compare-and-swap the last node's `next` for the node.
     LinkNext(Held, Tagged, Tagged),
     /// The value is put. Compare-and-swap `TAIL` for the node that has it; the second word is the
     /// link.

@@ -1,5 +1,5 @@
-//! Whole closes, shuts and looks: the fast path, as it is made where no compare-and-swap is
-//! lost. Where a step leads elsewhere, the operation goes on from there by single steps.
+//! Whole closes, shuts and looks: the fast path, as it is made where no compare-and-swap
+//! fails. Where a step leads elsewhere, the operation goes on from there by single steps.
 ghost use Rattle.ms_queue.specs.Closing.{IsClosingAt};
 ghost use Rattle.ms_queue.specs.Looking.{IsLookingAt};
 ghost use Rattle.ms_queue.specs.Queue.{begun_of};

@@ -1,5 +1,5 @@
-//! A whole put: the fast path of a put that loses no compare-and-swap. Where a step
-//! leads elsewhere, the put goes on from there by single steps.
+//! A whole put: the fast path, as it is made where no compare-and-swap fails. Where a step leads
+//! elsewhere, the put goes on from there by single steps.
 ghost use Rattle.ms_queue.specs.Queue.{begun_of};
 ghost use Rattle.ms_queue.specs.Putting.{IsPutting, put_op};
 ghost use Rattle.ms_queue.specs.Whole.{PutRun};

@@ -1,5 +1,5 @@
-//! A whole take: the fast path of a take that loses no compare-and-swap. Where a step
-//! leads elsewhere, the take goes on from there by single steps.
+//! A whole take: the fast path, as it is made where no compare-and-swap fails. Where a step leads
+//! elsewhere, the take goes on from there by single steps.
 ghost use Rattle.ms_queue.specs.Queue.{begun_of};
 ghost use Rattle.ms_queue.specs.Taking.{IsTakingAt};
 ghost use Rattle.ms_queue.specs.Whole.{TakeRun};

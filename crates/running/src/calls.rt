@@ -59,8 +59,8 @@ pub fn to_the_end<
     }
 }
 
-// Runs an operation that is under way until it answers. A function of its own, so that the way
-// straight on is all that a caller's code has.
+// Runs an operation that is under way until it ends. A function of its own, so that a caller's code
+// has nothing but the fast path.
 #[inline(never)]
 fn run_on<
     R: Wait,

@@ -4,10 +4,10 @@ ghost use Rattle.running.specs.declared.pause.TheConstants.{MOST_HINTS};
 
 use std::hint;
 
-/// The most hints of the processor that one wait gives, which take some tens of microseconds.
+/// The most spin hints that one wait gives the processor, which take some tens of microseconds.
 const MOST_HINTS: u32 = 5_120;
 
-/// How many hints of the processor the next wait gives. It is handed on by value, so that a call
+/// How many spin hints the next wait gives the processor. It is handed on by value, so that a call
 /// whose every compare-and-swap succeeds keeps it in a register.
 #[derive(Drop)]
 pub struct Pause {

@@ -25,7 +25,7 @@ pub trait Whole<C, P, A>: Sized {
             (λ back answer. gives on.now call back answer) };
 
     /// The same for an operation that was just begun: its fast path, as it is made where no
-    /// compare-and-swap is lost.
+    /// compare-and-swap fails.
     #[inline]
     fn straight(self, on: &C) -> Stepped<Self, P, A>
         requires { (call : Self.Call) × is_under_way on.now call self }
