@@ -14,9 +14,10 @@
  *   - malloc, realloc and free are of one allocator, and align as the C standard has it;
  *   - no call is made in a signal handler, or in the child of a fork of a process with threads.
  *
- * All else that could go wrong is answered by a code, and then nothing has changed but what is said
- * here. No call but the two _new, _split and _free takes or gives back memory, and none waits for
- * another thread: a call makes a bounded number of steps.
+ * Other misuse of a handle, and all else that can go wrong in a call, is answered by a code, and then
+ * nothing has changed but what is said here. No call but the two _new, _split and _free takes or gives
+ * back memory. None waits for another thread: each makes a bounded number of steps, but for the inline
+ * functions at the end, which go on until they have another answer than BUSY.
  */
 #ifndef LOCKFREE_H
 #define LOCKFREE_H
@@ -70,9 +71,9 @@ uint32_t lockfree_split(lockfree_handle *root, lockfree_handle *pass);
  * value is out of reach, and its cell stays held. OK, NO_HANDLE. */
 uint32_t lockfree_free(lockfree_handle *handle);
 
-/* The calls of a pass. Each goes straight on, and where another thread was faster it tries again up
- * to `tries` times; 0 is allowed. Then it answers BUSY, and is under way: lockfree_go_on continues
- * it, and answers what it would have answered. All: BUSY, UNDER_WAY, OTHER_HANDLE, NO_HANDLE.
+/* The calls of a pass. Each makes its fast path, and where another thread was faster it tries again
+ * up to `tries` times; 0 is allowed. Then it returns BUSY, and is under way: lockfree_go_on continues
+ * it, and returns what it would have returned. All: BUSY, UNDER_WAY, OTHER_HANDLE, NO_HANDLE.
  * put:   OK, FULL, CLOSED, SPENT
  * take:  OK, EMPTY, CLOSED, SHUT, SPENT
  * close: OK, CLOSED. No put follows
