@@ -1,5 +1,5 @@
 -- A played script: each line's answer is that of the call that the line names, under the container's own laws.
-use Rattle.std.specs.Prelude.{◌≡◌, ℕ, ◌+◌, ◌-◌, ◌≤◌, Bool, true, false, List, [], ◌∷◌, ◌++◌, codes, map, replicate, reverse, Option, Some, Result, Ok, Err, slice_set, slice_index_or}
+use Rattle.std.specs.Prelude.{◌≡◌, ℕ, ◌+◌, ◌-◌, ◌≤◌, Bool, true, false, List, [], ◌∷◌, map, replicate, reverse, Option, Some, Result, Ok, Err, slice_set, slice_index_or}
 use Rattle.std.specs.Io.Iter.{u64_saturate}
 use Rattle.bounded_model.specs.declared.answers.TakeRefused.{TakeRefused}
 use Rattle.bounded_model.specs.declared.bulk.Ranged.{Ranged}
@@ -18,7 +18,6 @@ use Rattle.bounded_model.specs.Histories.{Later}
 use Rattle.bounded_model.specs.Laws.{PutGives, TakeGives, CloseGives, ShutGives, LookGives, FoldGives, TakesNothing, MeetGives, Splits, Joins, Leaves, IsFullOfPasses}
 use Rattle.bounded_model.specs.Machine.{Shape}
 use Rattle.bounded_model.specs.Stepping.{Underway, no_step}
-use Rattle.script.specs.AnswerTexts.{answer_text}
 use Rattle.script.specs.Words.{values_in}
 use Rattle.script.specs.declared.answer.Answer.{Answer}
 use Rattle.script.specs.declared.answer.Answer.TheVariants as answer
@@ -216,9 +215,3 @@ Plays c world [] [] = Unit {0}
 Plays c world (Finish ∷ []) (answer.Rest values ∷ []) = Ends c world values
 Plays c world (By name act ∷ lines) (said ∷ more) = (next : World) × Acts c world name.0 act said next × Plays c next lines more
 Plays c world lines said = ⊥
-
--- a line was done, and the text of its answer was added
-pub record Replied (c : Shape) (old : World) (letter : ℕ) (act : Act) (before after : List ℕ) (new : World) : Type 0 where
-  pub said : Answer
-  pub acts : Acts c old letter act said new
-  pub written : after ≡ before ++ (answer_text said ++ codes "\n")

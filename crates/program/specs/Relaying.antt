@@ -51,8 +51,8 @@ pub record IsRelayed (args : RelayArgs) (inputs : Lists) (relayed : Relayed) : T
   pub fits : ¬ (IsTooSmall (plan_of args) args.capacity (total inputs))
   pub all : StopsNowhere args → audit_text relayed ≡ full_audit inputs
 
--- why a relay of these inputs has no outcome: it is told as too small exactly where it is, unless memory was wanting,
--- and no pass is ever wanting
+-- why a relay of these inputs has no outcome: it is called too small exactly where it is, unless memory ran out,
+-- and a pass is never refused
 abbrev pub IsCause : RelayArgs → Lists → RelayFault → Type 0
 IsCause args inputs TooSmall = IsTooSmall (plan_of args) args.capacity (total inputs)
 IsCause args inputs NoThread = ¬ (IsTooSmall (plan_of args) args.capacity (total inputs))

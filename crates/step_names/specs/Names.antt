@@ -1,6 +1,6 @@
 -- The names of a machine's steps, by its table of steps, and what a step did.
 use Rattle.std.specs.Prelude.{◌≡◌, ◌≢◌, Option, Some}
-use Rattle.machine.specs.Program.{Deed, rests, loads, checks, follows, stores, links, attempts, swaps}
+use Rattle.machine.specs.Program.{Deed, loads, checks, follows, stores, links, attempts, swaps}
 use Rattle.step_names.specs.declared.location.Location.{Location}
 use Rattle.step_names.specs.declared.step_name.StepName.{StepName}
 use Rattle.step_names.specs.declared.step_name.StepName.TheVariants.{Load, Store, CompareAndSwap, Attempt}

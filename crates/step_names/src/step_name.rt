@@ -1,6 +1,5 @@
 //! The name of an atomic step, and what it did.
 
-ghost use Rattle.std.specs.Prelude.{Option};
 ghost use Rattle.step_names.specs.Names.{IsOutcome};
 
 use crate::location::Location;

@@ -1,4 +1,4 @@
-use Rattle.std.proofs.Common.{◌≡◌, ◌≤◌, map, take, string_bytes, length, ap, ◌∙◌}
+use Rattle.std.proofs.Common.{◌≡◌, map, take, string_bytes, ap, ◌∙◌}
 use Rattle.std.proofs.lemmas.List.{take_all}
 use Rattle.program.proofs.Asked.{details_asked}
 use Rattle.program.proofs.session.choose.Goals as goal
