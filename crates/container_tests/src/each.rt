@@ -5,6 +5,7 @@ use crate::fills::{
     Crowd, consumed, each_value_once, one_value_at_a_time, own_puts_suffice, room_for_its_capacity,
 };
 use crate::made::Made;
+use crate::steps::{Steps, dropped_late_puts, dropped_puts, dropped_takes, ended_at_their_last};
 use bounded_model::Order;
 use ms_queue::Queue;
 use std::alloc::Global;
@@ -80,4 +81,49 @@ fn values_of_a_queue_are_dropped_once(rt: HostRuntime) {
 #[test]
 fn values_of_a_stack_are_dropped_once(rt: HostRuntime) {
     values_are_dropped::<Stack<Arc<u8>>, HostRuntime>(&rt, rt.alloc());
+}
+
+const OF_A_QUEUE: Steps = Steps {
+    put: 14,
+    take: 12,
+    taken: 6,
+    closed: 12,
+    back: 4,
+    refused: 10,
+};
+
+const OF_A_STACK: Steps = Steps {
+    put: 6,
+    take: 6,
+    taken: 3,
+    closed: 3,
+    back: 1,
+    refused: 4,
+};
+
+#[test]
+fn a_put_and_a_take_of_a_queue_make_their_steps(rt: HostRuntime) {
+    ended_at_their_last::<Queue<u32>, HostRuntime>(&rt, rt.alloc(), OF_A_QUEUE);
+}
+
+#[test]
+fn a_put_and_a_take_of_a_stack_make_their_steps(rt: HostRuntime) {
+    ended_at_their_last::<Stack<u32>, HostRuntime>(&rt, rt.alloc(), OF_A_STACK);
+}
+
+// Values of calls that are dropped between two steps.
+fn values_of_dropped_calls<C: Made<Arc<u8>>, R: Abort + Wait>(rt: &R, alloc: Global, steps: Steps) {
+    dropped_puts::<C, R>(rt, alloc, steps);
+    dropped_takes::<C, R>(rt, alloc, steps);
+    dropped_late_puts::<C, R>(rt, alloc, steps);
+}
+
+#[test]
+fn values_of_dropped_calls_of_a_queue_are_dropped_once(rt: HostRuntime) {
+    values_of_dropped_calls::<Queue<Arc<u8>>, HostRuntime>(&rt, rt.alloc(), OF_A_QUEUE);
+}
+
+#[test]
+fn values_of_dropped_calls_of_a_stack_are_dropped_once(rt: HostRuntime) {
+    values_of_dropped_calls::<Stack<Arc<u8>>, HostRuntime>(&rt, rt.alloc(), OF_A_STACK);
 }

@@ -1,11 +1,8 @@
-//! Tests of the queue alone: how a queue is made, how many steps a put and a take make, and what
-//! becomes of the values of a call that is dropped between two steps. All other calls and their
-//! steps are played by the program (`tests/cases`).
+//! Tests of the queue alone: how a queue is made, and looks. What any container has is tested in
+//! `container_tests`; all other calls and their steps are played by the program (`tests/cases`).
 #![tactic(auto)]
 
 #[cfg(test)]
-mod drops;
+mod looking;
 #[cfg(test)]
 mod making;
-#[cfg(test)]
-mod steps;

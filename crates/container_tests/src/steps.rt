@@ -1,0 +1,166 @@
+//! Calls by single steps: how many a put and a take make, and what becomes of the values of a call
+//! that is dropped between two steps.
+
+use crate::made::{Made, with_room};
+use bounded_model::{Container, Order, Stepped, Stepwise};
+use std::alloc::Global;
+use std::process::Abort;
+use std::sync::{Arc, Wait};
+
+/// How many steps the calls of a container make where nobody interferes.
+#[derive(Clone, Copy)]
+pub(crate) struct Steps {
+    /// Those of a put, which has its value in a cell from its third step on.
+    pub(crate) put: u32,
+    /// Those of a take, ..
+    pub(crate) take: u32,
+    /// .. and of these, those until it has its value.
+    pub(crate) taken: u32,
+    /// Those of a put until its container is closed, ..
+    pub(crate) closed: u32,
+    /// .. from there on until it has its value again, ..
+    pub(crate) back: u32,
+    /// .. and until it ends.
+    pub(crate) refused: u32,
+}
+
+// Makes so many steps of a put, none of which ends it.
+fn go_on_putting<T: Drop, C: Stepwise<T>, R: Abort>(
+    rt: &R,
+    container: &C,
+    op: C::PutOp,
+    steps: u32,
+) -> C::PutOp
+    requires { (x : T) × C.is_putting container.now x op }
+    ensures { (x : T) × C.is_putting container.now x result }
+{
+    let mut op = op;
+    for _ in 0..steps {
+        let Stepped::Again(next) = container.step_put(op) else {
+            panic!(rt; "the put ended early")
+        };
+        op = next;
+    }
+    op
+}
+
+// The same of a take.
+fn go_on_taking<T: Drop, C: Stepwise<T>, R: Abort>(
+    rt: &R,
+    container: &C,
+    op: C::TakeOp,
+    steps: u32,
+) -> C::TakeOp
+    requires { C.is_taking container.now op }
+    ensures { C.is_taking container.now result }
+{
+    let mut op = op;
+    for _ in 0..steps {
+        let Stepped::Again(next) = container.step_take(op) else {
+            panic!(rt; "the take ended early")
+        };
+        op = next;
+    }
+    op
+}
+
+/// A put and a take end at their last step, and not before.
+pub(crate) fn ended_at_their_last<C: Made<u32>, R: Abort>(rt: &R, alloc: Global, steps: Steps) {
+    let (container, mut root) = with_room::<u32, C, R>(rt, alloc, 1);
+    let pass = container.split(&mut root).expect(rt, "a pass");
+    let begun = container.begin_put(pass, 7);
+    let put = go_on_putting(rt, &container, begun, steps.put.saturating_sub(1));
+    let Stepped::Done(pass, Ok(0)) = container.step_put(put) else {
+        panic!(rt; "the put ended late")
+    };
+    let begun = container.begin_take(pass);
+    let take = go_on_taking(rt, &container, begun, steps.take.saturating_sub(1));
+    let Stepped::Done(_, Ok(taken)) = container.step_take(take) else {
+        panic!(rt; "the take ended late")
+    };
+    let number = match C::ORDER {
+        Order::Fifo => 0,
+        Order::Lifo => 1,
+    };
+    assert_eq!(rt; taken, (7, number));
+}
+
+// A put is dropped after so many steps.
+fn dropped_put<C: Made<Arc<u8>>, R: Abort>(rt: &R, alloc: Global, made: u32) {
+    let value = Arc::new(alloc, 7u8).expect(rt, "memory");
+    let (container, mut root) = with_room::<Arc<u8>, C, R>(rt, alloc, 2);
+    let pass = container.split(&mut root).expect(rt, "a pass");
+    let begun = container.begin_put(pass, Arc::try_clone(&value).expect(rt, "a clone"));
+    drop(go_on_putting(rt, &container, begun, made));
+    let owners = if made < 3 { 1 } else { 2 };
+    assert_eq!(rt; Arc::strong_count(&value), owners);
+    drop(root);
+    drop(container);
+    assert_eq!(rt; Arc::strong_count(&value), 1);
+}
+
+// A take is dropped after so many steps.
+fn dropped_take<C: Made<Arc<u8>>, R: Abort + Wait>(rt: &R, alloc: Global, steps: Steps, made: u32) {
+    let value = Arc::new(alloc, 7u8).expect(rt, "memory");
+    let (container, mut root) = with_room::<Arc<u8>, C, R>(rt, alloc, 2);
+    let pass = container.split(&mut root).expect(rt, "a pass");
+    let (pass, put) = container.put(rt, pass, Arc::try_clone(&value).expect(rt, "a clone"));
+    assert!(rt; put.is_ok());
+    let begun = container.begin_take(pass);
+    drop(go_on_taking(rt, &container, begun, made));
+    let owners = if made < steps.taken { 2 } else { 1 };
+    assert_eq!(rt; Arc::strong_count(&value), owners);
+    drop(container.finish(root));
+    assert_eq!(rt; Arc::strong_count(&value), 1);
+}
+
+// A put that a close overtakes is dropped after so many more steps.
+fn dropped_late_put<C: Made<Arc<u8>>, R: Abort + Wait>(
+    rt: &R,
+    alloc: Global,
+    steps: Steps,
+    made: u32,
+) {
+    let value = Arc::new(alloc, 7u8).expect(rt, "memory");
+    let (container, mut root) = with_room::<Arc<u8>, C, R>(rt, alloc, 2);
+    let pass = container.split(&mut root).expect(rt, "a pass");
+    let closer = container.split(&mut root).expect(rt, "a pass");
+    let begun = container.begin_put(pass, Arc::try_clone(&value).expect(rt, "a clone"));
+    let put = go_on_putting(rt, &container, begun, steps.closed);
+    let (_, closed) = container.close(rt, closer);
+    assert!(rt; closed);
+    drop(go_on_putting(rt, &container, put, made));
+    let owners = if made < steps.back { 2 } else { 1 };
+    assert_eq!(rt; Arc::strong_count(&value), owners);
+    drop(container.finish(root));
+    assert_eq!(rt; Arc::strong_count(&value), 1);
+}
+
+/// A put that is dropped between any two steps drops its value once.
+pub(crate) fn dropped_puts<C: Made<Arc<u8>>, R: Abort>(rt: &R, alloc: Global, steps: Steps) {
+    for made in 0..steps.put {
+        dropped_put::<C, R>(rt, alloc, made);
+    }
+}
+
+/// The same of a take.
+pub(crate) fn dropped_takes<C: Made<Arc<u8>>, R: Abort + Wait>(
+    rt: &R,
+    alloc: Global,
+    steps: Steps,
+) {
+    for made in 0..steps.take {
+        dropped_take::<C, R>(rt, alloc, steps, made);
+    }
+}
+
+/// The same of a put that a close overtakes: it has its value again once it has met the mark.
+pub(crate) fn dropped_late_puts<C: Made<Arc<u8>>, R: Abort + Wait>(
+    rt: &R,
+    alloc: Global,
+    steps: Steps,
+) {
+    for made in 0..steps.refused {
+        dropped_late_put::<C, R>(rt, alloc, steps, made);
+    }
+}
