@@ -1,4 +1,4 @@
-//! What a call answers C: a code, and with some of them a value and a number.
+//! What a call returns to C: a code, and with some of them a value and a number.
 ghost use Rattle.std.specs.Prelude.{◌≡◌};
 
 use bounded_model::{PutRefused, Reply, TakeRefused};
@@ -110,7 +110,7 @@ impl Answer {
         }
     }
 
-    /// What a whole call answered.
+    /// What a whole call returned.
     #[inline(always)]
     pub fn of_reply(said: Reply<u64>) -> Answer
         ensures { Says said result }

@@ -170,7 +170,7 @@ pub extern "C" fn lockfree_look(alloc: Global, pass: &mut Slot, tries: u64) -> A
     call(alloc, pass, Command::Look, tries)
 }
 
-/// Goes on with the call that answered `BUSY`.
+/// Goes on with the call that returned `BUSY`.
 #[unsafe(no_mangle)]
 pub extern "C" fn lockfree_go_on(alloc: Global, pass: &mut Slot, tries: u64) -> Answer
     requires { IsSlot pass.old }

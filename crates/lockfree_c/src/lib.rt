@@ -1,9 +1,9 @@
 //! The queue and the stack for C, C++ and Rust: what a program that is not Rattle holds, and the
 //! calls that it makes.
 //!
-//! Promised, as long as C keeps to `c/lockfree.h`: each export's answer says what the container's
-//! law says of the call. A pass is used with its own container alone, and the last handle of a
-//! container frees it.
+//! Promised, as long as C keeps to `c/lockfree.h`: what an export returns says what the container's
+//! law says of the call, and a pass is used with its own container alone. That the last handle of a
+//! container frees it is tested, and stands in no contract.
 #![tactic(auto)]
 
 mod answers;

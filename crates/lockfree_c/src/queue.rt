@@ -127,7 +127,7 @@ impl QueuePass {
     }
 
     /// Goes on with the call that the pass is in, if it is in one. A function of its own, so that a
-    /// put and a take that lose nothing have no room for what it needs, and need not clear it.
+    /// put and a take on their fast path have no locals for it, and need not clear them.
     #[inline(never)]
     pub fn go_on(&mut self, tries: u64) -> Answer
         requires { IsQueuePass self.old }

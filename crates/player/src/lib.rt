@@ -1,10 +1,10 @@
 //! Scripts played over a container, by single atomic steps.
 //!
-//! Promised (`play`, `specs/Plays.antt`): each line of a script is answered by one line of text,
-//! which is the text of the answer of the call that the line names, made on the container by the
-//! line's pass, under the container's own laws. `busy`, `nothing begun` and `no pass` come exactly
-//! where the formats say, and then nothing is done. All is kept in memory, so that running out of it is
-//! met before anything is written.
+//! Promised (`play`, `specs/Plays.antt`): each line of a script gets a reply of one line, which is the
+//! text of what the call returned that the line names, made on the container by the line's pass, under
+//! the container's own laws. `busy`, `nothing begun` and `no pass` come exactly where the formats say,
+//! and then no more was done than to split passes off. All is kept in memory, so that it runs out
+//! before anything is written, if it does.
 #![tactic(auto)]
 
 mod acts;

@@ -40,7 +40,8 @@ impl<'a> Ranges<'a> for Queue<Value<'a>> {
     }
 }
 
-/// Plays a queue's script, and adds its steps to the trace. `NoMemory` where there was no room for the queue or for the lines.
+/// Plays a queue's script, and adds its steps to the trace. `NoMemory` where memory ran out for the
+/// queue or for the lines.
 pub fn play_queue<R: Wait>(
     rt: &R,
     alloc: Global,

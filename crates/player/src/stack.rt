@@ -137,8 +137,8 @@ fn fold_up<'a, R: Wait>(
     Ok((pass, numbered(values?, answer)))
 }
 
-/// Plays a stack's script, and adds its steps to the trace. `NoMemory` where there was no room for the stack, for the values of a
-/// range or a fold, or for the lines.
+/// Plays a stack's script, and adds its steps to the trace. `NoMemory` where memory ran out for the
+/// stack, for the values of a range or a fold, or for the lines.
 pub fn play_stack<R: Wait>(
     rt: &R,
     alloc: Global,

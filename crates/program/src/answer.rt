@@ -13,7 +13,7 @@ use std::alloc::Global;
 use std::sync::Wait;
 
 /// What is written for a script, which is played on a container of its own, and its steps in the
-/// trace. All memory is taken here, so that no writer is touched before the whole output stands.
+/// trace. All memory is reserved here, so that no writer is touched before the whole output stands.
 pub fn answer<S: Wait>(
     rt: &S,
     alloc: Global,

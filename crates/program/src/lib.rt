@@ -5,9 +5,9 @@
 //! the script was read and checked whole (`replay`): what the calls of a queue or a stack on atomic
 //! words return, also where the steps are written on standard error (`replay_traced`). What a relay
 //! writes is the outcome of a relay of the messages that were read (`relay_main`), also where stats
-//! are written on standard error (`relay_measured`, `Stats`). After a fault of a text, of a file or of memory nothing was written. What the arguments ask for
-//! is read by the crate `words`; what is read and written, and how the program fails, stands in the
-//! crate `streams`.
+//! are written on standard error (`relay_measured`, `Stats`). After a fault of a text, of a file or of
+//! memory nothing was written. What the arguments ask for is read by the crate `words`; what is read
+//! and written, and how the program fails, stands in the crate `streams`.
 #![tactic(auto)]
 
 mod answer;

@@ -75,8 +75,9 @@ pub fn replay<S: Wait, R: Read, W: Write>(
 /// writes the trace on `errors`: a line for each atomic step.
 ///
 /// The faults are those of `replay`; after a fault no trace is written. `NoMemory` also comes where
-/// there is no memory for the trace. That it cannot be written is no fault. That each step has its
-/// line is tested; what each line says of its step is proved (`step_names`).
+/// there is no memory for the trace. That it cannot be written is no fault. The name of each step is
+/// proved (`step_names`); that each step has its line, and that no compare-and-swap that succeeded is
+/// said to have failed, is tested.
 pub fn replay_traced<S: Wait, R: Read, W: Write, E: Write>(
     rt: &S,
     alloc: Global,
