@@ -5,7 +5,6 @@
 //! so no handle is needed.
 #![tactic(auto)]
 
-mod by_steps;
 mod calls;
 mod operation;
 mod queue;

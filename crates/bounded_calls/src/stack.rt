@@ -1,13 +1,24 @@
-//! A stack's calls. A look has one step.
+//! A stack's calls: each makes its fast path and then a bounded number of steps. A look has one step.
 ghost use Rattle.bounded_calls.specs.Calls.{Begins};
 ghost use Rattle.bounded_calls.specs.Readings.{stack_reading};
 ghost use Rattle.treiber_stack.specs.Stack.{IsPassOf};
 
-use crate::by_steps::{close_on, put_on, shut_on, take_on};
 use crate::calls::BoundedCalls;
 use crate::operation::Operation;
 use bounded_model::{Command, Reply, Stepped, Stepwise};
 use treiber_stack::{CloseOp, LookOp, Pass, PutOp, ShutOp, Stack, TakeOp};
+
+// As many steps as any call makes that loses no compare-and-swap.
+const UNDISTURBED: u64 = 10;
+
+// How many steps lead to a call's next compare-and-swap once one has failed.
+const TO_EXCHANGE: u64 = 3;
+
+// How many steps so many tries are.
+#[inline]
+fn steps_for(tries: u64) -> u64 {
+    tries.saturating_mul(TO_EXCHANGE).saturating_add(UNDISTURBED)
+}
 
 // A call that makes no step yet.
 #[inline(always)]
@@ -47,7 +58,11 @@ impl BoundedCalls<u64> for Stack<u64> {
         requires { IsPassOf self.now by }
         ensures { TriedFrom (stack_reading self.now) (pass_in by) command result }
     {
-        self.try_on(begin(self, by, command), tries)
+        match command {
+            Command::Put(value) => self.try_put(by, value, tries),
+            Command::Take => self.try_take(by, tries),
+            other => self.try_on(begin(self, by, other), tries),
+        }
     }
 
     #[inline(always)]
@@ -64,7 +79,7 @@ impl BoundedCalls<u64> for Stack<u64> {
         requires { IsPassOf self.now by }
         ensures { TriedFrom (stack_reading self.now) (pass_in by) (Put value) result }
     {
-        match put_on(self, Stepwise::begin_put(self, by, value), tries) {
+        match self.put_for(by, value, steps_for(tries)) {
             Stepped::Again(op) => Stepped::Again(Operation::Put(op)),
             Stepped::Done(pass, answer) => Stepped::Done(pass, Reply::Put(answer)),
         }
@@ -83,7 +98,7 @@ impl BoundedCalls<u64> for Stack<u64> {
         requires { IsPassOf self.now by }
         ensures { TriedFrom (stack_reading self.now) (pass_in by) Take result }
     {
-        match take_on(self, Stepwise::begin_take(self, by), tries) {
+        match self.take_for(by, steps_for(tries)) {
             Stepped::Again(op) => Stepped::Again(Operation::Take(op)),
             Stepped::Done(pass, answer) => Stepped::Done(pass, Reply::Take(answer)),
         }
@@ -101,20 +116,21 @@ impl BoundedCalls<u64> for Stack<u64> {
         requires { MakesSome (stack_reading self.now) operation }
         ensures { Tried (stack_reading self.now) operation result }
     {
+        let steps = steps_for(tries);
         match operation {
-            Operation::Put(op) => match put_on(self, op, tries) {
+            Operation::Put(op) => match op.run_for(self, steps) {
                 Stepped::Again(op) => Stepped::Again(Operation::Put(op)),
                 Stepped::Done(pass, answer) => Stepped::Done(pass, Reply::Put(answer)),
             },
-            Operation::Take(op) => match take_on(self, op, tries) {
+            Operation::Take(op) => match op.run_for(self, steps) {
                 Stepped::Again(op) => Stepped::Again(Operation::Take(op)),
                 Stepped::Done(pass, answer) => Stepped::Done(pass, Reply::Take(answer)),
             },
-            Operation::Close(op) => match close_on(self, op, tries) {
+            Operation::Close(op) => match op.run_for(self, steps) {
                 Stepped::Again(op) => Stepped::Again(Operation::Close(op)),
                 Stepped::Done(pass, closed) => Stepped::Done(pass, Reply::Close(closed)),
             },
-            Operation::Shut(op) => match shut_on(self, op, tries) {
+            Operation::Shut(op) => match op.run_for(self, steps) {
                 Stepped::Again(op) => Stepped::Again(Operation::Shut(op)),
                 Stepped::Done(pass, shut) => Stepped::Done(pass, Reply::Shut(shut)),
             },

@@ -1,5 +1,5 @@
 -- What a close, a shut and a look give.
-use Rattle.std.proofs.Common.{◌≡◌, ℕ, Bool, true, false, List, [], ◌∷◌, refl, sym, ap, ◌∙◌}
+use Rattle.std.proofs.Common.{◌≡◌, ℕ, Bool, true, false, List, [], ◌∷◌, refl, sym, ap, ◌∙◌, subst}
 use Rattle.bounded_model.specs.declared.history.Event.{Event}
 use Rattle.bounded_model.specs.declared.history.Event.TheVariants.{Close, Shut as ShutEvent}
 use Rattle.bounded_model.specs.declared.views.PassView.{PassView}
@@ -16,7 +16,9 @@ use Rattle.running.specs.Going.{Ended}
 use Rattle.treiber_stack.specs.declared.stack.Stack.{Stack}
 use Rattle.treiber_stack.specs.declared.closing.Mark.{Mark}
 use Rattle.treiber_stack.specs.declared.closing.Mark.TheVariants.{Closed, Shut}
-use Rattle.treiber_stack.specs.Closing.{mark_name, mark_answer, mark_ends, MarkGives}
+use Rattle.treiber_stack.specs.declared.closing.MarkAt.{MarkAt}
+use Rattle.treiber_stack.specs.Closing.{mark_name, mark_answer, mark_ends, MarkGives, IsMarking}
+use Rattle.running.specs.declared.passes.Pass.{Pass}
 use Rattle.treiber_stack.specs.Stack.{machine_of, shape_of}
 
 module _ {T : Type 0} (c : Stack T) where
@@ -44,3 +46,13 @@ module _ {T : Type 0} (c : Stack T) where
 pub mark_ends_so : {T : Type 0} (mark : Mark) (done : Bool) → mark_ends {T = T} (mark_name mark) done ≡ ends (mark_answer mark done)
 mark_ends_so Closed done = refl
 mark_ends_so Shut done = refl
+
+-- an operation that sets a mark goes on setting that mark
+pub mark_stays : {T : Type 0} (c : Stack T) (mark : Mark) (at : MarkAt) → mark_name {T = T} mark ≡ mark_name at.mark → (q : Pass T (Line T)) → IsMarking c at.mark q at.seen → IsMarking c mark q at.seen
+mark_stays c mark at same q is = subst (λ (k : Mark). IsMarking c k q at.seen) (sym (same_mark mark at.mark same)) is
+  where
+    same_mark : {T : Type 0} (j k : Mark) → mark_name {T = T} j ≡ mark_name k → j ≡ k
+    same_mark Closed Closed e = refl
+    same_mark Shut Shut e = refl
+    same_mark Closed Shut e = cc
+    same_mark Shut Closed e = cc

@@ -12,7 +12,7 @@ use mathlib.Core.Option.{some}
 use Rattle.index_list.specs.Kinds.{Kind}
 use Rattle.stack_table.specs.Lists.{lists, list_step}
 use Rattle.running.specs.Lists.{AtStep}
-use Rattle.running.specs.Going.{Found, Steps, Going, Ended, Missed, begun_in}
+use Rattle.running.specs.Going.{Found, Going, Ended, Missed, begun_in}
 use Rattle.running.specs.Code.{Finding, Leads, MatchNext}
 use Rattle.running.specs.declared.access.Outcome.{Outcome}
 use Rattle.running.specs.declared.code.Next.{Next}
@@ -24,9 +24,8 @@ use Rattle.treiber_stack.specs.declared.stack.Stack.{Stack}
 use Rattle.treiber_stack.specs.declared.giving.Chain.{Chain}
 use Rattle.treiber_stack.specs.declared.giving.Give.{Give}
 use Rattle.treiber_stack.specs.declared.giving.Give.TheVariants.{Load, Link, Exchange}
-use Rattle.treiber_stack.specs.declared.giving.Gave.{Gave}
 use Rattle.treiber_stack.specs.Stack.{room_of, limit_of, machine_of, begun_of, IsAt, IsPassOf}
-use Rattle.treiber_stack.specs.Giving.{AreNodes, give_line, gave_line, left_slots, IsGiving, Led, GaveTo}
+use Rattle.treiber_stack.specs.Giving.{AreNodes, give_line, IsGiving, GaveTo}
 
 module _ {T : Type 0} where
   -- a pass at a line makes its step on a list
@@ -38,16 +37,7 @@ module _ {T : Type 0} where
   busy_giving giving (Link w) = refl
   busy_giving giving (Exchange w) = refl
 
-  module _ {c : Stack T} {o : Operation T} {p : Pass T (Line T)} {giving : Giving T} {nodes : Chain} {at : Give} (is : IsGiving c o p giving nodes at) (q : Pass T (Line T)) (found : ℕ) (zs : List (ℕ × Slot T)) (steps : Found (machine_of c) o p.seat.me.0 q.seat.me.0 found zs) (table : q.seat.table_id ≡ p.seat.table_id) where
-    -- the step leads on as the machine's does
-    pub gives_led : (gave : Gave) → q.seat.me.1 ≡ left_slots giving gave → next (room_of c) (limit_of c) (give_line giving at) found zs ≡ gave_line giving gave → Led c o p q giving at gave
-    gives_led gave slots to = record {
-      table = table;
-      slots = slots;
-      steps = subst (λ (l : Line T). Steps (machine_of c) o p.seat.me.0 q.seat.me.0 (begun_of c p) (give_line giving at) l) to (steps (begun_of c p) (give_line giving at) is.line.at.going).0;
-    }
-
-  -- the same of a whole call, whose steps follow one another
+  -- a whole call, whose steps follow one another
   module _ (c : Stack T) (o : Operation T) (p : Pass T (Line T)) (giving : Giving T) (nodes : Chain) (is : IsGiving c o p giving nodes Load) (q : Pass T (Line T)) (w : ℕ) (loads : Found (machine_of c) o p.seat.me.0 q.seat.me.0 w []) (table : q.seat.table_id ≡ p.seat.table_id) (same : q.seat.me.1 ≡ p.seat.me.1) where
     pub loaded : IsGiving c o q giving nodes (Link w) × (begun_of c q ≡ begun_of c p)
     loaded =

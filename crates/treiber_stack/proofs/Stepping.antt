@@ -28,7 +28,7 @@ module _ {T : Type 0} (c : Stack T) where
       let first : underway_in q ≡ record { begun = pass_in p; now = pass_in q } = ap (λ (v : PassView T). let u : Underway T = record { begun = v; now = pass_in q } in u) begun in
       first ∙ ap (λ (v : PassView T). let u : Underway T = record { begun = pass_in p; now = v } in u) now
 
-  pub put_steps : (x : T) (op : PutOp T) (r : Stepped (PutOp T) (Pass T (Line T)) (Result ℕ (PutRefused T))) → PutStep c x op.operation op.pass op.at r
+  pub put_steps : (x : T) (op : PutOp T) (r : Stepped (PutOp T) (Pass T (Line T)) (Result ℕ (PutRefused T))) → PutStep c x op.pass op.at r
       → MatchStepped r (λ next. IsPutting c x next × Further (underway_in op.pass) (underway_in next.pass))
       (λ back answer. IsPassOf c back × OneStep (pass_in op.pass) (pass_in back) × PutGives (shape_of c) (begun_of c op.pass) x (pass_in back) answer)
   put_steps x op (Again next) s = (s.0, record { begun = s.1.0; step = s.1.1.1 })

@@ -6,7 +6,7 @@ use Rattle.stack_machine.specs.declared.lines.Giving.{Giving}
 use Rattle.stack_machine.specs.declared.lines.Line.{Line}
 use Rattle.stack_machine.specs.declared.lines.Line.TheVariants.{LoadFreeToGive, LinkToFree, GiveBack}
 use Rattle.stack_machine.specs.Machine.{ends}
-use Rattle.running.specs.Going.{Steps, Ended}
+use Rattle.running.specs.Going.{Ended}
 use Rattle.running.specs.declared.passes.Pass.{Pass}
 use Rattle.stack_table.specs.declared.operation.Operation.{Operation}
 use Rattle.stack_table.specs.Lines.{next}
@@ -18,8 +18,6 @@ use Rattle.treiber_stack.specs.declared.stack.Stack.{Stack}
 use Rattle.treiber_stack.specs.declared.giving.Chain.{Chain}
 use Rattle.treiber_stack.specs.declared.giving.Give.{Give}
 use Rattle.treiber_stack.specs.declared.giving.Give.TheVariants.{Load, Link, Exchange}
-use Rattle.treiber_stack.specs.declared.giving.Gave.{Gave}
-use Rattle.treiber_stack.specs.declared.giving.Gave.TheVariants.{On, All}
 use Rattle.treiber_stack.specs.Stack.{room_of, limit_of, machine_of, begun_of, IsPassOf, IsAt}
 
 -- a chain of nodes below n, by its ends
@@ -30,29 +28,15 @@ pub record AreNodes (n : ℕ) (chain : List ℕ) (nodes : Chain) : Type 0 where
   pub last_low : nodes.last < n
 
 module _ {T : Type 0} where
-  -- the machine's line, and the one that a step led to
+  -- the machine's line
   abbrev pub give_line : Giving T → Give → Line T
   give_line giving Load = LoadFreeToGive giving
   give_line giving (Link w) = LinkToFree giving (fields_of w)
   give_line giving (Exchange w) = GiveBack giving (fields_of w)
 
-  abbrev pub gave_line : Giving T → Gave → Line T
-  gave_line giving (On at) = give_line giving at
-  gave_line giving All = ends giving.answer
-
-  abbrev pub left_slots : Giving T → Gave → List (ℕ × Slot T)
-  left_slots giving (On at) = vacant giving.chain
-  left_slots giving All = []
-
   pub record IsGiving (c : Stack T) (o : Operation T) (p : Pass T (Line T)) (giving : Giving T) (nodes : Chain) (at : Give) : Type 0 where
     pub line : IsAt c o p (give_line giving at) (vacant giving.chain)
     pub are : AreNodes (room_of c) giving.chain nodes
-
-  -- what a step leaves
-  pub record Led (c : Stack T) (o : Operation T) (p q : Pass T (Line T)) (giving : Giving T) (at : Give) (gave : Gave) : Type 0 where
-    pub table : q.seat.table_id ≡ p.seat.table_id
-    pub slots : q.seat.me.1 ≡ left_slots giving gave
-    pub steps : Steps (machine_of c) o p.seat.me.0 q.seat.me.0 (begun_of c p) (give_line giving at) (gave_line giving gave)
 
   -- the operation has answered once all is given back
   abbrev pub GaveBack : Stack T → Operation T → Pass T (Line T) → Chain → Pass T (Line T) → Type 0

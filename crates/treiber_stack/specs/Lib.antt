@@ -5,6 +5,7 @@ pub mod Closing
 pub mod Left
 pub mod Stepwise
 pub mod Taking
+pub mod Trying
 pub mod Naming
 pub mod Nodes
 pub mod Putting

@@ -9,22 +9,24 @@ use Rattle.bounded_model.specs.declared.answers.PutRefused.TheVariants.{Full, Cl
 use Rattle.bounded_model.specs.Laws.{PutGives}
 use Rattle.stack_machine.specs.declared.lines.Answer.{Answer}
 use Rattle.stack_machine.specs.declared.lines.Answer.TheVariants.{Put as AnswerPut}
-use Rattle.stack_machine.specs.declared.lines.Call.TheVariants.{Put as CallPut}
 use Rattle.stack_machine.specs.declared.lines.Giving.{Giving}
 use Rattle.stack_machine.specs.declared.lines.Putting.{Putting}
 use Rattle.stack_machine.specs.declared.lines.Line.{Line}
 use Rattle.stack_machine.specs.declared.lines.Line.TheVariants.{LoadFree as LoadFreeLine, LoadFreeLink, TakeFree, LoadTop, LinkToTop, SwapTop, LoadTopToRefuse}
 use Rattle.stack_machine.specs.Machine.{ends}
+use Rattle.running.specs.Steps.{Ran}
 use Rattle.running.specs.declared.passes.Pass.{Pass}
+use Rattle.running.specs.declared.code.Next.{Next}
 use Rattle.stack_table.specs.declared.operation.Operation.{Operation}
-use Rattle.stack_table.specs.Lines.{call_of}
+use Rattle.stack_table.specs.declared.operation.Operation.TheVariants.{Put as PutFirst}
+use Rattle.stack_table.specs.declared.operation.Listed.TheVariants.{End}
 use Rattle.stack_table.specs.Slots.{vacant}
 use Rattle.treiber_stack.specs.declared.stack.Stack.{Stack}
 use Rattle.treiber_stack.specs.declared.putting.PutOp.{PutOp}
 use Rattle.treiber_stack.specs.declared.putting.PutAt.{PutAt}
 use Rattle.treiber_stack.specs.declared.putting.PutAt.TheVariants.{LoadFree, Link, Hold, Load, LinkTo, Exchange, Refuse, GiveBack}
 use Rattle.treiber_stack.specs.Giving.{give_line}
-use Rattle.treiber_stack.specs.Stack.{room_of, limit_of, shape_of, pass_in, begun_of, IsPassOf, IsAt, OneLine, WentOn}
+use Rattle.treiber_stack.specs.Stack.{room_of, limit_of, shape_of, pass_in, begun_of, IsPassOf, IsAt, OneLine, WentOn, machine_of}
 
 module _ {T : Type 0} where
   -- a put of one value, without its node and with it
@@ -48,58 +50,74 @@ module _ {T : Type 0} where
   abbrev pub refusing : PutRefused T → ℕ → Giving T
   refusing why i = record { chain = i ∷ []; answer = put_answer (Err why) }
 
-  -- the machine's line of a put of x
-  abbrev pub put_line : T → PutAt T → Line T
-  put_line x (LoadFree y) = LoadFreeLine (wanting y)
-  put_line x (Link y w) = LoadFreeLink (wanting y) (fields_of w)
-  put_line x (Hold y w k) = TakeFree (wanting y) (fields_of w) k
-  put_line x (Load i) = LoadTop (bearing x i)
-  put_line x (LinkTo i w) = LinkToTop (bearing x i) (fields_of w)
-  put_line x (Exchange i w) = SwapTop (bearing x i) (fields_of w)
-  put_line x (Refuse y) = LoadTopToRefuse (y ∷ [])
-  put_line x (GiveBack why i at) = give_line (refusing why i) at
+  -- the operation of a put of x
+  abbrev pub put_of : T → Operation T
+  put_of x = PutFirst (record { marker = record {}; value = x }) End
+
+  -- the value that is put
+  abbrev pub refused_value : PutRefused T → T
+  refused_value (Full x) = x
+  refused_value (Closed x) = x
+  refused_value (Spent x word t) = x
+
+  abbrev pub put_value : PutAt T → T
+  put_value (LoadFree x) = x
+  put_value (Link x w) = x
+  put_value (Hold x w k) = x
+  put_value (Load shown i) = shown.value
+  put_value (LinkTo shown i w) = shown.value
+  put_value (Exchange shown i w) = shown.value
+  put_value (Refuse x) = x
+  put_value (GiveBack why i at) = refused_value why
+
+  -- the machine's line
+  abbrev pub put_line : PutAt T → Line T
+  put_line (LoadFree x) = LoadFreeLine (wanting x)
+  put_line (Link x w) = LoadFreeLink (wanting x) (fields_of w)
+  put_line (Hold x w k) = TakeFree (wanting x) (fields_of w) k
+  put_line (Load shown i) = LoadTop (bearing shown.value i)
+  put_line (LinkTo shown i w) = LinkToTop (bearing shown.value i) (fields_of w)
+  put_line (Exchange shown i w) = SwapTop (bearing shown.value i) (fields_of w)
+  put_line (Refuse x) = LoadTopToRefuse (x ∷ [])
+  put_line (GiveBack why i at) = give_line (refusing why i) at
 
   -- the slots in hand: that of the node, with the value until it is refused
   abbrev pub full_slot : T → ℕ → List (ℕ × Slot T)
   full_slot x i = (i, Some x) ∷ []
 
-  abbrev pub put_slots : T → PutAt T → List (ℕ × Slot T)
-  put_slots x (Load i) = full_slot x i
-  put_slots x (LinkTo i w) = full_slot x i
-  put_slots x (Exchange i w) = full_slot x i
-  put_slots x (GiveBack why i at) = vacant (i ∷ [])
-  put_slots x at = []
-
-  -- the value that the put still has is the one to be put
-  abbrev pub Keeps : T → PutAt T → Type 0
-  Keeps x (LoadFree y) = y ≡ x
-  Keeps x (Link y w) = y ≡ x
-  Keeps x (Hold y w k) = y ≡ x
-  Keeps x (Refuse y) = y ≡ x
-  Keeps x at = Unit {0}
+  abbrev pub put_slots : PutAt T → List (ℕ × Slot T)
+  put_slots (Load shown i) = full_slot shown.value i
+  put_slots (LinkTo shown i w) = full_slot shown.value i
+  put_slots (Exchange shown i w) = full_slot shown.value i
+  put_slots (GiveBack why i at) = vacant (i ∷ [])
+  put_slots at = []
 
   -- what was read names a node, and the tag of the word to be exchanged has room to rise
   abbrev pub HasReadToPut : ℕ → ℕ → PutAt T → Type 0
-  HasReadToPut n limit (LoadFree y) = Unit {0}
-  HasReadToPut n limit (Link y w) = (index_of w < n) × (tag_of w < limit)
-  HasReadToPut n limit (Hold y w k) = (index_of w < n) × (tag_of w < limit) × (k ≤ NULL)
-  HasReadToPut n limit (Load i) = i < n
-  HasReadToPut n limit (LinkTo i w) = (i < n) × (tag_of w < limit)
-  HasReadToPut n limit (Exchange i w) = (i < n) × (tag_of w < limit)
-  HasReadToPut n limit (Refuse y) = Unit {0}
+  HasReadToPut n limit (LoadFree x) = Unit {0}
+  HasReadToPut n limit (Link x w) = (index_of w < n) × (tag_of w < limit)
+  HasReadToPut n limit (Hold x w k) = (index_of w < n) × (tag_of w < limit) × (k ≤ NULL)
+  HasReadToPut n limit (Load shown i) = i < n
+  HasReadToPut n limit (LinkTo shown i w) = (i < n) × (tag_of w < limit)
+  HasReadToPut n limit (Exchange shown i w) = (i < n) × (tag_of w < limit)
+  HasReadToPut n limit (Refuse x) = Unit {0}
   HasReadToPut n limit (GiveBack why i at) = i < n
 
-  -- a put of x, by the name of its operation
+  -- a put of x, by its operation, which is also the put of the value that it has
   pub record IsPuttingAt (c : Stack T) (x : T) (o : Operation T) (p : Pass T (Line T)) (at : PutAt T) : Type 0 where
-    pub of : call_of o ≡ CallPut x []
-    pub line : IsAt c o p (put_line x at) (put_slots x at)
-    pub keeps : Keeps x at
+    pub of : o ≡ put_of x
+    pub named : o ≡ put_of (put_value at)
+    pub line : IsAt c (put_of (put_value at)) p (put_line at) (put_slots at)
     pub read : HasReadToPut (room_of c) (limit_of c) at
 
   abbrev pub IsPutting : Stack T → T → PutOp T → Type 0
   IsPutting c x op = IsPuttingAt c x op.operation op.pass op.at
 
   -- what a step gives
-  abbrev pub PutStep : Stack T → T → Operation T → Pass T (Line T) → PutAt T → Stepped (PutOp T) (Pass T (Line T)) (Result ℕ (PutRefused T)) → Type 0
-  PutStep c x o p at (Again next) = IsPutting c x next × WentOn c p next.pass (put_line x at) (put_line x next.at)
-  PutStep c x o p at (Done q r) = IsPassOf c q × PutGives (shape_of c) (begun_of c p) x (pass_in q) r × OneLine c p q (put_line x at) (ends (put_answer r))
+  abbrev pub PutStep : Stack T → T → Pass T (Line T) → PutAt T → Stepped (PutOp T) (Pass T (Line T)) (Result ℕ (PutRefused T)) → Type 0
+  PutStep c x p at (Again next) = IsPutting c x next × WentOn c p next.pass (put_line at) (put_line next.at)
+  PutStep c x p at (Done q r) = IsPassOf c q × PutGives (shape_of c) (begun_of c p) x (pass_in q) r × OneLine c p q (put_line at) (ends (put_answer r))
+
+  -- what some steps of a whole call give
+  abbrev pub PutRan : Stack T → Operation T → Pass T (Line T) → Pass T (Line T) → Next (PutAt T) (Result ℕ (PutRefused T)) → Type 0
+  PutRan c o p q r = Ran (machine_of c) (λ at. put_of (put_value at)) put_line put_slots (λ at. HasReadToPut (room_of c) (limit_of c) at) (λ x a. ends (put_answer a)) c.table.shared.table_id o p q r

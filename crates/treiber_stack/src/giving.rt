@@ -4,9 +4,9 @@ ghost use Rattle.stack_machine.specs.declared.lines.Giving.{Giving};
 ghost use Rattle.running.specs.Code.{IsAccess};
 ghost use Rattle.stack_table.specs.Lists.{lists};
 ghost use Rattle.stack_table.specs.Slots.{vacant};
-ghost use Rattle.treiber_stack.specs.Giving.{IsGiving, Led, GaveBack, GaveTo, AreNodes, give_line};
+ghost use Rattle.treiber_stack.specs.Giving.{IsGiving, GaveBack, GaveTo, AreNodes, give_line};
 ghost use Rattle.treiber_stack.specs.Stack.{machine_of, room_of};
-ghost use Rattle.treiber_stack.specs.declared.giving.Give.TheVariants.{Load, Link, Exchange};
+ghost use Rattle.treiber_stack.specs.declared.giving.Give.TheVariants.{Load};
 
 use crate::stack::{Pass, Stack};
 use running::{Access, Next, Outcome, Pause, give_chain_step, load_top_step, store_link_step};
@@ -46,14 +46,6 @@ pub(crate) enum Give {
     Exchange(Tagged),
 }
 
-/// Where such a step led.
-#[derive(Drop)]
-pub(crate) enum Gave {
-    On(Give),
-    /// All nodes are given back.
-    All,
-}
-
 impl<T> Stack<T> {
     /// What the next step of giving a chain back does.
     #[inline(always)]
@@ -87,78 +79,6 @@ impl<T> Stack<T> {
                 }
             }
         }
-    }
-
-    /// One step of giving a chain back.
-    #[inline]
-    pub(crate) fn give(
-        &self,
-        by: &mut Pass<T>,
-        chain: Chain,
-        at: Give,
-        operation: &Operation<T>,
-    ) -> Gave
-        requires { (giving : Giving T) × IsGiving self.now operation.now by.old giving chain at }
-        ensures { (giving : Giving T) → IsGiving self.now operation.now by.old giving chain at
-            → Led self.now operation.now by.old by.new giving at result }
-    {
-        match at {
-            Give::Load => self.give_load(by, chain, operation),
-            Give::Link(free) => self.give_link(by, chain, free, operation),
-            Give::Exchange(free) => self.give_exchange(by, chain, free, operation),
-        }
-    }
-
-    #[inline]
-    fn give_load(&self, by: &mut Pass<T>, chain: Chain, operation: &Operation<T>) -> Gave
-        requires { (giving : Giving T) × IsGiving self.now operation.now by.old giving chain Load }
-        ensures { (giving : Giving T) → IsGiving self.now operation.now by.old giving chain Load
-            → Led self.now operation.now by.old by.new giving Load result }
-    {
-        let _ = chain;
-        let free = load_top_step(&self.table.shared, &mut by.seat, FREE_LIST, operation);
-        Gave::On(Give::Link(free))
-    }
-
-    #[inline]
-    fn give_link(
-        &self,
-        by: &mut Pass<T>,
-        chain: Chain,
-        free: Tagged,
-        operation: &Operation<T>,
-    ) -> Gave
-        requires { (giving : Giving T)
-            × IsGiving self.now operation.now by.old giving chain (Link free) }
-        ensures { (giving : Giving T)
-            → IsGiving self.now operation.now by.old giving chain (Link free)
-            → Led self.now operation.now by.old by.new giving (Link free) result }
-    {
-        let first = free.index() as u64;
-        let table = &self.table.shared;
-        store_link_step(table, &mut by.seat, FREE_LIST, chain.last, first, operation);
-        Gave::On(Give::Exchange(free))
-    }
-
-    #[inline]
-    fn give_exchange(
-        &self,
-        by: &mut Pass<T>,
-        chain: Chain,
-        free: Tagged,
-        operation: &Operation<T>,
-    ) -> Gave
-        requires { (giving : Giving T)
-            × IsGiving self.now operation.now by.old giving chain (Exchange free) }
-        ensures { (giving : Giving T)
-            → IsGiving self.now operation.now by.old giving chain (Exchange free)
-            → Led self.now operation.now by.old by.new giving (Exchange free) result }
-    {
-        let table = &self.table.shared;
-        if give_chain_step(table, &mut by.seat, FREE_LIST, free, chain.first, operation) {
-            return Gave::All;
-        }
-        Gave::On(Give::Load)
     }
 
     /// Gives a chain back, by a whole call.

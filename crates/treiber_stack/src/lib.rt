@@ -16,6 +16,7 @@ mod bulk;
 mod closing;
 mod container;
 mod ending;
+mod fast_path;
 mod folding;
 mod giving;
 mod making;
@@ -29,8 +30,8 @@ mod rest;
 mod rule;
 mod stack;
 mod stepwise;
-mod straight;
 mod taking;
+mod trying;
 
 pub use bounded_model::{Folded, RangeRefused, Ranged};
 pub use closing::{CloseOp, ShutOp};

@@ -33,15 +33,15 @@ fn give_step<T>(last: u32, at: &Give) -> StepName
 impl<T> PutOp<T> {
     // Of a put.
     fn next_step(&self) -> StepName
-        ensures { (x : T) → IsNextStep (put_line x self.now.at) result }
+        ensures { IsNextStep (put_line self.now.at) result }
     {
         match &self.at {
             PutAt::LoadFree(_) => StepName::Load(Location::Free),
             PutAt::Link(_, free) => StepName::Load(Location::Link(free.index())),
             PutAt::Hold(_, _, _) => StepName::CompareAndSwap(Location::Free, Location::Free),
-            PutAt::Load(_) => StepName::Load(Location::Top),
-            PutAt::LinkTo(index, _) => StepName::Store(Location::Link(*index)),
-            PutAt::Exchange(_, _) => StepName::CompareAndSwap(Location::Top, Location::Top),
+            PutAt::Load(_, _) => StepName::Load(Location::Top),
+            PutAt::LinkTo(_, index, _) => StepName::Store(Location::Link(*index)),
+            PutAt::Exchange(_, _, _) => StepName::CompareAndSwap(Location::Top, Location::Top),
             PutAt::Refuse(_) => StepName::Load(Location::Top),
             PutAt::GiveBack(_, index, at) => give_step::<T>(*index, at),
         }
@@ -87,7 +87,7 @@ impl<T> ShutOp<T> {
 }
 
 impl<T: Drop + Send> Named<T> for Stack<T> {
-    ghost is_put_step = { λ op name. (x : T) → IsNextStep (put_line x op.at) name };
+    ghost is_put_step = { λ op name. IsNextStep (put_line op.at) name };
 
     ghost is_take_step = { λ op name. IsNextStep (take_line op.at) name };
 

@@ -5,10 +5,10 @@ ghost use Rattle.stack_table.specs.declared.operation.Operation.TheVariants.{Tak
 ghost use Rattle.treiber_stack.specs.Stack.{IsPassOf, shape_of, pass_in, begun_of};
 ghost use Rattle.treiber_stack.specs.Taking.{IsTaking, TakeStep, TakeRan};
 
+use crate::fast_path::fast_step;
 use crate::giving::{Chain, Give};
 use crate::rule::Stacked;
 use crate::stack::{Pass, Stack};
-use crate::straight::straight;
 use atomic_table::Seat;
 use bounded_model::{Stepped, TakeRefused};
 use index_list::move_out;
@@ -76,13 +76,13 @@ impl<T> Stack<T> {
             × TakeGives (shape_of self.now) (pass_in by) (pass_in result.0) result.1 }
     {
         let take = Operation::Take;
-        let first = self.take_straight(by, &take);
+        let first = self.take_on_fast_path(by, &take);
         to_the_end(rt, &self.table.shared, self, first, &take)
     }
 
-    // A take's steps straight on, as far as nobody is faster.
+    /// A take's steps on its fast path, as long as nobody is faster.
     #[inline]
-    fn take_straight(
+    pub(crate) fn take_on_fast_path(
         &self,
         by: Pass<T>,
         take: &Operation<T>,
@@ -92,23 +92,23 @@ impl<T> Stack<T> {
         ensures { TakeRan self.now take.now by result.0 result.1 }
     {
         let table = &self.table.shared;
-        let (pass, top) = straight!(
+        let (pass, top) = fast_step!(
             any(table, self, by, TakeAt::Load, take),
             TakeAt::Link(top) => top
         );
-        let (pass, top, below) = straight!(
+        let (pass, top, below) = fast_step!(
             any(table, self, pass, TakeAt::Link(top), take),
             TakeAt::Exchange(top, below) => top, below
         );
-        let (pass, taken, at) = straight!(
+        let (pass, taken, at) = fast_step!(
             any(table, self, pass, TakeAt::Exchange(top, below), take),
             TakeAt::GiveBack(taken, at) => taken, at
         );
-        let (pass, taken, at) = straight!(
+        let (pass, taken, at) = fast_step!(
             any(table, self, pass, TakeAt::GiveBack(taken, at), take),
             TakeAt::GiveBack(taken, at) => taken, at
         );
-        let (pass, taken, at) = straight!(
+        let (pass, taken, at) = fast_step!(
             any(table, self, pass, TakeAt::GiveBack(taken, at), take),
             TakeAt::GiveBack(taken, at) => taken, at
         );

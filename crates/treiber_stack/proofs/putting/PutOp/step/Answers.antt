@@ -1,10 +1,9 @@
-use Rattle.std.proofs.Common.{sym, subst}
-use Rattle.treiber_stack.specs.Putting.{IsPuttingAt, PutStep}
-use Rattle.treiber_stack.specs.declared.putting.PutAt.{PutAt}
+use Rattle.std.proofs.Common.{sym, ◌∙◌}
+use Rattle.treiber_stack.specs.Putting.{put_of, put_value}
+use Rattle.treiber_stack.proofs.Puts.{put_gives}
 use Rattle.treiber_stack.proofs.putting.PutOp.step.Goals as goal
 
-pub returns-in-GiveBack : goal.returns-in-GiveBack
-returns-in-GiveBack g c =
-    let stack = c.args.stack.now in
-    let op = c.args.self in
-    subst (λ (at : PutAt g.row.T.Denot). (x : g.row.T.Denot) → IsPuttingAt stack x op.operation op.pass at → PutStep stack x op.operation op.pass at c.put_give_back.result) (sym c.in-GiveBack.is) c.put_give_back.ensures
+pub returns-in-Done : goal.returns-in-Done
+returns-in-Done g c x is =
+    let e = c.in-Done.ensures in
+    (e.0, put_gives c.args.stack.now x (put_of (put_value c.args.self.at)) (sym is.named ∙ is.of) c.in-Done.answer e.1, e.2)

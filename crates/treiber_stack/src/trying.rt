@@ -1,0 +1,147 @@
+//! Calls that make a bounded number of steps, for callers that may not wait. Where the steps are
+//! used up, the operation comes back as it is, begun as before.
+ghost use Rattle.treiber_stack.specs.Closing.{IsClosing, IsShutting};
+ghost use Rattle.treiber_stack.specs.Putting.{IsPutting};
+ghost use Rattle.treiber_stack.specs.Stack.{IsPassOf, pass_in, begun_of};
+ghost use Rattle.treiber_stack.specs.Taking.{IsTaking};
+ghost use Rattle.treiber_stack.specs.Trying.{PutTried, TakeTried, CloseTried, ShutTried};
+
+use crate::closing::{CloseOp, Mark, MarkAt, ShutOp};
+use crate::putting::{PutOp, put_operation};
+use crate::stack::{Pass, Stack};
+use crate::taking::TakeOp;
+use bounded_model::{PutRefused, Stepped, TakeRefused};
+use running::{Next, try_for};
+use stack_table::Operation;
+
+impl<T> Stack<T> {
+    /// Puts a value: the fast path, and where that does not end the put at most so many further
+    /// steps, with a wait after each compare-and-swap that failed.
+    #[inline(always)]
+    pub fn put_for(
+        &self,
+        by: Pass<T>,
+        value: T,
+        steps: u64,
+    ) -> Stepped<PutOp<T>, Pass<T>, Result<u64, PutRefused<T>>>
+        requires { IsPassOf self.now by }
+        ensures { PutTried self.now value (pass_in by) result }
+    {
+        let operation = put_operation(&value);
+        let first = self.put_on_fast_path(by, value, &operation);
+        match try_for(&self.table.shared, self, first, &operation, steps) {
+            Stepped::Again((pass, at)) => Stepped::Again(PutOp {
+                pass,
+                operation,
+                at,
+            }),
+            Stepped::Done(pass, answer) => Stepped::Done(pass, answer),
+        }
+    }
+
+    /// Takes a value, in the same way.
+    #[inline(always)]
+    pub fn take_for(
+        &self,
+        by: Pass<T>,
+        steps: u64,
+    ) -> Stepped<TakeOp<T>, Pass<T>, Result<(T, u64), TakeRefused>>
+        requires { IsPassOf self.now by }
+        ensures { TakeTried self.now (pass_in by) result }
+    {
+        let take = Operation::Take;
+        let first = self.take_on_fast_path(by, &take);
+        match try_for(&self.table.shared, self, first, &take, steps) {
+            Stepped::Again((pass, at)) => Stepped::Again(TakeOp { pass, at }),
+            Stepped::Done(pass, answer) => Stepped::Done(pass, answer),
+        }
+    }
+}
+
+impl<T> PutOp<T> {
+    /// Goes on for at most so many steps, with a wait after each compare-and-swap that failed.
+    #[inline]
+    pub fn run_for(
+        self,
+        stack: &Stack<T>,
+        steps: u64,
+    ) -> Stepped<PutOp<T>, Pass<T>, Result<u64, PutRefused<T>>>
+        requires { (x : T) × IsPutting stack.now x self }
+        ensures { (x : T) → IsPutting stack.now x self
+            → PutTried stack.now x (begun_of stack.now self.pass) result }
+    {
+        let PutOp {
+            pass,
+            operation,
+            at,
+        } = self;
+        let first = (pass, Next::On(at));
+        match try_for(&stack.table.shared, stack, first, &operation, steps) {
+            Stepped::Again((pass, at)) => Stepped::Again(PutOp {
+                pass,
+                operation,
+                at,
+            }),
+            Stepped::Done(pass, answer) => Stepped::Done(pass, answer),
+        }
+    }
+}
+
+impl<T> TakeOp<T> {
+    /// Goes on for at most so many steps, with a wait after each compare-and-swap that failed.
+    #[inline]
+    pub fn run_for(
+        self,
+        stack: &Stack<T>,
+        steps: u64,
+    ) -> Stepped<TakeOp<T>, Pass<T>, Result<(T, u64), TakeRefused>>
+        requires { IsTaking stack.now self }
+        ensures { TakeTried stack.now (begun_of stack.now self.pass) result }
+    {
+        let first = (self.pass, Next::On(self.at));
+        match try_for(&stack.table.shared, stack, first, &Operation::Take, steps) {
+            Stepped::Again((pass, at)) => Stepped::Again(TakeOp { pass, at }),
+            Stepped::Done(pass, answer) => Stepped::Done(pass, answer),
+        }
+    }
+}
+
+impl<T> CloseOp<T> {
+    /// Goes on for at most so many steps, with a wait after each compare-and-swap that failed.
+    #[inline]
+    pub fn run_for(self, stack: &Stack<T>, steps: u64) -> Stepped<CloseOp<T>, Pass<T>, bool>
+        requires { IsClosing stack.now self }
+        ensures { CloseTried stack.now (begun_of stack.now self.pass) result }
+    {
+        let mark = Mark::Closed;
+        let seen = self.seen;
+        let first = (self.pass, Next::On(MarkAt { mark, seen }));
+        match try_for(&stack.table.shared, stack, first, &Operation::Close, steps) {
+            Stepped::Again((pass, at)) => Stepped::Again(CloseOp {
+                pass,
+                seen: at.seen,
+            }),
+            Stepped::Done(pass, closed) => Stepped::Done(pass, closed),
+        }
+    }
+}
+
+impl<T> ShutOp<T> {
+    /// Goes on for at most so many steps, with a wait after each compare-and-swap that failed.
+    #[inline]
+    pub fn run_for(self, stack: &Stack<T>, steps: u64) -> Stepped<ShutOp<T>, Pass<T>, bool>
+        requires { IsShutting stack.now self }
+        ensures { ShutTried stack.now (begun_of stack.now self.pass) result }
+    {
+        let mark = Mark::Shut;
+        let seen = self.seen;
+        let first = (self.pass, Next::On(MarkAt { mark, seen }));
+        match try_for(&stack.table.shared, stack, first, &Operation::Shut, steps) {
+            Stepped::Again((pass, at)) => Stepped::Again(ShutOp {
+                pass,
+                seen: at.seen,
+            }),
+            Stepped::Done(pass, shut) => Stepped::Done(pass, shut),
+        }
+    }
+}
