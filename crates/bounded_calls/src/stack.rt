@@ -17,7 +17,9 @@ const TO_EXCHANGE: u64 = 3;
 // How many steps so many tries are.
 #[inline]
 fn steps_for(tries: u64) -> u64 {
-    tries.saturating_mul(TO_EXCHANGE).saturating_add(UNDISTURBED)
+    tries
+        .saturating_mul(TO_EXCHANGE)
+        .saturating_add(UNDISTURBED)
 }
 
 // A call that makes no step yet.
