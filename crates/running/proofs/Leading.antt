@@ -1,11 +1,11 @@
 -- What a step of an operation gives, by where its code goes on.
-use Rattle.std.proofs.Common.{◌≡◌, ℕ, List, [], refl, sym, ap, ◌∙◌, subst}
+use Rattle.std.proofs.Common.{◌≡◌, ℕ, List, [], sym, ◌∙◌, subst}
 use Rattle.std.specs.Prelude.{Option as Slot}
 use Rattle.atomic_table.specs.Seated.{TableId}
 use Rattle.bounded_model.specs.declared.views.PassView.{PassView}
 use Rattle.running.specs.Machine.{Names, Machine, Core, Access as Deed, rests, loads, stores, swaps}
 use Rattle.running.specs.Going.{Found, Ended}
-use Rattle.running.specs.Passes.{IsAtOn, IsPassOn, begun_of}
+use Rattle.running.specs.Passes.{IsAtOn, begun_of}
 use Rattle.running.specs.Code.{FoundBy, CameBy, FindingBy, Leads}
 use Rattle.running.specs.Steps.{Stands, Gives, Ran}
 use Rattle.running.specs.declared.passes.Pass.{Pass}

@@ -1,5 +1,5 @@
 -- What an access that was made on the table tells.
-use Rattle.std.proofs.Common.{◌≡◌, ℕ, true, false, List, [], ◌++◌, refl, sym, ap, ◌∙◌, subst}
+use Rattle.std.proofs.Common.{◌≡◌, ℕ, true, false, List, [], refl, sym, ap, ◌∙◌, subst}
 use Rattle.std.proofs.lemmas.Bool.{false≢true}
 use mathlib.Core.Option.{some}
 use Rattle.std.specs.Prelude.{Option as Slot}
@@ -11,14 +11,22 @@ use Rattle.machine.specs.Words.{Tagged}
 use Rattle.machine.specs.declared.seats.View.{View}
 use Rattle.machine.proofs.Tests.{either_way, not_same, same-self}
 use Rattle.running.specs.Machine.{Names, Machine, Access as Deed, Side, stays, brings, returns, loads, stores, swaps}
-use Rattle.running.specs.Going.{At, Found, Missed, Brings, begun_in, now_in}
+use Rattle.running.specs.Going.{At, AtAccess, Found, Missed, Brings, begun_in, now_in}
 use Rattle.running.specs.Lists.{Lists, AtStep, kind_access, side}
-use Rattle.running.specs.Code.{FoundBy, Won}
+use Rattle.running.specs.Code.{IsAccess, FoundBy, Won}
 use Rattle.running.specs.Steps.{Made}
+use Rattle.running.specs.declared.access.Access.{Access}
 use Rattle.running.specs.declared.access.Outcome.{Outcome}
 use Rattle.running.proofs.Going.{now_going}
 
 module _ {T L O : Type 0} {names : Names L O} (m : Machine T L O names) (y : Lists L) {o : O} {me : View T L × List (ℕ × Slot T)} {l : L} {slots : List (ℕ × Slot T)} (is : At m o me l slots) where
+  -- the access of a line, once it is known which one
+  pub known : (lists words : ℕ) {a b : Access} → a ≡ b → IsAccess m.core y lists words l slots a → IsAccess m.core y lists words l slots b
+  known lists words e = subst (IsAccess m.core y lists words l slots) e
+
+  pub at_access : (a : Deed) → m.core.access l ≡ a → AtAccess m o me.0 a
+  at_access a e = record { begun = begun_in m me.0; line = l; going = is.going; access = e }
+
   pub at_step : (list : ℕ) (kind : Kind) → y.step l ≡ some (list, kind) → AtStep m y o me.0 list kind
   at_step list kind e = record { begun = begun_in m me.0; line = l; going = is.going; step = e }
 
@@ -62,6 +70,10 @@ module _ {T L O : Type 0} {names : Names L O} (m : Machine T L O names) (y : Lis
         steps = lost.steps;
       }
 
+    module _ (at w : ℕ) (new : Tagged) where
+      pub stayed_at : m.core.access l ≡ swaps at (fields_of w) new stays → me'.1 ≡ me.1 → (r.won ≡ true → Found m o me.0 me'.0 w []) → (r.won ≡ false → Missed m o me.0 me'.0 w) → Made m o l me me' r
+      stayed_at a kept won lost = either_way r.won (λ h. hit at w new stays a h [] (kept, refl) (won h)) (λ h. missed at w new stays a h kept (lost h))
+
     module _ (list w : ℕ) (change : Change) (e : m.core.access l ≡ kind_access y.layout list (exchange (fields_of w) change)) where
       abbrev at : ℕ
       at = y.layout.top list
@@ -73,7 +85,7 @@ module _ {T L O : Type 0} {names : Names L O} (m : Machine T L O names) (y : Lis
       moves s is_s = e ∙ ap (λ (k : Side). swaps at (fields_of w) new k) is_s
 
       pub stayed : side (y.layout.carries list) change ≡ stays → me'.1 ≡ me.1 → (r.won ≡ true → Found m o me.0 me'.0 w []) → (r.won ≡ false → Missed m o me.0 me'.0 w) → Made m o l me me' r
-      stayed none kept won lost = let a = moves stays none in either_way r.won (λ h. hit at w new stays a h [] (kept, refl) (won h)) (λ h. missed at w new stays a h kept (lost h))
+      stayed none kept won lost = stayed_at at w new (moves stays none) kept won lost
 
       pub brought : side (y.layout.carries list) change ≡ brings → (r.won ≡ true → Brings m o me.0 me'.0 w me.1 me'.1) → (r.won ≡ false → (me'.1 ≡ me.1) × Missed m o me.0 me'.0 w) → Made m o l me me' r
       brought some_come won lost = let a = moves brings some_come in either_way r.won

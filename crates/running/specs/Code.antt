@@ -6,10 +6,10 @@ use Rattle.tagged_index.specs.declared.word.TheConstants.{NULL, MAX_TAG}
 use Rattle.index_list.specs.Kinds.{Kind, read_top, read_link, write_link, exchange}
 use Rattle.index_list.specs.declared.change.Change.TheVariants as change
 use Rattle.machine.specs.Words.{same}
-use Rattle.running.specs.Machine.{Names, Core, Access as Deed, Side, stays, brings, returns, swaps}
+use Rattle.running.specs.Machine.{Names, Core, Access as Deed, Side, stays, brings, returns, loads, swaps}
 use Rattle.running.specs.Lists.{Lists, kind_access}
 use Rattle.running.specs.declared.access.Access.{Access}
-use Rattle.running.specs.declared.access.Access.TheVariants.{LoadTop, LoadLink, StoreLink, Take, GiveChain, Mark, Shut}
+use Rattle.running.specs.declared.access.Access.TheVariants.{Load, Swap, LoadTop, LoadLink, StoreLink, Take, GiveChain, Mark, Shut}
 use Rattle.running.specs.declared.access.Outcome.{Outcome}
 use Rattle.running.specs.declared.code.Next.{Next}
 use Rattle.running.specs.declared.code.Next.TheVariants.{On, Lost, Done}
@@ -21,6 +21,8 @@ module _ {T L O : Type 0} (c : Core T L O) (y : Lists L) (lists words : ℕ) whe
 
   -- this is the access of a line, with these slots in hand
   abbrev pub IsAccess : L → List (ℕ × Slot T) → Access → Type 0
+  IsAccess l slots (Load at) = (c.access l ≡ loads at) × (at < words)
+  IsAccess l slots (Swap at seen new) = (c.access l ≡ swaps at (fields_of seen) (fields_of new) stays) × (at < words)
   IsAccess l slots (LoadTop list) = IsStep l list read_top × (y.layout.top list < words)
   IsAccess l slots (LoadLink list i) = IsStep l list (read_link i) × (i ≤ NULL) × (y.layout.link list i < words)
   IsAccess l slots (StoreLink list i next) = IsStep l list (write_link i next) × (i ≤ NULL) × (y.layout.link list i < words) × c.Plain (y.layout.link list i) next

@@ -1,10 +1,14 @@
 //! An atomic step of an operation, as data.
 use tagged_index::Tagged;
 
-/// What an operation's next atomic step does to the table: a step on one of its lists, which is
-/// made through `index_list`.
+/// What an operation's next atomic step does to the table: a step on a word that belongs to no
+/// list, or one on a list, which is made through `index_list`.
 #[derive(Clone, Copy)]
 pub enum Access {
+    /// Load this word.
+    Load(usize),
+    /// Compare-and-swap this word, which was seen, for a new one. No slot moves.
+    Swap(usize, Tagged, Tagged),
     /// Load the top of this list.
     LoadTop(usize),
     /// Load the link of an index on this list.

@@ -12,6 +12,7 @@ use crate::lists::{
 };
 use crate::passes::Pass;
 use crate::rule::Running;
+use crate::steps::{load_step, swap_step};
 use atomic_table::{Seat, Shared};
 use bounded_model::Stepped;
 use machine::View;
@@ -37,6 +38,17 @@ fn make<C, T, L, O, M: ListMachine<T, L, O, N>, A, S: Code<C, T, L, O, M, A, N>,
 {
     let _ = at;
     match access {
+        Access::Load(place) => {
+            let word = load_step::<T, L, O, M>(table, seat, place, operation);
+            Outcome { word, won: true }
+        }
+        Access::Swap(place, seen, new) => {
+            let won = swap_step::<T, L, O, M>(table, seat, place, seen, new, operation);
+            Outcome {
+                word: seen.word(),
+                won,
+            }
+        }
         Access::LoadTop(list) => {
             let top = load_top_step::<T, L, O, M, N>(table, seat, list, operation);
             Outcome {

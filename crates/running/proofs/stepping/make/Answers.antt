@@ -1,223 +1,138 @@
-use Rattle.std.proofs.Common.{Bool, refl, sym, ap, subst}
+use Rattle.std.proofs.Common.{Bool, refl, sym, ap}
 use Rattle.index_list.specs.declared.change.Change.TheVariants as change
 use Rattle.running.specs.Lists.{side}
-use Rattle.running.specs.Code.{IsAccess}
 use Rattle.running.proofs.Hosting.{mark_stays, shut_stays}
-use Rattle.running.proofs.Making.{at_step, fits_now, loaded, stored, stayed, brought, returned}
+use Rattle.running.proofs.Making.{known, at_access, at_step, fits_now, loaded, stored, stayed_at, stayed, brought, returned}
 use Rattle.running.proofs.stepping.make.Goals as goal
+
+pub load_step-word-requires-clause-table : goal.load_step-word-requires-clause-table
+load_step-word-requires-clause-table g c =
+    (c.requires.table, (known (g.M.Machine.machine c.args.table.now.key) g.M.ListMachine.lists c.requires.at _ _ c.in-Load.is c.requires.access).1)
+
+pub load_step-word-requires-clause-access : goal.load_step-word-requires-clause-access
+load_step-word-requires-clause-access g c =
+    at_access (g.M.Machine.machine c.args.table.now.key) g.M.ListMachine.lists c.requires.at _ (known (g.M.Machine.machine c.args.table.now.key) g.M.ListMachine.lists c.requires.at _ _ c.in-Load.is c.requires.access).0
+
+pub returns-in-Load-clause-made : goal.returns-in-Load-clause-made
+returns-in-Load-clause-made g c =
+    let s = c.load_step-word in loaded (g.M.Machine.machine c.args.table.now.key) g.M.ListMachine.lists c.requires.at s.new.seat.me (record { word = s.result; won = _ }) _ _ (known (g.M.Machine.machine c.args.table.now.key) g.M.ListMachine.lists c.requires.at _ _ c.in-Load.is c.requires.access).0 refl s.ensures.seat.1 s.ensures.steps
+
+pub swap_step-won-requires-clause-table : goal.swap_step-won-requires-clause-table
+swap_step-won-requires-clause-table g c =
+    (c.requires.table, (known (g.M.Machine.machine c.args.table.now.key) g.M.ListMachine.lists c.requires.at _ _ c.in-Swap.is c.requires.access).1)
+
+pub swap_step-won-requires-clause-access : goal.swap_step-won-requires-clause-access
+swap_step-won-requires-clause-access g c =
+    at_access (g.M.Machine.machine c.args.table.now.key) g.M.ListMachine.lists c.requires.at _ (known (g.M.Machine.machine c.args.table.now.key) g.M.ListMachine.lists c.requires.at _ _ c.in-Swap.is c.requires.access).0
+
+pub returns-in-Swap-clause-made : goal.returns-in-Swap-clause-made
+returns-in-Swap-clause-made g c =
+    let s = c.swap_step-won in stayed_at (g.M.Machine.machine c.args.table.now.key) g.M.ListMachine.lists c.requires.at s.new.seat.me _ _ _ _ (known (g.M.Machine.machine c.args.table.now.key) g.M.ListMachine.lists c.requires.at _ _ c.in-Swap.is c.requires.access).0 s.ensures.seat.1 s.ensures.won s.ensures.lost
 
 pub load_top_step-top-requires-clause-table : goal.load_top_step-top-requires-clause-table
 load_top_step-top-requires-clause-table g c =
-    let a = c.args in
-    let m = g.M.Machine.machine a.table.now.key in
-    let y = g.M.ListMachine.lists in
-    let is = subst (IsAccess m.core y _ _ (g.S.Code.line a.at.now) (g.S.Code.slots a.at.now)) c.in-LoadTop.is c.requires.access in
-    (c.requires.table, is.0.0, is.1)
+    let is = known (g.M.Machine.machine c.args.table.now.key) g.M.ListMachine.lists c.requires.at _ _ c.in-LoadTop.is c.requires.access in (c.requires.table, is.0.0, is.1)
 
 pub load_top_step-top-requires-clause-access : goal.load_top_step-top-requires-clause-access
 load_top_step-top-requires-clause-access g c =
-    let a = c.args in
-    let m = g.M.Machine.machine a.table.now.key in
-    let y = g.M.ListMachine.lists in
-    let is = subst (IsAccess m.core y _ _ (g.S.Code.line a.at.now) (g.S.Code.slots a.at.now)) c.in-LoadTop.is c.requires.access in
-    at_step m y c.requires.at _ _ is.0.1
+    at_step (g.M.Machine.machine c.args.table.now.key) g.M.ListMachine.lists c.requires.at _ _ (known (g.M.Machine.machine c.args.table.now.key) g.M.ListMachine.lists c.requires.at _ _ c.in-LoadTop.is c.requires.access).0.1
 
 pub returns-in-LoadTop-clause-made : goal.returns-in-LoadTop-clause-made
 returns-in-LoadTop-clause-made g c =
-    let a = c.args in
-    let m = g.M.Machine.machine a.table.now.key in
-    let y = g.M.ListMachine.lists in
-    let is = subst (IsAccess m.core y _ _ (g.S.Code.line a.at.now) (g.S.Code.slots a.at.now)) c.in-LoadTop.is c.requires.access in
-    let s = c.load_top_step-top in loaded m y c.requires.at s.new.seat.me _ _ _ is.0.2 (sym c.word.ensures.same) s.ensures.seat.1 s.ensures.steps
+    let s = c.load_top_step-top in loaded (g.M.Machine.machine c.args.table.now.key) g.M.ListMachine.lists c.requires.at s.new.seat.me _ _ _ (known (g.M.Machine.machine c.args.table.now.key) g.M.ListMachine.lists c.requires.at _ _ c.in-LoadTop.is c.requires.access).0.2 (sym c.word-in-LoadTop.ensures.same) s.ensures.seat.1 s.ensures.steps
 
 pub load_link_step-word-requires-clause-table : goal.load_link_step-word-requires-clause-table
 load_link_step-word-requires-clause-table g c =
-    let a = c.args in
-    let m = g.M.Machine.machine a.table.now.key in
-    let y = g.M.ListMachine.lists in
-    let is = subst (IsAccess m.core y _ _ (g.S.Code.line a.at.now) (g.S.Code.slots a.at.now)) c.in-LoadLink.is c.requires.access in
-    (c.requires.table, is.0.0, is.1, is.2)
+    let is = known (g.M.Machine.machine c.args.table.now.key) g.M.ListMachine.lists c.requires.at _ _ c.in-LoadLink.is c.requires.access in (c.requires.table, is.0.0, is.1, is.2)
 
 pub load_link_step-word-requires-clause-access : goal.load_link_step-word-requires-clause-access
 load_link_step-word-requires-clause-access g c =
-    let a = c.args in
-    let m = g.M.Machine.machine a.table.now.key in
-    let y = g.M.ListMachine.lists in
-    let is = subst (IsAccess m.core y _ _ (g.S.Code.line a.at.now) (g.S.Code.slots a.at.now)) c.in-LoadLink.is c.requires.access in
-    at_step m y c.requires.at _ _ is.0.1
+    at_step (g.M.Machine.machine c.args.table.now.key) g.M.ListMachine.lists c.requires.at _ _ (known (g.M.Machine.machine c.args.table.now.key) g.M.ListMachine.lists c.requires.at _ _ c.in-LoadLink.is c.requires.access).0.1
 
 pub returns-in-LoadLink-clause-made : goal.returns-in-LoadLink-clause-made
 returns-in-LoadLink-clause-made g c =
-    let a = c.args in
-    let m = g.M.Machine.machine a.table.now.key in
-    let y = g.M.ListMachine.lists in
-    let is = subst (IsAccess m.core y _ _ (g.S.Code.line a.at.now) (g.S.Code.slots a.at.now)) c.in-LoadLink.is c.requires.access in
-    let s = c.load_link_step-word in loaded m y c.requires.at s.new.seat.me (record { word = s.result; won = _ }) _ _ is.0.2 refl s.ensures.seat.1 s.ensures.steps
+    let s = c.load_link_step-word in loaded (g.M.Machine.machine c.args.table.now.key) g.M.ListMachine.lists c.requires.at s.new.seat.me (record { word = s.result; won = _ }) _ _ (known (g.M.Machine.machine c.args.table.now.key) g.M.ListMachine.lists c.requires.at _ _ c.in-LoadLink.is c.requires.access).0.2 refl s.ensures.seat.1 s.ensures.steps
 
 pub store_link_step-requires-clause-table : goal.store_link_step-requires-clause-table
 store_link_step-requires-clause-table g c =
-    let a = c.args in
-    let m = g.M.Machine.machine a.table.now.key in
-    let y = g.M.ListMachine.lists in
-    let is = subst (IsAccess m.core y _ _ (g.S.Code.line a.at.now) (g.S.Code.slots a.at.now)) c.in-StoreLink.is c.requires.access in
-    (c.requires.table, is.0.0, is.1, is.2)
+    let is = known (g.M.Machine.machine c.args.table.now.key) g.M.ListMachine.lists c.requires.at _ _ c.in-StoreLink.is c.requires.access in (c.requires.table, is.0.0, is.1, is.2)
 
 pub store_link_step-requires-clause-access : goal.store_link_step-requires-clause-access
 store_link_step-requires-clause-access g c =
-    let a = c.args in
-    let m = g.M.Machine.machine a.table.now.key in
-    let y = g.M.ListMachine.lists in
-    let is = subst (IsAccess m.core y _ _ (g.S.Code.line a.at.now) (g.S.Code.slots a.at.now)) c.in-StoreLink.is c.requires.access in
-    at_step m y c.requires.at _ _ is.0.1
+    at_step (g.M.Machine.machine c.args.table.now.key) g.M.ListMachine.lists c.requires.at _ _ (known (g.M.Machine.machine c.args.table.now.key) g.M.ListMachine.lists c.requires.at _ _ c.in-StoreLink.is c.requires.access).0.1
 
 pub store_link_step-requires-clause-plain : goal.store_link_step-requires-clause-plain
 store_link_step-requires-clause-plain g c =
-    let a = c.args in
-    let m = g.M.Machine.machine a.table.now.key in
-    let y = g.M.ListMachine.lists in
-    let is = subst (IsAccess m.core y _ _ (g.S.Code.line a.at.now) (g.S.Code.slots a.at.now)) c.in-StoreLink.is c.requires.access in
-    is.3
+    (known (g.M.Machine.machine c.args.table.now.key) g.M.ListMachine.lists c.requires.at _ _ c.in-StoreLink.is c.requires.access).3
 
 pub returns-in-StoreLink-clause-made : goal.returns-in-StoreLink-clause-made
 returns-in-StoreLink-clause-made g c =
-    let a = c.args in
-    let m = g.M.Machine.machine a.table.now.key in
-    let y = g.M.ListMachine.lists in
-    let is = subst (IsAccess m.core y _ _ (g.S.Code.line a.at.now) (g.S.Code.slots a.at.now)) c.in-StoreLink.is c.requires.access in
-    let s = c.store_link_step in stored m y c.requires.at s.new.seat.me (record { word = c.in-StoreLink.word; won = _ }) _ _ _ is.0.2 refl s.ensures.seat.1 s.ensures.steps
+    let s = c.store_link_step in stored (g.M.Machine.machine c.args.table.now.key) g.M.ListMachine.lists c.requires.at s.new.seat.me (record { word = c.in-StoreLink.word; won = _ }) _ _ _ (known (g.M.Machine.machine c.args.table.now.key) g.M.ListMachine.lists c.requires.at _ _ c.in-StoreLink.is c.requires.access).0.2 refl s.ensures.seat.1 s.ensures.steps
 
 pub take_first_step-won-requires-clause-table : goal.take_first_step-won-requires-clause-table
 take_first_step-won-requires-clause-table g c =
-    let a = c.args in
-    let m = g.M.Machine.machine a.table.now.key in
-    let y = g.M.ListMachine.lists in
-    let is = subst (IsAccess m.core y _ _ (g.S.Code.line a.at.now) (g.S.Code.slots a.at.now)) c.in-Take.is c.requires.access in
-    (c.requires.table, is.0.0, is.1)
+    let is = known (g.M.Machine.machine c.args.table.now.key) g.M.ListMachine.lists c.requires.at _ _ c.in-Take.is c.requires.access in (c.requires.table, is.0.0, is.1)
 
 pub take_first_step-won-requires-clause-access : goal.take_first_step-won-requires-clause-access
 take_first_step-won-requires-clause-access g c =
-    let a = c.args in
-    let m = g.M.Machine.machine a.table.now.key in
-    let y = g.M.ListMachine.lists in
-    let is = subst (IsAccess m.core y _ _ (g.S.Code.line a.at.now) (g.S.Code.slots a.at.now)) c.in-Take.is c.requires.access in
-    at_step m y c.requires.at _ _ is.0.1
+    at_step (g.M.Machine.machine c.args.table.now.key) g.M.ListMachine.lists c.requires.at _ _ (known (g.M.Machine.machine c.args.table.now.key) g.M.ListMachine.lists c.requires.at _ _ c.in-Take.is c.requires.access).0.1
 
 pub take_first_step-won-requires-clause-carries : goal.take_first_step-won-requires-clause-carries
 take_first_step-won-requires-clause-carries g c =
-    let a = c.args in
-    let m = g.M.Machine.machine a.table.now.key in
-    let y = g.M.ListMachine.lists in
-    let is = subst (IsAccess m.core y _ _ (g.S.Code.line a.at.now) (g.S.Code.slots a.at.now)) c.in-Take.is c.requires.access in
-    is.2
+    let is = known (g.M.Machine.machine c.args.table.now.key) g.M.ListMachine.lists c.requires.at _ _ c.in-Take.is c.requires.access in is.2
 
 pub take_first_step-won-requires-clause-word : goal.take_first_step-won-requires-clause-word
 take_first_step-won-requires-clause-word g c =
-    let a = c.args in
-    let m = g.M.Machine.machine a.table.now.key in
-    let y = g.M.ListMachine.lists in
-    let is = subst (IsAccess m.core y _ _ (g.S.Code.line a.at.now) (g.S.Code.slots a.at.now)) c.in-Take.is c.requires.access in
-    (is.3, is.4, is.5)
+    let is = known (g.M.Machine.machine c.args.table.now.key) g.M.ListMachine.lists c.requires.at _ _ c.in-Take.is c.requires.access in (is.3, is.4, is.5)
 
 pub returns-in-Take-clause-made : goal.returns-in-Take-clause-made
 returns-in-Take-clause-made g c =
-    let a = c.args in
-    let m = g.M.Machine.machine a.table.now.key in
-    let y = g.M.ListMachine.lists in
-    let is = subst (IsAccess m.core y _ _ (g.S.Code.line a.at.now) (g.S.Code.slots a.at.now)) c.in-Take.is c.requires.access in
-    let s = c.take_first_step-won in brought m y c.requires.at s.new.seat.me _ _ _ _ is.0.2 (ap (λ (b : Bool). side b (change.Take c.in-Take.next)) is.2) s.ensures.won s.ensures.lost
+    let is = known (g.M.Machine.machine c.args.table.now.key) g.M.ListMachine.lists c.requires.at _ _ c.in-Take.is c.requires.access in let s = c.take_first_step-won in brought (g.M.Machine.machine c.args.table.now.key) g.M.ListMachine.lists c.requires.at s.new.seat.me _ _ _ _ is.0.2 (ap (λ (b : Bool). side b (change.Take c.in-Take.next)) is.2) s.ensures.won s.ensures.lost
 
 pub give_chain_step-won-requires-clause-table : goal.give_chain_step-won-requires-clause-table
 give_chain_step-won-requires-clause-table g c =
-    let a = c.args in
-    let m = g.M.Machine.machine a.table.now.key in
-    let y = g.M.ListMachine.lists in
-    let is = subst (IsAccess m.core y _ _ (g.S.Code.line a.at.now) (g.S.Code.slots a.at.now)) c.in-GiveChain.is c.requires.access in
-    (c.requires.table, is.0.0, is.1)
+    let is = known (g.M.Machine.machine c.args.table.now.key) g.M.ListMachine.lists c.requires.at _ _ c.in-GiveChain.is c.requires.access in (c.requires.table, is.0.0, is.1)
 
 pub give_chain_step-won-requires-clause-access : goal.give_chain_step-won-requires-clause-access
 give_chain_step-won-requires-clause-access g c =
-    let a = c.args in
-    let m = g.M.Machine.machine a.table.now.key in
-    let y = g.M.ListMachine.lists in
-    let is = subst (IsAccess m.core y _ _ (g.S.Code.line a.at.now) (g.S.Code.slots a.at.now)) c.in-GiveChain.is c.requires.access in
-    at_step m y c.requires.at _ _ is.0.1
+    at_step (g.M.Machine.machine c.args.table.now.key) g.M.ListMachine.lists c.requires.at _ _ (known (g.M.Machine.machine c.args.table.now.key) g.M.ListMachine.lists c.requires.at _ _ c.in-GiveChain.is c.requires.access).0.1
 
 pub give_chain_step-won-requires-clause-carries : goal.give_chain_step-won-requires-clause-carries
 give_chain_step-won-requires-clause-carries g c =
-    let a = c.args in
-    let m = g.M.Machine.machine a.table.now.key in
-    let y = g.M.ListMachine.lists in
-    let is = subst (IsAccess m.core y _ _ (g.S.Code.line a.at.now) (g.S.Code.slots a.at.now)) c.in-GiveChain.is c.requires.access in
-    is.2
+    let is = known (g.M.Machine.machine c.args.table.now.key) g.M.ListMachine.lists c.requires.at _ _ c.in-GiveChain.is c.requires.access in is.2
 
 pub give_chain_step-won-requires-clause-word : goal.give_chain_step-won-requires-clause-word
 give_chain_step-won-requires-clause-word g c =
-    let a = c.args in
-    let m = g.M.Machine.machine a.table.now.key in
-    let y = g.M.ListMachine.lists in
-    let is = subst (IsAccess m.core y _ _ (g.S.Code.line a.at.now) (g.S.Code.slots a.at.now)) c.in-GiveChain.is c.requires.access in
-    (is.3, is.4)
+    let is = known (g.M.Machine.machine c.args.table.now.key) g.M.ListMachine.lists c.requires.at _ _ c.in-GiveChain.is c.requires.access in (is.3, is.4)
 
 pub give_chain_step-won-requires-clause-fits : goal.give_chain_step-won-requires-clause-fits
 give_chain_step-won-requires-clause-fits g c =
-    let a = c.args in
-    let m = g.M.Machine.machine a.table.now.key in
-    let y = g.M.ListMachine.lists in
-    let is = subst (IsAccess m.core y _ _ (g.S.Code.line a.at.now) (g.S.Code.slots a.at.now)) c.in-GiveChain.is c.requires.access in
-    fits_now m y c.requires.at is.5
+    let is = known (g.M.Machine.machine c.args.table.now.key) g.M.ListMachine.lists c.requires.at _ _ c.in-GiveChain.is c.requires.access in fits_now (g.M.Machine.machine c.args.table.now.key) g.M.ListMachine.lists c.requires.at is.5
 
 pub returns-in-GiveChain-clause-made : goal.returns-in-GiveChain-clause-made
 returns-in-GiveChain-clause-made g c =
-    let a = c.args in
-    let m = g.M.Machine.machine a.table.now.key in
-    let y = g.M.ListMachine.lists in
-    let is = subst (IsAccess m.core y _ _ (g.S.Code.line a.at.now) (g.S.Code.slots a.at.now)) c.in-GiveChain.is c.requires.access in
-    let s = c.give_chain_step-won in returned m y c.requires.at s.new.seat.me _ _ _ _ is.0.2 (ap (λ (b : Bool). side b (change.GiveChain c.in-GiveChain.first)) is.2) s.ensures.won s.ensures.lost
+    let is = known (g.M.Machine.machine c.args.table.now.key) g.M.ListMachine.lists c.requires.at _ _ c.in-GiveChain.is c.requires.access in let s = c.give_chain_step-won in returned (g.M.Machine.machine c.args.table.now.key) g.M.ListMachine.lists c.requires.at s.new.seat.me _ _ _ _ is.0.2 (ap (λ (b : Bool). side b (change.GiveChain c.in-GiveChain.first)) is.2) s.ensures.won s.ensures.lost
 
 pub mark_step-won-requires-clause-table : goal.mark_step-won-requires-clause-table
 mark_step-won-requires-clause-table g c =
-    let a = c.args in
-    let m = g.M.Machine.machine a.table.now.key in
-    let y = g.M.ListMachine.lists in
-    let is = subst (IsAccess m.core y _ _ (g.S.Code.line a.at.now) (g.S.Code.slots a.at.now)) c.in-Mark.is c.requires.access in
-    (c.requires.table, is.0.0, is.1)
+    let is = known (g.M.Machine.machine c.args.table.now.key) g.M.ListMachine.lists c.requires.at _ _ c.in-Mark.is c.requires.access in (c.requires.table, is.0.0, is.1)
 
 pub mark_step-won-requires-clause-access : goal.mark_step-won-requires-clause-access
 mark_step-won-requires-clause-access g c =
-    let a = c.args in
-    let m = g.M.Machine.machine a.table.now.key in
-    let y = g.M.ListMachine.lists in
-    let is = subst (IsAccess m.core y _ _ (g.S.Code.line a.at.now) (g.S.Code.slots a.at.now)) c.in-Mark.is c.requires.access in
-    at_step m y c.requires.at _ _ is.0.1
+    at_step (g.M.Machine.machine c.args.table.now.key) g.M.ListMachine.lists c.requires.at _ _ (known (g.M.Machine.machine c.args.table.now.key) g.M.ListMachine.lists c.requires.at _ _ c.in-Mark.is c.requires.access).0.1
 
 pub returns-in-Mark-clause-made : goal.returns-in-Mark-clause-made
 returns-in-Mark-clause-made g c =
-    let a = c.args in
-    let m = g.M.Machine.machine a.table.now.key in
-    let y = g.M.ListMachine.lists in
-    let is = subst (IsAccess m.core y _ _ (g.S.Code.line a.at.now) (g.S.Code.slots a.at.now)) c.in-Mark.is c.requires.access in
-    let s = c.mark_step-won in stayed m y c.requires.at s.new.seat.me _ _ _ _ is.0.2 (mark_stays (y.layout.carries c.in-Mark.list)) s.ensures.seat.1 s.ensures.won s.ensures.lost
+    let is = known (g.M.Machine.machine c.args.table.now.key) g.M.ListMachine.lists c.requires.at _ _ c.in-Mark.is c.requires.access in let s = c.mark_step-won in stayed (g.M.Machine.machine c.args.table.now.key) g.M.ListMachine.lists c.requires.at s.new.seat.me _ _ _ _ is.0.2 (mark_stays (g.M.ListMachine.lists.layout.carries c.in-Mark.list)) s.ensures.seat.1 s.ensures.won s.ensures.lost
 
 pub shut_step-won-requires-clause-table : goal.shut_step-won-requires-clause-table
 shut_step-won-requires-clause-table g c =
-    let a = c.args in
-    let m = g.M.Machine.machine a.table.now.key in
-    let y = g.M.ListMachine.lists in
-    let is = subst (IsAccess m.core y _ _ (g.S.Code.line a.at.now) (g.S.Code.slots a.at.now)) c.in-Shut.is c.requires.access in
-    (c.requires.table, is.0.0, is.1)
+    let is = known (g.M.Machine.machine c.args.table.now.key) g.M.ListMachine.lists c.requires.at _ _ c.in-Shut.is c.requires.access in (c.requires.table, is.0.0, is.1)
 
 pub shut_step-won-requires-clause-access : goal.shut_step-won-requires-clause-access
 shut_step-won-requires-clause-access g c =
-    let a = c.args in
-    let m = g.M.Machine.machine a.table.now.key in
-    let y = g.M.ListMachine.lists in
-    let is = subst (IsAccess m.core y _ _ (g.S.Code.line a.at.now) (g.S.Code.slots a.at.now)) c.in-Shut.is c.requires.access in
-    at_step m y c.requires.at _ _ is.0.1
+    at_step (g.M.Machine.machine c.args.table.now.key) g.M.ListMachine.lists c.requires.at _ _ (known (g.M.Machine.machine c.args.table.now.key) g.M.ListMachine.lists c.requires.at _ _ c.in-Shut.is c.requires.access).0.1
 
 pub returns-in-Shut-clause-made : goal.returns-in-Shut-clause-made
 returns-in-Shut-clause-made g c =
-    let a = c.args in
-    let m = g.M.Machine.machine a.table.now.key in
-    let y = g.M.ListMachine.lists in
-    let is = subst (IsAccess m.core y _ _ (g.S.Code.line a.at.now) (g.S.Code.slots a.at.now)) c.in-Shut.is c.requires.access in
-    let s = c.shut_step-won in stayed m y c.requires.at s.new.seat.me _ _ _ _ is.0.2 (shut_stays (y.layout.carries c.in-Shut.list)) s.ensures.seat.1 s.ensures.won s.ensures.lost
+    let is = known (g.M.Machine.machine c.args.table.now.key) g.M.ListMachine.lists c.requires.at _ _ c.in-Shut.is c.requires.access in let s = c.shut_step-won in stayed (g.M.Machine.machine c.args.table.now.key) g.M.ListMachine.lists c.requires.at s.new.seat.me _ _ _ _ is.0.2 (shut_stays (g.M.ListMachine.lists.layout.carries c.in-Shut.list)) s.ensures.seat.1 s.ensures.won s.ensures.lost

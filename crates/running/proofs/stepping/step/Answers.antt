@@ -1,6 +1,6 @@
 use Rattle.std.proofs.Common.{sym, ◌∙◌, subst}
 use Rattle.running.specs.Going.{Found, begun_in}
-use Rattle.running.specs.Code.{FoundBy, CameBy, Leads}
+use Rattle.running.specs.Code.{FoundBy, Leads}
 use Rattle.running.specs.Steps.{Made}
 use Rattle.running.proofs.Leading.{gave, tells, shows}
 use Rattle.running.proofs.stepping.step.Goals as goal
