@@ -4,19 +4,17 @@ use Rattle.bounded_model.specs.declared.answers.Stepped.{Stepped}
 use Rattle.bounded_model.specs.declared.answers.PutRefused.{PutRefused}
 use Rattle.bounded_model.specs.declared.answers.TakeRefused.{TakeRefused}
 use Rattle.bounded_model.specs.declared.views.PassView.{PassView}
-use Rattle.bounded_model.specs.Laws.{PutGives, TakeGives, CloseGives, ShutGives, LookGives}
+use Rattle.bounded_model.specs.Laws.{PutGives, TakeGives, CloseGives, ShutGives}
 use Rattle.bounded_model.specs.Stepping.{MatchStepped}
 use Rattle.queue_machine.specs.declared.lines.Line.{Line}
 use Rattle.running.specs.Passes.{pass_in}
 use Rattle.running.specs.declared.passes.Pass.{Pass}
 use Rattle.ms_queue.specs.declared.closing.CloseOp.{CloseOp}
-use Rattle.ms_queue.specs.declared.looking.LookOp.{LookOp}
 use Rattle.ms_queue.specs.declared.putting.PutOp.{PutOp}
 use Rattle.ms_queue.specs.declared.queue.Queue.{Queue}
 use Rattle.ms_queue.specs.declared.shutting.ShutOp.{ShutOp}
 use Rattle.ms_queue.specs.declared.taking.TakeOp.{TakeOp}
 use Rattle.ms_queue.specs.Closing.{IsClosing}
-use Rattle.ms_queue.specs.Looking.{IsLooking}
 use Rattle.ms_queue.specs.Putting.{IsPutting}
 use Rattle.ms_queue.specs.Queue.{shape_of, begun_of, IsPassOf}
 use Rattle.ms_queue.specs.Shutting.{IsShutting}
@@ -59,12 +57,3 @@ module _ {T : Type 0} (c : Queue T) (begun : PassView T) where
 
   abbrev pub ShutRun : Stepped (ShutOp T) (Pass T (Line T)) Bool → Type 0
   ShutRun made = MatchStepped made ShutSince ShutGave
-
-  abbrev pub LookSince : LookOp T → Type 0
-  LookSince op = IsLooking c op × (begun_of c op.pass ≡ begun)
-
-  abbrev pub LookGave : Pass T (Line T) → Bool → Type 0
-  LookGave back empty = IsPassOf c back × LookGives (shape_of c) begun (pass_in back) empty
-
-  abbrev pub LookRun : Stepped (LookOp T) (Pass T (Line T)) Bool → Type 0
-  LookRun made = MatchStepped made LookSince LookGave

@@ -1,16 +1,19 @@
-//! Looking whether a queue is empty, by steps.
+//! Looking whether a queue is empty: by steps, and by a whole call.
 ghost use Rattle.std.specs.Prelude.{◌≡◌};
 ghost use Rattle.bounded_model.specs.Laws.{LookGives};
 ghost use Rattle.running.specs.Passes.{pass_in};
 ghost use Rattle.ms_queue.specs.Queue.{IsPassOf, begun_of, shape_of};
-ghost use Rattle.ms_queue.specs.Looking.{IsLooking, IsLookingAt, LookStep};
-ghost use Rattle.ms_queue.specs.declared.looking.LookAt.TheVariants.{LoadHead, LoadNext, CheckHead};
+ghost use Rattle.ms_queue.specs.Looking.{IsLooking, LookStep};
 
 use crate::queue::{Pass, Queue};
+use crate::rule::Queued;
+use atomic_table::Seat;
 use bounded_model::Stepped;
+use machine::seats::View;
+use queue_machine::Line;
 use queue_table::Operation;
 use queue_table::layout::{HEAD, next};
-use running::{load_tagged_step, whole_call};
+use running::{Access, Code, Next, Outcome, any, single_step, to_the_end};
 use std::sync::Wait;
 use tagged_index::{NULL, Tagged};
 
@@ -40,7 +43,10 @@ impl<T> Queue<T> {
         ensures of { IsPassOf self.now result.0 }
         ensures gives { LookGives (shape_of self.now) (pass_in by) (pass_in result.0) result.1 }
     {
-        whole_call(rt, self, self.begin_look(by))
+        let table = &self.table.shared;
+        let look = Operation::Look;
+        let first = any(table, self, by, LookAt::LoadHead, &look);
+        to_the_end(rt, table, self, first, &look)
     }
 
     /// A look that makes no step yet. Begun and stepped in `player`, as `Stepwise` has it.
@@ -55,58 +61,59 @@ impl<T> Queue<T> {
             at: LookAt::LoadHead,
         }
     }
+}
 
-    #[inline]
-    pub(crate) fn look_load_head(&self, by: Pass<T>) -> Stepped<LookOp<T>, Pass<T>, bool>
-        requires { IsLookingAt self.now by LoadHead }
-        ensures { LookStep self.now by LoadHead result }
-    {
-        let mut pass = by;
-        let head = load_tagged_step(&self.table.shared, &mut pass.seat, HEAD, &Operation::Look);
-        Stepped::Again(LookOp {
-            pass,
-            at: LookAt::LoadNext(head),
-        })
-    }
+impl<T> Code<Queue<T>, T, Line<T>, Operation<T>, Queued, bool, 2> for LookAt {
+    ghost use Rattle.std.specs.Prelude.{[]};
+    ghost use Rattle.queue_machine.specs.declared.lines.Answer.TheVariants.{Look as AnswerLook};
+    ghost use Rattle.queue_machine.specs.Machine.{ends};
+    ghost use Rattle.queue_table.specs.declared.operation.Operation.TheVariants.{Look as LookFirst};
+    ghost use Rattle.ms_queue.specs.Looking.{look_line, HasReadToLook};
+    ghost use Rattle.ms_queue.specs.Queue.{room_of};
 
-    #[inline]
-    pub(crate) fn look_load_next(
-        &self,
-        by: Pass<T>,
-        head: Tagged,
-    ) -> Stepped<LookOp<T>, Pass<T>, bool>
-        requires { IsLookingAt self.now by (LoadNext head) }
-        ensures { LookStep self.now by (LoadNext head) result }
-    {
-        let mut pass = by;
-        let at = next(head.index());
-        let link = load_tagged_step(&self.table.shared, &mut pass.seat, at, &Operation::Look);
-        Stepped::Again(LookOp {
-            pass,
-            at: LookAt::CheckHead(head, link),
-        })
-    }
+    ghost key = { λ c. c.table.shared.key };
 
-    // Where the head is still the same, the link was that of the dummy.
-    #[inline]
-    pub(crate) fn look_check_head(
-        &self,
-        by: Pass<T>,
-        head: Tagged,
-        link: Tagged,
-    ) -> Stepped<LookOp<T>, Pass<T>, bool>
-        requires { IsLookingAt self.now by (CheckHead head link) }
-        ensures { LookStep self.now by (CheckHead head link) result }
-    {
-        let mut pass = by;
-        let again = load_tagged_step(&self.table.shared, &mut pass.seat, HEAD, &Operation::Look);
-        if again.word() != head.word() {
-            return Stepped::Again(LookOp {
-                pass,
-                at: LookAt::LoadHead,
-            });
+    ghost id = { λ c. c.table.shared.table_id };
+
+    ghost operation = { λ _. LookFirst };
+
+    ghost line = { look_line };
+
+    ghost slots = { λ _. [] };
+
+    ghost knows = { λ c at. HasReadToLook (room_of c) at };
+
+    ghost answer = { λ _ empty. ends (AnswerLook empty) };
+
+    #[inline(always)]
+    fn access(&self, _on: &Queue<T>) -> Access {
+        match self {
+            LookAt::LoadHead => Access::Load(HEAD),
+            LookAt::LoadNext(head) => Access::Load(next(head.index())),
+            LookAt::CheckHead(_, _) => Access::Load(HEAD),
         }
-        Stepped::Done(pass, link.index() == NULL)
+    }
+
+    #[inline(always)]
+    fn next(
+        self,
+        _on: &Queue<T>,
+        _seat: &mut Seat<Option<T>, View<T, Line<T>>>,
+        outcome: Outcome,
+    ) -> Next<LookAt, bool> {
+        match self {
+            LookAt::LoadHead => Next::On(LookAt::LoadNext(Tagged::from_word(outcome.word))),
+            LookAt::LoadNext(head) => {
+                Next::On(LookAt::CheckHead(head, Tagged::from_word(outcome.word)))
+            }
+            LookAt::CheckHead(head, link) => {
+                // Where the head is still the same, the link was that of the dummy.
+                if outcome.word != head.word() {
+                    return Next::Lost(LookAt::LoadHead);
+                }
+                Next::Done(link.index() == NULL)
+            }
+        }
     }
 }
 
@@ -117,11 +124,11 @@ impl<T> LookOp<T> {
         requires { IsLooking queue.now self }
         ensures { LookStep queue.now self.pass self.at result }
     {
-        let LookOp { pass, at } = self;
-        match at {
-            LookAt::LoadHead => queue.look_load_head(pass),
-            LookAt::LoadNext(head) => queue.look_load_next(pass, head),
-            LookAt::CheckHead(head, link) => queue.look_check_head(pass, head, link),
+        let table = &queue.table.shared;
+        let made = single_step(table, queue, self.pass, self.at, &Operation::Look);
+        match made {
+            Stepped::Again((pass, at)) => Stepped::Again(LookOp { pass, at }),
+            Stepped::Done(pass, empty) => Stepped::Done(pass, empty),
         }
     }
 }

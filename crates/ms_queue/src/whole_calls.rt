@@ -1,17 +1,14 @@
-//! Whole closes, shuts and looks: the fast path, as it is made where no compare-and-swap
-//! fails. Where a step leads elsewhere, the operation goes on from there by single steps.
+//! Whole closes and shuts: the fast path, as it is made where no compare-and-swap is
+//! lost. Where a step leads elsewhere, the operation goes on from there by single steps.
 ghost use Rattle.ms_queue.specs.Closing.{IsClosingAt};
-ghost use Rattle.ms_queue.specs.Looking.{IsLookingAt};
 ghost use Rattle.ms_queue.specs.Queue.{begun_of};
 ghost use Rattle.ms_queue.specs.Shutting.{IsShuttingAt};
-ghost use Rattle.ms_queue.specs.Whole.{CloseRun, ShutRun, LookRun};
+ghost use Rattle.ms_queue.specs.Whole.{CloseRun, ShutRun};
 ghost use Rattle.ms_queue.specs.declared.closing.CloseAt.TheVariants.{Seeking};
-ghost use Rattle.ms_queue.specs.declared.looking.LookAt.TheVariants.{LoadHead as LookFirst};
 ghost use Rattle.ms_queue.specs.declared.seeking.Seek.TheVariants.{LoadTail};
 ghost use Rattle.ms_queue.specs.declared.shutting.ShutAt.TheVariants.{LoadHead as ShutFirst};
 
 use crate::closing::{CloseAt, CloseOp};
-use crate::looking::{LookAt, LookOp};
 use crate::queue::{Pass, Queue};
 use crate::seeking::Seek;
 use crate::shutting::{ShutAt, ShutOp};
@@ -54,24 +51,6 @@ impl<T> Queue<T> {
             ShutAt::Mark(head) => head
         );
         self.shut_mark(pass, head)
-    }
-
-    #[inline]
-    fn look_run(&self, by: Pass<T>) -> Stepped<LookOp<T>, Pass<T>, bool>
-        requires { IsLookingAt self.now by LookFirst }
-        ensures { LookRun self.now (begun_of self.now by) result }
-    {
-        let (pass, head) = straight!(
-            self.look_load_head(by),
-            LookOp { pass },
-            LookAt::LoadNext(head) => head
-        );
-        let (pass, head, link) = straight!(
-            self.look_load_next(pass, head),
-            LookOp { pass },
-            LookAt::CheckHead(head, link) => head, link
-        );
-        self.look_check_head(pass, head, link)
     }
 }
 
@@ -122,30 +101,5 @@ impl<T> Whole<Queue<T>, Pass<T>, bool> for ShutOp<T> {
     #[inline]
     fn has_lost(&self) -> bool {
         matches!(&self.at, ShutAt::LoadHead)
-    }
-}
-
-impl<T> Whole<Queue<T>, Pass<T>, bool> for LookOp<T> {
-    ghost use Rattle.bounded_model.specs.declared.views.PassView.{PassView};
-    ghost use Rattle.ms_queue.specs.Whole.{LookSince, LookGave};
-
-    ghost Call = { PassView T };
-
-    ghost is_under_way = { LookSince };
-
-    ghost gives = { LookGave };
-
-    #[inline]
-    fn run(self, on: &Queue<T>) -> Stepped<LookOp<T>, Pass<T>, bool> {
-        let LookOp { pass, at } = self;
-        match at {
-            LookAt::LoadHead => on.look_run(pass),
-            at => LookOp { pass, at }.step(on),
-        }
-    }
-
-    #[inline]
-    fn has_lost(&self) -> bool {
-        matches!(&self.at, LookAt::LoadHead)
     }
 }

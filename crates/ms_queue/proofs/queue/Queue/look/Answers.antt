@@ -1,11 +1,21 @@
+use Rattle.std.proofs.Common.{subst}
+use Rattle.bounded_model.specs.declared.views.PassView.{PassView}
+use Rattle.bounded_model.specs.Laws.{LookGives}
 use Rattle.running.specs.Passes.{pass_in}
+use Rattle.running.proofs.Ways.{begun_is}
+use Rattle.ms_queue.specs.Queue.{machine_of, shape_of}
+use Rattle.ms_queue.proofs.Closes.{look_gives}
 use Rattle.ms_queue.proofs.queue.Queue.look.Goals as goal
 
-pub whole_call-requires : goal.whole_call-requires
-whole_call-requires g c = (pass_in c.args.by, (c.begin_look.ensures.0, c.begin_look.ensures.1))
+pub to_the_end-requires-clause-ran : goal.to_the_end-requires-clause-ran
+to_the_end-requires-clause-ran g c = (c.args.by, c.any-first.ensures)
 
 pub returns-clause-of : goal.returns-clause-of
-returns-clause-of g c = (c.whole_call.ensures (pass_in c.args.by) (c.begin_look.ensures.0, c.begin_look.ensures.1)).0
+returns-clause-of g c = (c.to_the_end.ensures c.args.by c.any-first.ensures).0
 
 pub returns-clause-gives : goal.returns-clause-gives
-returns-clause-gives g c = (c.whole_call.ensures (pass_in c.args.by) (c.begin_look.ensures.0, c.begin_look.ensures.1)).1
+returns-clause-gives g c =
+    let q = c.args.self.now in
+    let e = c.to_the_end.ensures c.args.by c.any-first.ensures in
+    let begun = begun_is (machine_of q) q.table.shared.table_id c.args.by c.requires in
+    subst (λ (v : PassView _). LookGives (shape_of q) v (pass_in c.to_the_end.result.0) c.to_the_end.result.1) begun (look_gives q c.to_the_end.result.1 e.1)
