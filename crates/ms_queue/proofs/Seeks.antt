@@ -11,13 +11,18 @@ use Rattle.queue_table.specs.Lines.{next, Says}
 use Rattle.queue_table.specs.declared.operation.Operation.{Operation}
 use Rattle.running.specs.Going.{Found, Steps}
 use Rattle.running.specs.declared.passes.Pass.{Pass}
+use Rattle.running.specs.Code.{Came, Finding}
+use Rattle.running.specs.declared.access.Outcome.{Outcome}
+use Rattle.running.specs.declared.code.Next.{Next}
+use Rattle.running.proofs.Leading.{finding}
 use Rattle.running.proofs.Ways.{hits, misses}
 use Rattle.ms_queue.specs.declared.queue.Queue.{Queue}
 use Rattle.ms_queue.specs.declared.seeking.Seek.{Seek}
 use Rattle.ms_queue.specs.declared.seeking.Seek.TheVariants.{LoadTail as SeekTail}
+use Rattle.ms_queue.specs.declared.seeking.End.{End}
 use Rattle.ms_queue.specs.declared.seeking.Sought.{Sought}
 use Rattle.ms_queue.specs.Queue.{room_of, limit_of, machine_of, begun_of, IsAt}
-use Rattle.ms_queue.specs.Seeking.{seek_line, led_line, IsRead, HasRead, IsSeeking, Led, Way, way}
+use Rattle.ms_queue.specs.Seeking.{seek_line, led_line, IsRead, HasRead, IsSeeking, Led, Seeks, SoughtTo, Way, way}
 
 -- an operation that is on this way, whatever it has in hand
 pub seeking : {T : Type 0} {c : Queue T} {o : Operation T} {p : Pass T (Line T)} {slots : List (ℕ × Slot T)} (s : Seeking T) (at : Seek) → IsAt c o p (seek_line s at) slots → IsRead (room_of c) (limit_of c) at → IsSeeking c (way o p s at)
@@ -61,3 +66,9 @@ module _ {T : Type 0} (limit : ℕ) (s : Seeking T) (y w x : ℕ) where
 
   pub lags : y ≡ w → mark_of x ≡ false → index_of x ≢ NULL → to ≡ SwingTail s (fields_of w) (fields_of x)
   lags e m ne = same e ∙ rw m (rw (ne_eqb (index_of x) NULL ne) refl)
+
+-- what a step on this way leads to in an operation, if it does so of whatever was found
+module _ {T : Type 0} (c : Queue T) (s : Seeking T) (at : Seek) (r : Outcome) (had has : List (ℕ × Slot T)) (to : Next Seek End) (sought : SoughtTo c s at r had has to) (came : Came (machine_of c).core (seek_line s at) r had has) where
+  pub sought_within : (So : Line T → Type 0) → ((l : Line T) → Seeks c l s had has to → So l) → Finding (machine_of c).core (seek_line s at) r had has (λ found brought. So (next (limit_of c) (seek_line s at) found brought))
+  sought_within So follows = finding (machine_of c).core (seek_line s at) r had has (λ found brought. Seeks c (next (limit_of c) (seek_line s at) found brought) s had has to) (λ found brought. So (next (limit_of c) (seek_line s at) found brought))
+      (λ found brought. follows (next (limit_of c) (seek_line s at) found brought)) ((machine_of c).core.access (seek_line s at)) (sought came)

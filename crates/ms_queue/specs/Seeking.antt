@@ -1,5 +1,5 @@
 -- The way to the end of the chain, by steps.
-use Rattle.std.specs.Prelude.{◌≡◌, ◌≢◌, ℕ, ◌+◌, ◌<◌}
+use Rattle.std.specs.Prelude.{◌≡◌, ◌≢◌, ℕ, ◌+◌, ◌<◌, List, Option as Slot}
 use Rattle.tagged_index.specs.Fields.{fields_of, index_of, tag_of}
 use Rattle.tagged_index.specs.declared.word.TheConstants.{NULL}
 use Rattle.queue_machine.specs.declared.lines.Seeking.{Seeking}
@@ -7,14 +7,19 @@ use Rattle.queue_machine.specs.declared.lines.Line.{Line}
 use Rattle.queue_machine.specs.declared.lines.Line.TheVariants.{LoadTail, LoadTailNext, CheckTail, SwingTail}
 use Rattle.queue_machine.specs.Machine.{back_closed, back_null}
 use Rattle.queue_table.specs.declared.operation.Operation.{Operation}
-use Rattle.queue_table.specs.Lines.{HasRoom}
+use Rattle.queue_table.specs.Lines.{HasRoom, next}
+use Rattle.running.specs.Code.{Came, Finding, MatchNext}
 use Rattle.running.specs.Going.{Steps}
+use Rattle.running.specs.declared.access.Outcome.{Outcome}
+use Rattle.running.specs.declared.code.Next.{Next}
 use Rattle.running.specs.declared.passes.Pass.{Pass}
 use Rattle.ms_queue.specs.declared.queue.Queue.{Queue}
 use Rattle.ms_queue.specs.declared.seeking.Seek.{Seek}
 use Rattle.ms_queue.specs.declared.seeking.Seek.TheVariants.{LoadTail as SeekTail, LoadNext as SeekNext, CheckTail as SeekCheck, SwingTail as SeekSwing}
+use Rattle.ms_queue.specs.declared.seeking.End.{End}
+use Rattle.ms_queue.specs.declared.seeking.End.TheVariants.{Closed as EndClosed, Open}
 use Rattle.ms_queue.specs.declared.seeking.Sought.{Sought}
-use Rattle.ms_queue.specs.declared.seeking.Sought.TheVariants.{On, Closed, End}
+use Rattle.ms_queue.specs.declared.seeking.Sought.TheVariants.{On, Closed, End as AtEnd}
 use Rattle.ms_queue.specs.Queue.{room_of, limit_of, machine_of, begun_of, IsAt}
 
 -- what was read names nodes, and the tail that is to be moved has room for its tag to rise
@@ -35,12 +40,32 @@ module _ {T : Type 0} where
   abbrev pub led_line : Seeking T → Sought → Line T
   led_line s (On at) = seek_line s at
   led_line s Closed = back_closed s
-  led_line s (End w x) = back_null s (fields_of w) (fields_of x)
+  led_line s (AtEnd w x) = back_null s (fields_of w) (fields_of x)
+
+  -- the line that the end of the chain leads to
+  abbrev pub end_line : Seeking T → End → Line T
+  end_line s EndClosed = back_closed s
+  end_line s (Open w x) = back_null s (fields_of w) (fields_of x)
+
+  abbrev pub HasReadEnd : ℕ → ℕ → Seeking T → End → Type 0
+  HasReadEnd n limit s EndClosed = Unit {0}
+  HasReadEnd n limit s (Open w x) = (index_of w < n + 1) × HasRoom limit (back_null s (fields_of w) (fields_of x))
+
+  -- what a step leads to, with these slots in hand before it and after it
+  abbrev pub Seeks : Queue T → Line T → Seeking T → List (ℕ × Slot T) → List (ℕ × Slot T) → Next Seek End → Type 0
+  Seeks c l s had has to = MatchNext to
+      (λ at. (l ≡ seek_line s at) × (has ≡ had) × IsRead (room_of c) (limit_of c) at)
+      (λ end. (l ≡ end_line s end) × (has ≡ had) × HasReadEnd (room_of c) (limit_of c) s end)
+
+  -- where a step leads that came to r
+  abbrev pub SoughtTo : Queue T → Seeking T → Seek → Outcome → List (ℕ × Slot T) → List (ℕ × Slot T) → Next Seek End → Type 0
+  SoughtTo c s at r had has to = Came (machine_of c).core (seek_line s at) r had has
+      → Finding (machine_of c).core (seek_line s at) r had has (λ found came. Seeks c (next (limit_of c) (seek_line s at) found came) s had has to)
 
   abbrev pub HasRead : ℕ → ℕ → Seeking T → Sought → Type 0
   HasRead n limit s (On at) = IsRead n limit at
   HasRead n limit s Closed = Unit {0}
-  HasRead n limit s (End w x) = (index_of w < n + 1) × HasRoom limit (back_null s (fields_of w) (fields_of x))
+  HasRead n limit s (AtEnd w x) = (index_of w < n + 1) × HasRoom limit (back_null s (fields_of w) (fields_of x))
 
 -- an operation on this way: its name, its pass, what it is to do at the end, and its next step
 pub record Way (T : Type 0) : Type 0 where

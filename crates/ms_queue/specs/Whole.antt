@@ -1,23 +1,19 @@
 -- Operations that several steps are made of: each was begun as its pass was then, and is still under way or has answered.
-use Rattle.std.specs.Prelude.{◌≡◌, ℕ, Bool, Result}
+use Rattle.std.specs.Prelude.{◌≡◌, ℕ, Result}
 use Rattle.bounded_model.specs.declared.answers.Stepped.{Stepped}
 use Rattle.bounded_model.specs.declared.answers.PutRefused.{PutRefused}
 use Rattle.bounded_model.specs.declared.answers.TakeRefused.{TakeRefused}
 use Rattle.bounded_model.specs.declared.views.PassView.{PassView}
-use Rattle.bounded_model.specs.Laws.{PutGives, TakeGives, CloseGives, ShutGives}
+use Rattle.bounded_model.specs.Laws.{PutGives, TakeGives}
 use Rattle.bounded_model.specs.Stepping.{MatchStepped}
 use Rattle.queue_machine.specs.declared.lines.Line.{Line}
 use Rattle.running.specs.Passes.{pass_in}
 use Rattle.running.specs.declared.passes.Pass.{Pass}
-use Rattle.ms_queue.specs.declared.closing.CloseOp.{CloseOp}
 use Rattle.ms_queue.specs.declared.putting.PutOp.{PutOp}
 use Rattle.ms_queue.specs.declared.queue.Queue.{Queue}
-use Rattle.ms_queue.specs.declared.shutting.ShutOp.{ShutOp}
 use Rattle.ms_queue.specs.declared.taking.TakeOp.{TakeOp}
-use Rattle.ms_queue.specs.Closing.{IsClosing}
 use Rattle.ms_queue.specs.Putting.{IsPutting}
 use Rattle.ms_queue.specs.Queue.{shape_of, begun_of, IsPassOf}
-use Rattle.ms_queue.specs.Shutting.{IsShutting}
 use Rattle.ms_queue.specs.Taking.{IsTaking}
 
 module _ {T : Type 0} (c : Queue T) (begun : PassView T) where
@@ -39,21 +35,3 @@ module _ {T : Type 0} (c : Queue T) (begun : PassView T) where
 
   abbrev pub TakeRun : Stepped (TakeOp T) (Pass T (Line T)) (Result (T × ℕ) TakeRefused) → Type 0
   TakeRun made = MatchStepped made TakeSince TakeGave
-
-  abbrev pub CloseSince : CloseOp T → Type 0
-  CloseSince op = IsClosing c op × (begun_of c op.pass ≡ begun)
-
-  abbrev pub CloseGave : Pass T (Line T) → Bool → Type 0
-  CloseGave back closed = IsPassOf c back × CloseGives (shape_of c) begun (pass_in back) closed
-
-  abbrev pub CloseRun : Stepped (CloseOp T) (Pass T (Line T)) Bool → Type 0
-  CloseRun made = MatchStepped made CloseSince CloseGave
-
-  abbrev pub ShutSince : ShutOp T → Type 0
-  ShutSince op = IsShutting c op × (begun_of c op.pass ≡ begun)
-
-  abbrev pub ShutGave : Pass T (Line T) → Bool → Type 0
-  ShutGave back shut = IsPassOf c back × ShutGives (shape_of c) begun (pass_in back) shut
-
-  abbrev pub ShutRun : Stepped (ShutOp T) (Pass T (Line T)) Bool → Type 0
-  ShutRun made = MatchStepped made ShutSince ShutGave

@@ -1,16 +1,21 @@
-//! Closing a queue, by steps: the link of its last node gets the mark.
+//! Closing a queue: the link of its last node gets the mark. By steps, and by a whole call.
 ghost use Rattle.std.specs.Prelude.{◌≡◌};
+ghost use Rattle.bounded_model.specs.Laws.{CloseGives};
 ghost use Rattle.running.specs.Passes.{pass_in};
-ghost use Rattle.ms_queue.specs.Closing.{IsClosing, IsClosingAt, CloseStep};
-ghost use Rattle.ms_queue.specs.Queue.{IsPassOf, begun_of};
-ghost use Rattle.ms_queue.specs.declared.closing.CloseAt.TheVariants.{Seeking, Mark};
+ghost use Rattle.ms_queue.specs.Closing.{IsClosing, CloseStep};
+ghost use Rattle.ms_queue.specs.Queue.{IsPassOf, begun_of, shape_of};
 
 use crate::queue::{Pass, Queue};
-use crate::seeking::{Seek, Sought};
+use crate::rule::Queued;
+use crate::seeking::{End, Seek};
+use atomic_table::Seat;
 use bounded_model::Stepped;
+use machine::seats::View;
+use queue_machine::Line;
 use queue_table::Operation;
 use queue_table::layout::next;
-use running::{raised, swap_step};
+use running::{Access, Code, Next, Outcome, any, raised, single_step, to_the_end};
+use std::sync::Wait;
 use tagged_index::{NULL, Tagged};
 
 /// A close that was begun.
@@ -43,52 +48,77 @@ impl<T> Queue<T> {
         }
     }
 
+    /// Closes the queue by a whole call, and returns whether it did.
     #[inline]
-    pub(crate) fn close_seek(&self, by: Pass<T>, at: Seek) -> Stepped<CloseOp<T>, Pass<T>, bool>
-        requires { IsClosingAt self.now by (Seeking at) }
-        ensures { CloseStep self.now by (Seeking at) result }
+    pub(crate) fn close_whole<R: Wait>(&self, rt: &R, by: Pass<T>) -> (Pass<T>, bool)
+        requires { IsPassOf self.now by }
+        ensures { IsPassOf self.now result.0
+            × CloseGives (shape_of self.now) (pass_in by) (pass_in result.0) result.1 }
     {
-        let mut pass = by;
-        match self.seek(&mut pass, at, &Operation::Close) {
-            Sought::On(at) => Stepped::Again(CloseOp {
-                pass,
-                at: CloseAt::Seeking(at),
-            }),
-            Sought::Closed => Stepped::Done(pass, false),
-            Sought::End(tail, link) => Stepped::Again(CloseOp {
-                pass,
-                at: CloseAt::Mark(tail, link),
-            }),
+        let table = &self.table.shared;
+        let close = Operation::Close;
+        let first = any(table, self, by, CloseAt::Seeking(Seek::LoadTail), &close);
+        to_the_end(rt, table, self, first, &close)
+    }
+}
+
+impl<T> Code<Queue<T>, T, Line<T>, Operation<T>, Queued, bool, 2> for CloseAt {
+    ghost use Rattle.std.specs.Prelude.{[]};
+    ghost use Rattle.queue_machine.specs.declared.lines.Answer.TheVariants.{Close as AnswerClose};
+    ghost use Rattle.queue_machine.specs.Machine.{ends};
+    ghost use Rattle.queue_table.specs.declared.operation.Operation.TheVariants.{Close as CloseFirst};
+    ghost use Rattle.ms_queue.specs.Closing.{close_line, HasReadToClose};
+    ghost use Rattle.ms_queue.specs.Queue.{room_of, limit_of};
+
+    ghost key = { λ c. c.table.shared.key };
+
+    ghost id = { λ c. c.table.shared.table_id };
+
+    ghost operation = { λ _. CloseFirst };
+
+    ghost line = { close_line };
+
+    ghost slots = { λ _. [] };
+
+    ghost knows = { λ c at. HasReadToClose (room_of c) (limit_of c) at };
+
+    ghost answer = { λ _ closed. ends (AnswerClose closed) };
+
+    #[inline(always)]
+    fn access(&self, on: &Queue<T>) -> Access {
+        match self {
+            CloseAt::Seeking(at) => on.seek_access(at),
+            CloseAt::Mark(tail, link) => {
+                let new = raised(*link, NULL).marked();
+                Access::Swap(next(tail.index()), *link, new)
+            }
         }
     }
 
-    // The close has its effect here.
-    #[inline]
-    pub(crate) fn close_mark(
-        &self,
-        by: Pass<T>,
-        tail: Tagged,
-        link: Tagged,
-    ) -> Stepped<CloseOp<T>, Pass<T>, bool>
-        requires { IsClosingAt self.now by (Mark tail link) }
-        ensures { CloseStep self.now by (Mark tail link) result }
-    {
-        let mut pass = by;
-        let new = raised(link, NULL).marked();
-        if swap_step(
-            &self.table.shared,
-            &mut pass.seat,
-            next(tail.index()),
-            link,
-            new,
-            &Operation::Close,
-        ) {
-            return Stepped::Done(pass, true);
+    #[inline(always)]
+    fn next(
+        self,
+        on: &Queue<T>,
+        _seat: &mut Seat<Option<T>, View<T, Line<T>>>,
+        outcome: Outcome,
+    ) -> Next<CloseAt, bool> {
+        match self {
+            CloseAt::Seeking(at) => match on.seek_on(at, outcome) {
+                Next::On(at) => Next::On(CloseAt::Seeking(at)),
+                Next::Lost(at) => Next::Lost(CloseAt::Seeking(at)),
+                Next::Done(end) => match end {
+                    End::Closed => Next::Done(false),
+                    End::Open(tail, link) => Next::On(CloseAt::Mark(tail, link)),
+                },
+            },
+            CloseAt::Mark(_, _) => {
+                if !outcome.won {
+                    return Next::Lost(CloseAt::Seeking(Seek::LoadTail));
+                }
+                // The close has its effect here.
+                Next::Done(true)
+            }
         }
-        Stepped::Again(CloseOp {
-            pass,
-            at: CloseAt::Seeking(Seek::LoadTail),
-        })
     }
 }
 
@@ -99,10 +129,11 @@ impl<T> CloseOp<T> {
         requires { IsClosing queue.now self }
         ensures { CloseStep queue.now self.pass self.at result }
     {
-        let CloseOp { pass, at } = self;
-        match at {
-            CloseAt::Seeking(at) => queue.close_seek(pass, at),
-            CloseAt::Mark(tail, link) => queue.close_mark(pass, tail, link),
+        let table = &queue.table.shared;
+        let made = single_step(table, queue, self.pass, self.at, &Operation::Close);
+        match made {
+            Stepped::Again((pass, at)) => Stepped::Again(CloseOp { pass, at }),
+            Stepped::Done(pass, closed) => Stepped::Done(pass, closed),
         }
     }
 }

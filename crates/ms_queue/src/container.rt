@@ -66,11 +66,11 @@ impl<T: Drop + Send> Container<T> for Queue<T> {
     }
 
     fn close<R: Wait>(&self, rt: &R, by: Pass<T>) -> (Pass<T>, bool) {
-        whole_call(rt, self, self.begin_close(by))
+        self.close_whole(rt, by)
     }
 
     fn shut<R: Wait>(&self, rt: &R, by: Pass<T>) -> (Pass<T>, bool) {
-        whole_call(rt, self, self.begin_shut(by))
+        self.shut_whole(rt, by)
     }
 
     /// The answer is always true, since the table never lacks a seat.

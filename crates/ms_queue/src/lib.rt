@@ -31,7 +31,6 @@ mod shutting;
 mod stepwise;
 mod straight;
 mod taking;
-mod whole_calls;
 mod whole_put;
 mod whole_take;
 

@@ -1,13 +1,17 @@
 //! Going to the end of the chain, to link a node there, to mark it, or to see why nothing can be
 //! put: the same steps for all three.
+ghost use Rattle.std.specs.Prelude.{ℕ, List, Option as Slot};
 ghost use Rattle.queue_machine.specs.declared.lines.Seeking.{Seeking};
-ghost use Rattle.ms_queue.specs.Seeking.{IsSeeking, Led, way};
+ghost use Rattle.queue_table.specs.Lists.{lists};
+ghost use Rattle.running.specs.Code.{IsAccess};
+ghost use Rattle.ms_queue.specs.Queue.{room_of, limit_of, machine_of};
+ghost use Rattle.ms_queue.specs.Seeking.{IsRead, IsSeeking, Led, SoughtTo, seek_line, way};
 ghost use Rattle.ms_queue.specs.declared.seeking.Seek.TheVariants.{LoadTail, LoadNext, CheckTail, SwingTail};
 
 use crate::queue::{Pass, Queue};
 use queue_table::Operation;
 use queue_table::layout::{TAIL, next};
-use running::{attempt_step, load_tagged_step, raised};
+use running::{Access, Next, Outcome, attempt_step, load_tagged_step, raised};
 use tagged_index::{NULL, Tagged};
 
 /// The next step on the way to the end of the chain, with what was read.
@@ -23,6 +27,15 @@ pub(crate) enum Seek {
     SwingTail(Tagged, Tagged),
 }
 
+/// The end of the chain.
+#[derive(Clone, Copy)]
+pub(crate) enum End {
+    /// It has the mark.
+    Closed,
+    /// The tail, and the null link of its node.
+    Open(Tagged, Tagged),
+}
+
 /// Where such a step led.
 #[derive(Drop)]
 pub(crate) enum Sought {
@@ -34,6 +47,52 @@ pub(crate) enum Sought {
 }
 
 impl<T> Queue<T> {
+    /// What the next step to the end of the chain does.
+    #[inline(always)]
+    pub(crate) fn seek_access(&self, at: &Seek) -> Access
+        requires { IsRead (room_of self.now) (limit_of self.now) at.now }
+        ensures { (s : Seeking T) (slots : List (ℕ × Slot T))
+            → IsAccess (machine_of self.now).core lists 2 self.now.table.shared.table_id.words
+            (seek_line s at.now) slots result }
+    {
+        match at {
+            Seek::LoadTail => Access::Load(TAIL),
+            Seek::LoadNext(tail) => Access::Load(next(tail.index())),
+            Seek::CheckTail(_, _) => Access::Load(TAIL),
+            Seek::SwingTail(tail, link) => Access::Swap(TAIL, *tail, raised(*tail, link.index())),
+        }
+    }
+
+    /// Where it goes on from a step that came to this.
+    #[inline(always)]
+    pub(crate) fn seek_on(&self, at: Seek, outcome: Outcome) -> Next<Seek, End>
+        requires { IsRead (room_of self.now) (limit_of self.now) at }
+        ensures { (s : Seeking T) (had has : List (ℕ × Slot T))
+            → SoughtTo self.now s at outcome had has result }
+    {
+        match at {
+            Seek::LoadTail => Next::On(Seek::LoadNext(Tagged::from_word(outcome.word))),
+            Seek::LoadNext(tail) => {
+                Next::On(Seek::CheckTail(tail, Tagged::from_word(outcome.word)))
+            }
+            Seek::CheckTail(tail, link) => {
+                // Where the tail is still the same, the link was that of its node.
+                if outcome.word != tail.word() {
+                    return Next::Lost(Seek::LoadTail);
+                }
+                if link.is_marked() {
+                    return Next::Done(End::Closed);
+                }
+                if link.index() == NULL {
+                    return Next::Done(End::Open(tail, link));
+                }
+                Next::On(Seek::SwingTail(tail, link))
+            }
+            // Whoever succeeds, the tail is then no longer the same.
+            Seek::SwingTail(_, _) => Next::Lost(Seek::LoadTail),
+        }
+    }
+
     /// One step to the end of the chain.
     #[inline(always)]
     pub(crate) fn seek(&self, by: &mut Pass<T>, at: Seek, operation: &Operation<T>) -> Sought
