@@ -10,12 +10,13 @@ use Rattle.index_list.specs.declared.change.Change.{Change}
 use Rattle.machine.specs.Words.{Tagged}
 use Rattle.machine.specs.declared.seats.View.{View}
 use Rattle.machine.proofs.Tests.{either_way, not_same, same-self}
-use Rattle.running.specs.Machine.{Names, Machine, Access as Deed, Side, stays, brings, returns, loads, stores, swaps}
+use Rattle.running.specs.Machine.{Names, Core, Machine, Access as Deed, Side, stays, brings, returns, loads, stores, swaps}
 use Rattle.running.specs.Going.{At, AtAccess, Found, Missed, Brings, begun_in, now_in}
 use Rattle.running.specs.Lists.{Lists, AtStep, kind_access, side}
-use Rattle.running.specs.Code.{IsAccess, FoundBy, Won}
+use Rattle.running.specs.Code.{IsAccess, FoundBy, Won, plain}
 use Rattle.running.specs.Steps.{Made}
 use Rattle.running.specs.declared.access.Access.{Access}
+use Rattle.running.specs.declared.access.Access.TheVariants.{KeepLink}
 use Rattle.running.specs.declared.access.Outcome.{Outcome}
 use Rattle.running.proofs.Going.{now_going}
 
@@ -74,6 +75,11 @@ module _ {T L O : Type 0} {names : Names L O} (m : Machine T L O names) (y : Lis
       pub stayed_at : m.core.access l ≡ swaps at (fields_of w) new stays → me'.1 ≡ me.1 → (r.won ≡ true → Found m o me.0 me'.0 w []) → (r.won ≡ false → Missed m o me.0 me'.0 w) → Made m o l me me' r
       stayed_at a kept won lost = either_way r.won (λ h. hit at w new stays a h [] (kept, refl) (won h)) (λ h. missed at w new stays a h kept (lost h))
 
+      pub brought_at : m.core.access l ≡ swaps at (fields_of w) new brings → (r.won ≡ true → Brings m o me.0 me'.0 w me.1 me'.1) → (r.won ≡ false → (me'.1 ≡ me.1) × Missed m o me.0 me'.0 w) → Made m o l me me' r
+      brought_at a won lost = either_way r.won
+          (λ h. let b = won h in hit at w new brings a h b.slots (b.moved, b.fits (begun_in m me.0) l is.going) b.steps)
+          (λ h. missed at w new brings a h (lost h).0 (lost h).1)
+
     module _ (list w : ℕ) (change : Change) (e : m.core.access l ≡ kind_access y.layout list (exchange (fields_of w) change)) where
       abbrev at : ℕ
       at = y.layout.top list
@@ -88,11 +94,15 @@ module _ {T L O : Type 0} {names : Names L O} (m : Machine T L O names) (y : Lis
       stayed none kept won lost = stayed_at at w new (moves stays none) kept won lost
 
       pub brought : side (y.layout.carries list) change ≡ brings → (r.won ≡ true → Brings m o me.0 me'.0 w me.1 me'.1) → (r.won ≡ false → (me'.1 ≡ me.1) × Missed m o me.0 me'.0 w) → Made m o l me me' r
-      brought some_come won lost = let a = moves brings some_come in either_way r.won
-          (λ h. let b = won h in hit at w new brings a h b.slots (b.moved, b.fits (begun_in m me.0) l is.going) b.steps)
-          (λ h. missed at w new brings a h (lost h).0 (lost h).1)
+      brought some_come won lost = brought_at at w new (moves brings some_come) won lost
 
       pub returned : side (y.layout.carries list) change ≡ returns → (r.won ≡ true → (me'.1 ≡ []) × Found m o me.0 me'.0 w me.1) → (r.won ≡ false → (me'.1 ≡ me.1) × Missed m o me.0 me'.0 w) → Made m o l me me' r
       returned all_go won lost = let a = moves returns all_go in either_way r.won
           (λ h. hit at w new returns a h me.1 ((won h).0, refl) (won h).1)
           (λ h. missed at w new returns a h (lost h).0 (lost h).1)
+
+-- an access without a load before a store is an access of the same line
+module _ {T L O : Type 0} (c : Core T L O) (y : Lists L) (lists words : ℕ) (l : L) (slots : List (ℕ × Slot T)) where
+  pub plain_access : (a : Access) → IsAccess c y lists words l slots a → IsAccess c y lists words l slots (plain a)
+  plain_access (KeepLink list i next) is = is
+  plain_access a is = is

@@ -1,4 +1,7 @@
 //! An atomic step of an operation, as data.
+ghost use Rattle.std.specs.Prelude.{◌≡◌};
+ghost use Rattle.running.specs.Code.{plain};
+
 use tagged_index::Tagged;
 
 /// What an operation's next atomic step does to the table: a step on a word that belongs to no
@@ -9,20 +12,41 @@ pub enum Access {
     Load(usize),
     /// Compare-and-swap this word, which was seen, for a new one. No slot moves.
     Swap(usize, Tagged, Tagged),
+    /// The same, where the new word brings slots.
+    Bring(usize, Tagged, Tagged),
     /// Load the top of this list.
     LoadTop(usize),
     /// Load the link of an index on this list.
     LoadLink(usize, u32),
     /// Store in the link of a held index.
     StoreLink(usize, u32, u64),
+    /// The same by a load where that is the link already, which costs less.
+    KeepLink(usize, u32, u64),
     /// Compare-and-swap the top of this list, which was seen, for its second index.
     Take(usize, Tagged, u32),
+    /// Compare-and-swap it for an index held, with all slots held.
+    Give(usize, Tagged, u32),
+    /// The same on a list without slots.
+    GiveBare(usize, Tagged, u32),
     /// Compare-and-swap it for the first index of the chain held.
     GiveChain(usize, Tagged, u32),
     /// Compare-and-swap it for itself with its mark set.
     Mark(usize, Tagged),
     /// Compare-and-swap it for itself with its second mark set.
     Shut(usize, Tagged),
+}
+
+impl Access {
+    /// The same as one access: a store with no load before it.
+    #[inline(always)]
+    pub(crate) fn plain(self) -> Access
+        ensures { result ≡ plain self }
+    {
+        match self {
+            Access::KeepLink(list, index, next) => Access::StoreLink(list, index, next),
+            access => access,
+        }
+    }
 }
 
 /// What such a step came to.

@@ -7,12 +7,12 @@ ghost use Rattle.running.specs.Steps.{Made, Stands, Gives, GivesSingle, Ran};
 use crate::access::{Access, Outcome};
 use crate::code::{Code, Next};
 use crate::lists::{
-    ListMachine, give_chain_step, load_link_step, load_top_step, mark_step, shut_step,
-    store_link_step, take_first_step,
+    ListMachine, give_bare_step, give_chain_step, give_one_step, keep_link_step, load_link_step,
+    load_top_step, mark_step, shut_step, store_link_step, take_first_step,
 };
 use crate::passes::Pass;
 use crate::rule::Running;
-use crate::steps::{load_step, swap_step};
+use crate::steps::{load_step, swap_step, take_step};
 use atomic_table::{Seat, Shared};
 use bounded_model::Stepped;
 use machine::View;
@@ -49,6 +49,13 @@ fn make<C, T, L, O, M: ListMachine<T, L, O, N>, A, S: Code<C, T, L, O, M, A, N>,
                 won,
             }
         }
+        Access::Bring(place, seen, new) => {
+            let won = take_step::<T, L, O, M>(table, seat, place, seen, new, operation);
+            Outcome {
+                word: seen.word(),
+                won,
+            }
+        }
         Access::LoadTop(list) => {
             let top = load_top_step::<T, L, O, M, N>(table, seat, list, operation);
             Outcome {
@@ -64,8 +71,26 @@ fn make<C, T, L, O, M: ListMachine<T, L, O, N>, A, S: Code<C, T, L, O, M, A, N>,
             store_link_step::<T, L, O, M, N>(table, seat, list, index, word, operation);
             Outcome { word, won: true }
         }
+        Access::KeepLink(list, index, word) => {
+            keep_link_step::<T, L, O, M, N>(table, seat, list, index, word, operation);
+            Outcome { word, won: true }
+        }
         Access::Take(list, seen, next) => {
             let won = take_first_step::<T, L, O, M, N>(table, seat, list, seen, next, operation);
+            Outcome {
+                word: seen.word(),
+                won,
+            }
+        }
+        Access::Give(list, seen, index) => {
+            let won = give_one_step::<T, L, O, M, N>(table, seat, list, seen, index, operation);
+            Outcome {
+                word: seen.word(),
+                won,
+            }
+        }
+        Access::GiveBare(list, seen, index) => {
+            let won = give_bare_step::<T, L, O, M, N>(table, seat, list, seen, index, operation);
             Outcome {
                 word: seen.word(),
                 won,
@@ -95,6 +120,31 @@ fn make<C, T, L, O, M: ListMachine<T, L, O, N>, A, S: Code<C, T, L, O, M, A, N>,
     }
 }
 
+// Makes this access of an operation that is at this, and goes on from what it came to.
+#[inline(always)]
+fn advance<C, T, L, O, M: ListMachine<T, L, O, N>, A, S: Code<C, T, L, O, M, A, N>, const N: usize>(
+    table: &Shared<Option<T>, View<T, L>, Limits, Running<O, M>>,
+    on: &C,
+    by: Pass<T, L>,
+    at: S,
+    operation: &O,
+    access: Access,
+) -> (Pass<T, L>, Next<S, A>)
+    requires table { (table.now.key ≡ S.key on.now) × (table.now.table_id ≡ S.id on.now) }
+    requires named { operation.now ≡ S.operation at }
+    requires stands { Stands (M.machine (S.key on.now)) S.operation S.line S.slots (S.knows on.now)
+        S.answer (S.id on.now) by at }
+    requires access { IsAccess (M.machine (S.key on.now)).core M.lists N (S.id on.now).words
+        (S.line at) (S.slots at) access }
+    ensures { Gives (M.machine (S.key on.now)) S.operation S.line S.slots (S.knows on.now)
+        S.answer (S.id on.now) by at result.0 result.1 }
+{
+    let mut pass = by;
+    let outcome = make::<C, T, L, O, M, A, S, N>(table, &mut pass.seat, access, operation, &at);
+    let next = at.next(on, &mut pass.seat, outcome);
+    (pass, next)
+}
+
 /// Makes the next atomic step of an operation that is at this.
 #[inline(always)]
 pub fn step<
@@ -120,14 +170,11 @@ pub fn step<
     ensures { Gives (M.machine (S.key on.now)) S.operation S.line S.slots (S.knows on.now)
         S.answer (S.id on.now) by at result.0 result.1 }
 {
-    let mut pass = by;
     let access = at.access(on);
-    let outcome = make::<C, T, L, O, M, A, S, N>(table, &mut pass.seat, access, operation, &at);
-    let next = at.next(on, &mut pass.seat, outcome);
-    (pass, next)
+    advance::<C, T, L, O, M, A, S, N>(table, on, by, at, operation, access)
 }
 
-/// The same, for a caller to whom it is one that an operation goes on.
+/// The same by one access alone, for a caller to whom it is one that an operation goes on.
 #[inline(always)]
 pub fn single_step<
     C,
@@ -152,7 +199,8 @@ pub fn single_step<
     ensures { GivesSingle (M.machine (S.key on.now)) S.operation S.line S.slots (S.knows on.now)
         S.answer (S.id on.now) by at result }
 {
-    match step::<C, T, L, O, M, A, S, N>(table, on, by, at, operation) {
+    let access = at.access(on).plain();
+    match advance::<C, T, L, O, M, A, S, N>(table, on, by, at, operation, access) {
         (pass, Next::On(at)) => Stepped::Again((pass, at)),
         (pass, Next::Lost(at)) => Stepped::Again((pass, at)),
         (pass, Next::Done(answer)) => Stepped::Done(pass, answer),

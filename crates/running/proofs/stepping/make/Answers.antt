@@ -2,7 +2,7 @@ use Rattle.std.proofs.Common.{Bool, refl, sym, ap}
 use Rattle.index_list.specs.declared.change.Change.TheVariants as change
 use Rattle.running.specs.Lists.{side}
 use Rattle.running.proofs.Hosting.{mark_stays, shut_stays}
-use Rattle.running.proofs.Making.{known, at_access, at_step, fits_now, loaded, stored, stayed_at, stayed, brought, returned}
+use Rattle.running.proofs.Making.{known, at_access, at_step, fits_now, loaded, stored, stayed_at, brought_at, stayed, brought, returned}
 use Rattle.running.proofs.stepping.make.Goals as goal
 
 pub load_step-word-requires-clause-table : goal.load_step-word-requires-clause-table
@@ -28,6 +28,18 @@ swap_step-won-requires-clause-access g c =
 pub returns-in-Swap-clause-made : goal.returns-in-Swap-clause-made
 returns-in-Swap-clause-made g c =
     let s = c.swap_step-won in stayed_at (g.M.Machine.machine c.args.table.now.key) g.M.ListMachine.lists c.requires.at s.new.seat.me _ _ _ _ (known (g.M.Machine.machine c.args.table.now.key) g.M.ListMachine.lists c.requires.at _ _ c.in-Swap.is c.requires.access).0 s.ensures.seat.1 s.ensures.won s.ensures.lost
+
+pub take_step-won-requires-clause-table : goal.take_step-won-requires-clause-table
+take_step-won-requires-clause-table g c =
+    (c.requires.table, (known (g.M.Machine.machine c.args.table.now.key) g.M.ListMachine.lists c.requires.at _ _ c.in-Bring.is c.requires.access).1)
+
+pub take_step-won-requires-clause-access : goal.take_step-won-requires-clause-access
+take_step-won-requires-clause-access g c =
+    at_access (g.M.Machine.machine c.args.table.now.key) g.M.ListMachine.lists c.requires.at _ (known (g.M.Machine.machine c.args.table.now.key) g.M.ListMachine.lists c.requires.at _ _ c.in-Bring.is c.requires.access).0
+
+pub returns-in-Bring-clause-made : goal.returns-in-Bring-clause-made
+returns-in-Bring-clause-made g c =
+    let s = c.take_step-won in brought_at (g.M.Machine.machine c.args.table.now.key) g.M.ListMachine.lists c.requires.at s.new.seat.me _ _ _ _ (known (g.M.Machine.machine c.args.table.now.key) g.M.ListMachine.lists c.requires.at _ _ c.in-Bring.is c.requires.access).0 s.ensures.won s.ensures.lost
 
 pub load_top_step-top-requires-clause-table : goal.load_top_step-top-requires-clause-table
 load_top_step-top-requires-clause-table g c =
@@ -69,6 +81,22 @@ pub returns-in-StoreLink-clause-made : goal.returns-in-StoreLink-clause-made
 returns-in-StoreLink-clause-made g c =
     let s = c.store_link_step in stored (g.M.Machine.machine c.args.table.now.key) g.M.ListMachine.lists c.requires.at s.new.seat.me (record { word = c.in-StoreLink.word; won = _ }) _ _ _ (known (g.M.Machine.machine c.args.table.now.key) g.M.ListMachine.lists c.requires.at _ _ c.in-StoreLink.is c.requires.access).0.2 refl s.ensures.seat.1 s.ensures.steps
 
+pub keep_link_step-requires-clause-table : goal.keep_link_step-requires-clause-table
+keep_link_step-requires-clause-table g c =
+    let is = known (g.M.Machine.machine c.args.table.now.key) g.M.ListMachine.lists c.requires.at _ _ c.in-KeepLink.is c.requires.access in (c.requires.table, is.0.0, is.1, is.2)
+
+pub keep_link_step-requires-clause-access : goal.keep_link_step-requires-clause-access
+keep_link_step-requires-clause-access g c =
+    at_step (g.M.Machine.machine c.args.table.now.key) g.M.ListMachine.lists c.requires.at _ _ (known (g.M.Machine.machine c.args.table.now.key) g.M.ListMachine.lists c.requires.at _ _ c.in-KeepLink.is c.requires.access).0.1
+
+pub keep_link_step-requires-clause-plain : goal.keep_link_step-requires-clause-plain
+keep_link_step-requires-clause-plain g c =
+    (known (g.M.Machine.machine c.args.table.now.key) g.M.ListMachine.lists c.requires.at _ _ c.in-KeepLink.is c.requires.access).3
+
+pub returns-in-KeepLink-clause-made : goal.returns-in-KeepLink-clause-made
+returns-in-KeepLink-clause-made g c =
+    let s = c.keep_link_step in stored (g.M.Machine.machine c.args.table.now.key) g.M.ListMachine.lists c.requires.at s.new.seat.me (record { word = c.in-KeepLink.word; won = _ }) _ _ _ (known (g.M.Machine.machine c.args.table.now.key) g.M.ListMachine.lists c.requires.at _ _ c.in-KeepLink.is c.requires.access).0.2 refl s.ensures.seat.1 s.ensures.steps
+
 pub take_first_step-won-requires-clause-table : goal.take_first_step-won-requires-clause-table
 take_first_step-won-requires-clause-table g c =
     let is = known (g.M.Machine.machine c.args.table.now.key) g.M.ListMachine.lists c.requires.at _ _ c.in-Take.is c.requires.access in (c.requires.table, is.0.0, is.1)
@@ -88,6 +116,50 @@ take_first_step-won-requires-clause-word g c =
 pub returns-in-Take-clause-made : goal.returns-in-Take-clause-made
 returns-in-Take-clause-made g c =
     let is = known (g.M.Machine.machine c.args.table.now.key) g.M.ListMachine.lists c.requires.at _ _ c.in-Take.is c.requires.access in let s = c.take_first_step-won in brought (g.M.Machine.machine c.args.table.now.key) g.M.ListMachine.lists c.requires.at s.new.seat.me _ _ _ _ is.0.2 (ap (λ (b : Bool). side b (change.Take c.in-Take.next)) is.2) s.ensures.won s.ensures.lost
+
+pub give_one_step-won-requires-clause-table : goal.give_one_step-won-requires-clause-table
+give_one_step-won-requires-clause-table g c =
+    let is = known (g.M.Machine.machine c.args.table.now.key) g.M.ListMachine.lists c.requires.at _ _ c.in-Give.is c.requires.access in (c.requires.table, is.0.0, is.1)
+
+pub give_one_step-won-requires-clause-access : goal.give_one_step-won-requires-clause-access
+give_one_step-won-requires-clause-access g c =
+    at_step (g.M.Machine.machine c.args.table.now.key) g.M.ListMachine.lists c.requires.at _ _ (known (g.M.Machine.machine c.args.table.now.key) g.M.ListMachine.lists c.requires.at _ _ c.in-Give.is c.requires.access).0.1
+
+pub give_one_step-won-requires-clause-carries : goal.give_one_step-won-requires-clause-carries
+give_one_step-won-requires-clause-carries g c =
+    let is = known (g.M.Machine.machine c.args.table.now.key) g.M.ListMachine.lists c.requires.at _ _ c.in-Give.is c.requires.access in is.2
+
+pub give_one_step-won-requires-clause-word : goal.give_one_step-won-requires-clause-word
+give_one_step-won-requires-clause-word g c =
+    let is = known (g.M.Machine.machine c.args.table.now.key) g.M.ListMachine.lists c.requires.at _ _ c.in-Give.is c.requires.access in (is.3, is.4)
+
+pub give_one_step-won-requires-clause-fits : goal.give_one_step-won-requires-clause-fits
+give_one_step-won-requires-clause-fits g c =
+    let is = known (g.M.Machine.machine c.args.table.now.key) g.M.ListMachine.lists c.requires.at _ _ c.in-Give.is c.requires.access in fits_now (g.M.Machine.machine c.args.table.now.key) g.M.ListMachine.lists c.requires.at is.5
+
+pub returns-in-Give-clause-made : goal.returns-in-Give-clause-made
+returns-in-Give-clause-made g c =
+    let is = known (g.M.Machine.machine c.args.table.now.key) g.M.ListMachine.lists c.requires.at _ _ c.in-Give.is c.requires.access in let s = c.give_one_step-won in returned (g.M.Machine.machine c.args.table.now.key) g.M.ListMachine.lists c.requires.at s.new.seat.me _ _ _ _ is.0.2 (ap (λ (b : Bool). side b (change.Give c.in-Give.index)) is.2) s.ensures.won s.ensures.lost
+
+pub give_bare_step-won-requires-clause-table : goal.give_bare_step-won-requires-clause-table
+give_bare_step-won-requires-clause-table g c =
+    let is = known (g.M.Machine.machine c.args.table.now.key) g.M.ListMachine.lists c.requires.at _ _ c.in-GiveBare.is c.requires.access in (c.requires.table, is.0.0, is.1)
+
+pub give_bare_step-won-requires-clause-access : goal.give_bare_step-won-requires-clause-access
+give_bare_step-won-requires-clause-access g c =
+    at_step (g.M.Machine.machine c.args.table.now.key) g.M.ListMachine.lists c.requires.at _ _ (known (g.M.Machine.machine c.args.table.now.key) g.M.ListMachine.lists c.requires.at _ _ c.in-GiveBare.is c.requires.access).0.1
+
+pub give_bare_step-won-requires-clause-carries : goal.give_bare_step-won-requires-clause-carries
+give_bare_step-won-requires-clause-carries g c =
+    let is = known (g.M.Machine.machine c.args.table.now.key) g.M.ListMachine.lists c.requires.at _ _ c.in-GiveBare.is c.requires.access in is.2
+
+pub give_bare_step-won-requires-clause-word : goal.give_bare_step-won-requires-clause-word
+give_bare_step-won-requires-clause-word g c =
+    let is = known (g.M.Machine.machine c.args.table.now.key) g.M.ListMachine.lists c.requires.at _ _ c.in-GiveBare.is c.requires.access in (is.3, is.4)
+
+pub returns-in-GiveBare-clause-made : goal.returns-in-GiveBare-clause-made
+returns-in-GiveBare-clause-made g c =
+    let is = known (g.M.Machine.machine c.args.table.now.key) g.M.ListMachine.lists c.requires.at _ _ c.in-GiveBare.is c.requires.access in let s = c.give_bare_step-won in stayed (g.M.Machine.machine c.args.table.now.key) g.M.ListMachine.lists c.requires.at s.new.seat.me _ _ _ _ is.0.2 (ap (λ (b : Bool). side b (change.Give c.in-GiveBare.index)) is.2) s.ensures.seat.1 s.ensures.won s.ensures.lost
 
 pub give_chain_step-won-requires-clause-table : goal.give_chain_step-won-requires-clause-table
 give_chain_step-won-requires-clause-table g c =

@@ -3,7 +3,7 @@ use Rattle.running.specs.Going.{Found, begun_in}
 use Rattle.running.specs.Code.{FoundBy, Leads}
 use Rattle.running.specs.Steps.{Made}
 use Rattle.running.proofs.Leading.{gave, tells, shows}
-use Rattle.running.proofs.stepping.step.Goals as goal
+use Rattle.running.proofs.stepping.advance.Goals as goal
 
 pub next-next-requires-clause-came : goal.next-next-requires-clause-came
 next-next-requires-clause-came g c =
