@@ -1,10 +1,9 @@
 -- What one call adds after another.
-use Rattle.std.proofs.Common.{◌≡◌, ℕ, List, [], ◌++◌, refl, sym, ap, ◌∙◌, arith, append-nil, append_assoc}
+use Rattle.std.proofs.Common.{◌≡◌, List, ◌++◌, refl}
 use Rattle.bounded_model.specs.declared.history.Event.{Event}
 use Rattle.bounded_model.specs.declared.views.PassView.{PassView}
-use Rattle.bounded_model.specs.Machine.{Shape}
 use Rattle.bounded_model.specs.Histories.{own, Later}
-use Rattle.bounded_model.specs.Justified.{Sometime, Justified, Answer}
+use Rattle.bounded_model.specs.Justified.{Sometime}
 use Rattle.bounded_model.specs.Laws.{Adds}
 use Rattle.bounded_model.proofs.Histories.{Later-refl, Later-trans, own-append}
 

@@ -70,6 +70,7 @@ pub data Answer : Type 0 where
   NotClosed : Answer
   NotShut : Answer
   Looked : Bool → Answer
+  Counted : ℕ → Answer
 
 -- the table: what makes each of them right
 abbrev pub Justifies : {T : Type 0} → Shape → List (Event T) → Answer → Type 0
@@ -84,6 +85,7 @@ Justifies c h NotClosed = IsClosed c h
 Justifies c h NotShut = IsShut c h
 Justifies c h (Looked true) = IsEmpty c h
 Justifies c h (Looked false) = IsEmpty c h → ⊥
+Justifies c h (Counted k) = length (state c h).values ≡ k
 
 -- P holds of some history that is not earlier than the old one, and not later than the new
 pub record Sometime {T : Type 0} (old new : List (Event T)) (P : List (Event T) → Type 0) : Type 0 where

@@ -12,7 +12,7 @@ use Rattle.bounded_model.specs.declared.views.PassView.{PassView}
 use Rattle.bounded_model.specs.declared.views.RootView.{RootView}
 use Rattle.bounded_model.specs.Machine.{Shape, state, Legal}
 use Rattle.bounded_model.specs.Histories.{own, pass_of, Later}
-use Rattle.bounded_model.specs.Justified.{Justified, take_answer, PutFull, PutClosed, PutSpent, NotClosed, NotShut, Looked}
+use Rattle.bounded_model.specs.Justified.{Justified, take_answer, PutFull, PutClosed, PutSpent, NotClosed, NotShut, Looked, Counted}
 
 -- Passes and roots at rest
 
@@ -114,6 +114,10 @@ ShutGives c v w false = Adds v w [] × Justified c v w NotShut
 -- look: whether it was empty
 abbrev pub LookGives : {T : Type 0} → Shape → PassView T → PassView T → Bool → Type 0
 LookGives c v w b = Adds v w [] × Justified c v w (Looked b)
+
+-- len: how many values it held
+abbrev pub LenGives : {T : Type 0} → Shape → PassView T → PassView T → ℕ → Type 0
+LenGives c v w k = Adds v w [] × Justified c v w (Counted k)
 
 -- a stack's put of several values by one exchange, and its take of all values by one exchange
 abbrev pub RangeGives : {T : Type 0} → PassView T → List T → PassView T → ℕ → Type 0

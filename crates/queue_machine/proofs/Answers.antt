@@ -1,6 +1,8 @@
 -- What the words that a pass finds tell of the history, so that its answer is right.
-use Rattle.std.proofs.Common.{◌≡◌, ◌≢◌, ℕ, ◌+◌, ◌<◌, ◌≤◌, Bool, true, false, List, [], ◌∷◌, ◌++◌, length, refl, sym, ap, ◌∙◌, subst, arith}
+use Rattle.std.proofs.Common.{◌≡◌, ◌≢◌, ℕ, ◌+◌, ◌<◌, ◌≤◌, Bool, true, false, List, [], ◌∷◌, ◌++◌, length, refl, sym, ap, ◌∙◌, subst, ⊎_elim, arith}
 use Rattle.std.proofs.lemmas.Bool.{false≢true}
+use Rattle.std.proofs.lemmas.Bool.Decides.{eqb_tells}
+use Rattle.std.proofs.lemmas.List.{length-append}
 use mathlib.Core.Option.{Option, some}
 use lib.ListN.{get_elem?}
 use Rattle.tagged_index.specs.declared.word.TheConstants.{NULL}
@@ -10,8 +12,9 @@ use Rattle.bounded_model.specs.declared.history.Event.TheVariants.{Hold, Put, Ta
 use Rattle.bounded_model.specs.Machine.{Shape, Legal}
 use Rattle.bounded_model.specs.Machine as bounded
 use Rattle.bounded_model.specs.Histories.{Later}
-use Rattle.bounded_model.specs.Justified.{IsClosed, IsUnshut, IsShut, IsFull, Justifies, PutSpent}
-use Rattle.bounded_model.proofs.Histories.{is_nil}
+use Rattle.bounded_model.specs.Justified.{Sometime, IsClosed, IsUnshut, IsShut, IsFull, Justifies, PutSpent}
+use Rattle.bounded_model.proofs.Histories.{Later-refl, Later-cons, is_nil}
+use Rattle.bounded_model.proofs.Adding.{Sometime-now, Sometime-wider}
 use Rattle.bounded_model.proofs.Staying.{closed_stays}
 use Rattle.machine.specs.Words.{Tagged, times, Stands}
 use Rattle.machine.proofs.Sums.{total_one}
@@ -21,10 +24,22 @@ use Rattle.queue_machine.specs.declared.lines.Line.{Line}
 use Rattle.queue_machine.specs.declared.lines.Line.TheVariants.{LoadNodes}
 use Rattle.queue_machine.specs.Machine.{Memory, next_of}
 use Rattle.queue_machine.specs.Answers.{shape, state}
-use Rattle.queue_machine.specs.Rule.{Lists, Past, HasRoom, bare, wanting, EndTells, FrontTells, Good}
-use Rattle.queue_machine.proofs.Chain.{chain_length, head_in, at_end, at_front}
+use Rattle.queue_machine.specs.Rule.{Lists, Past, Spans, HasRoom, bare, wanting, EndTells, FrontTells, Good}
+use Rattle.queue_machine.proofs.Chain.{chain_length, head_in, at_end, at_front, behind}
 use Rattle.queue_machine.proofs.Linked.{no_null}
 use Rattle.queue_machine.proofs.Told.{queued_length, puts_now}
+
+-- in a queue's history each value was put, and is there or was taken
+module _ {T : Type 0} (n limit : ℕ) where
+  pub balanced : (h : List (Event T)) → Legal (shape n limit) h → (state n limit h).puts ≡ (state n limit h).takes + length (state n limit h).values
+  balanced [] l = refl
+  balanced (Hold p ∷ h) l = balanced h l.1
+  balanced (Put p vs k ∷ h) l = let r = balanced h l.1 in omega (arith, r, l.0.1, length-append (state n limit h).values vs)
+  balanced (Take p v k ∷ h) l = let r = balanced h l.1 in let is = l.0.1.1 in omega (arith, r, ap length is, ap (λ (vs : List T). length (bounded.without_first vs)) is)
+  balanced (TakeAll p vs k ∷ h) l = absurd l.0.1
+  balanced (Free p k ∷ h) l = balanced h l.1
+  balanced (Close p ∷ h) l = balanced h l.1
+  balanced (Shut p ∷ h) l = balanced h l.1
 
 -- two tests with the same outcome
 pub same_truth : (a b : Bool) → (a ≡ true → b ≡ true) → (b ≡ true → a ≡ true) → a ≡ b
@@ -60,6 +75,31 @@ module _ {T : Type 0} (c : Shape) where
 
   pub puts_stay : {old new : List (Event T)} → Later old new → Legal c new → IsClosed c old → (bounded.state c new).puts ≡ (bounded.state c old).puts
   puts_stay {old} {new} later legal closed = subst (λ (h : List (Event T)). (bounded.state c h).puts ≡ (bounded.state c old).puts) (sym later.is) (no_more_puts later.more old (subst (Legal c) later.is legal) closed)
+
+-- puts are made one by one: there was a moment with each number of them
+module _ {T : Type 0} (c : Shape) (d : ℕ) where
+  abbrev AtPuts : List (Event T) → Type 0
+  AtPuts h = Legal c h × ((bounded.state c h).puts ≡ d)
+
+  earlier : (e : Event T) (more h : List (Event T)) → Sometime h (more ++ h) AtPuts → Sometime h (e ∷ more ++ h) AtPuts
+  earlier e more h s = Sometime-wider (Later-refl h) (Later-cons e (more ++ h)) s
+
+  on_the_way : (more h : List (Event T)) → Legal c (more ++ h) → (bounded.state c h).puts ≤ d → d ≤ (bounded.state c (more ++ h)).puts → Sometime h (more ++ h) AtPuts
+  on_the_way [] h l few many = Sometime-now (Later-refl h) (l, omega (arith, few, many))
+  on_the_way (Put p vs k ∷ more) h l few many = ⊎_elim
+      (λ t. Sometime-now (record { more = Put p vs k ∷ more; is = refl }) (l, sym t.1))
+      (λ t. earlier (Put p vs k) more h (on_the_way more h l.1 few (let ne = t.1 in grind (arith, ne))))
+      (eqb_tells d ((bounded.state c (more ++ h)).puts + 1))
+  on_the_way (Hold p ∷ more) h l few many = earlier (Hold p) more h (on_the_way more h l.1 few many)
+  on_the_way (Take p v k ∷ more) h l few many = earlier (Take p v k) more h (on_the_way more h l.1 few many)
+  on_the_way (TakeAll p vs k ∷ more) h l few many = earlier (TakeAll p vs k) more h (on_the_way more h l.1 few many)
+  on_the_way (Free p k ∷ more) h l few many = earlier (Free p k) more h (on_the_way more h l.1 few many)
+  on_the_way (Close p ∷ more) h l few many = earlier (Close p) more h (on_the_way more h l.1 few many)
+  on_the_way (Shut p ∷ more) h l few many = earlier (Shut p) more h (on_the_way more h l.1 few many)
+
+  pub some_moment : {old new : List (Event T)} → Later old new → Legal c new → (bounded.state c old).puts ≤ d → d ≤ (bounded.state c new).puts → Sometime old new AtPuts
+  some_moment {old} {new} later l few many = subst (λ (h : List (Event T)). Sometime old h AtPuts) (sym later.is)
+      (on_the_way later.more old (subst (Legal c) later.is l) few (subst (λ (h : List (Event T)). d ≤ (bounded.state c h).puts) later.is many))
 
 module _ {T : Type 0} {n limit : ℕ} {m : Memory T} {g : Lists} {who : ℕ → Option ℕ} {lines : List (Line T)} {history : List (Event T)} (x : Good T n limit m g who lines history) where
   -- a null top of the free cells: every cell has a value or is in some hand
@@ -100,6 +140,27 @@ module _ {T : Type 0} {n limit : ℕ} {m : Memory T} {g : Lists} {who : ℕ → 
     marked = x.told.marked_closed w.index;
     null = λ closed number null. ap (λ (i : ℕ). (m.next i).mark) (past.index (number ∙ sym (closed_tail closed))) ∙ x.told.closed_marked closed;
   }
+
+  -- the tail is at the last node or at the one before
+  pub puts_near : (m.tail.tag ≤ (state n limit history).puts) × ((state n limit history).puts ≤ m.tail.tag + 1)
+  puts_near =
+      let ch = x.linked.chained in
+      (omega (arith, ch.place, x.told.head_tag, x.told.balance, x.told.listed, queued_length ch, chain_length ch), omega (arith, ch.place, ch.short, x.told.head_tag, x.told.balance, x.told.listed, queued_length ch, chain_length ch))
+
+  -- as many were put as the tail w says, since no node stands behind that of w and no take was made
+  pub puts_to_end : {h w : Tagged} → Spans m.head m.tail m.next g.chain h w → h.tag ≡ m.head.tag → next_of m w.index ≡ NULL → (state n limit history).puts ≡ w.tag
+  puts_to_end s e null =
+      let t = s.last e null in
+      omega (arith, t, puts_now x.linked.chained x.told (at_end x.linked.chained (omega (arith, no_null x.linked)) (ap (next_of m) (sym (s.past.index t)) ∙ null)))
+
+  -- or more, since one does
+  pub puts_past : {h w : Tagged} → Spans m.head m.tail m.next g.chain h w → next_of m w.index ≢ NULL → w.tag + 1 ≤ (state n limit history).puts
+  puts_past {h} {w} s node = ⊎_elim
+      (λ t. let ch = x.linked.chained in
+      let one = behind ch (λ z. node (ap (next_of m) (s.past.index t.1) ∙ z)) in
+      omega (arith, t.1, ap length one, ch.place, x.told.head_tag, x.told.balance, x.told.listed, queued_length ch, chain_length ch))
+      (λ t. let ne = t.1 in let low = s.past.tag in let near = puts_near.0 in grind (arith, ne))
+      (eqb_tells w.tag m.tail.tag)
 
   -- the dummy alone
   only_dummy : next_of m m.head.index ≡ NULL → length g.chain ≡ 1

@@ -10,7 +10,7 @@ use Rattle.machine.specs.Chains.{last}
 use Rattle.machine.proofs.Lists.{times_here, times_append}
 use Rattle.machine.proofs.OneList.{front_of, none_there}
 use Rattle.queue_machine.specs.Machine.{store_word}
-use Rattle.queue_machine.specs.Rule.{Lists, Past, Was, Follows, Lags, Ends, IsChained}
+use Rattle.queue_machine.specs.Rule.{Lists, Past, Was, Follows, Spans, Lags, Ends, IsChained}
 
 -- words
 
@@ -134,6 +134,21 @@ module _ {head tail : Tagged} {next : ℕ → Tagged} {cell : ℕ → ℕ} {chai
       let e' : w.tag ≡ tail.tag = omega (arith, c.tails.tag, p.tag) in
       let is = f e' node in
       c.links w.index (named there p e') (λ z. node (sym (ap (λ (x : Tagged). x.index) is) ∙ z)) ∙ is
+
+  -- a null link in the chain was null before
+  was_null : (j : ℕ) → 0 < times j chain → (next' j).index ≡ NULL → (next j).index ≡ NULL
+  was_null j there null = ⊎_elim (λ t. t.1) (λ t. absurd (t.1 (ap (λ (x : Tagged). x.index) (sym (c.links j there t.1)) ∙ null))) (eqb_tells (next j).index NULL)
+
+  pub spans_later : {h w : Tagged} (chain' : List ℕ) → (head.tag ≡ head'.tag → (j : ℕ) → 0 < times j chain → 0 < times j chain') → h.tag ≤ head.tag → Spans head tail next chain h w → Spans head' tail' next' chain' h w
+  spans_later {h} {w} chain' stays low s = record {
+    past = past_later w c.tails s.past;
+    there = λ e. stays (omega (arith, e, low, c.heads.tag)) w.index (s.there (omega (arith, e, low, c.heads.tag)));
+    last = λ e null.
+        let e' : h.tag ≡ head.tag = omega (arith, e, low, c.heads.tag) in
+        let null' : (next w.index).index ≡ NULL = was_null w.index (s.there e') null in
+        let t : w.tag ≡ tail.tag = s.last e' null' in
+        t ∙ ap (λ (x : Tagged). x.tag) (sym (c.still (ap (λ (i : ℕ). (next i).index) (sym (s.past.index t)) ∙ null')));
+  }
 
   -- where the null link is still there, the tail has not moved
   pub ends_later : {w n : Tagged} → Ends tail next w n → Ends tail' next' w n

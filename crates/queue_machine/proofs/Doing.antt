@@ -18,12 +18,12 @@ use Rattle.machine.proofs.Program.{Cases, by_cases}
 use Rattle.queue_machine.specs.declared.lines.Seeking.{Seeking}
 use Rattle.queue_machine.specs.declared.lines.Seeking.TheVariants.{ToLink, ToRefuse, ToClose}
 use Rattle.queue_machine.specs.declared.lines.Call.{Call}
-use Rattle.queue_machine.specs.declared.lines.Call.TheVariants.{Put as CallPut, Take as CallTake, Close as CallClose, Shut as CallShut, Look as CallLook}
+use Rattle.queue_machine.specs.declared.lines.Call.TheVariants.{Put as CallPut, Take as CallTake, Close as CallClose, Shut as CallShut, Look as CallLook, Len as CallLen}
 use Rattle.queue_machine.specs.declared.lines.Answer.{Answer}
-use Rattle.queue_machine.specs.declared.lines.Answer.TheVariants.{Put as AnswerPut, Take as AnswerTake, Close as AnswerClose, Shut as AnswerShut, Look as AnswerLook}
+use Rattle.queue_machine.specs.declared.lines.Answer.TheVariants.{Put as AnswerPut, Take as AnswerTake, Close as AnswerClose, Shut as AnswerShut, Look as AnswerLook, Len as AnswerLen}
 use Rattle.queue_machine.specs.declared.lines.Line.{Line}
-use Rattle.queue_machine.specs.declared.lines.Line.TheVariants.{Idle, LoadCells, LoadCellLink, TakeCell, LoadNodes, LoadNodeLink, TakeNode, LoadNext, PrepareNext, LoadTail, CheckTail, SwingTail, LinkNext, SwingToLinked, MarkNext, LoadHead, LoadTailToTake, CheckHead, SwingTailToTake, LoadCell, TakeHead, GiveNode, GiveCell, CheckHeadToLook, LoadHeadToShut, ShutHead}
-use Rattle.queue_machine.specs.Machine.{Memory, memories, Outcome, table, wins_value, step, starts, ends, gives, frees, back_closed, back_null, found_back, found_front}
+use Rattle.queue_machine.specs.declared.lines.Line.TheVariants.{Idle, LoadCells, LoadCellLink, TakeCell, LoadNodes, LoadNodeLink, TakeNode, LoadNext, PrepareNext, LoadTail, CheckTail, SwingTail, LinkNext, SwingToLinked, MarkNext, LoadHead, LoadTailToTake, CheckHead, SwingTailToTake, LoadCell, TakeHead, GiveNode, GiveCell, CheckHeadToLook, CheckHeadToCount, LoadHeadToShut, ShutHead}
+use Rattle.queue_machine.specs.Machine.{Memory, memories, Outcome, table, wins_value, step, starts, ends, gives, frees, back_closed, back_null, found_back, found_front, counted}
 use Rattle.queue_machine.specs.Answers.{shape}
 use Rattle.queue_machine.specs.Rule.{Lists, IsFine, Good}
 use Rattle.queue_machine.specs.Deeds.{Makes, HasMade, Deeds}
@@ -154,6 +154,7 @@ module _ {T : Type 0} {n limit : ℕ} {m : Memory T} {g : Lists} {who : ℕ → 
   does (GiveNode give w) at d = (λ won. stays d d.made, stays d d.made)
   does (GiveCell give w) at d = (λ won. adds (Free p 1) d refl d.made, stays d d.made)
   does (CheckHeadToLook u y) at d = (λ won. stays d (of CallLook (AnswerLook (eqb y.index NULL)) (own p d.between) d.made.0 d.made.1), stays d d.made)
+  does (CheckHeadToCount u w y) at d = (λ won. stays d (of CallLen (AnswerLen (counted u w y)) (own p d.between) d.made.0 d.made.1), stays d d.made)
   does LoadHeadToShut at d = cases At m.head.second (ends (AnswerShut false)) (ShutHead m.head)
       (λ b. stays d (of CallShut (AnswerShut false) (own p d.between) d.made.0 d.made.1))
       (λ b. stays d d.made)

@@ -13,10 +13,10 @@ use Rattle.queue_machine.specs.declared.lines.Linking.{Linking}
 use Rattle.queue_machine.specs.declared.lines.Seeking.{Seeking}
 use Rattle.queue_machine.specs.declared.lines.Seeking.TheVariants.{ToLink, ToRefuse, ToClose}
 use Rattle.queue_machine.specs.declared.lines.Line.{Line}
-use Rattle.queue_machine.specs.declared.lines.Line.TheVariants.{LoadCellLink, TakeCell, LoadNodeLink, TakeNode, StoreCell, LoadNext, PrepareNext, LoadTail, LoadTailNext, CheckTail, SwingTail, LinkNext, SwingToLinked, MarkNext, LoadTailToTake, LoadHeadNext, CheckHead, SwingTailToTake, LoadCell, TakeHead, GiveNode, GiveCell, LoadNextToLook, ShutHead}
+use Rattle.queue_machine.specs.declared.lines.Line.TheVariants.{LoadCellLink, TakeCell, LoadNodeLink, TakeNode, StoreCell, LoadNext, PrepareNext, LoadTail, LoadTailNext, CheckTail, SwingTail, LinkNext, SwingToLinked, MarkNext, LoadTailToTake, LoadHeadNext, CheckHead, SwingTailToTake, LoadCell, TakeHead, GiveNode, GiveCell, LoadNextToLook, LoadTailToCount, LoadNextToCount, ShutHead}
 use Rattle.queue_machine.specs.Machine.{Memory, held_cells, held_nodes, seeking_nodes, next_of}
 use Rattle.queue_machine.specs.Rule.{Lists, IsFresh, IsPrepared, Seeks, HasRoom, IsFine, IsChained, Linked}
-use Rattle.queue_machine.proofs.Chain.{past_later, was_later, PoolMoves, pool_later, ChainMoves, ChainLater, chain_later, lags_later, follows_head, follows_tail, ends_later, head_in, tail_in}
+use Rattle.queue_machine.proofs.Chain.{past_later, was_later, PoolMoves, pool_later, ChainMoves, ChainLater, chain_later, lags_later, follows_head, follows_tail, spans_later, ends_later, head_in, tail_in}
 
 -- room for the tag of a link grows with the tag of `NODES`
 pub fresh_later : (limit k k' : ℕ) (x x' : Tagged) → k ≤ k' → x' ≡ x → IsFresh limit k x → IsFresh limit k' x'
@@ -28,6 +28,7 @@ module _ {T : Type 0} where
     pub cells : Later m.cells m.clink g.cells m'.cells m'.clink g'.cells
     pub nodes : Later m.nodes m.nlink g.nodes m'.nodes m'.nlink g'.nodes
     pub chain : ChainLater m.head m.tail m.next m.cell g.chain (held_nodes l) m'.head m'.tail m'.next m'.cell
+    pub stays : m.head.tag ≡ m'.head.tag → (j : ℕ) → 0 < times j g.chain → 0 < times j g'.chain
     pub clinks : (i : ℕ) → 0 < times i (held_cells l) → m'.clink i ≡ m.clink i
     pub nlinks : (j : ℕ) → 0 < times j (held_nodes l) → m'.nlink j ≡ m.nlink j
     pub head_there : 0 < times m.head.index g.chain
@@ -98,6 +99,8 @@ module _ {T : Type 0} where
   fine_later limit m g m' g' (GiveNode give w) o f = o.nlinks give.node (omega (arith, times_here give.node [])) ∙ f
   fine_later limit m g m' g' (GiveCell give w) o f = o.clinks give.cell (omega (arith, times_here give.cell [])) ∙ f
   fine_later limit m g m' g' (LoadNextToLook h) o f = past_later h o.chain.heads f
+  fine_later limit m g m' g' (LoadTailToCount h) o f = omega (arith, f, o.chain.heads.tag)
+  fine_later limit m g m' g' (LoadNextToCount h w) o f = (omega (arith, f.0, o.chain.heads.tag), spans_later o.chain g'.chain o.stays f.0 f.1)
   fine_later limit m g m' g' (ShutHead h) o f = f
   fine_later limit m g m' g' l o f = tt
 
@@ -106,6 +109,7 @@ module _ {T : Type 0} where
     pub cells : PoolMoves m.cells m.clink g.cells (held_cells l) m'.cells m'.clink g'.cells
     pub nodes : PoolMoves m.nodes m.nlink g.nodes (held_nodes l) m'.nodes m'.nlink g'.nodes
     pub chain : ChainMoves m.head m.tail m.next m.cell g.chain (held_nodes l) m'.head m'.tail m'.next m'.cell
+    pub stays : m.head.tag ≡ m'.head.tag → (j : ℕ) → 0 < times j g.chain → 0 < times j g'.chain
     pub cells_moved : (i : ℕ) → times i g'.cells + times i g'.queued + times i (held_cells l') ≡ times i g.cells + times i g.queued + times i (held_cells l)
     pub nodes_moved : (j : ℕ) → times j g'.nodes + times j g'.chain + times j (held_nodes l') ≡ times j g.nodes + times j g.chain + times j (held_nodes l)
 
@@ -168,6 +172,7 @@ module _ {T : Type 0} where
                 cells = pool_later (λ i. omega (arith, cell_once p i l s e)) v.cells;
                 nodes = pool_later (λ j. omega (arith, node_once p j l s e)) v.nodes;
                 chain = chain_later (held_nodes u) (λ j. omega (arith, s.nodes_once j, total_two (nodes_by j) lines p q l u t.0 e t.1, at_most_one j (n + 1))) v.chain;
+                stays = v.stays;
                 clinks = λ i there. v.cells.links i (omega (arith, s.cells_once i, total_two (cells_by i) lines p q l u t.0 e t.1, at_most_one i n));
                 nlinks = λ j there. v.nodes.links j (omega (arith, s.nodes_once j, total_two (nodes_by j) lines p q l u t.0 e t.1, at_most_one j (n + 1)));
                 head_there = head_in s.chained;

@@ -42,6 +42,7 @@ module _ {T : Type 0} {n limit : ℕ} {m : Memory T} {g : Lists} {lines : List (
         cells = of_cells;
         nodes = of_nodes;
         chain = chain_same m.head m.tail m.next m.cell g.chain (held_nodes l);
+        stays = λ t j there. there;
         cells_moved = λ i. omega (arith, cells_moved i);
         nodes_moved = λ j. omega (arith, nodes_moved j);
       })
@@ -49,14 +50,16 @@ module _ {T : Type 0} {n limit : ℕ} {m : Memory T} {g : Lists} {lines : List (
 
   -- and one that changes the chain alone, and slots
   chain_kept : (head tail : Tagged) (next : ℕ → Tagged) (cell : ℕ → ℕ) (home : ℕ → Option (Slot T)) (chain before after queued : List ℕ) → ChainMoves m.head m.tail m.next m.cell g.chain (held_nodes l) head tail next cell
+      → (m.head.tag ≡ head.tag → (j : ℕ) → 0 < times j g.chain → 0 < times j chain)
       → ((i : ℕ) → times i queued + times i (held_cells l') ≡ times i g.queued + times i (held_cells l)) → ((j : ℕ) → times j chain + times j (held_nodes l') ≡ times j g.chain + times j (held_nodes l))
       → let m' = record m { head = head; tail = tail; next = next; cell = cell; home = home } in let g' = record g { chain = chain; before = before; after = after; queued = queued } in
       IsChained head tail next cell g' → ((j : ℕ) → (next j).index ≢ NULL → (next j).index < n + 1) → IsFine limit m' g' l' → Linked T n limit m' g' (set lines p l')
-  chain_kept head tail next cell home chain before after queued moved cells_moved nodes_moved chained named f = moves_kept p l l' s e
+  chain_kept head tail next cell home chain before after queued moved stays cells_moved nodes_moved chained named f = moves_kept p l l' s e
       (record {
         cells = pool_same m.cells m.clink g.cells (held_cells l);
         nodes = pool_same m.nodes m.nlink g.nodes (held_nodes l);
         chain = moved;
+        stays = stays;
         cells_moved = λ i. omega (arith, cells_moved i);
         nodes_moved = λ j. omega (arith, nodes_moved j);
       })
@@ -94,7 +97,7 @@ module _ {T : Type 0} {n limit : ℕ} {m : Memory T} {g : Lists} {lines : List (
   pub cell_linked : (i x : ℕ) → 0 < times i (held_nodes l) → held_cells l' ≡ held_cells l → held_nodes l' ≡ held_nodes l → IsFine limit (after_cell m i x) g l' → Linked T n limit (after_cell m i x) g (set lines p l')
   cell_linked i x mine same_cells same_nodes f = chain_kept m.head m.tail m.next (store m.cell i x) m.home g.chain g.before g.after g.queued
       (record { heads = past_refl m.head; tails = past_refl m.tail; words = λ j. was_refl (m.next j); links = λ j h node. refl; others = λ j h h'. refl; cells = stored_apart m.cell i x (held_nodes l) mine; still = λ h. refl })
-      (queued_stay same_cells) (chain_stays same_nodes) (store_cell_chained s.chained i x (omega (arith, node_once p i l s e))) s.named f
+      (λ t j there. there) (queued_stay same_cells) (chain_stays same_nodes) (store_cell_chained s.chained i x (omega (arith, node_once p i l s e))) s.named f
 
   pub next_linked : (i : ℕ) (x : Tagged) → 0 < times i (held_nodes l) → (m.next i).tag < x.tag → x.index ≡ NULL → held_cells l' ≡ held_cells l → held_nodes l' ≡ held_nodes l → IsFine limit (after_next m i x) g l' → Linked T n limit (after_next m i x) g (set lines p l')
   next_linked i x mine higher null same_cells same_nodes f = chain_kept m.head m.tail (store_word m.next i x) m.cell m.home g.chain g.before g.after g.queued
@@ -107,7 +110,7 @@ module _ {T : Type 0} {n limit : ℕ} {m : Memory T} {g : Lists} {lines : List (
         cells = λ j h. refl;
         still = λ h. refl;
       })
-      (queued_stay same_cells) (chain_stays same_nodes) (store_next_chained s.chained i x (omega (arith, node_once p i l s e)) (λ h. null))
+      (λ t j there. there) (queued_stay same_cells) (chain_stays same_nodes) (store_next_chained s.chained i x (omega (arith, node_once p i l s e)) (λ h. null))
       (word_each (λ j w. w.index ≢ NULL → w.index < n + 1) m.next i x (λ node. absurd (node null)) (λ j ne. s.named j)) f
 
   -- the free lists: a cell is taken and given back, and so is a node
@@ -182,6 +185,7 @@ module _ {T : Type 0} {n limit : ℕ} {m : Memory T} {g : Lists} {lines : List (
       subst (λ (i : ℕ). IsChained m.head m.tail (store_word m.next i y) m.cell (record g { chain = g.chain ++ (j ∷ []); after = j ∷ []; queued = g.queued ++ (m.cell j ∷ []) })) (sym at.index)
       (record { stands = ch.stands; split = ch.split; short = ch.short; place = ch.place; stored = ch.stored; tidy = ch.tidy }) in
       chain_kept m.head m.tail (store_word m.next w.index y) m.cell (with_home m.home c (some (Some v))) (g.chain ++ (j ∷ [])) g.before (j ∷ []) (g.queued ++ (c ∷ [])) (end_moves w x y at won (omega arith))
+      (λ t i there. omega (arith, there, times_append i g.chain (j ∷ [])))
       (λ i. omega (arith, ap (times i) mine_cell, ap (times i) no_cell, times_append i g.queued (c ∷ []))) (λ i. omega (arith, ap (times i) mine_node, ap (times i) no_node, times_append i g.chain (j ∷ [])))
       (subst (λ (k : ℕ). IsChained m.head m.tail (store_word m.next w.index y) m.cell (record g { chain = g.chain ++ (j ∷ []); after = j ∷ []; queued = g.queued ++ (k ∷ []) })) in_cell ch')
       (word_each (λ i u. u.index ≢ NULL → u.index < n + 1) m.next w.index y (λ node. held_below p j l s e (omega (arith, ap (times j) mine_node, times_here j []))) (λ i ne. s.named i))
@@ -192,7 +196,7 @@ module _ {T : Type 0} {n limit : ℕ} {m : Memory T} {g : Lists} {lines : List (
   close_linked w x ends won same_cells same_nodes f =
       let at = at_the_end w x ends won in
       let y = marked (raised x NULL) in
-      chain_kept m.head m.tail (store_word m.next w.index y) m.cell m.home g.chain g.before g.after g.queued (end_moves w x y at won (omega arith)) (queued_stay same_cells) (chain_stays same_nodes) (close_chained s.chained x w.index won ends.null)
+      chain_kept m.head m.tail (store_word m.next w.index y) m.cell m.home g.chain g.before g.after g.queued (end_moves w x y at won (omega arith)) (λ t j there. there) (queued_stay same_cells) (chain_stays same_nodes) (close_chained s.chained x w.index won ends.null)
       (word_each (λ i u. u.index ≢ NULL → u.index < n + 1) m.next w.index y (λ node. absurd (node refl)) (λ i ne. s.named i)) f
 
   -- the tail is moved on
@@ -214,7 +218,7 @@ module _ {T : Type 0} {n limit : ℕ} {m : Memory T} {g : Lists} {lines : List (
         cells = λ j h. refl;
         still = λ h. absurd (ne h);
       })
-      (queued_stay same_cells) (chain_stays same_nodes)
+      (λ t j there. there) (queued_stay same_cells) (chain_stays same_nodes)
       (subst (λ (u : Tagged). IsChained m.head (raised u x.index) m.next m.cell (record g { before = g.before ++ (m.tail.index ∷ []); after = [] })) won
       (record { stands = ch.stands; split = ch.split; short = ch.short; place = ch.place; stored = ch.stored; tidy = ch.tidy }))
       s.named f
@@ -236,7 +240,7 @@ module _ {T : Type 0} {n limit : ℕ} {m : Memory T} {g : Lists} {lines : List (
         cells = λ j h. refl;
         still = λ h. refl;
       })
-      (λ i. omega (arith, ap (times i) no_cell, ap (times i) mine_cell, ap (times i) t.queued_is, ap (λ (k : ℕ). times i (k ∷ [])) in_cell))
+      (λ t'. absurd (omega (arith, tag, t'))) (λ i. omega (arith, ap (times i) no_cell, ap (times i) mine_cell, ap (times i) t.queued_is, ap (λ (k : ℕ). times i (k ∷ [])) in_cell))
       (λ j. omega (arith, ap (times j) no_node, ap (times j) mine_node, ap (times j) t.chain_is, ap (λ (u : Tagged). times j (u.index ∷ [])) won))
       (subst (λ (u : Tagged). IsChained (raised u x.index) m.tail m.next m.cell (record g { chain = t.chain; before = t.before; queued = t.queued })) won
       (record { stands = ch.stands; split = ch.split; short = ch.short; place = ch.place; stored = ch.stored; tidy = ch.tidy }))
@@ -255,5 +259,5 @@ module _ {T : Type 0} {n limit : ℕ} {m : Memory T} {g : Lists} {lines : List (
         cells = λ j h. refl;
         still = λ h. refl;
       })
-      (queued_stay same_cells) (chain_stays same_nodes)
+      (λ t j there. there) (queued_stay same_cells) (chain_stays same_nodes)
       (subst (λ (u : Tagged). IsChained (with_second u) m.tail m.next m.cell g) won (shut_chained s.chained)) s.named f

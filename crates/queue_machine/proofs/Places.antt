@@ -16,7 +16,7 @@ use Rattle.machine.proofs.Places.{in_one_place, is_free, is_inside}
 use Rattle.queue_machine.specs.declared.lines.Seeking.{Seeking}
 use Rattle.queue_machine.specs.declared.lines.Seeking.TheVariants.{ToLink, ToRefuse, ToClose}
 use Rattle.queue_machine.specs.declared.lines.Line.{Line}
-use Rattle.queue_machine.specs.declared.lines.Line.TheVariants.{Idle, LoadCells, TakeCell, LoadNodes, TakeNode, LoadNext, CheckTail, SwingTail, LinkNext, SwingToLinked, MarkNext, LoadHead, CheckHead, SwingTailToTake, TakeHead, GiveNode, GiveCell, CheckHeadToLook, LoadHeadToShut, ShutHead}
+use Rattle.queue_machine.specs.declared.lines.Line.TheVariants.{Idle, LoadCells, TakeCell, LoadNodes, TakeNode, LoadNext, CheckTail, SwingTail, LinkNext, SwingToLinked, MarkNext, LoadHead, CheckHead, SwingTailToTake, TakeHead, GiveNode, GiveCell, CheckHeadToLook, CheckHeadToCount, LoadHeadToShut, ShutHead}
 use Rattle.queue_machine.specs.Machine.{Memory, memories, Outcome, table, next_of, held_cells, held_nodes, step, wins_value, back_closed, back_null}
 use Rattle.queue_machine.specs.Answers.{shape}
 use Rattle.queue_machine.specs.Rule.{Lists, IsFine, Good}
@@ -137,6 +137,7 @@ module _ {T : Type 0} {n limit : ℕ} {m : Memory T} {g : Lists} {who : ℕ → 
     brings (GiveNode give w) e = (λ won. record { cells = λ c h. inl h; nodes = λ j h. absurd (omega arith) }, same refl refl)
     brings (GiveCell give w) e = (λ won. empty refl refl, same refl refl)
     brings (CheckHeadToLook h y) e = (λ won. empty refl refl, empty refl refl)
+    brings (CheckHeadToCount h w y) e = (λ won. empty refl refl, empty refl refl)
     brings LoadHeadToShut e = of LoadHeadToShut m.head.second _ _ (empty refl refl) (empty refl refl)
     brings (ShutHead h) e = (λ won. empty refl refl, empty refl refl)
     brings l e = same refl refl

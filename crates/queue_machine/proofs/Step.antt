@@ -18,13 +18,13 @@ use Rattle.queue_machine.specs.declared.lines.Placing.{Placing}
 use Rattle.queue_machine.specs.declared.lines.Linking.{Linking}
 use Rattle.queue_machine.specs.declared.lines.Seeking.{Seeking}
 use Rattle.queue_machine.specs.declared.lines.Seeking.TheVariants.{ToLink, ToRefuse, ToClose}
-use Rattle.queue_machine.specs.declared.lines.Answer.TheVariants.{Put as AnswerPut, Take as AnswerTake, Close as AnswerClose, Shut as AnswerShut, Look as AnswerLook}
+use Rattle.queue_machine.specs.declared.lines.Answer.TheVariants.{Put as AnswerPut, Take as AnswerTake, Close as AnswerClose, Shut as AnswerShut, Look as AnswerLook, Len as AnswerLen}
 use Rattle.queue_machine.specs.declared.lines.Line.{Line}
-use Rattle.queue_machine.specs.declared.lines.Line.TheVariants.{Idle, LoadCells, LoadCellLink, TakeCell, LoadNodes, LoadNodeLink, TakeNode, StoreCell, LoadNext, PrepareNext, LoadTail, LoadTailNext, CheckTail, SwingTail, LinkNext, SwingToLinked, MarkNext, LoadHead, LoadTailToTake, LoadHeadNext, CheckHead, SwingTailToTake, LoadCell, TakeHead, LoadNodesToGive, LinkToNodes, GiveNode, LoadCellsToGive, LinkToCells, GiveCell, LoadHeadToLook, LoadNextToLook, CheckHeadToLook, LoadHeadToShut, ShutHead}
-use Rattle.queue_machine.specs.Machine.{Memory, memories, Outcome, table, null_word, goes_on, wins, wins_value, step, ends, gives, frees, with_cell, with_node, found_cells, found_nodes, back_closed, back_null, found_back, found_front, after_next, after_link, after_swing}
+use Rattle.queue_machine.specs.declared.lines.Line.TheVariants.{Idle, LoadCells, LoadCellLink, TakeCell, LoadNodes, LoadNodeLink, TakeNode, StoreCell, LoadNext, PrepareNext, LoadTail, LoadTailNext, CheckTail, SwingTail, LinkNext, SwingToLinked, MarkNext, LoadHead, LoadTailToTake, LoadHeadNext, CheckHead, SwingTailToTake, LoadCell, TakeHead, LoadNodesToGive, LinkToNodes, GiveNode, LoadCellsToGive, LinkToCells, GiveCell, LoadHeadToLook, LoadNextToLook, CheckHeadToLook, LoadHeadToCount, LoadTailToCount, LoadNextToCount, CheckHeadToCount, LoadHeadToShut, ShutHead}
+use Rattle.queue_machine.specs.Machine.{Memory, memories, Outcome, table, null_word, goes_on, wins, wins_value, step, ends, gives, frees, with_cell, with_node, found_cells, found_nodes, back_closed, back_null, found_back, found_front, counted, after_next, after_link, after_swing}
 use Rattle.queue_machine.specs.Answers.{shape}
 use Rattle.queue_machine.specs.Rule.{Lists, Lags, Ends, IsFresh, Seeks, IsFine, Kept}
-use Rattle.queue_machine.proofs.Chain.{word_here, past_refl, was_refl, at_front, never_behind}
+use Rattle.queue_machine.proofs.Chain.{word_here, past_refl, was_refl, at_front, never_behind, tail_in}
 use Rattle.queue_machine.proofs.Linked.{seeks_later, held_node}
 use Rattle.queue_machine.proofs.StepKinds.{Alike, steady, good_goes, good_clink, good_nlink, good_cell, good_next, good_hold, good_free, good_node_take, good_node_give, good_link, good_close, good_swing, good_shut, good_take}
 
@@ -243,6 +243,12 @@ module _ {T : Type 0} (n limit : ℕ) (m : Memory T) (who : ℕ → Option ℕ) 
     kept LoadHeadToLook e = to (LoadNextToLook m.head) e (steady refl) (past_refl m.head)
     kept (LoadNextToLook h) e = to (CheckHeadToLook h (m.next h.index)) e (steady refl) tt
     kept (CheckHeadToLook h y) e = (λ won. to (ends (AnswerLook (eqb y.index NULL))) e (steady refl) tt, to LoadHeadToLook e (steady refl) tt)
+    kept LoadHeadToCount e = to (LoadTailToCount m.head) e (steady refl) (omega arith)
+    kept (LoadTailToCount h) e =
+        let f : IsFine limit m x.lists (LoadTailToCount h) = x.good.linked.fine q (LoadTailToCount h) e in
+        to (LoadNextToCount h m.tail) e (steady refl) (f, record { past = past_refl m.tail; there = λ t. tail_in x.good.linked.chained; last = λ t null. refl })
+    kept (LoadNextToCount h w) e = to (CheckHeadToCount h w (m.next w.index)) e (steady refl) tt
+    kept (CheckHeadToCount h w y) e = (λ won. to (ends (AnswerLen (counted h w y))) e (steady refl) tt, to LoadHeadToCount e (steady refl) tt)
     kept LoadHeadToShut e =
         let refused : Line T = ends (AnswerShut false) in
         cases (λ l. After q (goes_on m l)) m.head.second refused (ShutHead m.head) (λ h. to refused e (steady refl) tt) (λ h. to (ShutHead m.head) e (steady refl) h)

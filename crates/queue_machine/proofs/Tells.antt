@@ -1,5 +1,5 @@
 -- A step of the queue keeps what its line tells of the history, and adds only events of its own pass.
-use Rattle.std.proofs.Common.{◌≡◌, ◌≢◌, ℕ, ◌+◌, Bool, true, false, cond, eqb, leb, List, ◌∷◌, [], ◌++◌, refl, sym, ap, ◌∙◌, eqb-true, Option as Slot, Some, None, Ok, Err, arith}
+use Rattle.std.proofs.Common.{◌≡◌, ◌≢◌, ℕ, ◌+◌, ◌-◌, ◌≤◌, Bool, true, false, cond, eqb, leb, List, ◌∷◌, [], ◌++◌, length, refl, sym, ap, ◌∙◌, eqb-true, Option as Slot, Some, None, Ok, Err, arith}
 use Rattle.std.proofs.lemmas.Bool.{false≢true}
 use Rattle.std.proofs.lemmas.Bool.Decides.{nat_tests}
 use mathlib.Core.Option.{Option, none, some}
@@ -26,11 +26,11 @@ use Rattle.queue_machine.specs.declared.lines.Seeking.TheVariants.{ToLink, ToRef
 use Rattle.queue_machine.specs.declared.lines.Answer.{Answer}
 use Rattle.queue_machine.specs.declared.lines.Answer.TheVariants.{Put as AnswerPut, Take as AnswerTake, Close as AnswerClose, Shut as AnswerShut}
 use Rattle.queue_machine.specs.declared.lines.Line.{Line}
-use Rattle.queue_machine.specs.declared.lines.Line.TheVariants.{Idle, LoadCells, LoadCellLink, TakeCell, LoadNodes, LoadNodeLink, TakeNode, LoadNext, PrepareNext, LoadTail, LoadTailNext, CheckTail, SwingTail, LinkNext, SwingToLinked, MarkNext, LoadHead, LoadTailToTake, LoadHeadNext, CheckHead, SwingTailToTake, LoadCell, TakeHead, LoadNodesToGive, LinkToNodes, GiveNode, LoadCellsToGive, LinkToCells, GiveCell, LoadHeadToLook, LoadNextToLook, CheckHeadToLook, LoadHeadToShut, ShutHead}
+use Rattle.queue_machine.specs.declared.lines.Line.TheVariants.{Idle, LoadCells, LoadCellLink, TakeCell, LoadNodes, LoadNodeLink, TakeNode, LoadNext, PrepareNext, LoadTail, LoadTailNext, CheckTail, SwingTail, LinkNext, SwingToLinked, MarkNext, LoadHead, LoadTailToTake, LoadHeadNext, CheckHead, SwingTailToTake, LoadCell, TakeHead, LoadNodesToGive, LinkToNodes, GiveNode, LoadCellsToGive, LinkToCells, GiveCell, LoadHeadToLook, LoadNextToLook, CheckHeadToLook, LoadHeadToCount, LoadTailToCount, LoadNextToCount, CheckHeadToCount, LoadHeadToShut, ShutHead}
 use Rattle.queue_machine.specs.Machine.{Memory, memories, Outcome, table, wins_value, step, ends, gives, frees, back_closed, back_null, found_cells, found_nodes, found_next, found_back, found_front}
 use Rattle.queue_machine.specs.Answers.{shape, state, IsRight}
-use Rattle.queue_machine.specs.Rule.{Lists, IsFine, SeeksFor, EndTells, FrontTells, Tells, Good}
-use Rattle.queue_machine.proofs.Answers.{takes_grow, puts_stay, full_now, cells_spent_now, next_spent_now, node_there, node_below, shut_now, unshut_now, closed_tail, end_tells, front_tells}
+use Rattle.queue_machine.specs.Rule.{Lists, IsFine, Spans, SeeksFor, EndTells, FrontTells, Tells, Good}
+use Rattle.queue_machine.proofs.Answers.{takes_grow, puts_stay, balanced, some_moment, puts_near, puts_to_end, puts_past, full_now, cells_spent_now, next_spent_now, node_there, node_below, shut_now, unshut_now, closed_tail, end_tells, front_tells}
 
 module _ {T : Type 0} where
   -- an answer that was right stays so when its pass has seen more
@@ -110,14 +110,14 @@ module _ {T : Type 0} where
         (λ b'. seeks_wider n limit begun seen history s now t.0))
 
     -- as many were taken then as now, where the head is what it was
-    takes_then : (h y : Tagged) → m.head ≡ h → FrontTells n limit seen h y → (state n limit seen).takes ≡ h.tag
-    takes_then h y won t = omega (arith, ap (λ (u : Tagged). u.tag) won, x.told.head_tag, t.since, takes_grow (shape n limit) now)
+    takes_then : (h : Tagged) → m.head ≡ h → h.tag ≤ (state n limit seen).takes → (state n limit seen).takes ≡ h.tag
+    takes_then h won since' = omega (arith, ap (λ (u : Tagged). u.tag) won, x.told.head_tag, since', takes_grow (shape n limit) now)
 
     check_head_tells : (h w y : Tagged) → m.head ≡ h → h.second ≡ false → FrontTells n limit seen h y → Tells n limit begun history (found_front h w y)
     check_head_tells h w y won unshut t =
         let closed : Line T = ends (AnswerTake (Err TakeClosed)) in
         let empty : Line T = ends (AnswerTake (Err TakeEmpty)) in
-        let number = takes_then h y won t in
+        let number = takes_then h won t.since in
         let unshut_then = unshut_before (shape n limit) now (unshut_now x (ap (λ (u : Tagged). u.second) won ∙ unshut)) in
         cases (Tells n limit begun history) y.mark closed (cond (eqb y.index NULL) empty (cond (eqb w.index h.index) (SwingTailToTake w y) (LoadCell h y)))
         (λ b. let there = t.null number (t.tidy b) in then_right (there.0, sym there.1 ∙ b, unshut_then))
@@ -126,8 +126,24 @@ module _ {T : Type 0} where
         (λ b'. cases (Tells n limit begun history) (eqb w.index h.index) (SwingTailToTake w y) (LoadCell h y) (λ b''. tt) (λ b''. tt)))
 
     look_tells : (h y : Tagged) (b : Bool) → m.head ≡ h → FrontTells n limit seen h y → eqb y.index NULL ≡ b → Sometime begun history (λ k. Justifies (shape n limit) k (Looked b))
-    look_tells h y true won t e = then_right (t.null (takes_then h y won t) (eqb-true y.index NULL e)).0
-    look_tells h y false won t e = then_right (t.node (takes_then h y won t) (λ z. grind (arith, nat_tests)))
+    look_tells h y true won t e = then_right (t.null (takes_then h won t.since) (eqb-true y.index NULL e)).0
+    look_tells h y false won t e = then_right (t.node (takes_then h won t.since) (λ z. grind (arith, nat_tests)))
+
+    -- the values behind the head h, at a moment since the tail was w
+    count_right : (h w : Tagged) (b : Bool) → Spans m.head m.tail m.next g.chain h w → eqb (m.next w.index).index NULL ≡ b → (state n limit history).takes ≡ h.tag → h.tag ≤ (state n limit seen).takes → (state n limit seen).puts ≤ w.tag + 1
+        → Sometime begun history (λ k. length (state n limit k).values ≡ cond b w.tag (w.tag + 1) - h.tag)
+    count_right h w true s e number low few =
+        let puts = puts_to_end x s (omega (arith, number, x.told.head_tag)) (eqb-true (m.next w.index).index NULL e) in
+        Sometime-now since (omega (arith, puts, number, x.told.balance))
+    count_right h w false s e number low few =
+        let r = some_moment (shape n limit) (w.tag + 1) now x.told.legal few (puts_past x s (λ z. grind (arith, nat_tests))) in
+        let at = balanced n limit r.at r.holds.0 in
+        record {
+          at = r.at;
+          since = Later-trans before r.since;
+          until = r.until;
+          holds = omega (arith, at, r.holds.1, number, low, takes_grow (shape n limit) r.since, takes_grow (shape n limit) r.until);
+        }
 
     value_tells : (h y : Tagged) (k : ℕ) (o : Option (Slot T)) → let out = wins_value m p h y k o in Tells n limit begun (out.events ++ history) out.line
     value_tells h y k none = tt
@@ -173,6 +189,15 @@ module _ {T : Type 0} where
     told LoadHeadToLook e t = omega (arith, x.told.head_tag)
     told (LoadNextToLook h) e t = front_tells x h (x.linked.fine q (LoadNextToLook h) e)
     told (CheckHeadToLook h y) e t = (λ won. look_tells h y (eqb y.index NULL) won t refl, tt)
+    told LoadHeadToCount e t = omega (arith, x.told.head_tag)
+    told (LoadTailToCount h) e t = (omega (arith, t, takes_grow (shape n limit) now), (puts_near x).1)
+    told (LoadNextToCount h w) e t =
+        let f : IsFine limit m g (LoadNextToCount h w) = x.linked.fine q (LoadNextToCount h w) e in
+        record {
+          since = omega (arith, t.0, takes_grow (shape n limit) now);
+          held = λ number. count_right h w (eqb (m.next w.index).index NULL) f.1 refl number t.0 t.1;
+        }
+    told (CheckHeadToCount h w y) e t = (λ won. Sometime-wider (Later-refl begun) now (t.held (takes_then h won t.since)), tt)
     told LoadHeadToShut e t = cases (Tells n limit begun history) m.head.second (ends (AnswerShut false)) (ShutHead m.head) (λ h. Sometime-now since (shut_now x h)) (λ h. tt)
     told (ShutHead h) e t = (λ won. tt, tt)
     told l e t = tt

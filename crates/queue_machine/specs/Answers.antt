@@ -6,7 +6,7 @@ use Rattle.bounded_model.specs.Machine as bounded
 use Rattle.bounded_model.specs.Justified as right
 use Rattle.bounded_model.specs.declared.answers.PutRefused.TheVariants.{Full, Closed, Spent}
 use Rattle.queue_machine.specs.declared.lines.Answer.{Answer}
-use Rattle.queue_machine.specs.declared.lines.Answer.TheVariants.{Put as AnswerPut, Take as AnswerTake, Close as AnswerClose, Shut as AnswerShut, Look as AnswerLook}
+use Rattle.queue_machine.specs.declared.lines.Answer.TheVariants.{Put as AnswerPut, Take as AnswerTake, Close as AnswerClose, Shut as AnswerShut, Look as AnswerLook, Len as AnswerLen}
 
 -- a queue of n cells
 abbrev pub shape : ℕ → ℕ → bounded.Shape
@@ -30,3 +30,4 @@ IsRight n limit begun seen (AnswerClose false) = right.Sometime begun seen (λ h
 IsRight n limit begun seen (AnswerShut true) = Unit {0}
 IsRight n limit begun seen (AnswerShut false) = right.Sometime begun seen (λ h. right.Justifies (shape n limit) h right.NotShut)
 IsRight n limit begun seen (AnswerLook empty) = right.Sometime begun seen (λ h. right.Justifies (shape n limit) h (right.Looked empty))
+IsRight n limit begun seen (AnswerLen k) = right.Sometime begun seen (λ h. right.Justifies (shape n limit) h (right.Counted k))

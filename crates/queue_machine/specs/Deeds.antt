@@ -12,11 +12,11 @@ use Rattle.bounded_model.specs.Histories.{own}
 use Rattle.queue_machine.specs.declared.lines.Seeking.{Seeking}
 use Rattle.queue_machine.specs.declared.lines.Seeking.TheVariants.{ToLink, ToRefuse, ToClose}
 use Rattle.queue_machine.specs.declared.lines.Call.{Call}
-use Rattle.queue_machine.specs.declared.lines.Call.TheVariants.{Put as CallPut, Take as CallTake, Close as CallClose, Shut as CallShut, Look as CallLook}
+use Rattle.queue_machine.specs.declared.lines.Call.TheVariants.{Put as CallPut, Take as CallTake, Close as CallClose, Shut as CallShut, Look as CallLook, Len as CallLen}
 use Rattle.queue_machine.specs.declared.lines.Answer.{Answer}
-use Rattle.queue_machine.specs.declared.lines.Answer.TheVariants.{Put as AnswerPut, Take as AnswerTake, Close as AnswerClose, Shut as AnswerShut, Look as AnswerLook}
+use Rattle.queue_machine.specs.declared.lines.Answer.TheVariants.{Put as AnswerPut, Take as AnswerTake, Close as AnswerClose, Shut as AnswerShut, Look as AnswerLook, Len as AnswerLen}
 use Rattle.queue_machine.specs.declared.lines.Line.{Line}
-use Rattle.queue_machine.specs.declared.lines.Line.TheVariants.{Idle, LoadCells, LoadCellLink, TakeCell, LoadNodes, LoadNodeLink, TakeNode, StoreCell, LoadNext, PrepareNext, LoadTail, LoadTailNext, CheckTail, SwingTail, LinkNext, SwingToLinked, MarkNext, LoadHead, LoadTailToTake, LoadHeadNext, CheckHead, SwingTailToTake, LoadCell, TakeHead, LoadNodesToGive, LinkToNodes, GiveNode, LoadCellsToGive, LinkToCells, GiveCell, LoadHeadToLook, LoadNextToLook, CheckHeadToLook, LoadHeadToShut, ShutHead}
+use Rattle.queue_machine.specs.declared.lines.Line.TheVariants.{Idle, LoadCells, LoadCellLink, TakeCell, LoadNodes, LoadNodeLink, TakeNode, StoreCell, LoadNext, PrepareNext, LoadTail, LoadTailNext, CheckTail, SwingTail, LinkNext, SwingToLinked, MarkNext, LoadHead, LoadTailToTake, LoadHeadNext, CheckHead, SwingTailToTake, LoadCell, TakeHead, LoadNodesToGive, LinkToNodes, GiveNode, LoadCellsToGive, LinkToCells, GiveCell, LoadHeadToLook, LoadNextToLook, CheckHeadToLook, LoadHeadToCount, LoadTailToCount, LoadNextToCount, CheckHeadToCount, LoadHeadToShut, ShutHead}
 
 module _ {T : Type 0} (p : ℕ) where
   -- All the events of pass p from begin to answer, the newest first, are these
@@ -43,6 +43,7 @@ module _ {T : Type 0} (p : ℕ) where
   Makes CallClose (AnswerClose done) events = events ≡ (if done then Close p ∷ [] else [])
   Makes CallShut (AnswerShut done) events = events ≡ (if done then Shut p ∷ [] else [])
   Makes CallLook (AnswerLook empty) events = events ≡ []
+  Makes CallLen (AnswerLen k) events = events ≡ []
   Makes call a events = ⊥
 
   -- So far the call and the events are these
@@ -91,10 +92,14 @@ module _ {T : Type 0} (p : ℕ) where
   HasMade call (LoadCellsToGive give) events = HasToFree call give.answer events
   HasMade call (LinkToCells give w) events = HasToFree call give.answer events
   HasMade call (GiveCell give w) events = HasToFree call give.answer events
-  -- look, shut
+  -- look, len, shut
   HasMade call LoadHeadToLook events = (call ≡ CallLook) × (events ≡ [])
   HasMade call (LoadNextToLook h) events = (call ≡ CallLook) × (events ≡ [])
   HasMade call (CheckHeadToLook h n) events = (call ≡ CallLook) × (events ≡ [])
+  HasMade call LoadHeadToCount events = (call ≡ CallLen) × (events ≡ [])
+  HasMade call (LoadTailToCount h) events = (call ≡ CallLen) × (events ≡ [])
+  HasMade call (LoadNextToCount h w) events = (call ≡ CallLen) × (events ≡ [])
+  HasMade call (CheckHeadToCount h w n) events = (call ≡ CallLen) × (events ≡ [])
   HasMade call LoadHeadToShut events = (call ≡ CallShut) × (events ≡ [])
   HasMade call (ShutHead h) events = (call ≡ CallShut) × (events ≡ [])
 

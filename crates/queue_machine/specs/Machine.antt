@@ -1,6 +1,6 @@
--- The queue of Michael and Scott as a machine: any number of passes put, take, close, shut and look,
+-- The queue of Michael and Scott as a machine: any number of passes put, take, close, shut, look and count,
 -- one atomic step at a time. `step` is its table of lines.
-use Rattle.std.specs.Prelude.{ℕ, ◌+◌, ◌==◌, leb, if◌then◌else◌, Bool, true, false, List, [], ◌∷◌, Option as Slot, Some, None, Ok, Err}
+use Rattle.std.specs.Prelude.{ℕ, ◌+◌, ◌-◌, ◌==◌, leb, if◌then◌else◌, Bool, true, false, List, [], ◌∷◌, Option as Slot, Some, None, Ok, Err}
 use mathlib.Core.Option.{Option, none, some}
 use Rattle.tagged_index.specs.declared.word.TheConstants.{NULL}
 use Rattle.bounded_model.specs.declared.answers.Word.TheVariants.{Cells as CellsWord, Nodes as NodesWord, Next as NextWord}
@@ -19,15 +19,15 @@ use Rattle.queue_machine.specs.declared.lines.Linking.{Linking}
 use Rattle.queue_machine.specs.declared.lines.Seeking.{Seeking}
 use Rattle.queue_machine.specs.declared.lines.Seeking.TheVariants.{ToLink, ToRefuse, ToClose}
 use Rattle.queue_machine.specs.declared.lines.Answer.{Answer}
-use Rattle.queue_machine.specs.declared.lines.Answer.TheVariants.{Put as AnswerPut, Take as AnswerTake, Close as AnswerClose, Shut as AnswerShut, Look as AnswerLook}
+use Rattle.queue_machine.specs.declared.lines.Answer.TheVariants.{Put as AnswerPut, Take as AnswerTake, Close as AnswerClose, Shut as AnswerShut, Look as AnswerLook, Len as AnswerLen}
 use Rattle.queue_machine.specs.declared.lines.Place.{Place}
 use Rattle.queue_machine.specs.declared.lines.Place.TheVariants.{Cells as AtCells, Nodes as AtNodes, Head as AtHead, Tail as AtTail, Next as AtNext}
 use Rattle.queue_machine.specs.declared.lines.Number.{Number}
 use Rattle.queue_machine.specs.declared.lines.Number.TheVariants.{CellLink, NodeLink, Cell as CellOf}
 use Rattle.queue_machine.specs.declared.lines.Line.{Line}
-use Rattle.queue_machine.specs.declared.lines.Line.TheVariants.{Idle, LoadCells, LoadCellLink, TakeCell, LoadNodes, LoadNodeLink, TakeNode, StoreCell, LoadNext, PrepareNext, LoadTail, LoadTailNext, CheckTail, SwingTail, LinkNext, SwingToLinked, MarkNext, LoadHead, LoadTailToTake, LoadHeadNext, CheckHead, SwingTailToTake, LoadCell, TakeHead, LoadNodesToGive, LinkToNodes, GiveNode, LoadCellsToGive, LinkToCells, GiveCell, LoadHeadToLook, LoadNextToLook, CheckHeadToLook, LoadHeadToShut, ShutHead}
+use Rattle.queue_machine.specs.declared.lines.Line.TheVariants.{Idle, LoadCells, LoadCellLink, TakeCell, LoadNodes, LoadNodeLink, TakeNode, StoreCell, LoadNext, PrepareNext, LoadTail, LoadTailNext, CheckTail, SwingTail, LinkNext, SwingToLinked, MarkNext, LoadHead, LoadTailToTake, LoadHeadNext, CheckHead, SwingTailToTake, LoadCell, TakeHead, LoadNodesToGive, LinkToNodes, GiveNode, LoadCellsToGive, LinkToCells, GiveCell, LoadHeadToLook, LoadNextToLook, CheckHeadToLook, LoadHeadToCount, LoadTailToCount, LoadNextToCount, CheckHeadToCount, LoadHeadToShut, ShutHead}
 use Rattle.queue_machine.specs.declared.lines.Call.{Call}
-use Rattle.queue_machine.specs.declared.lines.Call.TheVariants.{Put as CallPut, Take as CallTake, Close as CallClose, Shut as CallShut, Look as CallLook}
+use Rattle.queue_machine.specs.declared.lines.Call.TheVariants.{Put as CallPut, Take as CallTake, Close as CallClose, Shut as CallShut, Look as CallLook, Len as CallLen}
 
 -- The words, and what each value cell has: none while a pass holds it, some None where it is empty at
 -- home. `clink` and `nlink` link the free cells and the free nodes, `next` the nodes of the chain;
@@ -54,6 +54,10 @@ null_word t = record { index = NULL; mark = false; second = false; tag = t }
 -- which node is linked behind node j
 abbrev pub next_of : {T : Type 0} → Memory T → ℕ → ℕ
 next_of m j = (m.next j).index
+
+-- the values behind the head h where the tail was w, whose node had the link n
+abbrev pub counted : Tagged → Tagged → Tagged → ℕ
+counted h w n = (if n.index == NULL then w.tag else w.tag + 1) - h.tag
 
 -- node 0 is the dummy, the others are free
 abbrev pub start_nlink : ℕ → ℕ → ℕ
@@ -295,10 +299,14 @@ module _ {T : Type 0} where
   table limit (LoadCellsToGive give) = load_top free_cells (LinkToCells give)
   table limit (LinkToCells give w) = link_to_top free_cells give.cell w (GiveCell give w)
   table limit (GiveCell give w) = give_top free_cells w give.cell (returns ((give.cell, None) ∷ []) (by (ends give.answer) (λ p. Free p 1))) (LoadCellsToGive give)
-  -- look, shut
+  -- look, len, shut
   table limit LoadHeadToLook = loads AtHead LoadNextToLook
   table limit (LoadNextToLook h) = loads (AtNext h.index) (CheckHeadToLook h)
   table limit (CheckHeadToLook h n) = checks AtHead h (ends (AnswerLook (n.index == NULL))) LoadHeadToLook
+  table limit LoadHeadToCount = loads AtHead LoadTailToCount
+  table limit (LoadTailToCount h) = loads AtTail (LoadNextToCount h)
+  table limit (LoadNextToCount h w) = loads (AtNext w.index) (CheckHeadToCount h w)
+  table limit (CheckHeadToCount h w n) = checks AtHead h (ends (AnswerLen (counted h w n))) LoadHeadToCount
   table limit LoadHeadToShut = loads AtHead found_head_to_shut
   table limit (ShutHead h) = swaps AtHead h shuts (stays (by (ends (AnswerShut true)) Shut)) LoadHeadToShut
 
@@ -368,6 +376,7 @@ module _ {T : Type 0} where
   starts CallClose = LoadTail ToClose
   starts CallShut = LoadHeadToShut
   starts CallLook = LoadHeadToLook
+  starts CallLen = LoadHeadToCount
 
 -- the words of a new queue
 abbrev pub start : {T : Type 0} → Shape → Memory T

@@ -6,7 +6,7 @@ use lib.ListN.{get_elem?}
 use Rattle.tagged_index.specs.declared.word.TheConstants.{NULL}
 use Rattle.bounded_model.specs.declared.history.Event.{Event}
 use Rattle.bounded_model.specs.Machine as bounded
-use Rattle.bounded_model.specs.Justified.{Sometime, IsFull, IsEmpty, IsClosed}
+use Rattle.bounded_model.specs.Justified.{Sometime, Justifies, IsFull, IsEmpty, IsClosed, Counted}
 use Rattle.machine.specs.Words.{Tagged, times, total, Stands}
 use Rattle.machine.specs.OneList.{ReadTop, ReadLink}
 use Rattle.machine.specs.Chains.{last, HasValues}
@@ -14,8 +14,8 @@ use Rattle.queue_machine.specs.declared.lines.Linking.{Linking}
 use Rattle.queue_machine.specs.declared.lines.Seeking.{Seeking}
 use Rattle.queue_machine.specs.declared.lines.Seeking.TheVariants.{ToLink, ToRefuse, ToClose}
 use Rattle.queue_machine.specs.declared.lines.Line.{Line}
-use Rattle.queue_machine.specs.declared.lines.Line.TheVariants.{Idle, LoadCells, LoadCellLink, TakeCell, LoadNodes, LoadNodeLink, TakeNode, StoreCell, LoadNext, PrepareNext, LoadTail, LoadTailNext, CheckTail, SwingTail, LinkNext, SwingToLinked, MarkNext, LoadHead, LoadTailToTake, LoadHeadNext, CheckHead, SwingTailToTake, LoadCell, TakeHead, LoadNodesToGive, LinkToNodes, GiveNode, LoadCellsToGive, LinkToCells, GiveCell, LoadHeadToLook, LoadNextToLook, CheckHeadToLook, LoadHeadToShut, ShutHead}
-use Rattle.queue_machine.specs.Machine.{Memory, held_cells, held_nodes}
+use Rattle.queue_machine.specs.declared.lines.Line.TheVariants.{Idle, LoadCells, LoadCellLink, TakeCell, LoadNodes, LoadNodeLink, TakeNode, StoreCell, LoadNext, PrepareNext, LoadTail, LoadTailNext, CheckTail, SwingTail, LinkNext, SwingToLinked, MarkNext, LoadHead, LoadTailToTake, LoadHeadNext, CheckHead, SwingTailToTake, LoadCell, TakeHead, LoadNodesToGive, LinkToNodes, GiveNode, LoadCellsToGive, LinkToCells, GiveCell, LoadHeadToLook, LoadNextToLook, CheckHeadToLook, LoadHeadToCount, LoadTailToCount, LoadNextToCount, CheckHeadToCount, LoadHeadToShut, ShutHead}
+use Rattle.queue_machine.specs.Machine.{Memory, held_cells, held_nodes, counted}
 use Rattle.queue_machine.specs.Answers.{IsRight, shape, state}
 
 -- the free cells; the free nodes; the nodes of the chain, and the parts of it before and behind the
@@ -48,6 +48,12 @@ Follows top next w n = w.tag ≡ top.tag → n.index ≢ NULL → next w.index �
 -- w was the tail after h had been the head: as long as h still is, w names its node or has passed it
 abbrev pub HasPassed : Tagged → Tagged → Tagged → Type 0
 HasPassed head h w = h.tag ≡ head.tag → w.index ≢ h.index → h.tag < w.tag
+
+-- w was the tail after h had been the head: until a take is made, its node is in the chain, and it is the tail's where none stands behind it
+pub record Spans (head tail : Tagged) (next : ℕ → Tagged) (chain : List ℕ) (h w : Tagged) : Type 0 where
+  pub past : Past tail w
+  pub there : h.tag ≡ head.tag → 0 < times w.index chain
+  pub last : h.tag ≡ head.tag → (next w.index).index ≡ NULL → w.tag ≡ tail.tag
 
 -- the tail was w, and n was the link of its node and names another: the tail can be moved on
 pub record Lags (tail : Tagged) (next : ℕ → Tagged) (w n : Tagged) : Type 0 where
@@ -122,10 +128,14 @@ module _ {T : Type 0} (limit : ℕ) (m : Memory T) (g : Lists) where
   IsFine (LoadCellsToGive give) = Unit {0}
   IsFine (LinkToCells give w) = Unit {0}
   IsFine (GiveCell give w) = m.clink give.cell ≡ w.index
-  -- look, shut
+  -- look, len, shut
   IsFine LoadHeadToLook = Unit {0}
   IsFine (LoadNextToLook h) = Past m.head h
   IsFine (CheckHeadToLook h n) = Unit {0}
+  IsFine LoadHeadToCount = Unit {0}
+  IsFine (LoadTailToCount h) = h.tag ≤ m.head.tag
+  IsFine (LoadNextToCount h w) = (h.tag ≤ m.head.tag) × Spans m.head m.tail m.next g.chain h w
+  IsFine (CheckHeadToCount h w n) = Unit {0}
   IsFine LoadHeadToShut = Unit {0}
   IsFine (ShutHead h) = h.second ≡ false
 
@@ -258,6 +268,11 @@ module _ {T : Type 0} (n limit : ℕ) (begun seen : List (Event T)) where
   SeeksFor (ToRefuse v) = Sometime begun seen (IsFull (shape n limit))
   SeeksFor ToClose = Unit {0}
 
+  -- what the link x of the node of w told of the values, w having been the tail after h had been the head
+  pub record CountTells (h w x : Tagged) : Type 0 where
+    pub since : h.tag ≤ (state n limit seen).takes
+    pub held : (state n limit seen).takes ≡ h.tag → Sometime begun seen (λ k. Justifies (shape n limit) k (Counted (counted h w x)))
+
   abbrev pub Tells : Line T → Type 0
   Tells (Idle None) = Unit {0}
   Tells (Idle (Some a)) = IsRight n limit begun seen a
@@ -276,4 +291,7 @@ module _ {T : Type 0} (n limit : ℕ) (begun seen : List (Event T)) where
   Tells (GiveCell give w) = IsRight n limit begun seen give.answer
   Tells (LoadNextToLook h) = h.tag ≤ (state n limit seen).takes
   Tells (CheckHeadToLook h y) = FrontTells n limit seen h y
+  Tells (LoadTailToCount h) = h.tag ≤ (state n limit seen).takes
+  Tells (LoadNextToCount h w) = (h.tag ≤ (state n limit seen).takes) × ((state n limit seen).puts ≤ w.tag + 1)
+  Tells (CheckHeadToCount h w y) = CountTells h w y
   Tells l = Unit {0}

@@ -66,6 +66,8 @@ pub enum Answer<T> {
     Shut(bool),
     /// Whether the queue was empty.
     Look(bool),
+    /// How many values it held.
+    Len(u64),
 }
 
 /// A node and a cell whose value has been moved out are to be given back, the node first; then the
@@ -153,6 +155,14 @@ pub enum Line<T> {
     /// Load `HEAD` again.
     CheckHeadToLook(Fields, Fields),
     /// Load `HEAD`.
+    LoadHeadToCount,
+    /// Load `TAIL`.
+    LoadTailToCount(Fields),
+    /// Load `next` of the node that `TAIL` named.
+    LoadNextToCount(Fields, Fields),
+    /// Load `HEAD` again.
+    CheckHeadToCount(Fields, Fields, Fields),
+    /// Load `HEAD`.
     LoadHeadToShut,
     /// Set its second mark.
     ShutHead(Fields),
@@ -165,4 +175,5 @@ pub enum Call<T> {
     Close,
     Shut,
     Look,
+    Len,
 }

@@ -14,7 +14,7 @@ use Rattle.machine.proofs.Sums.{total_one}
 use Rattle.machine.proofs.Tests.{not_below}
 use Rattle.queue_machine.specs.declared.lines.Seeking.TheVariants.{ToLink}
 use Rattle.queue_machine.specs.declared.lines.Line.{Line}
-use Rattle.queue_machine.specs.declared.lines.Line.TheVariants.{LoadCells, LoadCellLink, TakeCell, LoadNodes, LoadNodeLink, TakeNode, StoreCell, PrepareNext, LoadTail, LoadTailNext, CheckTail, SwingTail, LinkNext, SwingToLinked, MarkNext, LoadHead, LoadHeadNext, CheckHead, SwingTailToTake, LoadCell, TakeHead, LinkToNodes, GiveNode, LinkToCells, GiveCell, LoadHeadToLook, ShutHead}
+use Rattle.queue_machine.specs.declared.lines.Line.TheVariants.{LoadCells, LoadCellLink, TakeCell, LoadNodes, LoadNodeLink, TakeNode, StoreCell, PrepareNext, LoadTail, LoadTailNext, CheckTail, SwingTail, LinkNext, SwingToLinked, MarkNext, LoadHead, LoadHeadNext, CheckHead, SwingTailToTake, LoadCell, TakeHead, LinkToNodes, GiveNode, LinkToCells, GiveCell, LoadHeadToLook, LoadTailToCount, ShutHead}
 use Rattle.queue_machine.specs.Machine.{Memory, table, Outcome, step, goes_on, wins, null_word, ends, with_cell, held_nodes, held_cells, found_back, found_front, after_link}
 use Rattle.queue_machine.specs.Answers.{shape}
 use Rattle.queue_machine.specs.Rule.{Lists, Ends, IsFine, Good, Kept}
@@ -156,6 +156,7 @@ module _ {T : Type 0} (n limit : ℕ) (words : List ℕ) (homes : List (Option (
         (let b = inside give.cell low in omega arith, tt)
     needs (GiveCell give w) e = (λ hit. (omega arith, record { apart = (λ z. z, tt); low = λ i there. ⊎_elim (λ e'. subst (λ (c : ℕ). c < length homes) (sym e') (held_cell (GiveCell give w) give.cell e (alone give.cell))) (λ z. absurd z) there }), tt)
     needs LoadHeadToLook e = head_below k.good.linked
+    needs (LoadTailToCount u) e = tail_below k.good.linked
     needs (ShutHead u) e = (λ hit. (omega arith, tt), tt)
     needs l e = tt
 

@@ -3,14 +3,14 @@ use Rattle.std.specs.Prelude.{◌≡◌, ◌≢◌, ℕ, ◌+◌, ◌<◌, ◌�
 use Rattle.tagged_index.specs.Fields.{fields_of, index_of}
 use Rattle.tagged_index.specs.declared.word.TheConstants.{NULL}
 use Rattle.queue_machine.specs.declared.lines.Call.{Call}
-use Rattle.queue_machine.specs.declared.lines.Call.TheVariants.{Put as CallPut, Take as CallTake, Close as CallClose, Shut as CallShut, Look as CallLook}
+use Rattle.queue_machine.specs.declared.lines.Call.TheVariants.{Put as CallPut, Take as CallTake, Close as CallClose, Shut as CallShut, Look as CallLook, Len as CallLen}
 use Rattle.queue_machine.specs.declared.lines.Line.{Line}
-use Rattle.queue_machine.specs.declared.lines.Line.TheVariants.{Idle, LoadCells, LoadCellLink, TakeCell, LoadNodes, LoadNodeLink, LoadTail, LoadTailNext, CheckTail, SwingTail, LinkNext, SwingToLinked, MarkNext, LoadHead, LoadHeadNext, CheckHead, SwingTailToTake, LoadCell, TakeHead, LoadHeadToLook}
+use Rattle.queue_machine.specs.declared.lines.Line.TheVariants.{Idle, LoadCells, LoadCellLink, TakeCell, LoadNodes, LoadNodeLink, LoadTail, LoadTailNext, CheckTail, SwingTail, LinkNext, SwingToLinked, MarkNext, LoadHead, LoadHeadNext, CheckHead, SwingTailToTake, LoadCell, TakeHead, LoadHeadToLook, LoadTailToCount}
 use Rattle.queue_machine.specs.Machine.{is_idle, starts, table}
 use Rattle.running.specs.Machine.{Names}
 use Rattle.running.specs.Tables.{next_of}
 use Rattle.queue_table.specs.declared.operation.Operation.{Operation}
-use Rattle.queue_table.specs.declared.operation.Operation.TheVariants.{Put as PutFirst, Take as TakeFirst, Close as CloseFirst, Shut as ShutFirst, Look as LookFirst}
+use Rattle.queue_table.specs.declared.operation.Operation.TheVariants.{Put as PutFirst, Take as TakeFirst, Close as CloseFirst, Shut as ShutFirst, Look as LookFirst, Len as LenFirst}
 
 module _ {T : Type 0} where
   -- the machine's call of an operation, whose first line is the machine's
@@ -20,6 +20,7 @@ module _ {T : Type 0} where
   call_of CloseFirst = CallClose
   call_of ShutFirst = CallShut
   call_of LookFirst = CallLook
+  call_of LenFirst = CallLen
 
   abbrev pub first_line : Operation T → Line T
   first_line o = starts (call_of o)
@@ -64,4 +65,5 @@ module _ {T : Type 0} where
   Says n limit (LoadCell h x) y = (y ≤ NULL) × (h.tag < limit)
   Says n limit (TakeHead h x k) y = fields_of y ≡ h → k < n
   Says n limit LoadHeadToLook y = index_of y < n + 1
+  Says n limit (LoadTailToCount h) y = index_of y < n + 1
   Says n limit l y = Unit {0}

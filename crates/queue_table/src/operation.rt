@@ -10,4 +10,5 @@ pub enum Operation<T> {
     Close,
     Shut,
     Look,
+    Len,
 }

@@ -16,10 +16,10 @@ use Rattle.machine.proofs.Lists.{times_here}
 use Rattle.queue_machine.specs.declared.lines.Linking.{Linking}
 use Rattle.queue_machine.specs.declared.lines.Seeking.{Seeking}
 use Rattle.queue_machine.specs.declared.lines.Seeking.TheVariants.{ToLink, ToRefuse, ToClose}
-use Rattle.queue_machine.specs.declared.lines.Answer.TheVariants.{Put as AnswerPut, Take as AnswerTake, Shut as AnswerShut, Look as AnswerLook}
+use Rattle.queue_machine.specs.declared.lines.Answer.TheVariants.{Put as AnswerPut, Take as AnswerTake, Shut as AnswerShut, Look as AnswerLook, Len as AnswerLen}
 use Rattle.queue_machine.specs.declared.lines.Line.{Line}
-use Rattle.queue_machine.specs.declared.lines.Line.TheVariants.{Idle, LoadCells, LoadCellLink, TakeCell, LoadNodes, LoadNodeLink, TakeNode, LoadNext, PrepareNext, LoadTail, LoadTailNext, CheckTail, SwingTail, LinkNext, SwingToLinked, MarkNext, LoadHead, LoadTailToTake, CheckHead, SwingTailToTake, LoadCell, TakeHead, LoadNodesToGive, GiveNode, LoadCellsToGive, GiveCell, LoadHeadToLook, CheckHeadToLook, LoadHeadToShut, ShutHead}
-use Rattle.queue_machine.specs.Machine.{Memory, null_word, goes_on, wins_value, wins_exchange, step, is_idle, ends, gives, frees, back_closed, back_null, found_back, after_next, after_link, after_swing, after_close, next_of}
+use Rattle.queue_machine.specs.declared.lines.Line.TheVariants.{Idle, LoadCells, LoadCellLink, TakeCell, LoadNodes, LoadNodeLink, TakeNode, LoadNext, PrepareNext, LoadTail, LoadTailNext, CheckTail, SwingTail, LinkNext, SwingToLinked, MarkNext, LoadHead, LoadTailToTake, CheckHead, SwingTailToTake, LoadCell, TakeHead, LoadNodesToGive, GiveNode, LoadCellsToGive, GiveCell, LoadHeadToLook, CheckHeadToLook, LoadHeadToCount, CheckHeadToCount, LoadHeadToShut, ShutHead}
+use Rattle.queue_machine.specs.Machine.{Memory, null_word, goes_on, wins_value, wins_exchange, step, is_idle, ends, gives, frees, back_closed, back_null, found_back, counted, after_next, after_link, after_swing, after_close, next_of}
 use Rattle.queue_machine.specs.Answers.{shape}
 use Rattle.queue_machine.specs.Rule.{Lists, Lags, Ends, IsFine, Good}
 use Rattle.queue_machine.proofs.Chain.{word_else, tail_in, behind_null}
@@ -154,6 +154,7 @@ module _ {T : Type 0} where
     step_raises q p r (GiveNode give w) u at at' = raised_by weight m u (LoadNodesToGive give) (same m.nodes w) _ 3 (λ b. nodes_raise m.cells m.nodes m.head m.tail (kept w give.node) m.next (lag m) (late m) u)
     step_raises q p r (GiveCell give w) u at at' = raised_by weight m u (LoadCellsToGive give) (same m.cells w) _ 3 (λ b. cells_raise m.cells m.nodes m.head m.tail (kept w give.cell) m.next (lag m) (late m) u)
     step_raises q p r (CheckHeadToLook h y) u at at' = compared u _ LoadHeadToLook (same m.head h)
+    step_raises q p r (CheckHeadToCount h w y) u at at' = compared u _ LoadHeadToCount (same m.head h)
     step_raises q p r (ShutHead h) u at at' = raised_by weight m u LoadHeadToShut (same m.head h) _ 6 (λ b. head_raise m.cells m.nodes m.head m.tail (with_second h) m.next (lag m) (late m) u)
     step_raises q p r l u at at' = omega arith
 
@@ -281,6 +282,11 @@ module _ {T : Type 0} where
           seen : (b : Bool) → Low weight harm (cond b (goes_on m (ends (AnswerLook (eqb y.index NULL)))) (goes_on m LoadHeadToLook)) 0 (1 + lost b 3) 0
           seen true = (omega arith, omega arith)
           seen false = (omega (arith, lost_all false 3 refl), omega arith)
+      step_falls (CheckHeadToCount h w y) at busy = seen (same m.head h)
+        where
+          seen : (b : Bool) → Low weight harm (cond b (goes_on m (ends (AnswerLen (counted h w y)))) (goes_on m LoadHeadToCount)) 0 (1 + lost b 4) 0
+          seen true = (omega arith, omega arith)
+          seen false = (omega (arith, lost_all false 4 refl), omega arith)
       step_falls LoadHeadToShut at busy =
           either weight harm m 2 6 m.head.second (ends (AnswerShut false)) (ShutHead m.head) (omega arith, omega arith) (omega (arith, fresh m.head 2), omega arith)
       step_falls (ShutHead h) at busy = swaps weight harm m (same m.head h) _ _ 6 1 2 6 (λ b. (omega arith, omega arith)) (omega arith, omega arith)

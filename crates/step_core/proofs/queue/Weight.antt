@@ -7,7 +7,7 @@ use Rattle.machine.proofs.Tests.{one_of, lost, lost_small, lost_grows, lost_two,
 use Rattle.queue_machine.specs.declared.lines.Seeking.{Seeking}
 use Rattle.queue_machine.specs.declared.lines.Seeking.TheVariants.{ToLink, ToRefuse, ToClose}
 use Rattle.queue_machine.specs.declared.lines.Line.{Line}
-use Rattle.queue_machine.specs.declared.lines.Line.TheVariants.{Idle, LoadCells, LoadCellLink, TakeCell, LoadNodes, LoadNodeLink, TakeNode, StoreCell, LoadNext, PrepareNext, LoadTail, LoadTailNext, CheckTail, SwingTail, LinkNext, SwingToLinked, MarkNext, LoadHead, LoadTailToTake, LoadHeadNext, CheckHead, SwingTailToTake, LoadCell, TakeHead, LoadNodesToGive, LinkToNodes, GiveNode, LoadCellsToGive, LinkToCells, GiveCell, LoadHeadToLook, LoadNextToLook, CheckHeadToLook, LoadHeadToShut, ShutHead}
+use Rattle.queue_machine.specs.declared.lines.Line.TheVariants.{Idle, LoadCells, LoadCellLink, TakeCell, LoadNodes, LoadNodeLink, TakeNode, StoreCell, LoadNext, PrepareNext, LoadTail, LoadTailNext, CheckTail, SwingTail, LinkNext, SwingToLinked, MarkNext, LoadHead, LoadTailToTake, LoadHeadNext, CheckHead, SwingTailToTake, LoadCell, TakeHead, LoadNodesToGive, LinkToNodes, GiveNode, LoadCellsToGive, LinkToCells, GiveCell, LoadHeadToLook, LoadNextToLook, CheckHeadToLook, LoadHeadToCount, LoadTailToCount, LoadNextToCount, CheckHeadToCount, LoadHeadToShut, ShutHead}
 use Rattle.queue_machine.specs.Machine.{Memory, next_of}
 
 -- how many steps are left where the end of the chain was found, and no other pass is in the way
@@ -72,6 +72,10 @@ module _ {T : Type 0} where
   weight_of cells nodes head tail next g e LoadHeadToLook = 3
   weight_of cells nodes head tail next g e (LoadNextToLook h) = 2 + lost (same head h) 3
   weight_of cells nodes head tail next g e (CheckHeadToLook h y) = 1 + lost (same head h) 3
+  weight_of cells nodes head tail next g e LoadHeadToCount = 4
+  weight_of cells nodes head tail next g e (LoadTailToCount h) = 3 + lost (same head h) 4
+  weight_of cells nodes head tail next g e (LoadNextToCount h w) = 2 + lost (same head h) 4
+  weight_of cells nodes head tail next g e (CheckHeadToCount h w y) = 1 + lost (same head h) 4
   weight_of cells nodes head tail next g e LoadHeadToShut = 2
   weight_of cells nodes head tail next g e (ShutHead h) = 1 + lost (same head h) 2
 
