@@ -1,0 +1,138 @@
+//! How many values a queue holds: by steps, and by a whole call.
+ghost use Rattle.std.specs.Prelude.{◌≡◌};
+ghost use Rattle.bounded_model.specs.Laws.{LenGives};
+ghost use Rattle.running.specs.Passes.{pass_in};
+ghost use Rattle.ms_queue.specs.Counting.{IsCounting, LenStep};
+ghost use Rattle.ms_queue.specs.Queue.{IsPassOf, begun_of, shape_of};
+
+use crate::queue::{Pass, Queue};
+use crate::rule::Queued;
+use atomic_table::Seat;
+use bounded_model::Stepped;
+use machine::View;
+use queue_machine::Line;
+use queue_table::Operation;
+use queue_table::layout::{HEAD, TAIL, next};
+use running::{Access, Code, Next, Outcome, any, single_step, to_the_end};
+use std::sync::Wait;
+use tagged_index::{NULL, Tagged};
+
+/// A count that was begun.
+#[derive(Drop)]
+pub struct LenOp<T> {
+    pub(crate) pass: Pass<T>,
+    pub(crate) at: LenAt,
+}
+
+/// The next step of a count, with what it has read.
+#[derive(Clone, Copy)]
+pub(crate) enum LenAt {
+    /// Load `HEAD`.
+    LoadHead,
+    /// Load `TAIL`.
+    LoadTail(Tagged),
+    /// Load `next` of the node that it named.
+    LoadNext(Tagged, Tagged),
+    /// Load `HEAD` again.
+    CheckHead(Tagged, Tagged, Tagged),
+}
+
+impl<T> Queue<T> {
+    /// How many values the queue held at some time since its pass's last step before the call, from
+    /// 0 to the capacity. It retries while takes change the head.
+    pub fn len<R: Wait>(&self, rt: &R, by: Pass<T>) -> (Pass<T>, u32)
+        requires { IsPassOf self.now by }
+        ensures of { IsPassOf self.now result.0 }
+        ensures gives { LenGives (shape_of self.now) (pass_in by) (pass_in result.0) result.1 }
+    {
+        let table = &self.table.shared;
+        let first = any(table, self, by, LenAt::LoadHead, &Operation::Len);
+        let (pass, count) = to_the_end(rt, table, self, first, &Operation::Len);
+        (pass, count as u32)
+    }
+
+    /// A count that makes no step yet.
+    #[inline]
+    pub fn begin_len(&self, by: Pass<T>) -> LenOp<T>
+        requires { IsPassOf self.now by }
+        ensures { IsCounting self.now result
+            × (begun_of self.now result.pass ≡ pass_in by) × (pass_in result.pass ≡ pass_in by) }
+    {
+        LenOp {
+            pass: by,
+            at: LenAt::LoadHead,
+        }
+    }
+}
+
+impl<T> Code<Queue<T>, T, Line<T>, Operation<T>, Queued, u64, 2> for LenAt {
+    ghost use Rattle.std.specs.Prelude.{[]};
+    ghost use Rattle.queue_machine.specs.declared.lines.Answer.TheVariants.{Len as AnswerLen};
+    ghost use Rattle.queue_machine.specs.Machine.{ends};
+    ghost use Rattle.queue_table.specs.declared.operation.Operation.TheVariants.{Len as LenFirst};
+    ghost use Rattle.ms_queue.specs.Counting.{len_line, HasReadToCount};
+    ghost use Rattle.ms_queue.specs.Queue.{room_of};
+
+    ghost key = { λ c. c.table.shared.key };
+
+    ghost id = { λ c. c.table.shared.table_id };
+
+    ghost operation = { λ _. LenFirst };
+
+    ghost line = { len_line };
+
+    ghost slots = { λ _. [] };
+
+    ghost knows = { λ c at. HasReadToCount (room_of c) at };
+
+    ghost answer = { λ _ k. ends (AnswerLen k) };
+
+    #[inline(always)]
+    fn access(&self, _on: &Queue<T>) -> Access {
+        match self {
+            LenAt::LoadHead => Access::Load(HEAD),
+            LenAt::LoadTail(_) => Access::Load(TAIL),
+            LenAt::LoadNext(_, tail) => Access::Load(next(tail.index())),
+            LenAt::CheckHead(_, _, _) => Access::Load(HEAD),
+        }
+    }
+
+    #[inline(always)]
+    fn next(
+        self,
+        _on: &Queue<T>,
+        _seat: &mut Seat<Option<T>, View<T, Line<T>>>,
+        outcome: Outcome,
+    ) -> Next<LenAt, u64> {
+        let found = Tagged::from_word(outcome.word);
+        match self {
+            LenAt::LoadHead => Next::On(LenAt::LoadTail(found)),
+            LenAt::LoadTail(head) => Next::On(LenAt::LoadNext(head, found)),
+            LenAt::LoadNext(head, tail) => Next::On(LenAt::CheckHead(head, tail, found)),
+            LenAt::CheckHead(head, tail, link) => {
+                // Where no take was made, the node of the tail was in the queue all the time.
+                if found.word() != head.word() {
+                    return Next::Lost(LenAt::LoadHead);
+                }
+                let end = if link.index() == NULL { tail.tag() } else { tail.tag() + 1 };
+                Next::Done(end.saturating_sub(head.tag()))
+            }
+        }
+    }
+}
+
+impl<T> LenOp<T> {
+    /// One atomic step: a load. Returns how many values the queue held.
+    #[inline]
+    pub fn step(self, queue: &Queue<T>) -> Stepped<LenOp<T>, Pass<T>, u64>
+        requires { IsCounting queue.now self }
+        ensures { LenStep queue.now self.pass self.at result }
+    {
+        let table = &queue.table.shared;
+        let made = single_step(table, queue, self.pass, self.at, &Operation::Len);
+        match made {
+            Stepped::Again((pass, at)) => Stepped::Again(LenOp { pass, at }),
+            Stepped::Done(pass, count) => Stepped::Done(pass, count),
+        }
+    }
+}

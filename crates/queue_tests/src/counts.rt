@@ -1,0 +1,228 @@
+//! Counts of a queue: in each schedule beside a put or a take by single steps, and beside threads.
+
+ghost use Rattle.ms_queue.specs.Counting.{IsCounting};
+ghost use Rattle.ms_queue.specs.Putting.{IsPutting};
+ghost use Rattle.ms_queue.specs.Queue.{IsPassOf};
+ghost use Rattle.ms_queue.specs.Taking.{IsTaking};
+
+use bounded_model::{Container, Stepped};
+use ms_queue::{LenOp, Pass, PutOp, Queue, TakeOp};
+use std::alloc::Global;
+use std::process::Abort;
+use std::sync::Wait;
+use std::thread;
+use std::thread::Threads;
+use tagged_index::{Limits, MAX_TAG};
+use waiting::{put_waiting, take_waiting};
+
+// A put makes 14 steps, and its value is in the queue from the 13th on.
+const PUT_STEPS: u32 = 14;
+const PUT_AT: u32 = 13;
+
+// A take makes 12 steps, and its value is out of the queue from the 6th on.
+const TAKE_STEPS: u32 = 12;
+const TAKEN_AT: u32 = 6;
+
+// How many steps of another call are made before each of a count's four.
+type Schedule = [u32; 4];
+
+// A queue with room for so many values, and two passes.
+fn queue_of<R: Abort>(rt: &R, alloc: Global, room: u32) -> (Queue<u32>, Pass<u32>, Pass<u32>)
+    ensures { IsPassOf result.0 result.1 × IsPassOf result.0 result.2 }
+{
+    let limits = Limits::of(room, MAX_TAG).expect(rt, "limits");
+    let (queue, mut root) = Queue::<u32>::new(alloc, limits).expect(rt, "memory");
+    let first = queue.split(&mut root).expect(rt, "a pass");
+    let second = queue.split(&mut root).expect(rt, "a pass");
+    (queue, first, second)
+}
+
+// Makes so many steps of a put, none of which ends it.
+fn go_on_putting<R: Abort>(
+    rt: &R,
+    queue: &Queue<u32>,
+    op: PutOp<u32>,
+    steps: u32,
+) -> PutOp<u32>
+    requires { (x : ℕ) × IsPutting queue.now x op }
+    ensures { (x : ℕ) × IsPutting queue.now x result }
+{
+    let mut op = op;
+    for _ in 0..steps {
+        let Stepped::Again(next) = op.step(queue) else {
+            panic!(rt; "the put ended early")
+        };
+        op = next;
+    }
+    op
+}
+
+// The same of a take.
+fn go_on_taking<R: Abort>(
+    rt: &R,
+    queue: &Queue<u32>,
+    op: TakeOp<u32>,
+    steps: u32,
+) -> TakeOp<u32>
+    requires { IsTaking queue.now op }
+    ensures { IsTaking queue.now result }
+{
+    let mut op = op;
+    for _ in 0..steps {
+        let Stepped::Again(next) = op.step(queue) else {
+            panic!(rt; "the take ended early")
+        };
+        op = next;
+    }
+    op
+}
+
+// The same of a count.
+fn go_on_counting<R: Abort>(
+    rt: &R,
+    queue: &Queue<u32>,
+    op: LenOp<u32>,
+    steps: u32,
+) -> LenOp<u32>
+    requires { IsCounting queue.now op }
+    ensures { IsCounting queue.now result }
+{
+    let mut op = op;
+    for _ in 0..steps {
+        let Stepped::Again(next) = op.step(queue) else {
+            panic!(rt; "the count ended early")
+        };
+        op = next;
+    }
+    op
+}
+
+// Counts in this schedule beside a put into an empty queue: the value is counted where it was in the
+// queue before the third step.
+fn counted_beside_a_put<R: Abort>(rt: &R, alloc: Global, schedule: Schedule) {
+    let [first, second, third, fourth] = schedule;
+    let (queue, putter, counter) = queue_of(rt, alloc, 1);
+    let put = go_on_putting(rt, &queue, queue.begin_put(putter, 7), first);
+    let count = go_on_counting(rt, &queue, queue.begin_len(counter), 1);
+    let put = go_on_putting(rt, &queue, put, second.saturating_sub(first));
+    let count = go_on_counting(rt, &queue, count, 1);
+    let put = go_on_putting(rt, &queue, put, third.saturating_sub(second));
+    let count = go_on_counting(rt, &queue, count, 1);
+    let _ = go_on_putting(rt, &queue, put, fourth.saturating_sub(third));
+    let Stepped::Done(_, found) = count.step(&queue) else {
+        panic!(rt; "the count ended late")
+    };
+    let held = if third < PUT_AT { 0 } else { 1 };
+    assert_eq!(rt; found, held);
+}
+
+// The same beside a take of the only value: where it is taken between the first and the last step,
+// the count begins again.
+fn counted_beside_a_take<R: Abort + Wait>(rt: &R, alloc: Global, schedule: Schedule) {
+    let [first, second, third, fourth] = schedule;
+    let (queue, taker, counter) = queue_of(rt, alloc, 1);
+    let (taker, put) = queue.put(rt, taker, 7);
+    assert!(rt; put.is_ok());
+    let take = go_on_taking(rt, &queue, queue.begin_take(taker), first);
+    let count = go_on_counting(rt, &queue, queue.begin_len(counter), 1);
+    let take = go_on_taking(rt, &queue, take, second.saturating_sub(first));
+    let count = go_on_counting(rt, &queue, count, 1);
+    let take = go_on_taking(rt, &queue, take, third.saturating_sub(second));
+    let count = go_on_counting(rt, &queue, count, 1);
+    let _ = go_on_taking(rt, &queue, take, fourth.saturating_sub(third));
+    let again = if first < TAKEN_AT && fourth >= TAKEN_AT { 4 } else { 0 };
+    let count = go_on_counting(rt, &queue, count, again);
+    let Stepped::Done(_, found) = count.step(&queue) else {
+        panic!(rt; "the count ended late")
+    };
+    let held = if fourth < TAKEN_AT { 1 } else { 0 };
+    assert_eq!(rt; found, held);
+}
+
+#[test]
+fn a_count_beside_a_put_tells_what_was_there(rt: HostRuntime) {
+    for first in 0..PUT_STEPS {
+        for second in first..PUT_STEPS {
+            for third in second..PUT_STEPS {
+                for fourth in third..PUT_STEPS {
+                    counted_beside_a_put(&rt, rt.alloc(), [first, second, third, fourth]);
+                }
+            }
+        }
+    }
+}
+
+#[test]
+fn a_count_beside_a_take_tells_what_was_there(rt: HostRuntime) {
+    for first in 0..TAKE_STEPS {
+        for second in first..TAKE_STEPS {
+            for third in second..TAKE_STEPS {
+                for fourth in third..TAKE_STEPS {
+                    counted_beside_a_take(&rt, rt.alloc(), [first, second, third, fourth]);
+                }
+            }
+        }
+    }
+}
+
+// Puts so many values.
+fn put_many<R: Wait>(rt: &R, queue: &Queue<u32>, by: Pass<u32>, count: u32)
+    requires { IsPassOf queue.now by }
+{
+    let mut pass = by;
+    for value in 0..count {
+        let (back, _) = put_waiting(queue, rt, pass, value);
+        pass = back;
+    }
+}
+
+// Takes so many.
+fn take_many<R: Wait>(rt: &R, queue: &Queue<u32>, by: Pass<u32>, count: u32)
+    requires { IsPassOf queue.now by }
+{
+    let mut pass = by;
+    for _ in 0..count {
+        let (back, _) = take_waiting(queue, rt, pass);
+        pass = back;
+    }
+}
+
+// The greatest of so many counts, and the pass.
+fn greatest<R: Wait>(
+    rt: &R,
+    queue: &Queue<u32>,
+    by: Pass<u32>,
+    times: u32,
+) -> (Pass<u32>, u32)
+    requires { IsPassOf queue.now by }
+    ensures { IsPassOf queue.now result.0 }
+{
+    let mut pass = by;
+    let mut most = 0;
+    for _ in 0..times {
+        let (back, found) = queue.len(rt, pass);
+        pass = back;
+        most = most.max(found);
+    }
+    (pass, most)
+}
+
+#[test]
+fn counts_beside_threads_are_within_the_capacity(rt: HostRuntime) {
+    let limits = Limits::of(3, MAX_TAG).expect(&rt, "limits");
+    let (queue, mut root) = Queue::<u32>::new(rt.alloc(), limits).expect(&rt, "memory");
+    let putter = queue.split(&mut root).expect(&rt, "a pass");
+    let taker = queue.split(&mut root).expect(&rt, "a pass");
+    let counter = queue.split(&mut root).expect(&rt, "a pass");
+    let (counter, most) = thread::scope(thread::scope_env(), &rt, |scope| {
+        let _ = scope.spawn(|| put_many(&rt, &queue, putter, 20_000));
+        let _ = scope.spawn(|| take_many(&rt, &queue, taker, 20_000));
+        greatest(&rt, &queue, counter, 20_000)
+    });
+    assert!(rt; most <= 3);
+    let (counter, found) = queue.len(&rt, counter);
+    assert_eq!(rt; found, 0);
+    let (counter, _) = queue.put(&rt, counter, 7);
+    let (_, found) = queue.len(&rt, counter);
+    assert_eq!(rt; found, 1);
+}
