@@ -1,20 +1,22 @@
--- What a close, a shut and a look give, and where a close goes on.
+-- What a close, a shut, a look and a count give, and where a close goes on.
 use Rattle.std.specs.Prelude.{Option as Slot}
-use Rattle.std.proofs.Common.{◌≡◌, ℕ, Bool, true, false, List, [], ◌∷◌, refl, sym, ap, ◌∙◌, subst}
+use Rattle.std.proofs.Common.{◌≡◌, ℕ, ◌≤◌, Bool, true, false, List, [], ◌∷◌, refl, sym, ap, ◌∙◌, subst, arith}
 use Rattle.bounded_model.specs.declared.history.Event.{Event}
 use Rattle.bounded_model.specs.declared.history.Event.TheVariants.{Close, Shut}
 use Rattle.bounded_model.specs.declared.views.PassView.{PassView}
 use Rattle.bounded_model.specs.Histories.{own}
-use Rattle.bounded_model.specs.Laws.{Adds, CloseGives, ShutGives, LookGives}
+use Rattle.bounded_model.specs.Laws.{Adds, CloseGives, ShutGives, LookGives, LenGives}
+use Rattle.bounded_model.proofs.Hands.{within_capacity}
+use Rattle.bounded_model.proofs.Staying.{legal_before}
 use Rattle.machine.specs.Seats.{pass_of}
 use Rattle.machine.specs.declared.seats.View.{View}
-use Rattle.queue_machine.specs.declared.lines.Answer.TheVariants.{Close as AnswerClose, Shut as AnswerShut, Look as AnswerLook}
+use Rattle.queue_machine.specs.declared.lines.Answer.TheVariants.{Close as AnswerClose, Shut as AnswerShut, Look as AnswerLook, Len as AnswerLen}
 use Rattle.queue_machine.specs.declared.lines.Line.{Line}
 use Rattle.queue_machine.specs.declared.lines.Seeking.{Seeking as Aim}
 use Rattle.queue_machine.specs.declared.lines.Seeking.TheVariants.{ToClose}
 use Rattle.queue_machine.specs.Machine.{ends}
 use Rattle.queue_table.specs.declared.operation.Operation.{Operation}
-use Rattle.queue_table.specs.declared.operation.Operation.TheVariants.{Close as CloseFirst, Shut as ShutFirst, Look as LookFirst}
+use Rattle.queue_table.specs.declared.operation.Operation.TheVariants.{Close as CloseFirst, Shut as ShutFirst, Look as LookFirst, Len as LenFirst}
 use Rattle.queue_table.specs.Lines.{names, next}
 use Rattle.running.specs.Code.{Came, Finding, Leads}
 use Rattle.running.specs.Going.{Ended}
@@ -54,6 +56,12 @@ module _ {T : Type 0} (c : Queue T) where
 
     pub look_gives : (b : Bool) → Ended (machine_of c) LookFirst v begun (ends (AnswerLook b)) → LookGives (shape_of c) begun (pass_of v) b
     look_gives b e = (adds_of e [] e.deeds.made, e.tells)
+
+    pub len_gives : (k : ℕ) → Ended (machine_of c) LenFirst v begun (ends (AnswerLen k)) → LenGives (shape_of c) begun (pass_of v) k
+    len_gives k e = (adds_of e [] e.deeds.made, e.tells)
+
+    pub len_within : (k : ℕ) → Ended (machine_of c) LenFirst v begun (ends (AnswerLen k)) → k ≤ room_of c
+    len_within k e = omega (arith, e.tells.holds, within_capacity (shape_of c) e.tells.at (legal_before (shape_of c) e.tells.until e.rests.legal))
 
 -- where the code of a close goes on, by the way to the end of the chain
 abbrev pub marking : Next Seek End → Next CloseAt Bool

@@ -5,6 +5,7 @@ pub mod Giving
 pub mod Left
 pub mod Taking
 pub mod Shutting
+pub mod Counting
 pub mod Looking
 pub mod Naming
 pub mod Putting

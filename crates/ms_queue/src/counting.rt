@@ -114,7 +114,11 @@ impl<T> Code<Queue<T>, T, Line<T>, Operation<T>, Queued, u64, 2> for LenAt {
                 if found.word() != head.word() {
                     return Next::Lost(LenAt::LoadHead);
                 }
-                let end = if link.index() == NULL { tail.tag() } else { tail.tag() + 1 };
+                let end = if link.index() == NULL {
+                    tail.tag()
+                } else {
+                    tail.tag() + 1
+                };
                 Next::Done(end.saturating_sub(head.tag()))
             }
         }

@@ -15,6 +15,7 @@
 
 mod closing;
 mod container;
+mod counting;
 mod ending;
 mod giving;
 mod looking;
@@ -35,6 +36,7 @@ mod whole_put;
 mod whole_take;
 
 pub use closing::CloseOp;
+pub use counting::LenOp;
 pub use looking::LookOp;
 pub use places::queue_places;
 pub use putting::PutOp;
