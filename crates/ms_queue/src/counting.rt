@@ -46,8 +46,9 @@ impl<T> Queue<T> {
         ensures gives { LenGives (shape_of self.now) (pass_in by) (pass_in result.0) result.1 }
     {
         let table = &self.table.shared;
-        let first = any(table, self, by, LenAt::LoadHead, &Operation::Len);
-        let (pass, count) = to_the_end(rt, table, self, first, &Operation::Len);
+        let len = Operation::Len;
+        let first = any(table, self, by, LenAt::LoadHead, &len);
+        let (pass, count) = to_the_end(rt, table, self, first, &len);
         (pass, count as u32)
     }
 
@@ -111,7 +112,7 @@ impl<T> Code<Queue<T>, T, Line<T>, Operation<T>, Queued, u64, 2> for LenAt {
             LenAt::LoadNext(head, tail) => Next::On(LenAt::CheckHead(head, tail, found)),
             LenAt::CheckHead(head, tail, link) => {
                 // Where no take was made, the node of the tail was in the queue all the time.
-                if found.word() != head.word() {
+                if outcome.word != head.word() {
                     return Next::Lost(LenAt::LoadHead);
                 }
                 let end = if link.index() == NULL {

@@ -1,5 +1,6 @@
 //! Counts of a queue: in each schedule beside a put or a take by single steps, and beside threads.
 
+ghost use Rattle.std.specs.Prelude.{ℕ};
 ghost use Rattle.ms_queue.specs.Counting.{IsCounting};
 ghost use Rattle.ms_queue.specs.Putting.{IsPutting};
 ghost use Rattle.ms_queue.specs.Queue.{IsPassOf};
@@ -17,10 +18,12 @@ use waiting::{put_waiting, take_waiting};
 
 // A put makes 14 steps, and its value is in the queue from the 13th on.
 const PUT_STEPS: u32 = 14;
+
 const PUT_AT: u32 = 13;
 
 // A take makes 12 steps, and its value is out of the queue from the 6th on.
 const TAKE_STEPS: u32 = 12;
+
 const TAKEN_AT: u32 = 6;
 
 // How many steps of another call are made before each of a count's four.
@@ -38,12 +41,7 @@ fn queue_of<R: Abort>(rt: &R, alloc: Global, room: u32) -> (Queue<u32>, Pass<u32
 }
 
 // Makes so many steps of a put, none of which ends it.
-fn go_on_putting<R: Abort>(
-    rt: &R,
-    queue: &Queue<u32>,
-    op: PutOp<u32>,
-    steps: u32,
-) -> PutOp<u32>
+fn go_on_putting<R: Abort>(rt: &R, queue: &Queue<u32>, op: PutOp<u32>, steps: u32) -> PutOp<u32>
     requires { (x : ℕ) × IsPutting queue.now x op }
     ensures { (x : ℕ) × IsPutting queue.now x result }
 {
@@ -58,12 +56,7 @@ fn go_on_putting<R: Abort>(
 }
 
 // The same of a take.
-fn go_on_taking<R: Abort>(
-    rt: &R,
-    queue: &Queue<u32>,
-    op: TakeOp<u32>,
-    steps: u32,
-) -> TakeOp<u32>
+fn go_on_taking<R: Abort>(rt: &R, queue: &Queue<u32>, op: TakeOp<u32>, steps: u32) -> TakeOp<u32>
     requires { IsTaking queue.now op }
     ensures { IsTaking queue.now result }
 {
@@ -78,12 +71,7 @@ fn go_on_taking<R: Abort>(
 }
 
 // The same of a count.
-fn go_on_counting<R: Abort>(
-    rt: &R,
-    queue: &Queue<u32>,
-    op: LenOp<u32>,
-    steps: u32,
-) -> LenOp<u32>
+fn go_on_counting<R: Abort>(rt: &R, queue: &Queue<u32>, op: LenOp<u32>, steps: u32) -> LenOp<u32>
     requires { IsCounting queue.now op }
     ensures { IsCounting queue.now result }
 {
@@ -130,7 +118,11 @@ fn counted_beside_a_take<R: Abort + Wait>(rt: &R, alloc: Global, schedule: Sched
     let take = go_on_taking(rt, &queue, take, third.saturating_sub(second));
     let count = go_on_counting(rt, &queue, count, 1);
     let _ = go_on_taking(rt, &queue, take, fourth.saturating_sub(third));
-    let again = if first < TAKEN_AT && fourth >= TAKEN_AT { 4 } else { 0 };
+    let again = if first < TAKEN_AT && fourth >= TAKEN_AT {
+        4
+    } else {
+        0
+    };
     let count = go_on_counting(rt, &queue, count, again);
     let Stepped::Done(_, found) = count.step(&queue) else {
         panic!(rt; "the count ended late")
@@ -188,12 +180,7 @@ fn take_many<R: Wait>(rt: &R, queue: &Queue<u32>, by: Pass<u32>, count: u32)
 }
 
 // The greatest of so many counts, and the pass.
-fn greatest<R: Wait>(
-    rt: &R,
-    queue: &Queue<u32>,
-    by: Pass<u32>,
-    times: u32,
-) -> (Pass<u32>, u32)
+fn greatest<R: Wait>(rt: &R, queue: &Queue<u32>, by: Pass<u32>, times: u32) -> (Pass<u32>, u32)
     requires { IsPassOf queue.now by }
     ensures { IsPassOf queue.now result.0 }
 {
@@ -207,6 +194,49 @@ fn greatest<R: Wait>(
     (pass, most)
 }
 
+// The greatest of the counts that are made while values come and go, and the pass.
+fn greatest_beside_threads<R: Threads + Wait + Sync>(
+    rt: &R,
+    queue: &Queue<u32>,
+    putter: Pass<u32>,
+    taker: Pass<u32>,
+    counter: Pass<u32>,
+) -> (Pass<u32>, u32)
+    requires putter { IsPassOf queue.now putter }
+    requires taker { IsPassOf queue.now taker }
+    requires counter { IsPassOf queue.now counter }
+    ensures { IsPassOf queue.now result.0 }
+{
+    thread::scope(
+        thread::scope_env(),
+        rt,
+        |scope| -> (Pass<u32>, u32)
+            requires putter { IsPassOf queue.now putter }
+            requires taker { IsPassOf queue.now taker }
+            requires counter { IsPassOf queue.now counter }
+            ensures { IsPassOf queue.exit.now result.0 }
+        {
+            let puts = scope.spawn(
+                move ||
+                    requires { IsPassOf queue.now putter }
+                { put_many(rt, queue, putter, 20_000) },
+            );
+            if puts.is_err() {
+                return (counter, 0);
+            }
+            let takes = scope.spawn(
+                move ||
+                    requires { IsPassOf queue.now taker }
+                { take_many(rt, queue, taker, 20_000) },
+            );
+            if takes.is_err() {
+                return (counter, 0);
+            }
+            greatest(rt, queue, counter, 20_000)
+        },
+    )
+}
+
 #[test]
 fn counts_beside_threads_are_within_the_capacity(rt: HostRuntime) {
     let limits = Limits::of(3, MAX_TAG).expect(&rt, "limits");
@@ -214,15 +244,12 @@ fn counts_beside_threads_are_within_the_capacity(rt: HostRuntime) {
     let putter = queue.split(&mut root).expect(&rt, "a pass");
     let taker = queue.split(&mut root).expect(&rt, "a pass");
     let counter = queue.split(&mut root).expect(&rt, "a pass");
-    let (counter, most) = thread::scope(thread::scope_env(), &rt, |scope| {
-        let _ = scope.spawn(|| put_many(&rt, &queue, putter, 20_000));
-        let _ = scope.spawn(|| take_many(&rt, &queue, taker, 20_000));
-        greatest(&rt, &queue, counter, 20_000)
-    });
+    let (counter, most) = greatest_beside_threads(&rt, &queue, putter, taker, counter);
     assert!(rt; most <= 3);
     let (counter, found) = queue.len(&rt, counter);
     assert_eq!(rt; found, 0);
-    let (counter, _) = queue.put(&rt, counter, 7);
+    let (counter, put) = queue.put(&rt, counter, 7);
+    assert!(rt; put.is_ok());
     let (_, found) = queue.len(&rt, counter);
     assert_eq!(rt; found, 1);
 }

@@ -20,7 +20,7 @@ ghost use Rattle.step_core.specs.queue.Law.{Lawful, AllDone, NoneUnanswered, lin
 ghost use Rattle.step_core.specs.queue.Bound.{MeetsRule};
 ghost use Rattle.step_core.specs.queue.Costs.{cost};
 
-/// In every schedule of puts, takes, closes, shuts and looks at a queue of `n` value cells, whose
+/// In every schedule of puts, takes, closes, shuts, looks at and counts of a queue of `n` value cells, whose
 /// nodes are used again: the history is legal for a bounded queue, the words and cells stand for
 /// it, each cell and each node is in one place, a put that has a cell finds a node, and each
 /// refusal is justified by the history as it was at some time between its begin and its end.
@@ -68,7 +68,7 @@ pub fn queue_answers<T>()
         AllDone (after (queue (shape n limit)) passes schedule) }
 {}
 
-/// While no other pass's compare-and-swap succeeds, a queue's put, take, close, shut or look has
+/// While no other pass's compare-and-swap succeeds, a queue's put, take, close, shut, look or count has
 /// ended after at most 32 of its own steps: from every state that meets the rule, wherever the call
 /// is in it; and so from every state that a schedule leads to.
 pub fn queue_bound<T>()
@@ -86,7 +86,7 @@ pub fn queue_bound<T>()
 /// each of the P: from every state that meets the rule. So among any P * (14 * P + 6) + 1 steps after
 /// any schedule of P passes, some call ends. And in all, from the start, the passes make no more
 /// steps than the calls cost that they begin: a put 14 * P + 4, a take 12 * P + 5, a close 8 * P, a
-/// shut 6 * P - 4, a look 3.
+/// shut 6 * P - 4, a look 3, a count 4.
 ///
 /// Of each single call: it has ended after at most 20 of its own steps, and 8 for each
 /// compare-and-swap by which another pass succeeds meanwhile. So a step that does not succeed costs
@@ -138,7 +138,7 @@ pub fn queue_order<T>()
 /// for some that are pending, each between its invocation and its response, so that in the order of
 /// their points the operations are a legal history of the bounded queue as a sequential object,
 /// with the answers that are given. A put, a take, a close and a shut take effect at the
-/// compare-and-swap that makes their event, a refusal and a look at a moment at which they are
+/// compare-and-swap that makes their event, a refusal, a look and a count at a moment at which they are
 /// right. And the order of the points keeps real time: wherever such a history is cut, of each pass
 /// the operations that have taken effect are those that it has completed by then, or these and its
 /// pending one.

@@ -1,13 +1,13 @@
 -- The order of the tests at each line matters, and so does each comparison: with another one, a script
 -- gets another reply.
-use Rattle.std.specs.Prelude.{◌==◌, ◌&&◌, leb, if◌then◌else◌, true}
+use Rattle.std.specs.Prelude.{◌-◌, ◌==◌, ◌&&◌, leb, if◌then◌else◌, true}
 use Rattle.bounded_model.specs.declared.answers.TakeRefused.TheVariants.{Empty, Shut}
-use Rattle.queue_machine.specs.declared.lines.Answer.TheVariants.{Close, Shut as ShutAnswer, Look}
+use Rattle.queue_machine.specs.declared.lines.Answer.TheVariants.{Close, Shut as ShutAnswer, Look, Len}
 use Rattle.tagged_index.specs.declared.word.TheConstants.{NULL}
 use Rattle.machine.specs.Words.{same}
 use Rattle.queue_machine.specs.declared.lines.Seeking.TheVariants.{ToRefuse}
-use Rattle.queue_machine.specs.declared.lines.Line.TheVariants.{LoadCells, LoadNext, PrepareNext, LoadTail, CheckTail, SwingTail, LoadHead, LoadTailToTake, CheckHead, SwingTailToTake, TakeHead, CheckHeadToLook, MarkNext, LoadHeadToShut, ShutHead}
-use Rattle.queue_machine.specs.Machine.{step, goes_on, wins_value, ends, found_cells, found_back, back_null, back_closed, found_front}
+use Rattle.queue_machine.specs.declared.lines.Line.TheVariants.{LoadCells, LoadNext, PrepareNext, LoadTail, CheckTail, SwingTail, LoadHead, LoadTailToTake, CheckHead, SwingTailToTake, TakeHead, CheckHeadToLook, LoadHeadToCount, CheckHeadToCount, MarkNext, LoadHeadToShut, ShutHead}
+use Rattle.queue_machine.specs.Machine.{step, goes_on, wins_value, ends, found_cells, found_back, back_null, back_closed, found_front, counted}
 use Rattle.step_core.specs.queue.Cast.{Moves, cells_spent, no_take}
 
 -- a put that looks at the limit before it looks for a free cell
@@ -83,6 +83,16 @@ tail_before_head s m p l = step s m p l
 abbrev pub link_before_answer : Moves
 link_before_answer s m p (CheckHeadToLook h n) = goes_on m (ends (Look (n.index == NULL)))
 link_before_answer s m p l = step s m p l
+
+-- a count that answers without comparing with the head: more than were ever there
+abbrev pub count_before_head : Moves
+count_before_head s m p (CheckHeadToCount h w n) = goes_on m (ends (Len (counted h w n)))
+count_before_head s m p l = step s m p l
+
+-- and one that does not look behind the tail
+abbrev pub count_to_tail : Moves
+count_to_tail s m p (CheckHeadToCount h w n) = goes_on m (if same m.head h then ends (Len (w.tag - h.tag)) else LoadHeadToCount)
+count_to_tail s m p l = step s m p l
 
 -- an exchange of the head that compares the index and the tag and no mark: a take wins against a shut
 abbrev pub mark_overlooked : Moves

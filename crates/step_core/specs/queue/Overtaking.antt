@@ -3,8 +3,8 @@
 use Rattle.std.specs.Prelude.{◌≡◌, ℕ, Bool, List, drop, map, replicate, true, false, [], ◌∷◌}
 use Rattle.bounded_model.specs.declared.answers.TakeRefused.TheVariants.{Empty, Closed, Shut}
 use Rattle.queue_machine.specs.declared.lines.Answer.{Answer}
-use Rattle.queue_machine.specs.declared.lines.Answer.TheVariants.{Close, Shut as ShutAnswer, Look}
-use Rattle.queue_machine.specs.declared.lines.Call.TheVariants.{Close as CloseCall, Shut as ShutCall, Look as LookCall}
+use Rattle.queue_machine.specs.declared.lines.Answer.TheVariants.{Close, Shut as ShutAnswer, Look, Len}
+use Rattle.queue_machine.specs.declared.lines.Call.TheVariants.{Close as CloseCall, Shut as ShutCall, Look as LookCall, Len as LenCall}
 use Rattle.step_core.specs.Scripts.{Reply, curtain, replies, calls, begins, steps, finish, answers, again, ended, rest}
 use Rattle.queue_machine.specs.Answers.{shape}
 use Rattle.step_core.specs.Letters.{a, b, c, u, v, w, x, y, z}
@@ -233,6 +233,20 @@ head_before_answer = row 2 9
     ∷ (calls b take, answers (take_is 0 x))
     ∷ (steps a 2, again 3)
     ∷ (steps a 20, ended (Look true) 6)
+    ∷ [])
+
+-- a count alone, with a tail that a put left behind, and one that begins again since another has taken
+abbrev pub counts : Row
+counts = row 2 9
+    ((begins a LenCall 40, ended (Len 0) 4)
+    ∷ (begins b (put x) 13, again 13)
+    ∷ (begins a LenCall 40, ended (Len 1) 4)
+    ∷ (steps b 20, ended (put_is 0) 14)
+    ∷ (begins a LenCall 1, again 1)
+    ∷ (calls b take, answers (take_is 0 x))
+    ∷ (calls b (put y), answers (put_is 1))
+    ∷ (steps a 3, again 4)
+    ∷ (steps a 20, ended (Len 1) 8)
     ∷ [])
 
 -- A put stops after k of its steps while others put, take and close, and a take while others take and
