@@ -4,10 +4,10 @@ ghost use Rattle.std.specs.Prelude.{◌≡◌, IfOk, length};
 ghost use Rattle.example_buffers.specs.Lending.{Gives};
 ghost use Rattle.example_buffers.specs.declared.buffer.TheConstants.{SIZE};
 
-use bounded_model::{Container, PutRefused, TakeRefused};
+use bounded_model::Container;
 use std::alloc::{AllocError, Global};
 use std::sync::Wait;
-use std::thread;
+use waiting::{put_waiting, take_waiting};
 
 /// How many bytes a buffer has.
 const SIZE: usize = 1_024;
@@ -41,24 +41,6 @@ impl Buffer {
     }
 }
 
-// A buffer of the pool, however long they are all in use; `None` where the pool is closed.
-fn borrow<C: Container<Buffer>, R: Wait>(rt: &R, pool: &C, by: C::Pass) -> (C::Pass, Option<Buffer>)
-    requires { C.is_pass pool.now by }
-    ensures { C.is_pass pool.now result.0 }
-{
-    let mut pass = by;
-    for _ in rt.forever() {
-        let (back, answer) = pool.take(rt, pass);
-        pass = back;
-        match answer {
-            Ok((buffer, _)) => return (pass, Some(buffer)),
-            Err(TakeRefused::Empty) => thread::yield_now(),
-            Err(_) => return (pass, None),
-        }
-    }
-    unreachable!()
-}
-
 /// Gives a buffer to the pool, however often that is full; returns whether it went in.
 pub fn give<C: Container<Buffer>, R: Wait>(
     rt: &R,
@@ -70,21 +52,10 @@ pub fn give<C: Container<Buffer>, R: Wait>(
     ensures of { C.is_pass pool.now result.0 }
     ensures gives { Gives (C.shape pool.now) (C.pass by) buffer (C.pass result.0) result.1 }
 {
-    let mut pass = by;
-    let mut given = buffer;
-    for _ in rt.forever() {
-        let (back, answer) = pool.put(rt, pass, given);
-        pass = back;
-        match answer {
-            Ok(_) => return (pass, true),
-            Err(PutRefused::Full(refused)) => {
-                given = refused;
-                thread::yield_now();
-            }
-            Err(_) => return (pass, false),
-        }
+    match put_waiting(pool, rt, by, buffer) {
+        (pass, Ok(_)) => (pass, true),
+        (pass, Err(_)) => (pass, false),
     }
-    unreachable!()
 }
 
 /// Borrows a buffer, fills it and gives it back, so many times.
@@ -94,8 +65,8 @@ pub fn use_pool<C: Container<Buffer>, R: Wait>(rt: &R, pool: &C, by: C::Pass, ti
 {
     let mut pass = by;
     for _ in 0..times {
-        let (back, borrowed) = borrow(rt, pool, pass);
-        let Some(mut buffer) = borrowed else {
+        let (back, borrowed) = take_waiting(pool, rt, pass);
+        let Ok((mut buffer, _)) = borrowed else {
             return back;
         };
         buffer.fill();

@@ -5,9 +5,9 @@ ghost use Rattle.std.specs.List.{range_with_len};
 ghost use Rattle.bounded_model.specs.Gathers.{did, put_of};
 ghost use Rattle.example_closing.specs.Ends.{PutsOne};
 
-use bounded_model::{Container, PutRefused, TakeRefused, consume_all};
+use bounded_model::{Container, consume_all};
 use std::sync::Wait;
-use std::thread;
+use waiting::{put_waiting, take_waiting};
 
 /// A pass that has done its part, and how many values it moved.
 #[derive(Drop)]
@@ -27,17 +27,10 @@ fn put_one<C: Container<u64>, R: Wait>(
     ensures of { C.is_pass container.now result.0 }
     ensures puts { PutsOne (C.shape container.now) (C.pass by) value (C.pass result.0) result.1 }
 {
-    let mut pass = by;
-    for _ in rt.forever() {
-        let (back, answer) = container.put(rt, pass, value);
-        pass = back;
-        match answer {
-            Ok(_) => return (pass, true),
-            Err(PutRefused::Full(_)) => thread::yield_now(),
-            Err(_) => return (pass, false),
-        }
+    match put_waiting(container, rt, by, value) {
+        (pass, Ok(_)) => (pass, true),
+        (pass, Err(_)) => (pass, false),
     }
-    unreachable!()
 }
 
 /// Puts 0, 1, 2, .. until the container is closed, and counts. The value that comes back with the
@@ -77,19 +70,15 @@ fn take_some<C: Container<u64>, R: Wait>(
 {
     let mut pass = by;
     let mut count: u64 = 0;
-    for _ in rt.forever() {
-        if count >= wanted {
+    while count < wanted {
+        let (back, answer) = take_waiting(container, rt, pass);
+        pass = back;
+        if answer.is_err() {
             return Moved { pass, count };
         }
-        let (back, answer) = container.take(rt, pass);
-        pass = back;
-        match answer {
-            Ok(_) => count = count.saturating_add(1),
-            Err(TakeRefused::Empty) => thread::yield_now(),
-            Err(_) => return Moved { pass, count },
-        }
+        count += 1;
     }
-    unreachable!()
+    Moved { pass, count }
 }
 
 /// Takes so many values, closes the container, and takes what is left in it.
