@@ -23,10 +23,7 @@ use Rattle.running.specs.declared.access.Outcome.{Outcome}
 use Rattle.running.specs.declared.code.Next.{Next}
 use Rattle.running.specs.Going.{Ended}
 use Rattle.treiber_stack.specs.declared.stack.Stack.{Stack}
-use Rattle.treiber_stack.specs.declared.refusing.Barred.{Barred}
-use Rattle.treiber_stack.specs.declared.refusing.Barred.TheVariants.{Closed as BarredClosed, Spent as BarredSpent}
 use Rattle.treiber_stack.specs.Putting.{of_several, put_answer, put_of, put_value, put_line, put_slots, refusing, HasReadToPut}
-use Rattle.treiber_stack.specs.Refusing.{barring}
 use Rattle.treiber_stack.specs.Stack.{room_of, limit_of, machine_of, shape_of}
 use Rattle.treiber_stack.specs.declared.giving.Give.{Give}
 use Rattle.treiber_stack.specs.declared.putting.PutAt.{PutAt}
@@ -41,11 +38,6 @@ head_or d (x ∷ xs) = x
 same_head : {T : Type 0} (x y : T) → ◌≡◌ {A = List T} (x ∷ []) (y ∷ []) → x ≡ y
 unfolding head_or
 same_head x y e = ap (head_or x) e
-
--- a refusal of several, of one
-pub barring_one : {T : Type 0} (why : Barred) (x : T) → of_several (barring why x) ≡ barring why (x ∷ [])
-barring_one BarredClosed x = refl
-barring_one (BarredSpent t) x = refl
 
 module _ {T : Type 0} (c : Stack T) (o : Operation T) (v : View T (Line T)) (begun : PassView T) (x : T) where
   abbrev EndsSo : Result ℕ (PutRefused T) → Type 0

@@ -1,5 +1,7 @@
 -- Nodes that a put takes, and that go onto the top.
-use Rattle.std.specs.Prelude.{◌≡◌, ℕ, ◌<◌, List, [], ◌∷◌, reverse, Option as Slot, None, Result, Ok, Err}
+use Rattle.std.specs.Prelude.{◌≡◌, ◌≢◌, ℕ, ◌<◌, ◌≤◌, List, [], ◌∷◌, reverse, Option as Slot, None, Result, Ok, Err}
+use Rattle.tagged_index.specs.Fields.{index_of, tag_of}
+use Rattle.tagged_index.specs.declared.word.TheConstants.{NULL}
 use Rattle.bounded_model.specs.declared.answers.Word.TheVariants.{Free as FreeWord}
 use Rattle.bounded_model.specs.declared.answers.PutRefused.TheVariants.{Spent as PutSpent}
 use Rattle.bounded_model.specs.declared.views.PassView.{PassView}
@@ -21,6 +23,14 @@ use Rattle.treiber_stack.specs.declared.refusing.Barred.{Barred}
 use Rattle.treiber_stack.specs.Giving.{AreNodes}
 use Rattle.treiber_stack.specs.Refusing.{barring}
 use Rattle.treiber_stack.specs.Stack.{room_of, machine_of, begun_of, IsPassOf, IsAt}
+
+-- a top of the free nodes gives a node, or none
+abbrev pub AllowsNode : ℕ → ℕ → Type 0
+AllowsNode limit w = (index_of w ≢ NULL) × (tag_of w < limit)
+
+abbrev pub RefusesNode : ℕ → ℕ → NoNode → Type 0
+RefusesNode limit w NoneFree = index_of w ≡ NULL
+RefusesNode limit w (Spent t) = (index_of w ≢ NULL) × (limit ≤ tag_of w) × (t ≡ tag_of w)
 
 module _ {T : Type 0} where
   -- the slots of the nodes in hand, with the first values: the last of them is in front

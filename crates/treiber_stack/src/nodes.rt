@@ -1,8 +1,9 @@
 //! What a put of one value and one of a range share: a node is taken from the free list, and nodes
 //! held go onto the top.
+ghost use Rattle.std.specs.Prelude.{MatchOption};
 ghost use Rattle.stack_machine.specs.declared.lines.Putting.{Putting};
-ghost use Rattle.treiber_stack.specs.Nodes.{IsCollecting, TakesFree, IsPlacing, Places};
-ghost use Rattle.treiber_stack.specs.Stack.{begun_of};
+ghost use Rattle.treiber_stack.specs.Nodes.{AllowsNode, RefusesNode, IsCollecting, TakesFree, IsPlacing, Places};
+ghost use Rattle.treiber_stack.specs.Stack.{limit_of, begun_of};
 
 use crate::giving::Chain;
 use crate::refusing::Barred;
@@ -13,7 +14,7 @@ use running::{
 use stack_table::Operation;
 use stack_table::layout::{FREE_LIST, STACK_LIST};
 use std::sync::Wait;
-use tagged_index::NULL;
+use tagged_index::{NULL, Tagged};
 
 /// Why no further node can be had.
 #[derive(Clone, Copy)]
@@ -24,6 +25,21 @@ pub(crate) enum NoNode {
 }
 
 impl<T> Stack<T> {
+    // Why a pass that has read this top of the free nodes gets no node.
+    #[inline]
+    fn bars_free(&self, free: Tagged) -> Option<NoNode>
+        ensures { MatchOption result (AllowsNode (limit_of self.now) free)
+            (RefusesNode (limit_of self.now) free) }
+    {
+        if free.index() == NULL {
+            return Some(NoNode::NoneFree);
+        }
+        if free.tag() >= self.limits.tag_limit() {
+            return Some(NoNode::Spent(free.tag()));
+        }
+        None
+    }
+
     /// Takes a free node with its slot, or says why there is none to be had.
     #[inline]
     pub(crate) fn take_free<R: Wait>(
@@ -41,14 +57,10 @@ impl<T> Stack<T> {
         let table = &self.table.shared;
         for _ in rt.forever() {
             let free = load_top_step(table, &mut pass.seat, FREE_LIST, operation);
+            if let Some(why) = self.bars_free(free) {
+                return (pass, Err(why));
+            }
             let index = free.index();
-            if index == NULL {
-                return (pass, Err(NoNode::NoneFree));
-            }
-            let tag = free.tag();
-            if tag >= self.limits.tag_limit() {
-                return (pass, Err(NoNode::Spent(tag)));
-            }
             let found = load_link_step(table, &mut pass.seat, FREE_LIST, index, operation);
             let next = found as u32;
             if take_first_step(table, &mut pass.seat, FREE_LIST, free, next, operation) {
