@@ -20,7 +20,7 @@ module _ {T L O : Type 0} (c : Core T L O) (l : L) (r : Outcome) (had has : List
   tells rests f says = (f.1, subst (c.Says l) f.0 says)
   tells (loads at) f says = (f.1, subst (c.Says l) f.0 says)
   tells (stores at x) f says = (f.1, subst (c.Says l) f.0 says)
-  tells (swaps at old new side) f says = (found, came, f)
+  tells (swaps at old new side) f says = (found, came, f, says)
 
   pub shows : (So : ℕ → List (ℕ × Slot T) → Type 0) (a : Deed) → FoundBy c a l r had has found came → FindingBy c a l r had has So → So found came
   shows So rests f so = subst (So found) (sym f.2) (subst (λ (n : ℕ). So n []) (sym f.0) (so f.1))

@@ -54,7 +54,7 @@ module _ {T L O : Type 0} (c : Core T L O) where
 
   -- what an operation is told that goes on
   abbrev pub CameBy : Deed → L → Outcome → List (ℕ × Slot T) → List (ℕ × Slot T) → Type 0
-  CameBy (swaps at old new side) l r had has = (found : ℕ) × (came : List (ℕ × Slot T)) × FoundBy (swaps at old new side) l r had has found came
+  CameBy (swaps at old new side) l r had has = (found : ℕ) × (came : List (ℕ × Slot T)) × FoundBy (swaps at old new side) l r had has found came × c.Says l found
   CameBy deed l r had has = (has ≡ had) × c.Says l r.word
 
   -- and what it shows, of whatever was found
