@@ -8,7 +8,11 @@ use Rattle.queue_machine.specs.declared.lines.Line.{Line}
 use Rattle.queue_machine.specs.declared.lines.Line.TheVariants.{LoadNodesToGive, LinkToNodes, GiveNode, LoadCellsToGive, LinkToCells, GiveCell}
 use Rattle.queue_machine.specs.Machine.{ends}
 use Rattle.queue_table.specs.declared.operation.Operation.{Operation}
+use Rattle.queue_table.specs.Lines.{next}
+use Rattle.running.specs.Code.{Finding, MatchNext}
 use Rattle.running.specs.Going.{Steps}
+use Rattle.running.specs.declared.access.Outcome.{Outcome}
+use Rattle.running.specs.declared.code.Next.{Next}
 use Rattle.running.specs.declared.passes.Pass.{Pass}
 use Rattle.ms_queue.specs.declared.queue.Queue.{Queue}
 use Rattle.ms_queue.specs.declared.giving.Held.{Held}
@@ -16,7 +20,7 @@ use Rattle.ms_queue.specs.declared.giving.Give.{Give}
 use Rattle.ms_queue.specs.declared.giving.Give.TheVariants.{LoadNodes, LinkNode, GiveNode as TakeBackNode, LoadCells, LinkCell, GiveCell as TakeBackCell}
 use Rattle.ms_queue.specs.declared.giving.Gave.{Gave}
 use Rattle.ms_queue.specs.declared.giving.Gave.TheVariants.{On, Both}
-use Rattle.ms_queue.specs.Queue.{room_of, machine_of, begun_of, IsAt}
+use Rattle.ms_queue.specs.Queue.{room_of, limit_of, machine_of, begun_of, IsAt}
 
 -- they are a cell and a node of a queue of n cells
 abbrev pub AreHeld : ℕ → Held → Type 0
@@ -49,6 +53,15 @@ module _ {T : Type 0} where
   abbrev pub left_slots : Held → Gave → List (ℕ × Slot T)
   left_slots held (On at) = held_slot held
   left_slots held Both = []
+
+  -- what a step leads to, with these slots in hand after it
+  abbrev pub Gives : Line T → Answer T → Held → List (ℕ × Slot T) → Next Give (Unit {0}) → Type 0
+  Gives l a held has to = MatchNext to (λ at. (l ≡ give_line a held at) × (has ≡ held_slot held)) (λ done. (l ≡ ends a) × (has ≡ []))
+
+  -- where a step leads that came to r
+  abbrev pub GaveTo : Queue T → Answer T → Held → Give → Outcome → List (ℕ × Slot T) → Next Give (Unit {0}) → Type 0
+  GaveTo c a held at r has to = Finding (machine_of c).core (give_line a held at) r (held_slot held) has
+      (λ found came. Gives (next (limit_of c) (give_line a held at) found came) a held has to)
 
 -- an operation that gives them back: its name, its pass, what it will have answered, what it holds, and its next step
 pub record Way (T : Type 0) : Type 0 where

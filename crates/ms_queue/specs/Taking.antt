@@ -11,15 +11,18 @@ use Rattle.queue_machine.specs.declared.lines.Answer.TheVariants.{Take as Answer
 use Rattle.queue_machine.specs.declared.lines.Line.{Line}
 use Rattle.queue_machine.specs.declared.lines.Line.TheVariants.{LoadHead, LoadTailToTake, LoadHeadNext, CheckHead, SwingTailToTake, LoadCell, TakeHead}
 use Rattle.queue_machine.specs.Machine.{ends}
+use Rattle.queue_table.specs.declared.operation.Operation.{Operation}
 use Rattle.queue_table.specs.declared.operation.Operation.TheVariants.{Take as TakeFirst}
 use Rattle.running.specs.Passes.{pass_in}
+use Rattle.running.specs.Steps.{Stands, Ran}
+use Rattle.running.specs.declared.code.Next.{Next}
 use Rattle.running.specs.declared.passes.Pass.{Pass}
 use Rattle.ms_queue.specs.declared.queue.Queue.{Queue}
 use Rattle.ms_queue.specs.declared.taking.Taken.{Taken}
 use Rattle.ms_queue.specs.declared.taking.TakeOp.{TakeOp}
 use Rattle.ms_queue.specs.declared.taking.TakeAt.{TakeAt}
 use Rattle.ms_queue.specs.declared.taking.TakeAt.TheVariants.{LoadHead as LoadHeadFirst, LoadTail, LoadNext, CheckHead as CheckHeadAgain, SwingTail, LoadCell as LoadFirstCell, TakeHead as TakeFirstNode, GiveBack}
-use Rattle.ms_queue.specs.Queue.{room_of, limit_of, shape_of, begun_of, IsPassOf, IsAt, OneLine, WentOn}
+use Rattle.ms_queue.specs.Queue.{room_of, limit_of, machine_of, shape_of, begun_of, IsPassOf, IsAt, OneLine, WentOn}
 use Rattle.ms_queue.specs.Giving.{give_line, held_slot, AreHeld}
 
 module _ {T : Type 0} where
@@ -64,3 +67,11 @@ module _ {T : Type 0} where
   abbrev pub TakeStep : Queue T → Pass T (Line T) → TakeAt T → Stepped (TakeOp T) (Pass T (Line T)) (Result (T × ℕ) TakeRefused) → Type 0
   TakeStep c p at (Again next) = IsTaking c next × WentOn c p next.pass (take_line at) (take_line next.at)
   TakeStep c p at (Done q r) = IsPassOf c q × TakeGives (shape_of c) (begun_of c p) (pass_in q) r × OneLine c p q (take_line at) (ends (AnswerTake r))
+
+  -- a whole call is at this
+  abbrev pub TakeStands : Queue T → Pass T (Line T) → TakeAt T → Type 0
+  TakeStands c p at = Stands (machine_of c) {A = Result (T × ℕ) TakeRefused} (λ x. TakeFirst) take_line take_slots (λ s. HasReadToTake (room_of c) (limit_of c) s) (λ x a. ends (AnswerTake a)) c.table.shared.table_id p at
+
+  -- what some steps of it give
+  abbrev pub TakeRan : Queue T → Operation T → Pass T (Line T) → Pass T (Line T) → Next (TakeAt T) (Result (T × ℕ) TakeRefused) → Type 0
+  TakeRan c o p q r = Ran (machine_of c) (λ x. TakeFirst) take_line take_slots (λ at. HasReadToTake (room_of c) (limit_of c) at) (λ x a. ends (AnswerTake a)) c.table.shared.table_id o p q r

@@ -2,19 +2,16 @@
 use Rattle.std.specs.Prelude.{◌≡◌, ℕ, Result}
 use Rattle.bounded_model.specs.declared.answers.Stepped.{Stepped}
 use Rattle.bounded_model.specs.declared.answers.PutRefused.{PutRefused}
-use Rattle.bounded_model.specs.declared.answers.TakeRefused.{TakeRefused}
 use Rattle.bounded_model.specs.declared.views.PassView.{PassView}
-use Rattle.bounded_model.specs.Laws.{PutGives, TakeGives}
+use Rattle.bounded_model.specs.Laws.{PutGives}
 use Rattle.bounded_model.specs.Stepping.{MatchStepped}
 use Rattle.queue_machine.specs.declared.lines.Line.{Line}
 use Rattle.running.specs.Passes.{pass_in}
 use Rattle.running.specs.declared.passes.Pass.{Pass}
 use Rattle.ms_queue.specs.declared.putting.PutOp.{PutOp}
 use Rattle.ms_queue.specs.declared.queue.Queue.{Queue}
-use Rattle.ms_queue.specs.declared.taking.TakeOp.{TakeOp}
 use Rattle.ms_queue.specs.Putting.{IsPutting}
 use Rattle.ms_queue.specs.Queue.{shape_of, begun_of, IsPassOf}
-use Rattle.ms_queue.specs.Taking.{IsTaking}
 
 module _ {T : Type 0} (c : Queue T) (begun : PassView T) where
   -- a put of x
@@ -26,12 +23,3 @@ module _ {T : Type 0} (c : Queue T) (begun : PassView T) where
 
   abbrev pub PutRun : T → Stepped (PutOp T) (Pass T (Line T)) (Result ℕ (PutRefused T)) → Type 0
   PutRun x made = MatchStepped made (PutSince x) (PutGave x)
-
-  abbrev pub TakeSince : TakeOp T → Type 0
-  TakeSince op = IsTaking c op × (begun_of c op.pass ≡ begun)
-
-  abbrev pub TakeGave : Pass T (Line T) → Result (T × ℕ) TakeRefused → Type 0
-  TakeGave back answer = IsPassOf c back × TakeGives (shape_of c) begun (pass_in back) answer
-
-  abbrev pub TakeRun : Stepped (TakeOp T) (Pass T (Line T)) (Result (T × ℕ) TakeRefused) → Type 0
-  TakeRun made = MatchStepped made TakeSince TakeGave

@@ -62,7 +62,7 @@ impl<T: Drop + Send> Container<T> for Queue<T> {
 
     #[inline(always)]
     fn take<R: Wait>(&self, rt: &R, by: Pass<T>) -> (Pass<T>, Result<(T, u64), TakeRefused>) {
-        whole_call(rt, self, self.begin_take(by))
+        self.take_whole(rt, by)
     }
 
     fn close<R: Wait>(&self, rt: &R, by: Pass<T>) -> (Pass<T>, bool) {

@@ -1,13 +1,19 @@
 //! Giving a node and then a cell back to their free lists: the same steps for a take and for a put
 //! that is refused.
+ghost use Rattle.std.specs.Prelude.{ℕ, List, Option as Slot};
 ghost use Rattle.queue_machine.specs.declared.lines.Answer.{Answer};
-ghost use Rattle.ms_queue.specs.Giving.{IsGiving, Led, way};
+ghost use Rattle.queue_table.specs.Lists.{lists};
+ghost use Rattle.running.specs.Code.{IsAccess};
+ghost use Rattle.ms_queue.specs.Queue.{room_of, machine_of};
+ghost use Rattle.ms_queue.specs.Giving.{AreHeld, GaveTo, IsGiving, Led, give_line, held_slot, way};
 ghost use Rattle.ms_queue.specs.declared.giving.Give.TheVariants.{LoadNodes, LinkNode, GiveNode, LoadCells, LinkCell, GiveCell};
 
 use crate::queue::{Pass, Queue};
 use queue_table::Operation;
 use queue_table::layout::{CELL_LIST, NODE_LIST};
-use running::{give_bare_step, give_one_step, keep_link_step, load_top_step};
+use running::{
+    Access, Next, Outcome, give_bare_step, give_one_step, keep_link_step, load_top_step,
+};
 use tagged_index::Tagged;
 
 /// The node and the cell that are to be given back. The cell's slot is empty.
@@ -45,6 +51,51 @@ pub(crate) enum Gave {
 }
 
 impl<T> Queue<T> {
+    /// What the next step of giving back does.
+    #[inline(always)]
+    pub(crate) fn give_access(&self, held: Held, at: &Give) -> Access
+        requires { AreHeld (room_of self.now) held }
+        ensures { (a : Answer T) → IsAccess (machine_of self.now).core lists 2
+            self.now.table.shared.table_id.words (give_line a held at.now) (held_slot held)
+            result }
+    {
+        match at {
+            Give::LoadNodes => Access::LoadTop(NODE_LIST),
+            Give::LinkNode(nodes) => Access::KeepLink(NODE_LIST, held.node, nodes.index() as u64),
+            Give::GiveNode(nodes) => Access::GiveBare(NODE_LIST, *nodes, held.node),
+            Give::LoadCells => Access::LoadTop(CELL_LIST),
+            Give::LinkCell(cells) => Access::KeepLink(CELL_LIST, held.cell, cells.index() as u64),
+            Give::GiveCell(cells) => Access::Give(CELL_LIST, *cells, held.cell),
+        }
+    }
+
+    /// Where it goes on from a step that came to this.
+    #[inline(always)]
+    pub(crate) fn give_on(&self, at: Give, outcome: Outcome) -> Next<Give, ()>
+        ensures { (a : Answer T) (held : Held) (has : List (ℕ × Slot T))
+            → GaveTo self.now a held at outcome has result }
+    {
+        match at {
+            Give::LoadNodes => Next::On(Give::LinkNode(Tagged::from_word(outcome.word))),
+            Give::LinkNode(nodes) => Next::On(Give::GiveNode(nodes)),
+            Give::GiveNode(_) => {
+                if !outcome.won {
+                    return Next::Lost(Give::LoadNodes);
+                }
+                Next::On(Give::LoadCells)
+            }
+            Give::LoadCells => Next::On(Give::LinkCell(Tagged::from_word(outcome.word))),
+            Give::LinkCell(cells) => Next::On(Give::GiveCell(cells)),
+            Give::GiveCell(_) => {
+                if !outcome.won {
+                    return Next::Lost(Give::LoadCells);
+                }
+                // With the cell goes its slot.
+                Next::Done(())
+            }
+        }
+    }
+
     /// One step of giving back.
     #[inline(always)]
     pub(crate) fn give(

@@ -17,6 +17,7 @@ mod closing;
 mod container;
 mod counting;
 mod ending;
+mod fast_path;
 mod giving;
 mod looking;
 mod making;
@@ -33,7 +34,6 @@ mod stepwise;
 mod straight;
 mod taking;
 mod whole_put;
-mod whole_take;
 
 pub use closing::CloseOp;
 pub use counting::LenOp;

@@ -1,17 +1,24 @@
-//! Taking one value, by steps.
+//! Taking one value: by steps, and by a whole call.
 ghost use Rattle.std.specs.Prelude.{◌≡◌};
+ghost use Rattle.bounded_model.specs.Laws.{TakeGives};
+ghost use Rattle.queue_table.specs.declared.operation.Operation.TheVariants.{Take as TakeFirst};
 ghost use Rattle.running.specs.Passes.{pass_in};
-ghost use Rattle.ms_queue.specs.Queue.{IsPassOf, begun_of};
-ghost use Rattle.ms_queue.specs.Taking.{IsTaking, IsTakingAt, TakeStep};
-ghost use Rattle.ms_queue.specs.declared.taking.TakeAt.TheVariants.{LoadHead, LoadTail, LoadNext, CheckHead, SwingTail, LoadCell, TakeHead, GiveBack};
+ghost use Rattle.ms_queue.specs.Queue.{IsPassOf, begun_of, shape_of};
+ghost use Rattle.ms_queue.specs.Taking.{IsTaking, TakeStep, TakeStands, TakeRan};
 
-use crate::giving::{Gave, Give, Held};
+use crate::fast_path::fast_path;
+use crate::giving::{Give, Held};
 use crate::queue::{Pass, Queue};
+use crate::rule::Queued;
+use atomic_table::Seat;
 use bounded_model::{Stepped, TakeRefused};
 use index_list::move_out;
+use machine::seats::View;
+use queue_machine::Line;
 use queue_table::Operation;
 use queue_table::layout::{HEAD, TAIL, cell, next};
-use running::{attempt_step, load_step, load_tagged_step, raised, take_step};
+use running::{Access, Code, Next, Outcome, any, raised, single_step, to_the_end};
+use std::sync::Wait;
 use tagged_index::{NULL, Tagged};
 
 /// A take that was begun.
@@ -50,11 +57,11 @@ pub(crate) struct Taken<T> {
     pub(crate) held: Held,
 }
 
-pub(crate) type Step<T> = Stepped<TakeOp<T>, Pass<T>, Result<(T, u64), TakeRefused>>;
+type Answer<T> = Result<(T, u64), TakeRefused>;
 
 impl<T> Queue<T> {
     /// A take that makes no step yet. Begun and stepped in `player`, as `Stepwise` has it.
-    #[inline(always)]
+    #[inline]
     pub fn begin_take(&self, by: Pass<T>) -> TakeOp<T>
         requires { IsPassOf self.now by }
         ensures { IsTaking self.now result
@@ -66,172 +73,181 @@ impl<T> Queue<T> {
         }
     }
 
+    /// Takes a value by a whole call.
     #[inline(always)]
-    pub(crate) fn take_load_head(&self, by: Pass<T>) -> Step<T>
-        requires { IsTakingAt self.now by LoadHead }
-        ensures { TakeStep self.now by LoadHead result }
+    pub(crate) fn take_whole<R: Wait>(&self, rt: &R, by: Pass<T>) -> (Pass<T>, Answer<T>)
+        requires { IsPassOf self.now by }
+        ensures { IsPassOf self.now result.0
+            × TakeGives (shape_of self.now) (pass_in by) (pass_in result.0) result.1 }
     {
-        let mut pass = by;
-        let head = load_tagged_step(&self.table.shared, &mut pass.seat, HEAD, &Operation::Take);
-        if head.has_second() {
-            return Stepped::Done(pass, Err(TakeRefused::Shut));
-        }
-        Stepped::Again(TakeOp {
-            pass,
-            at: TakeAt::LoadTail(head),
-        })
+        let take = Operation::Take;
+        let first = self.take_fast(by, &take);
+        to_the_end(rt, &self.table.shared, self, first, &take)
     }
 
-    #[inline(always)]
-    pub(crate) fn take_load_tail(&self, by: Pass<T>, head: Tagged) -> Step<T>
-        requires { IsTakingAt self.now by (LoadTail head) }
-        ensures { TakeStep self.now by (LoadTail head) result }
+    // A take's steps on its fast path, as far as nobody is faster.
+    #[inline]
+    fn take_fast(&self, by: Pass<T>, take: &Operation<T>) -> (Pass<T>, Next<TakeAt<T>, Answer<T>>)
+        requires named { take.now ≡ TakeFirst }
+        requires pass { IsPassOf self.now by }
+        ensures { TakeRan self.now take.now by result.0 result.1 }
     {
-        let mut pass = by;
-        let tail = load_tagged_step(&self.table.shared, &mut pass.seat, TAIL, &Operation::Take);
-        Stepped::Again(TakeOp {
+        let table = &self.table.shared;
+        let (pass, head) = fast_path!(
+            any(table, self, by, TakeAt::LoadHead, take),
+            TakeAt::LoadTail(head) => head
+        );
+        let (pass, head, tail) = fast_path!(
+            any(table, self, pass, TakeAt::LoadTail(head), take),
+            TakeAt::LoadNext(head, tail) => head, tail
+        );
+        let (pass, head, tail, link) = fast_path!(
+            any(table, self, pass, TakeAt::LoadNext(head, tail), take),
+            TakeAt::CheckHead(head, tail, link) => head, tail, link
+        );
+        let (pass, head, link) = fast_path!(
+            any(table, self, pass, TakeAt::CheckHead(head, tail, link), take),
+            TakeAt::LoadCell(head, link) => head, link
+        );
+        let (pass, head, link, cell) = fast_path!(
+            any(table, self, pass, TakeAt::LoadCell(head, link), take),
+            TakeAt::TakeHead(head, link, cell) => head, link, cell
+        );
+        let (pass, at) = fast_path!(any(
+            table,
+            self,
             pass,
-            at: TakeAt::LoadNext(head, tail),
-        })
+            TakeAt::TakeHead(head, link, cell),
+            take,
+        ));
+        self.take_fast_give(pass, at, take)
     }
 
+    // The rest of them: giving the old dummy and the cell back.
     #[inline(always)]
-    pub(crate) fn take_load_next(&self, by: Pass<T>, head: Tagged, tail: Tagged) -> Step<T>
-        requires { IsTakingAt self.now by (LoadNext head tail) }
-        ensures { TakeStep self.now by (LoadNext head tail) result }
-    {
-        let mut pass = by;
-        let at = next(head.index());
-        let link = load_tagged_step(&self.table.shared, &mut pass.seat, at, &Operation::Take);
-        Stepped::Again(TakeOp {
-            pass,
-            at: TakeAt::CheckHead(head, tail, link),
-        })
-    }
-
-    // Where the head is still the same, the link was that of the dummy.
-    #[inline(always)]
-    pub(crate) fn take_check_head(
+    fn take_fast_give(
         &self,
         by: Pass<T>,
-        head: Tagged,
-        tail: Tagged,
-        link: Tagged,
-    ) -> Step<T>
-        requires { IsTakingAt self.now by (CheckHead head tail link) }
-        ensures { TakeStep self.now by (CheckHead head tail link) result }
+        won: TakeAt<T>,
+        take: &Operation<T>,
+    ) -> (Pass<T>, Next<TakeAt<T>, Answer<T>>)
+        requires named { take.now ≡ TakeFirst }
+        requires stands { TakeStands self.now by won }
+        ensures { TakeRan self.now take.now by result.0 result.1 }
     {
-        let mut pass = by;
-        let again = load_tagged_step(&self.table.shared, &mut pass.seat, HEAD, &Operation::Take);
-        if again.word() != head.word() {
-            return Stepped::Again(TakeOp {
-                pass,
-                at: TakeAt::LoadHead,
-            });
-        }
-        if link.is_marked() {
-            return Stepped::Done(pass, Err(TakeRefused::Closed));
-        }
-        if link.index() == NULL {
-            return Stepped::Done(pass, Err(TakeRefused::Empty));
-        }
-        if tail.index() == head.index() {
-            return Stepped::Again(TakeOp {
-                pass,
-                at: TakeAt::SwingTail(tail, link),
-            });
-        }
-        Stepped::Again(TakeOp {
-            pass,
-            at: TakeAt::LoadCell(head, link),
-        })
-    }
-
-    // Whoever succeeds, the tail is then no longer at the dummy.
-    #[inline(always)]
-    pub(crate) fn take_swing_tail(&self, by: Pass<T>, tail: Tagged, link: Tagged) -> Step<T>
-        requires { IsTakingAt self.now by (SwingTail tail link) }
-        ensures { TakeStep self.now by (SwingTail tail link) result }
-    {
-        let mut pass = by;
-        let new = raised(tail, link.index());
         let table = &self.table.shared;
-        attempt_step(table, &mut pass.seat, TAIL, tail, new, &Operation::Take);
-        Stepped::Again(TakeOp {
-            pass,
-            at: TakeAt::LoadHead,
-        })
+        let (pass, at) = fast_path!(any(table, self, by, won, take));
+        let (pass, at) = fast_path!(any(table, self, pass, at, take));
+        let (pass, at) = fast_path!(any(table, self, pass, at, take));
+        let (pass, at) = fast_path!(any(table, self, pass, at, take));
+        let (pass, at) = fast_path!(any(table, self, pass, at, take));
+        any(table, self, pass, at, take)
     }
+}
+
+impl<T> Code<Queue<T>, T, Line<T>, Operation<T>, Queued, Answer<T>, 2> for TakeAt<T> {
+    ghost use Rattle.queue_machine.specs.declared.lines.Answer.TheVariants.{Take as AnswerTake};
+    ghost use Rattle.queue_machine.specs.Machine.{ends};
+    ghost use Rattle.queue_table.specs.declared.operation.Operation.TheVariants.{Take as TakeFirst};
+    ghost use Rattle.ms_queue.specs.Queue.{room_of, limit_of};
+    ghost use Rattle.ms_queue.specs.Taking.{take_line, take_slots, HasReadToTake};
+
+    ghost key = { λ c. c.table.shared.key };
+
+    ghost id = { λ c. c.table.shared.table_id };
+
+    ghost operation = { λ _. TakeFirst };
+
+    ghost line = { take_line };
+
+    ghost slots = { take_slots };
+
+    ghost knows = { λ c at. HasReadToTake (room_of c) (limit_of c) at };
+
+    ghost answer = { λ _ r. ends (AnswerTake r) };
 
     #[inline(always)]
-    pub(crate) fn take_load_cell(&self, by: Pass<T>, head: Tagged, link: Tagged) -> Step<T>
-        requires { IsTakingAt self.now by (LoadCell head link) }
-        ensures { TakeStep self.now by (LoadCell head link) result }
-    {
-        let mut pass = by;
-        let at = cell(link.index());
-        let found = load_step(&self.table.shared, &mut pass.seat, at, &Operation::Take);
-        let cell = found as u32;
-        Stepped::Again(TakeOp {
-            pass,
-            at: TakeAt::TakeHead(head, link, cell),
-        })
-    }
-
-    // The take has its effect here; the value moves out with the cell's slot.
-    #[inline(always)]
-    pub(crate) fn take_head(&self, by: Pass<T>, head: Tagged, link: Tagged, cell: u32) -> Step<T>
-        requires { IsTakingAt self.now by (TakeHead head link cell) }
-        ensures { TakeStep self.now by (TakeHead head link cell) result }
-    {
-        let mut pass = by;
-        let new = raised(head, link.index());
-        let table = &self.table.shared;
-        if take_step(table, &mut pass.seat, HEAD, head, new, &Operation::Take) {
-            let value = move_out(table, &mut pass.seat, cell);
-            let number = head.tag();
-            let node = head.index();
-            return Stepped::Again(TakeOp {
-                pass,
-                at: TakeAt::GiveBack(
-                    Taken {
-                        value,
-                        number,
-                        held: Held {
-                            cell,
-                            node,
-                            aligned: [],
-                        },
-                    },
-                    Give::LoadNodes,
-                ),
-            });
-        }
-        Stepped::Again(TakeOp {
-            pass,
-            at: TakeAt::LoadHead,
-        })
-    }
-
-    #[inline(always)]
-    pub(crate) fn take_give_back(&self, by: Pass<T>, taken: Taken<T>, at: Give) -> Step<T>
-        requires { IsTakingAt self.now by (GiveBack taken at) }
-        ensures { TakeStep self.now by (GiveBack taken at) result }
-    {
-        let mut pass = by;
-        match self.give(&mut pass, taken.held, at, &Operation::Take) {
-            Gave::On(at) => Stepped::Again(TakeOp {
-                pass,
-                at: TakeAt::GiveBack(taken, at),
-            }),
-            Gave::Both => {
-                let Taken {
-                    value,
-                    number,
-                    held: _,
-                } = taken;
-                Stepped::Done(pass, Ok((value, number)))
+    fn access(&self, on: &Queue<T>) -> Access {
+        match self {
+            TakeAt::LoadHead => Access::Load(HEAD),
+            TakeAt::LoadTail(_) => Access::Load(TAIL),
+            TakeAt::LoadNext(head, _) => Access::Load(next(head.index())),
+            TakeAt::CheckHead(_, _, _) => Access::Load(HEAD),
+            TakeAt::SwingTail(tail, link) => Access::Swap(TAIL, *tail, raised(*tail, link.index())),
+            TakeAt::LoadCell(_, link) => Access::Load(cell(link.index())),
+            TakeAt::TakeHead(head, link, _) => {
+                Access::Bring(HEAD, *head, raised(*head, link.index()))
             }
+            TakeAt::GiveBack(taken, at) => on.give_access(taken.held, at),
+        }
+    }
+
+    #[inline(always)]
+    fn next(
+        self,
+        on: &Queue<T>,
+        seat: &mut Seat<Option<T>, View<T, Line<T>>>,
+        outcome: Outcome,
+    ) -> Next<TakeAt<T>, Answer<T>> {
+        match self {
+            TakeAt::LoadHead => {
+                let head = Tagged::from_word(outcome.word);
+                if head.has_second() {
+                    return Next::Done(Err(TakeRefused::Shut));
+                }
+                Next::On(TakeAt::LoadTail(head))
+            }
+            TakeAt::LoadTail(head) => {
+                let tail = Tagged::from_word(outcome.word);
+                Next::On(TakeAt::LoadNext(head, tail))
+            }
+            TakeAt::LoadNext(head, tail) => {
+                let link = Tagged::from_word(outcome.word);
+                Next::On(TakeAt::CheckHead(head, tail, link))
+            }
+            TakeAt::CheckHead(head, tail, link) => {
+                // Where the head is still the same, the link was that of the dummy.
+                if outcome.word != head.word() {
+                    return Next::Lost(TakeAt::LoadHead);
+                }
+                if link.is_marked() {
+                    return Next::Done(Err(TakeRefused::Closed));
+                }
+                if link.index() == NULL {
+                    return Next::Done(Err(TakeRefused::Empty));
+                }
+                if tail.index() == head.index() {
+                    return Next::On(TakeAt::SwingTail(tail, link));
+                }
+                Next::On(TakeAt::LoadCell(head, link))
+            }
+            // Whoever succeeds, the tail is then no longer at the dummy.
+            TakeAt::SwingTail(_, _) => Next::Lost(TakeAt::LoadHead),
+            TakeAt::LoadCell(head, link) => {
+                Next::On(TakeAt::TakeHead(head, link, outcome.word as u32))
+            }
+            TakeAt::TakeHead(head, _, cell) => {
+                if !outcome.won {
+                    return Next::Lost(TakeAt::LoadHead);
+                }
+                // The take has its effect here; the value moves out with the cell's slot.
+                let value = move_out(&on.table.shared, seat, cell);
+                let taken = Taken {
+                    value,
+                    number: head.tag(),
+                    held: Held {
+                        cell,
+                        node: head.index(),
+                        aligned: [],
+                    },
+                };
+                Next::On(TakeAt::GiveBack(taken, Give::LoadNodes))
+            }
+            TakeAt::GiveBack(taken, at) => match on.give_on(at, outcome) {
+                Next::On(at) => Next::On(TakeAt::GiveBack(taken, at)),
+                Next::Lost(at) => Next::Lost(TakeAt::GiveBack(taken, at)),
+                Next::Done(()) => Next::Done(Ok((taken.value, taken.number))),
+            },
         }
     }
 }
@@ -247,16 +263,11 @@ impl<T> TakeOp<T> {
         requires { IsTaking queue.now self }
         ensures { TakeStep queue.now self.pass self.at result }
     {
-        let TakeOp { pass, at } = self;
-        match at {
-            TakeAt::LoadHead => queue.take_load_head(pass),
-            TakeAt::LoadTail(head) => queue.take_load_tail(pass, head),
-            TakeAt::LoadNext(head, tail) => queue.take_load_next(pass, head, tail),
-            TakeAt::CheckHead(head, tail, link) => queue.take_check_head(pass, head, tail, link),
-            TakeAt::SwingTail(tail, link) => queue.take_swing_tail(pass, tail, link),
-            TakeAt::LoadCell(head, link) => queue.take_load_cell(pass, head, link),
-            TakeAt::TakeHead(head, link, cell) => queue.take_head(pass, head, link, cell),
-            TakeAt::GiveBack(taken, at) => queue.take_give_back(pass, taken, at),
+        let table = &queue.table.shared;
+        let made = single_step(table, queue, self.pass, self.at, &Operation::Take);
+        match made {
+            Stepped::Again((pass, at)) => Stepped::Again(TakeOp { pass, at }),
+            Stepped::Done(pass, answer) => Stepped::Done(pass, answer),
         }
     }
 }
