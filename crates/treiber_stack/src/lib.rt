@@ -9,7 +9,8 @@
 //! refusal was right at some time of its call.
 //!
 //! Passes are split off a root, meet and are joined again. An operation is begun and then made step
-//! by step, or by a whole call, which retries while others interfere.
+//! by step, or by a whole call, which retries while others interfere, or for a bounded number of
+//! steps, and can then be gone on with.
 #![tactic(auto)]
 
 mod bulk;
