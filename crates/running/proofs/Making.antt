@@ -16,7 +16,7 @@ use Rattle.running.specs.Lists.{Lists, AtStep, kind_access, side}
 use Rattle.running.specs.Code.{IsAccess, FoundBy, Won, plain}
 use Rattle.running.specs.Steps.{Made}
 use Rattle.running.specs.declared.access.Access.{Access}
-use Rattle.running.specs.declared.access.Access.TheVariants.{KeepLink}
+use Rattle.running.specs.declared.access.Access.TheVariants.{Keep, KeepLink}
 use Rattle.running.specs.declared.access.Outcome.{Outcome}
 use Rattle.running.proofs.Going.{now_going}
 
@@ -80,6 +80,11 @@ module _ {T L O : Type 0} {names : Names L O} (m : Machine T L O names) (y : Lis
           (λ h. let b = won h in hit at w new brings a h b.slots (b.moved, b.fits (begun_in m me.0) l is.going) b.steps)
           (λ h. missed at w new brings a h (lost h).0 (lost h).1)
 
+      pub returned_at : m.core.access l ≡ swaps at (fields_of w) new returns → (r.won ≡ true → (me'.1 ≡ []) × Found m o me.0 me'.0 w me.1) → (r.won ≡ false → (me'.1 ≡ me.1) × Missed m o me.0 me'.0 w) → Made m o l me me' r
+      returned_at a won lost = either_way r.won
+          (λ h. hit at w new returns a h me.1 ((won h).0, refl) (won h).1)
+          (λ h. missed at w new returns a h (lost h).0 (lost h).1)
+
     module _ (list w : ℕ) (change : Change) (e : m.core.access l ≡ kind_access y.layout list (exchange (fields_of w) change)) where
       abbrev at : ℕ
       at = y.layout.top list
@@ -97,12 +102,11 @@ module _ {T L O : Type 0} {names : Names L O} (m : Machine T L O names) (y : Lis
       brought some_come won lost = brought_at at w new (moves brings some_come) won lost
 
       pub returned : side (y.layout.carries list) change ≡ returns → (r.won ≡ true → (me'.1 ≡ []) × Found m o me.0 me'.0 w me.1) → (r.won ≡ false → (me'.1 ≡ me.1) × Missed m o me.0 me'.0 w) → Made m o l me me' r
-      returned all_go won lost = let a = moves returns all_go in either_way r.won
-          (λ h. hit at w new returns a h me.1 ((won h).0, refl) (won h).1)
-          (λ h. missed at w new returns a h (lost h).0 (lost h).1)
+      returned all_go won lost = returned_at at w new (moves returns all_go) won lost
 
 -- an access without a load before a store is an access of the same line
 module _ {T L O : Type 0} (c : Core T L O) (y : Lists L) (lists words : ℕ) (l : L) (slots : List (ℕ × Slot T)) where
   pub plain_access : (a : Access) → IsAccess c y lists words l slots a → IsAccess c y lists words l slots (plain a)
+  plain_access (Keep at x) is = is
   plain_access (KeepLink list i next) is = is
   plain_access a is = is

@@ -6,10 +6,10 @@ use Rattle.tagged_index.specs.declared.word.TheConstants.{NULL, MAX_TAG}
 use Rattle.index_list.specs.Kinds.{Kind, read_top, read_link, write_link, exchange}
 use Rattle.index_list.specs.declared.change.Change.TheVariants as change
 use Rattle.machine.specs.Words.{same}
-use Rattle.running.specs.Machine.{Names, Core, Access as Deed, Side, stays, brings, returns, loads, swaps}
+use Rattle.running.specs.Machine.{Names, Core, Access as Deed, Side, stays, brings, returns, loads, stores, swaps}
 use Rattle.running.specs.Lists.{Lists, kind_access}
 use Rattle.running.specs.declared.access.Access.{Access}
-use Rattle.running.specs.declared.access.Access.TheVariants.{Load, Swap, Bring, LoadTop, LoadLink, StoreLink, KeepLink, Take, Give, GiveBare, GiveChain, Mark, Shut}
+use Rattle.running.specs.declared.access.Access.TheVariants.{Load, Store, Keep, Swap, Bring, Return, LoadTop, LoadLink, StoreLink, KeepLink, Take, TakeBare, Give, GiveBare, GiveChain, Mark, Shut}
 use Rattle.running.specs.declared.access.Outcome.{Outcome}
 use Rattle.running.specs.declared.code.Next.{Next}
 use Rattle.running.specs.declared.code.Next.TheVariants.{On, Lost, Done}
@@ -22,13 +22,17 @@ module _ {T L O : Type 0} (c : Core T L O) (y : Lists L) (lists words : ℕ) whe
   -- this is the access of a line, with these slots in hand
   abbrev pub IsAccess : L → List (ℕ × Slot T) → Access → Type 0
   IsAccess l slots (Load at) = (c.access l ≡ loads at) × (at < words)
+  IsAccess l slots (Store at x) = (c.access l ≡ stores at x) × (at < words) × c.Plain at x
+  IsAccess l slots (Keep at x) = (c.access l ≡ stores at x) × (at < words) × c.Plain at x
   IsAccess l slots (Swap at seen new) = (c.access l ≡ swaps at (fields_of seen) (fields_of new) stays) × (at < words)
   IsAccess l slots (Bring at seen new) = (c.access l ≡ swaps at (fields_of seen) (fields_of new) brings) × (at < words)
+  IsAccess l slots (Return at seen new) = (c.access l ≡ swaps at (fields_of seen) (fields_of new) returns) × (at < words) × c.Fits l slots
   IsAccess l slots (LoadTop list) = IsStep l list read_top × (y.layout.top list < words)
   IsAccess l slots (LoadLink list i) = IsStep l list (read_link i) × (i ≤ NULL) × (y.layout.link list i < words)
   IsAccess l slots (StoreLink list i next) = IsStep l list (write_link i next) × (i ≤ NULL) × (y.layout.link list i < words) × c.Plain (y.layout.link list i) next
   IsAccess l slots (KeepLink list i next) = IsStep l list (write_link i next) × (i ≤ NULL) × (y.layout.link list i < words) × c.Plain (y.layout.link list i) next
   IsAccess l slots (Take list seen next) = IsStep l list (exchange (fields_of seen) (change.Take next)) × (y.layout.top list < words) × (y.layout.carries list ≡ true) × (index_of seen < NULL) × (tag_of seen < MAX_TAG) × (next ≤ NULL)
+  IsAccess l slots (TakeBare list seen next) = IsStep l list (exchange (fields_of seen) (change.Take next)) × (y.layout.top list < words) × (y.layout.carries list ≡ false) × (index_of seen < NULL) × (tag_of seen < MAX_TAG) × (next ≤ NULL)
   IsAccess l slots (Give list seen i) = IsStep l list (exchange (fields_of seen) (change.Give i)) × (y.layout.top list < words) × (y.layout.carries list ≡ true) × (i < NULL) × (y.layout.keeps list ≡ false → tag_of seen < MAX_TAG) × c.Fits l slots
   IsAccess l slots (GiveBare list seen i) = IsStep l list (exchange (fields_of seen) (change.Give i)) × (y.layout.top list < words) × (y.layout.carries list ≡ false) × (i < NULL) × (y.layout.keeps list ≡ false → tag_of seen < MAX_TAG)
   IsAccess l slots (GiveChain list seen first) = IsStep l list (exchange (fields_of seen) (change.GiveChain first)) × (y.layout.top list < words) × (y.layout.carries list ≡ true) × (first ≤ NULL) × (y.layout.keeps list ≡ false → tag_of seen < MAX_TAG) × c.Fits l slots
@@ -37,6 +41,7 @@ module _ {T L O : Type 0} (c : Core T L O) (y : Lists L) (lists words : ℕ) whe
 
 -- the same access without a load before a store
 abbrev pub plain : Access → Access
+plain (Keep at x) = Store at x
 plain (KeepLink list i next) = StoreLink list i next
 plain a = a
 

@@ -10,10 +10,16 @@ use tagged_index::Tagged;
 pub enum Access {
     /// Load this word.
     Load(usize),
+    /// Store in this word.
+    Store(usize, u64),
+    /// The same by a load where the word is that already, which costs less.
+    Keep(usize, u64),
     /// Compare-and-swap this word, which was seen, for a new one. No slot moves.
     Swap(usize, Tagged, Tagged),
     /// The same, where the new word brings slots.
     Bring(usize, Tagged, Tagged),
+    /// The same, where all slots held go with the new word.
+    Return(usize, Tagged, Tagged),
     /// Load the top of this list.
     LoadTop(usize),
     /// Load the link of an index on this list.
@@ -24,6 +30,8 @@ pub enum Access {
     KeepLink(usize, u32, u64),
     /// Compare-and-swap the top of this list, which was seen, for its second index.
     Take(usize, Tagged, u32),
+    /// The same on a list without slots.
+    TakeBare(usize, Tagged, u32),
     /// Compare-and-swap it for an index held, with all slots held.
     Give(usize, Tagged, u32),
     /// The same on a list without slots.
@@ -43,6 +51,7 @@ impl Access {
         ensures { result ≡ plain self }
     {
         match self {
+            Access::Keep(place, word) => Access::Store(place, word),
             Access::KeepLink(list, index, next) => Access::StoreLink(list, index, next),
             access => access,
         }

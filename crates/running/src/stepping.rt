@@ -8,11 +8,11 @@ use crate::access::{Access, Outcome};
 use crate::code::{Code, Next};
 use crate::lists::{
     ListMachine, give_bare_step, give_chain_step, give_one_step, keep_link_step, load_link_step,
-    load_top_step, mark_step, shut_step, store_link_step, take_first_step,
+    load_top_step, mark_step, shut_step, store_link_step, take_bare_step, take_first_step,
 };
 use crate::passes::Pass;
 use crate::rule::Running;
-use crate::steps::{load_step, swap_step, take_step};
+use crate::steps::{give_step, keep_step, load_step, store_step, swap_step, take_step};
 use atomic_table::{Seat, Shared};
 use bounded_model::Stepped;
 use machine::View;
@@ -42,6 +42,14 @@ fn make<C, T, L, O, M: ListMachine<T, L, O, N>, A, S: Code<C, T, L, O, M, A, N>,
             let word = load_step::<T, L, O, M>(table, seat, place, operation);
             Outcome { word, won: true }
         }
+        Access::Store(place, word) => {
+            store_step::<T, L, O, M>(table, seat, place, word, operation);
+            Outcome { word, won: true }
+        }
+        Access::Keep(place, word) => {
+            keep_step::<T, L, O, M>(table, seat, place, word, operation);
+            Outcome { word, won: true }
+        }
         Access::Swap(place, seen, new) => {
             let won = swap_step::<T, L, O, M>(table, seat, place, seen, new, operation);
             Outcome {
@@ -51,6 +59,13 @@ fn make<C, T, L, O, M: ListMachine<T, L, O, N>, A, S: Code<C, T, L, O, M, A, N>,
         }
         Access::Bring(place, seen, new) => {
             let won = take_step::<T, L, O, M>(table, seat, place, seen, new, operation);
+            Outcome {
+                word: seen.word(),
+                won,
+            }
+        }
+        Access::Return(place, seen, new) => {
+            let won = give_step::<T, L, O, M>(table, seat, place, seen, new, operation);
             Outcome {
                 word: seen.word(),
                 won,
@@ -77,6 +92,13 @@ fn make<C, T, L, O, M: ListMachine<T, L, O, N>, A, S: Code<C, T, L, O, M, A, N>,
         }
         Access::Take(list, seen, next) => {
             let won = take_first_step::<T, L, O, M, N>(table, seat, list, seen, next, operation);
+            Outcome {
+                word: seen.word(),
+                won,
+            }
+        }
+        Access::TakeBare(list, seen, next) => {
+            let won = take_bare_step::<T, L, O, M, N>(table, seat, list, seen, next, operation);
             Outcome {
                 word: seen.word(),
                 won,

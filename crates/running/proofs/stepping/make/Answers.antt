@@ -2,7 +2,7 @@ use Rattle.std.proofs.Common.{Bool, refl, sym, ap}
 use Rattle.index_list.specs.declared.change.Change.TheVariants as change
 use Rattle.running.specs.Lists.{side}
 use Rattle.running.proofs.Hosting.{mark_stays, shut_stays}
-use Rattle.running.proofs.Making.{known, at_access, at_step, fits_now, loaded, stored, stayed_at, brought_at, stayed, brought, returned}
+use Rattle.running.proofs.Making.{known, at_access, at_step, fits_now, loaded, stored, stayed_at, brought_at, returned_at, stayed, brought, returned}
 use Rattle.running.proofs.stepping.make.Goals as goal
 
 pub load_step-word-requires-clause-table : goal.load_step-word-requires-clause-table
@@ -16,6 +16,38 @@ load_step-word-requires-clause-access g c =
 pub returns-in-Load-clause-made : goal.returns-in-Load-clause-made
 returns-in-Load-clause-made g c =
     let s = c.load_step-word in loaded (g.M.Machine.machine c.args.table.now.key) g.M.ListMachine.lists c.requires.at s.new.seat.me (record { word = s.result; won = _ }) _ _ (known (g.M.Machine.machine c.args.table.now.key) g.M.ListMachine.lists c.requires.at _ _ c.in-Load.is c.requires.access).0 refl s.ensures.seat.1 s.ensures.steps
+
+pub store_step-requires-clause-table : goal.store_step-requires-clause-table
+store_step-requires-clause-table g c =
+    (c.requires.table, (known (g.M.Machine.machine c.args.table.now.key) g.M.ListMachine.lists c.requires.at _ _ c.in-Store.is c.requires.access).1)
+
+pub store_step-requires-clause-access : goal.store_step-requires-clause-access
+store_step-requires-clause-access g c =
+    at_access (g.M.Machine.machine c.args.table.now.key) g.M.ListMachine.lists c.requires.at _ (known (g.M.Machine.machine c.args.table.now.key) g.M.ListMachine.lists c.requires.at _ _ c.in-Store.is c.requires.access).0
+
+pub store_step-requires-clause-plain : goal.store_step-requires-clause-plain
+store_step-requires-clause-plain g c =
+    (known (g.M.Machine.machine c.args.table.now.key) g.M.ListMachine.lists c.requires.at _ _ c.in-Store.is c.requires.access).2
+
+pub returns-in-Store-clause-made : goal.returns-in-Store-clause-made
+returns-in-Store-clause-made g c =
+    let s = c.store_step in stored (g.M.Machine.machine c.args.table.now.key) g.M.ListMachine.lists c.requires.at s.new.seat.me (record { word = c.in-Store.word; won = _ }) _ _ _ (known (g.M.Machine.machine c.args.table.now.key) g.M.ListMachine.lists c.requires.at _ _ c.in-Store.is c.requires.access).0 refl s.ensures.seat.1 s.ensures.steps
+
+pub keep_step-requires-clause-table : goal.keep_step-requires-clause-table
+keep_step-requires-clause-table g c =
+    (c.requires.table, (known (g.M.Machine.machine c.args.table.now.key) g.M.ListMachine.lists c.requires.at _ _ c.in-Keep.is c.requires.access).1)
+
+pub keep_step-requires-clause-access : goal.keep_step-requires-clause-access
+keep_step-requires-clause-access g c =
+    at_access (g.M.Machine.machine c.args.table.now.key) g.M.ListMachine.lists c.requires.at _ (known (g.M.Machine.machine c.args.table.now.key) g.M.ListMachine.lists c.requires.at _ _ c.in-Keep.is c.requires.access).0
+
+pub keep_step-requires-clause-plain : goal.keep_step-requires-clause-plain
+keep_step-requires-clause-plain g c =
+    (known (g.M.Machine.machine c.args.table.now.key) g.M.ListMachine.lists c.requires.at _ _ c.in-Keep.is c.requires.access).2
+
+pub returns-in-Keep-clause-made : goal.returns-in-Keep-clause-made
+returns-in-Keep-clause-made g c =
+    let s = c.keep_step in stored (g.M.Machine.machine c.args.table.now.key) g.M.ListMachine.lists c.requires.at s.new.seat.me (record { word = c.in-Keep.word; won = _ }) _ _ _ (known (g.M.Machine.machine c.args.table.now.key) g.M.ListMachine.lists c.requires.at _ _ c.in-Keep.is c.requires.access).0 refl s.ensures.seat.1 s.ensures.steps
 
 pub swap_step-won-requires-clause-table : goal.swap_step-won-requires-clause-table
 swap_step-won-requires-clause-table g c =
@@ -40,6 +72,22 @@ take_step-won-requires-clause-access g c =
 pub returns-in-Bring-clause-made : goal.returns-in-Bring-clause-made
 returns-in-Bring-clause-made g c =
     let s = c.take_step-won in brought_at (g.M.Machine.machine c.args.table.now.key) g.M.ListMachine.lists c.requires.at s.new.seat.me _ _ _ _ (known (g.M.Machine.machine c.args.table.now.key) g.M.ListMachine.lists c.requires.at _ _ c.in-Bring.is c.requires.access).0 s.ensures.won s.ensures.lost
+
+pub give_step-won-requires-clause-table : goal.give_step-won-requires-clause-table
+give_step-won-requires-clause-table g c =
+    (c.requires.table, (known (g.M.Machine.machine c.args.table.now.key) g.M.ListMachine.lists c.requires.at _ _ c.in-Return.is c.requires.access).1)
+
+pub give_step-won-requires-clause-access : goal.give_step-won-requires-clause-access
+give_step-won-requires-clause-access g c =
+    at_access (g.M.Machine.machine c.args.table.now.key) g.M.ListMachine.lists c.requires.at _ (known (g.M.Machine.machine c.args.table.now.key) g.M.ListMachine.lists c.requires.at _ _ c.in-Return.is c.requires.access).0
+
+pub give_step-won-requires-clause-fits : goal.give_step-won-requires-clause-fits
+give_step-won-requires-clause-fits g c =
+    fits_now (g.M.Machine.machine c.args.table.now.key) g.M.ListMachine.lists c.requires.at (known (g.M.Machine.machine c.args.table.now.key) g.M.ListMachine.lists c.requires.at _ _ c.in-Return.is c.requires.access).2
+
+pub returns-in-Return-clause-made : goal.returns-in-Return-clause-made
+returns-in-Return-clause-made g c =
+    let s = c.give_step-won in returned_at (g.M.Machine.machine c.args.table.now.key) g.M.ListMachine.lists c.requires.at s.new.seat.me _ _ _ _ (known (g.M.Machine.machine c.args.table.now.key) g.M.ListMachine.lists c.requires.at _ _ c.in-Return.is c.requires.access).0 s.ensures.won s.ensures.lost
 
 pub load_top_step-top-requires-clause-table : goal.load_top_step-top-requires-clause-table
 load_top_step-top-requires-clause-table g c =
@@ -116,6 +164,26 @@ take_first_step-won-requires-clause-word g c =
 pub returns-in-Take-clause-made : goal.returns-in-Take-clause-made
 returns-in-Take-clause-made g c =
     let is = known (g.M.Machine.machine c.args.table.now.key) g.M.ListMachine.lists c.requires.at _ _ c.in-Take.is c.requires.access in let s = c.take_first_step-won in brought (g.M.Machine.machine c.args.table.now.key) g.M.ListMachine.lists c.requires.at s.new.seat.me _ _ _ _ is.0.2 (ap (λ (b : Bool). side b (change.Take c.in-Take.next)) is.2) s.ensures.won s.ensures.lost
+
+pub take_bare_step-won-requires-clause-table : goal.take_bare_step-won-requires-clause-table
+take_bare_step-won-requires-clause-table g c =
+    let is = known (g.M.Machine.machine c.args.table.now.key) g.M.ListMachine.lists c.requires.at _ _ c.in-TakeBare.is c.requires.access in (c.requires.table, is.0.0, is.1)
+
+pub take_bare_step-won-requires-clause-access : goal.take_bare_step-won-requires-clause-access
+take_bare_step-won-requires-clause-access g c =
+    at_step (g.M.Machine.machine c.args.table.now.key) g.M.ListMachine.lists c.requires.at _ _ (known (g.M.Machine.machine c.args.table.now.key) g.M.ListMachine.lists c.requires.at _ _ c.in-TakeBare.is c.requires.access).0.1
+
+pub take_bare_step-won-requires-clause-carries : goal.take_bare_step-won-requires-clause-carries
+take_bare_step-won-requires-clause-carries g c =
+    let is = known (g.M.Machine.machine c.args.table.now.key) g.M.ListMachine.lists c.requires.at _ _ c.in-TakeBare.is c.requires.access in is.2
+
+pub take_bare_step-won-requires-clause-word : goal.take_bare_step-won-requires-clause-word
+take_bare_step-won-requires-clause-word g c =
+    let is = known (g.M.Machine.machine c.args.table.now.key) g.M.ListMachine.lists c.requires.at _ _ c.in-TakeBare.is c.requires.access in (is.3, is.4, is.5)
+
+pub returns-in-TakeBare-clause-made : goal.returns-in-TakeBare-clause-made
+returns-in-TakeBare-clause-made g c =
+    let is = known (g.M.Machine.machine c.args.table.now.key) g.M.ListMachine.lists c.requires.at _ _ c.in-TakeBare.is c.requires.access in let s = c.take_bare_step-won in stayed (g.M.Machine.machine c.args.table.now.key) g.M.ListMachine.lists c.requires.at s.new.seat.me _ _ _ _ is.0.2 (ap (λ (b : Bool). side b (change.Take c.in-TakeBare.next)) is.2) s.ensures.seat.1 s.ensures.won s.ensures.lost
 
 pub give_one_step-won-requires-clause-table : goal.give_one_step-won-requires-clause-table
 give_one_step-won-requires-clause-table g c =
