@@ -9,7 +9,6 @@ mod calls;
 mod operation;
 mod queue;
 mod stack;
-mod whole;
 
 pub use calls::BoundedCalls;
 pub use operation::Operation;

@@ -1,98 +1,25 @@
-//! A queue's calls, each on the fast path first.
-ghost use Rattle.std.specs.Prelude.{ℕ};
+//! A queue's calls: each makes its fast path and then a bounded number of steps.
 ghost use Rattle.bounded_calls.specs.Calls.{Begins};
 ghost use Rattle.bounded_calls.specs.Readings.{queue_reading};
-ghost use Rattle.ms_queue.specs.Closing.{IsClosing};
-ghost use Rattle.ms_queue.specs.Looking.{IsLooking};
-ghost use Rattle.ms_queue.specs.Putting.{IsPutting};
-ghost use Rattle.ms_queue.specs.Queue.{IsPassOf, begun_of};
-ghost use Rattle.ms_queue.specs.Shutting.{IsShutting};
-ghost use Rattle.ms_queue.specs.Taking.{IsTaking};
-ghost use Rattle.ms_queue.specs.Whole.{PutRun, TakeRun, CloseRun, ShutRun, LookRun};
+ghost use Rattle.ms_queue.specs.Queue.{IsPassOf};
 
 use crate::calls::BoundedCalls;
 use crate::operation::Operation;
-use crate::whole::{try_further, try_whole};
-use bounded_model::{Command, PutRefused, Reply, Stepped, Stepwise, TakeRefused};
+use bounded_model::{Command, Reply, Stepped, Stepwise};
 use ms_queue::{CloseOp, LookOp, Pass, PutOp, Queue, ShutOp, TakeOp};
 
-#[inline(always)]
-fn put_on(
-    queue: &Queue<u64>,
-    op: PutOp<u64>,
-    tries: u64,
-) -> Stepped<PutOp<u64>, Pass<u64>, Result<u64, PutRefused<u64>>>
-    requires { (x : ℕ) × IsPutting queue.now x op }
-    ensures { (x : ℕ) → IsPutting queue.now x op
-        → PutRun queue.now (begun_of queue.now op.pass) x result }
-{
-    try_whole(queue, op, tries)
-}
+// As many steps as any call makes that loses no compare-and-swap.
+const UNDISTURBED: u64 = 18;
 
-#[inline(always)]
-fn take_on(
-    queue: &Queue<u64>,
-    op: TakeOp<u64>,
-    tries: u64,
-) -> Stepped<TakeOp<u64>, Pass<u64>, Result<(u64, u64), TakeRefused>>
-    requires { IsTaking queue.now op }
-    ensures { TakeRun queue.now (begun_of queue.now op.pass) result }
-{
-    try_whole(queue, op, tries)
-}
+// How many steps lead to a call's next compare-and-swap once one has failed.
+const TO_EXCHANGE: u64 = 6;
 
-// The same of a put and of a take that are under way.
+// How many steps so many tries are.
 #[inline]
-fn put_further(
-    queue: &Queue<u64>,
-    op: PutOp<u64>,
-    tries: u64,
-) -> Stepped<PutOp<u64>, Pass<u64>, Result<u64, PutRefused<u64>>>
-    requires { (x : ℕ) × IsPutting queue.now x op }
-    ensures { (x : ℕ) → IsPutting queue.now x op
-        → PutRun queue.now (begun_of queue.now op.pass) x result }
-{
-    try_further(queue, op, tries)
-}
-
-#[inline]
-fn take_further(
-    queue: &Queue<u64>,
-    op: TakeOp<u64>,
-    tries: u64,
-) -> Stepped<TakeOp<u64>, Pass<u64>, Result<(u64, u64), TakeRefused>>
-    requires { IsTaking queue.now op }
-    ensures { TakeRun queue.now (begun_of queue.now op.pass) result }
-{
-    try_further(queue, op, tries)
-}
-
-#[inline]
-fn close_on(
-    queue: &Queue<u64>,
-    op: CloseOp<u64>,
-    tries: u64,
-) -> Stepped<CloseOp<u64>, Pass<u64>, bool>
-    requires { IsClosing queue.now op }
-    ensures { CloseRun queue.now (begun_of queue.now op.pass) result }
-{
-    try_whole(queue, op, tries)
-}
-
-#[inline]
-fn shut_on(queue: &Queue<u64>, op: ShutOp<u64>, tries: u64) -> Stepped<ShutOp<u64>, Pass<u64>, bool>
-    requires { IsShutting queue.now op }
-    ensures { ShutRun queue.now (begun_of queue.now op.pass) result }
-{
-    try_whole(queue, op, tries)
-}
-
-#[inline]
-fn look_on(queue: &Queue<u64>, op: LookOp<u64>, tries: u64) -> Stepped<LookOp<u64>, Pass<u64>, bool>
-    requires { IsLooking queue.now op }
-    ensures { LookRun queue.now (begun_of queue.now op.pass) result }
-{
-    try_whole(queue, op, tries)
+fn steps_for(tries: u64) -> u64 {
+    tries
+        .saturating_mul(TO_EXCHANGE)
+        .saturating_add(UNDISTURBED)
 }
 
 // A call that makes no step yet.
@@ -154,7 +81,7 @@ impl BoundedCalls<u64> for Queue<u64> {
         requires { IsPassOf self.now by }
         ensures { TriedFrom (queue_reading self.now) (pass_in by) (Put value) result }
     {
-        match put_on(self, Stepwise::begin_put(self, by, value), tries) {
+        match self.put_for(by, value, steps_for(tries)) {
             Stepped::Again(op) => Stepped::Again(Operation::Put(op)),
             Stepped::Done(pass, answer) => Stepped::Done(pass, Reply::Put(answer)),
         }
@@ -173,7 +100,7 @@ impl BoundedCalls<u64> for Queue<u64> {
         requires { IsPassOf self.now by }
         ensures { TriedFrom (queue_reading self.now) (pass_in by) Take result }
     {
-        match take_on(self, Stepwise::begin_take(self, by), tries) {
+        match self.take_for(by, steps_for(tries)) {
             Stepped::Again(op) => Stepped::Again(Operation::Take(op)),
             Stepped::Done(pass, answer) => Stepped::Done(pass, Reply::Take(answer)),
         }
@@ -191,24 +118,25 @@ impl BoundedCalls<u64> for Queue<u64> {
         requires { MakesSome (queue_reading self.now) operation }
         ensures { Tried (queue_reading self.now) operation result }
     {
+        let steps = steps_for(tries);
         match operation {
-            Operation::Put(op) => match put_further(self, op, tries) {
+            Operation::Put(op) => match op.run_for(self, steps) {
                 Stepped::Again(op) => Stepped::Again(Operation::Put(op)),
                 Stepped::Done(pass, answer) => Stepped::Done(pass, Reply::Put(answer)),
             },
-            Operation::Take(op) => match take_further(self, op, tries) {
+            Operation::Take(op) => match op.run_for(self, steps) {
                 Stepped::Again(op) => Stepped::Again(Operation::Take(op)),
                 Stepped::Done(pass, answer) => Stepped::Done(pass, Reply::Take(answer)),
             },
-            Operation::Close(op) => match close_on(self, op, tries) {
+            Operation::Close(op) => match op.run_for(self, steps) {
                 Stepped::Again(op) => Stepped::Again(Operation::Close(op)),
                 Stepped::Done(pass, closed) => Stepped::Done(pass, Reply::Close(closed)),
             },
-            Operation::Shut(op) => match shut_on(self, op, tries) {
+            Operation::Shut(op) => match op.run_for(self, steps) {
                 Stepped::Again(op) => Stepped::Again(Operation::Shut(op)),
                 Stepped::Done(pass, shut) => Stepped::Done(pass, Reply::Shut(shut)),
             },
-            Operation::Look(op) => match look_on(self, op, tries) {
+            Operation::Look(op) => match op.run_for(self, steps) {
                 Stepped::Again(op) => Stepped::Again(Operation::Look(op)),
                 Stepped::Done(pass, is_empty) => Stepped::Done(pass, Reply::Look(is_empty)),
             },

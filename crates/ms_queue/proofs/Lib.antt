@@ -5,5 +5,4 @@ pub mod Leftover
 pub mod Crossing
 pub mod Takes
 pub mod Puts
-pub mod Runs
 pub mod Stepping

@@ -10,4 +10,4 @@ pub mod Looking
 pub mod Naming
 pub mod Putting
 pub mod Stepwise
-pub mod Whole
+pub mod Trying

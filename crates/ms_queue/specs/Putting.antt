@@ -5,6 +5,7 @@ use Rattle.tagged_index.specs.declared.word.TheConstants.{NULL}
 use Rattle.bounded_model.specs.declared.answers.Stepped.{Stepped}
 use Rattle.bounded_model.specs.declared.answers.Stepped.TheVariants.{Again, Done}
 use Rattle.bounded_model.specs.declared.answers.PutRefused.{PutRefused}
+use Rattle.bounded_model.specs.declared.answers.PutRefused.TheVariants.{Full, Closed, Spent}
 use Rattle.bounded_model.specs.Laws.{PutGives}
 use Rattle.queue_machine.specs.declared.lines.Call.TheVariants.{Put as CallPut}
 use Rattle.queue_machine.specs.declared.lines.Linking.{Linking}
@@ -15,7 +16,10 @@ use Rattle.queue_machine.specs.declared.lines.Line.{Line}
 use Rattle.queue_machine.specs.declared.lines.Line.TheVariants.{LoadCells, LoadCellLink, TakeCell, LoadNodes, LoadNodeLink, TakeNode, StoreCell, LoadNext, PrepareNext, LinkNext, SwingToLinked}
 use Rattle.queue_machine.specs.Machine.{ends, with_cell}
 use Rattle.queue_table.specs.declared.operation.Operation.{Operation}
+use Rattle.queue_table.specs.declared.operation.Operation.TheVariants.{Put as PutFirst}
 use Rattle.queue_table.specs.Lines.{call_of}
+use Rattle.running.specs.Steps.{Stands, Ran}
+use Rattle.running.specs.declared.code.Next.{Next}
 use Rattle.running.specs.Passes.{pass_in}
 use Rattle.running.specs.declared.passes.Pass.{Pass}
 use Rattle.ms_queue.specs.declared.queue.Queue.{Queue}
@@ -23,7 +27,7 @@ use Rattle.ms_queue.specs.declared.giving.Held.{Held}
 use Rattle.ms_queue.specs.declared.putting.PutOp.{PutOp}
 use Rattle.ms_queue.specs.declared.putting.PutAt.{PutAt}
 use Rattle.ms_queue.specs.declared.putting.PutAt.TheVariants.{LoadCells as AtCells, LoadCellLink as AtCellLink, TakeCell as AtTakeCell, Refusing, LoadNodes as AtNodes, LoadNodeLink as AtNodeLink, TakeNode as AtTakeNode, StoreCell as AtStoreCell, LoadNext as AtNext, PrepareNext as AtPrepare, Seeking, LinkNext as AtLink, SwingTail, GiveBack}
-use Rattle.ms_queue.specs.Queue.{room_of, limit_of, shape_of, begun_of, IsPassOf, IsAt, OneLine, WentOn}
+use Rattle.ms_queue.specs.Queue.{room_of, limit_of, machine_of, shape_of, begun_of, IsPassOf, IsAt, OneLine, WentOn}
 use Rattle.ms_queue.specs.Giving.{give_line, held_slot, AreHeld}
 use Rattle.ms_queue.specs.Seeking.{seek_line, IsRead}
 
@@ -34,67 +38,98 @@ module _ {T : Type 0} where
   abbrev pub refused : PutRefused T → Answer T
   refused why = AnswerPut (Err why)
 
-  -- the machine's line of a put of x
-  abbrev pub put_line : T → PutAt T → Line T
-  put_line x (AtCells y) = LoadCells y
-  put_line x (AtCellLink y w) = LoadCellLink y (fields_of w)
-  put_line x (AtTakeCell y w k) = TakeCell y (fields_of w) k
-  put_line x (Refusing y at) = seek_line (ToRefuse y) at
-  put_line x (AtNodes i) = LoadNodes (with_cell x i)
-  put_line x (AtNodeLink i w) = LoadNodeLink (with_cell x i) (fields_of w)
-  put_line x (AtTakeNode i w k) = TakeNode (with_cell x i) (fields_of w) k
-  put_line x (AtStoreCell held) = StoreCell (linking x held)
-  put_line x (AtNext held) = LoadNext (linking x held)
-  put_line x (AtPrepare held w) = PrepareNext (linking x held) (fields_of w)
-  put_line x (Seeking held at) = seek_line (ToLink (linking x held)) at
-  put_line x (AtLink held w y) = LinkNext (linking x held) (fields_of w) (fields_of y)
-  put_line x (SwingTail w y) = SwingToLinked x (fields_of w) (fields_of y)
-  put_line x (GiveBack why held at) = give_line (refused why) held at
+  -- the operation of a put of x
+  abbrev pub put_of : T → Operation T
+  put_of x = PutFirst (record { marker = record {}; value = x })
+
+  -- the value that is put
+  abbrev pub refused_value : PutRefused T → T
+  refused_value (Full x) = x
+  refused_value (Closed x) = x
+  refused_value (Spent x word t) = x
+
+  abbrev pub put_value : PutAt T → T
+  put_value (AtCells x) = x
+  put_value (AtCellLink x w) = x
+  put_value (AtTakeCell x w k) = x
+  put_value (Refusing x at) = x
+  put_value (AtNodes shown i) = shown.value
+  put_value (AtNodeLink shown i w) = shown.value
+  put_value (AtTakeNode shown i w k) = shown.value
+  put_value (AtStoreCell shown held) = shown.value
+  put_value (AtNext shown held) = shown.value
+  put_value (AtPrepare shown held w) = shown.value
+  put_value (Seeking shown held at) = shown.value
+  put_value (AtLink shown held w y) = shown.value
+  put_value (SwingTail shown w y) = shown.value
+  put_value (GiveBack why held at) = refused_value why
+
+  -- the machine's line
+  abbrev pub put_line : PutAt T → Line T
+  put_line (AtCells x) = LoadCells x
+  put_line (AtCellLink x w) = LoadCellLink x (fields_of w)
+  put_line (AtTakeCell x w k) = TakeCell x (fields_of w) k
+  put_line (Refusing x at) = seek_line (ToRefuse x) at
+  put_line (AtNodes shown i) = LoadNodes (with_cell shown.value i)
+  put_line (AtNodeLink shown i w) = LoadNodeLink (with_cell shown.value i) (fields_of w)
+  put_line (AtTakeNode shown i w k) = TakeNode (with_cell shown.value i) (fields_of w) k
+  put_line (AtStoreCell shown held) = StoreCell (linking shown.value held)
+  put_line (AtNext shown held) = LoadNext (linking shown.value held)
+  put_line (AtPrepare shown held w) = PrepareNext (linking shown.value held) (fields_of w)
+  put_line (Seeking shown held at) = seek_line (ToLink (linking shown.value held)) at
+  put_line (AtLink shown held w y) = LinkNext (linking shown.value held) (fields_of w) (fields_of y)
+  put_line (SwingTail shown w y) = SwingToLinked shown.value (fields_of w) (fields_of y)
+  put_line (GiveBack why held at) = give_line (refused why) held at
 
   -- the slots in hand: that of the cell, with the value until it is refused
   abbrev pub full_slot : T → ℕ → List (ℕ × Slot T)
   full_slot x i = (i, Some x) ∷ []
 
-  abbrev pub put_slots : T → PutAt T → List (ℕ × Slot T)
-  put_slots x (AtNodes i) = full_slot x i
-  put_slots x (AtNodeLink i w) = full_slot x i
-  put_slots x (AtTakeNode i w k) = full_slot x i
-  put_slots x (AtStoreCell held) = full_slot x held.cell
-  put_slots x (AtNext held) = full_slot x held.cell
-  put_slots x (AtPrepare held w) = full_slot x held.cell
-  put_slots x (Seeking held at) = full_slot x held.cell
-  put_slots x (AtLink held w y) = full_slot x held.cell
-  put_slots x (GiveBack why held at) = held_slot held
-  put_slots x at = []
+  abbrev pub put_slots : PutAt T → List (ℕ × Slot T)
+  put_slots (AtNodes shown i) = full_slot shown.value i
+  put_slots (AtNodeLink shown i w) = full_slot shown.value i
+  put_slots (AtTakeNode shown i w k) = full_slot shown.value i
+  put_slots (AtStoreCell shown held) = full_slot shown.value held.cell
+  put_slots (AtNext shown held) = full_slot shown.value held.cell
+  put_slots (AtPrepare shown held w) = full_slot shown.value held.cell
+  put_slots (Seeking shown held at) = full_slot shown.value held.cell
+  put_slots (AtLink shown held w y) = full_slot shown.value held.cell
+  put_slots (GiveBack why held at) = held_slot held
+  put_slots at = []
 
   -- what was read names cells and nodes, and the tag of the word to be exchanged has room to rise
   abbrev pub HasReadToPut : ℕ → ℕ → PutAt T → Type 0
-  HasReadToPut n limit (AtCells y) = Unit {0}
-  HasReadToPut n limit (AtCellLink y w) = (index_of w < n) × (tag_of w < limit)
-  HasReadToPut n limit (AtTakeCell y w k) = (index_of w < n) × (tag_of w < limit) × (k ≤ NULL)
-  HasReadToPut n limit (Refusing y at) = IsRead n limit at
-  HasReadToPut n limit (AtNodes i) = i < n
-  HasReadToPut n limit (AtNodeLink i w) = (i < n) × (index_of w < n + 1) × (tag_of w < limit)
-  HasReadToPut n limit (AtTakeNode i w k) = (i < n) × (index_of w < n + 1) × (tag_of w < limit) × (k ≤ NULL)
-  HasReadToPut n limit (AtStoreCell held) = AreHeld n held
-  HasReadToPut n limit (AtNext held) = AreHeld n held
-  HasReadToPut n limit (AtPrepare held w) = AreHeld n held × (tag_of w + 1 < limit)
-  HasReadToPut n limit (Seeking held at) = AreHeld n held × IsRead n limit at
-  HasReadToPut n limit (AtLink held w y) = AreHeld n held × (index_of w < n + 1) × (tag_of y < limit)
-  HasReadToPut n limit (SwingTail w y) = tag_of w < limit
+  HasReadToPut n limit (AtCells x) = Unit {0}
+  HasReadToPut n limit (AtCellLink x w) = (index_of w < n) × (tag_of w < limit)
+  HasReadToPut n limit (AtTakeCell x w k) = (index_of w < n) × (tag_of w < limit) × (k ≤ NULL)
+  HasReadToPut n limit (Refusing x at) = IsRead n limit at
+  HasReadToPut n limit (AtNodes shown i) = i < n
+  HasReadToPut n limit (AtNodeLink shown i w) = (i < n) × (index_of w < n + 1) × (tag_of w < limit)
+  HasReadToPut n limit (AtTakeNode shown i w k) = (i < n) × (index_of w < n + 1) × (tag_of w < limit) × (k ≤ NULL)
+  HasReadToPut n limit (AtStoreCell shown held) = AreHeld n held
+  HasReadToPut n limit (AtNext shown held) = AreHeld n held
+  HasReadToPut n limit (AtPrepare shown held w) = AreHeld n held × (tag_of w + 1 < limit)
+  HasReadToPut n limit (Seeking shown held at) = AreHeld n held × IsRead n limit at
+  HasReadToPut n limit (AtLink shown held w y) = AreHeld n held × (index_of w < n + 1) × (tag_of y < limit)
+  HasReadToPut n limit (SwingTail shown w y) = tag_of w < limit
   HasReadToPut n limit (GiveBack why held at) = AreHeld n held
 
-  -- a put whose next step is this
-  abbrev pub put_op : Operation T → Pass T (Line T) → PutAt T → PutOp T
-  put_op o p at = record { pass = p; operation = o; at = at }
-
-  -- a put of x, by the name of its operation
+  -- a put of x, by its operation, which is also the put of the value that it has
   pub record IsPutting (c : Queue T) (x : T) (op : PutOp T) : Type 0 where
     pub of : call_of op.operation ≡ CallPut x
-    pub line : IsAt c op.operation op.pass (put_line x op.at) (put_slots x op.at)
+    pub named : call_of op.operation ≡ CallPut (put_value op.at)
+    pub line : IsAt c (put_of (put_value op.at)) op.pass (put_line op.at) (put_slots op.at)
     pub read : HasReadToPut (room_of c) (limit_of c) op.at
 
   -- what a step of it gives
   abbrev pub PutStep : Queue T → T → PutOp T → Stepped (PutOp T) (Pass T (Line T)) (Result ℕ (PutRefused T)) → Type 0
-  PutStep c x op (Again next) = IsPutting c x next × WentOn c op.pass next.pass (put_line x op.at) (put_line x next.at)
-  PutStep c x op (Done q r) = IsPassOf c q × PutGives (shape_of c) (begun_of c op.pass) x (pass_in q) r × OneLine c op.pass q (put_line x op.at) (ends (AnswerPut r))
+  PutStep c x op (Again next) = IsPutting c x next × WentOn c op.pass next.pass (put_line op.at) (put_line next.at)
+  PutStep c x op (Done q r) = IsPassOf c q × PutGives (shape_of c) (begun_of c op.pass) x (pass_in q) r × OneLine c op.pass q (put_line op.at) (ends (AnswerPut r))
+
+  -- a whole call of this operation is at this
+  abbrev pub PutStands : Queue T → Operation T → Pass T (Line T) → PutAt T → Type 0
+  PutStands c o p at = (o ≡ put_of (put_value at)) × Stands (machine_of c) {A = Result ℕ (PutRefused T)} (λ s. put_of (put_value s)) put_line put_slots (λ s. HasReadToPut (room_of c) (limit_of c) s) (λ x r. ends (AnswerPut r)) c.table.shared.table_id p at
+
+  -- what some steps of it give
+  abbrev pub PutRan : Queue T → Operation T → Pass T (Line T) → Pass T (Line T) → Next (PutAt T) (Result ℕ (PutRefused T)) → Type 0
+  PutRan c o p q r = Ran (machine_of c) (λ s. put_of (put_value s)) put_line put_slots (λ s. HasReadToPut (room_of c) (limit_of c) s) (λ x a. ends (AnswerPut a)) c.table.shared.table_id o p q r

@@ -2,7 +2,6 @@
 use crate::queue::{Note, Pass, Queue, Root};
 use crate::rest::Rest;
 use bounded_model::{Container, Order, PutRefused, TakeRefused};
-use running::whole_call;
 use std::sync::Wait;
 
 impl<T: Drop + Send> Container<T> for Queue<T> {
@@ -57,7 +56,7 @@ impl<T: Drop + Send> Container<T> for Queue<T> {
 
     #[inline(always)]
     fn put<R: Wait>(&self, rt: &R, by: Pass<T>, value: T) -> (Pass<T>, Result<u64, PutRefused<T>>) {
-        whole_call(rt, self, self.begin_put(by, value))
+        self.put_whole(rt, by, value)
     }
 
     #[inline(always)]

@@ -23,7 +23,6 @@ mod looking;
 mod making;
 mod naming;
 mod places;
-mod placing;
 mod putting;
 mod queue;
 mod rest;
@@ -31,9 +30,8 @@ mod rule;
 mod seeking;
 mod shutting;
 mod stepwise;
-mod straight;
 mod taking;
-mod whole_put;
+mod trying;
 
 pub use closing::CloseOp;
 pub use counting::LenOp;

@@ -49,24 +49,27 @@ fn give_step<T>(held: &Held, at: &Give) -> StepName
 impl<T> PutOp<T> {
     // Of a put.
     fn next_step(&self) -> StepName
-        ensures { (x : T) → IsNextStep (put_line x self.now.at) result }
+        ensures { IsNextStep (put_line self.now.at) result }
     {
         match &self.at {
             PutAt::LoadCells(_) => StepName::Load(Location::Cells),
             PutAt::LoadCellLink(_, cells) => StepName::Load(Location::CellLink(cells.index())),
             PutAt::TakeCell(_, _, _) => StepName::CompareAndSwap(Location::Cells, Location::Cells),
             PutAt::Refusing(_, at) => seek_step::<T>(at),
-            PutAt::LoadNodes(_) => StepName::Load(Location::Nodes),
-            PutAt::LoadNodeLink(_, nodes) => StepName::Load(Location::NodeLink(nodes.index())),
-            PutAt::TakeNode(_, _, _) => StepName::CompareAndSwap(Location::Nodes, Location::Nodes),
-            PutAt::StoreCell(held) => StepName::Store(Location::Cell(held.node)),
-            PutAt::LoadNext(held) => StepName::Load(Location::Next(held.node)),
-            PutAt::PrepareNext(held, _) => StepName::Store(Location::Next(held.node)),
-            PutAt::Seeking(_, at) => seek_step::<T>(at),
-            PutAt::LinkNext(_, tail, _) => {
+            PutAt::LoadNodes(_, _) => StepName::Load(Location::Nodes),
+            PutAt::LoadNodeLink(_, _, nodes) => StepName::Load(Location::NodeLink(nodes.index())),
+            PutAt::TakeNode(_, _, _, _) => StepName::CompareAndSwap(
+                Location::Nodes,
+                Location::Nodes,
+            ),
+            PutAt::StoreCell(_, held) => StepName::Store(Location::Cell(held.node)),
+            PutAt::LoadNext(_, held) => StepName::Load(Location::Next(held.node)),
+            PutAt::PrepareNext(_, held, _) => StepName::Store(Location::Next(held.node)),
+            PutAt::Seeking(_, _, at) => seek_step::<T>(at),
+            PutAt::LinkNext(_, _, tail, _) => {
                 StepName::CompareAndSwap(Location::Next(tail.index()), Location::Tail)
             }
-            PutAt::SwingTail(_, _) => StepName::Attempt(Location::Tail),
+            PutAt::SwingTail(_, _, _) => StepName::Attempt(Location::Tail),
             PutAt::GiveBack(_, held, at) => give_step::<T>(held, at),
         }
     }
@@ -130,7 +133,7 @@ impl<T> LookOp<T> {
 }
 
 impl<T: Drop + Send> Named<T> for Queue<T> {
-    ghost is_put_step = { λ op name. (x : T) → IsNextStep (put_line x op.at) name };
+    ghost is_put_step = { λ op name. IsNextStep (put_line op.at) name };
 
     ghost is_take_step = { λ op name. IsNextStep (take_line op.at) name };
 

@@ -1,22 +1,31 @@
-//! Putting one value, by steps. While the put has a cell, the value is in the cell's slot; the name
-//! of its operation shows it to proofs.
+//! Putting one value: by steps, and by a whole call. While the put has a cell, the value is in the
+//! cell's slot, and a snapshot shows it to proofs.
 ghost use Rattle.std.specs.Prelude.{◌≡◌, ◌≤◌};
 ghost use Rattle.tagged_index.specs.Fields.{number};
 ghost use Rattle.tagged_index.specs.declared.word.TheConstants.{MAX_TAG};
+ghost use Rattle.bounded_model.specs.Laws.{PutGives};
 ghost use Rattle.queue_machine.specs.Machine.{null_word};
+ghost use Rattle.queue_machine.specs.declared.lines.Call.TheVariants.{Put as CallPut};
+ghost use Rattle.queue_table.specs.Lines.{call_of};
 ghost use Rattle.running.specs.Passes.{pass_in};
-ghost use Rattle.ms_queue.specs.Queue.{IsPassOf, begun_of};
-ghost use Rattle.ms_queue.specs.Putting.{IsPutting, PutStep, put_op};
-ghost use Rattle.ms_queue.specs.declared.putting.PutAt.TheVariants.{Refusing, StoreCell, LoadNext, PrepareNext, Seeking, LinkNext, SwingTail, GiveBack};
+ghost use Rattle.ms_queue.specs.Queue.{IsPassOf, begun_of, shape_of};
+ghost use Rattle.ms_queue.specs.Putting.{IsPutting, PutStep, PutStands, PutRan, put_of};
 
-use crate::giving::{Gave, Give, Held};
+use crate::fast_path::fast_path;
+use crate::giving::{Give, Held};
 use crate::queue::{Pass, Queue};
-use crate::seeking::{Seek, Sought};
+use crate::rule::Queued;
+use crate::seeking::{End, Seek};
+use atomic_table::Seat;
 use bounded_model::{PutRefused, Stepped, Word};
+use index_list::{move_out, put_in};
+use machine::seats::View;
+use queue_machine::Line;
 use queue_table::Operation;
-use queue_table::layout::{TAIL, cell, next};
-use running::{attempt_step, give_step, keep_step, load_tagged_step, raised, store_step};
+use queue_table::layout::{CELL_LIST, NODE_LIST, TAIL, cell, next};
+use running::{Access, Code, Next, Outcome, any, raised, single_step, to_the_end};
 use std::snapshot::Snapshot;
+use std::sync::Wait;
 use tagged_index::{NULL, Tagged};
 
 /// A put that was begun.
@@ -40,29 +49,29 @@ pub(crate) enum PutAt<T> {
     /// No cell is free: go to the end of the chain, to say why nothing can be put.
     Refusing(T, Seek),
     /// Load `NODES`.
-    LoadNodes(u32),
+    LoadNodes(Snapshot<T>, u32),
     /// Load the link of the free node.
-    LoadNodeLink(u32, Tagged),
+    LoadNodeLink(Snapshot<T>, u32, Tagged),
     /// Compare-and-swap `NODES` for the next free node.
-    TakeNode(u32, Tagged, u32),
+    TakeNode(Snapshot<T>, u32, Tagged, u32),
     /// Store the cell in the node.
-    StoreCell(Held),
+    StoreCell(Snapshot<T>, Held),
     /// Load the node's `next`.
-    LoadNext(Held),
+    LoadNext(Snapshot<T>, Held),
     /// Store null with the next tag in it.
-    PrepareNext(Held, Tagged),
+    PrepareNext(Snapshot<T>, Held, Tagged),
     /// Go to the end of the chain.
-    Seeking(Held, Seek),
+    Seeking(Snapshot<T>, Held, Seek),
     /// Compare-and-swap the last node's `next` for the node.
-    LinkNext(Held, Tagged, Tagged),
+    LinkNext(Snapshot<T>, Held, Tagged, Tagged),
     /// The value is put. Compare-and-swap `TAIL` for the node that has it; the second word is the
     /// link.
-    SwingTail(Tagged, Tagged),
+    SwingTail(Snapshot<T>, Tagged, Tagged),
     /// Give the node and the cell back, or the cell alone.
     GiveBack(PutRefused<T>, Held, Give),
 }
 
-pub(crate) type Step<T> = Stepped<PutOp<T>, Pass<T>, Result<u64, PutRefused<T>>>;
+type Answer<T> = Result<u64, PutRefused<T>>;
 
 // Null with this tag.
 #[inline(always)]
@@ -76,15 +85,23 @@ fn null_word(tag: u64) -> u64
     }
 }
 
+/// The put of this value.
+#[inline(always)]
+pub(crate) fn put_operation<T>(value: &T) -> Operation<T>
+    ensures { (result ≡ put_of value.now) × (call_of result ≡ CallPut value.now) }
+{
+    Operation::Put(Snapshot::of(value))
+}
+
 impl<T> Queue<T> {
     /// A put that makes no step yet. Begun and stepped in `player`, as `Stepwise` has it.
-    #[inline(always)]
+    #[inline]
     pub fn begin_put(&self, by: Pass<T>, value: T) -> PutOp<T>
         requires { IsPassOf self.now by }
         ensures { IsPutting self.now value result
             × (begun_of self.now result.pass ≡ pass_in by) × (pass_in result.pass ≡ pass_in by) }
     {
-        let operation = Operation::Put(Snapshot::of(&value));
+        let operation = put_operation(&value);
         PutOp {
             pass: by,
             operation,
@@ -92,211 +109,269 @@ impl<T> Queue<T> {
         }
     }
 
+    /// Puts a value by a whole call.
     #[inline(always)]
-    pub(crate) fn put_refuse(
+    pub(crate) fn put_whole<R: Wait>(&self, rt: &R, by: Pass<T>, value: T) -> (Pass<T>, Answer<T>)
+        requires { IsPassOf self.now by }
+        ensures { IsPassOf self.now result.0
+            × PutGives (shape_of self.now) (pass_in by) value (pass_in result.0) result.1 }
+    {
+        let put = put_operation(&value);
+        let first = self.put_fast(by, value, &put);
+        to_the_end(rt, &self.table.shared, self, first, &put)
+    }
+
+    /// A put's steps on its fast path, as long as nobody is faster: first those that take a cell and
+    /// a node.
+    #[inline]
+    pub(crate) fn put_fast(
         &self,
         by: Pass<T>,
-        operation: Operation<T>,
         value: T,
-        at: Seek,
-    ) -> Step<T>
-        requires { (x : T) × IsPutting self.now x (put_op operation by (Refusing value at)) }
-        ensures { (x : T) → IsPutting self.now x (put_op operation by (Refusing value at))
-            → PutStep self.now x (put_op operation by (Refusing value at)) result }
+        put: &Operation<T>,
+    ) -> (Pass<T>, Next<PutAt<T>, Answer<T>>)
+        requires named { put.now ≡ put_of value }
+        requires pass { IsPassOf self.now by }
+        ensures { PutRan self.now put.now by result.0 result.1 }
     {
-        let mut pass = by;
-        match self.seek(&mut pass, at, &operation) {
-            Sought::On(at) => Stepped::Again(PutOp {
-                pass,
-                operation,
-                at: PutAt::Refusing(value, at),
-            }),
-            Sought::Closed => Stepped::Done(pass, Err(PutRefused::Closed(value))),
-            Sought::End(_, _) => Stepped::Done(pass, Err(PutRefused::Full(value))),
-        }
-    }
-
-    #[inline(always)]
-    pub(crate) fn put_store_cell(&self, by: Pass<T>, operation: Operation<T>, held: Held) -> Step<T>
-        requires { (x : T) × IsPutting self.now x (put_op operation by (StoreCell held)) }
-        ensures { (x : T) → IsPutting self.now x (put_op operation by (StoreCell held))
-            → PutStep self.now x (put_op operation by (StoreCell held)) result }
-    {
-        let mut pass = by;
-        let at = cell(held.node);
-        let number = held.cell as u64;
-        keep_step(&self.table.shared, &mut pass.seat, at, number, &operation);
-        Stepped::Again(PutOp {
-            pass,
-            operation,
-            at: PutAt::LoadNext(held),
-        })
-    }
-
-    // Both the preparation and the link raise the tag.
-    #[inline(always)]
-    pub(crate) fn put_load_next(&self, by: Pass<T>, operation: Operation<T>, held: Held) -> Step<T>
-        requires { (x : T) × IsPutting self.now x (put_op operation by (LoadNext held)) }
-        ensures { (x : T) → IsPutting self.now x (put_op operation by (LoadNext held))
-            → PutStep self.now x (put_op operation by (LoadNext held)) result }
-    {
-        let mut pass = by;
-        let at = next(held.node);
-        let link = load_tagged_step(&self.table.shared, &mut pass.seat, at, &operation);
-        if link.tag() + 1 >= self.limits.tag_limit() {
-            let value = self.put_value_back(&mut pass, held.cell);
-            let why = PutRefused::Spent(value, Word::Next(held.node), link.tag());
-            return Stepped::Again(PutOp {
-                pass,
-                operation,
-                at: PutAt::GiveBack(why, held, Give::LoadNodes),
-            });
-        }
-        Stepped::Again(PutOp {
-            pass,
-            operation,
-            at: PutAt::PrepareNext(held, link),
-        })
-    }
-
-    #[inline(always)]
-    pub(crate) fn put_prepare_next(
-        &self,
-        by: Pass<T>,
-        operation: Operation<T>,
-        held: Held,
-        link: Tagged,
-    ) -> Step<T>
-        requires { (x : T) × IsPutting self.now x (put_op operation by (PrepareNext held link)) }
-        ensures { (x : T) → IsPutting self.now x (put_op operation by (PrepareNext held link))
-            → PutStep self.now x (put_op operation by (PrepareNext held link)) result }
-    {
-        let mut pass = by;
-        let at = next(held.node);
-        let new = null_word(link.tag() + 1);
-        store_step(&self.table.shared, &mut pass.seat, at, new, &operation);
-        Stepped::Again(PutOp {
-            pass,
-            operation,
-            at: PutAt::Seeking(held, Seek::LoadTail),
-        })
-    }
-
-    #[inline(always)]
-    pub(crate) fn put_seek(
-        &self,
-        by: Pass<T>,
-        operation: Operation<T>,
-        held: Held,
-        at: Seek,
-    ) -> Step<T>
-        requires { (x : T) × IsPutting self.now x (put_op operation by (Seeking held at)) }
-        ensures { (x : T) → IsPutting self.now x (put_op operation by (Seeking held at))
-            → PutStep self.now x (put_op operation by (Seeking held at)) result }
-    {
-        let mut pass = by;
-        match self.seek(&mut pass, at, &operation) {
-            Sought::On(at) => Stepped::Again(PutOp {
-                pass,
-                operation,
-                at: PutAt::Seeking(held, at),
-            }),
-            Sought::Closed => {
-                let value = self.put_value_back(&mut pass, held.cell);
-                let why = PutRefused::Closed(value);
-                Stepped::Again(PutOp {
-                    pass,
-                    operation,
-                    at: PutAt::GiveBack(why, held, Give::LoadNodes),
-                })
-            }
-            Sought::End(tail, link) => Stepped::Again(PutOp {
-                pass,
-                operation,
-                at: PutAt::LinkNext(held, tail, link),
-            }),
-        }
-    }
-
-    // The put has its effect here.
-    #[inline(always)]
-    pub(crate) fn put_link_next(
-        &self,
-        by: Pass<T>,
-        operation: Operation<T>,
-        held: Held,
-        tail: Tagged,
-        link: Tagged,
-    ) -> Step<T>
-        requires { (x : T) × IsPutting self.now x (put_op operation by (LinkNext held tail link)) }
-        ensures { (x : T) → IsPutting self.now x (put_op operation by (LinkNext held tail link))
-            → PutStep self.now x (put_op operation by (LinkNext held tail link)) result }
-    {
-        let mut pass = by;
-        let at = next(tail.index());
-        let new = raised(link, held.node);
-        if give_step(
-            &self.table.shared,
-            &mut pass.seat,
-            at,
-            link,
-            new,
-            &operation,
-        ) {
-            return Stepped::Again(PutOp {
-                pass,
-                operation,
-                at: PutAt::SwingTail(tail, new),
-            });
-        }
-        Stepped::Again(PutOp {
-            pass,
-            operation,
-            at: PutAt::Seeking(held, Seek::LoadTail),
-        })
-    }
-
-    // Whoever succeeds, the tail is then no longer behind this put.
-    #[inline(always)]
-    pub(crate) fn put_swing_tail(
-        &self,
-        by: Pass<T>,
-        operation: Operation<T>,
-        tail: Tagged,
-        link: Tagged,
-    ) -> Step<T>
-        requires { (x : T) × IsPutting self.now x (put_op operation by (SwingTail tail link)) }
-        ensures { (x : T) → IsPutting self.now x (put_op operation by (SwingTail tail link))
-            → PutStep self.now x (put_op operation by (SwingTail tail link)) result }
-    {
-        let mut pass = by;
-        let new = raised(tail, link.index());
         let table = &self.table.shared;
-        attempt_step(table, &mut pass.seat, TAIL, tail, new, &operation);
-        Stepped::Done(pass, Ok(tail.tag()))
+        let (pass, value, cells) = fast_path!(
+            any(table, self, by, PutAt::LoadCells(value), put),
+            PutAt::LoadCellLink(value, cells) => value, cells
+        );
+        let (pass, value, cells, link) = fast_path!(
+            any(table, self, pass, PutAt::LoadCellLink(value, cells), put),
+            PutAt::TakeCell(value, cells, link) => value, cells, link
+        );
+        let (pass, shown, cell) = fast_path!(
+            any(table, self, pass, PutAt::TakeCell(value, cells, link), put),
+            PutAt::LoadNodes(shown, cell) => shown, cell
+        );
+        let (pass, shown, cell, nodes) = fast_path!(
+            any(table, self, pass, PutAt::LoadNodes(shown, cell), put),
+            PutAt::LoadNodeLink(shown, cell, nodes) => shown, cell, nodes
+        );
+        let (pass, at) = fast_path!(any(
+            table,
+            self,
+            pass,
+            PutAt::LoadNodeLink(shown, cell, nodes),
+            put,
+        ));
+        let (pass, at) = fast_path!(any(table, self, pass, at, put));
+        self.put_fast_prepare(pass, at, put)
+    }
+
+    // Then those that prepare the node.
+    #[inline(always)]
+    fn put_fast_prepare(
+        &self,
+        by: Pass<T>,
+        held: PutAt<T>,
+        put: &Operation<T>,
+    ) -> (Pass<T>, Next<PutAt<T>, Answer<T>>)
+        requires stands { PutStands self.now put.now by held }
+        ensures { PutRan self.now put.now by result.0 result.1 }
+    {
+        let table = &self.table.shared;
+        let (pass, at) = fast_path!(any(table, self, by, held, put));
+        let (pass, shown, held, link) = fast_path!(
+            any(table, self, pass, at, put),
+            PutAt::PrepareNext(shown, held, link) => shown, held, link
+        );
+        let (pass, at) = fast_path!(any(
+            table,
+            self,
+            pass,
+            PutAt::PrepareNext(shown, held, link),
+            put,
+        ));
+        self.put_fast_link(pass, at, put)
+    }
+
+    // And those that link it at the end of the chain and swing the tail.
+    #[inline(always)]
+    fn put_fast_link(
+        &self,
+        by: Pass<T>,
+        prepared: PutAt<T>,
+        put: &Operation<T>,
+    ) -> (Pass<T>, Next<PutAt<T>, Answer<T>>)
+        requires stands { PutStands self.now put.now by prepared }
+        ensures { PutRan self.now put.now by result.0 result.1 }
+    {
+        let table = &self.table.shared;
+        let (pass, at) = fast_path!(any(table, self, by, prepared, put));
+        let (pass, at) = fast_path!(any(table, self, pass, at, put));
+        let (pass, shown, held, tail, link) = fast_path!(
+            any(table, self, pass, at, put),
+            PutAt::LinkNext(shown, held, tail, link) => shown, held, tail, link
+        );
+        let (pass, at) = fast_path!(any(
+            table,
+            self,
+            pass,
+            PutAt::LinkNext(shown, held, tail, link),
+            put,
+        ));
+        any(table, self, pass, at, put)
+    }
+}
+
+impl<T> Code<Queue<T>, T, Line<T>, Operation<T>, Queued, Answer<T>, 2> for PutAt<T> {
+    ghost use Rattle.queue_machine.specs.declared.lines.Answer.TheVariants.{Put as AnswerPut};
+    ghost use Rattle.queue_machine.specs.Machine.{ends};
+    ghost use Rattle.ms_queue.specs.Queue.{room_of, limit_of};
+    ghost use Rattle.ms_queue.specs.Putting.{put_of, put_value, put_line, put_slots, HasReadToPut};
+
+    ghost key = { λ c. c.table.shared.key };
+
+    ghost id = { λ c. c.table.shared.table_id };
+
+    ghost operation = { λ at. put_of (put_value at) };
+
+    ghost line = { put_line };
+
+    ghost slots = { put_slots };
+
+    ghost knows = { λ c at. HasReadToPut (room_of c) (limit_of c) at };
+
+    ghost answer = { λ _ r. ends (AnswerPut r) };
+
+    #[inline(always)]
+    fn access(&self, on: &Queue<T>) -> Access {
+        match self {
+            PutAt::LoadCells(_) => Access::LoadTop(CELL_LIST),
+            PutAt::LoadCellLink(_, cells) => Access::LoadLink(CELL_LIST, cells.index()),
+            PutAt::TakeCell(_, cells, link) => Access::Take(CELL_LIST, *cells, *link),
+            PutAt::Refusing(_, at) => on.seek_access(at),
+            PutAt::LoadNodes(_, _) => Access::LoadTop(NODE_LIST),
+            PutAt::LoadNodeLink(_, _, nodes) => Access::LoadLink(NODE_LIST, nodes.index()),
+            PutAt::TakeNode(_, _, nodes, link) => Access::TakeBare(NODE_LIST, *nodes, *link),
+            PutAt::StoreCell(_, held) => Access::Keep(cell(held.node), held.cell as u64),
+            PutAt::LoadNext(_, held) => Access::Load(next(held.node)),
+            PutAt::PrepareNext(_, held, link) => {
+                Access::Store(next(held.node), null_word(link.tag() + 1))
+            }
+            PutAt::Seeking(_, _, at) => on.seek_access(at),
+            PutAt::LinkNext(_, held, tail, link) => {
+                Access::Return(next(tail.index()), *link, raised(*link, held.node))
+            }
+            PutAt::SwingTail(_, tail, link) => {
+                Access::Swap(TAIL, *tail, raised(*tail, link.index()))
+            }
+            PutAt::GiveBack(_, held, at) => on.give_access(*held, at),
+        }
     }
 
     #[inline(always)]
-    pub(crate) fn put_give_back(
-        &self,
-        by: Pass<T>,
-        operation: Operation<T>,
-        why: PutRefused<T>,
-        held: Held,
-        at: Give,
-    ) -> Step<T>
-        requires { (x : T) × IsPutting self.now x (put_op operation by (GiveBack why held at)) }
-        ensures { (x : T) → IsPutting self.now x (put_op operation by (GiveBack why held at))
-            → PutStep self.now x (put_op operation by (GiveBack why held at)) result }
-    {
-        let mut pass = by;
-        match self.give(&mut pass, held, at, &operation) {
-            Gave::On(at) => Stepped::Again(PutOp {
-                pass,
-                operation,
-                at: PutAt::GiveBack(why, held, at),
-            }),
-            Gave::Both => Stepped::Done(pass, Err(why)),
+    fn next(
+        self,
+        on: &Queue<T>,
+        seat: &mut Seat<Option<T>, View<T, Line<T>>>,
+        outcome: Outcome,
+    ) -> Next<PutAt<T>, Answer<T>> {
+        match self {
+            PutAt::LoadCells(value) => {
+                let cells = Tagged::from_word(outcome.word);
+                if cells.index() == NULL {
+                    return Next::On(PutAt::Refusing(value, Seek::LoadTail));
+                }
+                if cells.tag() >= on.limits.tag_limit() {
+                    return Next::Done(Err(PutRefused::Spent(value, Word::Cells, cells.tag())));
+                }
+                Next::On(PutAt::LoadCellLink(value, cells))
+            }
+            PutAt::LoadCellLink(value, cells) => {
+                Next::On(PutAt::TakeCell(value, cells, outcome.word as u32))
+            }
+            PutAt::TakeCell(value, cells, _) => {
+                if !outcome.won {
+                    return Next::Lost(PutAt::LoadCells(value));
+                }
+                // With the cell comes its slot, and the value moves in.
+                let cell = cells.index();
+                let shown = Snapshot::of(&value);
+                put_in(&on.table.shared, seat, cell, value);
+                Next::On(PutAt::LoadNodes(shown, cell))
+            }
+            PutAt::Refusing(value, at) => match on.seek_on(at, outcome) {
+                Next::On(at) => Next::On(PutAt::Refusing(value, at)),
+                Next::Lost(at) => Next::Lost(PutAt::Refusing(value, at)),
+                Next::Done(end) => match end {
+                    End::Closed => Next::Done(Err(PutRefused::Closed(value))),
+                    End::Open(_, _) => Next::Done(Err(PutRefused::Full(value))),
+                },
+            },
+            PutAt::LoadNodes(shown, cell) => {
+                // A put that has a cell always finds a node with room.
+                let nodes = Tagged::from_word(outcome.word);
+                if nodes.index() == NULL || nodes.tag() >= on.limits.tag_limit() {
+                    let value = move_out(&on.table.shared, seat, cell);
+                    let why = PutRefused::Spent(value, Word::Nodes, nodes.tag());
+                    let held = Held {
+                        cell,
+                        node: 0,
+                        aligned: [],
+                    };
+                    return Next::On(PutAt::GiveBack(why, held, Give::LoadCells));
+                }
+                Next::On(PutAt::LoadNodeLink(shown, cell, nodes))
+            }
+            PutAt::LoadNodeLink(shown, cell, nodes) => {
+                Next::On(PutAt::TakeNode(shown, cell, nodes, outcome.word as u32))
+            }
+            PutAt::TakeNode(shown, cell, nodes, _) => {
+                if !outcome.won {
+                    return Next::Lost(PutAt::LoadNodes(shown, cell));
+                }
+                let held = Held {
+                    cell,
+                    node: nodes.index(),
+                    aligned: [],
+                };
+                Next::On(PutAt::StoreCell(shown, held))
+            }
+            PutAt::StoreCell(shown, held) => Next::On(PutAt::LoadNext(shown, held)),
+            PutAt::LoadNext(shown, held) => {
+                // Both the preparation and the link raise the tag.
+                let link = Tagged::from_word(outcome.word);
+                if link.tag() + 1 >= on.limits.tag_limit() {
+                    let value = move_out(&on.table.shared, seat, held.cell);
+                    let why = PutRefused::Spent(value, Word::Next(held.node), link.tag());
+                    return Next::On(PutAt::GiveBack(why, held, Give::LoadNodes));
+                }
+                Next::On(PutAt::PrepareNext(shown, held, link))
+            }
+            PutAt::PrepareNext(shown, held, _) => {
+                Next::On(PutAt::Seeking(shown, held, Seek::LoadTail))
+            }
+            PutAt::Seeking(shown, held, at) => match on.seek_on(at, outcome) {
+                Next::On(at) => Next::On(PutAt::Seeking(shown, held, at)),
+                Next::Lost(at) => Next::Lost(PutAt::Seeking(shown, held, at)),
+                Next::Done(end) => match end {
+                    End::Closed => {
+                        let value = move_out(&on.table.shared, seat, held.cell);
+                        let why = PutRefused::Closed(value);
+                        Next::On(PutAt::GiveBack(why, held, Give::LoadNodes))
+                    }
+                    End::Open(tail, link) => Next::On(PutAt::LinkNext(shown, held, tail, link)),
+                },
+            },
+            PutAt::LinkNext(shown, held, tail, link) => {
+                if !outcome.won {
+                    return Next::Lost(PutAt::Seeking(shown, held, Seek::LoadTail));
+                }
+                // The put has had its effect.
+                Next::On(PutAt::SwingTail(shown, tail, raised(link, held.node)))
+            }
+            // Whoever succeeds, the tail is then no longer behind this put.
+            PutAt::SwingTail(_, tail, _) => Next::Done(Ok(tail.tag())),
+            PutAt::GiveBack(why, held, at) => match on.give_on(at, outcome) {
+                Next::On(at) => Next::On(PutAt::GiveBack(why, held, at)),
+                Next::Lost(at) => Next::Lost(PutAt::GiveBack(why, held, at)),
+                Next::Done(()) => Next::Done(Err(why)),
+            },
         }
     }
 }
@@ -312,26 +387,16 @@ impl<T> PutOp<T> {
     {
         let PutOp {
             pass,
-            operation: of,
+            operation,
             at,
         } = self;
-        match at {
-            PutAt::LoadCells(value) => queue.put_load_cells(pass, of, value),
-            PutAt::LoadCellLink(value, cells) => queue.put_load_cell_link(pass, of, value, cells),
-            PutAt::TakeCell(value, cells, link) => queue.put_take_cell(
-                pass, of, value, cells, link,
-            ),
-            PutAt::Refusing(value, at) => queue.put_refuse(pass, of, value, at),
-            PutAt::LoadNodes(cell) => queue.put_load_nodes(pass, of, cell),
-            PutAt::LoadNodeLink(cell, nodes) => queue.put_load_node_link(pass, of, cell, nodes),
-            PutAt::TakeNode(cell, nodes, link) => queue.put_take_node(pass, of, cell, nodes, link),
-            PutAt::StoreCell(held) => queue.put_store_cell(pass, of, held),
-            PutAt::LoadNext(held) => queue.put_load_next(pass, of, held),
-            PutAt::PrepareNext(held, link) => queue.put_prepare_next(pass, of, held, link),
-            PutAt::Seeking(held, at) => queue.put_seek(pass, of, held, at),
-            PutAt::LinkNext(held, tail, link) => queue.put_link_next(pass, of, held, tail, link),
-            PutAt::SwingTail(tail, link) => queue.put_swing_tail(pass, of, tail, link),
-            PutAt::GiveBack(why, held, at) => queue.put_give_back(pass, of, why, held, at),
+        match single_step(&queue.table.shared, queue, pass, at, &operation) {
+            Stepped::Again((pass, at)) => Stepped::Again(PutOp {
+                pass,
+                operation,
+                at,
+            }),
+            Stepped::Done(pass, answer) => Stepped::Done(pass, answer),
         }
     }
 }

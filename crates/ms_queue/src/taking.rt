@@ -85,9 +85,13 @@ impl<T> Queue<T> {
         to_the_end(rt, &self.table.shared, self, first, &take)
     }
 
-    // A take's steps on its fast path, as far as nobody is faster.
+    /// A take's steps on its fast path, as long as nobody is faster.
     #[inline]
-    fn take_fast(&self, by: Pass<T>, take: &Operation<T>) -> (Pass<T>, Next<TakeAt<T>, Answer<T>>)
+    pub(crate) fn take_fast(
+        &self,
+        by: Pass<T>,
+        take: &Operation<T>,
+    ) -> (Pass<T>, Next<TakeAt<T>, Answer<T>>)
         requires named { take.now ≡ TakeFirst }
         requires pass { IsPassOf self.now by }
         ensures { TakeRan self.now take.now by result.0 result.1 }

@@ -1,44 +1,18 @@
-use Rattle.ms_queue.proofs.Runs.{put_at}
+use Rattle.std.proofs.Common.{sym, ap, ◌∙◌}
+use Rattle.queue_table.specs.Lines.{call_of}
+use Rattle.ms_queue.specs.Putting.{put_of, put_value}
+use Rattle.ms_queue.proofs.Puts.{put_gives, put_named}
 use Rattle.ms_queue.proofs.putting.PutOp.step.Goals as goal
 
-pub returns-in-LoadCells : goal.returns-in-LoadCells
-returns-in-LoadCells g c = put_at c.args.self c.in-LoadCells.is c.put_load_cells.result c.put_load_cells.ensures
+pub single_step-requires-clause-named : goal.single_step-requires-clause-named
+single_step-requires-clause-named g c = put_named c.args.self.operation (put_value c.args.self.at) c.requires.1.named
 
-pub returns-in-LoadCellLink : goal.returns-in-LoadCellLink
-returns-in-LoadCellLink g c = put_at c.args.self c.in-LoadCellLink.is c.put_load_cell_link.result c.put_load_cell_link.ensures
+pub returns-in-Again : goal.returns-in-Again
+returns-in-Again g c x is =
+    let e = c.in-Again.ensures in
+    (record { of = is.of; named = is.named ∙ sym (ap call_of e.1); line = e.0.at; read = e.0.knows }, e.2)
 
-pub returns-in-TakeCell : goal.returns-in-TakeCell
-returns-in-TakeCell g c = put_at c.args.self c.in-TakeCell.is c.put_take_cell.result c.put_take_cell.ensures
-
-pub returns-in-Refusing : goal.returns-in-Refusing
-returns-in-Refusing g c = put_at c.args.self c.in-Refusing.is c.put_refuse.result c.put_refuse.ensures
-
-pub returns-in-LoadNodes : goal.returns-in-LoadNodes
-returns-in-LoadNodes g c = put_at c.args.self c.in-LoadNodes.is c.put_load_nodes.result c.put_load_nodes.ensures
-
-pub returns-in-LoadNodeLink : goal.returns-in-LoadNodeLink
-returns-in-LoadNodeLink g c = put_at c.args.self c.in-LoadNodeLink.is c.put_load_node_link.result c.put_load_node_link.ensures
-
-pub returns-in-TakeNode : goal.returns-in-TakeNode
-returns-in-TakeNode g c = put_at c.args.self c.in-TakeNode.is c.put_take_node.result c.put_take_node.ensures
-
-pub returns-in-StoreCell : goal.returns-in-StoreCell
-returns-in-StoreCell g c = put_at c.args.self c.in-StoreCell.is c.put_store_cell.result c.put_store_cell.ensures
-
-pub returns-in-LoadNext : goal.returns-in-LoadNext
-returns-in-LoadNext g c = put_at c.args.self c.in-LoadNext.is c.put_load_next.result c.put_load_next.ensures
-
-pub returns-in-PrepareNext : goal.returns-in-PrepareNext
-returns-in-PrepareNext g c = put_at c.args.self c.in-PrepareNext.is c.put_prepare_next.result c.put_prepare_next.ensures
-
-pub returns-in-LinkNext : goal.returns-in-LinkNext
-returns-in-LinkNext g c = put_at c.args.self c.in-LinkNext.is c.put_link_next.result c.put_link_next.ensures
-
-pub returns-in-GiveBack : goal.returns-in-GiveBack
-returns-in-GiveBack g c = put_at c.args.self c.in-GiveBack.is c.put_give_back.result c.put_give_back.ensures
-
-pub returns-in-Seeking : goal.returns-in-Seeking
-returns-in-Seeking g c = put_at c.args.self c.in-Seeking.is c.put_seek.result c.put_seek.ensures
-
-pub returns-in-SwingTail : goal.returns-in-SwingTail
-returns-in-SwingTail g c = put_at c.args.self c.in-SwingTail.is c.put_swing_tail.result c.put_swing_tail.ensures
+pub returns-in-Done : goal.returns-in-Done
+returns-in-Done g c x is =
+    let e = c.in-Done.ensures in
+    (e.0, put_gives c.args.queue.now x (put_of (put_value c.args.self.at)) (sym is.named ∙ is.of) c.in-Done.answer e.1, e.2)

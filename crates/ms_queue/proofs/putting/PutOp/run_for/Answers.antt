@@ -1,0 +1,18 @@
+use Rattle.std.proofs.Common.{refl, ap}
+use Rattle.queue_table.specs.Lines.{call_of}
+use Rattle.ms_queue.specs.Putting.{put_value}
+use Rattle.ms_queue.proofs.Puts.{put_gives, put_named}
+use Rattle.ms_queue.proofs.putting.PutOp.run_for.Goals as goal
+
+pub try_for-requires-clause-ran : goal.try_for-requires-clause-ran
+try_for-requires-clause-ran g c = let is = c.requires.1 in (c.args.self.pass, (record { at = is.line; knows = is.read }, put_named c.args.self.operation (put_value c.args.self.at) is.named, refl))
+
+pub returns-in-Again : goal.returns-in-Again
+returns-in-Again g c x is =
+    let e = c.in-Again.ensures c.args.self.pass (record { at = is.line; knows = is.read }, put_named c.args.self.operation (put_value c.args.self.at) is.named, refl) in
+    (record { of = is.of; named = ap call_of e.1; line = e.0.at; read = e.0.knows }, e.2)
+
+pub returns-in-Done : goal.returns-in-Done
+returns-in-Done g c x is =
+    let e = c.in-Done.ensures c.args.self.pass (record { at = is.line; knows = is.read }, put_named c.args.self.operation (put_value c.args.self.at) is.named, refl) in
+    (e.0, put_gives c.args.queue.now x c.args.self.operation is.of c.in-Done.answer e.1)
