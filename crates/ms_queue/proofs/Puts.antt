@@ -1,10 +1,8 @@
 -- What a put gives, and where its steps lead.
-use Rattle.std.proofs.Common.{◌≡◌, ◌≢◌, ℕ, ◌+◌, ◌<◌, ◌≤◌, ⊎_elim, List, [], ◌∷◌, refl, sym, ap, ◌∙◌, subst, eq-eqb, ne_eqb, arith}
+use Rattle.std.proofs.Common.{◌≡◌, ℕ, ⊎_elim, List, [], ◌∷◌, refl, sym, ap, ◌∙◌, subst, arith}
 use Rattle.std.specs.Prelude.{Option as Slot, Some, None, Result, Ok, Err}
 use Rattle.core.specs.declared.snapshot.Snapshot.{Snapshot}
 use Rattle.atomic_table.specs.Table.{rest}
-use Rattle.tagged_index.specs.Fields.{fields_of, index_of, tag_of}
-use Rattle.tagged_index.specs.declared.word.TheConstants.{NULL}
 use Rattle.bounded_model.specs.declared.answers.Word.TheVariants.{Cells, Nodes, Next, Free as FreeWord, Top, Count}
 use Rattle.bounded_model.specs.declared.answers.PutRefused.{PutRefused}
 use Rattle.bounded_model.specs.declared.answers.PutRefused.TheVariants.{Full, Closed, Spent}
@@ -15,17 +13,13 @@ use Rattle.bounded_model.specs.Histories.{own}
 use Rattle.bounded_model.specs.Laws.{Adds, PutGives, BacksOut}
 use Rattle.machine.specs.Seats.{pass_of}
 use Rattle.machine.specs.declared.seats.View.{View}
-use Rattle.machine.proofs.Tests.{leb_yes, leb_not}
 use Rattle.queue_machine.specs.declared.lines.Answer.{Answer}
 use Rattle.queue_machine.specs.declared.lines.Answer.TheVariants.{Put as AnswerPut}
-use Rattle.queue_machine.specs.declared.lines.Linking.{Linking}
-use Rattle.queue_machine.specs.declared.lines.Placing.{Placing}
 use Rattle.queue_machine.specs.declared.lines.Seeking.{Seeking as Aim}
 use Rattle.queue_machine.specs.declared.lines.Seeking.TheVariants.{ToLink, ToRefuse}
 use Rattle.queue_machine.specs.declared.lines.Line.{Line}
-use Rattle.queue_machine.specs.declared.lines.Line.TheVariants.{LoadTail, LoadCellLink, LoadNodeLink, PrepareNext}
 use Rattle.queue_machine.specs.Deeds.{Deeds}
-use Rattle.queue_machine.specs.Machine.{found_cells, found_nodes, found_next, ends, frees, gives}
+use Rattle.queue_machine.specs.Machine.{ends, gives}
 use Rattle.queue_machine.specs.declared.lines.Call.{Call}
 use Rattle.queue_machine.specs.declared.lines.Call.TheVariants.{Put as CallPut}
 use Rattle.queue_table.specs.Lines.{call_of, names, next}
@@ -94,36 +88,6 @@ module _ {T : Type 0} (c : Queue T) (o : Operation T) (v : View T (Line T)) (beg
 pub put_gives : {T : Type 0} (c : Queue T) (x : T) (o : Operation T) {v : View T (Line T)} {begun : PassView T} → call_of o ≡ CallPut x → (r : Result ℕ (PutRefused T)) → Ended (machine_of c) o v begun (ends (AnswerPut r)) → PutGives (shape_of c) begun x (pass_of v) r
 put_gives c x o {v} {begun} is r e = gives_so c o v begun x r e (subst (λ (k : Call _). Deeds (pass_of v).number k (ends (AnswerPut r)) begun.seen (pass_of v).seen) is e.deeds)
 
--- where the load of `CELLS` leads
-module _ {T : Type 0} (limit w : ℕ) (y : T) where
-  pub no_cell : index_of w ≡ NULL → found_cells limit y (fields_of w) ≡ LoadTail (ToRefuse y)
-  no_cell z = rw (eq-eqb (index_of w) NULL z) refl
-
-  pub cells_spent : (t : ℕ) → t ≡ tag_of w → index_of w ≢ NULL → limit ≤ tag_of w → found_cells limit y (fields_of w) ≡ ends (AnswerPut (Err (Spent y Cells t)))
-  cells_spent t is ne h = rw is (rw (ne_eqb (index_of w) NULL ne) (rw (leb_yes limit (tag_of w) h) refl))
-
-  pub some_cell : index_of w ≢ NULL → tag_of w < limit → found_cells limit y (fields_of w) ≡ LoadCellLink y (fields_of w)
-  some_cell ne h = rw (ne_eqb (index_of w) NULL ne) (rw (leb_not limit (tag_of w) h) refl)
-
--- and that of `NODES`
-module _ {T : Type 0} (limit w : ℕ) (put : Placing T) where
-  pub no_node : (t : ℕ) → t ≡ tag_of w → index_of w ≡ NULL → found_nodes limit put (fields_of w) ≡ frees put.cell (AnswerPut (Err (Spent put.value Nodes t)))
-  no_node t is z = rw is (rw (eq-eqb (index_of w) NULL z) refl)
-
-  pub nodes_spent : (t : ℕ) → t ≡ tag_of w → index_of w ≢ NULL → limit ≤ tag_of w → found_nodes limit put (fields_of w) ≡ frees put.cell (AnswerPut (Err (Spent put.value Nodes t)))
-  nodes_spent t is ne h = rw is (rw (ne_eqb (index_of w) NULL ne) (rw (leb_yes limit (tag_of w) h) refl))
-
-  pub some_node : index_of w ≢ NULL → tag_of w < limit → found_nodes limit put (fields_of w) ≡ LoadNodeLink put (fields_of w)
-  some_node ne h = rw (ne_eqb (index_of w) NULL ne) (rw (leb_not limit (tag_of w) h) refl)
-
--- and that of the node's link
-module _ {T : Type 0} (limit w : ℕ) (link : Linking T) where
-  pub next_spent : (t : ℕ) → t ≡ tag_of w → limit ≤ tag_of w + 1 → found_next limit link (fields_of w) ≡ gives link (AnswerPut (Err (Spent link.value (Next link.node) t)))
-  next_spent t is h = rw is (rw (leb_yes limit (tag_of w + 1) h) refl)
-
-  pub next_room : tag_of w + 1 < limit → found_next limit link (fields_of w) ≡ PrepareNext link (fields_of w)
-  next_room h = rw (leb_not limit (tag_of w + 1) h) refl
-
 module _ {T : Type 0} where
   value_or : T → List (ℕ × Slot T) → T
   value_or d ((i, Some x) ∷ zs) = x
@@ -137,11 +101,6 @@ module _ {T : Type 0} where
   call_value : T → Call T → T
   call_value d (CallPut v) = v
   call_value d k = d
-
-  -- the value that a line has is the one that is put
-  pub same_put : (o : Operation T) (x y : T) → call_of o ≡ CallPut x → call_of o ≡ CallPut y → y ≡ x
-  unfolding call_value
-  same_put o x y is e = sym (ap (call_value x) (sym is ∙ e))
 
   -- an operation that calls for a put of x is the put of x
   pub put_named : (o : Operation T) (x : T) → call_of o ≡ CallPut x → o ≡ put_of x

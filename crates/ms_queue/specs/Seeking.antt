@@ -6,21 +6,16 @@ use Rattle.queue_machine.specs.declared.lines.Seeking.{Seeking}
 use Rattle.queue_machine.specs.declared.lines.Line.{Line}
 use Rattle.queue_machine.specs.declared.lines.Line.TheVariants.{LoadTail, LoadTailNext, CheckTail, SwingTail}
 use Rattle.queue_machine.specs.Machine.{back_closed, back_null}
-use Rattle.queue_table.specs.declared.operation.Operation.{Operation}
 use Rattle.queue_table.specs.Lines.{HasRoom, next}
 use Rattle.running.specs.Code.{Came, Finding, MatchNext}
-use Rattle.running.specs.Going.{Steps}
 use Rattle.running.specs.declared.access.Outcome.{Outcome}
 use Rattle.running.specs.declared.code.Next.{Next}
-use Rattle.running.specs.declared.passes.Pass.{Pass}
 use Rattle.ms_queue.specs.declared.queue.Queue.{Queue}
 use Rattle.ms_queue.specs.declared.seeking.Seek.{Seek}
 use Rattle.ms_queue.specs.declared.seeking.Seek.TheVariants.{LoadTail as SeekTail, LoadNext as SeekNext, CheckTail as SeekCheck, SwingTail as SeekSwing}
 use Rattle.ms_queue.specs.declared.seeking.End.{End}
 use Rattle.ms_queue.specs.declared.seeking.End.TheVariants.{Closed as EndClosed, Open}
-use Rattle.ms_queue.specs.declared.seeking.Sought.{Sought}
-use Rattle.ms_queue.specs.declared.seeking.Sought.TheVariants.{On, Closed, End as AtEnd}
-use Rattle.ms_queue.specs.Queue.{room_of, limit_of, machine_of, begun_of, IsAt}
+use Rattle.ms_queue.specs.Queue.{room_of, limit_of, machine_of}
 
 -- what was read names nodes, and the tail that is to be moved has room for its tag to rise
 abbrev pub IsRead : ℕ → ℕ → Seek → Type 0
@@ -30,17 +25,12 @@ IsRead n limit (SeekCheck w x) = (index_of w < n + 1) × (index_of x ≢ NULL �
 IsRead n limit (SeekSwing w x) = (index_of w < n + 1) × (index_of x < n + 1) × (tag_of w < limit)
 
 module _ {T : Type 0} where
-  -- the machine's line, and the one that a step led to
+  -- the machine's line
   abbrev pub seek_line : Seeking T → Seek → Line T
   seek_line s SeekTail = LoadTail s
   seek_line s (SeekNext w) = LoadTailNext s (fields_of w)
   seek_line s (SeekCheck w x) = CheckTail s (fields_of w) (fields_of x)
   seek_line s (SeekSwing w x) = SwingTail s (fields_of w) (fields_of x)
-
-  abbrev pub led_line : Seeking T → Sought → Line T
-  led_line s (On at) = seek_line s at
-  led_line s Closed = back_closed s
-  led_line s (AtEnd w x) = back_null s (fields_of w) (fields_of x)
 
   -- the line that the end of the chain leads to
   abbrev pub end_line : Seeking T → End → Line T
@@ -61,30 +51,3 @@ module _ {T : Type 0} where
   abbrev pub SoughtTo : Queue T → Seeking T → Seek → Outcome → List (ℕ × Slot T) → List (ℕ × Slot T) → Next Seek End → Type 0
   SoughtTo c s at r had has to = Came (machine_of c).core (seek_line s at) r had has
       → Finding (machine_of c).core (seek_line s at) r had has (λ found came. Seeks c (next (limit_of c) (seek_line s at) found came) s had has to)
-
-  abbrev pub HasRead : ℕ → ℕ → Seeking T → Sought → Type 0
-  HasRead n limit s (On at) = IsRead n limit at
-  HasRead n limit s Closed = Unit {0}
-  HasRead n limit s (AtEnd w x) = (index_of w < n + 1) × HasRoom limit (back_null s (fields_of w) (fields_of x))
-
--- an operation on this way: its name, its pass, what it is to do at the end, and its next step
-pub record Way (T : Type 0) : Type 0 where
-  pub operation : Operation T
-  pub pass : Pass T (Line T)
-  pub aim : Seeking T
-  pub at : Seek
-
-module _ {T : Type 0} where
-  abbrev pub way : Operation T → Pass T (Line T) → Seeking T → Seek → Way T
-  way o p s at = record { operation = o; pass = p; aim = s; at = at }
-
-  pub record IsSeeking (c : Queue T) (w : Way T) : Type 0 where
-    pub line : IsAt c w.operation w.pass (seek_line w.aim w.at) w.pass.seat.me.1
-    pub read : IsRead (room_of c) (limit_of c) w.at
-
-  -- what a step leaves: the hand as it was, and the pass where the machine's step led
-  pub record Led (c : Queue T) (w : Way T) (q : Pass T (Line T)) (led : Sought) : Type 0 where
-    pub table : q.seat.table_id ≡ w.pass.seat.table_id
-    pub slots : q.seat.me.1 ≡ w.pass.seat.me.1
-    pub steps : Steps (machine_of c) w.operation w.pass.seat.me.0 q.seat.me.0 (begun_of c w.pass) (seek_line w.aim w.at) (led_line w.aim led)
-    pub read : HasRead (room_of c) (limit_of c) w.aim led

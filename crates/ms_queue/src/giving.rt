@@ -5,15 +5,11 @@ ghost use Rattle.queue_machine.specs.declared.lines.Answer.{Answer};
 ghost use Rattle.queue_table.specs.Lists.{lists};
 ghost use Rattle.running.specs.Code.{IsAccess};
 ghost use Rattle.ms_queue.specs.Queue.{room_of, machine_of};
-ghost use Rattle.ms_queue.specs.Giving.{AreHeld, GaveTo, IsGiving, Led, give_line, held_slot, way};
-ghost use Rattle.ms_queue.specs.declared.giving.Give.TheVariants.{LoadNodes, LinkNode, GiveNode, LoadCells, LinkCell, GiveCell};
+ghost use Rattle.ms_queue.specs.Giving.{AreHeld, GaveTo, give_line, held_slot};
 
-use crate::queue::{Pass, Queue};
-use queue_table::Operation;
+use crate::queue::Queue;
 use queue_table::layout::{CELL_LIST, NODE_LIST};
-use running::{
-    Access, Next, Outcome, give_bare_step, give_one_step, keep_link_step, load_top_step,
-};
+use running::{Access, Next, Outcome};
 use tagged_index::Tagged;
 
 /// The node and the cell that are to be given back. The cell's slot is empty.
@@ -40,14 +36,6 @@ pub(crate) enum Give {
     LinkCell(Tagged),
     /// Compare-and-swap `CELLS` for the cell.
     GiveCell(Tagged),
-}
-
-/// Where such a step led.
-#[derive(Drop)]
-pub(crate) enum Gave {
-    On(Give),
-    /// Both are given back.
-    Both,
 }
 
 impl<T> Queue<T> {
@@ -94,133 +82,5 @@ impl<T> Queue<T> {
                 Next::Done(())
             }
         }
-    }
-
-    /// One step of giving back.
-    #[inline(always)]
-    pub(crate) fn give(
-        &self,
-        by: &mut Pass<T>,
-        held: Held,
-        at: Give,
-        operation: &Operation<T>,
-    ) -> Gave
-        requires { (a : Answer T) × IsGiving self.now (way operation.now by.old (a, held) at) }
-        ensures { (a : Answer T) → IsGiving self.now (way operation.now by.old (a, held) at)
-            → Led self.now (way operation.now by.old (a, held) at) by.new result }
-    {
-        match at {
-            Give::LoadNodes => self.give_load_nodes(by, held, operation),
-            Give::LinkNode(nodes) => self.give_link_node(by, held, nodes, operation),
-            Give::GiveNode(nodes) => self.give_node(by, held, nodes, operation),
-            Give::LoadCells => self.give_load_cells(by, held, operation),
-            Give::LinkCell(cells) => self.give_link_cell(by, held, cells, operation),
-            Give::GiveCell(cells) => self.give_cell(by, held, cells, operation),
-        }
-    }
-
-    #[inline]
-    fn give_load_nodes(&self, by: &mut Pass<T>, held: Held, operation: &Operation<T>) -> Gave
-        requires { (a : Answer T)
-            × IsGiving self.now (way operation.now by.old (a, held) LoadNodes) }
-        ensures { (a : Answer T) → IsGiving self.now (way operation.now by.old (a, held) LoadNodes)
-            → Led self.now (way operation.now by.old (a, held) LoadNodes) by.new result }
-    {
-        let nodes = load_top_step(&self.table.shared, &mut by.seat, NODE_LIST, operation);
-        Gave::On(Give::LinkNode(nodes))
-    }
-
-    #[inline]
-    fn give_link_node(
-        &self,
-        by: &mut Pass<T>,
-        held: Held,
-        nodes: Tagged,
-        operation: &Operation<T>,
-    ) -> Gave
-        requires { (a : Answer T)
-            × IsGiving self.now (way operation.now by.old (a, held) (LinkNode nodes)) }
-        ensures { (a : Answer T)
-            → IsGiving self.now (way operation.now by.old (a, held) (LinkNode nodes))
-            → Led self.now (way operation.now by.old (a, held) (LinkNode nodes)) by.new result }
-    {
-        let table = &self.table.shared;
-        let first = nodes.index() as u64;
-        keep_link_step(table, &mut by.seat, NODE_LIST, held.node, first, operation);
-        Gave::On(Give::GiveNode(nodes))
-    }
-
-    #[inline]
-    fn give_node(
-        &self,
-        by: &mut Pass<T>,
-        held: Held,
-        nodes: Tagged,
-        operation: &Operation<T>,
-    ) -> Gave
-        requires { (a : Answer T)
-            × IsGiving self.now (way operation.now by.old (a, held) (GiveNode nodes)) }
-        ensures { (a : Answer T)
-            → IsGiving self.now (way operation.now by.old (a, held) (GiveNode nodes))
-            → Led self.now (way operation.now by.old (a, held) (GiveNode nodes)) by.new result }
-    {
-        let table = &self.table.shared;
-        if give_bare_step(table, &mut by.seat, NODE_LIST, nodes, held.node, operation) {
-            return Gave::On(Give::LoadCells);
-        }
-        Gave::On(Give::LoadNodes)
-    }
-
-    #[inline]
-    fn give_load_cells(&self, by: &mut Pass<T>, held: Held, operation: &Operation<T>) -> Gave
-        requires { (a : Answer T)
-            × IsGiving self.now (way operation.now by.old (a, held) LoadCells) }
-        ensures { (a : Answer T) → IsGiving self.now (way operation.now by.old (a, held) LoadCells)
-            → Led self.now (way operation.now by.old (a, held) LoadCells) by.new result }
-    {
-        let cells = load_top_step(&self.table.shared, &mut by.seat, CELL_LIST, operation);
-        Gave::On(Give::LinkCell(cells))
-    }
-
-    #[inline]
-    fn give_link_cell(
-        &self,
-        by: &mut Pass<T>,
-        held: Held,
-        cells: Tagged,
-        operation: &Operation<T>,
-    ) -> Gave
-        requires { (a : Answer T)
-            × IsGiving self.now (way operation.now by.old (a, held) (LinkCell cells)) }
-        ensures { (a : Answer T)
-            → IsGiving self.now (way operation.now by.old (a, held) (LinkCell cells))
-            → Led self.now (way operation.now by.old (a, held) (LinkCell cells)) by.new result }
-    {
-        let table = &self.table.shared;
-        let first = cells.index() as u64;
-        keep_link_step(table, &mut by.seat, CELL_LIST, held.cell, first, operation);
-        Gave::On(Give::GiveCell(cells))
-    }
-
-    // With the cell goes its slot.
-    #[inline]
-    fn give_cell(
-        &self,
-        by: &mut Pass<T>,
-        held: Held,
-        cells: Tagged,
-        operation: &Operation<T>,
-    ) -> Gave
-        requires { (a : Answer T)
-            × IsGiving self.now (way operation.now by.old (a, held) (GiveCell cells)) }
-        ensures { (a : Answer T)
-            → IsGiving self.now (way operation.now by.old (a, held) (GiveCell cells))
-            → Led self.now (way operation.now by.old (a, held) (GiveCell cells)) by.new result }
-    {
-        let table = &self.table.shared;
-        if give_one_step(table, &mut by.seat, CELL_LIST, cells, held.cell, operation) {
-            return Gave::Both;
-        }
-        Gave::On(Give::LoadCells)
     }
 }

@@ -5,13 +5,11 @@ ghost use Rattle.queue_machine.specs.declared.lines.Seeking.{Seeking};
 ghost use Rattle.queue_table.specs.Lists.{lists};
 ghost use Rattle.running.specs.Code.{IsAccess};
 ghost use Rattle.ms_queue.specs.Queue.{room_of, limit_of, machine_of};
-ghost use Rattle.ms_queue.specs.Seeking.{IsRead, IsSeeking, Led, SoughtTo, seek_line, way};
-ghost use Rattle.ms_queue.specs.declared.seeking.Seek.TheVariants.{LoadTail, LoadNext, CheckTail, SwingTail};
+ghost use Rattle.ms_queue.specs.Seeking.{IsRead, SoughtTo, seek_line};
 
-use crate::queue::{Pass, Queue};
-use queue_table::Operation;
+use crate::queue::Queue;
 use queue_table::layout::{TAIL, next};
-use running::{Access, Next, Outcome, attempt_step, load_tagged_step, raised};
+use running::{Access, Next, Outcome, raised};
 use tagged_index::{NULL, Tagged};
 
 /// The next step on the way to the end of the chain, with what was read.
@@ -34,16 +32,6 @@ pub(crate) enum End {
     Closed,
     /// The tail, and the null link of its node.
     Open(Tagged, Tagged),
-}
-
-/// Where such a step led.
-#[derive(Drop)]
-pub(crate) enum Sought {
-    On(Seek),
-    /// The end has the mark.
-    Closed,
-    /// The end: the tail, and the null link of its node.
-    End(Tagged, Tagged),
 }
 
 impl<T> Queue<T> {
@@ -91,90 +79,5 @@ impl<T> Queue<T> {
             // Whoever succeeds, the tail is then no longer the same.
             Seek::SwingTail(_, _) => Next::Lost(Seek::LoadTail),
         }
-    }
-
-    /// One step to the end of the chain.
-    #[inline(always)]
-    pub(crate) fn seek(&self, by: &mut Pass<T>, at: Seek, operation: &Operation<T>) -> Sought
-        requires { (s : Seeking T) × IsSeeking self.now (way operation.now by.old s at) }
-        ensures { (s : Seeking T) → IsSeeking self.now (way operation.now by.old s at)
-            → Led self.now (way operation.now by.old s at) by.new result }
-    {
-        match at {
-            Seek::LoadTail => self.seek_tail(by, operation),
-            Seek::LoadNext(tail) => self.seek_next(by, tail, operation),
-            Seek::CheckTail(tail, link) => self.seek_check(by, tail, link, operation),
-            Seek::SwingTail(tail, link) => self.seek_swing(by, tail, link, operation),
-        }
-    }
-
-    #[inline(always)]
-    fn seek_tail(&self, by: &mut Pass<T>, operation: &Operation<T>) -> Sought
-        requires { (s : Seeking T) × IsSeeking self.now (way operation.now by.old s LoadTail) }
-        ensures { (s : Seeking T) → IsSeeking self.now (way operation.now by.old s LoadTail)
-            → Led self.now (way operation.now by.old s LoadTail) by.new result }
-    {
-        let tail = load_tagged_step(&self.table.shared, &mut by.seat, TAIL, operation);
-        Sought::On(Seek::LoadNext(tail))
-    }
-
-    #[inline(always)]
-    fn seek_next(&self, by: &mut Pass<T>, tail: Tagged, operation: &Operation<T>) -> Sought
-        requires { (s : Seeking T)
-            × IsSeeking self.now (way operation.now by.old s (LoadNext tail)) }
-        ensures { (s : Seeking T) → IsSeeking self.now (way operation.now by.old s (LoadNext tail))
-            → Led self.now (way operation.now by.old s (LoadNext tail)) by.new result }
-    {
-        let at = next(tail.index());
-        let link = load_tagged_step(&self.table.shared, &mut by.seat, at, operation);
-        Sought::On(Seek::CheckTail(tail, link))
-    }
-
-    // Where the tail is still the same, the link was that of its node.
-    #[inline(always)]
-    fn seek_check(
-        &self,
-        by: &mut Pass<T>,
-        tail: Tagged,
-        link: Tagged,
-        operation: &Operation<T>,
-    ) -> Sought
-        requires { (s : Seeking T)
-            × IsSeeking self.now (way operation.now by.old s (CheckTail tail link)) }
-        ensures { (s : Seeking T)
-            → IsSeeking self.now (way operation.now by.old s (CheckTail tail link))
-            → Led self.now (way operation.now by.old s (CheckTail tail link)) by.new result }
-    {
-        let again = load_tagged_step(&self.table.shared, &mut by.seat, TAIL, operation);
-        if again.word() != tail.word() {
-            return Sought::On(Seek::LoadTail);
-        }
-        if link.is_marked() {
-            return Sought::Closed;
-        }
-        if link.index() == NULL {
-            return Sought::End(tail, link);
-        }
-        Sought::On(Seek::SwingTail(tail, link))
-    }
-
-    // Whoever succeeds, the tail is then no longer the same.
-    #[inline(always)]
-    fn seek_swing(
-        &self,
-        by: &mut Pass<T>,
-        tail: Tagged,
-        link: Tagged,
-        operation: &Operation<T>,
-    ) -> Sought
-        requires { (s : Seeking T)
-            × IsSeeking self.now (way operation.now by.old s (SwingTail tail link)) }
-        ensures { (s : Seeking T)
-            → IsSeeking self.now (way operation.now by.old s (SwingTail tail link))
-            → Led self.now (way operation.now by.old s (SwingTail tail link)) by.new result }
-    {
-        let new = raised(tail, link.index());
-        attempt_step(&self.table.shared, &mut by.seat, TAIL, tail, new, operation);
-        Sought::On(Seek::LoadTail)
     }
 }

@@ -1,4 +1,4 @@
-use Rattle.std.proofs.Common.{refl, ap, subst, sym, ◌∙◌}
+use Rattle.std.proofs.Common.{refl, ap, subst}
 use Rattle.running.specs.declared.code.Next.TheVariants.{On, Lost, Done}
 use Rattle.ms_queue.specs.declared.seeking.End.{End}
 use Rattle.ms_queue.proofs.Puts.{Putting, barred, sought_refusal, sought_on, sought_lost, sought_end, sought_mark, gave_put}

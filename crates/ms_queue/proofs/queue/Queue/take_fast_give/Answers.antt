@@ -1,4 +1,4 @@
-use Rattle.std.proofs.Common.{sym, subst, rules}
+use Rattle.std.proofs.Common.{subst, rules}
 use Rattle.ms_queue.specs.Taking.{TakeStands, TakeRan}
 use Rattle.ms_queue.proofs.queue.Queue.take_fast_give.Goals as goal
 
