@@ -14,15 +14,13 @@ mod rule;
 mod seats;
 mod stepping;
 mod steps;
-mod whole;
 
 pub use access::{Access, Outcome};
 pub use calls::{to_the_end, try_for};
 pub use code::{Code, Next};
 pub use index_list::raised;
 pub use lists::{
-    ListMachine, give_bare_step, give_chain_step, give_one_step, keep_link_step, load_link_step,
-    load_top_step, mark_step, shut_step, store_link_step, take_all_step, take_bare_step,
+    ListMachine, give_chain_step, load_link_step, load_top_step, store_link_step, take_all_step,
     take_first_step,
 };
 pub use passes::{Note, Pass, Root, heed, join, make_note, meet, split};
@@ -30,8 +28,3 @@ pub use pause::Pause;
 pub use rule::{Machine, Running};
 pub use seats::peek;
 pub use stepping::{any, single_step, step};
-pub use steps::{
-    attempt_step, give_step, keep_step, load_step, load_tagged_step, store_step, swap_step,
-    take_step,
-};
-pub use whole::{Whole, whole_call};
