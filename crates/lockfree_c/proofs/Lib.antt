@@ -1,4 +1,3 @@
 pub mod AsBox
 pub mod New
-pub mod Sent
 pub mod Stays

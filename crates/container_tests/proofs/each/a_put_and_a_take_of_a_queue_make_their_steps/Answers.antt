@@ -1,6 +1,6 @@
 use denote.Param.Send.{sendable}
 use Rattle.ms_queue.proofs.Crossing.{rest_send}
-use Rattle.container_tests.proofs.Crossing.{put_send}
+use Rattle.ms_queue.proofs.Crossing.{put_send}
 use Rattle.container_tests.proofs.each.a_put_and_a_take_of_a_queue_make_their_steps.Goals as goal
 
 pub ended_at_their_last-requires-send-C-Rest : goal.ended_at_their_last-requires-send-C-Rest

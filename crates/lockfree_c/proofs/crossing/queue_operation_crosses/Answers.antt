@@ -1,5 +1,5 @@
 use denote.Param.Send.{sendable, param_send}
-use Rattle.lockfree_c.proofs.Sent.{put_send}
+use Rattle.ms_queue.proofs.Crossing.{put_send}
 use Rattle.lockfree_c.proofs.crossing.queue_operation_crosses.Goals as goal
 use Rattle.lockfree_c.proofs.crossing.queue_operation_crosses.Lts.{arg-0-0}
 
