@@ -71,9 +71,9 @@ uint32_t lockfree_split(lockfree_handle *root, lockfree_handle *pass);
  * value is out of reach, and its cell stays held. OK, NO_HANDLE. */
 uint32_t lockfree_free(lockfree_handle *handle);
 
-/* The calls of a pass. Each makes its fast path, and where another thread was faster it tries again
- * up to `tries` times; 0 is allowed. Then it returns BUSY, and is under way: lockfree_go_on continues
- * it, and returns what it would have returned. All: BUSY, UNDER_WAY, OTHER_HANDLE, NO_HANDLE.
+/* The calls of a pass. Each makes its fast path, and where that does not end it at most so many steps
+ * more as a call makes where nobody interferes, and those of `tries` tries more; 0 is allowed. Then it
+ * returns BUSY, and is under way: lockfree_go_on continues it, and returns what it would have returned. All: BUSY, UNDER_WAY, OTHER_HANDLE, NO_HANDLE.
  * put:   OK, FULL, CLOSED, SPENT
  * take:  OK, EMPTY, CLOSED, SHUT, SPENT
  * close: OK, CLOSED. No put follows

@@ -8,8 +8,8 @@ use bounded_model::{Command, Reply, Stepped, Stepwise};
 
 /// A container whose calls give up after so many tries, and can then be gone on with.
 pub trait BoundedCalls<T>: Stepwise<T> {
-    /// A call: the steps of one whose every compare-and-swap succeeds, and where those do not end it,
-    /// the steps to its next compare-and-swap, `tries` times at the most. Returns what the whole call
+    /// A call: its fast path, and where that does not end it at most so many further steps as a call
+    /// makes where nobody interferes, and those of `tries` tries more. Returns what the whole call
     /// returns; or the call is still under way.
     fn try_call(
         &self,
