@@ -173,8 +173,11 @@ impl<T> Queue<T> {
         requires stands { PutStands self.now put.now by held }
         ensures { PutRan self.now put.now by result.0 result.1 }
     {
+        let PutAt::StoreCell(shown, held) = held else {
+            return (by, Next::On(held));
+        };
         let table = &self.table.shared;
-        let (pass, at) = fast_path!(any(table, self, by, held, put));
+        let (pass, at) = fast_path!(any(table, self, by, PutAt::StoreCell(shown, held), put));
         let (pass, shown, held, link) = fast_path!(
             any(table, self, pass, at, put),
             PutAt::PrepareNext(shown, held, link) => shown, held, link
@@ -200,8 +203,12 @@ impl<T> Queue<T> {
         requires stands { PutStands self.now put.now by prepared }
         ensures { PutRan self.now put.now by result.0 result.1 }
     {
+        let PutAt::Seeking(shown, held, Seek::LoadTail) = prepared else {
+            return (by, Next::On(prepared));
+        };
         let table = &self.table.shared;
-        let (pass, at) = fast_path!(any(table, self, by, prepared, put));
+        let begun = PutAt::Seeking(shown, held, Seek::LoadTail);
+        let (pass, at) = fast_path!(any(table, self, by, begun, put));
         let (pass, at) = fast_path!(any(table, self, pass, at, put));
         let (pass, shown, held, tail, link) = fast_path!(
             any(table, self, pass, at, put),

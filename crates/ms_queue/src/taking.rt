@@ -139,8 +139,12 @@ impl<T> Queue<T> {
         requires stands { TakeStands self.now by won }
         ensures { TakeRan self.now take.now by result.0 result.1 }
     {
+        let TakeAt::GiveBack(taken, Give::LoadNodes) = won else {
+            return (by, Next::On(won));
+        };
         let table = &self.table.shared;
-        let (pass, at) = fast_path!(any(table, self, by, won, take));
+        let begun = TakeAt::GiveBack(taken, Give::LoadNodes);
+        let (pass, at) = fast_path!(any(table, self, by, begun, take));
         let (pass, at) = fast_path!(any(table, self, pass, at, take));
         let (pass, at) = fast_path!(any(table, self, pass, at, take));
         let (pass, at) = fast_path!(any(table, self, pass, at, take));
