@@ -121,10 +121,28 @@ impl<T> Queue<T> {
         to_the_end(rt, &self.table.shared, self, first, &put)
     }
 
-    /// A put's steps on its fast path, as long as nobody is faster: first those that take a cell and
-    /// a node.
+    /// A put's steps on its fast path, as long as nobody is faster.
     #[inline]
     pub(crate) fn put_fast(
+        &self,
+        by: Pass<T>,
+        value: T,
+        put: &Operation<T>,
+    ) -> (Pass<T>, Next<PutAt<T>, Answer<T>>)
+        requires named { put.now ≡ put_of value }
+        requires pass { IsPassOf self.now by }
+        ensures { PutRan self.now put.now by result.0 result.1 }
+    {
+        let (pass, at) = fast_path!(self.put_fast_cell(by, value, put));
+        let (pass, at) = fast_path!(self.put_fast_node(pass, at, put));
+        let (pass, at) = fast_path!(self.put_fast_prepare(pass, at, put));
+        let (pass, at) = fast_path!(self.put_fast_seek(pass, at, put));
+        self.put_fast_link(pass, at, put)
+    }
+
+    // First those that take a cell.
+    #[inline(always)]
+    fn put_fast_cell(
         &self,
         by: Pass<T>,
         value: T,
@@ -143,12 +161,26 @@ impl<T> Queue<T> {
             any(table, self, pass, PutAt::LoadCellLink(value, cells), put),
             PutAt::TakeCell(value, cells, link) => value, cells, link
         );
-        let (pass, shown, cell) = fast_path!(
-            any(table, self, pass, PutAt::TakeCell(value, cells, link), put),
-            PutAt::LoadNodes(shown, cell) => shown, cell
-        );
+        any(table, self, pass, PutAt::TakeCell(value, cells, link), put)
+    }
+
+    // Then those that take a node.
+    #[inline(always)]
+    fn put_fast_node(
+        &self,
+        by: Pass<T>,
+        has_cell: PutAt<T>,
+        put: &Operation<T>,
+    ) -> (Pass<T>, Next<PutAt<T>, Answer<T>>)
+        requires stands { PutStands self.now put.now by has_cell }
+        ensures { PutRan self.now put.now by result.0 result.1 }
+    {
+        let PutAt::LoadNodes(shown, cell) = has_cell else {
+            return (by, Next::On(has_cell));
+        };
+        let table = &self.table.shared;
         let (pass, shown, cell, nodes) = fast_path!(
-            any(table, self, pass, PutAt::LoadNodes(shown, cell), put),
+            any(table, self, by, PutAt::LoadNodes(shown, cell), put),
             PutAt::LoadNodeLink(shown, cell, nodes) => shown, cell, nodes
         );
         let (pass, at) = fast_path!(any(
@@ -158,11 +190,10 @@ impl<T> Queue<T> {
             PutAt::LoadNodeLink(shown, cell, nodes),
             put,
         ));
-        let (pass, at) = fast_path!(any(table, self, pass, at, put));
-        self.put_fast_prepare(pass, at, put)
+        any(table, self, pass, at, put)
     }
 
-    // Then those that prepare the node.
+    // Those that prepare the node.
     #[inline(always)]
     fn put_fast_prepare(
         &self,
@@ -182,19 +213,18 @@ impl<T> Queue<T> {
             any(table, self, pass, at, put),
             PutAt::PrepareNext(shown, held, link) => shown, held, link
         );
-        let (pass, at) = fast_path!(any(
+        any(
             table,
             self,
             pass,
             PutAt::PrepareNext(shown, held, link),
             put,
-        ));
-        self.put_fast_link(pass, at, put)
+        )
     }
 
-    // And those that link it at the end of the chain and swing the tail.
+    // Those that go to the end of the chain.
     #[inline(always)]
-    fn put_fast_link(
+    fn put_fast_seek(
         &self,
         by: Pass<T>,
         prepared: PutAt<T>,
@@ -210,14 +240,28 @@ impl<T> Queue<T> {
         let begun = PutAt::Seeking(shown, held, Seek::LoadTail);
         let (pass, at) = fast_path!(any(table, self, by, begun, put));
         let (pass, at) = fast_path!(any(table, self, pass, at, put));
-        let (pass, shown, held, tail, link) = fast_path!(
-            any(table, self, pass, at, put),
-            PutAt::LinkNext(shown, held, tail, link) => shown, held, tail, link
-        );
+        any(table, self, pass, at, put)
+    }
+
+    // And those that link the node there and swing the tail.
+    #[inline(always)]
+    fn put_fast_link(
+        &self,
+        by: Pass<T>,
+        there: PutAt<T>,
+        put: &Operation<T>,
+    ) -> (Pass<T>, Next<PutAt<T>, Answer<T>>)
+        requires stands { PutStands self.now put.now by there }
+        ensures { PutRan self.now put.now by result.0 result.1 }
+    {
+        let PutAt::LinkNext(shown, held, tail, link) = there else {
+            return (by, Next::On(there));
+        };
+        let table = &self.table.shared;
         let (pass, at) = fast_path!(any(
             table,
             self,
-            pass,
+            by,
             PutAt::LinkNext(shown, held, tail, link),
             put,
         ));

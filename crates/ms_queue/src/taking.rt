@@ -96,6 +96,23 @@ impl<T> Queue<T> {
         requires pass { IsPassOf self.now by }
         ensures { TakeRan self.now take.now by result.0 result.1 }
     {
+        let (pass, at) = fast_path!(self.take_fast_read(by, take));
+        let (pass, at) = fast_path!(self.take_fast_head(pass, at, take));
+        let (pass, at) = fast_path!(self.take_fast_node(pass, at, take));
+        self.take_fast_cell(pass, at, take)
+    }
+
+    // First those that read the head, the tail and the first node.
+    #[inline(always)]
+    fn take_fast_read(
+        &self,
+        by: Pass<T>,
+        take: &Operation<T>,
+    ) -> (Pass<T>, Next<TakeAt<T>, Answer<T>>)
+        requires named { take.now ≡ TakeFirst }
+        requires pass { IsPassOf self.now by }
+        ensures { TakeRan self.now take.now by result.0 result.1 }
+    {
         let table = &self.table.shared;
         let (pass, head) = fast_path!(
             any(table, self, by, TakeAt::LoadHead, take),
@@ -105,31 +122,39 @@ impl<T> Queue<T> {
             any(table, self, pass, TakeAt::LoadTail(head), take),
             TakeAt::LoadNext(head, tail) => head, tail
         );
-        let (pass, head, tail, link) = fast_path!(
-            any(table, self, pass, TakeAt::LoadNext(head, tail), take),
-            TakeAt::CheckHead(head, tail, link) => head, tail, link
-        );
+        any(table, self, pass, TakeAt::LoadNext(head, tail), take)
+    }
+
+    // Then those that take the first value.
+    #[inline(always)]
+    fn take_fast_head(
+        &self,
+        by: Pass<T>,
+        read: TakeAt<T>,
+        take: &Operation<T>,
+    ) -> (Pass<T>, Next<TakeAt<T>, Answer<T>>)
+        requires named { take.now ≡ TakeFirst }
+        requires stands { TakeStands self.now by read }
+        ensures { TakeRan self.now take.now by result.0 result.1 }
+    {
+        let TakeAt::CheckHead(head, tail, link) = read else {
+            return (by, Next::On(read));
+        };
+        let table = &self.table.shared;
         let (pass, head, link) = fast_path!(
-            any(table, self, pass, TakeAt::CheckHead(head, tail, link), take),
+            any(table, self, by, TakeAt::CheckHead(head, tail, link), take),
             TakeAt::LoadCell(head, link) => head, link
         );
         let (pass, head, link, cell) = fast_path!(
             any(table, self, pass, TakeAt::LoadCell(head, link), take),
             TakeAt::TakeHead(head, link, cell) => head, link, cell
         );
-        let (pass, at) = fast_path!(any(
-            table,
-            self,
-            pass,
-            TakeAt::TakeHead(head, link, cell),
-            take,
-        ));
-        self.take_fast_give(pass, at, take)
+        any(table, self, pass, TakeAt::TakeHead(head, link, cell), take)
     }
 
-    // The rest of them: giving the old dummy and the cell back.
+    // Those that give the old dummy back.
     #[inline(always)]
-    fn take_fast_give(
+    fn take_fast_node(
         &self,
         by: Pass<T>,
         won: TakeAt<T>,
@@ -146,8 +171,27 @@ impl<T> Queue<T> {
         let begun = TakeAt::GiveBack(taken, Give::LoadNodes);
         let (pass, at) = fast_path!(any(table, self, by, begun, take));
         let (pass, at) = fast_path!(any(table, self, pass, at, take));
-        let (pass, at) = fast_path!(any(table, self, pass, at, take));
-        let (pass, at) = fast_path!(any(table, self, pass, at, take));
+        any(table, self, pass, at, take)
+    }
+
+    // And those that give the cell back.
+    #[inline(always)]
+    fn take_fast_cell(
+        &self,
+        by: Pass<T>,
+        given: TakeAt<T>,
+        take: &Operation<T>,
+    ) -> (Pass<T>, Next<TakeAt<T>, Answer<T>>)
+        requires named { take.now ≡ TakeFirst }
+        requires stands { TakeStands self.now by given }
+        ensures { TakeRan self.now take.now by result.0 result.1 }
+    {
+        let TakeAt::GiveBack(taken, Give::LoadCells) = given else {
+            return (by, Next::On(given));
+        };
+        let table = &self.table.shared;
+        let begun = TakeAt::GiveBack(taken, Give::LoadCells);
+        let (pass, at) = fast_path!(any(table, self, by, begun, take));
         let (pass, at) = fast_path!(any(table, self, pass, at, take));
         any(table, self, pass, at, take)
     }
