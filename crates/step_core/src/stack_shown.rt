@@ -22,7 +22,7 @@ ghost use Rattle.step_core.specs.stack.WrongAnswers.{put_only_the_first, shut_as
 ghost use Rattle.step_core.specs.stack.WrongRuns.{ends_where_it_lost, lost_take, is_always_empty, stale_take, plain_object, full_of_hands, spoils_where_it_lost, starving, in_turn};
 
 /// Rows played by the stack's machine, by single steps of up to three passes, and machines that are
-/// nearly the stack's, each with the row that it fails (see `queue_exhibits`).
+/// nearly the stack's, each with the scene that it fails (see `queue_exhibits`).
 pub fn stack_exhibits()
     // Played rows.
     ensures alone { Plays alone }
@@ -48,7 +48,7 @@ pub fn stack_exhibits()
     ensures put_overtakes_shut { Plays put_overtakes_shut }
     ensures close_overtakes_take { Plays close_overtakes_take }
     ensures folds_alone { Plays folds_alone }
-    // With another order of tests, or without a comparison, a row is answered otherwise.
+    // With another order of tests, or without a comparison, a scene is answered otherwise.
     ensures limit_before_null_fails { Fails limit_before_null spent_top 2 (answers (free_spent 2 (z ∷ []))) }
     ensures limit_before_closed_fails { Fails limit_before_closed closed_before_spent_top 4 (ended (top_spent 2 (x ∷ [])) 7) }
     ensures limit_before_closed_at_last_fails { Fails limit_before_closed_at_last closed_before_spent_at_last 2 (answers (top_spent 1 (y ∷ []))) }

@@ -8,11 +8,11 @@ use Rattle.queue_machine.specs.declared.lines.Call.TheVariants.{Close as CloseCa
 use Rattle.step_core.specs.Scripts.{Reply, curtain, replies, calls, begins, steps, finish, answers, again, ended, rest}
 use Rattle.queue_machine.specs.Answers.{shape}
 use Rattle.step_core.specs.Letters.{a, b, c, u, v, w, x, y, z}
-use Rattle.step_core.specs.queue.Cast.{Row, row, plays, put, take, put_is, full, put_closed, cells_spent, next_spent, take_is, no_take}
+use Rattle.step_core.specs.queue.Cast.{Scene, scene, plays, put, take, put_is, full, put_closed, cells_spent, next_spent, take_is, no_take}
 
 -- a look sees the value that was put while it was under way; a shut finds the queue shut by another
-abbrev pub look_and_shut : Row
-look_and_shut = row 2 7
+abbrev pub look_and_shut : Scene
+look_and_shut = scene 2 7
     ((begins a LookCall 1, again 1)
     ∷ (calls b (put x), answers (put_is 0))
     ∷ (steps a 9, ended (Look false) 3)
@@ -24,8 +24,8 @@ look_and_shut = row 2 7
     ∷ [])
 
 -- a put overtakes a close, which then closes behind it
-abbrev pub put_overtakes_close : Row
-put_overtakes_close = row 2 7
+abbrev pub put_overtakes_close : Scene
+put_overtakes_close = scene 2 7
     ((begins a CloseCall 3, again 3)
     ∷ (calls b (put x), answers (put_is 0))
     ∷ (steps a 20, ended (Close true) 8)
@@ -36,8 +36,8 @@ put_overtakes_close = row 2 7
     ∷ [])
 
 -- a close finds the queue closed by another
-abbrev pub close_overtakes_close : Row
-close_overtakes_close = row 2 7
+abbrev pub close_overtakes_close : Scene
+close_overtakes_close = scene 2 7
     ((begins a CloseCall 2, again 2)
     ∷ (calls b CloseCall, answers (Close true))
     ∷ (steps a 20, ended (Close false) 7)
@@ -45,8 +45,8 @@ close_overtakes_close = row 2 7
     ∷ [])
 
 -- a put that has found no cell sees the close
-abbrev pub close_overtakes_full : Row
-close_overtakes_full = row 1 7
+abbrev pub close_overtakes_full : Scene
+close_overtakes_full = scene 1 7
     ((calls a (put x), answers (put_is 0))
     ∷ (begins b (put y) 2, again 2)
     ∷ (calls a CloseCall, answers (Close true))
@@ -55,8 +55,8 @@ close_overtakes_full = row 1 7
     ∷ [])
 
 -- a put that has found no cell moves the tail that another put left behind
-abbrev pub full_helps : Row
-full_helps = row 2 9
+abbrev pub full_helps : Scene
+full_helps = scene 2 9
     ((calls a (put x), answers (put_is 0))
     ∷ (begins c (put z) 13, again 13)
     ∷ (begins b (put y) 20, ended (full y) 8)
@@ -64,8 +64,8 @@ full_helps = row 2 9
     ∷ [])
 
 -- a close moves the tail on, and takes go on
-abbrev pub close_helps : Row
-close_helps = row 3 9
+abbrev pub close_helps : Scene
+close_helps = scene 3 9
     ((begins a (put x) 13, again 13)
     ∷ (begins b CloseCall 20, ended (Close true) 8)
     ∷ (calls c take, answers (take_is 0 x))
@@ -75,8 +75,8 @@ close_helps = row 3 9
     ∷ [])
 
 -- a pass that stops after it has taken its cell and its node keeps the cell: one value fits
-abbrev pub put_left : Row
-put_left = row 2 7
+abbrev pub put_left : Scene
+put_left = scene 2 7
     ((calls a (put x), answers (put_is 0))
     ∷ (begins b (put y) 7, again 7)
     ∷ (calls a (put z), answers (full z))
@@ -86,8 +86,8 @@ put_left = row 2 7
     ∷ [])
 
 -- a put that stops when it has its cell, and is dropped: another pass finds the queue full and empty
-abbrev pub put_dropped : Row
-put_dropped = row 1 7
+abbrev pub put_dropped : Scene
+put_dropped = scene 1 7
     ((begins a (put x) 3, again 3)
     ∷ (calls b (put y), answers (full y))
     ∷ (calls c (put z), answers (full z))
@@ -98,8 +98,8 @@ put_dropped = row 1 7
     ∷ [])
 
 -- looks, and a take that was begun before another took the value
-abbrev pub looks : Row
-looks = row 1 7
+abbrev pub looks : Scene
+looks = scene 1 7
     ((calls a LookCall, answers (Look true))
     ∷ (calls a (put x), answers (put_is 0))
     ∷ (calls a LookCall, answers (Look false))
@@ -111,15 +111,15 @@ looks = row 1 7
     ∷ [])
 
 -- the largest queue, with the greatest limit
-abbrev pub largest : Row
-largest = row 1048573 4398046511103
+abbrev pub largest : Scene
+largest = scene 1048573 4398046511103
     ((calls a (put x), answers (put_is 0))
     ∷ (calls a take, answers (take_is 0 x))
     ∷ [])
 
 -- the tag of the free cells is looked at before the end of the chain
-abbrev pub spent_before_closed : Row
-spent_before_closed = row 2 2
+abbrev pub spent_before_closed : Scene
+spent_before_closed = scene 2 2
     ((calls a (put x), answers (put_is 0))
     ∷ (calls a (put y), answers (put_is 1))
     ∷ (calls a take, answers (take_is 0 x))
@@ -130,8 +130,8 @@ spent_before_closed = row 2 2
     ∷ [])
 
 -- and so is the tag of the node's link
-abbrev pub next_spent_before_closed : Row
-next_spent_before_closed = row 1 3
+abbrev pub next_spent_before_closed : Scene
+next_spent_before_closed = scene 1 3
     ((calls a (put v), answers (put_is 0))
     ∷ (calls a take, answers (take_is 0 v))
     ∷ (calls a (put w), answers (put_is 1))
@@ -141,8 +141,8 @@ next_spent_before_closed = row 1 3
     ∷ [])
 
 -- no free cell, and the tag of their top at the limit: the queue is full
-abbrev pub null_before_limit : Row
-null_before_limit = row 2 2
+abbrev pub null_before_limit : Scene
+null_before_limit = scene 2 2
     ((calls a (put x), answers (put_is 0))
     ∷ (calls a (put y), answers (put_is 1))
     ∷ (calls a (put z), answers (full z))
@@ -151,8 +151,8 @@ null_before_limit = row 2 2
     ∷ [])
 
 -- shut before empty and before closed
-abbrev pub shut_before_empty : Row
-shut_before_empty = row 1 7
+abbrev pub shut_before_empty : Scene
+shut_before_empty = scene 1 7
     ((calls a ShutCall, answers (ShutAnswer true))
     ∷ (calls a take, answers (no_take Shut))
     ∷ (calls a CloseCall, answers (Close true))
@@ -162,8 +162,8 @@ shut_before_empty = row 1 7
     ∷ [])
 
 -- a close finds another tail, and so takes no link of the old one to be the last
-abbrev pub tail_before_link : Row
-tail_before_link = row 2 9
+abbrev pub tail_before_link : Scene
+tail_before_link = scene 2 9
     ((begins a CloseCall 1, again 1)
     ∷ (calls b (put x), answers (put_is 0))
     ∷ (calls b take, answers (take_is 0 x))
@@ -174,8 +174,8 @@ tail_before_link = row 2 9
     ∷ [])
 
 -- nor a null link, which another put has prepared by now
-abbrev pub tail_before_null_link : Row
-tail_before_null_link = row 2 9
+abbrev pub tail_before_null_link : Scene
+tail_before_null_link = scene 2 9
     ((begins a CloseCall 1, again 1)
     ∷ (calls b (put x), answers (put_is 0))
     ∷ (calls b take, answers (take_is 0 x))
@@ -185,16 +185,16 @@ tail_before_null_link = row 2 9
     ∷ [])
 
 -- nor a link to a node: it has nothing to move on
-abbrev pub tail_before_node : Row
-tail_before_node = row 2 9
+abbrev pub tail_before_node : Scene
+tail_before_node = scene 2 9
     ((begins a CloseCall 1, again 1)
     ∷ (calls b (put x), answers (put_is 0))
     ∷ (steps a 20, ended (Close true) 7)
     ∷ [])
 
 -- a take whose head is gone moves no tail
-abbrev pub head_before_tail : Row
-head_before_tail = row 2 9
+abbrev pub head_before_tail : Scene
+head_before_tail = scene 2 9
     ((begins c (put x) 13, again 13)
     ∷ (begins a take 3, again 3)
     ∷ (calls b take, answers (take_is 0 x))
@@ -202,8 +202,8 @@ head_before_tail = row 2 9
     ∷ [])
 
 -- a take finds another head, and so takes no link of the old one to be the first
-abbrev pub head_before_link : Row
-head_before_link = row 2 9
+abbrev pub head_before_link : Scene
+head_before_link = scene 2 9
     ((begins a take 1, again 1)
     ∷ (calls b (put x), answers (put_is 0))
     ∷ (calls b take, answers (take_is 0 x))
@@ -213,8 +213,8 @@ head_before_link = row 2 9
     ∷ [])
 
 -- nor for the mark
-abbrev pub head_before_mark : Row
-head_before_mark = row 2 9
+abbrev pub head_before_mark : Scene
+head_before_mark = scene 2 9
     ((begins a take 1, again 1)
     ∷ (calls b (put x), answers (put_is 0))
     ∷ (calls b take, answers (take_is 0 x))
@@ -226,8 +226,8 @@ head_before_mark = row 2 9
     ∷ [])
 
 -- a look finds another head too
-abbrev pub head_before_answer : Row
-head_before_answer = row 2 9
+abbrev pub head_before_answer : Scene
+head_before_answer = scene 2 9
     ((begins a LookCall 1, again 1)
     ∷ (calls b (put x), answers (put_is 0))
     ∷ (calls b take, answers (take_is 0 x))
@@ -236,8 +236,8 @@ head_before_answer = row 2 9
     ∷ [])
 
 -- a count alone, with a tail that a put left behind, and one that begins again since another has taken
-abbrev pub counts : Row
-counts = row 2 9
+abbrev pub counts : Scene
+counts = scene 2 9
     ((begins a LenCall 40, ended (Len 0) 4)
     ∷ (begins b (put x) 13, again 13)
     ∷ (begins a LenCall 40, ended (Len 1) 4)

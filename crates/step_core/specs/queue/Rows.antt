@@ -7,11 +7,11 @@ use Rattle.queue_machine.specs.declared.lines.Call.TheVariants.{Close as CloseCa
 use Rattle.step_core.specs.Scripts.{Reply, curtain, replies, calls, begins, steps, finish, answers, again, ended, rest}
 use Rattle.queue_machine.specs.Answers.{shape}
 use Rattle.step_core.specs.Letters.{a, b, c, u, v, w, x, y, z}
-use Rattle.step_core.specs.queue.Cast.{Row, row, plays, put, take, put_is, full, put_closed, cells_spent, next_spent, take_is, no_take}
+use Rattle.step_core.specs.queue.Cast.{Scene, scene, plays, put, take, put_is, full, put_closed, cells_spent, next_spent, take_is, no_take}
 
 -- one cell
-abbrev pub smallest : Row
-smallest = row 1 7
+abbrev pub smallest : Scene
+smallest = scene 1 7
     ((calls a (put x), answers (put_is 0))
     ∷ (calls a (put y), answers (full y))
     ∷ (calls a take, answers (take_is 0 x))
@@ -20,8 +20,8 @@ smallest = row 1 7
     ∷ [])
 
 -- how many steps a put and a take make alone
-abbrev pub alone : Row
-alone = row 2 7
+abbrev pub alone : Scene
+alone = scene 2 7
     ((begins a (put x) 13, again 13)
     ∷ (steps a 1, ended (put_is 0) 14)
     ∷ (begins a take 11, again 11)
@@ -29,8 +29,8 @@ alone = row 2 7
     ∷ [])
 
 -- a full put, an empty take, look, close, shut
-abbrev pub alone_refused : Row
-alone_refused = row 1 15
+abbrev pub alone_refused : Scene
+alone_refused = scene 1 15
     ((begins a take 40, ended (no_take Empty) 4)
     ∷ (calls a (put x), answers (put_is 0))
     ∷ (begins a (put y) 40, ended (full y) 4)
@@ -40,8 +40,8 @@ alone_refused = row 1 15
     ∷ [])
 
 -- full, although no value is there: a put holds the cell
-abbrev pub full_and_empty : Row
-full_and_empty = row 1 7
+abbrev pub full_and_empty : Scene
+full_and_empty = scene 1 7
     ((begins a (put x) 3, again 3)
     ∷ (calls b (put y), answers (full y))
     ∷ (steps a 20, ended (put_is 0) 14)
@@ -49,16 +49,16 @@ full_and_empty = row 1 7
     ∷ [])
 
 -- a take moves the tail that a put left behind
-abbrev pub helped : Row
-helped = row 2 7
+abbrev pub helped : Scene
+helped = scene 2 7
     ((begins a (put x) 13, again 13)
     ∷ (begins b take 20, ended (take_is 0 x) 17)
     ∷ (steps a 1, ended (put_is 0) 14)
     ∷ [])
 
 -- a take holds its cell until it gives it back
-abbrev pub taker_holds : Row
-taker_holds = row 1 7
+abbrev pub taker_holds : Scene
+taker_holds = scene 1 7
     ((calls a (put x), answers (put_is 0))
     ∷ (begins a take 6, again 6)
     ∷ (calls b (put y), answers (full y))
@@ -68,8 +68,8 @@ taker_holds = row 1 7
     ∷ [])
 
 -- closed comes before full
-abbrev pub closed_before_full : Row
-closed_before_full = row 1 7
+abbrev pub closed_before_full : Scene
+closed_before_full = scene 1 7
     ((calls a (put x), answers (put_is 0))
     ∷ (calls a CloseCall, answers (Close true))
     ∷ (calls a (put y), answers (put_closed y))
@@ -81,8 +81,8 @@ closed_before_full = row 1 7
     ∷ [])
 
 -- a close overtakes a put that is about to link its node
-abbrev pub close_overtakes_put : Row
-close_overtakes_put = row 2 7
+abbrev pub close_overtakes_put : Scene
+close_overtakes_put = scene 2 7
     ((begins a (put x) 12, again 12)
     ∷ (calls b CloseCall, answers (Close true))
     ∷ (steps a 1, again 13)
@@ -92,8 +92,8 @@ close_overtakes_put = row 2 7
     ∷ [])
 
 -- the tag of the free cells at the limit
-abbrev pub cells_worn : Row
-cells_worn = row 4 2
+abbrev pub cells_worn : Scene
+cells_worn = scene 4 2
     ((calls a (put x), answers (put_is 0))
     ∷ (calls a (put y), answers (put_is 1))
     ∷ (begins a (put z) 1, ended (cells_spent 2 z) 1)
@@ -103,8 +103,8 @@ cells_worn = row 4 2
     ∷ [])
 
 -- the tag of a link near the limit
-abbrev pub next_worn : Row
-next_worn = row 1 3
+abbrev pub next_worn : Scene
+next_worn = scene 1 3
     ((calls a (put v), answers (put_is 0))
     ∷ (calls a take, answers (take_is 0 v))
     ∷ (calls a (put w), answers (put_is 1))
@@ -114,8 +114,8 @@ next_worn = row 1 3
     ∷ [])
 
 -- what is left
-abbrev pub left_over : Row
-left_over = row 3 7
+abbrev pub left_over : Scene
+left_over = scene 3 7
     ((calls a (put x), answers (put_is 0))
     ∷ (calls a (put y), answers (put_is 1))
     ∷ (calls a (put z), answers (put_is 2))
@@ -124,16 +124,16 @@ left_over = row 3 7
     ∷ [])
 
 -- a put that stops after its link has put its value
-abbrev pub stopped_after_link : Row
-stopped_after_link = row 2 7
+abbrev pub stopped_after_link : Scene
+stopped_after_link = scene 2 7
     ((calls a (put x), answers (put_is 0))
     ∷ (begins b (put y) 13, again 13)
     ∷ (finish, rest (x ∷ y ∷ []))
     ∷ [])
 
 -- at the lost exchange HEAD names the old node again, with another tag
-abbrev pub same_head_other_tag : Row
-same_head_other_tag = row 1 15
+abbrev pub same_head_other_tag : Scene
+same_head_other_tag = scene 1 15
     ((calls b (put x), answers (put_is 0))
     ∷ (begins a take 5, again 5)
     ∷ (calls b take, answers (take_is 0 x))
@@ -146,8 +146,8 @@ same_head_other_tag = row 1 15
     ∷ [])
 
 -- a link of a node that was used again
-abbrev pub stale_link : Row
-stale_link = row 2 15
+abbrev pub stale_link : Scene
+stale_link = scene 2 15
     ((begins a (put x) 12, again 12)
     ∷ (calls b (put y), answers (put_is 0))
     ∷ (calls b take, answers (take_is 0 y))
@@ -159,8 +159,8 @@ stale_link = row 2 15
     ∷ [])
 
 -- at the lost exchange NODES names the old node again, with another tag
-abbrev pub same_node_other_tag : Row
-same_node_other_tag = row 3 15
+abbrev pub same_node_other_tag : Scene
+same_node_other_tag = scene 3 15
     ((begins a (put x) 5, again 5)
     ∷ (calls b (put y), answers (put_is 0))
     ∷ (begins c (put z) 6, again 6)
@@ -173,8 +173,8 @@ same_node_other_tag = row 3 15
     ∷ [])
 
 -- a shut overtakes a take
-abbrev pub shut_queue : Row
-shut_queue = row 2 7
+abbrev pub shut_queue : Scene
+shut_queue = scene 2 7
     ((calls a (put x), answers (put_is 0))
     ∷ (calls a (put y), answers (put_is 1))
     ∷ (begins b take 5, again 5)
@@ -191,8 +191,8 @@ shut_queue = row 2 7
     ∷ [])
 
 -- many lost exchanges
-abbrev pub longest : Row
-longest = row 3 15
+abbrev pub longest : Scene
+longest = scene 3 15
     ((begins a (put x) 2, again 2)
     ∷ (calls b (put y), answers (put_is 0))
     ∷ (begins c (put z) 13, again 13)

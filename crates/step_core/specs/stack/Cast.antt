@@ -42,18 +42,18 @@ abbrev pub plays : Shape → Players
 plays s = player (λ shape. stack shape) s
 
 -- a script for a stack of this shape, each line with its reply
-abbrev pub Row : Type 0
-Row = Shape × List (Says (Call ℕ) × Reply (Answer ℕ))
+abbrev pub Scene : Type 0
+Scene = Shape × List (Says (Call ℕ) × Reply (Answer ℕ))
 
-abbrev pub row : ℕ → ℕ → List (Says (Call ℕ) × Reply (Answer ℕ)) → Row
-row n limit script = (shape n limit, script)
+abbrev pub scene : ℕ → ℕ → List (Says (Call ℕ) × Reply (Answer ℕ)) → Scene
+scene n limit script = (shape n limit, script)
 
--- the stack plays a row; with other steps, the first k lines get their replies and the next one gets another
-abbrev pub Plays : Row → Type 0
-Plays row = scripts.Plays (plays row.0) row.1
+-- the stack plays a scene; with other steps, the first k lines get their replies and the next one gets another
+abbrev pub Plays : Scene → Type 0
+Plays scene = scripts.Plays (plays scene.0) scene.1
 
-abbrev pub Fails : Moves → Row → ℕ → Reply (Answer ℕ) → Type 0
-Fails moves row k other = scripts.Fails (player (stack_with moves) row.0) row.1 k other
+abbrev pub Fails : Moves → Scene → ℕ → Reply (Answer ℕ) → Type 0
+Fails moves scene k other = scripts.Fails (player (stack_with moves) scene.0) scene.1 k other
 
 -- calls
 abbrev pub put : ℕ → Call ℕ

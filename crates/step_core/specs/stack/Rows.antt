@@ -6,11 +6,11 @@ use Rattle.stack_machine.specs.declared.lines.Answer.TheVariants.{Close, Shut as
 use Rattle.stack_machine.specs.declared.lines.Call.TheVariants.{Close as CloseCall, Shut as ShutCall, Look as LookCall}
 use Rattle.step_core.specs.Scripts.{calls, begins, steps, finish, answers, again, ended, rest}
 use Rattle.step_core.specs.Letters.{a, b, c, t, u, v, w, x, y, z}
-use Rattle.step_core.specs.stack.Cast.{Row, row, put, range, take, fold, reversed_fold, put_is, range_is, full, put_closed, top_spent, free_spent, take_is, no_take, fold_is, no_fold}
+use Rattle.step_core.specs.stack.Cast.{Scene, scene, put, range, take, fold, reversed_fold, put_is, range_is, full, put_closed, top_spent, free_spent, take_is, no_take, fold_is, no_fold}
 
 -- how many steps each call makes alone: put and take, a full put, an empty take, close, shut, look
-abbrev pub alone : Row
-alone = row 1 15
+abbrev pub alone : Scene
+alone = scene 1 15
     ((begins a take 40, ended (no_take Empty) 1)
     ∷ (begins a (put x) 40, ended (put_is 0) 6)
     ∷ (begins a (put y) 40, ended (full (y ∷ [])) 2)
@@ -21,8 +21,8 @@ alone = row 1 15
     ∷ [])
 
 -- at the lost exchange the top names the old node again, with tag 5 where a had read tag 2
-abbrev pub same_node_other_tag : Row
-same_node_other_tag = row 3 15
+abbrev pub same_node_other_tag : Scene
+same_node_other_tag = scene 3 15
     ((calls b (put x), answers (put_is 0))
     ∷ (calls b (put y), answers (put_is 1))
     ∷ (begins a take 2, again 2)
@@ -36,8 +36,8 @@ same_node_other_tag = row 3 15
     ∷ [])
 
 -- the top's tag is at the limit
-abbrev pub spent_top : Row
-spent_top = row 2 2
+abbrev pub spent_top : Scene
+spent_top = scene 2 2
     ((calls a (put x), answers (put_is 0))
     ∷ (calls a (put y), answers (put_is 1))
     ∷ (calls a (put z), answers (top_spent 2 (z ∷ [])))
@@ -49,16 +49,16 @@ spent_top = row 2 2
     ∷ [])
 
 -- a range goes in by one exchange, as much of it as finds nodes
-abbrev pub ranges : Row
-ranges = row 3 15
+abbrev pub ranges : Scene
+ranges = scene 3 15
     ((calls a (range 1 (2 ∷ 3 ∷ 4 ∷ 5 ∷ [])), answers (range_is 0 (4 ∷ 5 ∷ [])))
     ∷ (calls a take, answers (take_is 1 3))
     ∷ (calls a (range 6 (7 ∷ [])), answers (range_is 2 (7 ∷ [])))
     ∷ (calls a take, answers (take_is 3 6))
     ∷ [])
 
-abbrev pub folds : Row
-folds = row 3 15
+abbrev pub folds : Scene
+folds = scene 3 15
     ((calls a (put x), answers (put_is 0))
     ∷ (calls a (put y), answers (put_is 1))
     ∷ (calls a (put z), answers (put_is 2))
@@ -73,8 +73,8 @@ folds = row 3 15
     ∷ [])
 
 -- what is left, from the top down
-abbrev pub left_over : Row
-left_over = row 3 7
+abbrev pub left_over : Scene
+left_over = scene 3 7
     ((calls a (put x), answers (put_is 0))
     ∷ (calls a (put y), answers (put_is 1))
     ∷ (calls a (put z), answers (put_is 2))
@@ -84,31 +84,31 @@ left_over = row 3 7
     ∷ [])
 
 -- a close overtakes a put that holds a node
-abbrev pub closed_under_a_put : Row
-closed_under_a_put = row 1 7
+abbrev pub closed_under_a_put : Scene
+closed_under_a_put = scene 1 7
     ((begins a (put x) 3, again 3)
     ∷ (calls b CloseCall, answers (Close true))
     ∷ (steps a 20, ended (put_closed (x ∷ [])) 7)
     ∷ (calls b take, answers (no_take Closed))
     ∷ [])
 
-abbrev pub range_spent : Row
-range_spent = row 3 2
+abbrev pub range_spent : Scene
+range_spent = scene 3 2
     ((calls a (range x (y ∷ z ∷ [])), answers (range_is 0 (z ∷ [])))
     ∷ (calls a (range z []), answers (free_spent 2 (z ∷ [])))
     ∷ (calls a take, answers (take_is 1 y))
     ∷ (calls a fold, answers (no_fold (Spent TopWord 2)))
     ∷ [])
 
-abbrev pub range_closed : Row
-range_closed = row 2 7
+abbrev pub range_closed : Scene
+range_closed = scene 2 7
     ((calls a CloseCall, answers (Close true))
     ∷ (calls a (range x (y ∷ [])), answers (put_closed (x ∷ y ∷ [])))
     ∷ (calls a fold, answers (no_fold Closed))
     ∷ [])
 
-abbrev pub range_full : Row
-range_full = row 1 7
+abbrev pub range_full : Scene
+range_full = scene 1 7
     ((calls a (put x), answers (put_is 0))
     ∷ (calls a (range y (z ∷ [])), answers (full (y ∷ z ∷ [])))
     ∷ (calls b fold, answers (fold_is 1 (x ∷ [])))
@@ -119,8 +119,8 @@ range_full = row 1 7
     ∷ [])
 
 -- both tags at their limits
-abbrev pub spent_free : Row
-spent_free = row 2 2
+abbrev pub spent_free : Scene
+spent_free = scene 2 2
     ((calls a (put x), answers (put_is 0))
     ∷ (calls a take, answers (take_is 1 x))
     ∷ (calls a (put y), answers (top_spent 2 (y ∷ [])))
@@ -131,8 +131,8 @@ spent_free = row 2 2
     ∷ (calls a take, answers (no_take Closed))
     ∷ [])
 
-abbrev pub shut_stack : Row
-shut_stack = row 2 7
+abbrev pub shut_stack : Scene
+shut_stack = scene 2 7
     ((calls a (put x), answers (put_is 0))
     ∷ (calls a ShutCall, answers (ShutAnswer true))
     ∷ (calls a (put y), answers (put_is 1))
@@ -142,8 +142,8 @@ shut_stack = row 2 7
     ∷ [])
 
 -- a close overtakes a put whose node is linked, and the tag is at the limit by then
-abbrev pub closed_before_spent_top : Row
-closed_before_spent_top = row 2 2
+abbrev pub closed_before_spent_top : Scene
+closed_before_spent_top = scene 2 2
     ((begins a (put x) 3, again 3)
     ∷ (calls b (put y), answers (put_is 0))
     ∷ (calls b take, answers (take_is 1 y))
@@ -153,8 +153,8 @@ closed_before_spent_top = row 2 2
     ∷ [])
 
 -- a shut that has read the top finds it shut at its exchange, and looks again
-abbrev pub shut_is_overtaken : Row
-shut_is_overtaken = row 2 7
+abbrev pub shut_is_overtaken : Scene
+shut_is_overtaken = scene 2 7
     ((calls a (put x), answers (put_is 0))
     ∷ (begins a ShutCall 1, again 1)
     ∷ (calls b ShutCall, answers (ShutAnswer true))
@@ -163,8 +163,8 @@ shut_is_overtaken = row 2 7
     ∷ (finish, rest (x ∷ []))
     ∷ [])
 
-abbrev pub close_is_overtaken : Row
-close_is_overtaken = row 2 7
+abbrev pub close_is_overtaken : Scene
+close_is_overtaken = scene 2 7
     ((calls a (put x), answers (put_is 0))
     ∷ (begins a CloseCall 1, again 1)
     ∷ (calls b (put y), answers (put_is 1))
@@ -174,8 +174,8 @@ close_is_overtaken = row 2 7
     ∷ (finish, rest (y ∷ x ∷ []))
     ∷ [])
 
-abbrev pub folds_of_a_shut_stack : Row
-folds_of_a_shut_stack = row 2 7
+abbrev pub folds_of_a_shut_stack : Scene
+folds_of_a_shut_stack = scene 2 7
     ((calls a (put x), answers (put_is 0))
     ∷ (calls a ShutCall, answers (ShutAnswer true))
     ∷ (calls a fold, answers (no_fold Shut))
@@ -184,8 +184,8 @@ folds_of_a_shut_stack = row 2 7
     ∷ (finish, rest (x ∷ []))
     ∷ [])
 
-abbrev pub empty_and_shut : Row
-empty_and_shut = row 1 7
+abbrev pub empty_and_shut : Scene
+empty_and_shut = scene 1 7
     ((calls a ShutCall, answers (ShutAnswer true))
     ∷ (calls a take, answers (no_take Shut))
     ∷ (calls a fold, answers (no_fold Shut))
@@ -195,16 +195,16 @@ empty_and_shut = row 1 7
     ∷ [])
 
 -- a put that has found no node sees the close, though the tag is at the limit
-abbrev pub closed_before_spent_at_last : Row
-closed_before_spent_at_last = row 1 1
+abbrev pub closed_before_spent_at_last : Scene
+closed_before_spent_at_last = scene 1 1
     ((calls a (put x), answers (put_is 0))
     ∷ (calls a CloseCall, answers (Close true))
     ∷ (calls a (put y), answers (put_closed (y ∷ [])))
     ∷ [])
 
 -- closed comes before full and before empty, and shut before the limit
-abbrev pub closed_before_full : Row
-closed_before_full = row 1 7
+abbrev pub closed_before_full : Scene
+closed_before_full = scene 1 7
     ((calls a (put x), answers (put_is 0))
     ∷ (calls a CloseCall, answers (Close true))
     ∷ (calls a (put y), answers (put_closed (y ∷ [])))
@@ -212,8 +212,8 @@ closed_before_full = row 1 7
     ∷ (calls a take, answers (no_take Closed))
     ∷ [])
 
-abbrev pub shut_before_spent : Row
-shut_before_spent = row 2 2
+abbrev pub shut_before_spent : Scene
+shut_before_spent = scene 2 2
     ((calls a (put x), answers (put_is 0))
     ∷ (calls a (put y), answers (put_is 1))
     ∷ (calls a ShutCall, answers (ShutAnswer true))
@@ -221,16 +221,16 @@ shut_before_spent = row 2 2
     ∷ [])
 
 -- a put overtakes a shut, and a close a take
-abbrev pub put_overtakes_shut : Row
-put_overtakes_shut = row 2 7
+abbrev pub put_overtakes_shut : Scene
+put_overtakes_shut = scene 2 7
     ((calls a (put x), answers (put_is 0))
     ∷ (begins a ShutCall 1, again 1)
     ∷ (calls b (put y), answers (put_is 1))
     ∷ (steps a 1, again 2)
     ∷ [])
 
-abbrev pub close_overtakes_take : Row
-close_overtakes_take = row 2 7
+abbrev pub close_overtakes_take : Scene
+close_overtakes_take = scene 2 7
     ((calls a (put x), answers (put_is 0))
     ∷ (begins a take 2, again 2)
     ∷ (calls b CloseCall, answers (Close true))
@@ -239,8 +239,8 @@ close_overtakes_take = row 2 7
     ∷ [])
 
 -- how many steps folds of two values make alone
-abbrev pub folds_alone : Row
-folds_alone = row 3 15
+abbrev pub folds_alone : Scene
+folds_alone = scene 3 15
     ((calls a (put x), answers (put_is 0))
     ∷ (calls a (put y), answers (put_is 1))
     ∷ (begins a fold 40, ended (fold_is 2 (y ∷ x ∷ [])) 7)
