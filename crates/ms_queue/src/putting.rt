@@ -122,7 +122,7 @@ impl<T> Queue<T> {
     }
 
     /// A put's steps on its fast path, as long as nobody is faster.
-    #[inline]
+    #[inline(always)]
     pub(crate) fn put_fast(
         &self,
         by: Pass<T>,
@@ -141,7 +141,7 @@ impl<T> Queue<T> {
     }
 
     // First those that take a cell.
-    #[inline(always)]
+    #[inline]
     fn put_fast_cell(
         &self,
         by: Pass<T>,
@@ -165,7 +165,7 @@ impl<T> Queue<T> {
     }
 
     // Then those that take a node.
-    #[inline(always)]
+    #[inline]
     fn put_fast_node(
         &self,
         by: Pass<T>,
@@ -194,7 +194,7 @@ impl<T> Queue<T> {
     }
 
     // Those that prepare the node.
-    #[inline(always)]
+    #[inline]
     fn put_fast_prepare(
         &self,
         by: Pass<T>,
@@ -223,7 +223,7 @@ impl<T> Queue<T> {
     }
 
     // Those that go to the end of the chain.
-    #[inline(always)]
+    #[inline]
     fn put_fast_seek(
         &self,
         by: Pass<T>,
@@ -244,7 +244,7 @@ impl<T> Queue<T> {
     }
 
     // And those that link the node there and swing the tail.
-    #[inline(always)]
+    #[inline]
     fn put_fast_link(
         &self,
         by: Pass<T>,

@@ -86,7 +86,7 @@ impl<T> Queue<T> {
     }
 
     /// A take's steps on its fast path, as long as nobody is faster.
-    #[inline]
+    #[inline(always)]
     pub(crate) fn take_fast(
         &self,
         by: Pass<T>,
@@ -103,7 +103,7 @@ impl<T> Queue<T> {
     }
 
     // First those that read the head, the tail and the first node.
-    #[inline(always)]
+    #[inline]
     fn take_fast_read(
         &self,
         by: Pass<T>,
@@ -126,7 +126,7 @@ impl<T> Queue<T> {
     }
 
     // Then those that take the first value.
-    #[inline(always)]
+    #[inline]
     fn take_fast_head(
         &self,
         by: Pass<T>,
@@ -153,7 +153,7 @@ impl<T> Queue<T> {
     }
 
     // Those that give the old dummy back.
-    #[inline(always)]
+    #[inline]
     fn take_fast_node(
         &self,
         by: Pass<T>,
@@ -175,7 +175,7 @@ impl<T> Queue<T> {
     }
 
     // And those that give the cell back.
-    #[inline(always)]
+    #[inline]
     fn take_fast_cell(
         &self,
         by: Pass<T>,

@@ -48,6 +48,41 @@ pub fn to_the_end<
 {
     match first {
         (pass, Next::Done(answer)) => (pass, answer),
+        other => go_on::<R, C, T, L, O, M, A, S, N>(rt, table, on, other, operation),
+    }
+}
+
+// The same where the first steps have not ended it. A function of its own, so that a caller's code
+// has nothing but the fast path.
+#[inline(never)]
+fn go_on<
+    R: Wait,
+    C,
+    T,
+    L,
+    O,
+    M: ListMachine<T, L, O, N>,
+    A,
+    S: Code<C, T, L, O, M, A, N>,
+    const N: usize,
+>(
+    rt: &R,
+    table: &Shared<Option<T>, View<T, L>, Limits, Running<O, M>>,
+    on: &C,
+    first: (Pass<T, L>, Next<S, A>),
+    operation: &O,
+) -> (Pass<T, L>, A)
+    requires table { (table.now.key ≡ S.key on.now) × (table.now.table_id ≡ S.id on.now) }
+    requires ran { (by : Pass T L) × Ran (M.machine (S.key on.now)) S.operation S.line S.slots
+        (S.knows on.now) S.answer (S.id on.now) operation.now by first.0 first.1 }
+    ensures { (by : Pass T L) → Ran (M.machine (S.key on.now)) S.operation S.line S.slots
+        (S.knows on.now) S.answer (S.id on.now) operation.now by first.0 first.1
+        → IsPassOn (M.machine (S.key on.now)) (S.id on.now) result.0
+        × Ended (M.machine (S.key on.now)) operation.now result.0.seat.me.0
+        (begun_of (M.machine (S.key on.now)) by) (S.answer operation.now result.1) }
+{
+    match first {
+        (pass, Next::Done(answer)) => (pass, answer),
         (pass, Next::On(at)) => {
             let pause = Pause::first();
             run_on::<R, C, T, L, O, M, A, S, N>(rt, table, on, pass, at, operation, pause)
@@ -59,9 +94,8 @@ pub fn to_the_end<
     }
 }
 
-// Runs an operation that is under way until it ends. A function of its own, so that a caller's code
-// has nothing but the fast path.
-#[inline(never)]
+// Runs an operation that is under way until it ends.
+#[inline]
 fn run_on<
     R: Wait,
     C,
