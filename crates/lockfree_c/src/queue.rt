@@ -82,11 +82,8 @@ impl QueuePass {
     {
         match self.stage.resting.take() {
             Some(by) => {
-                let made = self.queue.try_put(by, value, 0);
-                match self.stage.settle(made) {
-                    Some(answer) => answer,
-                    None => self.go_on(tries),
-                }
+                let made = self.queue.try_put(by, value, tries);
+                self.stage.leave(made)
             }
             None => Answer::of(UNDER_WAY),
         }
@@ -101,11 +98,8 @@ impl QueuePass {
     {
         match self.stage.resting.take() {
             Some(by) => {
-                let made = self.queue.try_take(by, 0);
-                match self.stage.settle(made) {
-                    Some(answer) => answer,
-                    None => self.go_on(tries),
-                }
+                let made = self.queue.try_take(by, tries);
+                self.stage.leave(made)
             }
             None => Answer::of(UNDER_WAY),
         }
@@ -126,9 +120,7 @@ impl QueuePass {
         }
     }
 
-    /// Goes on with the call that the pass is in, if it is in one. A function of its own, so that a
-    /// put and a take on their fast path have no locals for it, and need not clear them.
-    #[inline(never)]
+    /// Goes on with the call that the pass is in, if it is in one.
     pub fn go_on(&mut self, tries: u64) -> Answer
         requires { IsQueuePass self.old }
         ensures of { IsQueuePass self.new }

@@ -13,7 +13,7 @@ pub struct Stage<P, O> {
 }
 
 impl<P: Drop, O: Drop> Stage<P, O> {
-    ghost use Rattle.lockfree_c.specs.Stages.{LeftBy, Settled};
+    ghost use Rattle.lockfree_c.specs.Stages.{LeftBy};
 
     /// A pass between its calls.
     #[inline]
@@ -26,33 +26,21 @@ impl<P: Drop, O: Drop> Stage<P, O> {
         }
     }
 
-    /// Keeps what a tried call gave back: its answer, or none where the call is under way.
-    #[inline(always)]
-    pub fn settle(&mut self, made: Stepped<O, P, Reply<u64>>) -> Option<Answer>
-        requires { (self.old.resting ≡ None) × (self.old.under_way ≡ None) }
-        ensures { Settled made self.new result }
-    {
-        match made {
-            Stepped::Again(operation) => {
-                self.under_way = Some(operation);
-                None
-            }
-            Stepped::Done(by, said) => {
-                self.resting = Some(by);
-                Some(Answer::of_reply(said))
-            }
-        }
-    }
-
-    /// The same, answered at once: a call that is under way is busy.
+    /// Keeps what a tried call gave back, and answers: a call that is under way is busy.
     #[inline(always)]
     pub fn leave(&mut self, made: Stepped<O, P, Reply<u64>>) -> Answer
         requires { (self.old.resting ≡ None) × (self.old.under_way ≡ None) }
         ensures { LeftBy made self.new result }
     {
-        match self.settle(made) {
-            Some(answer) => answer,
-            None => Answer::of(BUSY),
+        match made {
+            Stepped::Again(operation) => {
+                self.under_way = Some(operation);
+                Answer::of(BUSY)
+            }
+            Stepped::Done(by, said) => {
+                self.resting = Some(by);
+                Answer::of_reply(said)
+            }
         }
     }
 }
