@@ -81,7 +81,7 @@ impl BoundedCalls<u64> for Stack<u64> {
         requires { IsPassOf self.now by }
         ensures { TriedFrom (stack_reading self.now) (pass_in by) (Put value) result }
     {
-        match self.put_for(by, value, 0) {
+        match self.put_at_once(by, value) {
             Stepped::Again(op) => self.try_on(Operation::Put(op), tries),
             Stepped::Done(pass, answer) => Stepped::Done(pass, Reply::Put(answer)),
         }
@@ -100,7 +100,7 @@ impl BoundedCalls<u64> for Stack<u64> {
         requires { IsPassOf self.now by }
         ensures { TriedFrom (stack_reading self.now) (pass_in by) Take result }
     {
-        match self.take_for(by, 0) {
+        match self.take_at_once(by) {
             Stepped::Again(op) => self.try_on(Operation::Take(op), tries),
             Stepped::Done(pass, answer) => Stepped::Done(pass, Reply::Take(answer)),
         }

@@ -16,13 +16,6 @@ module _ {P O : Type 0} where
   LeftBy (Again next) s a = (s.resting ≡ None) × (s.under_way ≡ Some next) × (a.code ≡ BUSY)
   LeftBy (Done back said) s a = (s.resting ≡ Some back) × (s.under_way ≡ None) × Says said a
 
-  -- the same where a call that is under way has no answer yet
-  abbrev pub Settled : Stepped O P (Reply ℕ) → Stage P O → Option Answer → Type 0
-  Settled (Again next) s (Some a) = ⊥
-  Settled (Again next) s None = (s.resting ≡ None) × (s.under_way ≡ Some next)
-  Settled (Done back said) s (Some a) = LeftBy (Done back said) s a
-  Settled (Done back said) s None = ⊥
-
   module _ (r : Reading ℕ P O) where
     -- either a pass rests, or one call of it is under way
     abbrev pub IsStage : Stage P O → Type 0

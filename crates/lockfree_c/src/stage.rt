@@ -13,6 +13,7 @@ pub struct Stage<P, O> {
 }
 
 impl<P: Drop, O: Drop> Stage<P, O> {
+    ghost use Rattle.bounded_model.specs.declared.answers.Stepped.TheVariants.{Done};
     ghost use Rattle.lockfree_c.specs.Stages.{LeftBy};
 
     /// A pass between its calls.
@@ -26,8 +27,17 @@ impl<P: Drop, O: Drop> Stage<P, O> {
         }
     }
 
-    /// Keeps what a tried call gave back, and answers: a call that is under way is busy.
+    /// Keeps the pass of a call that has ended, and answers what that gave.
     #[inline(always)]
+    pub fn rest(&mut self, by: P, said: Reply<u64>) -> Answer
+        requires { self.old.under_way ≡ None }
+        ensures { LeftBy (Done by said) self.new result }
+    {
+        self.resting = Some(by);
+        Answer::of_reply(said)
+    }
+
+    /// Keeps what a tried call gave back, and answers: a call that is under way is busy.
     pub fn leave(&mut self, made: Stepped<O, P, Reply<u64>>) -> Answer
         requires { (self.old.resting ≡ None) × (self.old.under_way ≡ None) }
         ensures { LeftBy made self.new result }
@@ -37,10 +47,7 @@ impl<P: Drop, O: Drop> Stage<P, O> {
                 self.under_way = Some(operation);
                 Answer::of(BUSY)
             }
-            Stepped::Done(by, said) => {
-                self.resting = Some(by);
-                Answer::of_reply(said)
-            }
+            Stepped::Done(by, said) => self.rest(by, said),
         }
     }
 }
