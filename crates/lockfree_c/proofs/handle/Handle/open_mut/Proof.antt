@@ -26,7 +26,6 @@ use denote.Exit.{no}
 use denote.Follow.{follows, Part, lends_Part}
 use denote.Memory.{part_at, part_of, raw_all, mem, cell_at}
 use denote.Param.{param}
-use denote.Param.Laws.{Laws}
 use denote.RawPtr.{block_ptr}
 use denote.Ref.{MutRef, mut_vals, mut_Tells}
 use denote.Signature.{plain, mut_ref_to}
