@@ -255,7 +255,8 @@ struct latest {
 };
 inline thread_local latest last{0, nullptr};
 
-inline owner &look_up(const std::shared_ptr<core> &of) {
+// Apart from the calls, which find their pass in `last` mostly.
+[[gnu::cold, gnu::noinline]] inline owner &look_up(const std::shared_ptr<core> &of) {
     static thread_local cache all;
     owner &pass = all.pass_of(of);
     last = {of->number, &pass};
@@ -319,10 +320,11 @@ public:
 
 private:
     lockfree_handle &mine() {
-        if (last.number == inner->number) return last.pass->handle;
+        if (last.number == number) return last.pass->handle;
         return look_up(inner).handle;
     }
     std::shared_ptr<core> inner;
+    const std::uint64_t number = inner->number;
 };
 
 }  // namespace detail

@@ -81,8 +81,8 @@ impl BoundedCalls<u64> for Queue<u64> {
         requires { IsPassOf self.now by }
         ensures { TriedFrom (queue_reading self.now) (pass_in by) (Put value) result }
     {
-        match self.put_for(by, value, steps_for(tries)) {
-            Stepped::Again(op) => Stepped::Again(Operation::Put(op)),
+        match self.put_at_once(by, value) {
+            Stepped::Again(op) => self.try_on(Operation::Put(op), tries),
             Stepped::Done(pass, answer) => Stepped::Done(pass, Reply::Put(answer)),
         }
     }
@@ -100,12 +100,14 @@ impl BoundedCalls<u64> for Queue<u64> {
         requires { IsPassOf self.now by }
         ensures { TriedFrom (queue_reading self.now) (pass_in by) Take result }
     {
-        match self.take_for(by, steps_for(tries)) {
-            Stepped::Again(op) => Stepped::Again(Operation::Take(op)),
+        match self.take_at_once(by) {
+            Stepped::Again(op) => self.try_on(Operation::Take(op), tries),
             Stepped::Done(pass, answer) => Stepped::Done(pass, Reply::Take(answer)),
         }
     }
 
+    // A function of its own, so that its caller's code has nothing but the fast path.
+    #[inline(never)]
     fn try_on(
         &self,
         operation: Operation<PutOp<u64>, TakeOp<u64>, CloseOp<u64>, ShutOp<u64>, LookOp<u64>>,

@@ -2,4 +2,5 @@ pub mod Codes
 pub mod Stages
 pub mod Held
 pub mod Owned
+pub mod Lending
 pub mod Slots

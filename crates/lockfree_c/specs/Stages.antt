@@ -1,5 +1,5 @@
 -- Where a pass is, and how a call leaves it.
-use Rattle.std.specs.Prelude.{◌≡◌, ℕ, Option, Some, None, MatchOption}
+use Rattle.std.specs.Prelude.{◌≡◌, ℕ, Some, None, MatchOption}
 use Rattle.bounded_model.specs.declared.answers.Stepped.{Stepped}
 use Rattle.bounded_model.specs.declared.answers.Stepped.TheVariants.{Again, Done}
 use Rattle.bounded_model.specs.declared.commands.Command.{Command}
@@ -15,13 +15,6 @@ module _ {P O : Type 0} where
   abbrev pub LeftBy : Stepped O P (Reply ℕ) → Stage P O → Answer → Type 0
   LeftBy (Again next) s a = (s.resting ≡ None) × (s.under_way ≡ Some next) × (a.code ≡ BUSY)
   LeftBy (Done back said) s a = (s.resting ≡ Some back) × (s.under_way ≡ None) × Says said a
-
-  -- the same where a call that is under way has no answer yet
-  abbrev pub Settled : Stepped O P (Reply ℕ) → Stage P O → Option Answer → Type 0
-  Settled (Again next) s (Some a) = ⊥
-  Settled (Again next) s None = (s.resting ≡ None) × (s.under_way ≡ Some next)
-  Settled (Done back said) s (Some a) = LeftBy (Done back said) s a
-  Settled (Done back said) s None = ⊥
 
   module _ (r : Reading ℕ P O) where
     -- either a pass rests, or one call of it is under way

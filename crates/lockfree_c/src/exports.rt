@@ -70,122 +70,97 @@ pub extern "C" fn lockfree_split(alloc: Global, root: &mut Slot, pass: &mut Slot
     if pass.full {
         return IN_USE;
     }
-    match root.take(alloc) {
-        None => NO_HANDLE,
-        Some(held) => {
-            let mut held = held;
-            let made = split_from(alloc, &mut held);
-            root.put(held);
-            match made {
-                Ok(held) => {
-                    pass.put(held);
-                    OK
-                }
-                Err(code) => code,
-            }
+    if !root.full {
+        return NO_HANDLE;
+    }
+    match split_from(alloc, root.handle.open_mut()) {
+        Ok(held) => {
+            pass.put(held);
+            OK
         }
+        Err(code) => code,
     }
 }
 
 // Any call of what the slot holds.
-fn call(alloc: Global, pass: &mut Slot, command: Command<u64>, tries: u64) -> Answer
+fn call(pass: &mut Slot, command: Command<u64>, tries: u64) -> Answer
     requires { IsSlot pass.old }
     ensures of { IsSlot pass.new }
     ensures gives { SlotCalled pass.old command pass.new result }
 {
-    match pass.take(alloc) {
-        None => Answer::of(NO_HANDLE),
-        Some(held) => {
-            let mut held = held;
-            let answer = call_by(&mut held, command, tries);
-            pass.put(held);
-            answer
-        }
+    if !pass.full {
+        return Answer::of(NO_HANDLE);
     }
+    call_by(pass.handle.open_mut(), command, tries)
 }
 
 /// Puts a value.
 #[unsafe(no_mangle)]
-pub extern "C" fn lockfree_put(alloc: Global, pass: &mut Slot, value: u64, tries: u64) -> Answer
+pub extern "C" fn lockfree_put(pass: &mut Slot, value: u64, tries: u64) -> Answer
     requires { IsSlot pass.old }
     ensures of { IsSlot pass.new }
     ensures gives { SlotCalled pass.old (Put value) pass.new result }
 {
-    match pass.take(alloc) {
-        None => Answer::of(NO_HANDLE),
-        Some(held) => {
-            let mut held = held;
-            let answer = put_by(&mut held, value, tries);
-            pass.put(held);
-            answer
-        }
+    if !pass.full {
+        return Answer::of(NO_HANDLE);
     }
+    put_by(pass.handle.open_mut(), value, tries)
 }
 
 /// Takes a value.
 #[unsafe(no_mangle)]
-pub extern "C" fn lockfree_take(alloc: Global, pass: &mut Slot, tries: u64) -> Answer
+pub extern "C" fn lockfree_take(pass: &mut Slot, tries: u64) -> Answer
     requires { IsSlot pass.old }
     ensures of { IsSlot pass.new }
     ensures gives { SlotCalled pass.old Take pass.new result }
 {
-    match pass.take(alloc) {
-        None => Answer::of(NO_HANDLE),
-        Some(held) => {
-            let mut held = held;
-            let answer = take_by(&mut held, tries);
-            pass.put(held);
-            answer
-        }
+    if !pass.full {
+        return Answer::of(NO_HANDLE);
     }
+    take_by(pass.handle.open_mut(), tries)
 }
 
 /// Closes the container.
 #[unsafe(no_mangle)]
-pub extern "C" fn lockfree_close(alloc: Global, pass: &mut Slot, tries: u64) -> Answer
+pub extern "C" fn lockfree_close(pass: &mut Slot, tries: u64) -> Answer
     requires { IsSlot pass.old }
     ensures of { IsSlot pass.new }
     ensures gives { SlotCalled pass.old Close pass.new result }
 {
-    call(alloc, pass, Command::Close, tries)
+    call(pass, Command::Close, tries)
 }
 
 /// Shuts the container.
 #[unsafe(no_mangle)]
-pub extern "C" fn lockfree_shut(alloc: Global, pass: &mut Slot, tries: u64) -> Answer
+pub extern "C" fn lockfree_shut(pass: &mut Slot, tries: u64) -> Answer
     requires { IsSlot pass.old }
     ensures of { IsSlot pass.new }
     ensures gives { SlotCalled pass.old Shut pass.new result }
 {
-    call(alloc, pass, Command::Shut, tries)
+    call(pass, Command::Shut, tries)
 }
 
 /// Looks whether the container is empty.
 #[unsafe(no_mangle)]
-pub extern "C" fn lockfree_look(alloc: Global, pass: &mut Slot, tries: u64) -> Answer
+pub extern "C" fn lockfree_look(pass: &mut Slot, tries: u64) -> Answer
     requires { IsSlot pass.old }
     ensures of { IsSlot pass.new }
     ensures gives { SlotCalled pass.old Look pass.new result }
 {
-    call(alloc, pass, Command::Look, tries)
+    call(pass, Command::Look, tries)
 }
 
 /// Goes on with the call that returned `BUSY`.
 #[unsafe(no_mangle)]
-pub extern "C" fn lockfree_go_on(alloc: Global, pass: &mut Slot, tries: u64) -> Answer
+pub extern "C" fn lockfree_go_on(pass: &mut Slot, tries: u64) -> Answer
     requires { IsSlot pass.old }
     ensures of { IsSlot pass.new }
     ensures gives { SlotWentOn pass.old pass.new result }
 {
-    match pass.take(alloc) {
-        None => Answer::of(NO_HANDLE),
-        Some(held) => {
-            let mut held = held;
-            let answer = go_on_by(&mut held, tries);
-            pass.put(held);
-            answer
-        }
+    if !pass.full {
+        return Answer::of(NO_HANDLE);
     }
+    go_on_by(pass.handle.open_mut(), tries)
 }
 
 /// Gives up a root or a pass. The last of a container's handles frees it.

@@ -20,8 +20,8 @@ ghost use Rattle.lockfree_c.specs.Held.{
 use crate::answers::{Answer, BAD_CAPACITY, NO_CALL, NO_MEMORY, NO_PASS, UNDER_WAY};
 use crate::held::{QueuePass, QueueRoot};
 use crate::stage::Stage;
-use bounded_calls::BoundedCalls;
-use bounded_model::{Command, Container};
+use bounded_calls::{BoundedCalls, Operation};
+use bounded_model::{Command, Container, Reply, Stepped};
 use ms_queue::Queue;
 use std::alloc::Global;
 use std::sync::Arc;
@@ -81,13 +81,13 @@ impl QueuePass {
         ensures gives { QueueCalled self.old (Put value) self.new result }
     {
         match self.stage.resting.take() {
-            Some(by) => {
-                let made = self.queue.try_put(by, value, 0);
-                match self.stage.settle(made) {
-                    Some(answer) => answer,
-                    None => self.go_on(tries),
+            Some(by) => match self.queue.put_at_once(by, value) {
+                Stepped::Done(by, said) => self.stage.rest(by, Reply::Put(said)),
+                Stepped::Again(op) => {
+                    self.stage.under_way = Some(Operation::Put(op));
+                    self.go_on(tries)
                 }
-            }
+            },
             None => Answer::of(UNDER_WAY),
         }
     }
@@ -100,13 +100,13 @@ impl QueuePass {
         ensures gives { QueueCalled self.old Take self.new result }
     {
         match self.stage.resting.take() {
-            Some(by) => {
-                let made = self.queue.try_take(by, 0);
-                match self.stage.settle(made) {
-                    Some(answer) => answer,
-                    None => self.go_on(tries),
+            Some(by) => match self.queue.take_at_once(by) {
+                Stepped::Done(by, said) => self.stage.rest(by, Reply::Take(said)),
+                Stepped::Again(op) => {
+                    self.stage.under_way = Some(Operation::Take(op));
+                    self.go_on(tries)
                 }
-            }
+            },
             None => Answer::of(UNDER_WAY),
         }
     }

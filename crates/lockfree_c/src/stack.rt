@@ -20,8 +20,8 @@ ghost use Rattle.lockfree_c.specs.Held.{
 use crate::answers::{Answer, BAD_CAPACITY, NO_CALL, NO_MEMORY, NO_PASS, UNDER_WAY};
 use crate::held::{StackPass, StackRoot};
 use crate::stage::Stage;
-use bounded_calls::BoundedCalls;
-use bounded_model::{Command, Container};
+use bounded_calls::{BoundedCalls, Operation};
+use bounded_model::{Command, Container, Reply, Stepped};
 use std::alloc::Global;
 use std::sync::Arc;
 use tagged_index::{Limits, MAX_TAG};
@@ -81,10 +81,13 @@ impl StackPass {
         ensures gives { StackCalled self.old (Put value) self.new result }
     {
         match self.stage.resting.take() {
-            Some(by) => {
-                let made = self.stack.try_put(by, value, tries);
-                self.stage.leave(made)
-            }
+            Some(by) => match self.stack.put_at_once(by, value) {
+                Stepped::Done(by, said) => self.stage.rest(by, Reply::Put(said)),
+                Stepped::Again(op) => {
+                    self.stage.under_way = Some(Operation::Put(op));
+                    self.go_on(tries)
+                }
+            },
             None => Answer::of(UNDER_WAY),
         }
     }
@@ -97,10 +100,13 @@ impl StackPass {
         ensures gives { StackCalled self.old Take self.new result }
     {
         match self.stage.resting.take() {
-            Some(by) => {
-                let made = self.stack.try_take(by, tries);
-                self.stage.leave(made)
-            }
+            Some(by) => match self.stack.take_at_once(by) {
+                Stepped::Done(by, said) => self.stage.rest(by, Reply::Take(said)),
+                Stepped::Again(op) => {
+                    self.stage.under_way = Some(Operation::Take(op));
+                    self.go_on(tries)
+                }
+            },
             None => Answer::of(UNDER_WAY),
         }
     }
@@ -120,7 +126,9 @@ impl StackPass {
         }
     }
 
-    /// Goes on with the call that the pass is in, if it is in one.
+    /// Goes on with the call that the pass is in, if it is in one. A function of its own, so that a
+    /// put and a take on their fast path have no locals for it, and need not clear them.
+    #[inline(never)]
     pub fn go_on(&mut self, tries: u64) -> Answer
         requires { IsStackPass self.old }
         ensures of { IsStackPass self.new }

@@ -13,7 +13,8 @@ pub struct Stage<P, O> {
 }
 
 impl<P: Drop, O: Drop> Stage<P, O> {
-    ghost use Rattle.lockfree_c.specs.Stages.{LeftBy, Settled};
+    ghost use Rattle.bounded_model.specs.declared.answers.Stepped.TheVariants.{Done};
+    ghost use Rattle.lockfree_c.specs.Stages.{LeftBy};
 
     /// A pass between its calls.
     #[inline]
@@ -26,33 +27,27 @@ impl<P: Drop, O: Drop> Stage<P, O> {
         }
     }
 
-    /// Keeps what a tried call gave back: its answer, or none where the call is under way.
+    /// Keeps the pass of a call that has ended, and answers what that gave.
     #[inline(always)]
-    pub fn settle(&mut self, made: Stepped<O, P, Reply<u64>>) -> Option<Answer>
-        requires { (self.old.resting ≡ None) × (self.old.under_way ≡ None) }
-        ensures { Settled made self.new result }
+    pub fn rest(&mut self, by: P, said: Reply<u64>) -> Answer
+        requires { self.old.under_way ≡ None }
+        ensures { LeftBy (Done by said) self.new result }
     {
-        match made {
-            Stepped::Again(operation) => {
-                self.under_way = Some(operation);
-                None
-            }
-            Stepped::Done(by, said) => {
-                self.resting = Some(by);
-                Some(Answer::of_reply(said))
-            }
-        }
+        self.resting = Some(by);
+        Answer::of_reply(said)
     }
 
-    /// The same, answered at once: a call that is under way is busy.
-    #[inline(always)]
+    /// Keeps what a tried call gave back, and answers: a call that is under way is busy.
     pub fn leave(&mut self, made: Stepped<O, P, Reply<u64>>) -> Answer
         requires { (self.old.resting ≡ None) × (self.old.under_way ≡ None) }
         ensures { LeftBy made self.new result }
     {
-        match self.settle(made) {
-            Some(answer) => answer,
-            None => Answer::of(BUSY),
+        match made {
+            Stepped::Again(operation) => {
+                self.under_way = Some(operation);
+                Answer::of(BUSY)
+            }
+            Stepped::Done(by, said) => self.rest(by, said),
         }
     }
 }

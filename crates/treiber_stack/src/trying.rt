@@ -11,10 +11,62 @@ use crate::putting::{PutOp, put_operation};
 use crate::stack::{Pass, Stack};
 use crate::taking::TakeOp;
 use bounded_model::{PutRefused, Stepped, TakeRefused};
-use running::{Next, try_for};
+use running::{Next, Pause, try_for};
 use stack_table::Operation;
 
 impl<T> Stack<T> {
+    /// Puts a value on the fast path alone, with a wait where a compare-and-swap failed. All of it is
+    /// in the code of its caller.
+    #[inline(always)]
+    pub fn put_at_once(
+        &self,
+        by: Pass<T>,
+        value: T,
+    ) -> Stepped<PutOp<T>, Pass<T>, Result<u64, PutRefused<T>>>
+        requires { IsPassOf self.now by }
+        ensures { PutTried self.now value (pass_in by) result }
+    {
+        let operation = put_operation(&value);
+        let (pass, next) = self.put_on_fast_path(by, value, &operation);
+        match next {
+            Next::Done(answer) => Stepped::Done(pass, answer),
+            Next::On(at) => Stepped::Again(PutOp {
+                pass,
+                operation,
+                at,
+            }),
+            Next::Lost(at) => {
+                let _ = Pause::first().wait();
+                Stepped::Again(PutOp {
+                    pass,
+                    operation,
+                    at,
+                })
+            }
+        }
+    }
+
+    /// Takes a value, in the same way.
+    #[inline(always)]
+    pub fn take_at_once(
+        &self,
+        by: Pass<T>,
+    ) -> Stepped<TakeOp<T>, Pass<T>, Result<(T, u64), TakeRefused>>
+        requires { IsPassOf self.now by }
+        ensures { TakeTried self.now (pass_in by) result }
+    {
+        let take = Operation::Take;
+        let (pass, next) = self.take_on_fast_path(by, &take);
+        match next {
+            Next::Done(answer) => Stepped::Done(pass, answer),
+            Next::On(at) => Stepped::Again(TakeOp { pass, at }),
+            Next::Lost(at) => {
+                let _ = Pause::first().wait();
+                Stepped::Again(TakeOp { pass, at })
+            }
+        }
+    }
+
     /// Puts a value: the fast path, and where that does not end the put at most so many further
     /// steps, with a wait after each compare-and-swap that failed.
     #[inline(always)]

@@ -1,11 +1,32 @@
-use Rattle.std.proofs.Common.{subst}
+use Rattle.std.proofs.Common.{refl, subst}
+use Rattle.bounded_model.specs.declared.answers.Stepped.TheVariants.{Again, Done}
 use Rattle.bounded_model.specs.declared.commands.Command.TheVariants.{Put}
+use Rattle.bounded_model.specs.declared.commands.Reply.TheVariants as reply
+use Rattle.bounded_calls.specs.Calls.{TriedFrom}
 use Rattle.bounded_calls.specs.Readings.{stack_reading}
+use Rattle.bounded_calls.specs.declared.operation.Operation.TheVariants as operation
 use Rattle.running.specs.Passes.{pass_in}
-use Rattle.lockfree_c.specs.Stages.{IsStage}
-use Rattle.lockfree_c.proofs.Stays.{stays}
+use Rattle.treiber_stack.specs.Trying.{PutTried}
+use Rattle.lockfree_c.proofs.Stays.{called, set_out}
 use Rattle.lockfree_c.proofs.held.StackPass.put.Goals as goal
 
-pub returns-in-Some-clause-of : goal.returns-in-Some-clause-of
-returns-in-Some-clause-of c = subst (λ on. IsStage (stack_reading on) c.leave.new.self) c.deref.ensures
-    (stays (stack_reading c.deref.result.now) (pass_in c.in-Some.by) (Put c.args.value) c.try_put-made.result c.leave.new.self c.leave.result c.try_put-made.ensures c.leave.ensures)
+pub returns-in-Done-clause-gives : goal.returns-in-Done-clause-gives
+returns-in-Done-clause-gives c =
+    let R = stack_reading c.args.self.now.stack.value in
+    let tried = subst (λ on. PutTried on c.args.value (pass_in c.in-Some.by) (Done c.in-Done.by c.in-Done.said)) c.deref.ensures c.in-Done.ensures in
+    (refl, called R c.args.self.now.stage c.in-Some.by (Put c.args.value) c.rest.new.self c.rest.result c.in-Some.ensures.value (Done c.in-Done.by (reply.Put c.in-Done.said), tried, c.rest.ensures))
+
+pub go_on-requires : goal.go_on-requires
+go_on-requires c =
+    let tried = subst (λ on. PutTried on c.args.value (pass_in c.in-Some.by) (Again c.in-Again.op)) c.deref.ensures c.in-Again.ensures in
+    set_out (stack_reading c.args.self.now.stack.value) (Put c.args.value) c.take.new.self (operation.Put c.in-Again.op) c.take.ensures.after tried.0
+
+pub returns-in-Again-clause-gives : goal.returns-in-Again-clause-gives
+returns-in-Again-clause-gives c =
+    let R = stack_reading c.args.self.now.stack.value in
+    let tried = subst (λ on. PutTried on c.args.value (pass_in c.in-Some.by) (Again c.in-Again.op)) c.deref.ensures c.in-Again.ensures in
+    let went = c.go_on.ensures.gives.1 in (
+      c.go_on.ensures.gives.0,
+      called R c.args.self.now.stage c.in-Some.by (Put c.args.value) c.go_on.new.self.stage c.go_on.result c.in-Some.ensures.value
+          (went.0, subst (λ begun. TriedFrom R begun (Put c.args.value) went.0) tried.1 (went.1 (Put c.args.value) tried.0), went.2),
+    )
