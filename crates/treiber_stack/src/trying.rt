@@ -15,8 +15,8 @@ use running::{Next, Pause, try_for};
 use stack_table::Operation;
 
 impl<T> Stack<T> {
-    /// Puts a value on the fast path alone, with a wait where a compare-and-swap failed. All of it is
-    /// in the code of its caller.
+    /// Puts a value on the fast path alone, with a wait where a compare-and-swap failed. Where that
+    /// does not end the put, `run_for` goes on with it.
     #[inline(always)]
     pub fn put_at_once(
         &self,
@@ -64,48 +64,6 @@ impl<T> Stack<T> {
                 let _ = Pause::first().wait();
                 Stepped::Again(TakeOp { pass, at })
             }
-        }
-    }
-
-    /// Puts a value: the fast path, and where that does not end the put at most so many further
-    /// steps, with a wait after each compare-and-swap that failed.
-    #[inline(always)]
-    pub fn put_for(
-        &self,
-        by: Pass<T>,
-        value: T,
-        steps: u64,
-    ) -> Stepped<PutOp<T>, Pass<T>, Result<u64, PutRefused<T>>>
-        requires { IsPassOf self.now by }
-        ensures { PutTried self.now value (pass_in by) result }
-    {
-        let operation = put_operation(&value);
-        let first = self.put_on_fast_path(by, value, &operation);
-        match try_for(&self.table.shared, self, first, &operation, steps) {
-            Stepped::Again((pass, at)) => Stepped::Again(PutOp {
-                pass,
-                operation,
-                at,
-            }),
-            Stepped::Done(pass, answer) => Stepped::Done(pass, answer),
-        }
-    }
-
-    /// Takes a value, in the same way.
-    #[inline(always)]
-    pub fn take_for(
-        &self,
-        by: Pass<T>,
-        steps: u64,
-    ) -> Stepped<TakeOp<T>, Pass<T>, Result<(T, u64), TakeRefused>>
-        requires { IsPassOf self.now by }
-        ensures { TakeTried self.now (pass_in by) result }
-    {
-        let take = Operation::Take;
-        let first = self.take_on_fast_path(by, &take);
-        match try_for(&self.table.shared, self, first, &take, steps) {
-            Stepped::Again((pass, at)) => Stepped::Again(TakeOp { pass, at }),
-            Stepped::Done(pass, answer) => Stepped::Done(pass, answer),
         }
     }
 }
