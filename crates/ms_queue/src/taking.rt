@@ -6,7 +6,7 @@ ghost use Rattle.running.specs.Passes.{pass_in};
 ghost use Rattle.ms_queue.specs.Queue.{IsPassOf, begun_of, shape_of};
 ghost use Rattle.ms_queue.specs.Taking.{IsTaking, TakeStep, TakeStands, TakeRan};
 
-use crate::fast_path::fast_path;
+use crate::fast_path::{aside, fast_path};
 use crate::giving::{Give, Held};
 use crate::queue::{Pass, Queue};
 use crate::rule::Queued;
