@@ -1,9 +1,9 @@
-//! Whole calls: an operation's steps, until it answers.
+//! Whole calls: an operation's steps, until it stops.
 ghost use Rattle.std.specs.Prelude.{◌≡◌};
-ghost use Rattle.running.specs.Going.{Ended};
-ghost use Rattle.running.specs.Passes.{IsPassOn, begun_of};
+ghost use Rattle.running.specs.Code.{Tells};
+ghost use Rattle.running.specs.Passes.{begun_of};
 ghost use Rattle.running.specs.declared.passes.Pass.{Pass};
-ghost use Rattle.running.specs.Steps.{Stands, Ran, RanFor};
+ghost use Rattle.running.specs.Steps.{Stands, Stops, Ran, RanFor, TellsFor};
 
 use crate::code::{Code, Next};
 use crate::lists::ListMachine;
@@ -17,7 +17,7 @@ use machine::View;
 use std::sync::Wait;
 use tagged_index::Limits;
 
-/// Goes on from the first steps of an operation until it answers, with a wait wherever another was
+/// Goes on from the first steps of an operation until it stops, with a wait wherever another was
 /// faster.
 #[inline(always)]
 pub fn to_the_end<
@@ -39,12 +39,14 @@ pub fn to_the_end<
 ) -> (Pass<T, L>, A)
     requires table { (table.now.key ≡ S.key on.now) × (table.now.table_id ≡ S.id on.now) }
     requires ran { (by : Pass T L) × Ran (M.machine (S.key on.now)) S.operation S.line S.slots
-        (S.knows on.now) S.answer (S.id on.now) operation.now by first.0 first.1 }
-    ensures { (by : Pass T L) → Ran (M.machine (S.key on.now)) S.operation S.line S.slots
-        (S.knows on.now) S.answer (S.id on.now) operation.now by first.0 first.1
-        → IsPassOn (M.machine (S.key on.now)) (S.id on.now) result.0
-        × Ended (M.machine (S.key on.now)) operation.now result.0.seat.me.0
-        (begun_of (M.machine (S.key on.now)) by) (S.answer operation.now result.1) }
+        (S.knows on.now) S.answer S.rest (S.id on.now) operation.now by first.0 first.1 }
+    ensures stops { (by : Pass T L) → Ran (M.machine (S.key on.now)) S.operation S.line S.slots
+        (S.knows on.now) S.answer S.rest (S.id on.now) operation.now by first.0 first.1
+        → Stops (M.machine (S.key on.now)) S.operation S.line S.slots (S.knows on.now) S.answer
+        S.rest (S.id on.now) operation.now (begun_of (M.machine (S.key on.now)) by) result.0
+        result.1 }
+    ensures told { (from : S) → Tells (S.told on.now) from first.1
+        → S.told on.now from result.1 }
 {
     match first {
         (pass, Next::Done(answer)) => (pass, answer),
@@ -52,7 +54,7 @@ pub fn to_the_end<
     }
 }
 
-// The same where the first steps have not ended it. A function of its own, so that a caller's code
+// The same where it has not stopped in its first steps. A function of its own, so that a caller's code
 // has nothing but the fast path.
 #[inline(never)]
 fn go_on<
@@ -74,12 +76,14 @@ fn go_on<
 ) -> (Pass<T, L>, A)
     requires table { (table.now.key ≡ S.key on.now) × (table.now.table_id ≡ S.id on.now) }
     requires ran { (by : Pass T L) × Ran (M.machine (S.key on.now)) S.operation S.line S.slots
-        (S.knows on.now) S.answer (S.id on.now) operation.now by first.0 first.1 }
-    ensures { (by : Pass T L) → Ran (M.machine (S.key on.now)) S.operation S.line S.slots
-        (S.knows on.now) S.answer (S.id on.now) operation.now by first.0 first.1
-        → IsPassOn (M.machine (S.key on.now)) (S.id on.now) result.0
-        × Ended (M.machine (S.key on.now)) operation.now result.0.seat.me.0
-        (begun_of (M.machine (S.key on.now)) by) (S.answer operation.now result.1) }
+        (S.knows on.now) S.answer S.rest (S.id on.now) operation.now by first.0 first.1 }
+    ensures stops { (by : Pass T L) → Ran (M.machine (S.key on.now)) S.operation S.line S.slots
+        (S.knows on.now) S.answer S.rest (S.id on.now) operation.now by first.0 first.1
+        → Stops (M.machine (S.key on.now)) S.operation S.line S.slots (S.knows on.now) S.answer
+        S.rest (S.id on.now) operation.now (begun_of (M.machine (S.key on.now)) by) result.0
+        result.1 }
+    ensures told { (from : S) → Tells (S.told on.now) from first.1
+        → S.told on.now from result.1 }
 {
     match first {
         (pass, Next::Done(answer)) => (pass, answer),
@@ -94,7 +98,7 @@ fn go_on<
     }
 }
 
-// Runs an operation that is under way until it ends.
+// Runs an operation that is under way until it stops.
 #[inline]
 fn run_on<
     R: Wait,
@@ -118,10 +122,11 @@ fn run_on<
     requires table { (table.now.key ≡ S.key on.now) × (table.now.table_id ≡ S.id on.now) }
     requires named { operation.now ≡ S.operation under_way }
     requires stands { Stands (M.machine (S.key on.now)) S.operation S.line S.slots (S.knows on.now)
-        S.answer (S.id on.now) by under_way }
-    ensures { IsPassOn (M.machine (S.key on.now)) (S.id on.now) result.0
-        × Ended (M.machine (S.key on.now)) operation.now result.0.seat.me.0
-        (begun_of (M.machine (S.key on.now)) by) (S.answer operation.now result.1) }
+        S.answer S.rest (S.id on.now) by under_way }
+    ensures stops { Stops (M.machine (S.key on.now)) S.operation S.line S.slots (S.knows on.now)
+        S.answer S.rest (S.id on.now) operation.now (begun_of (M.machine (S.key on.now)) by)
+        result.0 result.1 }
+    ensures told { S.told on.now under_way result.1 }
 {
     let mut pass = by;
     let mut at = under_way;
@@ -164,11 +169,13 @@ pub fn try_for<
 ) -> Stepped<(Pass<T, L>, S), Pass<T, L>, A>
     requires table { (table.now.key ≡ S.key on.now) × (table.now.table_id ≡ S.id on.now) }
     requires ran { (by : Pass T L) × Ran (M.machine (S.key on.now)) S.operation S.line S.slots
-        (S.knows on.now) S.answer (S.id on.now) operation.now by first.0 first.1 }
-    ensures { (by : Pass T L) → Ran (M.machine (S.key on.now)) S.operation S.line S.slots
-        (S.knows on.now) S.answer (S.id on.now) operation.now by first.0 first.1
+        (S.knows on.now) S.answer S.rest (S.id on.now) operation.now by first.0 first.1 }
+    ensures ran { (by : Pass T L) → Ran (M.machine (S.key on.now)) S.operation S.line S.slots
+        (S.knows on.now) S.answer S.rest (S.id on.now) operation.now by first.0 first.1
         → RanFor (M.machine (S.key on.now)) S.operation S.line S.slots
-        (S.knows on.now) S.answer (S.id on.now) operation.now by result }
+        (S.knows on.now) S.answer S.rest (S.id on.now) operation.now by result }
+    ensures told { (from : S) → Tells (S.told on.now) from first.1
+        → TellsFor (S.told on.now) from result }
 {
     match first {
         (pass, Next::Done(answer)) => Stepped::Done(pass, answer),
@@ -197,9 +204,10 @@ fn run_for<C, T, L, O, M: ListMachine<T, L, O, N>, A, S: Code<C, T, L, O, M, A, 
     requires table { (table.now.key ≡ S.key on.now) × (table.now.table_id ≡ S.id on.now) }
     requires named { operation.now ≡ S.operation under_way }
     requires stands { Stands (M.machine (S.key on.now)) S.operation S.line S.slots (S.knows on.now)
-        S.answer (S.id on.now) by under_way }
-    ensures { RanFor (M.machine (S.key on.now)) S.operation S.line S.slots (S.knows on.now)
-        S.answer (S.id on.now) operation.now by result }
+        S.answer S.rest (S.id on.now) by under_way }
+    ensures ran { RanFor (M.machine (S.key on.now)) S.operation S.line S.slots (S.knows on.now)
+        S.answer S.rest (S.id on.now) operation.now by result }
+    ensures told { TellsFor (S.told on.now) under_way result }
 {
     let mut pass = by;
     let mut at = under_way;

@@ -120,4 +120,4 @@ module _ {T : Type 0} where
 
   -- what some steps of a whole call give
   abbrev pub PutRan : Stack T → Operation T → Pass T (Line T) → Pass T (Line T) → Next (PutAt T) (Result ℕ (PutRefused T)) → Type 0
-  PutRan c o p q r = Ran (machine_of c) (λ at. put_of (put_value at)) put_line put_slots (λ at. HasReadToPut (room_of c) (limit_of c) at) (λ x a. ends (put_answer a)) c.table.shared.table_id o p q r
+  PutRan c o p q r = Ran (machine_of c) (λ at. put_of (put_value at)) put_line put_slots (λ at. HasReadToPut (room_of c) (limit_of c) at) (λ x a. ends (put_answer a)) (λ a. []) c.table.shared.table_id o p q r
