@@ -8,8 +8,13 @@ ghost use Rattle.treiber_stack.specs.Giving.{IsGiving, GaveBack, GaveTo, AreNode
 ghost use Rattle.treiber_stack.specs.Stack.{machine_of, room_of};
 ghost use Rattle.treiber_stack.specs.declared.giving.Give.TheVariants.{Load};
 
+use crate::begun::Begun;
+use crate::rule::Stacked;
 use crate::stack::{Pass, Stack};
-use running::{Access, Next, Outcome, Pause, give_chain_step, load_top_step, store_link_step};
+use atomic_table::Seat;
+use machine::View;
+use running::{Access, Code, Next, Outcome, to_the_end};
+use stack_machine::Line;
 use stack_table::Operation;
 use stack_table::layout::FREE_LIST;
 use std::sync::Wait;
@@ -33,6 +38,14 @@ impl Chain {
             last: index,
         }
     }
+}
+
+/// An operation that gives a chain back, and then has answered.
+#[derive(Drop)]
+pub(crate) struct GivingBack<T> {
+    pub(crate) begun: Begun<T>,
+    pub(crate) chain: Chain,
+    pub(crate) at: Give,
 }
 
 /// The next step of giving a chain back, with what was read. Its slots are empty.
@@ -82,7 +95,6 @@ impl<T> Stack<T> {
     }
 
     /// Gives a chain back, by a whole call.
-    #[inline]
     pub(crate) fn give_back<R: Wait>(
         &self,
         rt: &R,
@@ -93,32 +105,55 @@ impl<T> Stack<T> {
         requires { (giving : Giving T) × IsGiving self.now operation.now by giving chain Load }
         ensures { GaveBack self.now operation.now by chain result }
     {
-        let mut pass = by;
-        let mut pause = Pause::first();
-        let table = &self.table.shared;
-        for _ in rt.forever() {
-            let free = load_top_step(table, &mut pass.seat, FREE_LIST, operation);
-            let first = free.index() as u64;
-            store_link_step(
-                table,
-                &mut pass.seat,
-                FREE_LIST,
-                chain.last,
-                first,
-                operation,
-            );
-            if give_chain_step(
-                table,
-                &mut pass.seat,
-                FREE_LIST,
-                free,
-                chain.first,
-                operation,
-            ) {
-                return pass;
-            }
-            pause = pause.wait();
+        let begun = Begun::of(operation, &by);
+        let at = Give::Load;
+        let first = (by, Next::On(GivingBack { begun, chain, at }));
+        let (pass, _) = to_the_end(rt, &self.table.shared, self, first, operation);
+        pass
+    }
+}
+
+impl<T> Code<Stack<T>, T, Line<T>, Operation<T>, Stacked, Begun<T>, 2> for GivingBack<T> {
+    ghost use Rattle.std.specs.Prelude.{◌≡◌};
+    ghost use Rattle.stack_machine.specs.Machine.{ends};
+    ghost use Rattle.stack_table.specs.Slots.{vacant};
+    ghost use Rattle.treiber_stack.specs.Begun.{giving_begun};
+    ghost use Rattle.treiber_stack.specs.Giving.{AreNodes, give_line};
+    ghost use Rattle.treiber_stack.specs.Stack.{room_of};
+
+    ghost key = { λ c. c.table.shared.key };
+
+    ghost id = { λ c. c.table.shared.table_id };
+
+    ghost operation = { λ s. s.begun.operation.value };
+
+    ghost line = { λ s. give_line (giving_begun s.begun) s.at };
+
+    ghost slots = { λ s. vacant (giving_begun s.begun).chain };
+
+    ghost knows = { λ c s. AreNodes (room_of c) (giving_begun s.begun).chain s.chain };
+
+    ghost answer = { λ _ r. ends (giving_begun r).answer };
+
+    ghost told = { λ _ s r. r ≡ s.begun };
+
+    #[inline(always)]
+    fn access(&self, on: &Stack<T>) -> Access {
+        on.give_access(self.chain, &self.at)
+    }
+
+    #[inline(always)]
+    fn next(
+        self,
+        on: &Stack<T>,
+        _seat: &mut Seat<Option<T>, View<T, Line<T>>>,
+        outcome: Outcome,
+    ) -> Next<GivingBack<T>, Begun<T>> {
+        let GivingBack { begun, chain, at } = self;
+        match on.give_next(at, outcome) {
+            Next::On(at) => Next::On(GivingBack { begun, chain, at }),
+            Next::Lost(at) => Next::Lost(GivingBack { begun, chain, at }),
+            Next::Done(()) => Next::Done(begun),
         }
-        unreachable!()
     }
 }

@@ -1,4 +1,4 @@
-use Rattle.std.proofs.Common.{ℕ, refl, sym, subst}
+use Rattle.std.proofs.Common.{ℕ, sym, subst}
 use Rattle.std.specs.Prelude.{Ok, Err}
 use Rattle.running.specs.declared.code.Next.TheVariants.{On, Lost, Done}
 use Rattle.treiber_stack.specs.Refusing.{RefusesTake}

@@ -2,7 +2,7 @@ use Rattle.std.proofs.Common.{◌≡◌, List, map}
 use Rattle.std.specs.Prelude.{Some}
 use Rattle.treiber_stack.specs.Ranging.{IsFilling, IsRange, places_from}
 use Rattle.treiber_stack.specs.Stack.{begun_of, pass_in}
-use Rattle.treiber_stack.proofs.stack.Stack.collect.Given as goal
+use Rattle.treiber_stack.proofs.stack.Stack.put_values.Given as goal
 
 abbrev pub invariant-loop-at : goal.invariant-loop-at
 invariant-loop-at g l =
