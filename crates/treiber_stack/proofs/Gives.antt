@@ -23,9 +23,6 @@ use Rattle.treiber_stack.specs.declared.giving.Chain.{Chain}
 use Rattle.treiber_stack.specs.declared.giving.Give.{Give}
 use Rattle.treiber_stack.specs.declared.giving.Give.TheVariants.{Load, Link, Exchange}
 use Rattle.treiber_stack.specs.Stack.{room_of, limit_of, machine_of, begun_of, IsAt}
-use Rattle.treiber_stack.specs.declared.giving.GivingBack.{GivingBack}
-use Rattle.treiber_stack.specs.declared.begun.Begun.{Begun}
-use Rattle.treiber_stack.specs.Begun.{giving_begun}
 use Rattle.treiber_stack.specs.Giving.{AreNodes, give_line, GaveTo}
 
 module _ {T : Type 0} where
@@ -63,17 +60,6 @@ module _ {T S A : Type 0} (c : Stack T) (operation : S → Operation T) (line : 
 
   pub gave_within : (to : Next Give (Unit {0})) → GaveTo c giving at r has to → Finding (machine_of c).core (give_line giving at) r (vacant giving.chain) has (LeadsSo to)
   gave_within to so = finding (machine_of c).core (give_line giving at) r (vacant giving.chain) has (GaveSo to) (LeadsSo to) (follows to) ((machine_of c).core.access (give_line giving at)) so
-
--- the whole call that gives a chain back
-module _ {T : Type 0} (c : Stack T) where
-  abbrev pub LeadingBack : GivingBack T → Outcome → List (ℕ × Slot T) → Next (GivingBack T) (Begun T) → Type 0
-  LeadingBack s r has to = Finding (machine_of c).core (give_line (giving_begun s.begun) s.at) r (vacant (giving_begun s.begun).chain) has
-      (λ found came. Leads names (λ s. s.begun.operation.value) (λ s. give_line (giving_begun s.begun) s.at) (λ s. vacant (giving_begun s.begun).chain) (λ s. AreNodes (room_of c) (giving_begun s.begun).chain s.chain)
-      (λ o r. ends (giving_begun r).answer) (λ r. []) s (next (room_of c) (limit_of c) (give_line (giving_begun s.begun) s.at) found came) has to)
-
-  pub gave_back : (s : GivingBack T) → AreNodes (room_of c) (giving_begun s.begun).chain s.chain → (r : Outcome) (has : List (ℕ × Slot T)) (to : Next Give (Unit {0})) → GaveTo c (giving_begun s.begun) s.at r has to → LeadingBack s r has (within (λ at. record s { at = at }) s.begun to)
-  gave_back s are r has = gave_within c (λ s. s.begun.operation.value) (λ s. give_line (giving_begun s.begun) s.at) (λ s. vacant (giving_begun s.begun).chain) (λ s. AreNodes (room_of c) (giving_begun s.begun).chain s.chain)
-      (λ o r. ends (giving_begun r).answer) (λ r. []) (giving_begun s.begun) (λ at. record s { at = at }) s.begun s (λ at'. refl) (λ at'. refl) (λ at'. refl) (λ at'. are) refl s.at r has
 
 -- a chain of one node
 pub one_node : (n i : ℕ) (nodes : Chain) → nodes ≡ record { first = i; last = i } → i < n → AreNodes n (i ∷ []) nodes

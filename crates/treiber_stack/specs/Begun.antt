@@ -1,9 +1,8 @@
 -- What an operation was at when some of its steps were begun.
-use Rattle.std.specs.Prelude.{List, [], Ok, Err}
+use Rattle.std.specs.Prelude.{List, [], Err}
 use Rattle.stack_machine.specs.Deeds.{handed_back}
 use Rattle.stack_machine.specs.declared.lines.Answer.{Answer}
 use Rattle.stack_machine.specs.declared.lines.Answer.TheVariants.{Put as AnswerPut}
-use Rattle.stack_machine.specs.declared.lines.Giving.{Giving}
 use Rattle.stack_machine.specs.declared.lines.Putting.{Putting}
 use Rattle.stack_machine.specs.declared.lines.Line.{Line}
 use Rattle.stack_machine.specs.declared.lines.Line.TheVariants.{LoadFree, LoadTop, LoadFreeToGive}
@@ -26,13 +25,6 @@ module _ {T : Type 0} where
   put_at (LoadTop put) = put
   put_at (LoadFreeToGive giving) = record { values = handed giving.answer; chain = giving.chain }
   put_at l = record { values = []; chain = [] }
-
-  abbrev pub giving_at : Line T → Giving T
-  giving_at (LoadFreeToGive giving) = giving
-  giving_at l = record { chain = []; answer = AnswerPut (Ok (0, [])) }
-
-  abbrev pub giving_begun : Begun T → Giving T
-  giving_begun b = giving_at (line_begun b)
 
   abbrev pub put_begun : Begun T → Putting T
   put_begun b = put_at (line_begun b)

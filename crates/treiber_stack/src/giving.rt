@@ -4,20 +4,12 @@ ghost use Rattle.stack_machine.specs.declared.lines.Giving.{Giving};
 ghost use Rattle.running.specs.Code.{IsAccess};
 ghost use Rattle.stack_table.specs.Lists.{lists};
 ghost use Rattle.stack_table.specs.Slots.{vacant};
-ghost use Rattle.treiber_stack.specs.Giving.{IsGiving, GaveBack, GaveTo, AreNodes, give_line};
+ghost use Rattle.treiber_stack.specs.Giving.{GaveTo, AreNodes, give_line};
 ghost use Rattle.treiber_stack.specs.Stack.{machine_of, room_of};
-ghost use Rattle.treiber_stack.specs.declared.giving.Give.TheVariants.{Load};
 
-use crate::begun::Begun;
-use crate::rule::Stacked;
-use crate::stack::{Pass, Stack};
-use atomic_table::Seat;
-use machine::View;
-use running::{Access, Code, Next, Outcome, to_the_end};
-use stack_machine::Line;
-use stack_table::Operation;
+use crate::stack::Stack;
+use running::{Access, Next, Outcome};
 use stack_table::layout::FREE_LIST;
-use std::sync::Wait;
 use tagged_index::Tagged;
 
 /// A chain of nodes held, each linked to the next: its first and its last.
@@ -38,14 +30,6 @@ impl Chain {
             last: index,
         }
     }
-}
-
-/// An operation that gives a chain back, and then has answered.
-#[derive(Drop)]
-pub(crate) struct GivingBack<T> {
-    pub(crate) begun: Begun<T>,
-    pub(crate) chain: Chain,
-    pub(crate) at: Give,
 }
 
 /// The next step of giving a chain back, with what was read. Its slots are empty.
@@ -91,69 +75,6 @@ impl<T> Stack<T> {
                     Next::Lost(Give::Load)
                 }
             }
-        }
-    }
-
-    /// Gives a chain back, by a whole call.
-    pub(crate) fn give_back<R: Wait>(
-        &self,
-        rt: &R,
-        by: Pass<T>,
-        chain: Chain,
-        operation: &Operation<T>,
-    ) -> Pass<T>
-        requires { (giving : Giving T) × IsGiving self.now operation.now by giving chain Load }
-        ensures { GaveBack self.now operation.now by chain result }
-    {
-        let begun = Begun::of(operation, &by);
-        let at = Give::Load;
-        let first = (by, Next::On(GivingBack { begun, chain, at }));
-        let (pass, _) = to_the_end(rt, &self.table.shared, self, first, operation);
-        pass
-    }
-}
-
-impl<T> Code<Stack<T>, T, Line<T>, Operation<T>, Stacked, Begun<T>, 2> for GivingBack<T> {
-    ghost use Rattle.std.specs.Prelude.{◌≡◌};
-    ghost use Rattle.stack_machine.specs.Machine.{ends};
-    ghost use Rattle.stack_table.specs.Slots.{vacant};
-    ghost use Rattle.treiber_stack.specs.Begun.{giving_begun};
-    ghost use Rattle.treiber_stack.specs.Giving.{AreNodes, give_line};
-    ghost use Rattle.treiber_stack.specs.Stack.{room_of};
-
-    ghost key = { λ c. c.table.shared.key };
-
-    ghost id = { λ c. c.table.shared.table_id };
-
-    ghost operation = { λ s. s.begun.operation.value };
-
-    ghost line = { λ s. give_line (giving_begun s.begun) s.at };
-
-    ghost slots = { λ s. vacant (giving_begun s.begun).chain };
-
-    ghost knows = { λ c s. AreNodes (room_of c) (giving_begun s.begun).chain s.chain };
-
-    ghost answer = { λ _ r. ends (giving_begun r).answer };
-
-    ghost told = { λ _ s r. r ≡ s.begun };
-
-    #[inline(always)]
-    fn access(&self, on: &Stack<T>) -> Access {
-        on.give_access(self.chain, &self.at)
-    }
-
-    #[inline(always)]
-    fn next(
-        self,
-        on: &Stack<T>,
-        _seat: &mut Seat<Option<T>, View<T, Line<T>>>,
-        outcome: Outcome,
-    ) -> Next<GivingBack<T>, Begun<T>> {
-        let GivingBack { begun, chain, at } = self;
-        match on.give_next(at, outcome) {
-            Next::On(at) => Next::On(GivingBack { begun, chain, at }),
-            Next::Lost(at) => Next::Lost(GivingBack { begun, chain, at }),
-            Next::Done(()) => Next::Done(begun),
         }
     }
 }

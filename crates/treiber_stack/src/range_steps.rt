@@ -61,6 +61,7 @@ pub(crate) struct Range<T> {
 pub(crate) enum RangeStop {
     /// A node, whose slot wants the next value.
     Took(u32),
+    /// It is over.
     Over(RangeEnd),
 }
 
@@ -81,6 +82,7 @@ pub(crate) enum RangeEnd {
     GaveBack(Barred),
 }
 
+/// A range that has stopped.
 #[derive(Drop)]
 pub(crate) struct RangeStopped<T> {
     pub(crate) begun: Begun<T>,
