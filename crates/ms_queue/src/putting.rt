@@ -23,7 +23,7 @@ use machine::seats::View;
 use queue_machine::Line;
 use queue_table::Operation;
 use queue_table::layout::{CELL_LIST, NODE_LIST, TAIL, cell, next};
-use running::{Access, Code, Next, Outcome, any, raised, single_step, to_the_end};
+use running::{Access, Code, Next, Outcome, any, first_step, raised, single_step, to_the_end};
 use std::snapshot::Snapshot;
 use std::sync::Wait;
 use tagged_index::{NULL, Tagged};
@@ -154,7 +154,7 @@ impl<T> Queue<T> {
     {
         let table = &self.table.shared;
         let (pass, value, cells) = fast_path!(
-            any(table, self, by, PutAt::LoadCells(value), put),
+            first_step(table, self, by, PutAt::LoadCells(value), put),
             PutAt::LoadCellLink(value, cells) => value, cells
         );
         let (pass, value, cells, link) = fast_path!(
@@ -288,6 +288,11 @@ impl<T> Code<Queue<T>, T, Line<T>, Operation<T>, Queued, Answer<T>, 2> for PutAt
     ghost knows = { λ c at. HasReadToPut (room_of c) (limit_of c) at };
 
     ghost answer = { λ _ r. ends (AnswerPut r) };
+
+    #[inline]
+    fn is_refusal(answer: &Answer<T>) -> bool {
+        answer.is_err()
+    }
 
     #[inline(always)]
     fn access(&self, on: &Queue<T>) -> Access {

@@ -17,7 +17,7 @@ use machine::seats::View;
 use queue_machine::Line;
 use queue_table::Operation;
 use queue_table::layout::{HEAD, TAIL, cell, next};
-use running::{Access, Code, Next, Outcome, any, raised, single_step, to_the_end};
+use running::{Access, Code, Next, Outcome, any, first_step, raised, single_step, to_the_end};
 use std::sync::Wait;
 use tagged_index::{NULL, Tagged};
 
@@ -115,7 +115,7 @@ impl<T> Queue<T> {
     {
         let table = &self.table.shared;
         let (pass, head) = fast_path!(
-            any(table, self, by, TakeAt::LoadHead, take),
+            first_step(table, self, by, TakeAt::LoadHead, take),
             TakeAt::LoadTail(head) => head
         );
         let (pass, head, tail) = fast_path!(
@@ -218,6 +218,11 @@ impl<T> Code<Queue<T>, T, Line<T>, Operation<T>, Queued, Answer<T>, 2> for TakeA
 
     ghost answer = { λ _ r. ends (AnswerTake r) };
 
+    #[inline]
+    fn is_refusal(answer: &Answer<T>) -> bool {
+        answer.is_err()
+    }
+
     #[inline(always)]
     fn access(&self, on: &Queue<T>) -> Access {
         match self {
@@ -274,7 +279,13 @@ impl<T> Code<Queue<T>, T, Line<T>, Operation<T>, Queued, Answer<T>, 2> for TakeA
                 Next::On(TakeAt::LoadCell(head, link))
             }
             // Whoever succeeds, the tail is then no longer at the dummy.
-            TakeAt::SwingTail(_, _) => Next::Lost(TakeAt::LoadHead),
+            TakeAt::SwingTail(_, _) => {
+                if outcome.won {
+                    Next::On(TakeAt::LoadHead)
+                } else {
+                    Next::Lost(TakeAt::LoadHead)
+                }
+            }
             TakeAt::LoadCell(head, link) => {
                 Next::On(TakeAt::TakeHead(head, link, outcome.word as u32))
             }

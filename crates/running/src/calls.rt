@@ -1,5 +1,5 @@
 //! Whole calls: an operation's steps, until it stops.
-ghost use Rattle.std.specs.Prelude.{◌≡◌};
+ghost use Rattle.std.specs.Prelude.{◌≡◌, ◌<◌};
 ghost use Rattle.running.specs.Code.{Tells};
 ghost use Rattle.running.specs.Passes.{begun_of};
 ghost use Rattle.running.specs.declared.passes.Pass.{Pass};
@@ -38,6 +38,7 @@ pub fn to_the_end<
     operation: &O,
 ) -> (Pass<T, L>, A)
     requires table { (table.now.key ≡ S.key on.now) × (table.now.table_id ≡ S.id on.now) }
+    requires some_word { 0 < table.now.table_id.words }
     requires ran { (by : Pass T L) × Ran (M.machine (S.key on.now)) S.operation S.line S.slots
         (S.knows on.now) S.answer S.rest (S.id on.now) operation.now by first.0 first.1 }
     ensures stops { (by : Pass T L) → Ran (M.machine (S.key on.now)) S.operation S.line S.slots
@@ -75,6 +76,7 @@ fn go_on<
     operation: &O,
 ) -> (Pass<T, L>, A)
     requires table { (table.now.key ≡ S.key on.now) × (table.now.table_id ≡ S.id on.now) }
+    requires some_word { 0 < table.now.table_id.words }
     requires ran { (by : Pass T L) × Ran (M.machine (S.key on.now)) S.operation S.line S.slots
         (S.knows on.now) S.answer S.rest (S.id on.now) operation.now by first.0 first.1 }
     ensures stops { (by : Pass T L) → Ran (M.machine (S.key on.now)) S.operation S.line S.slots
@@ -88,11 +90,11 @@ fn go_on<
     match first {
         (pass, Next::Done(answer)) => (pass, answer),
         (pass, Next::On(at)) => {
-            let pause = Pause::first();
+            let pause = Pause::of(&pass);
             run_on::<R, C, T, L, O, M, A, S, N>(rt, table, on, pass, at, operation, pause)
         }
         (pass, Next::Lost(at)) => {
-            let pause = Pause::first().wait();
+            let pause = Pause::of(&pass).wait();
             run_on::<R, C, T, L, O, M, A, S, N>(rt, table, on, pass, at, operation, pause)
         }
     }
@@ -120,6 +122,7 @@ fn run_on<
     pause: Pause,
 ) -> (Pass<T, L>, A)
     requires table { (table.now.key ≡ S.key on.now) × (table.now.table_id ≡ S.id on.now) }
+    requires some_word { 0 < table.now.table_id.words }
     requires named { operation.now ≡ S.operation under_way }
     requires stands { Stands (M.machine (S.key on.now)) S.operation S.line S.slots (S.knows on.now)
         S.answer S.rest (S.id on.now) by under_way }
@@ -133,7 +136,12 @@ fn run_on<
     let mut pause = pause;
     for _ in rt.forever() {
         match any::<C, T, L, O, M, A, S, N>(table, on, pass, at, operation) {
-            (back, Next::Done(answer)) => return (back, answer),
+            (back, Next::Done(answer)) => {
+                let Pass { seat, density } = back;
+                let refused = S::is_refusal(&answer);
+                let density = density.at_end::<T, L, O, M>(table, pause, refused);
+                return (Pass { seat, density }, answer);
+            }
             (next, Next::On(to)) => {
                 pass = next;
                 at = to;
@@ -146,6 +154,40 @@ fn run_on<
         }
     }
     unreachable!()
+}
+
+/// Leaves an operation under way after its first steps, with a wait where another was faster. Where
+/// they have ended it, there is nothing to go on with.
+#[inline(always)]
+pub fn at_once<
+    C,
+    T,
+    L,
+    O,
+    M: ListMachine<T, L, O, N>,
+    A,
+    S: Code<C, T, L, O, M, A, N>,
+    const N: usize,
+>(on: &C, first: (Pass<T, L>, Next<S, A>), operation: &O) -> Stepped<(Pass<T, L>, S), Pass<T, L>, A>
+    requires ran { (by : Pass T L) × Ran (M.machine (S.key on.now)) S.operation S.line S.slots
+        (S.knows on.now) S.answer S.rest (S.id on.now) operation.now by first.0 first.1 }
+    ensures { (by : Pass T L) → Ran (M.machine (S.key on.now)) S.operation S.line S.slots
+        (S.knows on.now) S.answer S.rest (S.id on.now) operation.now by first.0 first.1
+        → RanFor (M.machine (S.key on.now)) S.operation S.line S.slots
+        (S.knows on.now) S.answer S.rest (S.id on.now) operation.now by result }
+{
+    let _ = on;
+    let _ = operation;
+    match first {
+        (pass, Next::Done(answer)) => Stepped::Done(pass, answer),
+        (pass, Next::On(at)) => Stepped::Again((pass, at)),
+        (pass, Next::Lost(at)) => {
+            let pause = Pause::of(&pass).wait();
+            let Pass { seat, density } = pass;
+            let density = density.under_way(pause);
+            Stepped::Again((Pass { seat, density }, at))
+        }
+    }
 }
 
 /// Goes on from the first steps of an operation, for at most so many more, with a wait wherever
@@ -168,6 +210,7 @@ pub fn try_for<
     steps: u64,
 ) -> Stepped<(Pass<T, L>, S), Pass<T, L>, A>
     requires table { (table.now.key ≡ S.key on.now) × (table.now.table_id ≡ S.id on.now) }
+    requires some_word { 0 < table.now.table_id.words }
     requires ran { (by : Pass T L) × Ran (M.machine (S.key on.now)) S.operation S.line S.slots
         (S.knows on.now) S.answer S.rest (S.id on.now) operation.now by first.0 first.1 }
     ensures ran { (by : Pass T L) → Ran (M.machine (S.key on.now)) S.operation S.line S.slots
@@ -180,11 +223,11 @@ pub fn try_for<
     match first {
         (pass, Next::Done(answer)) => Stepped::Done(pass, answer),
         (pass, Next::On(at)) => {
-            let pause = Pause::first();
+            let pause = Pause::of(&pass);
             run_for::<C, T, L, O, M, A, S, N>(table, on, pass, at, operation, pause, steps)
         }
         (pass, Next::Lost(at)) => {
-            let pause = Pause::first().wait();
+            let pause = Pause::of(&pass).wait();
             run_for::<C, T, L, O, M, A, S, N>(table, on, pass, at, operation, pause, steps)
         }
     }
@@ -202,6 +245,7 @@ fn run_for<C, T, L, O, M: ListMachine<T, L, O, N>, A, S: Code<C, T, L, O, M, A, 
     steps: u64,
 ) -> Stepped<(Pass<T, L>, S), Pass<T, L>, A>
     requires table { (table.now.key ≡ S.key on.now) × (table.now.table_id ≡ S.id on.now) }
+    requires some_word { 0 < table.now.table_id.words }
     requires named { operation.now ≡ S.operation under_way }
     requires stands { Stands (M.machine (S.key on.now)) S.operation S.line S.slots (S.knows on.now)
         S.answer S.rest (S.id on.now) by under_way }
@@ -214,7 +258,12 @@ fn run_for<C, T, L, O, M: ListMachine<T, L, O, N>, A, S: Code<C, T, L, O, M, A, 
     let mut pause = pause;
     for _ in 0..steps {
         match any::<C, T, L, O, M, A, S, N>(table, on, pass, at, operation) {
-            (back, Next::Done(answer)) => return Stepped::Done(back, answer),
+            (back, Next::Done(answer)) => {
+                let Pass { seat, density } = back;
+                let refused = S::is_refusal(&answer);
+                let density = density.at_end::<T, L, O, M>(table, pause, refused);
+                return Stepped::Done(Pass { seat, density }, answer);
+            }
             (next, Next::On(to)) => {
                 pass = next;
                 at = to;
@@ -226,5 +275,7 @@ fn run_for<C, T, L, O, M: ListMachine<T, L, O, N>, A, S: Code<C, T, L, O, M, A, 
             }
         }
     }
-    Stepped::Again((pass, at))
+    let Pass { seat, density } = pass;
+    let density = density.under_way(pause);
+    Stepped::Again((Pass { seat, density }, at))
 }

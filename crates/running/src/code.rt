@@ -46,6 +46,14 @@ pub trait Code<C, T, L, O, M: ListMachine<T, L, O, N>, A, const N: usize>: Sized
     /// What is told of what it stops with, by where it was before.
     ghost told: { C → Self → A → Type 0 } = { λ _ _ _. Unit {0} };
 
+    /// Whether this answer refuses what was asked for. Its caller then does something else before
+    /// it asks again.
+    #[inline]
+    fn is_refusal(answer: &A) -> bool {
+        let _ = answer;
+        false
+    }
+
     /// What its next step does.
     fn access(&self, on: &C) -> Access
         requires { knows on.now self.now }

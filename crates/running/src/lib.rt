@@ -16,7 +16,7 @@ mod stepping;
 mod steps;
 
 pub use access::{Access, Outcome};
-pub use calls::{to_the_end, try_for};
+pub use calls::{at_once, to_the_end, try_for};
 pub use code::{Code, Next};
 pub use index_list::raised;
 pub use lists::{
@@ -24,7 +24,7 @@ pub use lists::{
     take_first_step,
 };
 pub use passes::{Note, Pass, Root, heed, join, make_note, meet, split};
-pub use pause::Pause;
+pub use pause::{Density, Pause};
 pub use rule::{Machine, Running};
 pub use seats::peek;
-pub use stepping::{any, single_step, step};
+pub use stepping::{any, first_step, single_step, step};

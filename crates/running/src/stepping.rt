@@ -1,5 +1,5 @@
 //! One atomic step of an operation, for all operations on all machines.
-ghost use Rattle.std.specs.Prelude.{◌≡◌};
+ghost use Rattle.std.specs.Prelude.{◌≡◌, ◌<◌};
 ghost use Rattle.running.specs.Going.{At};
 ghost use Rattle.running.specs.Code.{IsAccess, Tells};
 ghost use Rattle.running.specs.Steps.{Made, Stands, Gives, GivesSingle, Ran};
@@ -257,4 +257,38 @@ pub fn any<C, T, L, O, M: ListMachine<T, L, O, N>, A, S: Code<C, T, L, O, M, A, 
     ensures told { Tells (S.told on.now) at result.1 }
 {
     step::<C, T, L, O, M, A, S, N>(table, on, by, at, operation)
+}
+
+/// The same as the first step of a whole call. Before it the pass may look whether the others got
+/// something done while its caller was away, by a load that tells nothing of the operation.
+#[inline(always)]
+pub fn first_step<
+    C,
+    T,
+    L,
+    O,
+    M: ListMachine<T, L, O, N>,
+    A,
+    S: Code<C, T, L, O, M, A, N>,
+    const N: usize,
+>(
+    table: &Shared<Option<T>, View<T, L>, Limits, Running<O, M>>,
+    on: &C,
+    by: Pass<T, L>,
+    at: S,
+    operation: &O,
+) -> (Pass<T, L>, Next<S, A>)
+    requires table { (table.now.key ≡ S.key on.now) × (table.now.table_id ≡ S.id on.now) }
+    requires some_word { 0 < table.now.table_id.words }
+    requires named { operation.now ≡ S.operation at }
+    requires stands { Stands (M.machine (S.key on.now)) S.operation S.line S.slots (S.knows on.now)
+        S.answer S.rest (S.id on.now) by at }
+    ensures ran { Ran (M.machine (S.key on.now)) S.operation S.line S.slots (S.knows on.now)
+        S.answer S.rest (S.id on.now) operation.now by result.0 result.1 }
+    ensures told { Tells (S.told on.now) at result.1 }
+{
+    let Pass { seat, density } = by;
+    let density = density.at_begin::<T, L, O, M>(table);
+    let by = Pass { seat, density };
+    any::<C, T, L, O, M, A, S, N>(table, on, by, at, operation)
 }

@@ -13,7 +13,7 @@ use atomic_table::Seat;
 use bounded_model::{PutRefused, Stepped, Word};
 use index_list::{move_out, put_in};
 use machine::View;
-use running::{Access, Code, Next, Outcome, any, single_step, to_the_end};
+use running::{Access, Code, Next, Outcome, any, first_step, single_step, to_the_end};
 use stack_machine::Line;
 use stack_table::layout::{FREE_LIST, STACK_LIST};
 use stack_table::{Listed, Operation};
@@ -108,7 +108,7 @@ impl<T> Stack<T> {
     {
         let table = &self.table.shared;
         let (pass, value, free) = fast_step!(
-            any(table, self, by, PutAt::LoadFree(value), put),
+            first_step(table, self, by, PutAt::LoadFree(value), put),
             PutAt::Link(value, free) => value, free
         );
         let (pass, value, free, below) = fast_step!(
@@ -149,6 +149,11 @@ impl<T> Code<Stack<T>, T, Line<T>, Operation<T>, Stacked, Answer<T>, 2> for PutA
     ghost knows = { λ c at. HasReadToPut (room_of c) (limit_of c) at };
 
     ghost answer = { λ _ r. ends (put_answer r) };
+
+    #[inline]
+    fn is_refusal(answer: &Answer<T>) -> bool {
+        answer.is_err()
+    }
 
     #[inline(always)]
     fn access(&self, on: &Stack<T>) -> Access {

@@ -13,7 +13,7 @@ use atomic_table::Seat;
 use bounded_model::{Stepped, TakeRefused};
 use index_list::move_out;
 use machine::View;
-use running::{Access, Code, Next, Outcome, any, single_step, to_the_end};
+use running::{Access, Code, Next, Outcome, any, first_step, single_step, to_the_end};
 use stack_machine::Line;
 use stack_table::Operation;
 use stack_table::layout::STACK_LIST;
@@ -93,7 +93,7 @@ impl<T> Stack<T> {
     {
         let table = &self.table.shared;
         let (pass, top) = fast_step!(
-            any(table, self, by, TakeAt::Load, take),
+            first_step(table, self, by, TakeAt::Load, take),
             TakeAt::Link(top) => top
         );
         let (pass, top, below) = fast_step!(
@@ -136,6 +136,11 @@ impl<T> Code<Stack<T>, T, Line<T>, Operation<T>, Stacked, Answer<T>, 2> for Take
     ghost knows = { λ c at. HasReadToTake (room_of c) (limit_of c) at };
 
     ghost answer = { λ _ r. ends (AnswerTake r) };
+
+    #[inline]
+    fn is_refusal(answer: &Answer<T>) -> bool {
+        answer.is_err()
+    }
 
     #[inline(always)]
     fn access(&self, on: &Stack<T>) -> Access {

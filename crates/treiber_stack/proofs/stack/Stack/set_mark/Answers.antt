@@ -10,7 +10,7 @@ use Rattle.treiber_stack.proofs.Closes.{mark_stops}
 use Rattle.treiber_stack.proofs.stack.Stack.set_mark.Goals as goal
 
 pub to_the_end-requires-clause-ran : goal.to_the_end-requires-clause-ran
-to_the_end-requires-clause-ran g c = (c.args.by, c.any-first.ensures.ran)
+to_the_end-requires-clause-ran g c = (c.args.by, c.first_step-first.ensures.ran)
 
 pub returns : goal.returns
 returns g c =
@@ -18,7 +18,7 @@ returns g c =
     let k = c.args.mark in
     let q = c.to_the_end.result.0 in
     let done = c.to_the_end.result.1 in
-    let ran = c.to_the_end.ensures.stops c.args.by c.any-first.ensures.ran in
+    let ran = c.to_the_end.ensures.stops c.args.by c.first_step-first.ensures.ran in
     let named = subst (λ (o : Operation _). Stops (machine_of stack) (λ (at : MarkAt). mark_name at.mark) (λ at. mark_line at.mark at.seen) (λ at. []) (λ at. Unit {0}) mark_ends (λ a. []) stack.table.shared.table_id o (begun_of stack c.args.by) q done) c.operation-operation.ensures ran in
     let e = mark_stops stack k done (begun_of stack c.args.by) q named in
     let begun = begun_is (machine_of stack) stack.table.shared.table_id c.args.by c.requires in
