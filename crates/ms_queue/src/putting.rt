@@ -11,7 +11,7 @@ ghost use Rattle.running.specs.Passes.{pass_in};
 ghost use Rattle.ms_queue.specs.Queue.{IsPassOf, begun_of, shape_of};
 ghost use Rattle.ms_queue.specs.Putting.{IsPutting, PutStep, PutStands, PutRan, put_of};
 
-use crate::fast_path::{aside, fast_path};
+use crate::fast_path::fast_path;
 use crate::giving::{Give, Held};
 use crate::queue::{Pass, Queue};
 use crate::rule::Queued;
@@ -23,7 +23,9 @@ use machine::seats::View;
 use queue_machine::Line;
 use queue_table::Operation;
 use queue_table::layout::{CELL_LIST, NODE_LIST, TAIL, cell, next};
-use running::{Access, Code, Next, Outcome, any, first_step, raised, single_step, to_the_end};
+use running::{
+    Access, Code, Next, Outcome, any, aside, first_step, raised, single_step, to_the_end,
+};
 use std::snapshot::Snapshot;
 use std::sync::Wait;
 use tagged_index::{NULL, Tagged};

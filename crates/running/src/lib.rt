@@ -7,6 +7,7 @@
 mod access;
 mod calls;
 mod code;
+mod leaving;
 mod lists;
 mod passes;
 mod pause;
@@ -19,6 +20,7 @@ pub use access::{Access, Outcome};
 pub use calls::{at_once, to_the_end, try_for};
 pub use code::{Code, Next};
 pub use index_list::raised;
+pub use leaving::aside;
 pub use lists::{
     ListMachine, give_chain_step, load_link_step, load_top_step, store_link_step, take_all_step,
     take_first_step,

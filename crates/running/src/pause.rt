@@ -2,6 +2,7 @@
 //! its cache lines: that serves threads which do nothing but put and take, and hurts where callers
 //! are away between their calls, at other work. So a pass remembers which of the two its caller is.
 ghost use Rattle.std.specs.Prelude.{◌≡◌, ◌≢◌, ◌<◌, ◌≤◌};
+ghost use Rattle.running.specs.Density.{evidence_of};
 ghost use Rattle.running.specs.declared.pause.TheConstants.{DENSE, MOST_HINTS};
 
 use crate::passes::Pass;
@@ -20,14 +21,14 @@ const WATCHED: usize = 0;
 const CALLS_A_LOOK: u8 = 4;
 
 /// The evidence from which on a pass waits. Each look that finds the word unchanged adds one.
-const DENSE: u8 = 16;
+const DENSE: u8 = 8;
 
 /// The most evidence that a pass has, so that a caller who goes to work is soon found out.
 const MOST_EVIDENCE: u8 = 24;
 
 /// What a look takes away that finds the word changed. One that finds it unchanged says less, since
 /// the others too may have been away.
-const CHANGE: u8 = 16;
+const CHANGE: u8 = 4;
 
 /// How many spin hints the first wait of a call gives the processor. It is short: of two threads at
 /// a small container each soon needs what the other takes or puts.
@@ -39,9 +40,31 @@ const SECOND_HINTS: u32 = 320;
 /// Each further wait's, which takes some microseconds. No wait is longer.
 const MOST_HINTS: u32 = 640;
 
-/// What a pass knows of its caller: whether its calls follow one another closely.
+/// What a pass knows of its caller: whether its calls follow one another closely. It is one number,
+/// so that it is moved as one: the evidence, then the failures, then the hash, and then the mark
+/// that says that a call has something to look at, or has failed.
 #[derive(Clone, Copy)]
 pub struct Density {
+    number: u32,
+}
+
+/// How many values the evidence may have in a number.
+const EVIDENCES: u32 = 32;
+
+/// What each failure adds to a number, and what each unit of the hash adds.
+const FAILURE: u32 = EVIDENCES;
+
+const HASH: u32 = 256;
+
+/// What the mark adds where a compare-and-swap of the call that is under way has failed.
+const FAILED: u32 = 65_536;
+
+/// And where the hash is that of the watched word as the last call left it.
+const LEFT: u32 = 131_072;
+
+/// The same taken apart.
+#[derive(Clone, Copy)]
+struct Known {
     evidence: u8,
     /// How many calls with a failed compare-and-swap have ended since the pass kept a hash.
     failures: u8,
@@ -65,47 +88,42 @@ fn hash_of(word: u64) -> u8 {
     ((word.tag() ^ word.index() as u64) % 256) as u8
 }
 
-impl Density {
-    /// A new pass knows nothing.
+impl Known {
     #[inline]
-    pub(crate) fn new() -> Density {
+    fn of(density: Density) -> Known
+        ensures { result.evidence ≡ evidence_of density }
+    {
+        let number = density.number;
+        Known {
+            evidence: (number % EVIDENCES) as u8,
+            failures: (number / FAILURE % 8) as u8,
+            sight: if number < FAILED {
+                Sight::Nothing
+            } else if number < LEFT {
+                Sight::Failed
+            } else {
+                Sight::Left((number / HASH % 256) as u8)
+            },
+        }
+    }
+
+    #[inline]
+    fn together(self) -> Density {
+        let sight = match self.sight {
+            Sight::Nothing => 0,
+            Sight::Failed => FAILED,
+            Sight::Left(hash) => LEFT + hash as u32 * HASH,
+        };
+        let evidence = self.evidence as u32 % EVIDENCES;
+        let failures = self.failures as u32 % 8;
         Density {
-            evidence: 0,
-            failures: 0,
-            sight: Sight::Nothing,
+            number: evidence + failures * FAILURE + sight,
         }
-    }
-
-    /// As a call begins. Where the last one kept a hash, this one looks whether the others got
-    /// something done while the caller was away.
-    #[inline(always)]
-    pub(crate) fn at_begin<T, L, O, M: Machine<T, L, O>>(
-        self,
-        table: &Shared<Option<T>, View<T, L>, Limits, Running<O, M>>,
-    ) -> Density
-        requires { 0 < table.now.table_id.words }
-    {
-        match self.sight {
-            Sight::Nothing => self,
-            _ => self.look::<T, L, O, M>(table),
-        }
-    }
-
-    // Cold, so that a call that does not look has one test for it.
-    #[cold]
-    #[inline(never)]
-    fn look<T, L, O, M: Machine<T, L, O>>(
-        self,
-        table: &Shared<Option<T>, View<T, L>, Limits, Running<O, M>>,
-    ) -> Density
-        requires { 0 < table.now.table_id.words }
-    {
-        self.after_look(table.peek(WATCHED))
     }
 
     // After a look that found this word.
     #[inline]
-    fn after_look(self, word: u64) -> Density {
+    fn after_look(self, word: u64) -> Known {
         let evidence = match self.sight {
             Sight::Left(hash) => {
                 if hash != hash_of(word) {
@@ -118,10 +136,52 @@ impl Density {
             }
             _ => self.evidence,
         };
-        Density {
+        Known {
             evidence,
             sight: Sight::Nothing,
             ..self
+        }
+    }
+
+    // After a call with a failed compare-and-swap that left this word.
+    #[inline]
+    fn after_failure(self, word: u64) -> Known {
+        if self.failures < CALLS_A_LOOK - 1 {
+            return Known {
+                failures: self.failures + 1,
+                sight: Sight::Nothing,
+                ..self
+            };
+        }
+        Known {
+            failures: 0,
+            sight: Sight::Left(hash_of(word)),
+            ..self
+        }
+    }
+}
+
+impl Density {
+    /// A new pass knows nothing.
+    #[inline]
+    pub(crate) fn new() -> Density {
+        Density { number: 0 }
+    }
+
+    /// As a call begins. Where the last one kept a hash, this one looks whether the others got
+    /// something done while the caller was away.
+    #[inline(always)]
+    pub(crate) fn at_begin<T, L, O, M: Machine<T, L, O>>(
+        self,
+        table: &Shared<Option<T>, View<T, L>, Limits, Running<O, M>>,
+    ) -> Density
+        requires { 0 < table.now.table_id.words }
+    {
+        if self.number < FAILED {
+            return self;
+        }
+        Density {
+            number: look::<T, L, O, M>(self.number, table),
         }
     }
 
@@ -137,26 +197,10 @@ impl Density {
         requires { 0 < table.now.table_id.words }
     {
         if pause.failed && !refused {
-            self.after_failure(table.peek(WATCHED))
+            let left = table.peek(WATCHED);
+            Known::of(self).after_failure(left).together()
         } else {
             self
-        }
-    }
-
-    // After a call with a failed compare-and-swap that left this word.
-    #[inline]
-    fn after_failure(self, word: u64) -> Density {
-        if self.failures < CALLS_A_LOOK - 1 {
-            return Density {
-                failures: self.failures + 1,
-                sight: Sight::Nothing,
-                ..self
-            };
-        }
-        Density {
-            failures: 0,
-            sight: Sight::Left(hash_of(word)),
-            ..self
         }
     }
 
@@ -166,11 +210,27 @@ impl Density {
         if !pause.failed {
             return self;
         }
-        Density {
+        let known = Known {
             sight: Sight::Failed,
-            ..self
-        }
+            ..Known::of(self)
+        };
+        known.together()
     }
+}
+
+// Cold, so that a call that does not look has one test for it; and on the bare number, which is
+// handed over in a register.
+#[cold]
+#[inline(never)]
+fn look<T, L, O, M: Machine<T, L, O>>(
+    number: u32,
+    table: &Shared<Option<T>, View<T, L>, Limits, Running<O, M>>,
+) -> u32
+    requires { 0 < table.now.table_id.words }
+{
+    let found = table.peek(WATCHED);
+    let known = Known::of(Density { number }).after_look(found);
+    known.together().number
 }
 
 /// How long a call waits after its next failed compare-and-swap. It is handed on by value, so that a
@@ -188,17 +248,17 @@ impl Pause {
     /// Of a call by this pass. It waits only where its calls follow one another closely.
     #[inline]
     pub fn of<T, L>(by: &Pass<T, L>) -> Pause
-        ensures dense { DENSE ≤ by.now.density.evidence → 0 < result.hints }
-        ensures sparse { by.now.density.evidence < DENSE → result.hints ≡ 0 }
+        ensures dense { DENSE ≤ evidence_of by.now.density → 0 < result.hints }
+        ensures sparse { evidence_of by.now.density < DENSE → result.hints ≡ 0 }
     {
-        let density = by.density;
+        let known = Known::of(by.density);
         Pause {
-            hints: if density.evidence >= DENSE {
+            hints: if known.evidence >= DENSE {
                 FIRST_HINTS
             } else {
                 0
             },
-            failed: matches!(density.sight, Sight::Failed),
+            failed: matches!(known.sight, Sight::Failed),
         }
     }
 
@@ -234,7 +294,7 @@ impl Pause {
 
 #[cfg(test)]
 mod tests {
-    use super::{Density, Pause, Sight};
+    use super::{Density, Known, Pause, Sight};
     use std::cell::Cell;
 
     // A word with this tag and this index.
@@ -278,19 +338,19 @@ mod tests {
             (15, 5, 3, 5, 3, 16),
             (23, 5, 3, 5, 3, 24),
             (24, 5, 3, 5, 3, 24),
-            (24, 5, 3, 6, 3, 8),
-            (16, 5, 3, 5, 4, 0),
-            (15, 5, 3, 7, 3, 0),
+            (24, 5, 3, 6, 3, 20),
+            (16, 5, 3, 5, 4, 12),
+            (3, 5, 3, 7, 3, 0),
             (0, 5, 3, 5, 1_048_575, 0),
         ];
         for (before, tag, index, tag_found, index_found, after) in looks {
-            let left = Density {
+            let left = Known {
                 evidence: before,
                 failures: 3,
                 sight: Sight::Nothing,
             };
-            let left = left.after_failure(word(tag, index));
-            let found = left.after_look(word(tag_found, index_found));
+            let left = left.after_failure(word(tag, index)).together();
+            let found = Known::of(left).after_look(word(tag_found, index_found));
             assert_eq!(rt; (found.evidence, found.failures), (after, 0));
             assert!(rt; matches!(found.sight, Sight::Nothing));
         }
@@ -300,9 +360,9 @@ mod tests {
     fn each_fourth_failure_makes_a_look(rt: HostRuntime) {
         let mut density = Density::new();
         for looks in [false, false, false, true, false, false, false, true] {
-            density = density.after_failure(word(1, 2));
-            assert_eq!(rt; matches!(density.sight, Sight::Left(3)), looks);
+            density = Known::of(density).after_failure(word(1, 2)).together();
+            assert_eq!(rt; matches!(Known::of(density).sight, Sight::Left(3)), looks);
         }
-        assert_eq!(rt; density.evidence, 0);
+        assert_eq!(rt; Known::of(density).evidence, 0);
     }
 }

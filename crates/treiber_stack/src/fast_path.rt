@@ -7,9 +7,15 @@ macro_rules! fast_step {
         match $step {
             (pass, Next::On(at)) => match at {
                 $line => (pass, $($read,)*),
-                at => return (pass, Next::On(at)),
+                at => {
+                    aside();
+                    return (pass, Next::On(at));
+                }
             },
-            other => return other,
+            other => {
+                aside();
+                return other;
+            }
         }
     };
 }

@@ -13,7 +13,7 @@ use atomic_table::Seat;
 use bounded_model::{PutRefused, Stepped, Word};
 use index_list::{move_out, put_in};
 use machine::View;
-use running::{Access, Code, Next, Outcome, any, first_step, single_step, to_the_end};
+use running::{Access, Code, Next, Outcome, any, aside, first_step, single_step, to_the_end};
 use stack_machine::Line;
 use stack_table::layout::{FREE_LIST, STACK_LIST};
 use stack_table::{Listed, Operation};

@@ -13,7 +13,7 @@ use atomic_table::Seat;
 use bounded_model::{Stepped, TakeRefused};
 use index_list::move_out;
 use machine::View;
-use running::{Access, Code, Next, Outcome, any, first_step, single_step, to_the_end};
+use running::{Access, Code, Next, Outcome, any, aside, first_step, single_step, to_the_end};
 use stack_machine::Line;
 use stack_table::Operation;
 use stack_table::layout::STACK_LIST;
