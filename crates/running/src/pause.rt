@@ -251,7 +251,14 @@ impl Pause {
         ensures dense { DENSE ≤ evidence_of by.now.density → 0 < result.hints }
         ensures sparse { evidence_of by.now.density < DENSE → result.hints ≡ 0 }
     {
-        let known = Known::of(by.density);
+        Pause::by(Known::of(by.density))
+    }
+
+    #[inline]
+    fn by(known: Known) -> Pause
+        ensures dense { DENSE ≤ known.evidence → 0 < result.hints }
+        ensures sparse { known.evidence < DENSE → result.hints ≡ 0 }
+    {
         Pause {
             hints: if known.evidence >= DENSE {
                 FIRST_HINTS
@@ -302,13 +309,19 @@ mod tests {
         tag.wrapping_mul(4_194_304).wrapping_add(index)
     }
 
+    // A pass with this evidence, before a call.
+    fn knowing(evidence: u8) -> Known {
+        Known {
+            evidence,
+            failures: 0,
+            sight: Sight::Nothing,
+        }
+    }
+
     #[test]
     fn waits_grow_to_the_longest(rt: HostRuntime) {
         let given = Cell::new(0u32);
-        let mut pause = Pause {
-            hints: 80,
-            failed: false,
-        };
+        let mut pause = Pause::by(knowing(8));
         for hints in [80u32, 320, 640, 640] {
             given.set(0);
             pause = pause.wait_by(|| given.set(given.get().wrapping_add(1)));
@@ -319,10 +332,7 @@ mod tests {
     #[test]
     fn who_does_not_wait_never_does(rt: HostRuntime) {
         let given = Cell::new(0u32);
-        let mut pause = Pause {
-            hints: 0,
-            failed: false,
-        };
+        let mut pause = Pause::by(knowing(7));
         for _ in 0..3 {
             pause = pause.wait_by(|| given.set(given.get().wrapping_add(1)));
         }
