@@ -1,5 +1,4 @@
 pub mod Stack
-pub mod Begun
 pub mod Refusing
 pub mod Giving
 pub mod Closing
@@ -8,6 +7,7 @@ pub mod Stepwise
 pub mod Taking
 pub mod Trying
 pub mod Naming
+pub mod Nodes
 pub mod Putting
 pub mod Folding
 pub mod Ranging

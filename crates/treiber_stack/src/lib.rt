@@ -13,7 +13,6 @@
 //! steps, and can then be gone on with.
 #![tactic(auto)]
 
-mod begun;
 mod bulk;
 mod closing;
 mod container;
@@ -23,9 +22,9 @@ mod folding;
 mod giving;
 mod making;
 mod naming;
+mod nodes;
 mod places;
 mod putting;
-mod range_steps;
 mod ranging;
 mod refusing;
 mod rest;
