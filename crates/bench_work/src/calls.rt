@@ -8,18 +8,7 @@ use crate::work::{Work, keep};
 use bounded_model::{PutRefused, TakeRefused};
 use std::sync::Wait;
 use std::time::Clock;
-use std::{hint, thread};
-
-/// How many hints of the processor a refused caller gives before it yields.
-const HINTS: u32 = 50;
-
-// After a refusal: another thread may soon put or take, and if not, it may need this processor.
-fn give_way() {
-    for _ in 0..HINTS {
-        hint::spin_loop();
-    }
-    thread::yield_now();
-}
+use waiting::wait_a_little;
 
 // Tries until the item is in; `false` where none can be put any more.
 #[inline(always)]
@@ -44,7 +33,7 @@ fn put_one<C: Pool, M: Meter, R: Wait + Clock>(
             Ok(_) => return (pass, true),
             Err(PutRefused::Full(refused)) => {
                 item = refused;
-                give_way();
+                wait_a_little();
             }
             Err(_) => return (pass, false),
         }
@@ -100,7 +89,7 @@ pub fn take_all<C: Pool, M: Meter, R: Wait + Clock>(
                 taken = taken.saturating_add(1);
                 made ^= work.on(item);
             }
-            Err(TakeRefused::Empty) => give_way(),
+            Err(TakeRefused::Empty) => wait_a_little(),
             Err(_) => {
                 keep(made);
                 return taken;

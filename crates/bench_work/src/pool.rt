@@ -3,8 +3,9 @@
 use bounded_model::{Container, PutRefused, TakeRefused};
 use std::sync::Wait;
 
-/// The calls of a container that take a pass. It has one associated type, where `Container` has
-/// three, since what a thread is started with may name no more than one.
+/// The calls that a measurement makes. They promise nothing of what is done, since the kit's ring
+/// has them too; and there is one associated type, where `Container` has four, since what a thread
+/// is started with may name no more than one.
 pub trait Pool: Drop {
     type Pass: Drop + Send;
 

@@ -2,7 +2,7 @@
 //! note that one makes for the other.
 #![tactic(auto)]
 
-ghost use Rattle.std.specs.Prelude.{IfOk};
+ghost use Rattle.std.specs.Prelude.{IfOk, IfSome};
 ghost use Rattle.treiber_stack.specs.Stack.{IsPassOf};
 
 use bounded_model::{Bulk, Container, MakeRefused, PutRefused, Stepped, consume_one};
@@ -13,10 +13,15 @@ use tagged_index::{Limits, MAX_TAG};
 use thiserror::Error;
 use treiber_stack::{Pass, Stack};
 
+/// No put makes so many steps where its pass is the only one.
+const ENOUGH: u64 = 16;
+
 #[derive(Debug, Drop, Error)]
 enum Fault {
     #[error("no memory for the stack")]
     Make(#[from] MakeRefused),
+    #[error("a put was not done after 16 steps")]
+    Steps,
     #[error("output failed")]
     Output(#[from] io::Error),
 }
@@ -47,30 +52,29 @@ fn steps<R: Print + Wait>(
     ensures { IfOk result (λ ps. IsPassOf stack.now ps.0 × IsPassOf stack.now ps.1) }
 {
     let (other, between) = stack.put(rt, other, 5);
-    let (pass, answer, count) = put_by_steps(rt, stack, by, 4);
+    let (pass, answer, count) = put_by_steps(stack, by, 4).ok_or(Fault::Steps)?;
     println!(rt; "put {between:?}, and {answer:?} by {count} steps")?;
     Ok((pass, other))
 }
 
-fn put_by_steps<R: Wait>(
-    rt: &R,
+// Puts a value by single steps; `None` where it is not done after so many. Then it is dropped, and
+// its pass and its value with it.
+fn put_by_steps(
     stack: &Stack<u64>,
     by: Pass<u64>,
     value: u64,
-) -> (Pass<u64>, Result<u64, PutRefused<u64>>, u64)
+) -> Option<(Pass<u64>, Result<u64, PutRefused<u64>>, u64)>
     requires { IsPassOf stack.now by }
-    ensures { IsPassOf stack.now result.0 }
+    ensures { IfSome result (λ done. IsPassOf stack.now done.0) }
 {
     let mut op = stack.begin_put(by, value);
-    let mut count: u64 = 0;
-    for _ in rt.forever() {
-        count = count.saturating_add(1);
+    for count in 1..=ENOUGH {
         match op.step(stack) {
             Stepped::Again(next) => op = next,
-            Stepped::Done(pass, answer) => return (pass, answer, count),
+            Stepped::Done(pass, answer) => return Some((pass, answer, count)),
         }
     }
-    unreachable!()
+    None
 }
 
 // The first pass tells the second what it has seen.

@@ -72,7 +72,7 @@ marking (Done (Open w x)) = On (Mark w x)
 
 module _ {T : Type 0} (c : Queue T) where
   abbrev pub ClosesTo : CloseAt → List (ℕ × Slot T) → Next CloseAt Bool → Line T → Type 0
-  ClosesTo s has to l = Leads names (λ x. CloseFirst) close_line (λ x. []) (λ at. HasReadToClose (room_of c) (limit_of c) at) (λ x b. ends (AnswerClose b)) s l has to
+  ClosesTo s has to l = Leads names (λ x. CloseFirst) close_line (λ x. []) (λ at. HasReadToClose (room_of c) (limit_of c) at) (λ x b. ends (AnswerClose b)) (λ a. []) s l has to
 
   abbrev pub Closing : CloseAt → Outcome → List (ℕ × Slot T) → Next CloseAt Bool → Type 0
   Closing s r has to = Finding (machine_of c).core (close_line s) r [] has (λ found came. ClosesTo s has to (next (limit_of c) (close_line s) found came))
@@ -80,7 +80,7 @@ module _ {T : Type 0} (c : Queue T) where
   follows : (s : CloseAt) (has : List (ℕ × Slot T)) (to : Next Seek End) (l : Line T) → Seeks c l ToClose [] has to → ClosesTo s has (marking to) l
   follows s has (On at) l e = record { same = refl; is = e.0; busy = busy {T = T} ToClose at; hand = e.1; knows = e.2 }
   follows s has (Lost at) l e = record { same = refl; is = e.0; busy = busy {T = T} ToClose at; hand = e.1; knows = e.2 }
-  follows s has (Done EndClosed) l e = record { is = e.0; idle = refl; hand = e.1 }
+  follows s has (Done EndClosed) l e = record { is = e.0; hand = e.1 }
   follows s has (Done (Open w x)) l e = record { same = refl; is = e.0; busy = refl; hand = e.1; knows = e.2 }
 
   pub sought_close : {s : CloseAt} {at : Seek} → s ≡ Seeking at → (r : Outcome) (has : List (ℕ × Slot T)) → Came (machine_of c).core (close_line s) r [] has → (to : Next Seek End) → ((aim : Aim T) (had has : List (ℕ × Slot T)) → SoughtTo c aim at r had has to) → Closing s r has (marking to)

@@ -111,7 +111,7 @@ module _ {T : Type 0} where
 -- where the code of a put goes on
 module _ {T : Type 0} (c : Queue T) where
   abbrev pub PutsTo : PutAt T → List (ℕ × Slot T) → Onward (PutAt T) (Result ℕ (PutRefused T)) → Line T → Type 0
-  PutsTo s has to l = Leads names (λ a. put_of (put_value a)) put_line put_slots (λ a. HasReadToPut (room_of c) (limit_of c) a) (λ x r. ends (AnswerPut r)) s l has to
+  PutsTo s has to l = Leads names (λ a. put_of (put_value a)) put_line put_slots (λ a. HasReadToPut (room_of c) (limit_of c) a) (λ x r. ends (AnswerPut r)) (λ a. []) s l has to
 
   abbrev pub Putting : PutAt T → Outcome → List (ℕ × Slot T) → List (ℕ × Slot T) → Onward (PutAt T) (Result ℕ (PutRefused T)) → Type 0
   Putting s r had has to = Finding (machine_of c).core (put_line s) r (put_slots s) had (λ found came. PutsTo s has to (next (limit_of c) (put_line s) found came))
@@ -126,7 +126,7 @@ module _ {T : Type 0} (c : Queue T) where
     follows : (read : AreHeld (room_of c) held) (at : Give) (has : List (ℕ × Slot T)) (to : Onward Give (Unit {0})) (l : Line T) → Gives l (refused why) held has to → PutsTo (GiveBack why held at) has (refusing to) l
     follows read at has (On to) l e = record { same = refl; is = e.0; busy = busy_giving (refused why) held to; hand = e.1; knows = read }
     follows read at has (Lost to) l e = record { same = refl; is = e.0; busy = busy_giving (refused why) held to; hand = e.1; knows = read }
-    follows read at has (Answered x) l e = record { is = e.0; idle = refl; hand = e.1 }
+    follows read at has (Answered x) l e = record { is = e.0; hand = e.1 }
 
     pub gave_put : {s : PutAt T} {at : Give} → s ≡ GiveBack why held at → HasReadToPut (room_of c) (limit_of c) s → (r : Outcome) (has : List (ℕ × Slot T)) (to : Onward Give (Unit {0})) → ((a : Answer T) (held : Held) (has : List (ℕ × Slot T)) → GaveTo c a held at r has to) → Putting s r has has (refusing to)
     gave_put {s} {at} is read r has to gave = subst (λ (k : PutAt T). Putting k r has has (refusing to)) (sym is)
@@ -143,8 +143,8 @@ module _ {T : Type 0} (c : Queue T) where
     barred_so : (at : Seek) (has : List (ℕ × Slot T)) (to : Onward Seek End) (l : Line T) → Seeks c l (ToRefuse x) [] has to → PutsTo (Refusing x at) has (barred to) l
     barred_so at has (On to) l e = record { same = refl; is = e.0; busy = busy (ToRefuse x) to; hand = e.1; knows = e.2 }
     barred_so at has (Lost to) l e = record { same = refl; is = e.0; busy = busy (ToRefuse x) to; hand = e.1; knows = e.2 }
-    barred_so at has (Answered AtMark) l e = record { is = e.0; idle = refl; hand = e.1 }
-    barred_so at has (Answered (AtNull w n)) l e = record { is = e.0; idle = refl; hand = e.1 }
+    barred_so at has (Answered AtMark) l e = record { is = e.0; hand = e.1 }
+    barred_so at has (Answered (AtNull w n)) l e = record { is = e.0; hand = e.1 }
 
     pub sought_refusal : {s : PutAt T} {at : Seek} → s ≡ Refusing x at → (r : Outcome) (has : List (ℕ × Slot T)) → Came (machine_of c).core (put_line s) r (put_slots s) has → (to : Onward Seek End) → ((aim : Aim T) (had has : List (ℕ × Slot T)) → SoughtTo c aim at r had has to) → Putting s r has has (barred to)
     sought_refusal {s} {at} is r has came to sought = subst (λ (k : PutAt T). Putting k r has has (barred to)) (sym is)

@@ -73,7 +73,7 @@ returning t (Done x) = Done (Ok (t.value, t.number))
 
 module _ {T : Type 0} (c : Queue T) where
   abbrev pub TakesTo : TakeAt T → List (ℕ × Slot T) → Next (TakeAt T) (Result (T × ℕ) TakeRefused) → Line T → Type 0
-  TakesTo s has to l = Leads names (λ x. First) take_line take_slots (λ at. HasReadToTake (room_of c) (limit_of c) at) (λ x a. ends (AnswerTake a)) s l has to
+  TakesTo s has to l = Leads names (λ x. First) take_line take_slots (λ at. HasReadToTake (room_of c) (limit_of c) at) (λ x a. ends (AnswerTake a)) (λ a. []) s l has to
 
   abbrev pub Taking : TakeAt T → Outcome → List (ℕ × Slot T) → List (ℕ × Slot T) → Next (TakeAt T) (Result (T × ℕ) TakeRefused) → Type 0
   Taking s r had has to = Finding (machine_of c).core (take_line s) r (take_slots s) had (λ found came. TakesTo s has to (next (limit_of c) (take_line s) found came))
@@ -82,7 +82,7 @@ module _ {T : Type 0} (c : Queue T) where
     follows : (to : Next Give (Unit {0})) (l : Line T) → Gives l (took t) t.held has to → TakesTo s has (returning t to) l
     follows (On at) l e = record { same = refl; is = e.0; busy = busy_giving (took t) t.held at; hand = e.1; knows = held }
     follows (Lost at) l e = record { same = refl; is = e.0; busy = busy_giving (took t) t.held at; hand = e.1; knows = held }
-    follows (Done x) l e = record { is = e.0; idle = refl; hand = e.1 }
+    follows (Done x) l e = record { is = e.0; hand = e.1 }
 
   pub gave_take : {s : TakeAt T} {t : Taken T} {at : Give} → s ≡ GiveBack t at → HasReadToTake (room_of c) (limit_of c) s → (r : Outcome) (has : List (ℕ × Slot T)) (to : Next Give (Unit {0})) → ((a : Answer T) (held : Held) (has : List (ℕ × Slot T)) → GaveTo c a held at r has to)
       → Taking s r has has (returning t to)

@@ -128,8 +128,8 @@ module _ {T : Type 0} where
 
   -- a whole call of this operation is at this
   abbrev pub PutStands : Queue T → Operation T → Pass T (Line T) → PutAt T → Type 0
-  PutStands c o p at = (o ≡ put_of (put_value at)) × Stands (machine_of c) {A = Result ℕ (PutRefused T)} (λ s. put_of (put_value s)) put_line put_slots (λ s. HasReadToPut (room_of c) (limit_of c) s) (λ x r. ends (AnswerPut r)) c.table.shared.table_id p at
+  PutStands c o p at = (o ≡ put_of (put_value at)) × Stands (machine_of c) {A = Result ℕ (PutRefused T)} (λ s. put_of (put_value s)) put_line put_slots (λ s. HasReadToPut (room_of c) (limit_of c) s) (λ x r. ends (AnswerPut r)) (λ a. []) c.table.shared.table_id p at
 
   -- what some steps of it give
   abbrev pub PutRan : Queue T → Operation T → Pass T (Line T) → Pass T (Line T) → Next (PutAt T) (Result ℕ (PutRefused T)) → Type 0
-  PutRan c o p q r = Ran (machine_of c) (λ s. put_of (put_value s)) put_line put_slots (λ s. HasReadToPut (room_of c) (limit_of c) s) (λ x a. ends (AnswerPut a)) c.table.shared.table_id o p q r
+  PutRan c o p q r = Ran (machine_of c) (λ s. put_of (put_value s)) put_line put_slots (λ s. HasReadToPut (room_of c) (limit_of c) s) (λ x a. ends (AnswerPut a)) (λ a. []) c.table.shared.table_id o p q r

@@ -70,8 +70,8 @@ module _ {T : Type 0} where
 
   -- a whole call is at this
   abbrev pub TakeStands : Queue T → Pass T (Line T) → TakeAt T → Type 0
-  TakeStands c p at = Stands (machine_of c) {A = Result (T × ℕ) TakeRefused} (λ x. TakeFirst) take_line take_slots (λ s. HasReadToTake (room_of c) (limit_of c) s) (λ x a. ends (AnswerTake a)) c.table.shared.table_id p at
+  TakeStands c p at = Stands (machine_of c) {A = Result (T × ℕ) TakeRefused} (λ x. TakeFirst) take_line take_slots (λ s. HasReadToTake (room_of c) (limit_of c) s) (λ x a. ends (AnswerTake a)) (λ a. []) c.table.shared.table_id p at
 
   -- what some steps of it give
   abbrev pub TakeRan : Queue T → Operation T → Pass T (Line T) → Pass T (Line T) → Next (TakeAt T) (Result (T × ℕ) TakeRefused) → Type 0
-  TakeRan c o p q r = Ran (machine_of c) (λ x. TakeFirst) take_line take_slots (λ at. HasReadToTake (room_of c) (limit_of c) at) (λ x a. ends (AnswerTake a)) c.table.shared.table_id o p q r
+  TakeRan c o p q r = Ran (machine_of c) (λ x. TakeFirst) take_line take_slots (λ at. HasReadToTake (room_of c) (limit_of c) at) (λ x a. ends (AnswerTake a)) (λ a. []) c.table.shared.table_id o p q r

@@ -14,7 +14,7 @@ use machine::seats::View;
 use queue_machine::Line;
 use queue_table::Operation;
 use queue_table::layout::next;
-use running::{Access, Code, Next, Outcome, any, raised, single_step, to_the_end};
+use running::{Access, Code, Next, Outcome, first_step, raised, single_step, to_the_end};
 use std::sync::Wait;
 use tagged_index::{NULL, Tagged};
 
@@ -57,7 +57,7 @@ impl<T> Queue<T> {
     {
         let table = &self.table.shared;
         let close = Operation::Close;
-        let first = any(table, self, by, CloseAt::Seeking(Seek::LoadTail), &close);
+        let first = first_step(table, self, by, CloseAt::Seeking(Seek::LoadTail), &close);
         to_the_end(rt, table, self, first, &close)
     }
 }

@@ -13,7 +13,7 @@ use machine::View;
 use queue_machine::Line;
 use queue_table::Operation;
 use queue_table::layout::{HEAD, TAIL, next};
-use running::{Access, Code, Next, Outcome, any, single_step, to_the_end};
+use running::{Access, Code, Next, Outcome, first_step, single_step, to_the_end};
 use std::sync::Wait;
 use tagged_index::{NULL, Tagged};
 
@@ -47,7 +47,7 @@ impl<T> Queue<T> {
     {
         let table = &self.table.shared;
         let len = Operation::Len;
-        let first = any(table, self, by, LenAt::LoadHead, &len);
+        let first = first_step(table, self, by, LenAt::LoadHead, &len);
         let (pass, count) = to_the_end(rt, table, self, first, &len);
         (pass, count as u32)
     }

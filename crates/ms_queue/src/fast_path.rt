@@ -1,5 +1,4 @@
 //! How a whole call goes from one step to the next on its fast path.
-use std::hint;
 
 /// What the operation is at next; or what it has there, if its step leads where it is said to.
 /// Where the step leads elsewhere, the function returns what it gave.
@@ -31,12 +30,3 @@ macro_rules! fast_path {
 }
 
 pub(crate) use fast_path;
-
-/// Where a call leaves its fast path. It is cold, so that the compiler takes the steps that go on for
-/// the usual way: else it takes a step behind some ten branches for a rare one, and calls it. The
-/// hint is nothing to a call that leaves, and keeps this one from being left out.
-#[cold]
-#[inline(never)]
-pub(crate) fn aside() {
-    hint::spin_loop();
-}

@@ -11,7 +11,7 @@ ghost use Rattle.running.specs.Passes.{pass_in};
 ghost use Rattle.ms_queue.specs.Queue.{IsPassOf, begun_of, shape_of};
 ghost use Rattle.ms_queue.specs.Putting.{IsPutting, PutStep, PutStands, PutRan, put_of};
 
-use crate::fast_path::{aside, fast_path};
+use crate::fast_path::fast_path;
 use crate::giving::{Give, Held};
 use crate::queue::{Pass, Queue};
 use crate::rule::Queued;
@@ -23,7 +23,9 @@ use machine::seats::View;
 use queue_machine::Line;
 use queue_table::Operation;
 use queue_table::layout::{CELL_LIST, NODE_LIST, TAIL, cell, next};
-use running::{Access, Code, Next, Outcome, any, raised, single_step, to_the_end};
+use running::{
+    Access, Code, Next, Outcome, any, aside, first_step, raised, single_step, to_the_end,
+};
 use std::snapshot::Snapshot;
 use std::sync::Wait;
 use tagged_index::{NULL, Tagged};
@@ -154,7 +156,7 @@ impl<T> Queue<T> {
     {
         let table = &self.table.shared;
         let (pass, value, cells) = fast_path!(
-            any(table, self, by, PutAt::LoadCells(value), put),
+            first_step(table, self, by, PutAt::LoadCells(value), put),
             PutAt::LoadCellLink(value, cells) => value, cells
         );
         let (pass, value, cells, link) = fast_path!(
@@ -288,6 +290,11 @@ impl<T> Code<Queue<T>, T, Line<T>, Operation<T>, Queued, Answer<T>, 2> for PutAt
     ghost knows = { λ c at. HasReadToPut (room_of c) (limit_of c) at };
 
     ghost answer = { λ _ r. ends (AnswerPut r) };
+
+    #[inline]
+    fn is_refusal(answer: &Answer<T>) -> bool {
+        answer.is_err()
+    }
 
     #[inline(always)]
     fn access(&self, on: &Queue<T>) -> Access {

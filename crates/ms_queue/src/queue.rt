@@ -29,7 +29,7 @@ pub struct Queue<T> {
     pub(crate) ghost slots: { table.shared.table_id.slots ≡ capacity_of table.shared.key },
 }
 
-/// Steps on a queue. It has no bytes.
+/// Steps on a queue. It has four bytes, by which its calls know whether to wait.
 pub type Pass<T> = running::Pass<T, Line<T>>;
 
 /// Gives passes and takes them back.

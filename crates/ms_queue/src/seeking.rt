@@ -77,7 +77,13 @@ impl<T> Queue<T> {
                 Next::On(Seek::SwingTail(tail, link))
             }
             // Whoever succeeds, the tail is then no longer the same.
-            Seek::SwingTail(_, _) => Next::Lost(Seek::LoadTail),
+            Seek::SwingTail(_, _) => {
+                if outcome.won {
+                    Next::On(Seek::LoadTail)
+                } else {
+                    Next::Lost(Seek::LoadTail)
+                }
+            }
         }
     }
 }

@@ -13,7 +13,7 @@ use machine::seats::View;
 use queue_machine::Line;
 use queue_table::Operation;
 use queue_table::layout::HEAD;
-use running::{Access, Code, Next, Outcome, any, single_step, to_the_end};
+use running::{Access, Code, Next, Outcome, first_step, single_step, to_the_end};
 use std::sync::Wait;
 use tagged_index::Tagged;
 
@@ -56,7 +56,7 @@ impl<T> Queue<T> {
     {
         let table = &self.table.shared;
         let shut = Operation::Shut;
-        let first = any(table, self, by, ShutAt::LoadHead, &shut);
+        let first = first_step(table, self, by, ShutAt::LoadHead, &shut);
         to_the_end(rt, table, self, first, &shut)
     }
 }

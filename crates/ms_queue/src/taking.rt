@@ -6,7 +6,7 @@ ghost use Rattle.running.specs.Passes.{pass_in};
 ghost use Rattle.ms_queue.specs.Queue.{IsPassOf, begun_of, shape_of};
 ghost use Rattle.ms_queue.specs.Taking.{IsTaking, TakeStep, TakeStands, TakeRan};
 
-use crate::fast_path::{aside, fast_path};
+use crate::fast_path::fast_path;
 use crate::giving::{Give, Held};
 use crate::queue::{Pass, Queue};
 use crate::rule::Queued;
@@ -17,7 +17,9 @@ use machine::seats::View;
 use queue_machine::Line;
 use queue_table::Operation;
 use queue_table::layout::{HEAD, TAIL, cell, next};
-use running::{Access, Code, Next, Outcome, any, raised, single_step, to_the_end};
+use running::{
+    Access, Code, Next, Outcome, any, aside, first_step, raised, single_step, to_the_end,
+};
 use std::sync::Wait;
 use tagged_index::{NULL, Tagged};
 
@@ -115,7 +117,7 @@ impl<T> Queue<T> {
     {
         let table = &self.table.shared;
         let (pass, head) = fast_path!(
-            any(table, self, by, TakeAt::LoadHead, take),
+            first_step(table, self, by, TakeAt::LoadHead, take),
             TakeAt::LoadTail(head) => head
         );
         let (pass, head, tail) = fast_path!(
@@ -218,6 +220,11 @@ impl<T> Code<Queue<T>, T, Line<T>, Operation<T>, Queued, Answer<T>, 2> for TakeA
 
     ghost answer = { λ _ r. ends (AnswerTake r) };
 
+    #[inline]
+    fn is_refusal(answer: &Answer<T>) -> bool {
+        answer.is_err()
+    }
+
     #[inline(always)]
     fn access(&self, on: &Queue<T>) -> Access {
         match self {
@@ -274,7 +281,13 @@ impl<T> Code<Queue<T>, T, Line<T>, Operation<T>, Queued, Answer<T>, 2> for TakeA
                 Next::On(TakeAt::LoadCell(head, link))
             }
             // Whoever succeeds, the tail is then no longer at the dummy.
-            TakeAt::SwingTail(_, _) => Next::Lost(TakeAt::LoadHead),
+            TakeAt::SwingTail(_, _) => {
+                if outcome.won {
+                    Next::On(TakeAt::LoadHead)
+                } else {
+                    Next::Lost(TakeAt::LoadHead)
+                }
+            }
             TakeAt::LoadCell(head, link) => {
                 Next::On(TakeAt::TakeHead(head, link, outcome.word as u32))
             }

@@ -17,7 +17,7 @@ use crate::shutting::ShutOp;
 use crate::taking::TakeOp;
 use bounded_model::{PutRefused, Stepped, TakeRefused};
 use queue_table::Operation;
-use running::{Next, Pause, try_for};
+use running::{Next, at_once, try_for};
 
 impl<T> Queue<T> {
     /// Puts a value on the fast path alone, with a wait where a compare-and-swap failed. Where that
@@ -32,22 +32,14 @@ impl<T> Queue<T> {
         ensures { PutTried self.now value (pass_in by) result }
     {
         let operation = put_operation(&value);
-        let (pass, next) = self.put_fast(by, value, &operation);
-        match next {
-            Next::Done(answer) => Stepped::Done(pass, answer),
-            Next::On(at) => Stepped::Again(PutOp {
+        let first = self.put_fast(by, value, &operation);
+        match at_once(self, first, &operation) {
+            Stepped::Again((pass, at)) => Stepped::Again(PutOp {
                 pass,
                 operation,
                 at,
             }),
-            Next::Lost(at) => {
-                let _ = Pause::first().wait();
-                Stepped::Again(PutOp {
-                    pass,
-                    operation,
-                    at,
-                })
-            }
+            Stepped::Done(pass, answer) => Stepped::Done(pass, answer),
         }
     }
 
@@ -61,14 +53,10 @@ impl<T> Queue<T> {
         ensures { TakeTried self.now (pass_in by) result }
     {
         let take = Operation::Take;
-        let (pass, next) = self.take_fast(by, &take);
-        match next {
-            Next::Done(answer) => Stepped::Done(pass, answer),
-            Next::On(at) => Stepped::Again(TakeOp { pass, at }),
-            Next::Lost(at) => {
-                let _ = Pause::first().wait();
-                Stepped::Again(TakeOp { pass, at })
-            }
+        let first = self.take_fast(by, &take);
+        match at_once(self, first, &take) {
+            Stepped::Again((pass, at)) => Stepped::Again(TakeOp { pass, at }),
+            Stepped::Done(pass, answer) => Stepped::Done(pass, answer),
         }
     }
 }

@@ -1,15 +1,18 @@
 -- One more call of the pass that puts, and of the pass that takes.
-use Rattle.std.proofs.Common.{◌≡◌, ℕ, suc, ◌+◌, ◌<◌, ◌≤◌, List, [], ◌∷◌, ◌++◌, refl, ap, sym, ◌∙◌, arith, append-nil, append_assoc, length, length-append, Ok, Err, inl, inr}
+use Rattle.std.proofs.Common.{◌≡◌, ℕ, suc, ◌+◌, ◌<◌, ◌≤◌, List, [], ◌∷◌, ◌++◌, refl, ap, sym, ◌∙◌, subst, map, arith, append-nil, append_assoc, length, length-append, Result, Ok, Err, IfOk, MatchResult, inl, inr}
 use Rattle.bounded_model.specs.declared.answers.PutRefused.{PutRefused}
 use Rattle.bounded_model.specs.declared.answers.PutRefused.TheVariants.{Full, Closed, Spent}
 use Rattle.bounded_model.specs.declared.answers.TakeRefused.{TakeRefused}
-use Rattle.bounded_model.specs.declared.answers.TakeRefused.TheVariants.{Empty, Closed as TakeClosed, Spent as TakeSpent, Shut as TakeShut}
 use Rattle.bounded_model.specs.declared.views.PassView.{PassView}
 use Rattle.bounded_model.specs.Machine.{Shape}
 use Rattle.bounded_model.specs.Gathers.{did, put_of, took_of, values_of, hold_of, close_of, shut_of}
 use Rattle.bounded_model.specs.Laws.{BacksOut, PutGives, TakeGives}
+use Rattle.bounded_model.specs.Consumes.{TakesEach, Folds}
 use Rattle.bounded_model.proofs.Doing.{did-adds, did-nothing, did-backs_out, holds_by-backs_out}
 use Rattle.bounded_model.proofs.Balance.{values_of-append}
+use Rattle.waiting.specs.declared.stopped.TakeStopped.{TakeStopped}
+use Rattle.waiting.specs.declared.stopped.TakeStopped.TheVariants.{Closed as StopsClosed, Shut as StopsShut, Spent as StopsSpent}
+use Rattle.waiting.specs.Waits.{refused_take}
 use Rattle.one_way.specs.Carrying.{value_of, Puts, PutEnded, Takes, TakeEnded}
 
 pub length-front : {A : Type 0} {x : A} {all rest : List A} → all ≡ x ∷ rest → length all ≡ suc (length rest)
@@ -80,9 +83,30 @@ module _ {T : Type 0} where
     shuts = did-nothing shut_of g.0 ∙ p.shuts;
   }
 
-  -- a take that was refused, and not because there was no value yet
-  pub TakeEnded-refused : (c : Shape) {u w : PassView T} (why : TakeRefused) → (why ≡ Empty → ⊥) → TakeGives c u w (Err why) → TakeEnded c w
-  TakeEnded-refused c Empty more g = absurd (more refl)
-  TakeEnded-refused c TakeClosed more g = inl (record { at = g.1.at; until = g.1.until; holds = (g.1.holds.0, g.1.holds.1) })
-  TakeEnded-refused c TakeShut more g = inr (inl (record { at = g.1.at; until = g.1.until; holds = g.1.holds }))
-  TakeEnded-refused c (TakeSpent word t) more g = inr (inr (record { at = g.1.at; until = g.1.until; holds = g.1.holds.1 }))
+  -- one take after another
+  pub Takes-each : (c : Shape) (v u w : PassView T) (done : List T) (xs : List (T × ℕ)) → Takes v u done → TakesEach c u xs w → Takes v w (done ++ map (λ x. x.0) xs)
+  Takes-each c v u w done [] p e = rw (← e, append-nil done) p
+  Takes-each c v u w done (x ∷ xs) p e = subst (λ l. Takes v w l) (append_assoc done (x.0 ∷ []) (map (λ y. y.0) xs)) (Takes-each c v e.0 w (done ++ x.0 ∷ []) xs (Takes-ok c p e.1) e.2)
+
+  -- a take that was refused for good
+  pub TakeEnded-stopped : (c : Shape) {u w : PassView T} (why : TakeStopped) → TakeGives c u w (Err (refused_take why)) → TakeEnded c w
+  TakeEnded-stopped c StopsClosed g = inl (record { at = g.1.at; until = g.1.until; holds = (g.1.holds.0, g.1.holds.1) })
+  TakeEnded-stopped c StopsShut g = inr (inl (record { at = g.1.at; until = g.1.until; holds = g.1.holds }))
+  TakeEnded-stopped c (StopsSpent word t) g = inr (inr (record { at = g.1.at; until = g.1.until; holds = g.1.holds.1 }))
+
+-- lists that one value after another is added to, each at the end, until that fails
+module _ {T V E : Type 0} (items : V → List T) where
+  abbrev pub Adds_to : Result V E → T → Result V E → Type 0
+  Adds_to s x t = IfOk t (λ all. MatchResult s (λ before. items all ≡ items before ++ x ∷ []) (λ refused. ⊥))
+
+  last_added : (s : Result V E) (x : T) (r : Result V E) (all : V) → r ≡ Ok all → Adds_to s x r → (before : V) × (s ≡ Ok before) × (items all ≡ items before ++ x ∷ [])
+  last_added (Ok before) x r all e a = (before, refl, rw e at a)
+  last_added (Err refused) x r all e a = absurd (rw e at a)
+
+  pub all_added : (Gives : Result V E → T × ℕ → Result V E → Type 0) → ((s : Result V E) (x : T × ℕ) (t : Result V E) → Gives s x t → Adds_to s x.0 t)
+      → (s : Result V E) (xs : List (T × ℕ)) (all : V) → Folds Gives s xs (Ok all) → (before : V) × (s ≡ Ok before) × (items all ≡ items before ++ map (λ x. x.0) xs)
+  all_added Gives each s [] all f = (all, f, sym (append-nil (items all)))
+  all_added Gives each s (x ∷ xs) all f =
+      let rest = all_added Gives each f.0 xs all f.2 in
+      let first = last_added s x.0 f.0 rest.0 rest.1 (each s x f.0 f.1) in
+      (first.0, first.1, rest.2 ∙ (ap (λ l. l ++ map (λ y. y.0) xs) first.2 ∙ append_assoc (items first.0) (x.0 ∷ []) (map (λ y. y.0) xs)))

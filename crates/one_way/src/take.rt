@@ -1,11 +1,23 @@
 //! The pass that takes.
 
-ghost use Rattle.std.specs.Prelude.{IfOk};
+ghost use Rattle.std.specs.Prelude.{◌≡◌, ◌∷◌, ◌++◌, [], IfOk, MatchResult};
 ghost use Rattle.one_way.specs.Carrying.{Takes, TakeEnded};
 
-use bounded_model::{Container, TakeRefused};
+use bounded_model::Container;
 use std::alloc::{AllocError, Global};
 use std::sync::Wait;
+use waiting::take_all_until_closed;
+
+// The values with one more at the end. Where there was no memory for one, none is kept any more.
+fn with_value<T: Drop>(taken: Result<Vec<T>, AllocError>, value: T) -> Result<Vec<T>, AllocError>
+    ensures { IfOk result (λ all. MatchResult taken
+        (λ before. all.items ≡ before.items ++ value ∷ [])
+        (λ refused. ⊥)) }
+{
+    let mut all = taken?;
+    all.push(value)?;
+    Ok(all)
+}
 
 /// Takes until a take says that nothing will follow; returns the values in the order of taking.
 pub(crate) fn take_all<T: Drop, C: Container<T>, W: Wait>(
@@ -19,16 +31,10 @@ pub(crate) fn take_all<T: Drop, C: Container<T>, W: Wait>(
     ensures takes { IfOk result (λ r. Takes (C.pass by) (C.pass r.0) r.1.items) }
     ensures ended { IfOk result (λ r. TakeEnded (C.shape c.now) (C.pass r.0)) }
 {
-    let mut pass = by;
-    let mut taken = Vec::new(alloc);
-    for _ in rt.forever() {
-        let (back, answer) = c.take(rt, pass);
-        pass = back;
-        match answer {
-            Ok((value, _)) => taken.push(value)?,
-            Err(TakeRefused::Empty) => {}
-            Err(_) => return Ok((pass, taken)),
-        }
-    }
-    unreachable!()
+    let none = Ok(Vec::new(alloc));
+    let add = |taken: Result<Vec<T>, AllocError>, (value, _number): (T, u64)| {
+        with_value(taken, value)
+    };
+    let (pass, taken, _) = take_all_until_closed(c, rt, by, none, add);
+    Ok((pass, taken?))
 }

@@ -9,5 +9,6 @@ pub record PoolView (P : Type 0) : Type 1 where
   pub view : P → PassView Message
   pub shape : Shape
 
-abbrev pub pool_of : {P : Type 0} → (P → Type 0) → (P → PassView Message) → Shape → PoolView P
-pool_of is_pass view shape = record { is_pass = is_pass; view = view; shape = shape }
+-- this one of the containers that have these members
+abbrev pub pool_of : {S P : Type 0} → (S → P → Type 0) → (P → PassView Message) → (S → Shape) → S → PoolView P
+pool_of is_pass view shape c = record { is_pass = is_pass c; view = view; shape = shape c }

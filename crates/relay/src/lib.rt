@@ -13,7 +13,7 @@
 //! hold threads where it wants them.
 //!
 //! `running` makes a relay: its `plan` and its `memory` are looked at first, then `threads`
-//! start the `workers`, which see the container as a `pool`, and `merge` puts together what they
+//! start the `workers`, whose puts and takes wait, and `merge` puts together what they
 //! took.
 #![tactic(auto)]
 
@@ -24,7 +24,6 @@ mod merge;
 mod messages;
 mod outcome;
 mod plan;
-mod pool;
 mod running;
 mod threads;
 mod workers;

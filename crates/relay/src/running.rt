@@ -43,16 +43,16 @@ fn work<C: Container<Message> + Sync, G: Gate + Sync, R: Threads + Wait + Sync>(
     ensures root { C.is_root site.now.container root.new }
     ensures given { IfOk result (λ e.
         C.root root.new ≡ gave (vec_len inputs + vec_len room.taken + 1)) }
-    ensures senders { IfOk result (λ e. let c = site.now.container in
-        let pool = pool_of (C.is_pass c) C.pass (C.shape c) in
+    ensures senders { IfOk result (λ e.
+        let pool = pool_of C.is_pass C.pass C.shape site.now.container in
         EachSent pool site.now.orders inputs.items e.sent.items) }
-    ensures takers { IfOk result (λ e. let c = site.now.container in
-        let pool = pool_of (C.is_pass c) C.pass (C.shape c) in
+    ensures takers { IfOk result (λ e.
+        let pool = pool_of C.is_pass C.pass C.shape site.now.container in
         EachFrom (TookAs pool site.now.orders) 0 e.took.items) }
     ensures consumers { IfOk result (λ e. vec_len e.took ≡ vec_len room.taken) }
-    ensures closer { IfOk result (λ e. let c = site.now.container in
-        let number = vec_len inputs + vec_len room.taken in
-        ClosedAs (pool_of (C.is_pass c) C.pass (C.shape c)) number e.closer e.used) }
+    ensures closer { IfOk result (λ e.
+        let pool = pool_of C.is_pass C.pass C.shape site.now.container in
+        ClosedAs pool (vec_len inputs + vec_len room.taken) e.closer e.used) }
     ensures used { IfOk result (λ e. All (MayUse e.used) e.sent.items) }
     ensures never { (result ≡ Err TooSmall) → ⊥ }
     ensures no_pass { result ≡ Err NoPass → MAX_PASSES ≤ vec_len inputs + vec_len room.taken }

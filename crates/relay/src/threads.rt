@@ -4,22 +4,22 @@ ghost use Rattle.std.specs.Prelude.{◌≡◌, All, [], IfSome, IfOk, true, fals
 ghost use Rattle.std.specs.List.{AllZip};
 ghost use Rattle.bounded_model.specs.Histories.{own};
 ghost use Rattle.relay.specs.Parts.{IsSender, IsTaker, IsTeam, DidSend, DidTake, DidClose, HaveEnded, MayUse};
-ghost use Rattle.relay.specs.Pools.{PoolView};
+ghost use Rattle.relay.specs.Pools.{PoolView, pool_of};
 ghost use Rattle.relay.specs.Rooms.{IsRoomFor, IsThreadRoom};
 ghost use Rattle.relay.specs.declared.plan.Orders.{Orders};
 
-use crate::Gate;
-use crate::pool::Pool;
 use crate::workers::{Sender, Sent, Site, Taker, Took, has_met_closed, receive, send};
+use crate::{Gate, Message};
 use std::alloc::{AllocError, Global};
 use std::snapshot::Snapshot;
 use std::sync::Wait;
 use std::thread;
 use std::thread::{Promise, PromisedHandle, Scope, Threads};
+use waiting::Shared;
 
 /// What a worker of either kind does in a thread of its own. Its result is a parameter, since what
-/// a thread is started with may name no more than one associated type, and `Pool` has that.
-pub(crate) trait Works<C: Pool, Did> {
+/// a thread is started with may name no more than one associated type, and `Shared` has that.
+pub(crate) trait Works<C: Shared<Message>, Did> {
     /// When it can begin: by what it sees of the container, and its orders.
     ghost is_ready: { PoolView C.Pass → Orders → Self → Type 0 };
 
@@ -27,11 +27,13 @@ pub(crate) trait Works<C: Pool, Did> {
     ghost did: { PoolView C.Pass → Orders → Self → Did → Type 0 };
 
     fn work<G: Gate, W: Wait>(self, rt: &W, site: &Site<C>, gate: &G) -> Did
-        requires { is_ready (C.view site.now.container) site.now.orders self }
-        ensures { did (C.view site.now.container) site.now.orders self result };
+        requires { let pool = pool_of C.is_pass C.pass C.shape site.now.container in
+            is_ready pool site.now.orders self }
+        ensures { let pool = pool_of C.is_pass C.pass C.shape site.now.container in
+            did pool site.now.orders self result };
 }
 
-impl<C: Pool> Works<C, Sent<C::Pass>> for Sender<C::Pass> {
+impl<C: Shared<Message>> Works<C, Sent<C::Pass>> for Sender<C::Pass> {
     ghost is_ready = { λ pool _. IsSender pool };
 
     ghost did = { DidSend };
@@ -41,7 +43,7 @@ impl<C: Pool> Works<C, Sent<C::Pass>> for Sender<C::Pass> {
     }
 }
 
-impl<C: Pool> Works<C, Took<C::Pass>> for Taker<C::Pass> {
+impl<C: Shared<Message>> Works<C, Took<C::Pass>> for Taker<C::Pass> {
     ghost is_ready = { IsTaker };
 
     ghost did = { DidTake };
@@ -53,14 +55,14 @@ impl<C: Pool> Works<C, Took<C::Pass>> for Taker<C::Pass> {
 
 /// What a worker's thread was started with.
 #[derive(Drop)]
-pub(crate) struct Part<C: Pool, J> {
+pub(crate) struct Part<C: Shared<Message>, J> {
     site: Snapshot<Site<C>>,
     job: Snapshot<J>,
 }
 
-impl<C: Pool, Did, J: Works<C, Did>> Promise<Did> for Part<C, J> {
-    ghost kept_by = { λ p r.
-        J.did (C.view p.site.value.container) p.site.value.orders p.job.value r };
+impl<C: Shared<Message>, Did, J: Works<C, Did>> Promise<Did> for Part<C, J> {
+    ghost kept_by = { λ p r. let pool = pool_of C.is_pass C.pass C.shape p.site.value.container in
+        J.did pool p.site.value.orders p.job.value r };
 }
 
 /// All workers of a relay, and the pass that closes.
@@ -83,14 +85,14 @@ pub(crate) struct Ended<P> {
 
 /// Room for the threads and for what they give back.
 #[derive(Drop)]
-pub(crate) struct Room<C: Pool> {
+pub(crate) struct Room<C: Shared<Message>> {
     pub(crate) senders: Vec<PromisedHandle<Sent<C::Pass>, Part<C, Sender<C::Pass>>>>,
     pub(crate) takers: Vec<PromisedHandle<Took<C::Pass>, Part<C, Taker<C::Pass>>>>,
     pub(crate) sent: Vec<Sent<C::Pass>>,
     pub(crate) took: Vec<Took<C::Pass>>,
 }
 
-impl<C: Pool> Room<C> {
+impl<C: Shared<Message>> Room<C> {
     /// Room for so many of each kind.
     pub(crate) fn new(
         alloc: Global,
@@ -138,7 +140,7 @@ fn some_met_closed<P>(sent: &[Sent<P>]) -> bool
 
 /// Joins the producers, closes the container where none of them found it closed, and joins the
 /// consumers.
-fn join_workers<C: Pool, R: Threads + Wait>(
+fn join_workers<C: Shared<Message>, R: Threads + Wait>(
     rt: &R,
     site: &Site<C>,
     senders: Vec<PromisedHandle<Sent<C::Pass>, Part<C, Sender<C::Pass>>>>,
@@ -146,16 +148,18 @@ fn join_workers<C: Pool, R: Threads + Wait>(
     closer: C::Pass,
     room: (Vec<Sent<C::Pass>>, Vec<Took<C::Pass>>),
 ) -> Ended<C::Pass>
-    requires closer { (C.view site.now.container).is_pass closer }
-    requires new { let view = (C.view site.now.container).view closer in
-        own view.number view.seen ≡ [] }
+    requires closer { C.is_pass site.now.container closer }
+    requires new { own (C.pass closer).number (C.pass closer).seen ≡ [] }
     requires sent { IsRoomFor (vec_len senders) room.0 }
     requires took { IsRoomFor (vec_len takers) room.1 }
-    ensures sent { AllZip (λ h r. DidSend (C.view h.promise.site.value.container)
-        h.promise.site.value.orders h.promise.job.value r) senders.items result.sent.items }
-    ensures took { AllZip (λ h r. DidTake (C.view h.promise.site.value.container)
-        h.promise.site.value.orders h.promise.job.value r) takers.items result.took.items }
-    ensures closed { DidClose (C.view site.now.container) closer result.closer result.used }
+    ensures sent { AllZip (λ h r. let at = h.promise.site.value in
+        DidSend (pool_of C.is_pass C.pass C.shape at.container) at.orders h.promise.job.value r)
+        senders.items result.sent.items }
+    ensures took { AllZip (λ h r. let at = h.promise.site.value in
+        DidTake (pool_of C.is_pass C.pass C.shape at.container) at.orders h.promise.job.value r)
+        takers.items result.took.items }
+    ensures closed { DidClose (pool_of C.is_pass C.pass C.shape site.now.container)
+        closer result.closer result.used }
     ensures used { All (MayUse result.used) result.sent.items }
 {
     let (sent_room, took_room) = room;
@@ -176,7 +180,7 @@ fn join_workers<C: Pool, R: Threads + Wait>(
 }
 
 // Starts a thread for each worker; `None` where one could not be started.
-fn start_each<'s, E, C: Pool + Sync, G: Gate + Sync, R: Wait + Sync, Did, J>(
+fn start_each<'s, E, C: Shared<Message> + Sync, G: Gate + Sync, R: Wait + Sync, Did, J>(
     scope: &Scope<'s, E>,
     rt: &'s R,
     site: &'s Site<C>,
@@ -188,7 +192,8 @@ where
     C::Pass: Send,
     Did: Send + Drop + 's,
     J: Works<C, Did> + Send + Drop + 's,
-    requires ready { All (J.is_ready (C.view site.now.container) site.now.orders) jobs.items }
+    requires ready { let pool = pool_of C.is_pass C.pass C.shape site.now.container in
+        All (J.is_ready pool site.now.orders) jobs.items }
     requires room { IsRoomFor (vec_len jobs) room }
     ensures { IfSome result (λ v. AllZip (λ j h. (h.promise.job.value ≡ j)
         × (h.promise.site.value ≡ site.now)) jobs.items v.items) }
@@ -202,8 +207,9 @@ where
         match scope.spawn_with(
             part,
             move || -> Did
-                requires { J.is_ready (C.view site.now.container) site.now.orders job }
-                ensures { let pool = C.view site.entry.now.container in
+                requires { let pool = pool_of C.is_pass C.pass C.shape site.now.container in
+                    J.is_ready pool site.now.orders job }
+                ensures { let pool = pool_of C.is_pass C.pass C.shape site.entry.now.container in
                     J.did pool site.entry.now.orders job result }
             { job.work(rt, site, gate) },
         ) {
@@ -215,7 +221,7 @@ where
 }
 
 // Starts the threads of a team, and joins them.
-fn work_as_team<'s, E, C: Pool + Sync, G: Gate + Sync, R: Threads + Wait + Sync>(
+fn work_as_team<'s, E, C: Shared<Message> + Sync, G: Gate + Sync, R: Threads + Wait + Sync>(
     scope: &Scope<'s, E>,
     rt: &'s R,
     site: &'s Site<C>,
@@ -225,10 +231,11 @@ fn work_as_team<'s, E, C: Pool + Sync, G: Gate + Sync, R: Threads + Wait + Sync>
 ) -> Option<Ended<C::Pass>>
 where
     C::Pass: Send,
-    requires ready { IsTeam (C.view site.now.container) site.now.orders team }
+    requires ready { let pool = pool_of C.is_pass C.pass C.shape site.now.container in
+        IsTeam pool site.now.orders team }
     requires room { IsThreadRoom (vec_len team.senders) (vec_len team.takers) room }
-    ensures { IfSome result (λ e.
-        HaveEnded (C.view site.now.container) site.now.orders team e) }
+    ensures { let pool = pool_of C.is_pass C.pass C.shape site.now.container in
+        IfSome result (λ e. HaveEnded pool site.now.orders team e) }
 {
     let Team {
         senders,
@@ -255,7 +262,7 @@ where
 /// Does each worker's part in a thread of its own, and closes the container when the producers have
 /// ended. `None` where a thread could not be started: the container is closed at once, so those
 /// that were started have ended.
-pub(crate) fn run_workers<C: Pool + Sync, G: Gate + Sync, R: Threads + Wait + Sync>(
+pub(crate) fn run_workers<C: Shared<Message> + Sync, G: Gate + Sync, R: Threads + Wait + Sync>(
     rt: &R,
     site: &Site<C>,
     gate: &G,
@@ -264,19 +271,21 @@ pub(crate) fn run_workers<C: Pool + Sync, G: Gate + Sync, R: Threads + Wait + Sy
 ) -> Option<Ended<C::Pass>>
 where
     C::Pass: Send,
-    requires ready { IsTeam (C.view site.now.container) site.now.orders team }
+    requires ready { let pool = pool_of C.is_pass C.pass C.shape site.now.container in
+        IsTeam pool site.now.orders team }
     requires room { IsThreadRoom (vec_len team.senders) (vec_len team.takers) room }
-    ensures { IfSome result (λ e.
-        HaveEnded (C.view site.now.container) site.now.orders team e) }
+    ensures { let pool = pool_of C.is_pass C.pass C.shape site.now.container in
+        IfSome result (λ e. HaveEnded pool site.now.orders team e) }
 {
     thread::scope(
         thread::scope_env(),
         rt,
         |scope| -> Option<Ended<C::Pass>>
-            requires ready { IsTeam (C.view site.now.container) site.now.orders team }
+            requires ready { let pool = pool_of C.is_pass C.pass C.shape site.now.container in
+                IsTeam pool site.now.orders team }
             requires room { IsThreadRoom (vec_len team.senders) (vec_len team.takers) room }
-            ensures { IfSome result (λ e.
-                HaveEnded (C.view site.entry.now.container) site.entry.now.orders team e) }
+            ensures { let pool = pool_of C.is_pass C.pass C.shape site.entry.now.container in
+                IfSome result (λ e. HaveEnded pool site.entry.now.orders team e) }
         { work_as_team(scope, rt, site, gate, team, room) },
     )
 }

@@ -2,14 +2,13 @@
 
 ghost use Rattle.std.specs.Prelude.{◌≡◌, true, false, ◌+◌};
 ghost use Rattle.relay.specs.Parts.{IsSender, IsTaker, DidSend, DidTake, HasSent, HasTaken, MayUse};
+ghost use Rattle.relay.specs.Pools.{pool_of};
 
 use crate::plan::{Orders, is_reached, told_first};
-use crate::pool::Pool;
 use crate::{Gate, Message, Taken};
-use bounded_model::{PutRefused, TakeRefused};
 use std::collections::VecDeque;
 use std::sync::Wait;
-use std::thread;
+use waiting::{PutStopped, Shared, TakeStopped, put_waiting_with, take_waiting_with};
 
 /// How a producer ended.
 #[derive(Clone, Copy, Debug, PartialEq, Eq)]
@@ -89,16 +88,17 @@ pub(crate) fn has_met_closed<P>(sent: &Sent<P>) -> bool
 }
 
 /// Does a producer's part: puts its messages in their order, and gives their memory back.
-pub(crate) fn send<C: Pool, G: Gate, W: Wait>(
+pub(crate) fn send<C: Shared<Message>, G: Gate, W: Wait>(
     rt: &W,
     site: &Site<C>,
     gate: &G,
     job: Sender<C::Pass>,
 ) -> Sent<C::Pass>
-    requires ready { IsSender (C.view site.now.container) job }
-    ensures of { (C.view site.now.container).is_pass result.pass }
-    ensures number { ((C.view site.now.container).view result.pass).number ≡ job.place }
-    ensures did { HasSent (C.view site.now.container) site.now.orders job result }
+    requires ready { IsSender (pool_of C.is_pass C.pass C.shape site.now.container) job }
+    ensures of { C.is_pass site.now.container result.pass }
+    ensures number { (C.pass result.pass).number ≡ job.place }
+    ensures did { HasSent (pool_of C.is_pass C.pass C.shape site.now.container)
+        site.now.orders job result }
 {
     let Job { pass, place, list } = job;
     let last = told_first(site.orders.close_after, place);
@@ -106,38 +106,32 @@ pub(crate) fn send<C: Pool, G: Gate, W: Wait>(
     let mut rest = VecDeque::from(list);
     let mut put: u64 = 0;
     let mut call: u64 = 0;
-    for _ in rt.forever() {
-        if is_reached(last, put) {
-            let (pass, _) = site.container.close(rt, pass);
-            return stopped(pass, rest, ProducerEnd::ClosedIt);
-        }
+    while !is_reached(last, put) {
         let Some(message) = rest.pop_front() else {
             return stopped(pass, rest, ProducerEnd::SentAll);
         };
-        gate.pass(u64::from(place), call);
-        call = call.saturating_add(1);
-        let (back, answer) = site.container.put(rt, pass, message);
+        let (back, answer) = put_waiting_with(&site.container, rt, pass, message, || {
+            gate.pass(u64::from(place), call);
+            call = call.saturating_add(1);
+        });
         pass = back;
         match answer {
             Ok(_) => {
                 put += 1;
                 rest = shrunk(rest);
             }
-            Err(PutRefused::Full(message)) => {
-                rest.push_front_reserved(message);
-                thread::yield_now();
-            }
-            Err(PutRefused::Closed(message)) => {
+            Err(PutStopped::Closed(message)) => {
                 rest.push_front_reserved(message);
                 return stopped(pass, rest, ProducerEnd::MetClosed);
             }
-            Err(PutRefused::Spent(message, _, _)) => {
+            Err(PutStopped::Spent(message, _, _)) => {
                 rest.push_front_reserved(message);
                 return stopped(pass, rest, ProducerEnd::MetSpent);
             }
         }
     }
-    unreachable!()
+    let (pass, _) = site.container.close(rt, pass);
+    stopped(pass, rest, ProducerEnd::ClosedIt)
 }
 
 // The messages; where they fill less than half of their memory, the rest is given back.
@@ -165,17 +159,18 @@ fn stopped<P>(pass: P, rest: VecDeque<Message>, end: ProducerEnd) -> Sent<P>
 }
 
 /// Does a consumer's part: takes messages, as many as planned.
-pub(crate) fn receive<C: Pool, G: Gate, W: Wait>(
+pub(crate) fn receive<C: Shared<Message>, G: Gate, W: Wait>(
     rt: &W,
     site: &Site<C>,
     gate: &G,
     job: Taker<C::Pass>,
 ) -> Took<C::Pass>
-    requires ready { IsTaker (C.view site.now.container) site.now.orders job }
-    ensures of { (C.view site.now.container).is_pass result.pass }
-    ensures number { ((C.view site.now.container).view result.pass).number
-        ≡ site.now.orders.producers + job.place }
-    ensures did { HasTaken (C.view site.now.container) site.now.orders result }
+    requires ready { IsTaker (pool_of C.is_pass C.pass C.shape site.now.container)
+        site.now.orders job }
+    ensures of { C.is_pass site.now.container result.pass }
+    ensures number { (C.pass result.pass).number ≡ site.now.orders.producers + job.place }
+    ensures did { HasTaken (pool_of C.is_pass C.pass C.shape site.now.container)
+        site.now.orders result }
 {
     let Job { pass, place, list } = job;
     let who = site.orders.producers + u64::from(place);
@@ -183,7 +178,7 @@ pub(crate) fn receive<C: Pool, G: Gate, W: Wait>(
     let mut pass = pass;
     let mut taken = list;
     let mut call: u64 = 0;
-    for _ in rt.forever() {
+    while taken.len() as u64 <= site.orders.messages {
         let count = taken.len() as u64;
         if is_reached(last, count) {
             let (pass, _) = site.container.shut(rt, pass);
@@ -192,12 +187,10 @@ pub(crate) fn receive<C: Pool, G: Gate, W: Wait>(
         if is_reached(site.orders.take, count) {
             return ended(pass, taken, ConsumerEnd::TookEnough);
         }
-        if count > site.orders.messages {
-            return ended(pass, taken, ConsumerEnd::NoRoom);
-        }
-        gate.pass(who, call);
-        call = call.saturating_add(1);
-        let (back, answer) = site.container.take(rt, pass);
+        let (back, answer) = take_waiting_with(&site.container, rt, pass, || {
+            gate.pass(who, call);
+            call = call.saturating_add(1);
+        });
         pass = back;
         match answer {
             Ok((message, number)) => taken.push_reserved(Taken {
@@ -205,13 +198,12 @@ pub(crate) fn receive<C: Pool, G: Gate, W: Wait>(
                 number,
                 consumer: place,
             }),
-            Err(TakeRefused::Empty) => thread::yield_now(),
-            Err(TakeRefused::Closed) => return ended(pass, taken, ConsumerEnd::FoundClosed),
-            Err(TakeRefused::Shut) => return ended(pass, taken, ConsumerEnd::FoundShut),
-            Err(TakeRefused::Spent(_, _)) => return ended(pass, taken, ConsumerEnd::FoundSpent),
+            Err(TakeStopped::Closed) => return ended(pass, taken, ConsumerEnd::FoundClosed),
+            Err(TakeStopped::Shut) => return ended(pass, taken, ConsumerEnd::FoundShut),
+            Err(TakeStopped::Spent(_, _)) => return ended(pass, taken, ConsumerEnd::FoundSpent),
         }
     }
-    unreachable!()
+    ended(pass, taken, ConsumerEnd::NoRoom)
 }
 
 // A consumer that has ended.

@@ -1,13 +1,13 @@
 -- What a step of an operation gives, by where its code goes on.
-use Rattle.std.proofs.Common.{◌≡◌, ℕ, List, [], sym, ◌∙◌, subst}
+use Rattle.std.proofs.Common.{◌≡◌, ℕ, Bool, true, false, List, [], refl, sym, ◌∙◌, subst}
 use Rattle.std.specs.Prelude.{Option as Slot}
 use Rattle.atomic_table.specs.Seated.{TableId}
 use Rattle.bounded_model.specs.declared.views.PassView.{PassView}
 use Rattle.running.specs.Machine.{Names, Machine, Core, Access as Deed, rests, loads, stores, swaps}
-use Rattle.running.specs.Going.{Found, Ended}
-use Rattle.running.specs.Passes.{IsAtOn, begun_of}
-use Rattle.running.specs.Code.{FoundBy, CameBy, FindingBy, Leads}
-use Rattle.running.specs.Steps.{Stands, Gives, Ran}
+use Rattle.running.specs.Going.{Found}
+use Rattle.running.specs.Passes.{IsAtOn, OneLine, begun_of}
+use Rattle.running.specs.Code.{FoundBy, CameBy, FindingBy, Leads, Tells, left}
+use Rattle.running.specs.Steps.{Stands, StopsAt, Gives, Ran}
 use Rattle.running.specs.declared.passes.Pass.{Pass}
 use Rattle.running.specs.declared.access.Outcome.{Outcome}
 use Rattle.running.specs.declared.code.Next.{Next}
@@ -36,27 +36,39 @@ module _ {T L O : Type 0} (c : Core T L O) (l : L) (r : Outcome) (had has : List
   finding (stores at x) so = λ kept. follows r.word [] (so kept)
   finding (swaps at old new side) so = λ found came f. follows found came (so found came f)
 
-module _ {T L O S A : Type 0} {names : Names L O} (m : Machine T L O names) (operation : S → O) (line : S → L) (slots : S → List (ℕ × Slot T)) (Knows : S → Type 0) (answer : O → A → L) (id : TableId) where
-  pub gave : (p q : Pass T L) (s : S) → Stands m operation line slots Knows answer id p s → q.seat.table_id ≡ p.seat.table_id → (found : ℕ) (came : List (ℕ × Slot T)) → Found m (operation s) p.seat.me.0 q.seat.me.0 found came
-      → (r : Next S A) → Leads names operation line slots Knows answer s (m.core.next (line s) found came) q.seat.me.1 r → Gives m operation line slots Knows answer id p s q r
+module _ {T L O S A : Type 0} {names : Names L O} (m : Machine T L O names) (operation : S → O) (line : S → L) (slots : S → List (ℕ × Slot T)) (Knows : S → Type 0) (answer : O → A → L) (rest : A → List (ℕ × Slot T)) (id : TableId) where
+  pub gave : (p q : Pass T L) (s : S) → Stands m operation line slots Knows answer rest id p s → q.seat.table_id ≡ p.seat.table_id → (found : ℕ) (came : List (ℕ × Slot T)) → Found m (operation s) p.seat.me.0 q.seat.me.0 found came
+      → (r : Next S A) → Leads names operation line slots Knows answer rest s (m.core.next (line s) found came) q.seat.me.1 r → Gives m operation line slots Knows answer rest id p s q r
   gave p q s is table found came steps (On s') l =
       let r = goes_on m is.at q found came steps table (slots s') (line s') l.hand l.is l.busy in
       (record { at = subst (λ (o : O). IsAtOn m id o q (line s') (slots s')) (sym l.same) r.0; knows = l.knows }, l.same, r.1)
   gave p q s is table found came steps (Lost s') l =
       let r = goes_on m is.at q found came steps table (slots s') (line s') l.hand l.is l.busy in
       (record { at = subst (λ (o : O). IsAtOn m id o q (line s') (slots s')) (sym l.same) r.0; knows = l.knows }, l.same, r.1)
-  gave p q s is table found came steps (Done a) l =
-      let e = ends_so m is.at q found came steps table (answer (operation s) a) l.hand l.is l.idle in
-      (e.0, e.1, e.2)
+  gave p q s is table found came steps (Done a) l = stopped (names.is_idle (answer (operation s) a)) refl l.hand
+    where
+      stopped : (b : Bool) → names.is_idle (answer (operation s) a) ≡ b → q.seat.me.1 ≡ left b (rest a) → StopsAt m operation line slots Knows answer rest id b (operation s) (begun_of m p) q a × OneLine m p q (line s) (answer (operation s) a)
+      stopped true e has = let r = ends_so m is.at q found came steps table (answer (operation s) a) has l.is e in ((r.0, r.1), r.2)
+      stopped false e has = let r = goes_on m is.at q found came steps table (rest a) (answer (operation s) a) has l.is e in ((r.0, r.1.0), r.1.1)
+
+  abbrev StopsSo : Bool → O → PassView T → Pass T L → A → Type 0
+  StopsSo b o v q a = StopsAt m operation line slots Knows answer rest id b o v q a
 
   -- a step is the first of some
-  pub ran : (o : O) (p q : Pass T L) (s : S) → o ≡ operation s → (r : Next S A) → Gives m operation line slots Knows answer id p s q r → Ran m operation line slots Knows answer id o p q r
+  pub ran : (o : O) (p q : Pass T L) (s : S) → o ≡ operation s → (r : Next S A) → Gives m operation line slots Knows answer rest id p s q r → Ran m operation line slots Knows answer rest id o p q r
   ran o p q s named (On s') e = (e.0, named ∙ sym e.1, e.2.0)
   ran o p q s named (Lost s') e = (e.0, named ∙ sym e.1, e.2.0)
-  ran o p q s named (Done a) e = (e.0, subst (λ (k : O). Ended m k q.seat.me.0 (begun_of m p) (answer k a)) (sym named) e.1)
+  ran o p q s named (Done a) e = subst (λ (k : O). StopsSo (names.is_idle (answer k a)) k (begun_of m p) q a) (sym named) e.0
 
   -- and others may follow it
-  pub ran_on : (o : O) (p q t : Pass T L) → begun_of m q ≡ begun_of m p → (r : Next S A) → Ran m operation line slots Knows answer id o q t r → Ran m operation line slots Knows answer id o p t r
+  pub ran_on : (o : O) (p q t : Pass T L) → begun_of m q ≡ begun_of m p → (r : Next S A) → Ran m operation line slots Knows answer rest id o q t r → Ran m operation line slots Knows answer rest id o p t r
   ran_on o p q t begun (On u) e = (e.0, e.1, e.2 ∙ begun)
   ran_on o p q t begun (Lost u) e = (e.0, e.1, e.2 ∙ begun)
-  ran_on o p q t begun (Done a) e = (e.0, subst (λ (v : PassView T). Ended m o t.seat.me.0 v (answer o a)) begun e.1)
+  ran_on o p q t begun (Done a) e = subst (λ (v : PassView T). StopsSo (names.is_idle (answer o a)) o v t a) begun e
+
+-- what is told of where an operation goes on is told of where it came from
+module _ {S A : Type 0} (Told : S → A → Type 0) (s t : S) (on : (a : A) → Told t a → Told s a) where
+  pub tells_on : (r : Next S A) → Tells Told t r → Tells Told s r
+  tells_on (On u) e = λ a told. on a (e a told)
+  tells_on (Lost u) e = λ a told. on a (e a told)
+  tells_on (Done a) e = on a e

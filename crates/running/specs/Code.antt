@@ -1,5 +1,5 @@
 -- What the code of an operation has to do with its machine.
-use Rattle.std.specs.Prelude.{◌≡◌, ℕ, ◌<◌, ◌≤◌, false, true, List, [], ◌++◌, Option as Slot}
+use Rattle.std.specs.Prelude.{◌≡◌, ℕ, ◌<◌, ◌≤◌, Bool, false, true, List, [], ◌++◌, Option as Slot}
 use mathlib.Core.Option.{some}
 use Rattle.tagged_index.specs.Fields.{fields_of, index_of, tag_of}
 use Rattle.tagged_index.specs.declared.word.TheConstants.{NULL, MAX_TAG}
@@ -9,7 +9,7 @@ use Rattle.machine.specs.Words.{same}
 use Rattle.running.specs.Machine.{Names, Core, Access as Deed, Side, stays, brings, returns, loads, stores, swaps}
 use Rattle.running.specs.Lists.{Lists, kind_access}
 use Rattle.running.specs.declared.access.Access.{Access}
-use Rattle.running.specs.declared.access.Access.TheVariants.{Load, Store, Keep, Swap, Bring, Return, LoadTop, LoadLink, StoreLink, KeepLink, Take, TakeBare, Give, GiveBare, GiveChain, Mark, Shut}
+use Rattle.running.specs.declared.access.Access.TheVariants.{Load, Store, Keep, Swap, Bring, Return, LoadTop, LoadLink, StoreLink, KeepLink, Take, TakeBare, TakeAll, Give, GiveBare, GiveChain, Mark, Shut}
 use Rattle.running.specs.declared.access.Outcome.{Outcome}
 use Rattle.running.specs.declared.code.Next.{Next}
 use Rattle.running.specs.declared.code.Next.TheVariants.{On, Lost, Done}
@@ -33,6 +33,7 @@ module _ {T L O : Type 0} (c : Core T L O) (y : Lists L) (lists words : ℕ) whe
   IsAccess l slots (KeepLink list i next) = IsStep l list (write_link i next) × (i ≤ NULL) × (y.layout.link list i < words) × c.Plain (y.layout.link list i) next
   IsAccess l slots (Take list seen next) = IsStep l list (exchange (fields_of seen) (change.Take next)) × (y.layout.top list < words) × (y.layout.carries list ≡ true) × (index_of seen < NULL) × (tag_of seen < MAX_TAG) × (next ≤ NULL)
   IsAccess l slots (TakeBare list seen next) = IsStep l list (exchange (fields_of seen) (change.Take next)) × (y.layout.top list < words) × (y.layout.carries list ≡ false) × (index_of seen < NULL) × (tag_of seen < MAX_TAG) × (next ≤ NULL)
+  IsAccess l slots (TakeAll list seen front) = IsStep l list (exchange (fields_of seen) (change.TakeAll front)) × (y.layout.top list < words) × (y.layout.carries list ≡ true) × (tag_of seen < MAX_TAG)
   IsAccess l slots (Give list seen i) = IsStep l list (exchange (fields_of seen) (change.Give i)) × (y.layout.top list < words) × (y.layout.carries list ≡ true) × (i < NULL) × (y.layout.keeps list ≡ false → tag_of seen < MAX_TAG) × c.Fits l slots
   IsAccess l slots (GiveBare list seen i) = IsStep l list (exchange (fields_of seen) (change.Give i)) × (y.layout.top list < words) × (y.layout.carries list ≡ false) × (i < NULL) × (y.layout.keeps list ≡ false → tag_of seen < MAX_TAG)
   IsAccess l slots (GiveChain list seen first) = IsStep l list (exchange (fields_of seen) (change.GiveChain first)) × (y.layout.top list < words) × (y.layout.carries list ≡ true) × (first ≤ NULL) × (y.layout.keeps list ≡ false → tag_of seen < MAX_TAG) × c.Fits l slots
@@ -78,7 +79,12 @@ MatchNext (On s) goes ends = goes s
 MatchNext (Lost s) goes ends = goes s
 MatchNext (Done a) goes ends = ends a
 
-module _ {T L O S A : Type 0} (names : Names L O) (operation : S → O) (line : S → L) (slots : S → List (ℕ × Slot T)) (Knows : S → Type 0) (answer : O → A → L) where
+-- the slots in hand of an operation that has stopped: none, once its machine has answered
+abbrev pub left : {T : Type 0} → Bool → List (ℕ × Slot T) → List (ℕ × Slot T)
+left true rest = []
+left false rest = rest
+
+module _ {T L O S A : Type 0} (names : Names L O) (operation : S → O) (line : S → L) (slots : S → List (ℕ × Slot T)) (Knows : S → Type 0) (answer : O → A → L) (rest : A → List (ℕ × Slot T)) where
   -- it goes on at s', as the machine at l
   pub record GoesTo (s : S) (l : L) (has : List (ℕ × Slot T)) (s' : S) : Type 0 where
     pub same : operation s' ≡ operation s
@@ -87,11 +93,14 @@ module _ {T L O S A : Type 0} (names : Names L O) (operation : S → O) (line : 
     pub hand : has ≡ slots s'
     pub knows : Knows s'
 
-  -- or answers
+  -- or stops: its machine has answered too, or is at a line at which the caller has to act
   pub record Answers (s : S) (l : L) (has : List (ℕ × Slot T)) (a : A) : Type 0 where
     pub is : l ≡ answer (operation s) a
-    pub idle : names.is_idle (answer (operation s) a) ≡ true
-    pub hand : has ≡ []
+    pub hand : has ≡ left (names.is_idle (answer (operation s) a)) (rest a)
 
   abbrev pub Leads : S → L → List (ℕ × Slot T) → Next S A → Type 0
   Leads s l has r = MatchNext r (GoesTo s l has) (Answers s l has)
+
+-- What is told of an operation that was at s: what it has stopped with, or whatever is told of where it goes on
+abbrev pub Tells : {S A : Type 0} → (S → A → Type 0) → S → Next S A → Type 0
+Tells {A = A} Told s r = MatchNext r (λ s'. (a : A) → Told s' a → Told s a) (Told s)

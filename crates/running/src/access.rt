@@ -2,6 +2,7 @@
 ghost use Rattle.std.specs.Prelude.{◌≡◌};
 ghost use Rattle.running.specs.Code.{plain};
 
+use index_list::Front;
 use tagged_index::Tagged;
 
 /// What an operation's next atomic step does to the table: a step on a word that belongs to no
@@ -32,6 +33,8 @@ pub enum Access {
     Take(usize, Tagged, u32),
     /// The same on a list without slots.
     TakeBare(usize, Tagged, u32),
+    /// Compare-and-swap it for null: the whole list comes, its slots from this end on.
+    TakeAll(usize, Tagged, Front),
     /// Compare-and-swap it for an index held, with all slots held.
     Give(usize, Tagged, u32),
     /// The same on a list without slots.

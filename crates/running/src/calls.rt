@@ -1,9 +1,9 @@
-//! Whole calls: an operation's steps, until it answers.
-ghost use Rattle.std.specs.Prelude.{◌≡◌};
-ghost use Rattle.running.specs.Going.{Ended};
-ghost use Rattle.running.specs.Passes.{IsPassOn, begun_of};
+//! Whole calls: an operation's steps, until it stops.
+ghost use Rattle.std.specs.Prelude.{◌≡◌, ◌<◌};
+ghost use Rattle.running.specs.Code.{Tells};
+ghost use Rattle.running.specs.Passes.{begun_of};
 ghost use Rattle.running.specs.declared.passes.Pass.{Pass};
-ghost use Rattle.running.specs.Steps.{Stands, Ran, RanFor};
+ghost use Rattle.running.specs.Steps.{Stands, Stops, Ran, RanFor, TellsFor};
 
 use crate::code::{Code, Next};
 use crate::lists::ListMachine;
@@ -17,7 +17,7 @@ use machine::View;
 use std::sync::Wait;
 use tagged_index::Limits;
 
-/// Goes on from the first steps of an operation until it answers, with a wait wherever another was
+/// Goes on from the first steps of an operation until it stops, with a wait wherever another was
 /// faster.
 #[inline(always)]
 pub fn to_the_end<
@@ -38,13 +38,16 @@ pub fn to_the_end<
     operation: &O,
 ) -> (Pass<T, L>, A)
     requires table { (table.now.key ≡ S.key on.now) × (table.now.table_id ≡ S.id on.now) }
+    requires some_word { 0 < table.now.table_id.words }
     requires ran { (by : Pass T L) × Ran (M.machine (S.key on.now)) S.operation S.line S.slots
-        (S.knows on.now) S.answer (S.id on.now) operation.now by first.0 first.1 }
-    ensures { (by : Pass T L) → Ran (M.machine (S.key on.now)) S.operation S.line S.slots
-        (S.knows on.now) S.answer (S.id on.now) operation.now by first.0 first.1
-        → IsPassOn (M.machine (S.key on.now)) (S.id on.now) result.0
-        × Ended (M.machine (S.key on.now)) operation.now result.0.seat.me.0
-        (begun_of (M.machine (S.key on.now)) by) (S.answer operation.now result.1) }
+        (S.knows on.now) S.answer S.rest (S.id on.now) operation.now by first.0 first.1 }
+    ensures stops { (by : Pass T L) → Ran (M.machine (S.key on.now)) S.operation S.line S.slots
+        (S.knows on.now) S.answer S.rest (S.id on.now) operation.now by first.0 first.1
+        → Stops (M.machine (S.key on.now)) S.operation S.line S.slots (S.knows on.now) S.answer
+        S.rest (S.id on.now) operation.now (begun_of (M.machine (S.key on.now)) by) result.0
+        result.1 }
+    ensures told { (from : S) → Tells (S.told on.now) from first.1
+        → S.told on.now from result.1 }
 {
     match first {
         (pass, Next::Done(answer)) => (pass, answer),
@@ -52,7 +55,7 @@ pub fn to_the_end<
     }
 }
 
-// The same where the first steps have not ended it. A function of its own, so that a caller's code
+// The same where it has not stopped in its first steps. A function of its own, so that a caller's code
 // has nothing but the fast path.
 #[inline(never)]
 fn go_on<
@@ -73,28 +76,31 @@ fn go_on<
     operation: &O,
 ) -> (Pass<T, L>, A)
     requires table { (table.now.key ≡ S.key on.now) × (table.now.table_id ≡ S.id on.now) }
+    requires some_word { 0 < table.now.table_id.words }
     requires ran { (by : Pass T L) × Ran (M.machine (S.key on.now)) S.operation S.line S.slots
-        (S.knows on.now) S.answer (S.id on.now) operation.now by first.0 first.1 }
-    ensures { (by : Pass T L) → Ran (M.machine (S.key on.now)) S.operation S.line S.slots
-        (S.knows on.now) S.answer (S.id on.now) operation.now by first.0 first.1
-        → IsPassOn (M.machine (S.key on.now)) (S.id on.now) result.0
-        × Ended (M.machine (S.key on.now)) operation.now result.0.seat.me.0
-        (begun_of (M.machine (S.key on.now)) by) (S.answer operation.now result.1) }
+        (S.knows on.now) S.answer S.rest (S.id on.now) operation.now by first.0 first.1 }
+    ensures stops { (by : Pass T L) → Ran (M.machine (S.key on.now)) S.operation S.line S.slots
+        (S.knows on.now) S.answer S.rest (S.id on.now) operation.now by first.0 first.1
+        → Stops (M.machine (S.key on.now)) S.operation S.line S.slots (S.knows on.now) S.answer
+        S.rest (S.id on.now) operation.now (begun_of (M.machine (S.key on.now)) by) result.0
+        result.1 }
+    ensures told { (from : S) → Tells (S.told on.now) from first.1
+        → S.told on.now from result.1 }
 {
     match first {
         (pass, Next::Done(answer)) => (pass, answer),
         (pass, Next::On(at)) => {
-            let pause = Pause::first();
+            let pause = Pause::of(&pass);
             run_on::<R, C, T, L, O, M, A, S, N>(rt, table, on, pass, at, operation, pause)
         }
         (pass, Next::Lost(at)) => {
-            let pause = Pause::first().wait();
+            let pause = Pause::of(&pass).wait();
             run_on::<R, C, T, L, O, M, A, S, N>(rt, table, on, pass, at, operation, pause)
         }
     }
 }
 
-// Runs an operation that is under way until it ends.
+// Runs an operation that is under way until it stops.
 #[inline]
 fn run_on<
     R: Wait,
@@ -116,19 +122,26 @@ fn run_on<
     pause: Pause,
 ) -> (Pass<T, L>, A)
     requires table { (table.now.key ≡ S.key on.now) × (table.now.table_id ≡ S.id on.now) }
+    requires some_word { 0 < table.now.table_id.words }
     requires named { operation.now ≡ S.operation under_way }
     requires stands { Stands (M.machine (S.key on.now)) S.operation S.line S.slots (S.knows on.now)
-        S.answer (S.id on.now) by under_way }
-    ensures { IsPassOn (M.machine (S.key on.now)) (S.id on.now) result.0
-        × Ended (M.machine (S.key on.now)) operation.now result.0.seat.me.0
-        (begun_of (M.machine (S.key on.now)) by) (S.answer operation.now result.1) }
+        S.answer S.rest (S.id on.now) by under_way }
+    ensures stops { Stops (M.machine (S.key on.now)) S.operation S.line S.slots (S.knows on.now)
+        S.answer S.rest (S.id on.now) operation.now (begun_of (M.machine (S.key on.now)) by)
+        result.0 result.1 }
+    ensures told { S.told on.now under_way result.1 }
 {
     let mut pass = by;
     let mut at = under_way;
     let mut pause = pause;
     for _ in rt.forever() {
         match any::<C, T, L, O, M, A, S, N>(table, on, pass, at, operation) {
-            (back, Next::Done(answer)) => return (back, answer),
+            (back, Next::Done(answer)) => {
+                let Pass { seat, density } = back;
+                let refused = S::is_refusal(&answer);
+                let density = density.at_end::<T, L, O, M>(table, pause, refused);
+                return (Pass { seat, density }, answer);
+            }
             (next, Next::On(to)) => {
                 pass = next;
                 at = to;
@@ -141,6 +154,40 @@ fn run_on<
         }
     }
     unreachable!()
+}
+
+/// Leaves an operation under way after its first steps, with a wait where another was faster. Where
+/// they have ended it, there is nothing to go on with.
+#[inline(always)]
+pub fn at_once<
+    C,
+    T,
+    L,
+    O,
+    M: ListMachine<T, L, O, N>,
+    A,
+    S: Code<C, T, L, O, M, A, N>,
+    const N: usize,
+>(on: &C, first: (Pass<T, L>, Next<S, A>), operation: &O) -> Stepped<(Pass<T, L>, S), Pass<T, L>, A>
+    requires ran { (by : Pass T L) × Ran (M.machine (S.key on.now)) S.operation S.line S.slots
+        (S.knows on.now) S.answer S.rest (S.id on.now) operation.now by first.0 first.1 }
+    ensures { (by : Pass T L) → Ran (M.machine (S.key on.now)) S.operation S.line S.slots
+        (S.knows on.now) S.answer S.rest (S.id on.now) operation.now by first.0 first.1
+        → RanFor (M.machine (S.key on.now)) S.operation S.line S.slots
+        (S.knows on.now) S.answer S.rest (S.id on.now) operation.now by result }
+{
+    let _ = on;
+    let _ = operation;
+    match first {
+        (pass, Next::Done(answer)) => Stepped::Done(pass, answer),
+        (pass, Next::On(at)) => Stepped::Again((pass, at)),
+        (pass, Next::Lost(at)) => {
+            let pause = Pause::of(&pass).wait();
+            let Pass { seat, density } = pass;
+            let density = density.under_way(pause);
+            Stepped::Again((Pass { seat, density }, at))
+        }
+    }
 }
 
 /// Goes on from the first steps of an operation, for at most so many more, with a wait wherever
@@ -163,21 +210,24 @@ pub fn try_for<
     steps: u64,
 ) -> Stepped<(Pass<T, L>, S), Pass<T, L>, A>
     requires table { (table.now.key ≡ S.key on.now) × (table.now.table_id ≡ S.id on.now) }
+    requires some_word { 0 < table.now.table_id.words }
     requires ran { (by : Pass T L) × Ran (M.machine (S.key on.now)) S.operation S.line S.slots
-        (S.knows on.now) S.answer (S.id on.now) operation.now by first.0 first.1 }
-    ensures { (by : Pass T L) → Ran (M.machine (S.key on.now)) S.operation S.line S.slots
-        (S.knows on.now) S.answer (S.id on.now) operation.now by first.0 first.1
+        (S.knows on.now) S.answer S.rest (S.id on.now) operation.now by first.0 first.1 }
+    ensures ran { (by : Pass T L) → Ran (M.machine (S.key on.now)) S.operation S.line S.slots
+        (S.knows on.now) S.answer S.rest (S.id on.now) operation.now by first.0 first.1
         → RanFor (M.machine (S.key on.now)) S.operation S.line S.slots
-        (S.knows on.now) S.answer (S.id on.now) operation.now by result }
+        (S.knows on.now) S.answer S.rest (S.id on.now) operation.now by result }
+    ensures told { (from : S) → Tells (S.told on.now) from first.1
+        → TellsFor (S.told on.now) from result }
 {
     match first {
         (pass, Next::Done(answer)) => Stepped::Done(pass, answer),
         (pass, Next::On(at)) => {
-            let pause = Pause::first();
+            let pause = Pause::of(&pass);
             run_for::<C, T, L, O, M, A, S, N>(table, on, pass, at, operation, pause, steps)
         }
         (pass, Next::Lost(at)) => {
-            let pause = Pause::first().wait();
+            let pause = Pause::of(&pass).wait();
             run_for::<C, T, L, O, M, A, S, N>(table, on, pass, at, operation, pause, steps)
         }
     }
@@ -195,18 +245,25 @@ fn run_for<C, T, L, O, M: ListMachine<T, L, O, N>, A, S: Code<C, T, L, O, M, A, 
     steps: u64,
 ) -> Stepped<(Pass<T, L>, S), Pass<T, L>, A>
     requires table { (table.now.key ≡ S.key on.now) × (table.now.table_id ≡ S.id on.now) }
+    requires some_word { 0 < table.now.table_id.words }
     requires named { operation.now ≡ S.operation under_way }
     requires stands { Stands (M.machine (S.key on.now)) S.operation S.line S.slots (S.knows on.now)
-        S.answer (S.id on.now) by under_way }
-    ensures { RanFor (M.machine (S.key on.now)) S.operation S.line S.slots (S.knows on.now)
-        S.answer (S.id on.now) operation.now by result }
+        S.answer S.rest (S.id on.now) by under_way }
+    ensures ran { RanFor (M.machine (S.key on.now)) S.operation S.line S.slots (S.knows on.now)
+        S.answer S.rest (S.id on.now) operation.now by result }
+    ensures told { TellsFor (S.told on.now) under_way result }
 {
     let mut pass = by;
     let mut at = under_way;
     let mut pause = pause;
     for _ in 0..steps {
         match any::<C, T, L, O, M, A, S, N>(table, on, pass, at, operation) {
-            (back, Next::Done(answer)) => return Stepped::Done(back, answer),
+            (back, Next::Done(answer)) => {
+                let Pass { seat, density } = back;
+                let refused = S::is_refusal(&answer);
+                let density = density.at_end::<T, L, O, M>(table, pause, refused);
+                return Stepped::Done(Pass { seat, density }, answer);
+            }
             (next, Next::On(to)) => {
                 pass = next;
                 at = to;
@@ -218,5 +275,7 @@ fn run_for<C, T, L, O, M: ListMachine<T, L, O, N>, A, S: Code<C, T, L, O, M, A, 
             }
         }
     }
-    Stepped::Again((pass, at))
+    let Pass { seat, density } = pass;
+    let density = density.under_way(pause);
+    Stepped::Again((Pass { seat, density }, at))
 }

@@ -1,8 +1,8 @@
 //! The code of an operation: two functions of what it is at.
-ghost use Rattle.std.specs.Prelude.{◌≡◌, ℕ, List, Option as Slot};
+ghost use Rattle.std.specs.Prelude.{◌≡◌, ℕ, List, [], Option as Slot};
 ghost use Rattle.atomic_table.specs.Seated.{TableId};
 ghost use Rattle.tagged_index.specs.declared.limit.Limits.{Limits};
-ghost use Rattle.running.specs.Code.{IsAccess, Came, Finding, Leads};
+ghost use Rattle.running.specs.Code.{IsAccess, Came, Finding, Leads, Tells};
 
 use crate::access::{Access, Outcome};
 use crate::lists::ListMachine;
@@ -15,7 +15,7 @@ pub enum Next<S, A> {
     On(S),
     /// At this, since another was faster.
     Lost(S),
-    /// It has answered.
+    /// It has stopped with this: it has answered, or the caller has to act before it goes on.
     Done(A),
 }
 
@@ -37,8 +37,22 @@ pub trait Code<C, T, L, O, M: ListMachine<T, L, O, N>, A, const N: usize>: Sized
     /// What is known of the words that were read.
     ghost knows: { C → Self → Type 0 };
 
-    /// The line of an operation that has answered.
+    /// The line of an operation that has stopped. Where that is an idle one, the operation has
+    /// answered; else the caller has to act there, and these slots are in hand.
     ghost answer: { O → A → L };
+
+    ghost rest: { A → List (ℕ × Slot T) } = { λ _. [] };
+
+    /// What is told of what it stops with, by where it was before.
+    ghost told: { C → Self → A → Type 0 } = { λ _ _ _. Unit {0} };
+
+    /// Whether this answer refuses what was asked for. Its caller then does something else before
+    /// it asks again.
+    #[inline]
+    fn is_refusal(answer: &A) -> bool {
+        let _ = answer;
+        false
+    }
 
     /// What its next step does.
     fn access(&self, on: &C) -> Access
@@ -57,6 +71,7 @@ pub trait Code<C, T, L, O, M: ListMachine<T, L, O, N>, A, const N: usize>: Sized
             × (seat.new.me.0 ≡ seat.old.me.0) }
         ensures leads { Finding (M.machine (key on.now)).core (line self) outcome (slots self)
             seat.old.me.1 (λ found came. Leads M.names operation line slots (knows on.now) answer
-            self ((M.machine (key on.now)).core.next (line self) found came) seat.new.me.1
-            result) };
+            rest self ((M.machine (key on.now)).core.next (line self) found came) seat.new.me.1
+            result) }
+        ensures told { Tells (told on.now) self result };
 }

@@ -7,6 +7,7 @@
 mod access;
 mod calls;
 mod code;
+mod leaving;
 mod lists;
 mod passes;
 mod pause;
@@ -16,15 +17,16 @@ mod stepping;
 mod steps;
 
 pub use access::{Access, Outcome};
-pub use calls::{to_the_end, try_for};
+pub use calls::{at_once, to_the_end, try_for};
 pub use code::{Code, Next};
 pub use index_list::raised;
+pub use leaving::aside;
 pub use lists::{
     ListMachine, give_chain_step, load_link_step, load_top_step, store_link_step, take_all_step,
     take_first_step,
 };
 pub use passes::{Note, Pass, Root, heed, join, make_note, meet, split};
-pub use pause::Pause;
+pub use pause::{Density, Pause};
 pub use rule::{Machine, Running};
 pub use seats::peek;
-pub use stepping::{any, single_step, step};
+pub use stepping::{any, first_step, single_step, step};

@@ -3,6 +3,7 @@ ghost use Rattle.std.specs.Prelude.{◌≡◌, ◌<◌, IfSome, MatchOption};
 ghost use Rattle.bounded_model.specs.Laws.{IsFullOfPasses, Splits, Joins, Heeds, MeetGives};
 ghost use Rattle.running.specs.Passes.{IsPassOn, IsRootOn, IsNoteOn, pass_in, root_in, told_in};
 
+use crate::pause::Density;
 use crate::rule::{Machine, Running};
 use crate::seats::{join_seats, look_round, split_seat};
 use atomic_table::{Seat, Shared};
@@ -10,10 +11,11 @@ use bounded_model::MAX_PASSES;
 use machine::seats::View;
 use tagged_index::Limits;
 
-/// Steps on a container. It has no bytes.
+/// Steps on a container. At run time it is the four bytes that it knows of its caller.
 #[derive(Drop)]
 pub struct Pass<T, L> {
     pub seat: Seat<Option<T>, View<T, L>>,
+    pub(crate) density: Density,
 }
 
 /// Gives passes and takes them back.
@@ -48,7 +50,10 @@ pub fn split<T, L, O, M: Machine<T, L, O>>(
     }
     let seat = split_seat::<T, L, O, M>(table, &mut parent.seat);
     parent.out += 1;
-    Some(Pass { seat })
+    Some(Pass {
+        seat,
+        density: Density::new(),
+    })
 }
 
 /// The first pass has now seen what either had; the second comes back as it was. The answer is
@@ -66,11 +71,11 @@ pub fn meet<T, L, O, M: Machine<T, L, O>>(
         × (pass_in result.0 ≡ pass_in second) }
     ensures gives { MeetGives (pass_in first.old) (pass_in second) (pass_in first.new) result.1 }
 {
-    let Pass { seat } = second;
+    let Pass { seat, density } = second;
     join_seats::<T, L, O, M>(table, &mut first.seat, seat);
     look_round::<T, L, O, M>(table, &mut first.seat);
     let seat = split_seat::<T, L, O, M>(table, &mut first.seat);
-    (Pass { seat }, true)
+    (Pass { seat, density }, true)
 }
 
 /// What the pass has seen, as a value of its own. The answer is always some note, since the table
@@ -121,7 +126,7 @@ pub fn join<T, L, O, M: Machine<T, L, O>>(
     ensures root { IsRootOn (M.machine table.now.key) table.now.table_id parent.new }
     ensures gives { Joins (root_in parent.old) (pass_in by) (root_in parent.new) }
 {
-    let Pass { seat } = by;
+    let Pass { seat, .. } = by;
     join_seats::<T, L, O, M>(table, &mut parent.seat, seat);
     look_round::<T, L, O, M>(table, &mut parent.seat);
     parent.out -= 1;

@@ -1,14 +1,15 @@
 //! One atomic step of an operation, for all operations on all machines.
-ghost use Rattle.std.specs.Prelude.{◌≡◌};
+ghost use Rattle.std.specs.Prelude.{◌≡◌, ◌<◌};
 ghost use Rattle.running.specs.Going.{At};
-ghost use Rattle.running.specs.Code.{IsAccess};
+ghost use Rattle.running.specs.Code.{IsAccess, Tells};
 ghost use Rattle.running.specs.Steps.{Made, Stands, Gives, GivesSingle, Ran};
 
 use crate::access::{Access, Outcome};
 use crate::code::{Code, Next};
 use crate::lists::{
     ListMachine, give_bare_step, give_chain_step, give_one_step, keep_link_step, load_link_step,
-    load_top_step, mark_step, shut_step, store_link_step, take_bare_step, take_first_step,
+    load_top_step, mark_step, shut_step, store_link_step, take_all_step, take_bare_step,
+    take_first_step,
 };
 use crate::passes::Pass;
 use crate::rule::Running;
@@ -104,6 +105,13 @@ fn make<C, T, L, O, M: ListMachine<T, L, O, N>, A, S: Code<C, T, L, O, M, A, N>,
                 won,
             }
         }
+        Access::TakeAll(list, seen, front) => {
+            let won = take_all_step::<T, L, O, M, N>(table, seat, list, seen, front, operation);
+            Outcome {
+                word: seen.word(),
+                won,
+            }
+        }
         Access::Give(list, seen, index) => {
             let won = give_one_step::<T, L, O, M, N>(table, seat, list, seen, index, operation);
             Outcome {
@@ -155,11 +163,12 @@ fn advance<C, T, L, O, M: ListMachine<T, L, O, N>, A, S: Code<C, T, L, O, M, A, 
     requires table { (table.now.key ≡ S.key on.now) × (table.now.table_id ≡ S.id on.now) }
     requires named { operation.now ≡ S.operation at }
     requires stands { Stands (M.machine (S.key on.now)) S.operation S.line S.slots (S.knows on.now)
-        S.answer (S.id on.now) by at }
+        S.answer S.rest (S.id on.now) by at }
     requires access { IsAccess (M.machine (S.key on.now)).core M.lists N (S.id on.now).words
         (S.line at) (S.slots at) access }
-    ensures { Gives (M.machine (S.key on.now)) S.operation S.line S.slots (S.knows on.now)
-        S.answer (S.id on.now) by at result.0 result.1 }
+    ensures gives { Gives (M.machine (S.key on.now)) S.operation S.line S.slots (S.knows on.now)
+        S.answer S.rest (S.id on.now) by at result.0 result.1 }
+    ensures told { Tells (S.told on.now) at result.1 }
 {
     let mut pass = by;
     let outcome = make::<C, T, L, O, M, A, S, N>(table, &mut pass.seat, access, operation, &at);
@@ -188,9 +197,10 @@ pub fn step<
     requires table { (table.now.key ≡ S.key on.now) × (table.now.table_id ≡ S.id on.now) }
     requires named { operation.now ≡ S.operation at }
     requires stands { Stands (M.machine (S.key on.now)) S.operation S.line S.slots (S.knows on.now)
-        S.answer (S.id on.now) by at }
-    ensures { Gives (M.machine (S.key on.now)) S.operation S.line S.slots (S.knows on.now)
-        S.answer (S.id on.now) by at result.0 result.1 }
+        S.answer S.rest (S.id on.now) by at }
+    ensures gives { Gives (M.machine (S.key on.now)) S.operation S.line S.slots (S.knows on.now)
+        S.answer S.rest (S.id on.now) by at result.0 result.1 }
+    ensures told { Tells (S.told on.now) at result.1 }
 {
     let access = at.access(on);
     advance::<C, T, L, O, M, A, S, N>(table, on, by, at, operation, access)
@@ -217,9 +227,9 @@ pub fn single_step<
     requires table { (table.now.key ≡ S.key on.now) × (table.now.table_id ≡ S.id on.now) }
     requires named { operation.now ≡ S.operation at }
     requires stands { Stands (M.machine (S.key on.now)) S.operation S.line S.slots (S.knows on.now)
-        S.answer (S.id on.now) by at }
+        S.answer S.rest (S.id on.now) by at }
     ensures { GivesSingle (M.machine (S.key on.now)) S.operation S.line S.slots (S.knows on.now)
-        S.answer (S.id on.now) by at result }
+        S.answer S.rest (S.id on.now) by at result }
 {
     let access = at.access(on).plain();
     match advance::<C, T, L, O, M, A, S, N>(table, on, by, at, operation, access) {
@@ -241,9 +251,44 @@ pub fn any<C, T, L, O, M: ListMachine<T, L, O, N>, A, S: Code<C, T, L, O, M, A, 
     requires table { (table.now.key ≡ S.key on.now) × (table.now.table_id ≡ S.id on.now) }
     requires named { operation.now ≡ S.operation at }
     requires stands { Stands (M.machine (S.key on.now)) S.operation S.line S.slots (S.knows on.now)
-        S.answer (S.id on.now) by at }
-    ensures { Ran (M.machine (S.key on.now)) S.operation S.line S.slots (S.knows on.now)
-        S.answer (S.id on.now) operation.now by result.0 result.1 }
+        S.answer S.rest (S.id on.now) by at }
+    ensures ran { Ran (M.machine (S.key on.now)) S.operation S.line S.slots (S.knows on.now)
+        S.answer S.rest (S.id on.now) operation.now by result.0 result.1 }
+    ensures told { Tells (S.told on.now) at result.1 }
 {
     step::<C, T, L, O, M, A, S, N>(table, on, by, at, operation)
+}
+
+/// The same as the first step of a whole call. Before it the pass may look whether the others got
+/// something done while its caller was away, by a load that tells nothing of the operation.
+#[inline(always)]
+pub fn first_step<
+    C,
+    T,
+    L,
+    O,
+    M: ListMachine<T, L, O, N>,
+    A,
+    S: Code<C, T, L, O, M, A, N>,
+    const N: usize,
+>(
+    table: &Shared<Option<T>, View<T, L>, Limits, Running<O, M>>,
+    on: &C,
+    by: Pass<T, L>,
+    at: S,
+    operation: &O,
+) -> (Pass<T, L>, Next<S, A>)
+    requires table { (table.now.key ≡ S.key on.now) × (table.now.table_id ≡ S.id on.now) }
+    requires some_word { 0 < table.now.table_id.words }
+    requires named { operation.now ≡ S.operation at }
+    requires stands { Stands (M.machine (S.key on.now)) S.operation S.line S.slots (S.knows on.now)
+        S.answer S.rest (S.id on.now) by at }
+    ensures ran { Ran (M.machine (S.key on.now)) S.operation S.line S.slots (S.knows on.now)
+        S.answer S.rest (S.id on.now) operation.now by result.0 result.1 }
+    ensures told { Tells (S.told on.now) at result.1 }
+{
+    let Pass { seat, density } = by;
+    let density = density.at_begin::<T, L, O, M>(table);
+    let by = Pass { seat, density };
+    any::<C, T, L, O, M, A, S, N>(table, on, by, at, operation)
 }

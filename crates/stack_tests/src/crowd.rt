@@ -2,13 +2,14 @@
 
 ghost use Rattle.treiber_stack.specs.Stack.{IsPassOf};
 
-use bounded_model::{Container, PutRefused, TakeRefused};
+use bounded_model::Container;
 use std::alloc::{AllocFailed, Global};
 use std::sync::Wait;
 use std::sync::atomic::{AtomicU64, Ordering};
 use std::thread;
 use tagged_index::{Limits, MAX_TAG};
 use treiber_stack::{Pass, Stack};
+use waiting::{put_waiting, take_all_until_closed, take_waiting};
 
 /// How many ranges of three values each of the two putting threads has.
 const RANGES: u64 = 3_000;
@@ -53,25 +54,8 @@ impl Tally {
     }
 }
 
-// Puts one value, however often the stack is full.
-fn put<R: Wait>(rt: &R, stack: &Stack<u64>, by: Pass<u64>, value: u64) -> Pass<u64>
-    requires { IsPassOf stack.now by }
-    ensures { IsPassOf stack.now result }
-{
-    let mut pass = by;
-    for _ in rt.forever() {
-        let (back, answer) = stack.put(rt, pass, value);
-        pass = back;
-        match answer {
-            Err(PutRefused::Full(_)) => thread::yield_now(),
-            _ => return pass,
-        }
-    }
-    unreachable!()
-}
-
 // Puts three values by one compare-and-swap where there is room, and those that found none one by
-// one.
+// one, however often the stack is full.
 fn put_three<R: Wait>(rt: &R, stack: &Stack<u64>, by: Pass<u64>, first: u64) -> Pass<u64>
     requires { IsPassOf stack.now by }
     ensures { IsPassOf stack.now result }
@@ -88,7 +72,8 @@ fn put_three<R: Wait>(rt: &R, stack: &Stack<u64>, by: Pass<u64>, first: u64) -> 
     }
     for place in &mut values {
         if let Some(value) = place.take() {
-            pass = put(rt, stack, pass, value);
+            let (back, _) = put_waiting(stack, rt, pass, value);
+            pass = back;
         }
     }
     pass
@@ -107,37 +92,29 @@ fn put_ranges<R: Wait>(rt: &R, stack: &Stack<u64>, by: Pass<u64>, first: u64)
 fn take_each<R: Wait>(rt: &R, stack: &Stack<u64>, by: Pass<u64>, tally: &Tally)
     requires { IsPassOf stack.now by }
 {
-    let mut pass = by;
-    for _ in rt.forever() {
-        let (back, answer) = stack.take(rt, pass);
-        pass = back;
-        match answer {
-            Ok((value, _)) => tally.count(value),
-            Err(TakeRefused::Empty) => thread::yield_now(),
-            Err(_) => return,
-        }
-    }
-    unreachable!()
+    let count = |_counted: (), (value, _number): (u64, u64)| tally.count(value);
+    let _ = take_all_until_closed(stack, rt, by, (), count);
 }
 
-// Takes all values at a time until the stack is closed and empty.
+// Waits for a value and then takes all others at a time, until the stack is closed and empty. Each
+// turn takes a value, so that there are no more turns than values.
 fn fold_each<R: Wait>(rt: &R, stack: &Stack<u64>, by: Pass<u64>, tally: &Tally)
     requires { IsPassOf stack.now by }
 {
     let mut pass = by;
-    for _ in rt.forever() {
+    for _ in 0..=6 * RANGES {
+        let (back, taken) = take_waiting(stack, rt, pass);
+        let Ok((value, _)) = taken else {
+            return;
+        };
+        tally.count(value);
         let count = |seen: u64, value: u64| {
             tally.count(value);
             seen.wrapping_add(1)
         };
-        let (back, _, answer) = stack.fold_all_atomic(rt, pass, 0u64, count);
+        let (back, _, _) = stack.fold_all_atomic(rt, back, 0u64, count);
         pass = back;
-        match answer {
-            Ok(_) | Err(TakeRefused::Empty) => thread::yield_now(),
-            Err(_) => return,
-        }
     }
-    unreachable!()
 }
 
 #[test]

@@ -17,9 +17,10 @@ use Rattle.treiber_stack.specs.declared.stack.Stack.{Stack}
 use Rattle.treiber_stack.specs.declared.closing.Mark.{Mark}
 use Rattle.treiber_stack.specs.declared.closing.Mark.TheVariants.{Closed, Shut}
 use Rattle.treiber_stack.specs.declared.closing.MarkAt.{MarkAt}
-use Rattle.treiber_stack.specs.Closing.{mark_name, mark_answer, mark_ends, MarkGives, IsMarking}
+use Rattle.running.specs.Steps.{Stops}
+use Rattle.treiber_stack.specs.Closing.{mark_name, mark_answer, mark_line, mark_ends, MarkGives, IsMarking}
 use Rattle.running.specs.declared.passes.Pass.{Pass}
-use Rattle.treiber_stack.specs.Stack.{machine_of, shape_of}
+use Rattle.treiber_stack.specs.Stack.{machine_of, shape_of, pass_in, IsPassOf}
 
 module _ {T : Type 0} (c : Stack T) where
   -- an operation of any kind has added its own events
@@ -42,10 +43,11 @@ module _ {T : Type 0} (c : Stack T) where
     pub look_gives : (b : Bool) → Ended (machine_of c) LookFirst v begun (ends (AnswerLook b)) → LookGives (shape_of c) begun (pass_of v) b
     look_gives b e = (adds_of e [] e.deeds.made, e.tells)
 
--- the line of an operation that sets a mark, once it has answered
-pub mark_ends_so : {T : Type 0} (mark : Mark) (done : Bool) → mark_ends {T = T} (mark_name mark) done ≡ ends (mark_answer mark done)
-mark_ends_so Closed done = refl
-mark_ends_so Shut done = refl
+-- a whole call that sets a mark has answered
+pub mark_stops : {T : Type 0} (c : Stack T) (mark : Mark) (done : Bool) (begun : PassView T) (q : Pass T (Line T)) → Stops (machine_of c) (λ (at : MarkAt). mark_name at.mark) (λ at. mark_line at.mark at.seen) (λ at. []) (λ at. Unit {0}) mark_ends (λ a. []) c.table.shared.table_id (mark_name mark) begun q done
+    → IsPassOf c q × MarkGives mark (shape_of c) begun (pass_in q) done
+mark_stops c Closed done begun q e = (e.0, mark_gives c Closed done e.1)
+mark_stops c Shut done begun q e = (e.0, mark_gives c Shut done e.1)
 
 -- an operation that sets a mark goes on setting that mark
 pub mark_stays : {T : Type 0} (c : Stack T) (mark : Mark) (at : MarkAt) → mark_name {T = T} mark ≡ mark_name at.mark → (q : Pass T (Line T)) → IsMarking c at.mark q at.seen → IsMarking c mark q at.seen

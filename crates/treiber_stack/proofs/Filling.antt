@@ -1,12 +1,12 @@
 -- A range takes a node for its next value.
 use Rattle.std.proofs.lemmas.Bool.Decides.{nat_tests}
-use Rattle.std.proofs.Common.{◌≡◌, ◌≢◌, ℕ, zero, suc, ◌+◌, ◌<◌, ◌≤◌, ◌⊎◌, inl, inr, Bool, cond, ltb, List, [], ◌∷◌, ◌++◌, length, reverse, take, refl, sym, ap, ◌∙◌, subst, arith}
+use Rattle.std.proofs.Common.{◌≡◌, ◌≢◌, ℕ, zero, suc, ◌+◌, ◌<◌, ◌≤◌, ◌⊎◌, inl, inr, Bool, cond, ltb, List, [], ◌∷◌, ◌++◌, map, length, reverse, take, refl, sym, ap, ◌∙◌, subst, arith}
 use Rattle.std.specs.Prelude.{Option as Slot, Some, None}
 use Rattle.atomic_table.specs.Table.{rest}
 use Rattle.tagged_index.specs.declared.word.TheConstants.{NULL}
 use Rattle.machine.specs.Words.{times}
 use Rattle.machine.specs.Chains.{first, last}
-use Rattle.machine.proofs.Chains.{first_in, last_in}
+use Rattle.machine.proofs.Chains.{first_in}
 use Rattle.machine.proofs.Lists.{none_of, times_else}
 use Rattle.machine.proofs.Sums.{total_one}
 use Rattle.machine.proofs.Tests.{same_or_not, is_true, is_false}
@@ -25,14 +25,13 @@ use Rattle.running.specs.declared.passes.Pass.{Pass}
 use Rattle.running.proofs.Ways.{goes_on, started}
 use Rattle.treiber_stack.specs.declared.stack.Stack.{Stack}
 use Rattle.treiber_stack.specs.declared.giving.Chain.{Chain}
-use Rattle.treiber_stack.specs.declared.nodes.NoNode.{NoNode}
-use Rattle.treiber_stack.specs.declared.ranging.Held.{Held}
-use Rattle.treiber_stack.specs.Nodes.{loaded, linking, IsCollecting, IsPlacing, Stops, TakesNode}
-use Rattle.treiber_stack.specs.Ranging.{putting, HasNodes, HasTaken, IsFilling, IsHolding, IsRange}
+use Rattle.treiber_stack.specs.declared.range_steps.Held.{Held}
+use Rattle.treiber_stack.specs.declared.range_steps.RangeAt.TheVariants.{LoadFree as AtFree, Load as AtTop}
+use Rattle.treiber_stack.specs.Ranging.{putting, loaded, linking, HasTaken, IsFilling, IsRange, IsRangeAt, TakesNode}
 use Rattle.treiber_stack.specs.Stack.{room_of, machine_of, begun_of, IsAt, IsPassOf}
 use Rattle.treiber_stack.proofs.Gives.{moved, ready_step}
-use Rattle.treiber_stack.proofs.Loading.{next_value, loaded_more}
-use Rattle.treiber_stack.proofs.Placing.{linking_busy}
+use Rattle.treiber_stack.proofs.Loading.{length_some, next_value, loaded_more}
+use Rattle.treiber_stack.proofs.RangeSteps.{linking_busy, are_nodes}
 
 -- a chain that is not empty
 parts_of : (chain : List ℕ) → 0 < length chain → (x : ℕ) × (xs : List ℕ) × (chain ≡ x ∷ xs)
@@ -70,45 +69,21 @@ module _ {T : Type 0} (c : Stack T) (o : Operation T) (vs : List T) where
   module _ (p : Pass T (Line T)) (held' : Held) where
     module _ (f : IsFilling c o p vs held') where
       -- it wants a node for the next value
-      pub collects : held'.count < length vs → IsCollecting c o p (putting vs f.chain)
-      collects low = subst (λ (l : Line T). IsAt c o p l (loaded (putting vs f.chain))) (next_more (putting vs f.chain) (let e = f.has.counted in omega arith)) f.at
+      pub wants_node : held'.count < length vs → IsRangeAt c o p (putting vs f.chain) held' AtFree
+      wants_node low = record {
+        line = subst (λ (l : Line T). IsAt c o p l (loaded (putting vs f.chain))) (next_more (putting vs f.chain) (let e = f.has.counted in omega arith)) f.at;
+        read = f.has;
+      }
 
       -- all values have nodes
-      pub holds_all : 0 < held'.count → length vs ≤ held'.count → IsHolding c o p vs held'
-      holds_all some_node high = record {
-        chain = f.chain;
-        has = f.has;
-        some_node = some_node;
-        at = subst (λ (l : Line T). IsAt c o p l (loaded (putting vs f.chain))) (next_all (putting vs f.chain) (let e = f.has.counted in omega arith)) f.at;
+      pub wants_top : 0 < held'.count → length vs ≤ held'.count → IsRangeAt c o p (putting vs f.chain) held' AtTop
+      wants_top some_node high = record {
+        line = subst (λ (l : Line T). IsAt c o p l (loaded (putting vs f.chain))) (next_all (putting vs f.chain) (let e = f.has.counted in omega arith)) f.at;
+        read = (some_node, are_nodes c vs f.chain held' f.has some_node);
       }
 
       pub has_taken : (q : Pass T (Line T)) (i : ℕ) → TakesNode c o (begun_of c p) (putting vs f.chain) q i → HasTaken c o q vs held' i
       has_taken q i t = record { chain = f.chain; has = f.has; takes = record { at = t.at; low = t.low; begun_is = refl } }
-
-    -- the nodes go onto the top
-    pub placing : (h : IsHolding c o p vs held') → IsPlacing c o p (putting vs h.chain) held'.chain
-    placing h =
-        let a = h.has.counted in
-        let b = h.some_node in
-        let there : 0 < length h.chain = omega arith in
-        record {
-          at = h.at;
-          are = record {
-            begins = h.has.begins;
-            ends = h.has.ends;
-            first_low = subst (λ (k : ℕ). k < room_of c) h.has.begins (h.has.low (first h.chain) (first_in h.chain there));
-            last_low = subst (λ (k : ℕ). k < room_of c) h.has.ends (h.has.low (last h.chain) (last_in h.chain there));
-          };
-        }
-
-    -- no further node could be had
-    pub holds_some : (q : Pass T (Line T)) (chain : List ℕ) (why : NoNode) → HasNodes c vs chain held' → Stops c o (begun_of c p) q chain (putting vs chain) why → 0 < held'.count → IsHolding c o q vs held' × (begun_of c q ≡ begun_of c p)
-    holds_some q [] why has stops some_node = absurd (let e = has.counted in omega arith)
-    holds_some q (j ∷ js) why has stops some_node = (record { chain = j ∷ js; has = has; some_node = some_node; at = stops.0 }, stops.1)
-
-    pub stops_none : (q : Pass T (Line T)) (chain : List ℕ) (why : NoNode) → HasNodes c vs chain held' → Stops c o (begun_of c p) q chain (putting vs chain) why → held'.count ≡ 0 → Stops c o (begun_of c p) q [] (putting vs []) why
-    stops_none q [] why has stops none = stops
-    stops_none q (j ∷ js) why has stops none = absurd (let e = has.counted in omega arith)
 
     -- a node came, and the value moved in
     module _ (i : ℕ) (h : HasTaken c o p vs held' i) (low : held'.count < length vs) where
@@ -206,3 +181,10 @@ module _ {T : Type 0} (c : Stack T) (o : Operation T) (vs : List T) where
                   },
                   on.1.0 ∙ filled.1,
                 )
+
+-- once all values have left the places of a range
+pub top_here : {T : Type 0} (c : Stack T) (o : Operation T) (places : List (Slot T)) (vs : List T) (p : Pass T (Line T)) (held' : Held) (k : ℕ) → places ≡ map Some vs → IsRange o vs → (f : IsFilling c o p vs held') → held'.count ≡ k → length places ≤ k → IsRangeAt c o p (putting vs f.chain) held' AtTop
+top_here c o places vs p held' k are is f same past =
+    let long : length places ≡ length vs = ap length are ∙ length_some vs in
+    let some_value = some_in o vs is in
+    wants_top c o vs p held' f (omega arith) (omega arith)

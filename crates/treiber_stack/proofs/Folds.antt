@@ -1,52 +1,53 @@
--- Where the steps of a fold lead that take the chain, and what a fold gives.
-use Rattle.std.proofs.Common.{◌≡◌, ℕ, ◌<◌, false, List, [], ◌∷◌, ◌++◌, length, refl, sym, ap, ◌∙◌, subst}
-use Rattle.std.specs.Prelude.{Option as Slot, Ok, Err, map}
-use mathlib.Core.Option.{some}
-use Rattle.tagged_index.specs.Fields.{fields_of, index_of}
+-- What a fold gives, and where its first steps and its last lead.
+use Rattle.std.proofs.Common.{◌≡◌, ℕ, ◌≤◌, Bool, false, List, [], ◌∷◌, ◌++◌, length, refl, sym, ap, ◌∙◌, subst, length-append, arith}
+use Rattle.std.specs.Prelude.{Option as Slot, Ok, Err}
 use Rattle.bounded_model.specs.declared.answers.TakeRefused.{TakeRefused}
-use Rattle.bounded_model.specs.declared.history.Event.TheVariants.{TakeAll, Free}
+use Rattle.bounded_model.specs.declared.history.Event.TheVariants.{TakeAll as TakeAllEvent, Free}
 use Rattle.bounded_model.specs.declared.views.PassView.{PassView}
 use Rattle.bounded_model.specs.Histories.{own}
 use Rattle.bounded_model.specs.Consumes.{Folds}
 use Rattle.bounded_model.specs.Laws.{TakesNothing, FoldGives}
 use Rattle.index_list.specs.declared.front.Front.{Front}
-use Rattle.index_list.specs.Steps.{numbers}
-use Rattle.machine.specs.Words.{Tagged}
-use Rattle.machine.specs.Chains.{values_of}
 use Rattle.machine.specs.Seats.{pass_of}
 use Rattle.machine.specs.declared.seats.View.{View}
 use Rattle.stack_machine.specs.declared.lines.Answer.TheVariants.{Fold as AnswerFold}
 use Rattle.stack_machine.specs.declared.lines.Call.TheVariants.{Take as CallTake}
-use Rattle.stack_machine.specs.declared.lines.Direction.{Direction}
-use Rattle.stack_machine.specs.declared.lines.Direction.TheVariants.{Down, Up}
 use Rattle.stack_machine.specs.declared.lines.Taking.TheVariants.{Whole}
 use Rattle.stack_machine.specs.declared.lines.Line.{Line}
-use Rattle.stack_machine.specs.declared.lines.Line.TheVariants.{LoadTopToTake, TakeChain}
-use Rattle.stack_machine.specs.Machine.{ends, is_idle, is_up, at_take_chain}
+use Rattle.stack_machine.specs.Machine.{ends, is_idle}
 use Rattle.stack_machine.specs.Deeds.{in_order}
 use Rattle.stack_machine.proofs.Made.{made_no_fold}
-use Rattle.stack_table.specs.declared.operation.Operation.{Operation}
 use Rattle.stack_table.specs.declared.operation.Operation.TheVariants.{Fold as FoldFirst}
-use Rattle.stack_table.specs.Lines.{direction, won_chain}
-use Rattle.stack_table.specs.Slots.{full}
-use Rattle.stack_table.proofs.Slots.{length_in_order, numbers_full, values_full}
-use Rattle.running.specs.Tables.{values as slot_values}
-use Rattle.running.specs.Going.{Ended, Found, Missed, Brings}
+use Rattle.stack_table.specs.Lines.{direction, names, next}
+use Rattle.running.specs.Code.{Finding, Leads}
+use Rattle.running.specs.Going.{Ended}
+use Rattle.running.specs.Steps.{Stops, StopsAt}
 use Rattle.running.specs.declared.passes.Pass.{Pass}
-use Rattle.running.proofs.Slots.{turned_twice}
-use Rattle.running.proofs.Ways.{goes_on, ends_so, hits, misses}
-use Rattle.treiber_stack.specs.declared.folding.Walked.{Walked}
+use Rattle.running.specs.declared.access.Outcome.{Outcome}
+use Rattle.running.specs.declared.code.Next.{Next}
+use Rattle.running.specs.declared.code.Next.TheVariants.{Done}
 use Rattle.treiber_stack.specs.declared.stack.Stack.{Stack}
-use Rattle.treiber_stack.specs.Folding.{IsTaken, Walks}
-use Rattle.treiber_stack.specs.Refusing.{AllowsTake, RefusesTake}
-use Rattle.treiber_stack.specs.Stack.{room_of, limit_of, machine_of, shape_of, pass_in, begun_of, IsPassOf, IsAt, WentOn}
+use Rattle.treiber_stack.specs.declared.folding.Batch.{Batch}
+use Rattle.treiber_stack.specs.declared.folding.FoldAt.{FoldAt}
+use Rattle.treiber_stack.specs.declared.folding.FoldAt.TheVariants.{Load, TakeAll, LoadToTurn, TurnLink, LoadToFold, GiveBack}
+use Rattle.treiber_stack.specs.declared.folding.FoldStop.{FoldStop}
+use Rattle.treiber_stack.specs.declared.folding.FoldStop.TheVariants.{Yields, Ended as AllGone, Refused}
+use Rattle.treiber_stack.specs.declared.giving.Chain.{Chain}
+use Rattle.treiber_stack.specs.declared.giving.Give.{Give}
+use Rattle.treiber_stack.specs.Folding.{nodes_of, folded_of, folding, front_of, gone, fold_operation, fold_line, fold_slots, fold_answer, fold_rest, HasReadToFold}
+use Rattle.treiber_stack.specs.Giving.{GaveTo}
+use Rattle.treiber_stack.specs.Refusing.{RefusesTake}
+use Rattle.treiber_stack.specs.Stack.{room_of, limit_of, machine_of, shape_of, pass_in, begun_of, IsPassOf, IsAt}
 use Rattle.treiber_stack.proofs.Closes.{adds_of}
-use Rattle.treiber_stack.proofs.Refusals.{allows_take}
+use Rattle.treiber_stack.proofs.Gives.{busy_giving, within, gave_within}
 
-module _ {T : Type 0} where
-  chain_busy : (d : Direction) (w : Tagged) (chain : List ℕ) (values : List T) → is_idle (at_take_chain d w chain values) ≡ false
-  chain_busy Down w chain values = refl
-  chain_busy Up w chain values = refl
+-- one value more is folded
+pub Folds_more : {T S : Type 0} (Gives : S → T → S → Type 0) (s : S) (xs : List T) (r t : S) (x : T) → Folds Gives s xs r → Gives r x t → Folds Gives s (xs ++ x ∷ []) t
+Folds_more Gives s [] r t x folds next = (t, subst (λ (q : _). Gives q x t) (sym folds) next, refl)
+Folds_more Gives s (y ∷ ys) r t x folds next = (folds.0, folds.1, Folds_more Gives folds.0 ys r t x folds.2 next)
+
+pub folds_same : {T S : Type 0} (Gives : S → T → S → Type 0) (s : S) (xs ys : List T) (r : S) → xs ≡ ys → Folds Gives s xs r → Folds Gives s ys r
+folds_same Gives s xs ys r e folds = subst (λ (zs : List _). Folds Gives s zs r) e folds
 
 -- what a fold has done, by its answer
 pub record Folded {T : Type 0} (front : Front) (begun now : PassView T) (folded : List T) (t : ℕ) : Type 0 where
@@ -54,64 +55,74 @@ pub record Folded {T : Type 0} (front : Front) (begun now : PassView T) (folded 
   pub gives : FoldGives begun now values t
   pub order : folded ≡ in_order (direction front) values
 
-module _ {T : Type 0} (c : Stack T) (front : Front) where
-  abbrev name : Operation T
-  name = FoldFirst front
+module _ {T : Type 0} (c : Stack T) (front : Front) {v : View T (Line T)} {begun : PassView T} where
+  pub fold_gives : (folded : List T) (t : ℕ) → Ended (machine_of c) (FoldFirst front) v begun (ends (AnswerFold (Ok (folded, t)))) → Folded front begun (pass_of v) folded t
+  fold_gives folded t e =
+      let made = e.deeds.made in
+      let vs = made.values in
+      record {
+        values = vs;
+        gives = adds_of c e (Free begun.number (length vs) ∷ TakeAllEvent begun.number vs t ∷ []) (made.is ∙ ap (λ (k : ℕ). Free k (length vs) ∷ TakeAllEvent k vs t ∷ []) e.number);
+        order = made.order;
+      }
 
-  abbrev d : Direction
-  d = direction front
+  pub takes_nothing : (why : TakeRefused) → Ended (machine_of c) (FoldFirst front) v begun (ends (AnswerFold (Err why))) → TakesNothing (shape_of c) begun (pass_of v) why
+  takes_nothing why e = (adds_of c e [] (made_no_fold (pass_of v).number (own (pass_of v).number e.deeds.between) (CallTake (Whole (direction front))) why e.deeds.made), e.tells)
 
-  module _ {v : View T (Line T)} {begun : PassView T} where
-    pub fold_gives : (folded : List T) (t : ℕ) → Ended (machine_of c) name v begun (ends (AnswerFold (Ok (folded, t)))) → Folded front begun (pass_of v) folded t
-    fold_gives folded t e =
-        let made = e.deeds.made in
-        let vs = made.values in
-        record {
-          values = vs;
-          gives = adds_of c e (Free begun.number (length vs) ∷ TakeAll begun.number vs t ∷ []) (made.is ∙ ap (λ (k : ℕ). Free k (length vs) ∷ TakeAll k vs t ∷ []) e.number);
-          order = made.order;
-        }
+-- a fold that hands out a value has not answered yet
+pub fold_busy : {T : Type 0} (at : FoldAt T) → is_idle (fold_line at) ≡ false
+fold_busy (Load front) = refl
+fold_busy (TakeAll front w) = refl
+fold_busy (LoadToTurn b above i) = refl
+fold_busy (TurnLink b above i below) = refl
+fold_busy (LoadToFold b walk) = refl
+fold_busy (GiveBack b chain at) = busy_giving (folding b (nodes_of b)) at
 
-    pub takes_nothing : (why : TakeRefused) → Ended (machine_of c) name v begun (ends (AnswerFold (Err why))) → TakesNothing (shape_of c) begun (pass_of v) why
-    takes_nothing why e = (adds_of c e [] (made_no_fold (pass_of v).number (own (pass_of v).number e.deeds.between) (CallTake (Whole d)) why e.deeds.made), e.tells)
+-- where the code of a fold goes on
+module _ {T : Type 0} (c : Stack T) where
+  abbrev pub FoldsTo : FoldAt T → List (ℕ × Slot T) → Next (FoldAt T) (FoldStop T) → Line T → Type 0
+  FoldsTo s has to l = Leads names fold_operation fold_line fold_slots (λ at. HasReadToFold (room_of c) (limit_of c) at) fold_answer fold_rest s l has to
 
-  module _ (p q : Pass T (Line T)) (table : q.seat.table_id ≡ p.seat.table_id) where
-    abbrev loads : ℕ → Type 0
-    loads w = Found (machine_of c) name p.seat.me.0 q.seat.me.0 w []
+  abbrev pub Folding : FoldAt T → Outcome → List (ℕ × Slot T) → List (ℕ × Slot T) → Next (FoldAt T) (FoldStop T) → Type 0
+  Folding s r had has to = Finding (machine_of c).core (fold_line s) r (fold_slots s) had (λ found came. FoldsTo s has to (next (room_of c) (limit_of c) (fold_line s) found came))
 
-    pub chain_refused : (w : ℕ) (why : TakeRefused) → IsAt c name p (LoadTopToTake (Whole d)) [] → loads w → q.seat.me.1 ≡ p.seat.me.1 → RefusesTake T (limit_of c) w why → IsPassOf c q × TakesNothing (shape_of c) (begun_of c p) (pass_in q) why
-    chain_refused w why at steps same refuses =
-        let e = ends_so (machine_of c) at q w [] steps table (ends (AnswerFold (Err why))) (same ∙ at.at.has) (refuses (Whole d)) refl in
-        (e.0, takes_nothing why e.1)
+  pub refused : {s : FoldAt T} {front : Front} → s ≡ Load front → (r : Outcome) (had : List (ℕ × Slot T)) (why : TakeRefused) (w : ℕ) → w ≡ r.word → RefusesTake T (limit_of c) w why → Folding s r had had (Done (Refused why))
+  refused {s} {front} is r had why w read refuses = subst (λ (k : FoldAt T). Folding k r had had (Done (Refused why))) (sym is)
+      (λ kept. record { is = subst (λ (x : ℕ). RefusesTake T (limit_of c) x why) read refuses (Whole (direction front)); hand = kept })
 
-    pub chain_allowed : (w : ℕ) → IsAt c name p (LoadTopToTake (Whole d)) [] → loads w → q.seat.me.1 ≡ p.seat.me.1 → AllowsTake (limit_of c) w
-        → (IsAt c name q (TakeChain d (fields_of w)) [] × WentOn c p q (LoadTopToTake (Whole d)) (TakeChain d (fields_of w))) × (index_of w < room_of c)
-    chain_allowed w at steps same allows = (
-      goes_on (machine_of c) at q w [] steps table [] (TakeChain d (fields_of w)) (same ∙ at.at.has) (allows_take (limit_of c) w (Whole d) allows) refl,
-      (steps (begun_of c p) (LoadTopToTake (Whole d)) at.at.going).1 allows.1,
-    )
+  -- by the give inside it
+  pub gave_fold : {s : FoldAt T} {b : Batch T} {chain : Chain} {at : Give} → s ≡ GiveBack b chain at → HasReadToFold (room_of c) (limit_of c) s → (r : Outcome) (has : List (ℕ × Slot T)) (to : Next Give (Unit {0})) → GaveTo c (folding b (nodes_of b)) at r has to → Folding s r has has (within (GiveBack b chain) (AllGone b) to)
+  gave_fold {s} {b} {chain} {at} is knows r has to gave = subst (λ (k : FoldAt T). Folding k r has has (within (GiveBack b chain) (AllGone b) to)) (sym is)
+      (gave_within c fold_operation fold_line fold_slots (λ k. HasReadToFold (room_of c) (limit_of c) k) fold_answer fold_rest (folding b (nodes_of b)) (GiveBack b chain) (AllGone b) (GiveBack b chain at)
+      (λ at'. refl) (λ at'. refl) (λ at'. refl) (λ at'. subst (HasReadToFold (room_of c) (limit_of c)) is knows) refl at r has to gave)
 
-    pub chain_lost : (w : ℕ) → IsAt c name p (TakeChain d (fields_of w)) [] → q.seat.me.1 ≡ p.seat.me.1 → Missed (machine_of c) name p.seat.me.0 q.seat.me.0 w
-        → IsAt c name q (LoadTopToTake (Whole d)) [] × WentOn c p q (TakeChain d (fields_of w)) (LoadTopToTake (Whole d))
-    chain_lost w at same lost = goes_on (machine_of c) at q lost.found [] lost.steps table [] (LoadTopToTake (Whole d)) (same ∙ at.at.has) (misses lost.found w lost.other (won_chain d (fields_of w) []) (LoadTopToTake (Whole d))) refl
+module _ {T : Type 0} (c : Stack T) where
+  abbrev pub FoldStops : Front → PassView T → Pass T (Line T) → FoldStop T → Type 0
+  FoldStops front begun q stop = Stops (machine_of c) fold_operation fold_line fold_slots (λ k. HasReadToFold (room_of c) (limit_of c) k) fold_answer fold_rest c.table.shared.table_id (FoldFirst front) begun q stop
 
-    pub chain_won : (w : ℕ) → IsAt c name p (TakeChain d (fields_of w)) [] → Brings (machine_of c) name p.seat.me.0 q.seat.me.0 w p.seat.me.1 q.seat.me.1 → IsTaken c front w q × (begun_of c q ≡ begun_of c p)
-    chain_won w at won =
-        let fits = won.fits (begun_of c p) (TakeChain d (fields_of w)) at.at.going in
-        let chain = fits.chain in
-        let values = fits.values in
-        let slots : List (ℕ × Slot T) = full (in_order d chain) (in_order d values) in
-        let as_many : length (in_order d chain) ≡ length (in_order d values) = length_in_order d chain ∙ fits.hand.as_many ∙ sym (length_in_order d values) in
-        let has = won.moved ∙ (λ t. fits.slots t ++ at.at.has t) ∙ no_more slots in
-        let nodes = ap (λ (zs : List (ℕ × Slot T)). in_order d (numbers zs)) fits.slots ∙ ap (in_order d) (numbers_full (in_order d chain) (in_order d values) as_many) ∙ turned_twice (is_up d) chain in
-        let are = ap (λ (zs : List (ℕ × Slot T)). values_of (map some (in_order d (slot_values zs)))) fits.slots ∙ values_full (is_up d) (in_order d chain) (in_order d values) as_many ∙ turned_twice (is_up d) values in
-        let on = goes_on (machine_of c) at q w won.slots won.steps table slots (at_take_chain d (fields_of w) chain values) has
-        (hits w (won_chain d (fields_of w) won.slots) (LoadTopToTake (Whole d)) ∙ (λ t. at_take_chain d (fields_of w) (nodes t) (are t))) (chain_busy d (fields_of w) chain values) in
-        (record { chain = chain; values = values; at = on.0; hand = fits.hand; others = fits.others; begins = fits.begins }, on.1.0)
-      where
-        no_more : (zs : List (ℕ × Slot T)) → zs ++ [] ≡ zs
-        no_more [] = refl
-        no_more (z ∷ zs) = ap (λ (ys : List (ℕ × Slot T)). z ∷ ys) (no_more zs)
+  module _ (front : Front) (begun : PassView T) (q : Pass T (Line T)) (stop : FoldStop T) (stops : FoldStops front begun q stop) where
+    -- a fold that has handed out a value goes on
+    pub hands_on : (v : T) (at : FoldAt T) → stop ≡ Yields v at → front_of at ≡ front → IsAt c (fold_operation at) q (fold_line at) (fold_slots at) × (begun_of c q ≡ begun)
+    hands_on v at is same =
+        let r = subst (λ (b : Bool). StopsAt (machine_of c) fold_operation fold_line fold_slots (λ k. HasReadToFold (room_of c) (limit_of c) k) fold_answer fold_rest c.table.shared.table_id b (FoldFirst front) begun q (Yields v at)) (fold_busy at) (subst (FoldStops front begun q) is stops) in
+        (subst (λ (f : Front). IsAt c (FoldFirst f) q (fold_line at) (fold_slots at)) (sym same) r.0, r.1)
 
-pub folds_in_order : {T S : Type 0} {c : Stack T} {front : Front} {w : ℕ} {Gives : S → T → S → Type 0} {p : Pass T (Line T)} {s : S} {r : Walked T S} (told : Walks c front w Gives p s r) (values : List T) → told.folded ≡ in_order (direction front) values → Folds Gives s (in_order (direction front) values) r.state
-folds_in_order {Gives = Gives} {s = s} {r = r} told values e = subst (λ (us : List _). Folds Gives s us r.state) e told.folds
+    pub all_gone : (b : Batch T) → stop ≡ AllGone b → IsPassOf c q × Folded front begun (pass_in q) (folded_of b) b.number
+    all_gone b is = let e = subst (FoldStops front begun q) is stops in (e.0, fold_gives c front (folded_of b) b.number e.1)
+
+    pub none_taken : (why : TakeRefused) → stop ≡ Refused why → IsPassOf c q × TakesNothing (shape_of c) begun (pass_in q) why
+    none_taken why is = let e = subst (FoldStops front begun q) is stops in (e.0, takes_nothing c front why e.1)
+
+  -- it hands out no more values than there are nodes
+  pub gone_few : (at : FoldAt T) → HasReadToFold (room_of c) (limit_of c) at → length (gone at) ≤ room_of c
+  gone_few (LoadToFold b walk) w =
+      let few = w.batch.hand.few in
+      let long : length (nodes_of b) ≡ length (w.done ++ walk.index ∷ w.others) = ap length w.parts in
+      let k = w.counted in
+      let l = w.as_many in
+      omega (arith, few, long, k, l, length-append w.done (walk.index ∷ w.others))
+  gone_few (GiveBack b chain at) is = let few = is.0.hand.few in let many = is.0.hand.as_many in omega arith
+  gone_few (Load front) is = omega arith
+  gone_few (TakeAll front w) is = omega arith
+  gone_few (LoadToTurn b above i) is = omega arith
+  gone_few (TurnLink b above i below) is = omega arith

@@ -1,7 +1,6 @@
 -- Where a step of giving back leads.
-use Rattle.std.proofs.Common.{◌≡◌, ℕ, ◌<◌, true, false, List, [], ◌∷◌, refl, sym, ap, ◌∙◌, subst}
+use Rattle.std.proofs.Common.{◌≡◌, ℕ, ◌<◌, false, List, [], ◌∷◌, refl, sym, ap, ◌∙◌, subst}
 use Rattle.std.specs.Prelude.{Option as Slot}
-use Rattle.bounded_model.specs.declared.views.PassView.{PassView}
 use Rattle.stack_machine.specs.declared.lines.Giving.{Giving}
 use Rattle.stack_machine.specs.declared.lines.Line.{Line}
 use Rattle.stack_machine.specs.Machine.{is_idle, ends}
@@ -12,20 +11,19 @@ use mathlib.Core.Option.{some}
 use Rattle.index_list.specs.Kinds.{Kind}
 use Rattle.stack_table.specs.Lists.{lists, list_step}
 use Rattle.running.specs.Lists.{AtStep}
-use Rattle.running.specs.Going.{Found, Going, Ended, Missed, begun_in}
-use Rattle.running.specs.Code.{Finding, Leads, MatchNext}
+use Rattle.running.specs.Going.{Going, begun_in}
+use Rattle.running.specs.Code.{Finding, Leads, MatchNext, left}
 use Rattle.running.specs.declared.access.Outcome.{Outcome}
 use Rattle.running.specs.declared.code.Next.{Next}
 use Rattle.running.specs.declared.code.Next.TheVariants.{On as NextOn, Lost as NextLost, Done as NextDone}
 use Rattle.running.specs.declared.passes.Pass.{Pass}
 use Rattle.running.proofs.Leading.{finding}
-use Rattle.running.proofs.Ways.{goes_on, ends_so, hits, misses}
 use Rattle.treiber_stack.specs.declared.stack.Stack.{Stack}
 use Rattle.treiber_stack.specs.declared.giving.Chain.{Chain}
 use Rattle.treiber_stack.specs.declared.giving.Give.{Give}
 use Rattle.treiber_stack.specs.declared.giving.Give.TheVariants.{Load, Link, Exchange}
-use Rattle.treiber_stack.specs.Stack.{room_of, limit_of, machine_of, begun_of, IsAt, IsPassOf}
-use Rattle.treiber_stack.specs.Giving.{AreNodes, give_line, IsGiving, GaveTo}
+use Rattle.treiber_stack.specs.Stack.{room_of, limit_of, machine_of, begun_of, IsAt}
+use Rattle.treiber_stack.specs.Giving.{AreNodes, give_line, GaveTo}
 
 module _ {T : Type 0} where
   -- a pass at a line makes its step on a list
@@ -37,40 +35,13 @@ module _ {T : Type 0} where
   busy_giving giving (Link w) = refl
   busy_giving giving (Exchange w) = refl
 
-  -- a whole call, whose steps follow one another
-  module _ (c : Stack T) (o : Operation T) (p : Pass T (Line T)) (giving : Giving T) (nodes : Chain) (is : IsGiving c o p giving nodes Load) (q : Pass T (Line T)) (w : ℕ) (loads : Found (machine_of c) o p.seat.me.0 q.seat.me.0 w []) (table : q.seat.table_id ≡ p.seat.table_id) (same : q.seat.me.1 ≡ p.seat.me.1) where
-    pub loaded : IsGiving c o q giving nodes (Link w) × (begun_of c q ≡ begun_of c p)
-    loaded =
-        let r = goes_on (machine_of c) is.line q w [] loads table (vacant giving.chain) (give_line giving (Link w)) (same ∙ is.line.at.has) refl refl in
-        (record { line = r.0; are = is.are }, r.1.0)
-
-    module _ (r : Pass T (Line T)) (x : ℕ) (stores : Found (machine_of c) o q.seat.me.0 r.seat.me.0 x []) (table' : r.seat.table_id ≡ q.seat.table_id) (same' : r.seat.me.1 ≡ q.seat.me.1) where
-      pub linked : IsGiving c o r giving nodes (Exchange w) × (begun_of c r ≡ begun_of c p)
-      linked =
-          let before = loaded in
-          let s = goes_on (machine_of c) before.0.line r x [] stores table' (vacant giving.chain) (give_line giving (Exchange w)) (same' ∙ before.0.line.at.has) refl refl in
-          (record { line = s.0; are = is.are }, s.1.0 ∙ before.1)
-
-      module _ (s : Pass T (Line T)) (table'' : s.seat.table_id ≡ r.seat.table_id) where
-        pub given : s.seat.me.1 ≡ [] → Found (machine_of c) o r.seat.me.0 s.seat.me.0 w r.seat.me.1 → IsPassOf c s × Ended (machine_of c) o s.seat.me.0 (begun_of c p) (ends giving.answer)
-        given none_left won =
-            let before = linked in
-            let e = ends_so (machine_of c) before.0.line s w r.seat.me.1 won table'' (ends giving.answer) none_left (hits w (ends giving.answer) (give_line giving Load)) refl in
-            (e.0, subst (λ (b : PassView T). Ended (machine_of c) o s.seat.me.0 b (ends giving.answer)) before.1 e.1)
-
-        pub again : s.seat.me.1 ≡ r.seat.me.1 → Missed (machine_of c) o r.seat.me.0 s.seat.me.0 w → IsGiving c o s giving nodes Load × (begun_of c s ≡ begun_of c p)
-        again kept lost =
-            let before = linked in
-            let e = goes_on (machine_of c) before.0.line s lost.found [] lost.steps table'' (vacant giving.chain) (give_line giving Load) (kept ∙ before.0.line.at.has) (misses lost.found w lost.other (ends giving.answer) (give_line giving Load)) refl in
-            (record { line = e.0; are = is.are }, e.1.0 ∙ before.1)
-
 -- a give inside an operation leads on as the operation's
 abbrev pub within : {S A : Type 0} → (Give → S) → A → Next Give (Unit {0}) → Next S A
 within inside a (NextOn at) = NextOn (inside at)
 within inside a (NextLost at) = NextLost (inside at)
 within inside a (NextDone x) = NextDone a
 
-module _ {T S A : Type 0} (c : Stack T) (operation : S → Operation T) (line : S → Line T) (slots : S → List (ℕ × Slot T)) (Knows : S → Type 0) (answer : Operation T → A → Line T) (giving : Giving T) (inside : Give → S) (a : A) (s : S)
+module _ {T S A : Type 0} (c : Stack T) (operation : S → Operation T) (line : S → Line T) (slots : S → List (ℕ × Slot T)) (Knows : S → Type 0) (answer : Operation T → A → Line T) (rest : A → List (ℕ × Slot T)) (giving : Giving T) (inside : Give → S) (a : A) (s : S)
     (same : (at : Give) → operation (inside at) ≡ operation s) (is : (at : Give) → give_line giving at ≡ line (inside at)) (hand : (at : Give) → vacant giving.chain ≡ slots (inside at)) (knows : (at : Give) → Knows (inside at)) (answers : ends giving.answer ≡ answer (operation s) a)
     (at : Give) (r : Outcome) (has : List (ℕ × Slot T)) where
   abbrev led : ℕ → List (ℕ × Slot T) → Line T
@@ -80,12 +51,12 @@ module _ {T S A : Type 0} (c : Stack T) (operation : S → Operation T) (line : 
   GaveSo to found came = MatchNext to (λ at'. (led found came ≡ give_line giving at') × (has ≡ vacant giving.chain)) (λ done. (led found came ≡ ends giving.answer) × (has ≡ []))
 
   abbrev LeadsSo : Next Give (Unit {0}) → ℕ → List (ℕ × Slot T) → Type 0
-  LeadsSo to found came = Leads names operation line slots Knows answer s (led found came) has (within inside a to)
+  LeadsSo to found came = Leads names operation line slots Knows answer rest s (led found came) has (within inside a to)
 
   follows : (to : Next Give (Unit {0})) (found : ℕ) (came : List (ℕ × Slot T)) → GaveSo to found came → LeadsSo to found came
   follows (NextOn at') found came e = record { same = same at'; is = e.0 ∙ is at'; busy = subst (λ (l : Line T). is_idle l ≡ false) (is at') (busy_giving giving at'); hand = e.1 ∙ hand at'; knows = knows at' }
   follows (NextLost at') found came e = record { same = same at'; is = e.0 ∙ is at'; busy = subst (λ (l : Line T). is_idle l ≡ false) (is at') (busy_giving giving at'); hand = e.1 ∙ hand at'; knows = knows at' }
-  follows (NextDone x) found came e = record { is = e.0 ∙ answers; idle = subst (λ (l : Line T). is_idle l ≡ true) answers refl; hand = e.1 }
+  follows (NextDone x) found came e = record { is = e.0 ∙ answers; hand = e.1 ∙ ap (λ (l : Line T). left (is_idle l) (rest a)) answers }
 
   pub gave_within : (to : Next Give (Unit {0})) → GaveTo c giving at r has to → Finding (machine_of c).core (give_line giving at) r (vacant giving.chain) has (LeadsSo to)
   gave_within to so = finding (machine_of c).core (give_line giving at) r (vacant giving.chain) has (GaveSo to) (LeadsSo to) (follows to) ((machine_of c).core.access (give_line giving at)) so

@@ -4,7 +4,7 @@ pub mod Refusals
 pub mod Closes
 pub mod Gives
 pub mod Takes
-pub mod Placing
+pub mod RangeSteps
 pub mod Puts
 pub mod Stepping
 pub mod Folds

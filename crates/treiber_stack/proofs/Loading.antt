@@ -73,15 +73,29 @@ module _ {T : Type 0} where
   pub set_at : (m p : ℕ) → suc p ≡ m → (x : Slot T) (ys : List (Slot T)) → set (replicate m None ++ ys) p x ≡ replicate p None ++ x ∷ ys
   set_at m p e x ys = subst (λ (y : ℕ). set (replicate y None ++ ys) p x ≡ replicate p None ++ x ∷ ys) e (set_suc p x ys)
 
+  pub length_some : (vs : List T) → length (map Some vs) ≡ length vs
+  length_some [] = refl
+  length_some (v ∷ vs) = ap suc (length_some vs)
+
+  -- the same while so many values have left the places of a range
+  pub low_here : (old : List (Slot T)) (vs : List T) (k count : ℕ) → old ≡ map Some vs → k < length old → count ≡ k → count < length vs
+  low_here old vs k count are low same = let e : length old ≡ length vs = ap length are ∙ length_some vs in omega arith
+
+  module _ (old places : List (Slot T)) (vs : List T) (k count : ℕ) (are : old ≡ map Some vs) (low : k < length old) (same : count ≡ k) (is : places ≡ places_from k vs) where
+    low_there : k < length vs
+    low_there = low_here old vs k k are low refl
+
+    pub next_here : (d : Slot T) → IsNext vs count (get_or places k d)
+    next_here d = subst (λ (ps : List (Slot T)). IsNext vs count (get_or ps k d)) (sym is) (subst (λ (x : ℕ). IsNext vs x (get_or (places_from k vs) k d)) (sym same) (place_next vs k d low_there))
+
+    pub left_here : (place : Slot T) → place ≡ None → set places k place ≡ places_from (k + 1) vs
+    left_here place none = (λ t. set (is t) k (none t)) ∙ place_left vs k low_there
+
   -- the values of places that all have one
   pub all_values : (places : List (Slot T)) → Every (λ p. IsSome p) places → (vs : List T) × (places ≡ map Some vs)
   all_values [] every = ([], refl)
   all_values (None ∷ places) every = absurd (false≢true every.0)
   all_values (Some v ∷ places) every = let r = all_values places every.1 in (v ∷ r.0, ap (λ (ps : List (Slot T)). Some v ∷ ps) r.1)
-
-  pub length_some : (vs : List T) → length (map Some vs) ≡ length vs
-  length_some [] = refl
-  length_some (v ∷ vs) = ap suc (length_some vs)
 
   pub somes_all : (vs : List T) → somes (map Some vs) ≡ vs
   somes_all [] = refl

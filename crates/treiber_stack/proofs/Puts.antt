@@ -78,9 +78,9 @@ module _ {T : Type 0} (c : Stack T) where
   -- where the code of a put goes on
   abbrev pub LeadingPut : PutAt T → Outcome → List (ℕ × Slot T) → Next (PutAt T) (Result ℕ (PutRefused T)) → Type 0
   LeadingPut s r has to = Finding (machine_of c).core (put_line s) r (put_slots s) has
-      (λ found came. Leads names (λ at. put_of (put_value at)) put_line put_slots (λ at. HasReadToPut (room_of c) (limit_of c) at) (λ x a. ends (put_answer a)) s (next (room_of c) (limit_of c) (put_line s) found came) has to)
+      (λ found came. Leads names (λ at. put_of (put_value at)) put_line put_slots (λ at. HasReadToPut (room_of c) (limit_of c) at) (λ x a. ends (put_answer a)) (λ a. []) s (next (room_of c) (limit_of c) (put_line s) found came) has to)
 
   -- by the give inside it
   pub gave_put : (why : PutRefused T) (i : ℕ) (at : Give) (r : Outcome) (has : List (ℕ × Slot T)) → i < room_of c → (to : Next Give (Unit {0})) → GaveTo c (refusing why i) at r has to → LeadingPut (GiveBack why i at) r has (within (GiveBack why i) (Err why) to)
-  gave_put why i at r has low = gave_within c (λ at. put_of (put_value at)) put_line put_slots (λ at. HasReadToPut (room_of c) (limit_of c) at) (λ x a. ends (put_answer a)) (refusing why i) (GiveBack why i) (Err why) (GiveBack why i at)
+  gave_put why i at r has low = gave_within c (λ at. put_of (put_value at)) put_line put_slots (λ at. HasReadToPut (room_of c) (limit_of c) at) (λ x a. ends (put_answer a)) (λ a. []) (refusing why i) (GiveBack why i) (Err why) (GiveBack why i at)
       (λ at'. refl) (λ at'. refl) (λ at'. refl) (λ at'. low) refl at r has

@@ -25,9 +25,12 @@ use Rattle.stack_table.specs.Lines.{call_of}
 use Rattle.stack_table.specs.declared.operation.Operation.{Operation}
 use Rattle.running.specs.Going.{Ended}
 use Rattle.treiber_stack.specs.declared.stack.Stack.{Stack}
+use Rattle.running.specs.declared.passes.Pass.{Pass}
+use Rattle.treiber_stack.specs.declared.range_steps.Held.{Held}
+use Rattle.treiber_stack.specs.declared.range_steps.RangeEnd.TheVariants.{Barred as IsBarred}
 use Rattle.treiber_stack.specs.declared.refusing.Barred.{Barred}
 use Rattle.treiber_stack.specs.declared.refusing.Barred.TheVariants.{Closed as BarredClosed, Spent as BarredSpent}
-use Rattle.treiber_stack.specs.Ranging.{NotPut, IsRange, places_from, putting}
+use Rattle.treiber_stack.specs.Ranging.{NotPut, IsOver, IsRange, IsRefused, places_from, putting}
 use Rattle.treiber_stack.specs.Refusing.{barring, barring_range}
 use Rattle.treiber_stack.specs.Stack.{machine_of, shape_of}
 use Rattle.treiber_stack.proofs.Closes.{adds_of}
@@ -114,6 +117,10 @@ module _ {T : Type 0} (c : Stack T) (o : Operation T) {v : View T (Line T)} {beg
             (λ full. inr full)
             deeds.all;
       }
+
+-- a range whose values go back
+pub is_refused : {T : Type 0} (c : Stack T) (o : Operation T) (v : PassView T) (p : Pass T (Line T)) (vs : List T) (held : Held) (why : Barred) → IsOver c o v p vs held (IsBarred why) → IsRefused c o p vs held why
+is_refused c o v p vs held why over = record { chain = over.chain; has = over.has; some_node = over.ends.0; at = over.ends.1.0 }
 
 -- a refusal of a range that is not empty
 pub none_gives : {T : Type 0} (c : Shape) (v w : PassView T) (old new : List (Slot T)) (vs : List T) (why : RangeRefused) → old ≡ map Some vs → 0 < length vs → new ≡ map Some vs → NotPut c v (length vs) w why

@@ -36,12 +36,11 @@ use Rattle.running.specs.Going.{Going, Peeked, begun_in}
 use Rattle.running.specs.Rule.{line_in, line_now, begun_now}
 use Rattle.running.specs.declared.passes.Pass.{Pass}
 use Rattle.treiber_stack.specs.declared.giving.Give.TheVariants.{Load}
-use Rattle.treiber_stack.specs.declared.ranging.Held.{Held}
+use Rattle.treiber_stack.specs.declared.range_steps.Held.{Held}
 use Rattle.treiber_stack.specs.declared.refusing.Barred.{Barred}
 use Rattle.treiber_stack.specs.declared.stack.Stack.{Stack}
 use Rattle.treiber_stack.specs.Giving.{IsGiving}
-use Rattle.treiber_stack.specs.Nodes.{refused}
-use Rattle.treiber_stack.specs.Ranging.{places_from, putting, IsRefused, IsRestoring, ReadsAgain}
+use Rattle.treiber_stack.specs.Ranging.{places_from, putting, refused, IsRefused, IsRestoring, ReadsAgain}
 use Rattle.treiber_stack.specs.Refusing.{barring}
 use Rattle.treiber_stack.specs.Stack.{room_of, limit_of, machine_of, shape_of, begun_of, IsAt}
 use Rattle.treiber_stack.proofs.Gives.{moved}

@@ -49,9 +49,9 @@ module _ {T : Type 0} where
 module _ {T : Type 0} (c : Stack T) where
   abbrev pub Leading : TakeAt T → Outcome → List (ℕ × Slot T) → Next (TakeAt T) (Result (T × ℕ) TakeRefused) → Type 0
   Leading s r has to = Finding (machine_of c).core (take_line s) r (take_slots s) has
-      (λ found came. Leads names (λ x. First) take_line take_slots (λ at. HasReadToTake (room_of c) (limit_of c) at) (λ x a. ends (AnswerTake a)) s (next (room_of c) (limit_of c) (take_line s) found came) has to)
+      (λ found came. Leads names (λ x. First) take_line take_slots (λ at. HasReadToTake (room_of c) (limit_of c) at) (λ x a. ends (AnswerTake a)) (λ a. []) s (next (room_of c) (limit_of c) (take_line s) found came) has to)
 
   -- by the give inside it
   pub gave_take : (t : Taken T) (at : Give) (r : Outcome) (has : List (ℕ × Slot T)) → t.index < room_of c → (to : Next Give (Unit {0})) → GaveTo c (giving t) at r has to → Leading (GiveBack t at) r has (within (GiveBack t) (Ok (t.value, t.number)) to)
-  gave_take t at r has low = gave_within c (λ x. First) take_line take_slots (λ at. HasReadToTake (room_of c) (limit_of c) at) (λ x a. ends (AnswerTake a)) (giving t) (GiveBack t) (Ok (t.value, t.number)) (GiveBack t at)
+  gave_take t at r has low = gave_within c (λ x. First) take_line take_slots (λ at. HasReadToTake (room_of c) (limit_of c) at) (λ x a. ends (AnswerTake a)) (λ a. []) (giving t) (GiveBack t) (Ok (t.value, t.number)) (GiveBack t at)
       (λ at'. refl) (λ at'. refl) (λ at'. refl) (λ at'. low) refl at r has

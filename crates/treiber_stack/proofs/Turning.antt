@@ -1,120 +1,149 @@
--- A fold takes the chain, and a reversed one turns it round.
-use Rattle.std.proofs.Common.{◌≡◌, ◌≢◌, ℕ, ◌+◌, ◌<◌, ◌≤◌, List, [], ◌∷◌, ◌++◌, length, reverse, refl, sym, ap, ◌∙◌, subst, append_assoc, length-append, ne_eqb, eq-eqb, cond, arith}
+-- A fold takes the chain, and one from the bottom up turns it round.
+use Rattle.std.proofs.Common.{◌≡◌, ◌≢◌, ℕ, ◌<◌, ◌≤◌, true, false, List, [], ◌∷◌, ◌++◌, length, reverse, refl, sym, ap, ◌∙◌, subst, append_assoc, append-nil, ne_eqb, eq-eqb, cond, arith}
 use Rattle.std.proofs.lemmas.List.{reverse-append, reverse-reverse, length-reverse}
-use Rattle.std.specs.Prelude.{Option as Slot}
-use Rattle.tagged_index.specs.Fields.{index_of}
+use Rattle.std.specs.Prelude.{Option as Slot, Ok, map}
+use mathlib.Core.Option.{some}
+use Rattle.tagged_index.specs.Fields.{fields_of, index_of, tag_of}
 use Rattle.tagged_index.specs.declared.word.TheConstants.{NULL}
-use Rattle.index_list.specs.declared.front.Front.TheVariants.{Last}
-use Rattle.machine.specs.Words.{times}
-use Rattle.machine.specs.Chains.{first}
-use Rattle.machine.proofs.Lists.{times_here, times_append}
+use Rattle.index_list.specs.Steps.{numbers}
+use Rattle.index_list.specs.declared.front.Front.{Front}
+use Rattle.index_list.specs.declared.front.Front.TheVariants.{First, Last}
+use Rattle.machine.specs.Chains.{first, values_of}
 use Rattle.machine.proofs.Chains.{times_reverse}
-use Rattle.stack_machine.specs.declared.lines.Giving.{Giving}
-use Rattle.stack_machine.specs.declared.lines.Line.{Line}
-use Rattle.stack_machine.specs.declared.lines.Line.TheVariants.{LoadLinkToTurn, TurnLink, LoadLinkToFold}
+use Rattle.machine.proofs.Lists.{times_append}
+use Rattle.machine.specs.Words.{times}
+use Rattle.stack_machine.specs.declared.lines.Answer.TheVariants.{Fold as AnswerFold}
+use Rattle.stack_machine.specs.declared.lines.Direction.{Direction}
+use Rattle.stack_machine.specs.declared.lines.Direction.TheVariants.{Down, Up}
+use Rattle.stack_machine.specs.declared.lines.Taking.TheVariants.{Whole}
+use Rattle.stack_machine.specs.declared.lines.Line.TheVariants.{LoadTopToTake, LoadLinkToTurn, LoadLinkToFold}
+use Rattle.stack_machine.specs.Deeds.{in_order}
 use Rattle.stack_table.specs.declared.operation.Operation.TheVariants.{Fold as FoldFirst}
-use Rattle.stack_table.specs.Slots.{Links, full}
-use Rattle.running.specs.Going.{Found}
-use Rattle.running.specs.declared.passes.Pass.{Pass}
-use Rattle.running.proofs.Ways.{goes_on}
+use Rattle.stack_table.specs.Lines.{direction, won_chain}
+use Rattle.stack_table.specs.Slots.{Links, IsHand, IsWhole, full}
+use Rattle.stack_table.proofs.Slots.{length_in_order, numbers_full, values_full}
+use Rattle.running.specs.Tables.{values as slot_values}
+use Rattle.running.specs.declared.access.Outcome.{Outcome}
+use Rattle.running.specs.declared.code.Next.TheVariants.{On}
 use Rattle.treiber_stack.specs.declared.stack.Stack.{Stack}
-use Rattle.treiber_stack.specs.Folding.{folding, IsTaken, IsTurning, IsReady}
-use Rattle.treiber_stack.specs.Stack.{room_of, machine_of, begun_of, IsAt, WentOn}
-use Rattle.treiber_stack.proofs.Walking.{goes_further, ends_here}
+use Rattle.treiber_stack.specs.declared.folding.Batch.{Batch}
+use Rattle.treiber_stack.specs.declared.folding.Walk.{Walk}
+use Rattle.treiber_stack.specs.declared.folding.FoldAt.TheVariants.{TakeAll, LoadToTurn, TurnLink, LoadToFold}
+use Rattle.treiber_stack.specs.Folding.{nodes_of, folded_of, folding, IsBatch, IsTurning}
+use Rattle.treiber_stack.specs.Stack.{room_of}
+use Rattle.treiber_stack.proofs.Folds.{Folding}
+use Rattle.treiber_stack.proofs.Walking.{is_there, goes_further, ends_here, walk_start}
 
-module _ {T : Type 0} (c : Stack T) (w : ℕ) (p : Pass T (Line T)) where
-  -- a reversed fold turns the chain round first
-  pub turn_start : (index : ℕ) → index ≡ index_of w → IsTaken c Last w p → IsTurning c w p 0 NULL index
-  turn_start index e t = record {
-    chain = t.chain;
-    values = t.values;
-    at = subst (λ (i : ℕ). IsAt c (FoldFirst Last) p (LoadLinkToTurn (folding t.chain (reverse t.values) w) NULL i) (full (reverse t.chain) (reverse t.values))) (sym e) t.at;
-    hand = t.hand;
-    turned = [];
-    others = t.others;
-    parts = t.begins ∙ ap (λ (i : ℕ). i ∷ t.others) (sym e);
-    counted = refl;
-    small = omega arith;
-  }
+-- nodes in hand are so in either order
+hand_in_order : {T : Type 0} (n : ℕ) (d : Direction) (chain : List ℕ) (values : List T) → IsHand n chain values → IsHand n (in_order d chain) (in_order d values)
+hand_in_order n Down chain values h = h
+hand_in_order n Up chain values h = record {
+  low = λ i there. h.low i (subst (λ (k : ℕ). 0 < k) (times_reverse i chain) there);
+  once = λ i. subst (λ (k : ℕ). k ≤ 1) (sym (times_reverse i chain)) (h.once i);
+  few = subst (λ (k : ℕ). k ≤ n) (sym (length-reverse chain)) h.few;
+  as_many = length-reverse chain ∙ h.as_many ∙ sym (length-reverse values);
+}
 
-  module _ (count above index : ℕ) (t : IsTurning c w p count above index) where
-    abbrev n : ℕ
-    n = room_of c
+module _ {T : Type 0} (c : Stack T) where
+  abbrev n : ℕ
+  n = room_of c
 
-    abbrev giving : Giving T
-    giving = folding t.chain (reverse t.values) w
+  -- these slots came with the top w
+  module _ (front : Front) (w : ℕ) (b : Batch T) (came : List (ℕ × Slot T)) (whole : IsWhole n (index_of w) (direction front) came) (taken : b.taken.value.me.1 ≡ came) where
+    abbrev d : Direction
+    d = direction front
 
-    abbrev slots : List (ℕ × Slot T)
-    slots = full (reverse t.chain) (reverse t.values)
+    as_many : length (in_order d whole.chain) ≡ length (in_order d whole.values)
+    as_many = length_in_order d whole.chain ∙ whole.hand.as_many ∙ sym (length_in_order d whole.values)
 
-    here : 0 < times index t.chain
-    here = let e : times index t.chain ≡ times index (reverse t.turned ++ index ∷ t.others) = ap (times index) t.parts in omega (arith, e, times_append index (reverse t.turned) (index ∷ t.others), times_here index t.others)
+    nodes_are : nodes_of b ≡ in_order d whole.chain
+    nodes_are = ap (λ (zs : List (ℕ × Slot T)). numbers zs) (taken ∙ whole.slots) ∙ numbers_full (in_order d whole.chain) (in_order d whole.values) as_many
 
-    pub turn_low : index < n
-    turn_low = t.hand.low index here
+    values_are : folded_of b ≡ in_order d whole.values
+    values_are = ap (λ (zs : List (ℕ × Slot T)). values_of (map some (slot_values zs))) (taken ∙ whole.slots) ∙ values_full false (in_order d whole.chain) (in_order d whole.values) as_many
 
-    pub turns_low : count < n
-    turns_low =
-        let few = t.hand.few in
-        let long : length t.chain ≡ length (reverse t.turned ++ index ∷ t.others) = ap length t.parts in
-        let counted = t.counted in
-        omega (arith, few, long, counted, length-append (reverse t.turned) (index ∷ t.others), length-reverse t.turned)
+    batch : IsBatch n b
+    batch = record {
+      slots = taken ∙ whole.slots ∙ (λ t. full (sym nodes_are t) (sym values_are t));
+      hand = subst (λ (is : List ℕ). IsHand n is (folded_of b)) (sym nodes_are) (subst (λ (vs : List T). IsHand n (in_order d whole.chain) vs) (sym values_are) (hand_in_order n d whole.chain whole.values whole.hand));
+    }
 
-    module _ (q : Pass T (Line T)) (below : ℕ) (loads : Found (machine_of c) (FoldFirst Last) p.seat.me.0 q.seat.me.0 below []) (table : q.seat.table_id ≡ p.seat.table_id) (same : q.seat.me.1 ≡ p.seat.me.1) where
-      says : (below ≤ NULL) × Links t.chain index below
-      says = (loads (begun_of c p) (LoadLinkToTurn giving above index) t.at.at.going).1
+    turned_values : values_of (map some (reverse (slot_values came))) ≡ reverse (folded_of b)
+    turned_values = ap (λ (zs : List (ℕ × Slot T)). values_of (map some (reverse (slot_values zs)))) whole.slots ∙ values_full true (in_order d whole.chain) (in_order d whole.values) as_many ∙ ap (λ (vs : List T). reverse vs) (sym values_are)
 
-      pub below_low : below ≤ NULL
-      below_low = says.0
+  -- the exchange of the top has won
+  module _ (r : Outcome) (had : List (ℕ × Slot T)) (won : r.won ≡ true) (w index : ℕ) (indexed : index ≡ index_of w) (b : Batch T) (numbered : b.number ≡ tag_of w) (taken : b.taken.value.me.1 ≡ had) where
+    pub won_down : b.front ≡ First → (walk : Walk T) → walk.first ≡ index → walk.index ≡ index → walk.count ≡ 0 → walk.held.value.me.1 ≡ had → Folding c (TakeAll First w) r had had (On (LoadToFold b walk))
+    won_down down walk start at none held = λ found came f.
+        let is = (f.1 won).0 ∙ append-nil came in
+        let whole = (f.1 won).1 in
+        let all = batch First w b came whole (taken ∙ is) in
+        record {
+          same = ap FoldFirst down;
+          is = ap (λ t. cond t (won_chain Down (fields_of w) came) (LoadTopToTake (Whole Down))) (f.0 ∙ won)
+              ∙ (λ t. LoadLinkToFold (record { chain = numbers (sym (taken ∙ is) t); answer = AnswerFold (Ok (values_of (map some (slot_values (sym (taken ∙ is) t))), sym numbered t)) }) (sym (at ∙ indexed) t));
+          busy = refl;
+          hand = sym held;
+          knows = walk_start n b walk whole.others all (nodes_are First w b came whole (taken ∙ is) ∙ whole.begins ∙ ap (λ (i : ℕ). i ∷ whole.others) (sym (at ∙ indexed))) (start ∙ sym at) none (held ∙ sym taken);
+        }
 
-      pub seen_link : IsAt c (FoldFirst Last) q (TurnLink giving above index below) slots × WentOn c p q (LoadLinkToTurn giving above index) (TurnLink giving above index below)
-      seen_link = goes_on (machine_of c) t.at q below [] loads table slots (TurnLink giving above index below) (same ∙ t.at.at.has) refl refl
+    pub won_up : b.front ≡ Last → Folding c (TakeAll Last w) r had had (On (LoadToTurn b NULL index))
+    won_up up = λ found came f.
+        let is = (f.1 won).0 ∙ append-nil came in
+        let whole = (f.1 won).1 in
+        let all = batch Last w b came whole (taken ∙ is) in
+        let values : reverse (values_of (map some (reverse (slot_values came)))) ≡ folded_of b = ap (λ (vs : List T). reverse vs) (turned_values Last w b came whole (taken ∙ is)) ∙ reverse-reverse (folded_of b) in
+        let parts : reverse (nodes_of b) ≡ index ∷ whole.others = ap (λ (xs : List ℕ). reverse xs) (nodes_are Last w b came whole (taken ∙ is)) ∙ reverse-reverse whole.chain ∙ whole.begins ∙ ap (λ (i : ℕ). i ∷ whole.others) (sym indexed) in
+        record {
+          same = ap FoldFirst up;
+          is = ap (λ t. cond t (won_chain Up (fields_of w) came) (LoadTopToTake (Whole Up))) (f.0 ∙ won)
+              ∙ (λ t. LoadLinkToTurn (record { chain = reverse (numbers (sym (taken ∙ is) t)); answer = AnswerFold (Ok (values t, sym numbered t)) }) NULL (sym indexed t));
+          busy = refl;
+          hand = sym taken;
+          knows = (whole.others, record { batch = all; turned = []; parts = parts; low = whole.hand.low index (is_there whole.chain [] whole.others index (whole.begins ∙ ap (λ (i : ℕ). i ∷ whole.others) (sym indexed))); small = omega arith });
+        }
 
-      module _ (r : Pass T (Line T)) (x : ℕ) (stores : Found (machine_of c) (FoldFirst Last) q.seat.me.0 r.seat.me.0 x []) (table' : r.seat.table_id ≡ q.seat.table_id) (same' : r.seat.me.1 ≡ q.seat.me.1) where
-        names : below ≡ first t.others
-        names = says.1 (reverse t.turned) t.others t.parts
+  -- the chain is turned round, a node by two steps
+  module _ (b : Batch T) (above index : ℕ) (r : Outcome) (had : List (ℕ × Slot T)) where
+    pub turn_loads : (others : List ℕ) → IsTurning n b above index others → (r.word ≤ NULL) × Links (reverse (nodes_of b)) index r.word → Folding c (LoadToTurn b above index) r had had (On (TurnLink b above index r.word))
+    turn_loads others t says = λ kept. record { same = refl; is = refl; busy = refl; hand = kept; knows = (others, t, says.1 (reverse t.turned) others t.parts, says.0) }
 
-        abbrev back : Giving T
-        back = folding (reverse t.chain) (reverse t.values) w
-
-        pub turn_goes : below ≢ NULL → IsTurning c w r (count + 1) index below × (begun_of c r ≡ begun_of c p)
-        turn_goes ne =
-            let on = goes_on (machine_of c) seen_link.0 r x [] stores table' slots (LoadLinkToTurn giving index below) (same' ∙ seen_link.0.at.has) (ap (λ b. cond b (LoadLinkToFold back index) (LoadLinkToTurn giving index below)) (ne_eqb below NULL ne)) refl in
-            let more = goes_further below t.others names ne in
-            let low = turn_low in
-            let most = c.table.shared.key.capacity_in_range in (
+    module _ (below : ℕ) (others : List ℕ) (t : IsTurning n b above index others) (names : below ≡ first others) where
+      pub turn_goes : below ≢ NULL → Folding c (TurnLink b above index below) r had had (On (LoadToTurn b index below))
+      turn_goes ne =
+          let more = goes_further below others names ne in
+          let low = t.low in
+          let most = c.table.shared.key.capacity_in_range in
+          let here = is_there (reverse (nodes_of b)) (reverse t.turned ++ index ∷ []) more.0 below parts in λ kept. record {
+            same = refl;
+            is = ap (λ k. cond k (LoadLinkToFold (folding b (reverse (reverse (nodes_of b)))) index) (LoadLinkToTurn (folding b (reverse (nodes_of b))) index below)) (ne_eqb below NULL ne);
+            busy = refl;
+            hand = kept;
+            knows = (
+              more.0,
               record {
-                chain = t.chain;
-                values = t.values;
-                at = on.0;
-                hand = t.hand;
+                batch = t.batch;
                 turned = index ∷ t.turned;
-                others = more.0;
-                parts = t.parts ∙ ap (λ (xs : List ℕ). reverse t.turned ++ index ∷ xs) more.1 ∙ sym (append_assoc (reverse t.turned) (index ∷ []) (below ∷ more.0)) ∙ ap (λ (xs : List ℕ). xs ++ below ∷ more.0) (sym (reverse-append (index ∷ []) t.turned));
-                counted = let k = t.counted in omega arith;
+                parts = parts ∙ ap (λ (xs : List ℕ). xs ++ below ∷ more.0) (sym (reverse-append (index ∷ []) t.turned));
+                low = t.batch.hand.low below (subst (λ (k : ℕ). 0 < k) (times_reverse below (nodes_of b)) here);
                 small = omega arith;
               },
-              on.1.0 ∙ seen_link.1.0,
-            )
+            );
+          }
+        where
+          parts : reverse (nodes_of b) ≡ (reverse t.turned ++ index ∷ []) ++ below ∷ (goes_further below others names ne).0
+          parts = t.parts ∙ ap (λ (xs : List ℕ). reverse t.turned ++ index ∷ xs) (goes_further below others names ne).1 ∙ sym (append_assoc (reverse t.turned) (index ∷ []) (below ∷ (goes_further below others names ne).0))
 
-        pub turn_ends : below ≡ NULL → IsReady c Last w r index × (begun_of c r ≡ begun_of c p)
-        turn_ends e =
-            let on = goes_on (machine_of c) seen_link.0 r x [] stores table' slots (LoadLinkToFold back index) (same' ∙ seen_link.0.at.has) (ap (λ b. cond b (LoadLinkToFold back index) (LoadLinkToTurn giving index below)) (eq-eqb below NULL e)) refl in
-            let most = c.table.shared.key.capacity_in_range in
-            let none = ends_here below t.others names e (λ j there. let l = t.hand.low j (let s : times j t.chain ≡ times j (reverse t.turned ++ index ∷ t.others) = ap (times j) t.parts in omega (arith, s, times_append j (reverse t.turned) (index ∷ t.others))) in omega arith) in
-            let parts : reverse t.chain ≡ index ∷ t.turned = ap (λ (xs : List ℕ). reverse xs) (t.parts ∙ ap (λ (xs : List ℕ). reverse t.turned ++ index ∷ xs) none) ∙ reverse-append (reverse t.turned) (index ∷ []) ∙ ap (λ (xs : List ℕ). index ∷ xs) (reverse-reverse t.turned) in (
-              record {
-                chain = reverse t.chain;
-                folded = reverse t.values;
-                at = on.0;
-                hand = record {
-                  low = λ i there. t.hand.low i (subst (λ (k : ℕ). 0 < k) (times_reverse i t.chain) there);
-                  once = λ i. subst (λ (k : ℕ). k ≤ 1) (sym (times_reverse i t.chain)) (t.hand.once i);
-                  few = subst (λ (k : ℕ). k ≤ n) (sym (length-reverse t.chain)) t.hand.few;
-                  as_many = length-reverse t.chain ∙ t.hand.as_many ∙ sym (length-reverse t.values);
-                };
-                others = t.turned;
-                begins = parts;
-              },
-              on.1.0 ∙ seen_link.1.0,
-            )
+      pub turn_ends : below ≡ NULL → (walk : Walk T) → walk.first ≡ index → walk.index ≡ index → walk.count ≡ 0 → walk.held.value.me.1 ≡ had → Folding c (TurnLink b above index below) r had had (On (LoadToFold b walk))
+      turn_ends e walk start at none held =
+          let most = c.table.shared.key.capacity_in_range in
+          let last = ends_here below others names e (λ j there. let l = t.batch.hand.low j (let s : times j (reverse (nodes_of b)) ≡ times j (reverse t.turned ++ index ∷ others) = ap (times j) t.parts in omega (arith, s, times_reverse j (nodes_of b), times_append j (reverse t.turned) (index ∷ others))) in omega arith) in
+          let parts : nodes_of b ≡ index ∷ t.turned = sym (reverse-reverse (nodes_of b)) ∙ ap (λ (xs : List ℕ). reverse xs) (t.parts ∙ ap (λ (xs : List ℕ). reverse t.turned ++ index ∷ xs) last) ∙ reverse-append (reverse t.turned) (index ∷ []) ∙ ap (λ (xs : List ℕ). index ∷ xs) (reverse-reverse t.turned) in
+          λ kept. record {
+            same = refl;
+            is = ap (λ k. cond k (LoadLinkToFold (folding b (reverse (reverse (nodes_of b)))) index) (LoadLinkToTurn (folding b (reverse (nodes_of b))) index below)) (eq-eqb below NULL e)
+                ∙ (λ t. LoadLinkToFold (folding b (reverse-reverse (nodes_of b) t)) (sym at t));
+            busy = refl;
+            hand = sym held;
+            knows = walk_start n b walk t.turned t.batch (parts ∙ ap (λ (i : ℕ). i ∷ t.turned) (sym at)) (start ∙ sym at) none (held ∙ kept);
+          }

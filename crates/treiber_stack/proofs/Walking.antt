@@ -1,34 +1,28 @@
 -- A fold's walk along its chain.
 use Rattle.std.proofs.Common.{◌≡◌, ◌≢◌, ℕ, suc, ◌+◌, ◌<◌, ◌≤◌, List, [], ◌∷◌, ◌++◌, length, refl, sym, ap, ◌∙◌, subst, append_assoc, append-nil, length-append, ne_eqb, eq-eqb, cond, arith}
-use Rattle.std.specs.Prelude.{Option as Slot, Some, None}
+use Rattle.std.specs.Prelude.{take, Option as Slot, Some, None}
 use Rattle.atomic_table.specs.Table.{rest}
 use Rattle.tagged_index.specs.declared.word.TheConstants.{NULL}
-use Rattle.bounded_model.specs.Consumes.{Folds}
-use Rattle.index_list.specs.declared.front.Front.{Front}
 use Rattle.machine.specs.Words.{times}
 use Rattle.machine.specs.Chains.{first, last}
 use Rattle.machine.proofs.Chains.{first_in}
 use Rattle.machine.proofs.Lists.{times_here, times_append}
-use Rattle.stack_machine.specs.declared.lines.Giving.{Giving}
-use Rattle.stack_machine.specs.declared.lines.Line.{Line}
 use Rattle.stack_machine.specs.declared.lines.Line.TheVariants.{LoadLinkToFold, LoadFreeToGive}
-use Rattle.stack_table.specs.declared.operation.Operation.{Operation}
-use Rattle.stack_table.specs.declared.operation.Operation.TheVariants.{Fold as FoldFirst}
 use Rattle.stack_table.specs.Slots.{Links, full, vacant}
 use Rattle.stack_table.proofs.Slots.{vacant_append}
-use Rattle.running.specs.Going.{Found}
-use Rattle.running.specs.declared.passes.Pass.{Pass}
-use Rattle.running.proofs.Ways.{goes_on}
+use Rattle.running.specs.declared.access.Outcome.{Outcome}
+use Rattle.running.specs.declared.code.Next.TheVariants.{Done}
 use Rattle.treiber_stack.specs.declared.stack.Stack.{Stack}
+use Rattle.treiber_stack.specs.declared.folding.Batch.{Batch}
+use Rattle.treiber_stack.specs.declared.folding.Walk.{Walk}
+use Rattle.treiber_stack.specs.declared.folding.FoldAt.TheVariants.{LoadToFold, GiveBack}
+use Rattle.treiber_stack.specs.declared.folding.FoldStop.TheVariants.{Yields}
+use Rattle.treiber_stack.specs.declared.giving.Chain.{Chain}
 use Rattle.treiber_stack.specs.declared.giving.Give.TheVariants.{Load}
-use Rattle.treiber_stack.specs.Folding.{folding, IsReady, IsWalking}
-use Rattle.treiber_stack.specs.Giving.{IsGiving}
-use Rattle.treiber_stack.specs.Stack.{room_of, machine_of, begun_of, IsAt}
-use Rattle.treiber_stack.proofs.Gives.{moved}
-
-pub Folds_more : {T S : Type 0} (Gives : S → T → S → Type 0) (s : S) (xs : List T) (r t : S) (x : T) → Folds Gives s xs r → Gives r x t → Folds Gives s (xs ++ x ∷ []) t
-Folds_more Gives s [] r t x folds next = (t, subst (λ (q : _). Gives q x t) (sym folds) next, refl)
-Folds_more Gives s (y ∷ ys) r t x folds next = (folds.0, folds.1, Folds_more Gives folds.0 ys r t x folds.2 next)
+use Rattle.treiber_stack.specs.Folding.{nodes_of, folded_of, folding, IsBatch, IsWalking, FoldTold}
+use Rattle.treiber_stack.specs.Giving.{AreNodes}
+use Rattle.treiber_stack.specs.Stack.{room_of, limit_of}
+use Rattle.treiber_stack.proofs.Folds.{Folding}
 
 abbrev value_of : {T : Type 0} → T → List (ℕ × Slot T) → T
 value_of d [] = d
@@ -39,10 +33,22 @@ some_value : {T : Type 0} (vs : List T) → 0 < length vs → (v : T) × (rest :
 some_value [] h = absurd (omega arith)
 some_value (v ∷ vs) h = (v, vs, refl)
 
+no_value : {T : Type 0} (vs : List T) → length vs ≡ 0 → vs ≡ []
+no_value [] z = refl
+no_value (v ∷ vs) z = absurd (omega arith)
+
+take_front : {T : Type 0} (xs ys : List T) → take (length xs) (xs ++ ys) ≡ xs
+take_front [] ys = refl
+take_front (x ∷ xs) ys = ap (λ (zs : List _). x ∷ zs) (take_front xs ys)
+
 last_of : (xs : List ℕ) (i : ℕ) → last (xs ++ i ∷ []) ≡ i
 last_of [] i = refl
 last_of (x ∷ []) i = refl
 last_of (x ∷ y ∷ xs) i = last_of (y ∷ xs) i
+
+-- a node is on a chain
+pub is_there : (chain before after : List ℕ) (i : ℕ) → chain ≡ before ++ i ∷ after → 0 < times i chain
+is_there chain before after i parts = let e : times i chain ≡ times i (before ++ i ∷ after) = ap (times i) parts in omega (arith, e, times_append i before (i ∷ after), times_here i after)
 
 -- what a link names, by the rest of its chain
 pub goes_further : (next : ℕ) (others : List ℕ) → next ≡ first others → next ≢ NULL → (more : List ℕ) × (others ≡ next ∷ more)
@@ -53,141 +59,132 @@ pub ends_here : (next : ℕ) (others : List ℕ) → next ≡ first others → n
 ends_here next [] e null low = refl
 ends_here next (j ∷ js) e null low = absurd (let l = low j (let t = times_here j js in omega arith) in omega arith)
 
-module _ {T : Type 0} (c : Stack T) (front : Front) (w : ℕ) (p : Pass T (Line T)) where
-  abbrev name : Operation T
-  name = FoldFirst front
+-- a walk that is to begin
+pub walk_start : {T : Type 0} (n : ℕ) (b : Batch T) (walk : Walk T) (others : List ℕ) → IsBatch n b → nodes_of b ≡ walk.index ∷ others → walk.first ≡ walk.index → walk.count ≡ 0 → walk.held.value.me.1 ≡ b.taken.value.me.1 → IsWalking n b walk
+walk_start n b walk others batch parts start none held =
+    let many : 0 < length (folded_of b) = let h = batch.hand.as_many in let k : length (nodes_of b) ≡ suc (length others) = ap length parts in omega arith in
+    let v = some_value (folded_of b) many in
+    record {
+      batch = batch;
+      done = [];
+      others = others;
+      value = v.0;
+      values = v.1;
+      held = held ∙ batch.slots ∙ (λ t. full (parts t) (v.2 t)) ∙ sym (append-nil (full (walk.index ∷ others) (v.0 ∷ v.1)));
+      begins = ap first parts ∙ sym start;
+      parts = parts;
+      order = v.2 ∙ ap (λ (k : ℕ). take k (folded_of b) ++ v.0 ∷ v.1) (sym none);
+      counted = sym none;
+      as_many = ap (λ (k : ℕ). length (take k (folded_of b))) none ∙ sym none;
+      low = batch.hand.low walk.index (is_there (nodes_of b) [] others walk.index parts);
+    }
 
-  pub walk_start : (start : ℕ) → IsReady c front w p start → IsWalking c front w p [] start 0 start
-  walk_start start r =
-      let many : 0 < length r.folded = let h = r.hand.as_many in let b : length r.chain ≡ suc (length r.others) = ap length r.begins in omega arith in
-      let v = some_value r.folded many in
-      record {
-        chain = r.chain;
-        folded = r.folded;
-        done = [];
-        others = r.others;
-        value = v.0;
-        values = v.1;
-        at = subst (λ (zs : List (ℕ × Slot T)). IsAt c name p (LoadLinkToFold (folding r.chain r.folded w) start) zs)
-            ((λ k. full (r.begins k) (v.2 k)) ∙ sym (append-nil (full (start ∷ r.others) (v.0 ∷ v.1)))) r.at;
-        hand = r.hand;
-        begins = ap first r.begins;
-        parts = r.begins;
-        order = v.2;
-        counted = refl;
-        as_many = refl;
-      }
+-- the value of the node that it has come to moves out, and the slot goes behind the others
+module _ {T : Type 0} (c : Stack T) (b : Batch T) (walk : Walk T) (W : IsWalking (room_of c) b walk) (r : Outcome) (had has : List (ℕ × Slot T)) (x : T) (value : had ≡ (walk.index, Some x) ∷ rest had) (out : has ≡ rest had ++ (walk.index, None) ∷ []) (kept : had ≡ walk.held.value.me.1)
+    (says : (r.word ≤ NULL) × Links (nodes_of b) walk.index r.word) where
+  abbrev n : ℕ
+  n = room_of c
 
-  module _ (gone : List T) (start count index : ℕ) (W : IsWalking c front w p gone start count index) where
-    abbrev n : ℕ
-    n = room_of c
+  abbrev index : ℕ
+  index = walk.index
 
-    abbrev giving : Giving T
-    giving = folding W.chain W.folded w
+  abbrev gone : List T
+  gone = take walk.count (folded_of b)
 
-    here : 0 < times index W.chain
-    here = let t : times index W.chain ≡ times index (W.done ++ index ∷ W.others) = ap (times index) W.parts in omega (arith, t, times_append index W.done (index ∷ W.others), times_here index W.others)
+  same_value : x ≡ W.value
+  same_value = sym (ap (value_of x) value) ∙ ap (value_of x) (kept ∙ W.held)
 
-    pub index_low : index < n
-    index_low = W.hand.low index here
+  names : r.word ≡ first W.others
+  names = says.1 W.done W.others W.parts
 
-    pub count_low : count < n
-    count_low =
-        let few = W.hand.few in
-        let long : length W.chain ≡ length (W.done ++ index ∷ W.others) = ap length W.parts in
-        let counted = W.counted in
-        omega (arith, few, long, counted, length-append W.done (index ∷ W.others))
+  slots_are : has ≡ full W.others W.values ++ vacant (W.done ++ index ∷ [])
+  slots_are = out ∙ ap (λ (zs : List (ℕ × Slot T)). rest zs ++ (index, None) ∷ []) (kept ∙ W.held)
+      ∙ append_assoc (full W.others W.values) (vacant W.done) ((index, None) ∷ [])
+      ∙ ap (λ (zs : List (ℕ × Slot T)). full W.others W.values ++ zs) (sym (vacant_append W.done (index ∷ [])))
 
-    pub front_full : (x : T) × (p.seat.me.1 ≡ (index, Some x) ∷ rest p.seat.me.1)
-    front_full = (W.value, W.at.at.has ∙ ap (λ (zs : List (ℕ × Slot T)). (index, Some W.value) ∷ rest zs) (sym W.at.at.has))
+  parted : folded_of b ≡ (gone ++ W.value ∷ []) ++ W.values
+  parted = W.order ∙ sym (append_assoc gone (W.value ∷ []) W.values)
 
-    module _ (q : Pass T (Line T)) (x : T) (table : q.seat.table_id ≡ p.seat.table_id) (value : p.seat.me.1 ≡ (index, Some x) ∷ rest p.seat.me.1) (out : q.seat.me ≡ (p.seat.me.0, rest p.seat.me.1 ++ (index, None) ∷ [])) where
-      same_value : x ≡ W.value
-      same_value = sym (ap (value_of x) value) ∙ ap (value_of x) W.at.at.has
+  one_more : length (gone ++ W.value ∷ []) ≡ walk.count + 1
+  one_more = length-append gone (W.value ∷ []) ∙ ap (λ (k : ℕ). k + 1) W.as_many
 
-      abbrev slots : List (ℕ × Slot T)
-      slots = full W.others W.values ++ vacant (W.done ++ index ∷ [])
+  gone_more : take (walk.count + 1) (folded_of b) ≡ gone ++ W.value ∷ []
+  gone_more = (λ t. take (sym one_more t) (parted t)) ∙ take_front (gone ++ W.value ∷ []) W.values
 
-      slots_are : rest p.seat.me.1 ++ (index, None) ∷ [] ≡ slots
-      slots_are = ap (λ (zs : List (ℕ × Slot T)). rest zs ++ (index, None) ∷ []) W.at.at.has
-          ∙ append_assoc (full W.others W.values) (vacant W.done) ((index, None) ∷ [])
-          ∙ ap (λ (zs : List (ℕ × Slot T)). full W.others W.values ++ zs) (sym (vacant_append W.done (index ∷ [])))
+  left_over : length W.values ≡ length W.others
+  left_over =
+      let a = W.batch.hand.as_many in
+      let d : length (nodes_of b) ≡ length (W.done ++ index ∷ W.others) = ap length W.parts in
+      let e : length (folded_of b) ≡ length (gone ++ W.value ∷ W.values) = ap length W.order in
+      let f = W.as_many in
+      let k = W.counted in
+      omega (arith, a, d, e, f, k, length-append W.done (index ∷ W.others), length-append gone (W.value ∷ W.values))
 
-      pub taken_out : IsAt c name q (LoadLinkToFold giving index) slots × (begun_of c q ≡ begun_of c p)
-      taken_out = moved c name p q (LoadLinkToFold giving index) (full (index ∷ W.others) (W.value ∷ W.values) ++ vacant W.done) slots W.at table (out ∙ ap (λ (zs : List (ℕ × Slot T)). (p.seat.me.0, zs)) slots_are)
+  -- it goes on to the next node
+  module _ (walk' : Walk T) (start : walk'.first ≡ walk.first) (to : walk'.index ≡ r.word) (counts : walk'.count ≡ walk.count + 1) (holds : walk'.held.value.me.1 ≡ has) (ne : r.word ≢ NULL) where
+    more : (js : List ℕ) × (W.others ≡ walk'.index ∷ js)
+    more = let e = goes_further r.word W.others names ne in (e.0, e.1 ∙ ap (λ (k : ℕ). k ∷ e.0) (sym to))
 
-      module _ (next : ℕ) (r : Pass T (Line T)) (steps : Found (machine_of c) name q.seat.me.0 r.seat.me.0 next []) (table' : r.seat.table_id ≡ q.seat.table_id) (same : r.seat.me.1 ≡ q.seat.me.1) where
-        says : (next ≤ NULL) × Links W.chain index next
-        says = (steps (begun_of c q) (LoadLinkToFold giving index) taken_out.0.at.going).1
+    walks_on : IsWalking n b walk'
+    walks_on =
+        let many : 0 < length W.values = let k : length W.others ≡ suc (length more.0) = ap length more.1 in let l = left_over in omega arith in
+        let v = some_value W.values many in
+        let parts : nodes_of b ≡ (W.done ++ index ∷ []) ++ walk'.index ∷ more.0 = W.parts ∙ ap (λ (xs : List ℕ). W.done ++ index ∷ xs) more.1 ∙ sym (append_assoc W.done (index ∷ []) (walk'.index ∷ more.0)) in
+        record {
+          batch = W.batch;
+          done = W.done ++ index ∷ [];
+          others = more.0;
+          value = v.0;
+          values = v.1;
+          held = holds ∙ slots_are ∙ (λ t. full (more.1 t) (v.2 t) ++ vacant (W.done ++ index ∷ []));
+          begins = W.begins ∙ sym start;
+          parts = parts;
+          order = parted ∙ (λ t. sym gone_so t ++ v.2 t);
+          counted = length-append W.done (index ∷ []) ∙ ap (λ (k : ℕ). k + 1) W.counted ∙ sym counts;
+          as_many = ap length gone_so ∙ one_more ∙ sym counts;
+          low = W.batch.hand.low walk'.index (is_there (nodes_of b) (W.done ++ index ∷ []) more.0 walk'.index parts);
+        }
+      where
+        gone_so : take walk'.count (folded_of b) ≡ gone ++ W.value ∷ []
+        gone_so = ap (λ (k : ℕ). take k (folded_of b)) counts ∙ gone_more
 
-        pub next_low : next ≤ NULL
-        next_low = says.0
+    pub yields_more : Folding c (LoadToFold b walk) r had has (Done (Yields x (LoadToFold b walk')))
+    yields_more = λ same. record {
+      is = ap (λ t. cond t (LoadFreeToGive (folding b (nodes_of b))) (LoadLinkToFold (folding b (nodes_of b)) r.word)) (ne_eqb r.word NULL ne) ∙ ap (LoadLinkToFold (folding b (nodes_of b))) (sym to);
+      hand = sym holds;
+    }
 
-        names : next ≡ first W.others
-        names = says.1 W.done W.others W.parts
+    pub tells_more : FoldTold n (limit_of c) b.front gone (Yields x (LoadToFold b walk'))
+    tells_more = (walks_on, refl, ap (λ (k : ℕ). take k (folded_of b)) counts ∙ gone_more ∙ ap (λ (v : T). gone ++ v ∷ []) (sym same_value))
 
-        pub walk_goes : next ≢ NULL → IsWalking c front w r (gone ++ x ∷ []) start (count + 1) next × (begun_of c r ≡ begun_of c p)
-        walk_goes ne =
-            let more = goes_further next W.others names ne in
-            let parts : W.chain ≡ (W.done ++ index ∷ []) ++ next ∷ more.0 = W.parts ∙ ap (λ (xs : List ℕ). W.done ++ index ∷ xs) more.1 ∙ sym (append_assoc W.done (index ∷ []) (next ∷ more.0)) in
-            let many : 0 < length W.values =
-            let a = W.hand.as_many in
-            let b : length W.chain ≡ length (W.done ++ index ∷ W.others) = ap length W.parts in
-            let d : length W.folded ≡ length (gone ++ W.value ∷ W.values) = ap length W.order in
-            let e = W.as_many in
-            let f : length W.others ≡ suc (length more.0) = ap length more.1 in
-            omega (arith, a, b, d, e, f, length-append W.done (index ∷ W.others), length-append gone (W.value ∷ W.values)) in
-            let v = some_value W.values many in
-            let slots' : List (ℕ × Slot T) = full (next ∷ more.0) (v.0 ∷ v.1) ++ vacant (W.done ++ index ∷ []) in
-            let on = goes_on (machine_of c) taken_out.0 r next [] steps table' slots' (LoadLinkToFold giving next) (same ∙ taken_out.0.at.has ∙ (λ k. full (more.1 k) (v.2 k) ++ vacant (W.done ++ index ∷ [])))
-            (ap (λ b. cond b (LoadFreeToGive giving) (LoadLinkToFold giving next)) (ne_eqb next NULL ne)) refl in (
-              record {
-                chain = W.chain;
-                folded = W.folded;
-                done = W.done ++ index ∷ [];
-                others = more.0;
-                value = v.0;
-                values = v.1;
-                at = on.0;
-                hand = W.hand;
-                begins = W.begins;
-                parts = parts;
-                order = W.order ∙ (λ k. gone ++ sym same_value k ∷ v.2 k) ∙ sym (append_assoc gone (x ∷ []) (v.0 ∷ v.1));
-                counted = length-append W.done (index ∷ []) ∙ ap (λ (k : ℕ). k + 1) W.counted;
-                as_many = length-append W.done (index ∷ []) ∙ ap (λ (k : ℕ). k + 1) W.as_many ∙ sym (length-append gone (x ∷ []));
-              },
-              on.1.0 ∙ taken_out.1,
-            )
+  -- or that was the last one
+  module _ (e : r.word ≡ NULL) (chain : Chain) (is : chain ≡ record { first = walk.first; last = index }) where
+    none : W.others ≡ []
+    none =
+        let most = c.table.shared.key.capacity_in_range in
+        ends_here r.word W.others names e (λ j there. let l = W.batch.hand.low j (let t : times j (nodes_of b) ≡ times j (W.done ++ index ∷ W.others) = ap (times j) W.parts in omega (arith, t, times_append j W.done (index ∷ W.others))) in omega arith)
 
-        pub walk_ends : next ≡ NULL → IsGiving c name r (folding W.chain (gone ++ x ∷ []) w) (record { first = start; last = index }) Load × (begun_of c r ≡ begun_of c p) × (count + 1 ≡ length (gone ++ x ∷ []))
-        walk_ends e =
-            let most = c.table.shared.key.capacity_in_range in
-            let none = ends_here next W.others names e (λ j there. let l = W.hand.low j (let t : times j W.chain ≡ times j (W.done ++ index ∷ W.others) = ap (times j) W.parts in omega (arith, t, times_append j W.done (index ∷ W.others))) in omega arith) in
-            let parts : W.chain ≡ W.done ++ index ∷ [] = W.parts ∙ ap (λ (xs : List ℕ). W.done ++ index ∷ xs) none in
-            let nothing : W.values ≡ [] =
-            let a = W.hand.as_many in
-            let b : length W.chain ≡ length (W.done ++ index ∷ []) = ap length parts in
-            let d : length W.folded ≡ length (gone ++ W.value ∷ W.values) = ap length W.order in
-            let f = W.as_many in
-            is_none W.values (omega (arith, a, b, d, f, length-append W.done (index ∷ []), length-append gone (W.value ∷ W.values))) in
-            let order : W.folded ≡ gone ++ x ∷ [] = W.order ∙ (λ k. gone ++ sym same_value k ∷ nothing k) in
-            let on = goes_on (machine_of c) taken_out.0 r next [] steps table' (vacant W.chain) (LoadFreeToGive giving)
-            (same ∙ taken_out.0.at.has ∙ (λ k. full (none k) (nothing k) ++ vacant (W.done ++ index ∷ [])) ∙ ap (λ (xs : List ℕ). vacant xs) (sym parts))
-            (ap (λ b. cond b (LoadFreeToGive giving) (LoadLinkToFold giving next)) (eq-eqb next NULL e)) refl in
-            let some_node : 0 < length W.chain = let b : length W.chain ≡ length (W.done ++ index ∷ []) = ap length parts in omega (arith, b, length-append W.done (index ∷ [])) in (
-              record {
-                line = subst (λ (vs : List T). IsAt c name r (LoadFreeToGive (folding W.chain vs w)) (vacant W.chain)) order on.0;
-                are = record {
-                  begins = W.begins;
-                  ends = ap last parts ∙ last_of W.done index;
-                  first_low = subst (λ (k : ℕ). k < n) W.begins (W.hand.low (first W.chain) (first_in W.chain some_node));
-                  last_low = index_low;
-                };
-              },
-              on.1.0 ∙ taken_out.1,
-              sym (length-append gone (x ∷ []) ∙ ap (λ (k : ℕ). k + 1) (sym W.as_many ∙ W.counted)),
-            )
-          where
-            is_none : (vs : List T) → length vs ≡ 0 → vs ≡ []
-            is_none [] z = refl
-            is_none (v ∷ vs) z = absurd (omega arith)
+    nothing : W.values ≡ []
+    nothing = no_value W.values (left_over ∙ ap length none)
+
+    parts : nodes_of b ≡ W.done ++ index ∷ []
+    parts = W.parts ∙ ap (λ (xs : List ℕ). W.done ++ index ∷ xs) none
+
+    nodes : AreNodes n (nodes_of b) chain
+    nodes =
+        let some_node : 0 < length (nodes_of b) = let k : length (nodes_of b) ≡ length (W.done ++ index ∷ []) = ap length parts in omega (arith, k, length-append W.done (index ∷ [])) in
+        subst (AreNodes n (nodes_of b)) (sym is) (record {
+          begins = W.begins;
+          ends = ap last parts ∙ last_of W.done index;
+          first_low = subst (λ (k : ℕ). k < n) W.begins (W.batch.hand.low (first (nodes_of b)) (first_in (nodes_of b) some_node));
+          last_low = W.low;
+        })
+
+    pub yields_last : Folding c (LoadToFold b walk) r had has (Done (Yields x (GiveBack b chain Load)))
+    yields_last = λ same. record {
+      is = ap (λ t. cond t (LoadFreeToGive (folding b (nodes_of b))) (LoadLinkToFold (folding b (nodes_of b)) r.word)) (eq-eqb r.word NULL e);
+      hand = slots_are ∙ (λ t. full (none t) (nothing t) ++ vacant (W.done ++ index ∷ [])) ∙ ap (λ (xs : List ℕ). vacant xs) (sym parts);
+    }
+
+    pub tells_last : FoldTold n (limit_of c) b.front gone (Yields x (GiveBack b chain Load))
+    tells_last = ((W.batch, nodes), refl, parted ∙ ap (λ (vs : List T). (gone ++ W.value ∷ []) ++ vs) nothing ∙ append-nil (gone ++ W.value ∷ []) ∙ ap (λ (v : T). gone ++ v ∷ []) (sym same_value))

@@ -1,89 +1,125 @@
--- Folds: where a pass stands in one.
-use Rattle.std.specs.Prelude.{◌≡◌, ℕ, ◌≤◌, List, ◌∷◌, ◌++◌, length, reverse, Result, Ok, Err}
+-- Folds: what each state of one is, and what is told of the values that it hands out.
+use Rattle.std.specs.Prelude.{◌≡◌, ℕ, ◌<◌, ◌≤◌, List, [], ◌∷◌, ◌++◌, length, reverse, take, map, Option as Slot, Ok, Err}
+use mathlib.Core.Option.{some}
 use Rattle.tagged_index.specs.Fields.{fields_of, index_of, tag_of}
 use Rattle.tagged_index.specs.declared.word.TheConstants.{NULL}
-use Rattle.bounded_model.specs.declared.answers.TakeRefused.{TakeRefused}
-use Rattle.bounded_model.specs.Laws.{TakesNothing}
-use Rattle.bounded_model.specs.Consumes.{Folds}
+use Rattle.index_list.specs.Steps.{numbers}
 use Rattle.index_list.specs.declared.front.Front.{Front}
-use Rattle.index_list.specs.declared.front.Front.TheVariants.{Last}
-use Rattle.machine.specs.Chains.{first}
+use Rattle.machine.specs.Chains.{first, values_of}
+use Rattle.running.specs.Tables.{values as slot_values}
 use Rattle.stack_machine.specs.declared.lines.Answer.TheVariants.{Fold as AnswerFold}
 use Rattle.stack_machine.specs.declared.lines.Giving.{Giving}
+use Rattle.stack_machine.specs.declared.lines.Taking.TheVariants.{Whole}
 use Rattle.stack_machine.specs.declared.lines.Line.{Line}
-use Rattle.stack_machine.specs.declared.lines.Line.TheVariants.{LoadLinkToTurn, LoadLinkToFold}
-use Rattle.stack_machine.specs.Machine.{at_take_chain}
-use Rattle.stack_machine.specs.Deeds.{in_order}
-use Rattle.running.specs.declared.passes.Pass.{Pass}
+use Rattle.stack_machine.specs.declared.lines.Line.TheVariants.{LoadTopToTake, TakeChain, LoadLinkToTurn, TurnLink as TurnLinkLine, LoadLinkToFold}
+use Rattle.stack_machine.specs.Machine.{ends}
+use Rattle.stack_table.specs.declared.operation.Operation.{Operation}
 use Rattle.stack_table.specs.declared.operation.Operation.TheVariants.{Fold as FoldFirst}
 use Rattle.stack_table.specs.Lines.{direction}
 use Rattle.stack_table.specs.Slots.{full, vacant, IsHand}
-use Rattle.treiber_stack.specs.declared.stack.Stack.{Stack}
-use Rattle.treiber_stack.specs.declared.folding.Walked.{Walked}
-use Rattle.treiber_stack.specs.declared.giving.Give.TheVariants.{Load}
-use Rattle.treiber_stack.specs.Giving.{IsGiving}
-use Rattle.treiber_stack.specs.Stack.{room_of, shape_of, pass_in, begun_of, IsPassOf, IsAt}
+use Rattle.treiber_stack.specs.declared.folding.Batch.{Batch}
+use Rattle.treiber_stack.specs.declared.folding.Walk.{Walk}
+use Rattle.treiber_stack.specs.declared.folding.FoldAt.{FoldAt}
+use Rattle.treiber_stack.specs.declared.folding.FoldAt.TheVariants.{Load, TakeAll, LoadToTurn, TurnLink, LoadToFold, GiveBack}
+use Rattle.treiber_stack.specs.declared.folding.FoldStop.{FoldStop}
+use Rattle.treiber_stack.specs.declared.folding.FoldStop.TheVariants.{Yields, Ended, Refused}
+use Rattle.treiber_stack.specs.Giving.{AreNodes, give_line}
 
 module _ {T : Type 0} where
-  -- this chain is to be given back, and then the fold answers these values, in its order
-  abbrev pub folding : List ℕ → List T → ℕ → Giving T
-  folding chain folded w = record { chain = chain; answer = AnswerFold (Ok (folded, tag_of w)) }
+  -- the nodes of a batch and their values, in the order of the fold
+  abbrev pub nodes_of : Batch T → List ℕ
+  nodes_of b = numbers b.taken.value.me.1
 
-  -- the chain under the top w was taken whole
-  pub record IsTaken (c : Stack T) (front : Front) (w : ℕ) (p : Pass T (Line T)) : Type 0 where
-    pub chain : List ℕ
-    pub values : List T
-    pub at : IsAt c (FoldFirst front) p (at_take_chain (direction front) (fields_of w) chain values) (full (in_order (direction front) chain) (in_order (direction front) values))
-    pub hand : IsHand (room_of c) chain values
-    pub others : List ℕ
-    pub begins : chain ≡ index_of w ∷ others
+  abbrev pub folded_of : Batch T → List T
+  folded_of b = values_of (map some (slot_values b.taken.value.me.1))
 
-  -- the reversed fold has turned round the nodes above index
-  pub record IsTurning (c : Stack T) (w : ℕ) (p : Pass T (Line T)) (count above index : ℕ) : Type 0 where
-    pub chain : List ℕ
-    pub values : List T
-    pub at : IsAt c (FoldFirst Last) p (LoadLinkToTurn (folding chain (reverse values) w) above index) (full (reverse chain) (reverse values))
-    pub hand : IsHand (room_of c) chain values
+  -- this chain is to be given back, and then the fold answers its values
+  abbrev pub folding : Batch T → List ℕ → Giving T
+  folding b chain = record { chain = chain; answer = AnswerFold (Ok (folded_of b, b.number)) }
+
+  abbrev pub front_of : FoldAt T → Front
+  front_of (Load front) = front
+  front_of (TakeAll front w) = front
+  front_of (LoadToTurn b above i) = b.front
+  front_of (TurnLink b above i below) = b.front
+  front_of (LoadToFold b walk) = b.front
+  front_of (GiveBack b chain at) = b.front
+
+  abbrev pub fold_operation : FoldAt T → Operation T
+  fold_operation at = FoldFirst (front_of at)
+
+  -- the machine's line
+  abbrev pub fold_line : FoldAt T → Line T
+  fold_line (Load front) = LoadTopToTake (Whole (direction front))
+  fold_line (TakeAll front w) = TakeChain (direction front) (fields_of w)
+  fold_line (LoadToTurn b above i) = LoadLinkToTurn (folding b (reverse (nodes_of b))) above i
+  fold_line (TurnLink b above i below) = TurnLinkLine (folding b (reverse (nodes_of b))) above i below
+  fold_line (LoadToFold b walk) = LoadLinkToFold (folding b (nodes_of b)) walk.index
+  fold_line (GiveBack b chain at) = give_line (folding b (nodes_of b)) at
+
+  -- the slots in hand
+  abbrev pub fold_slots : FoldAt T → List (ℕ × Slot T)
+  fold_slots (LoadToTurn b above i) = b.taken.value.me.1
+  fold_slots (TurnLink b above i below) = b.taken.value.me.1
+  fold_slots (LoadToFold b walk) = walk.held.value.me.1
+  fold_slots (GiveBack b chain at) = vacant (nodes_of b)
+  fold_slots at = []
+
+  -- the values that were handed out
+  abbrev pub gone : FoldAt T → List T
+  gone (LoadToFold b walk) = take walk.count (folded_of b)
+  gone (GiveBack b chain at) = folded_of b
+  gone at = []
+
+  -- a batch of nodes below n, each with a value
+  pub record IsBatch (n : ℕ) (b : Batch T) : Type 0 where
+    pub slots : b.taken.value.me.1 ≡ full (nodes_of b) (folded_of b)
+    pub hand : IsHand n (nodes_of b) (folded_of b)
+
+  -- the nodes above index are turned round, and these are below it
+  pub record IsTurning (n : ℕ) (b : Batch T) (above index : ℕ) (others : List ℕ) : Type 0 where
+    pub batch : IsBatch n b
     pub turned : List ℕ
-    pub others : List ℕ
-    pub parts : chain ≡ reverse turned ++ index ∷ others
-    pub counted : length turned ≡ count
+    pub parts : reverse (nodes_of b) ≡ reverse turned ++ index ∷ others
+    pub low : index < n
     pub small : above ≤ NULL
 
-  -- a walk may begin at the chain's first node
-  pub record IsReady (c : Stack T) (front : Front) (w : ℕ) (p : Pass T (Line T)) (start : ℕ) : Type 0 where
-    pub chain : List ℕ
-    pub folded : List T
-    pub at : IsAt c (FoldFirst front) p (LoadLinkToFold (folding chain folded w) start) (full chain folded)
-    pub hand : IsHand (room_of c) chain folded
-    pub others : List ℕ
-    pub begins : chain ≡ start ∷ others
-
-  -- a walk from `start` has come to index, past so many nodes whose values are gone
-  pub record IsWalking (c : Stack T) (front : Front) (w : ℕ) (p : Pass T (Line T)) (gone : List T) (start count index : ℕ) : Type 0 where
-    pub chain : List ℕ
-    pub folded : List T
+  -- the values of the nodes before index were handed out, and their slots are empty
+  pub record IsWalking (n : ℕ) (b : Batch T) (walk : Walk T) : Type 0 where
+    pub batch : IsBatch n b
     pub done : List ℕ
     pub others : List ℕ
     pub value : T
     pub values : List T
-    pub at : IsAt c (FoldFirst front) p (LoadLinkToFold (folding chain folded w) index) (full (index ∷ others) (value ∷ values) ++ vacant done)
-    pub hand : IsHand (room_of c) chain folded
-    pub begins : first chain ≡ start
-    pub parts : chain ≡ done ++ index ∷ others
-    pub order : folded ≡ gone ++ value ∷ values
-    pub counted : length done ≡ count
-    pub as_many : length done ≡ length gone
+    pub held : walk.held.value.me.1 ≡ full (walk.index ∷ others) (value ∷ values) ++ vacant done
+    pub begins : first (nodes_of b) ≡ walk.first
+    pub parts : nodes_of b ≡ done ++ walk.index ∷ others
+    pub order : folded_of b ≡ take walk.count (folded_of b) ++ value ∷ values
+    pub counted : length done ≡ walk.count
+    pub as_many : length (take walk.count (folded_of b)) ≡ walk.count
+    pub low : walk.index < n
 
-  -- what the parts of a fold give
-  abbrev pub TakesChain : Stack T → Front → Pass T (Line T) → Pass T (Line T) → Result ℕ TakeRefused → Type 0
-  TakesChain c front p q (Ok w) = IsTaken c front w q × (begun_of c q ≡ pass_in p)
-  TakesChain c front p q (Err why) = IsPassOf c q × TakesNothing (shape_of c) (pass_in p) (pass_in q) why
+  -- what was read names a node, and the tag of the top has room to rise
+  abbrev pub HasReadToFold : ℕ → ℕ → FoldAt T → Type 0
+  HasReadToFold n limit (Load front) = Unit {0}
+  HasReadToFold n limit (TakeAll front w) = (index_of w < n) × (tag_of w < limit)
+  HasReadToFold n limit (LoadToTurn b above i) = (others : List ℕ) × IsTurning n b above i others
+  HasReadToFold n limit (TurnLink b above i below) = (others : List ℕ) × IsTurning n b above i others × (below ≡ first others) × (below ≤ NULL)
+  HasReadToFold n limit (LoadToFold b walk) = IsWalking n b walk
+  HasReadToFold n limit (GiveBack b chain at) = IsBatch n b × AreNodes n (nodes_of b) chain
 
-  pub record Walks {S : Type 0} (c : Stack T) (front : Front) (w : ℕ) (Gives : S → T → S → Type 0) (p : Pass T (Line T)) (s : S) (r : Walked T S) : Type 0 where
-    pub chain : List ℕ
-    pub folded : List T
-    pub emptied : IsGiving c (FoldFirst front) r.pass (folding chain folded w) r.chain Load
-    pub folds : Folds Gives s folded r.state
-    pub counted : r.count ≡ length folded
-    pub begun : begun_of c r.pass ≡ begun_of c p
+  -- what a fold stops with: at a line where its caller takes a value, or with its answer
+  abbrev pub fold_answer : Operation T → FoldStop T → Line T
+  fold_answer o (Yields v at) = fold_line at
+  fold_answer o (Ended b) = ends (AnswerFold (Ok (folded_of b, b.number)))
+  fold_answer o (Refused why) = ends (AnswerFold (Err why))
+
+  abbrev pub fold_rest : FoldStop T → List (ℕ × Slot T)
+  fold_rest (Yields v at) = fold_slots at
+  fold_rest stop = []
+
+  -- and what is told of it, where these values were handed out before: one more is, or they were all
+  abbrev pub FoldTold : ℕ → ℕ → Front → List T → FoldStop T → Type 0
+  FoldTold n limit front before (Yields v at) = HasReadToFold n limit at × (front_of at ≡ front) × (gone at ≡ before ++ v ∷ [])
+  FoldTold n limit front before (Ended b) = before ≡ folded_of b
+  FoldTold n limit front before (Refused why) = before ≡ []

@@ -6,7 +6,6 @@ use Rattle.stack_machine.specs.declared.lines.Giving.{Giving}
 use Rattle.stack_machine.specs.declared.lines.Line.{Line}
 use Rattle.stack_machine.specs.declared.lines.Line.TheVariants.{LoadFreeToGive, LinkToFree, GiveBack}
 use Rattle.stack_machine.specs.Machine.{ends}
-use Rattle.running.specs.Going.{Ended}
 use Rattle.running.specs.declared.passes.Pass.{Pass}
 use Rattle.stack_table.specs.declared.operation.Operation.{Operation}
 use Rattle.stack_table.specs.Lines.{next}
@@ -18,7 +17,7 @@ use Rattle.treiber_stack.specs.declared.stack.Stack.{Stack}
 use Rattle.treiber_stack.specs.declared.giving.Chain.{Chain}
 use Rattle.treiber_stack.specs.declared.giving.Give.{Give}
 use Rattle.treiber_stack.specs.declared.giving.Give.TheVariants.{Load, Link, Exchange}
-use Rattle.treiber_stack.specs.Stack.{room_of, limit_of, machine_of, begun_of, IsPassOf, IsAt}
+use Rattle.treiber_stack.specs.Stack.{room_of, limit_of, machine_of, IsAt}
 
 -- a chain of nodes below n, by its ends
 pub record AreNodes (n : ℕ) (chain : List ℕ) (nodes : Chain) : Type 0 where
@@ -37,11 +36,6 @@ module _ {T : Type 0} where
   pub record IsGiving (c : Stack T) (o : Operation T) (p : Pass T (Line T)) (giving : Giving T) (nodes : Chain) (at : Give) : Type 0 where
     pub line : IsAt c o p (give_line giving at) (vacant giving.chain)
     pub are : AreNodes (room_of c) giving.chain nodes
-
-  -- the operation has answered once all is given back
-  abbrev pub GaveBack : Stack T → Operation T → Pass T (Line T) → Chain → Pass T (Line T) → Type 0
-  GaveBack c o p nodes q = (giving : Giving T) → IsGiving c o p giving nodes Load
-      → IsPassOf c q × Ended (machine_of c) o q.seat.me.0 (begun_of c p) (ends giving.answer)
 
   -- where a step leads that came to r, with these slots in hand after it
   abbrev pub GaveTo : Stack T → Giving T → Give → Outcome → List (ℕ × Slot T) → Next Give (Unit {0}) → Type 0

@@ -1,4 +1,5 @@
 pub mod Stack
+pub mod Begun
 pub mod Refusing
 pub mod Giving
 pub mod Closing
@@ -7,7 +8,6 @@ pub mod Stepwise
 pub mod Taking
 pub mod Trying
 pub mod Naming
-pub mod Nodes
 pub mod Putting
 pub mod Folding
 pub mod Ranging

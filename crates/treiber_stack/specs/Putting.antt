@@ -14,7 +14,7 @@ use Rattle.stack_machine.specs.declared.lines.Putting.{Putting}
 use Rattle.stack_machine.specs.declared.lines.Line.{Line}
 use Rattle.stack_machine.specs.declared.lines.Line.TheVariants.{LoadFree as LoadFreeLine, LoadFreeLink, TakeFree, LoadTop, LinkToTop, SwapTop, LoadTopToRefuse}
 use Rattle.stack_machine.specs.Machine.{ends}
-use Rattle.running.specs.Steps.{Ran}
+use Rattle.running.specs.Steps.{Stands, Ran}
 use Rattle.running.specs.declared.passes.Pass.{Pass}
 use Rattle.running.specs.declared.code.Next.{Next}
 use Rattle.stack_table.specs.declared.operation.Operation.{Operation}
@@ -118,6 +118,10 @@ module _ {T : Type 0} where
   PutStep c x p at (Again next) = IsPutting c x next × WentOn c p next.pass (put_line at) (put_line next.at)
   PutStep c x p at (Done q r) = IsPassOf c q × PutGives (shape_of c) (begun_of c p) x (pass_in q) r × OneLine c p q (put_line at) (ends (put_answer r))
 
+  -- a whole call of this operation is at this
+  abbrev pub PutStands : Stack T → Operation T → Pass T (Line T) → PutAt T → Type 0
+  PutStands c o p at = (o ≡ put_of (put_value at)) × Stands (machine_of c) {A = Result ℕ (PutRefused T)} (λ s. put_of (put_value s)) put_line put_slots (λ s. HasReadToPut (room_of c) (limit_of c) s) (λ x a. ends (put_answer a)) (λ a. []) c.table.shared.table_id p at
+
   -- what some steps of a whole call give
   abbrev pub PutRan : Stack T → Operation T → Pass T (Line T) → Pass T (Line T) → Next (PutAt T) (Result ℕ (PutRefused T)) → Type 0
-  PutRan c o p q r = Ran (machine_of c) (λ at. put_of (put_value at)) put_line put_slots (λ at. HasReadToPut (room_of c) (limit_of c) at) (λ x a. ends (put_answer a)) c.table.shared.table_id o p q r
+  PutRan c o p q r = Ran (machine_of c) (λ at. put_of (put_value at)) put_line put_slots (λ at. HasReadToPut (room_of c) (limit_of c) at) (λ x a. ends (put_answer a)) (λ a. []) c.table.shared.table_id o p q r

@@ -1,34 +1,50 @@
--- Puts of a range: where a pass stands in one.
-use Rattle.std.specs.Prelude.{◌≡◌, ℕ, zero, suc, ◌+◌, ◌<◌, ◌≤◌, List, [], ◌∷◌, ◌++◌, map, length, reverse, take, drop, replicate, Option as Slot, Some, None, Result, Ok, Err}
+-- Puts of a range: what each state of one is, what it stops with, and where a pass stands between its stops.
+use Rattle.std.specs.Prelude.{◌≡◌, ℕ, zero, suc, ◌==◌, ◌+◌, ◌<◌, ◌≤◌, if◌then◌else◌, Bool, true, false, List, [], ◌∷◌, ◌++◌, map, length, reverse, take, drop, replicate, Option as Slot, Some, None, Result, Ok, Err}
+use Rattle.tagged_index.specs.Fields.{fields_of, index_of, tag_of}
+use Rattle.tagged_index.specs.declared.word.TheConstants.{NULL}
+use Rattle.bounded_model.specs.declared.answers.Word.TheVariants.{Free as FreeWord}
+use Rattle.bounded_model.specs.declared.answers.PutRefused.TheVariants.{Full as PutFull, Spent as PutSpent}
+use Rattle.bounded_model.specs.declared.bulk.Ranged.{Ranged}
 use Rattle.bounded_model.specs.declared.bulk.RangeRefused.{RangeRefused}
 use Rattle.bounded_model.specs.declared.bulk.RangeRefused.TheVariants.{Nothing, Full, Closed, Spent}
 use Rattle.bounded_model.specs.declared.views.PassView.{PassView}
 use Rattle.bounded_model.specs.Machine.{Shape}
+use Rattle.bounded_model.specs.Bulk.{PutsRange}
 use Rattle.bounded_model.specs.Laws.{Adds, BacksOut}
 use Rattle.bounded_model.specs.Justified.{Justified}
 use Rattle.bounded_model.specs.Justified as right
 use Rattle.machine.specs.Words.{times}
 use Rattle.machine.specs.Chains.{first, last}
 use Rattle.machine.specs.declared.seats.View.{View}
+use Rattle.stack_machine.specs.declared.lines.Answer.TheVariants.{Put as AnswerPut}
 use Rattle.stack_machine.specs.declared.lines.Call.TheVariants.{Put as CallPut}
 use Rattle.stack_machine.specs.declared.lines.Giving.{Giving}
 use Rattle.stack_machine.specs.declared.lines.Putting.{Putting}
 use Rattle.stack_machine.specs.declared.lines.Line.{Line}
-use Rattle.stack_machine.specs.declared.lines.Line.TheVariants.{LoadTop, LoadFreeToGive}
-use Rattle.stack_machine.specs.Machine.{next_node}
+use Rattle.stack_machine.specs.declared.lines.Line.TheVariants.{LoadFree as LoadFreeLine, LoadFreeLink, TakeFree, LinkTaken, LoadTop, LinkToTop, SwapTop, LoadTopToRefuse, LoadFreeToGive}
+use Rattle.stack_machine.specs.Machine.{is_idle, ends, next_node, placed, unplaced, with_node}
+use Rattle.running.specs.Going.{Ended}
 use Rattle.running.specs.Rule.{line_in}
 use Rattle.running.specs.declared.passes.Pass.{Pass}
 use Rattle.stack_table.specs.declared.operation.Operation.{Operation}
 use Rattle.stack_table.specs.Lines.{call_of, names}
 use Rattle.stack_table.specs.Slots.{full, vacant}
 use Rattle.treiber_stack.specs.declared.stack.Stack.{Stack}
-use Rattle.treiber_stack.specs.declared.giving.Give.TheVariants.{Load}
-use Rattle.treiber_stack.specs.declared.nodes.NoNode.{NoNode}
-use Rattle.treiber_stack.specs.declared.ranging.Held.{Held}
+use Rattle.treiber_stack.specs.declared.giving.Give.TheVariants.{Load as LoadToGive}
+use Rattle.treiber_stack.specs.declared.range_steps.Held.{Held}
+use Rattle.treiber_stack.specs.declared.range_steps.Range.{Range}
+use Rattle.treiber_stack.specs.declared.range_steps.RangeAt.{RangeAt}
+use Rattle.treiber_stack.specs.declared.range_steps.RangeAt.TheVariants.{LoadFree, Link, Hold, Load, LinkTo, Exchange, Refuse, GiveBack}
+use Rattle.treiber_stack.specs.declared.range_steps.RangeEnd.{RangeEnd}
+use Rattle.treiber_stack.specs.declared.range_steps.RangeEnd.TheVariants.{Put, Full as IsFull, Refused, Spent as IsSpent, Barred as IsBarred, GaveBack}
+use Rattle.treiber_stack.specs.declared.range_steps.RangeStop.{RangeStop}
+use Rattle.treiber_stack.specs.declared.range_steps.RangeStop.TheVariants.{Took, Over}
+use Rattle.treiber_stack.specs.declared.range_steps.RangeStopped.{RangeStopped}
 use Rattle.treiber_stack.specs.declared.refusing.Barred.{Barred}
-use Rattle.treiber_stack.specs.Giving.{IsGiving}
-use Rattle.treiber_stack.specs.Nodes.{loaded, refused, Stops, TakesNode}
-use Rattle.treiber_stack.specs.Stack.{room_of, shape_of, pass_in, begun_of, IsPassOf, IsAt}
+use Rattle.treiber_stack.specs.Begun.{put_begun}
+use Rattle.treiber_stack.specs.Giving.{AreNodes, IsGiving, give_line}
+use Rattle.treiber_stack.specs.Refusing.{barring}
+use Rattle.treiber_stack.specs.Stack.{room_of, limit_of, machine_of, shape_of, pass_in, begun_of, IsPassOf, IsAt}
 
 -- why a range that is not empty was refused, and what the pass has done
 abbrev pub NotPut : {T : Type 0} → Shape → PassView T → ℕ → PassView T → RangeRefused → Type 0
@@ -37,7 +53,136 @@ NotPut c v most w Full = Adds v w [] × Justified c v w right.PutFull
 NotPut c v most w Closed = BacksOut v w most × Justified c v w right.PutClosed
 NotPut c v most w (Spent word t) = BacksOut v w most × Justified c v w (right.PutSpent word t)
 
+-- a range still takes nodes
+abbrev pub takes : RangeAt → Bool
+takes LoadFree = true
+takes (Link w) = true
+takes (Hold w k) = true
+takes at = false
+
+-- What is told of what it stops with, by where it was, and how many nodes it held
+abbrev pub ToldEnd : ℕ → RangeEnd → Type 0
+ToldEnd k (Put number) = 0 < k
+ToldEnd k (IsBarred why) = 0 < k
+ToldEnd k (GaveBack why) = ⊥
+ToldEnd k end = k ≡ 0
+
+abbrev pub ToldStop : ℕ → Bool → ℕ → RangeStop → Type 0
+ToldStop n more k (Took i) = (more ≡ true) × (i < n)
+ToldStop n more k (Over end) = ToldEnd k end
+
+abbrev pub Told : ℕ → ℕ → RangeAt → RangeStop → Type 0
+Told n k (GiveBack why at) stop = stop ≡ Over (GaveBack why)
+Told n k at stop = ToldStop n (takes at) k stop
+
 module _ {T : Type 0} where
+  -- the slots of the nodes in hand, with the first values: the last of them is in front
+  abbrev pub loaded : Putting T → List (ℕ × Slot T)
+  loaded put = full put.chain (reverse (placed put))
+
+  -- the nodes of a put that is refused for its top, and then the answer
+  abbrev pub refused : Putting T → Barred → Giving T
+  refused put why = record { chain = put.chain; answer = AnswerPut (Err (barring why put.values)) }
+
+  -- nodes are in hand for the first values, and hold them
+  pub record HasNodes (c : Stack T) (vs : List T) (chain : List ℕ) (held : Held) : Type 0 where
+    pub counted : length chain ≡ held.count
+    pub few : held.count ≤ length vs
+    pub low : (i : ℕ) → 0 < times i chain → i < room_of c
+    pub begins : first chain ≡ held.chain.first
+    pub ends : last chain ≡ held.chain.last
+
+  -- the machine's line of a state, its slots in hand, and what is known of what it has read and holds
+  abbrev pub range_line : Putting T → RangeAt → Line T
+  range_line put LoadFree = LoadFreeLine put
+  range_line put (Link w) = LoadFreeLink put (fields_of w)
+  range_line put (Hold w k) = TakeFree put (fields_of w) k
+  range_line put Load = LoadTop put
+  range_line put (LinkTo w) = LinkToTop put (fields_of w)
+  range_line put (Exchange w) = SwapTop put (fields_of w)
+  range_line put Refuse = LoadTopToRefuse put.values
+  range_line put (GiveBack why at) = give_line (refused put why) at
+
+  abbrev pub range_slots : Putting T → RangeAt → List (ℕ × Slot T)
+  range_slots put Refuse = []
+  range_slots put (GiveBack why at) = vacant put.chain
+  range_slots put at = loaded put
+
+  abbrev pub HasRead : Stack T → Putting T → Held → RangeAt → Type 0
+  HasRead c put held LoadFree = HasNodes c put.values put.chain held
+  HasRead c put held (Link w) = HasNodes c put.values put.chain held × (index_of w < room_of c) × (tag_of w < limit_of c)
+  HasRead c put held (Hold w k) = HasNodes c put.values put.chain held × (index_of w < room_of c) × (tag_of w < limit_of c) × (k ≤ NULL)
+  HasRead c put held Load = (0 < held.count) × AreNodes (room_of c) put.chain held.chain
+  HasRead c put held (LinkTo w) = (0 < held.count) × AreNodes (room_of c) put.chain held.chain × (tag_of w < limit_of c)
+  HasRead c put held (Exchange w) = (0 < held.count) × AreNodes (room_of c) put.chain held.chain × (tag_of w < limit_of c)
+  HasRead c put held Refuse = held.count ≡ 0
+  HasRead c put held (GiveBack why at) = AreNodes (room_of c) put.chain held.chain
+
+  -- and where it stops
+  abbrev pub end_line : Putting T → RangeEnd → Line T
+  end_line put (Put number) = ends (AnswerPut (Ok (number, unplaced put)))
+  end_line put IsFull = ends (AnswerPut (Err (PutFull put.values)))
+  end_line put (Refused why) = ends (AnswerPut (Err (barring why put.values)))
+  end_line put (IsSpent t) = ends (AnswerPut (Err (PutSpent put.values FreeWord t)))
+  end_line put (IsBarred why) = LoadFreeToGive (refused put why)
+  end_line put (GaveBack why) = ends (AnswerPut (Err (barring why put.values)))
+
+  abbrev pub range_stop : Putting T → RangeStop → Line T
+  range_stop put (Took i) = if length put.chain == 0 then next_node (with_node put i) else LinkTaken (with_node put i)
+  range_stop put (Over end) = end_line put end
+
+  abbrev pub range_hand : Putting T → RangeStop → List (ℕ × Slot T)
+  range_hand put (Took i) = (i, None) ∷ loaded put
+  range_hand put (Over end) = loaded put
+
+  -- the same of a range under way, whose put is the one that its steps were begun with
+  abbrev pub at_operation : Range T → Operation T
+  at_operation s = s.begun.operation.value
+
+  abbrev pub at_line : Range T → Line T
+  at_line s = range_line (put_begun s.begun) s.at
+
+  abbrev pub at_slots : Range T → List (ℕ × Slot T)
+  at_slots s = range_slots (put_begun s.begun) s.at
+
+  abbrev pub AtKnows : Stack T → Range T → Type 0
+  AtKnows c s = HasRead c (put_begun s.begun) s.held s.at
+
+  abbrev pub stop_line : RangeStopped T → Line T
+  stop_line r = range_stop (put_begun r.begun) r.stop
+
+  abbrev pub stop_hand : RangeStopped T → List (ℕ × Slot T)
+  stop_hand r = range_hand (put_begun r.begun) r.stop
+
+  abbrev pub StopTold : Stack T → Range T → RangeStopped T → Type 0
+  StopTold c s r = (r.begun ≡ s.begun) × Told (room_of c) s.held.count s.at r.stop
+
+  -- a range is at this
+  pub record IsRangeAt (c : Stack T) (o : Operation T) (p : Pass T (Line T)) (put : Putting T) (held : Held) (at : RangeAt) : Type 0 where
+    pub line : IsAt c o p (range_line put at) (range_slots put at)
+    pub read : HasRead c put held at
+
+  -- a node was taken; it is linked to the one before it, if there is one
+  abbrev pub linking : List ℕ → Putting T → Line T
+  linking [] put = next_node put
+  linking (j ∷ js) put = LinkTaken put
+
+  pub record TakesNode (c : Stack T) (o : Operation T) (begun : PassView T) (put : Putting T) (q : Pass T (Line T)) (i : ℕ) : Type 0 where
+    pub at : IsAt c o q (linking put.chain (with_node put i)) ((i, None) ∷ loaded put)
+    pub low : i < room_of c
+    pub begun_is : begun_of c q ≡ begun
+
+  -- it has stopped at this line, by whether its machine has answered
+  abbrev pub Stopped : Stack T → Operation T → PassView T → Pass T (Line T) → Line T → List (ℕ × Slot T) → Bool → Type 0
+  Stopped c o begun q l rest true = IsPassOf c q × Ended (machine_of c) o q.seat.me.0 begun l
+  Stopped c o begun q l rest false = IsAt c o q l rest × (begun_of c q ≡ begun)
+
+  abbrev pub StopsSo : Stack T → Operation T → PassView T → Pass T (Line T) → Putting T → Held → RangeAt → RangeStop → Type 0
+  StopsSo c o begun q put held at stop = Told (room_of c) held.count at stop × Stopped c o begun q (range_stop put stop) (range_hand put stop) (is_idle (range_stop put stop))
+
+  abbrev pub EndsSo : Stack T → Operation T → PassView T → Pass T (Line T) → Putting T → Held → RangeEnd → Type 0
+  EndsSo c o begun q put held end = ToldEnd held.count end × Stopped c o begun q (end_line put end) (loaded put) (is_idle (end_line put end))
+
   -- the operation is a put of these values, of which there is one
   abbrev pub IsRange : Operation T → List T → Type 0
   IsRange o [] = ⊥
@@ -60,15 +205,7 @@ module _ {T : Type 0} where
   abbrev pub putting : List T → List ℕ → Putting T
   putting vs chain = record { values = vs; chain = chain }
 
-  -- nodes are in hand for the first values, and hold them
-  pub record HasNodes (c : Stack T) (vs : List T) (chain : List ℕ) (held : Held) : Type 0 where
-    pub counted : length chain ≡ held.count
-    pub few : held.count ≤ length vs
-    pub low : (i : ℕ) → 0 < times i chain → i < room_of c
-    pub begins : first chain ≡ held.chain.first
-    pub ends : last chain ≡ held.chain.last
-
-  -- and the put goes on with the next value, or to the top
+  -- the put goes on with the next value, or to the top
   pub record IsFilling (c : Stack T) (o : Operation T) (p : Pass T (Line T)) (vs : List T) (held : Held) : Type 0 where
     pub chain : List ℕ
     pub has : HasNodes c vs chain held
@@ -84,25 +221,15 @@ module _ {T : Type 0} where
   abbrev pub FillsOne : Stack T → Operation T → Pass T (Line T) → List T → Held → Slot T → Pass T (Line T) → Held → Type 0
   FillsOne c o p vs held place q more = IsFilling c o q vs more × (more.count ≡ held.count + 1) × (begun_of c q ≡ begun_of c p) × (place ≡ None)
 
-  -- or none could be had
-  abbrev pub Fills : Stack T → Operation T → Pass T (Line T) → List T → Held → Slot T → Pass T (Line T) → Result Held NoNode → Type 0
-  Fills c o p vs held place q (Ok more) = FillsOne c o p vs held place q more
-  Fills c o p vs held place q (Err why) = IsNext vs held.count place × ((chain : List ℕ) × HasNodes c vs chain held × Stops c o (begun_of c p) q chain (putting vs chain) why)
-
-  -- a range has no node
-  abbrev pub IsStopped : Stack T → Operation T → PassView T → Pass T (Line T) → List T → NoNode → Type 0
-  IsStopped c o v p vs why = Stops c o v p [] (putting vs []) why × IsRange o vs
-
-  -- nodes are in hand that go onto the top
-  pub record IsHolding (c : Stack T) (o : Operation T) (p : Pass T (Line T)) (vs : List T) (held : Held) : Type 0 where
+  -- a range is over, with nodes for the first values
+  pub record IsOver (c : Stack T) (o : Operation T) (v : PassView T) (p : Pass T (Line T)) (vs : List T) (held : Held) (end : RangeEnd) : Type 0 where
     pub chain : List ℕ
     pub has : HasNodes c vs chain held
-    pub some_node : 0 < held.count
-    pub at : IsAt c o p (LoadTop (putting vs chain)) (loaded (putting vs chain))
+    pub ends : EndsSo c o v p (putting vs chain) held end
 
-  abbrev pub Collects : Stack T → Operation T → PassView T → List T → List (Slot T) → Pass T (Line T) → Result Held RangeRefused → Type 0
-  Collects c o v vs places q (Ok held) = IsHolding c o q vs held × (places ≡ places_from held.count vs) × (begun_of c q ≡ v)
-  Collects c o v vs places q (Err why) = IsPassOf c q × (places ≡ map Some vs) × NotPut (shape_of c) v (length vs) (pass_in q) why
+  -- a range of these values, begun as the pass was v, has ended
+  abbrev pub PutsOf : Stack T → PassView T → List T → List (Slot T) → Pass T (Line T) → Result Ranged RangeRefused → Type 0
+  PutsOf c v vs places q r = IsPassOf c q × PutsRange (record { shape = shape_of c; from = v; to = pass_in q }) (map Some vs) places r
 
   -- a refused range whose values are still in the slots
   pub record IsRefused (c : Stack T) (o : Operation T) (p : Pass T (Line T)) (vs : List T) (held : Held) (why : Barred) : Type 0 where
@@ -125,7 +252,7 @@ module _ {T : Type 0} where
   -- they are all back, and the emptied nodes are to be given back
   pub record Restores (c : Stack T) (o : Operation T) (p : Pass T (Line T)) (vs : List T) (held : Held) (why : Barred) (places : List (Slot T)) (q : Pass T (Line T)) : Type 0 where
     pub chain : List ℕ
-    pub back : IsGiving c o q (refused (putting vs chain) why) held.chain Load
+    pub back : IsGiving c o q (refused (putting vs chain) why) held.chain LoadToGive
     pub places_are : places ≡ map Some vs
     pub begun : begun_of c q ≡ begun_of c p
 

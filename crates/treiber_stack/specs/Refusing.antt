@@ -1,5 +1,5 @@
 -- Why a top lets no pass put onto it, or take from under it.
-use Rattle.std.specs.Prelude.{◌≡◌, ◌≢◌, ℕ, ◌<◌, false, List, Err}
+use Rattle.std.specs.Prelude.{◌≡◌, ◌≢◌, ℕ, ◌<◌, ◌≤◌, false, List, Err}
 use Rattle.tagged_index.specs.Fields.{fields_of, index_of, tag_of, mark_of, second_of}
 use Rattle.tagged_index.specs.declared.word.TheConstants.{NULL}
 use Rattle.bounded_model.specs.declared.answers.Word.TheVariants.{Top as TopWord}
@@ -14,6 +14,8 @@ use Rattle.stack_machine.specs.declared.lines.Answer.TheVariants.{Put as AnswerP
 use Rattle.stack_machine.specs.Machine.{at_load_top, at_load_top_to_refuse, at_load_top_to_take, ends, gives, refuses}
 use Rattle.treiber_stack.specs.declared.refusing.Barred.{Barred}
 use Rattle.treiber_stack.specs.declared.refusing.Barred.TheVariants.{Closed, Spent}
+use Rattle.treiber_stack.specs.declared.refusing.NoNode.{NoNode}
+use Rattle.treiber_stack.specs.declared.refusing.NoNode.TheVariants as none
 
 -- the refusals that say so
 abbrev pub barring : {X : Type 0} → Barred → X → PutRefused X
@@ -37,3 +39,11 @@ AllowsTake limit w = (second_of w ≡ false) × (index_of w ≢ NULL) × (tag_of
 
 abbrev pub RefusesTake : Type 0 → ℕ → ℕ → TakeRefused → Type 0
 RefusesTake T limit w why = (taking : Taking) → at_load_top_to_take {T = T} limit taking (fields_of w) ≡ refuses taking why
+
+-- a top of the free nodes gives a node, or none
+abbrev pub AllowsNode : ℕ → ℕ → Type 0
+AllowsNode limit w = (index_of w ≢ NULL) × (tag_of w < limit)
+
+abbrev pub RefusesNode : ℕ → ℕ → NoNode → Type 0
+RefusesNode limit w none.NoneFree = index_of w ≡ NULL
+RefusesNode limit w (none.Spent t) = (index_of w ≢ NULL) × (limit ≤ tag_of w) × (t ≡ tag_of w)

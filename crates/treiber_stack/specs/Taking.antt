@@ -12,7 +12,7 @@ use Rattle.stack_machine.specs.declared.lines.Taking.TheVariants.{One}
 use Rattle.stack_machine.specs.declared.lines.Line.{Line}
 use Rattle.stack_machine.specs.declared.lines.Line.TheVariants.{LoadTopToTake, LoadTopLink, TakeTop}
 use Rattle.stack_machine.specs.Machine.{ends}
-use Rattle.running.specs.Steps.{Ran}
+use Rattle.running.specs.Steps.{Stands, Ran}
 use Rattle.running.specs.declared.passes.Pass.{Pass}
 use Rattle.running.specs.declared.code.Next.{Next}
 use Rattle.stack_table.specs.declared.operation.Operation.{Operation}
@@ -62,6 +62,10 @@ module _ {T : Type 0} where
   TakeStep c p at (Again next) = IsTaking c next × WentOn c p next.pass (take_line at) (take_line next.at)
   TakeStep c p at (Done q r) = IsPassOf c q × TakeGives (shape_of c) (begun_of c p) (pass_in q) r × OneLine c p q (take_line at) (ends (AnswerTake r))
 
+  -- a whole call is at this
+  abbrev pub TakeStands : Stack T → Pass T (Line T) → TakeAt T → Type 0
+  TakeStands c p at = Stands (machine_of c) {A = Result (T × ℕ) TakeRefused} (λ x. TakeFirst) take_line take_slots (λ s. HasReadToTake (room_of c) (limit_of c) s) (λ x a. ends (AnswerTake a)) (λ a. []) c.table.shared.table_id p at
+
   -- what some steps of a whole call give
   abbrev pub TakeRan : Stack T → Operation T → Pass T (Line T) → Pass T (Line T) → Next (TakeAt T) (Result (T × ℕ) TakeRefused) → Type 0
-  TakeRan c o p q r = Ran (machine_of c) (λ x. TakeFirst) take_line take_slots (λ at. HasReadToTake (room_of c) (limit_of c) at) (λ x a. ends (AnswerTake a)) c.table.shared.table_id o p q r
+  TakeRan c o p q r = Ran (machine_of c) (λ x. TakeFirst) take_line take_slots (λ at. HasReadToTake (room_of c) (limit_of c) at) (λ x a. ends (AnswerTake a)) (λ a. []) c.table.shared.table_id o p q r

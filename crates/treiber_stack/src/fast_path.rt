@@ -1,15 +1,30 @@
 //! How a whole call goes on from one step to the next on its fast path.
 
-/// What the operation has where its step leads on the fast path. Where it leads elsewhere, the
-/// function returns what the step gave.
+/// What the operation is at next; or what it has there, if its step leads where it is said to.
+/// Where the step leads elsewhere, the function returns what it gave.
 macro_rules! fast_step {
+    ($step:expr) => {
+        match $step {
+            (pass, Next::On(at)) => (pass, at),
+            other => {
+                aside();
+                return other;
+            }
+        }
+    };
     ($step:expr, $line:pat => $($read:ident),*) => {
         match $step {
             (pass, Next::On(at)) => match at {
                 $line => (pass, $($read,)*),
-                at => return (pass, Next::On(at)),
+                at => {
+                    aside();
+                    return (pass, Next::On(at));
+                }
             },
-            other => return other,
+            other => {
+                aside();
+                return other;
+            }
         }
     };
 }

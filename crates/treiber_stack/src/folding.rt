@@ -1,32 +1,77 @@
-//! Folds: all values are taken by one compare-and-swap of the top, and handed to a function one
-//! after another on a walk along their chain; one more compare-and-swap gives the whole chain to
-//! the free list.
+//! Folds: all values are taken by one compare-and-swap of the top, and handed out one after another
+//! on a walk along their chain; one more compare-and-swap gives the whole chain to the free list.
 ghost use Rattle.std.specs.Prelude.{◌≡◌, ◌++◌, [], ◌∷◌, reverse, Some, None};
 ghost use Rattle.atomic_table.specs.Table.{rest};
 ghost use Rattle.bounded_model.specs.Bulk.{FoldsAll};
 ghost use Rattle.bounded_model.specs.Consumes.{Folds};
-ghost use Rattle.index_list.specs.declared.front.Front.TheVariants.{Last};
 ghost use Rattle.stack_machine.specs.Deeds.{in_order};
 ghost use Rattle.stack_table.specs.Lines.{direction};
-ghost use Rattle.treiber_stack.specs.Folding.{TakesChain, IsTaken, IsReady, Walks};
-ghost use Rattle.treiber_stack.specs.Stack.{call_of, begun_of, IsPassOf};
+ghost use Rattle.treiber_stack.specs.Stack.{call_of, IsPassOf};
 
-use crate::giving::Chain;
+use crate::giving::{Chain, Give};
+use crate::rule::Stacked;
 use crate::stack::{Pass, Stack};
+use atomic_table::Seat;
 use bounded_model::{Folded, TakeRefused};
 use index_list::{Front, move_out};
-use running::{Pause, load_link_step, load_top_step, store_link_step, take_all_step};
+use machine::View;
+use running::{Access, Code, Next, Outcome, any, to_the_end};
+use stack_machine::Line;
 use stack_table::Operation;
 use stack_table::layout::STACK_LIST;
+use std::snapshot::Snapshot;
 use std::sync::Wait;
 use tagged_index::{NULL, Tagged};
 
-/// What a walk along a chain has done.
-pub(crate) struct Walked<T, S> {
-    pub(crate) pass: Pass<T>,
-    pub(crate) state: S,
-    pub(crate) chain: Chain,
+/// The slots that a pass has in hand, as proofs see them.
+type Hand<T> = Snapshot<Seat<Option<T>, View<T, Line<T>>>>;
+
+/// All values of a stack, taken by one compare-and-swap.
+#[derive(Drop)]
+pub(crate) struct Batch<T> {
+    pub(crate) front: Front,
+    /// The number of the compare-and-swap.
+    pub(crate) number: u64,
+    /// Their slots, in the order of the fold.
+    pub(crate) taken: Hand<T>,
+}
+
+/// How far a walk along a batch has come.
+#[derive(Drop)]
+pub(crate) struct Walk<T> {
+    pub(crate) first: u32,
+    /// The node whose value is handed out next.
+    pub(crate) index: u32,
+    /// How many values were handed out.
     pub(crate) count: u32,
+    pub(crate) held: Hand<T>,
+}
+
+/// The next step of a fold, with what it has read and holds.
+#[derive(Drop)]
+pub(crate) enum FoldAt<T> {
+    /// Load `TOP`.
+    Load(Front),
+    /// Compare-and-swap `TOP` for null.
+    TakeAll(Front, Tagged),
+    /// From the bottom up: load the link of a node, behind the one above it.
+    LoadToTurn(Batch<T>, u32, u32),
+    /// Link the node to the one above it. The one below it comes next.
+    TurnLink(Batch<T>, u32, u32, u32),
+    /// Load the link of the node that the walk has come to.
+    LoadToFold(Batch<T>, Walk<T>),
+    /// Give all nodes back.
+    GiveBack(Batch<T>, Chain, Give),
+}
+
+/// What a fold stops with.
+#[derive(Drop)]
+pub(crate) enum FoldStop<T> {
+    /// The next value is for the caller, and then the fold goes on.
+    Yields(T, FoldAt<T>),
+    /// All values were handed out, and their nodes are free.
+    Ended(Batch<T>),
+    Refused(TakeRefused),
 }
 
 impl<T> Stack<T> {
@@ -84,85 +129,27 @@ impl<T> Stack<T> {
             result.1)
             (result.1 ≡ state) result.2 }
     {
-        let (pass, taken) = self.take_chain(rt, by, front);
-        match taken {
-            Err(refused) => (pass, state, Err(refused)),
-            Ok(top) => {
-                let (pass, first) = self.first_of(pass, front, top);
-                let walked = self.walk(pass, front, top, first, state, f);
-                let Walked {
-                    pass,
-                    state,
-                    chain,
-                    count,
-                } = walked;
-                let number = top.tag();
-                let pass = self.give_back(rt, pass, chain, &Operation::Fold(front));
-                (pass, state, Ok(Folded { number, count }))
-            }
-        }
-    }
-
-    // Takes the whole chain, and returns the top that it had.
-    fn take_chain<R: Wait>(
-        &self,
-        rt: &R,
-        by: Pass<T>,
-        front: Front,
-    ) -> (Pass<T>, Result<Tagged, TakeRefused>)
-        requires { IsPassOf self.now by }
-        ensures { TakesChain self.now front by result.0 result.1 }
-    {
-        let mut pass = by;
-        let mut pause = Pause::first();
         let table = &self.table.shared;
-        for _ in rt.forever() {
-            let top = load_top_step(table, &mut pass.seat, STACK_LIST, &Operation::Fold(front));
-            if let Some(why) = self.bars_take(top) {
-                return (pass, Err(why));
-            }
+        let mut pass = by;
+        let mut at = FoldAt::Load(front);
+        let mut folded = state;
+        // Each round but the last hands out a value.
+        for count in 0..self.limits.capacity() + 1 {
             let operation = Operation::Fold(front);
-            if take_all_step(table, &mut pass.seat, STACK_LIST, top, front, &operation) {
-                return (pass, Ok(top));
+            let first = any(table, self, pass, at, &operation);
+            let (back, stop) = to_the_end(rt, table, self, first, &operation);
+            match stop {
+                FoldStop::Yields(value, next) => {
+                    folded = f(folded, value);
+                    pass = back;
+                    at = next;
+                }
+                FoldStop::Ended(batch) => {
+                    let number = batch.number;
+                    return (back, folded, Ok(Folded { number, count }));
+                }
+                FoldStop::Refused(why) => return (back, folded, Err(why)),
             }
-            pause = pause.wait();
-        }
-        unreachable!()
-    }
-
-    // The node that a fold begins with.
-    fn first_of(&self, by: Pass<T>, front: Front, top: Tagged) -> (Pass<T>, u32)
-        requires { IsTaken self.now front top by }
-        ensures { IsReady self.now front top result.0 result.1
-            × (begun_of self.now result.0 ≡ begun_of self.now by) }
-    {
-        match front {
-            Front::First => (by, top.index()),
-            Front::Last => self.turn_round(by, top),
-        }
-    }
-
-    // Turns the chain round, and answers its new first node.
-    fn turn_round(&self, by: Pass<T>, top: Tagged) -> (Pass<T>, u32)
-        requires { IsTaken self.now Last top by }
-        ensures { IsReady self.now Last top result.0 result.1
-            × (begun_of self.now result.0 ≡ begun_of self.now by) }
-    {
-        let mut pass = by;
-        let mut above = NULL;
-        let mut index = top.index();
-        let table = &self.table.shared;
-        for _ in 0..self.limits.capacity() {
-            let operation = Operation::Fold(Front::Last);
-            let found = load_link_step(table, &mut pass.seat, STACK_LIST, index, &operation);
-            let below = found as u32;
-            let upper = above as u64;
-            store_link_step(table, &mut pass.seat, STACK_LIST, index, upper, &operation);
-            if below == NULL {
-                return (pass, index);
-            }
-            above = index;
-            index = below;
         }
         unreachable!()
     }
@@ -181,41 +168,128 @@ impl<T> Stack<T> {
         by.seat.turn();
         value
     }
+}
 
-    // Hands the values of a chain to `f`, from its first node on.
-    fn walk<S, F: Fn(S, T) -> S + Drop>(
-        &self,
-        by: Pass<T>,
-        front: Front,
-        top: Tagged,
-        first: u32,
-        state: S,
-        f: F,
-    ) -> Walked<T, S>
-        requires ready { IsReady self.now front top by first }
-        requires call { F.IsAlwaysCallable f }
-        ensures { Walks self.now front top (λ s x t. F.post f s x t) by state result }
-    {
-        let mut pass = by;
-        let mut folded = state;
-        let mut index = first;
-        let table = &self.table.shared;
-        for before in 0..self.limits.capacity() {
-            let value = self.take_out(&mut pass, index);
-            folded = f(folded, value);
-            let operation = Operation::Fold(front);
-            let found = load_link_step(table, &mut pass.seat, STACK_LIST, index, &operation);
-            let next = found as u32;
-            if next == NULL {
-                return Walked {
-                    pass,
-                    state: folded,
-                    chain: Chain { first, last: index },
-                    count: before + 1,
-                };
+impl<T> Code<Stack<T>, T, Line<T>, Operation<T>, Stacked, FoldStop<T>, 2> for FoldAt<T> {
+    ghost use Rattle.treiber_stack.specs.Stack.{room_of, limit_of};
+    ghost use Rattle.treiber_stack.specs.Folding.{fold_operation, fold_line, fold_slots, fold_answer, fold_rest, front_of, gone, HasReadToFold, FoldTold};
+
+    ghost key = { λ c. c.table.shared.key };
+
+    ghost id = { λ c. c.table.shared.table_id };
+
+    ghost operation = { fold_operation };
+
+    ghost line = { fold_line };
+
+    ghost slots = { fold_slots };
+
+    ghost knows = { λ c at. HasReadToFold (room_of c) (limit_of c) at };
+
+    ghost answer = { fold_answer };
+
+    ghost rest = { fold_rest };
+
+    ghost told = { λ c at stop. FoldTold (room_of c) (limit_of c) (front_of at) (gone at) stop };
+
+    #[inline(always)]
+    fn access(&self, on: &Stack<T>) -> Access {
+        match self {
+            FoldAt::Load(_) => Access::LoadTop(STACK_LIST),
+            FoldAt::TakeAll(front, top) => Access::TakeAll(STACK_LIST, *top, *front),
+            FoldAt::LoadToTurn(_, _, index) => Access::LoadLink(STACK_LIST, *index),
+            FoldAt::TurnLink(_, above, index, _) => {
+                Access::StoreLink(STACK_LIST, *index, *above as u64)
             }
-            index = next;
+            FoldAt::LoadToFold(_, walk) => Access::LoadLink(STACK_LIST, walk.index),
+            FoldAt::GiveBack(_, chain, at) => on.give_access(*chain, at),
         }
-        unreachable!()
+    }
+
+    #[inline(always)]
+    fn next(
+        self,
+        on: &Stack<T>,
+        seat: &mut Seat<Option<T>, View<T, Line<T>>>,
+        outcome: Outcome,
+    ) -> Next<FoldAt<T>, FoldStop<T>> {
+        match self {
+            FoldAt::Load(front) => {
+                let top = Tagged::from_word(outcome.word);
+                match on.bars_take(top) {
+                    Some(why) => Next::Done(FoldStop::Refused(why)),
+                    None => Next::On(FoldAt::TakeAll(front, top)),
+                }
+            }
+            FoldAt::TakeAll(front, top) => {
+                if !outcome.won {
+                    return Next::Lost(FoldAt::Load(front));
+                }
+                let index = top.index();
+                let number = top.tag();
+                let taken = Snapshot::of(&*seat);
+                let batch = Batch {
+                    front,
+                    number,
+                    taken,
+                };
+                match front {
+                    Front::First => {
+                        let walk = Walk {
+                            first: index,
+                            index,
+                            count: 0,
+                            held: Snapshot::of(&*seat),
+                        };
+                        Next::On(FoldAt::LoadToFold(batch, walk))
+                    }
+                    Front::Last => Next::On(FoldAt::LoadToTurn(batch, NULL, index)),
+                }
+            }
+            FoldAt::LoadToTurn(batch, above, index) => {
+                Next::On(FoldAt::TurnLink(batch, above, index, outcome.word as u32))
+            }
+            FoldAt::TurnLink(batch, _, index, below) => {
+                if below == NULL {
+                    let walk = Walk {
+                        first: index,
+                        index,
+                        count: 0,
+                        held: Snapshot::of(&*seat),
+                    };
+                    return Next::On(FoldAt::LoadToFold(batch, walk));
+                }
+                Next::On(FoldAt::LoadToTurn(batch, index, below))
+            }
+            FoldAt::LoadToFold(batch, walk) => {
+                // The node's value is handed out, and its slot goes behind the others.
+                let value = move_out(&on.table.shared, seat, walk.index);
+                seat.turn();
+                let next = outcome.word as u32;
+                let Walk {
+                    first,
+                    index,
+                    count,
+                    held: _,
+                } = walk;
+                if next == NULL {
+                    let chain = Chain { first, last: index };
+                    let at = FoldAt::GiveBack(batch, chain, Give::Load);
+                    return Next::Done(FoldStop::Yields(value, at));
+                }
+                let walk = Walk {
+                    first,
+                    index: next,
+                    count: count + 1,
+                    held: Snapshot::of(&*seat),
+                };
+                Next::Done(FoldStop::Yields(value, FoldAt::LoadToFold(batch, walk)))
+            }
+            FoldAt::GiveBack(batch, chain, at) => match on.give_next(at, outcome) {
+                Next::On(at) => Next::On(FoldAt::GiveBack(batch, chain, at)),
+                Next::Lost(at) => Next::Lost(FoldAt::GiveBack(batch, chain, at)),
+                Next::Done(()) => Next::Done(FoldStop::Ended(batch)),
+            },
+        }
     }
 }

@@ -4,15 +4,12 @@ ghost use Rattle.stack_machine.specs.declared.lines.Giving.{Giving};
 ghost use Rattle.running.specs.Code.{IsAccess};
 ghost use Rattle.stack_table.specs.Lists.{lists};
 ghost use Rattle.stack_table.specs.Slots.{vacant};
-ghost use Rattle.treiber_stack.specs.Giving.{IsGiving, GaveBack, GaveTo, AreNodes, give_line};
+ghost use Rattle.treiber_stack.specs.Giving.{GaveTo, AreNodes, give_line};
 ghost use Rattle.treiber_stack.specs.Stack.{machine_of, room_of};
-ghost use Rattle.treiber_stack.specs.declared.giving.Give.TheVariants.{Load};
 
-use crate::stack::{Pass, Stack};
-use running::{Access, Next, Outcome, Pause, give_chain_step, load_top_step, store_link_step};
-use stack_table::Operation;
+use crate::stack::Stack;
+use running::{Access, Next, Outcome};
 use stack_table::layout::FREE_LIST;
-use std::sync::Wait;
 use tagged_index::Tagged;
 
 /// A chain of nodes held, each linked to the next: its first and its last.
@@ -79,46 +76,5 @@ impl<T> Stack<T> {
                 }
             }
         }
-    }
-
-    /// Gives a chain back, by a whole call.
-    #[inline]
-    pub(crate) fn give_back<R: Wait>(
-        &self,
-        rt: &R,
-        by: Pass<T>,
-        chain: Chain,
-        operation: &Operation<T>,
-    ) -> Pass<T>
-        requires { (giving : Giving T) × IsGiving self.now operation.now by giving chain Load }
-        ensures { GaveBack self.now operation.now by chain result }
-    {
-        let mut pass = by;
-        let mut pause = Pause::first();
-        let table = &self.table.shared;
-        for _ in rt.forever() {
-            let free = load_top_step(table, &mut pass.seat, FREE_LIST, operation);
-            let first = free.index() as u64;
-            store_link_step(
-                table,
-                &mut pass.seat,
-                FREE_LIST,
-                chain.last,
-                first,
-                operation,
-            );
-            if give_chain_step(
-                table,
-                &mut pass.seat,
-                FREE_LIST,
-                free,
-                chain.first,
-                operation,
-            ) {
-                return pass;
-            }
-            pause = pause.wait();
-        }
-        unreachable!()
     }
 }

@@ -13,6 +13,7 @@
 //! steps, and can then be gone on with.
 #![tactic(auto)]
 
+mod begun;
 mod bulk;
 mod closing;
 mod container;
@@ -22,9 +23,9 @@ mod folding;
 mod giving;
 mod making;
 mod naming;
-mod nodes;
 mod places;
 mod putting;
+mod range_steps;
 mod ranging;
 mod refusing;
 mod rest;

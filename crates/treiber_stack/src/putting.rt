@@ -3,7 +3,7 @@
 ghost use Rattle.std.specs.Prelude.{◌≡◌};
 ghost use Rattle.bounded_model.specs.Laws.{PutGives};
 ghost use Rattle.treiber_stack.specs.Stack.{IsPassOf, shape_of, pass_in, begun_of};
-ghost use Rattle.treiber_stack.specs.Putting.{IsPutting, PutStep, PutRan, put_of};
+ghost use Rattle.treiber_stack.specs.Putting.{IsPutting, PutStep, PutStands, PutRan, put_of};
 
 use crate::fast_path::fast_step;
 use crate::giving::{Chain, Give};
@@ -13,7 +13,7 @@ use atomic_table::Seat;
 use bounded_model::{PutRefused, Stepped, Word};
 use index_list::{move_out, put_in};
 use machine::View;
-use running::{Access, Code, Next, Outcome, any, single_step, to_the_end};
+use running::{Access, Code, Next, Outcome, any, aside, first_step, single_step, to_the_end};
 use stack_machine::Line;
 use stack_table::layout::{FREE_LIST, STACK_LIST};
 use stack_table::{Listed, Operation};
@@ -95,8 +95,24 @@ impl<T> Stack<T> {
     }
 
     /// A put's steps on its fast path, as long as nobody is faster.
-    #[inline]
+    #[inline(always)]
     pub(crate) fn put_on_fast_path(
+        &self,
+        by: Pass<T>,
+        value: T,
+        put: &Operation<T>,
+    ) -> (Pass<T>, Next<PutAt<T>, Answer<T>>)
+        requires named { put.now ≡ put_of value }
+        requires pass { IsPassOf self.now by }
+        ensures { PutRan self.now put.now by result.0 result.1 }
+    {
+        let (pass, at) = fast_step!(self.put_fast_node(by, value, put));
+        self.put_fast_top(pass, at, put)
+    }
+
+    // First those that take a node.
+    #[inline]
+    fn put_fast_node(
         &self,
         by: Pass<T>,
         value: T,
@@ -108,19 +124,33 @@ impl<T> Stack<T> {
     {
         let table = &self.table.shared;
         let (pass, value, free) = fast_step!(
-            any(table, self, by, PutAt::LoadFree(value), put),
+            first_step(table, self, by, PutAt::LoadFree(value), put),
             PutAt::Link(value, free) => value, free
         );
         let (pass, value, free, below) = fast_step!(
             any(table, self, pass, PutAt::Link(value, free), put),
             PutAt::Hold(value, free, below) => value, free, below
         );
-        let (pass, shown, index) = fast_step!(
-            any(table, self, pass, PutAt::Hold(value, free, below), put),
-            PutAt::Load(shown, index) => shown, index
-        );
+        any(table, self, pass, PutAt::Hold(value, free, below), put)
+    }
+
+    // Then those that put it onto the top.
+    #[inline]
+    fn put_fast_top(
+        &self,
+        by: Pass<T>,
+        has_node: PutAt<T>,
+        put: &Operation<T>,
+    ) -> (Pass<T>, Next<PutAt<T>, Answer<T>>)
+        requires stands { PutStands self.now put.now by has_node }
+        ensures { PutRan self.now put.now by result.0 result.1 }
+    {
+        let PutAt::Load(shown, index) = has_node else {
+            return (by, Next::On(has_node));
+        };
+        let table = &self.table.shared;
         let (pass, shown, index, top) = fast_step!(
-            any(table, self, pass, PutAt::Load(shown, index), put),
+            any(table, self, by, PutAt::Load(shown, index), put),
             PutAt::LinkTo(shown, index, top) => shown, index, top
         );
         let (pass, shown, index, top) = fast_step!(
@@ -149,6 +179,11 @@ impl<T> Code<Stack<T>, T, Line<T>, Operation<T>, Stacked, Answer<T>, 2> for PutA
     ghost knows = { λ c at. HasReadToPut (room_of c) (limit_of c) at };
 
     ghost answer = { λ _ r. ends (put_answer r) };
+
+    #[inline]
+    fn is_refusal(answer: &Answer<T>) -> bool {
+        answer.is_err()
+    }
 
     #[inline(always)]
     fn access(&self, on: &Stack<T>) -> Access {

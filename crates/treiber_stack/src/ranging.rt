@@ -1,33 +1,26 @@
 //! Putting a range of values by one compare-and-swap of the top. A node is taken for each value,
 //! from the front, until there is none for the next; each is linked to the one taken before it.
-ghost use Rattle.std.specs.Prelude.{◌≡◌, ◌<◌, List, [], ◌∷◌, map, length, Some, None, IsSome, MatchOption};
+ghost use Rattle.std.specs.Prelude.{◌≡◌, ◌<◌, List, [], ◌∷◌, map, Some, None, IsSome, MatchOption};
 ghost use Rattle.std.specs.List.{AllByRecursion as Every};
 ghost use Rattle.atomic_table.specs.Table.{rest};
 ghost use Rattle.bounded_model.specs.declared.views.PassView.{PassView};
 ghost use Rattle.bounded_model.specs.Bulk.{PutsRange};
 ghost use Rattle.machine.specs.Seats.{Looks};
-ghost use Rattle.treiber_stack.specs.Ranging.{NotPut, IsRange, IsNext, IsFilling, HasTaken, FillsOne, Fills, Collects, IsStopped, IsRefused, Restores, ReadsAgain, places_from};
+ghost use Rattle.treiber_stack.specs.Ranging.{IsRange, IsNext, HasTaken, FillsOne, IsOver, IsRefused, Restores, ReadsAgain, PutsOf, places_from};
 ghost use Rattle.treiber_stack.specs.Stack.{room_of, shape_of, call_of, IsPassOf, pass_in};
 ghost use Rattle.treiber_stack.specs.declared.refusing.Barred.{Barred};
 
-use crate::giving::Chain;
-use crate::nodes::NoNode;
+use crate::giving::{Chain, Give};
+use crate::range_steps::{Held, RangeAt, RangeEnd, RangeStop};
 use crate::stack::{Pass, Stack};
 use bounded_model::{RangeRefused, Ranged, Word};
 use index_list::put_in;
-use running::{load_top_step, peek, store_link_step};
+use running::{peek, store_link_step};
 use stack_table::layout::{STACK_LIST, link};
 use stack_table::{Listed, Operation};
 use std::snapshot::Snapshot;
 use std::sync::Wait;
 use tagged_index::{NULL, Tagged};
-
-/// The nodes of a range put, each with its value.
-#[derive(Clone, Copy)]
-pub(crate) struct Held {
-    pub(crate) chain: Chain,
-    pub(crate) count: u32,
-}
 
 // The put of these values, if there is one.
 fn name_of<T>(values: &[Option<T>]) -> Option<Operation<T>>
@@ -60,41 +53,22 @@ impl<T> Stack<T> {
         let Some(operation) = name_of(values) else {
             return (by, Err(RangeRefused::Nothing));
         };
-        let (pass, collected) = self.collect(rt, by, values, &operation);
-        let held = match collected {
-            Err(why) => return (pass, Err(why)),
-            Ok(held) => held,
-        };
-        let (pass, placed) = self.place(rt, pass, held.chain, &operation);
-        match placed {
-            Ok(number) => (
-                pass,
-                Ok(Ranged {
-                    number,
-                    count: held.count,
-                }),
-            ),
-            Err(why) => {
-                let pass = self.restore(pass, held, values);
-                let pass = self.give_back(rt, pass, held.chain, &operation);
-                (pass, Err(why.of_range()))
-            }
-        }
+        self.put_values(rt, by, values, &operation)
     }
 
-    // Takes a node for each value, from the front, and moves the values into their slots, until
-    // there is no node for the next one.
-    fn collect<R: Wait>(
+    // Takes a node for each value, from the front, until there is none for the next one, and puts
+    // those values.
+    fn put_values<R: Wait>(
         &self,
         rt: &R,
         by: Pass<T>,
         values: &mut [Option<T>],
         operation: &Operation<T>,
-    ) -> (Pass<T>, Result<Held, RangeRefused>)
+    ) -> (Pass<T>, Result<Ranged, RangeRefused>)
         requires pass { IsPassOf self.now by }
         requires values { (vs : List T) × (values.old ≡ map Some vs) × IsRange operation.now vs }
         ensures { (vs : List T) → values.old ≡ map Some vs → IsRange operation.now vs
-            → Collects self.now operation.now (pass_in by) vs values.new result.0 result.1 }
+            → PutsOf self.now (pass_in by) vs values.new result.0 result.1 }
     {
         let mut pass = by;
         let mut held = Held {
@@ -102,45 +76,63 @@ impl<T> Stack<T> {
             count: 0,
         };
         for at in 0..values.len() {
-            let (back, more) = self.collect_one(rt, pass, held, &mut values[at], operation);
-            pass = back;
-            match more {
-                Ok(more) => held = more,
-                Err(why) => {
-                    if held.count > 0 {
-                        return (pass, Ok(held));
-                    }
-                    let (pass, why) = self.refuse_range(pass, why, operation);
-                    return (pass, Err(why));
+            let (back, stop) = self.run_range(rt, pass, held, RangeAt::LoadFree, operation);
+            match stop {
+                RangeStop::Took(index) => {
+                    let (filled, more) = self.load_node(
+                        back,
+                        held,
+                        index,
+                        &mut values[at],
+                        operation,
+                    );
+                    pass = filled;
+                    held = more;
+                }
+                RangeStop::Over(end) => {
+                    return self.end_range(rt, back, held, end, values, operation);
                 }
             }
         }
-        (pass, Ok(held))
+        let (pass, stop) = self.run_range(rt, pass, held, RangeAt::Load, operation);
+        match stop {
+            RangeStop::Took(_) => unreachable!(),
+            RangeStop::Over(end) => self.end_range(rt, pass, held, end, values, operation),
+        }
     }
 
-    // Takes a node for the value of a place, which moves into its slot, and links the node to the
-    // one that was taken before it.
-    fn collect_one<R: Wait>(
+    // Says what a range that is over has put. Where nothing can be put onto the top, the values go
+    // back to their places, and the nodes to the free list.
+    fn end_range<R: Wait>(
         &self,
         rt: &R,
         by: Pass<T>,
         held: Held,
-        place: &mut Option<T>,
+        end: RangeEnd,
+        values: &mut [Option<T>],
         operation: &Operation<T>,
-    ) -> (Pass<T>, Result<Held, NoNode>)
-        requires { (vs : List T) × IsFilling self.now operation.now by vs held
-            × IsNext vs held.count place.old }
-        ensures { (vs : List T) → IsFilling self.now operation.now by vs held
-            → IsNext vs held.count place.old
-            → Fills self.now operation.now by vs held place.new result.0 result.1 }
+    ) -> (Pass<T>, Result<Ranged, RangeRefused>)
+        requires { (v : PassView T) × (vs : List T) × IsOver self.now operation.now v by vs held end
+            × IsRange operation.now vs × (values.old ≡ places_from held.count vs) }
+        ensures { (v : PassView T) (vs : List T) → IsOver self.now operation.now v by vs held end
+            → IsRange operation.now vs → values.old ≡ places_from held.count vs
+            → PutsOf self.now v vs values.new result.0 result.1 }
     {
-        let (pass, node) = self.take_free(rt, by, operation);
-        match node {
-            Ok(index) => {
-                let (pass, held) = self.load_node(pass, held, index, place, operation);
-                (pass, Ok(held))
+        match end {
+            RangeEnd::Put(number) => {
+                let count = held.count;
+                (by, Ok(Ranged { number, count }))
             }
-            Err(why) => (pass, Err(why)),
+            RangeEnd::Full => (by, Err(RangeRefused::Full)),
+            RangeEnd::Refused(why) => (by, Err(why.of_range())),
+            RangeEnd::Spent(tag) => (by, Err(RangeRefused::Spent(Word::Free, tag))),
+            RangeEnd::Barred(why) => {
+                let pass = self.restore(by, held, values);
+                let at = RangeAt::GiveBack(why, Give::Load);
+                let (pass, _) = self.run_range(rt, pass, held, at, operation);
+                (pass, Err(why.of_range()))
+            }
+            RangeEnd::GaveBack(_) => unreachable!(),
         }
     }
 
@@ -189,31 +181,6 @@ impl<T> Stack<T> {
         match place.take() {
             None => unreachable!(),
             Some(value) => put_in(&self.table.shared, &mut by.seat, index, value),
-        }
-    }
-
-    // Why a range is refused that has no node.
-    fn refuse_range(
-        &self,
-        by: Pass<T>,
-        why: NoNode,
-        operation: &Operation<T>,
-    ) -> (Pass<T>, RangeRefused)
-        requires { (v : PassView T) × (vs : List T) × IsStopped self.now operation.now v by vs why }
-        ensures { (v : PassView T) (vs : List T) → IsStopped self.now operation.now v by vs why
-            → IsPassOf self.now result.0
-            × NotPut (shape_of self.now) v (length vs) (pass_in result.0) result.1 }
-    {
-        let mut pass = by;
-        match why {
-            NoNode::Spent(tag) => (pass, RangeRefused::Spent(Word::Free, tag)),
-            NoNode::NoneFree => {
-                let top = load_top_step(&self.table.shared, &mut pass.seat, STACK_LIST, operation);
-                match self.bars_put(top) {
-                    Some(why) => (pass, why.of_range()),
-                    None => (pass, RangeRefused::Full),
-                }
-            }
         }
     }
 

@@ -1,6 +1,6 @@
-//! Why a top lets no pass put onto it, or take from under it.
+//! Why a top lets no pass put onto it, take from under it, or take a free node.
 ghost use Rattle.std.specs.Prelude.{◌≡◌, MatchOption};
-ghost use Rattle.treiber_stack.specs.Refusing.{AllowsPut, AllowsTake, RefusesPut, RefusesTake, barring, barring_range};
+ghost use Rattle.treiber_stack.specs.Refusing.{AllowsPut, AllowsTake, AllowsNode, RefusesPut, RefusesTake, RefusesNode, barring, barring_range};
 ghost use Rattle.treiber_stack.specs.Stack.{limit_of};
 
 use crate::stack::Stack;
@@ -12,6 +12,14 @@ use tagged_index::{NULL, Tagged};
 pub(crate) enum Barred {
     Closed,
     /// Its tag is at the limit.
+    Spent(u64),
+}
+
+/// Why no further node can be had.
+#[derive(Clone, Copy)]
+pub(crate) enum NoNode {
+    NoneFree,
+    /// The tag of the free nodes' top is at the limit.
     Spent(u64),
 }
 
@@ -51,6 +59,21 @@ impl<T> Stack<T> {
         }
         if top.tag() >= self.limits.tag_limit() {
             return Some(Barred::Spent(top.tag()));
+        }
+        None
+    }
+
+    /// Why a pass that has read this top of the free nodes gets no node.
+    #[inline]
+    pub(crate) fn bars_free(&self, free: Tagged) -> Option<NoNode>
+        ensures { MatchOption result (AllowsNode (limit_of self.now) free)
+            (RefusesNode (limit_of self.now) free) }
+    {
+        if free.index() == NULL {
+            return Some(NoNode::NoneFree);
+        }
+        if free.tag() >= self.limits.tag_limit() {
+            return Some(NoNode::Spent(free.tag()));
         }
         None
     }

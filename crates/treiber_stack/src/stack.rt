@@ -29,7 +29,7 @@ pub struct Stack<T> {
     pub(crate) ghost slots: { table.shared.table_id.slots ≡ capacity_of table.shared.key },
 }
 
-/// Steps on a stack. It has no bytes.
+/// Steps on a stack. It has four bytes, by which its calls know whether to wait.
 pub type Pass<T> = running::Pass<T, Line<T>>;
 
 /// Gives passes and takes them back.

@@ -3,7 +3,7 @@ ghost use Rattle.std.specs.Prelude.{◌≡◌};
 ghost use Rattle.bounded_model.specs.Laws.{TakeGives};
 ghost use Rattle.stack_table.specs.declared.operation.Operation.TheVariants.{Take as TakeFirst};
 ghost use Rattle.treiber_stack.specs.Stack.{IsPassOf, shape_of, pass_in, begun_of};
-ghost use Rattle.treiber_stack.specs.Taking.{IsTaking, TakeStep, TakeRan};
+ghost use Rattle.treiber_stack.specs.Taking.{IsTaking, TakeStep, TakeStands, TakeRan};
 
 use crate::fast_path::fast_step;
 use crate::giving::{Chain, Give};
@@ -13,7 +13,7 @@ use atomic_table::Seat;
 use bounded_model::{Stepped, TakeRefused};
 use index_list::move_out;
 use machine::View;
-use running::{Access, Code, Next, Outcome, any, single_step, to_the_end};
+use running::{Access, Code, Next, Outcome, any, aside, first_step, single_step, to_the_end};
 use stack_machine::Line;
 use stack_table::Operation;
 use stack_table::layout::STACK_LIST;
@@ -81,8 +81,23 @@ impl<T> Stack<T> {
     }
 
     /// A take's steps on its fast path, as long as nobody is faster.
-    #[inline]
+    #[inline(always)]
     pub(crate) fn take_on_fast_path(
+        &self,
+        by: Pass<T>,
+        take: &Operation<T>,
+    ) -> (Pass<T>, Next<TakeAt<T>, Answer<T>>)
+        requires named { take.now ≡ TakeFirst }
+        requires pass { IsPassOf self.now by }
+        ensures { TakeRan self.now take.now by result.0 result.1 }
+    {
+        let (pass, at) = fast_step!(self.take_fast_top(by, take));
+        self.take_fast_back(pass, at, take)
+    }
+
+    // First those that take the top node.
+    #[inline]
+    fn take_fast_top(
         &self,
         by: Pass<T>,
         take: &Operation<T>,
@@ -93,19 +108,34 @@ impl<T> Stack<T> {
     {
         let table = &self.table.shared;
         let (pass, top) = fast_step!(
-            any(table, self, by, TakeAt::Load, take),
+            first_step(table, self, by, TakeAt::Load, take),
             TakeAt::Link(top) => top
         );
         let (pass, top, below) = fast_step!(
             any(table, self, pass, TakeAt::Link(top), take),
             TakeAt::Exchange(top, below) => top, below
         );
+        any(table, self, pass, TakeAt::Exchange(top, below), take)
+    }
+
+    // Then those that give it back.
+    #[inline]
+    fn take_fast_back(
+        &self,
+        by: Pass<T>,
+        won: TakeAt<T>,
+        take: &Operation<T>,
+    ) -> (Pass<T>, Next<TakeAt<T>, Answer<T>>)
+        requires named { take.now ≡ TakeFirst }
+        requires stands { TakeStands self.now by won }
+        ensures { TakeRan self.now take.now by result.0 result.1 }
+    {
+        let TakeAt::GiveBack(taken, Give::Load) = won else {
+            return (by, Next::On(won));
+        };
+        let table = &self.table.shared;
         let (pass, taken, at) = fast_step!(
-            any(table, self, pass, TakeAt::Exchange(top, below), take),
-            TakeAt::GiveBack(taken, at) => taken, at
-        );
-        let (pass, taken, at) = fast_step!(
-            any(table, self, pass, TakeAt::GiveBack(taken, at), take),
+            any(table, self, by, TakeAt::GiveBack(taken, Give::Load), take),
             TakeAt::GiveBack(taken, at) => taken, at
         );
         let (pass, taken, at) = fast_step!(
@@ -136,6 +166,11 @@ impl<T> Code<Stack<T>, T, Line<T>, Operation<T>, Stacked, Answer<T>, 2> for Take
     ghost knows = { λ c at. HasReadToTake (room_of c) (limit_of c) at };
 
     ghost answer = { λ _ r. ends (AnswerTake r) };
+
+    #[inline]
+    fn is_refusal(answer: &Answer<T>) -> bool {
+        answer.is_err()
+    }
 
     #[inline(always)]
     fn access(&self, on: &Stack<T>) -> Access {

@@ -11,7 +11,7 @@ use crate::putting::{PutOp, put_operation};
 use crate::stack::{Pass, Stack};
 use crate::taking::TakeOp;
 use bounded_model::{PutRefused, Stepped, TakeRefused};
-use running::{Next, Pause, try_for};
+use running::{Next, at_once, try_for};
 use stack_table::Operation;
 
 impl<T> Stack<T> {
@@ -27,22 +27,14 @@ impl<T> Stack<T> {
         ensures { PutTried self.now value (pass_in by) result }
     {
         let operation = put_operation(&value);
-        let (pass, next) = self.put_on_fast_path(by, value, &operation);
-        match next {
-            Next::Done(answer) => Stepped::Done(pass, answer),
-            Next::On(at) => Stepped::Again(PutOp {
+        let first = self.put_on_fast_path(by, value, &operation);
+        match at_once(self, first, &operation) {
+            Stepped::Again((pass, at)) => Stepped::Again(PutOp {
                 pass,
                 operation,
                 at,
             }),
-            Next::Lost(at) => {
-                let _ = Pause::first().wait();
-                Stepped::Again(PutOp {
-                    pass,
-                    operation,
-                    at,
-                })
-            }
+            Stepped::Done(pass, answer) => Stepped::Done(pass, answer),
         }
     }
 
@@ -56,14 +48,10 @@ impl<T> Stack<T> {
         ensures { TakeTried self.now (pass_in by) result }
     {
         let take = Operation::Take;
-        let (pass, next) = self.take_on_fast_path(by, &take);
-        match next {
-            Next::Done(answer) => Stepped::Done(pass, answer),
-            Next::On(at) => Stepped::Again(TakeOp { pass, at }),
-            Next::Lost(at) => {
-                let _ = Pause::first().wait();
-                Stepped::Again(TakeOp { pass, at })
-            }
+        let first = self.take_on_fast_path(by, &take);
+        match at_once(self, first, &take) {
+            Stepped::Again((pass, at)) => Stepped::Again(TakeOp { pass, at }),
+            Stepped::Done(pass, answer) => Stepped::Done(pass, answer),
         }
     }
 }

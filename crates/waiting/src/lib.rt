@@ -18,6 +18,7 @@ mod stopped;
 mod take;
 
 pub use passes::{SplitRefused, join_all, split_many};
+pub use pause::wait_a_little;
 pub use put::{put_all, put_waiting, put_waiting_with};
 pub use shared::Shared;
 pub use stopped::{PutStopped, TakeStopped, Unsent};

@@ -6,9 +6,10 @@ use std::{hint, thread};
 /// thread's call does; a wait that only yields makes a small container a fifth to a third slower.
 const HINTS: u32 = 50;
 
-/// Lets the other threads go on.
+/// Lets the other threads go on between two tries: 50 hints of the processor, and then a yield. For
+/// calls that are tried again by hand. Called in `bench_work`.
 #[inline]
-pub(crate) fn wait_a_little() {
+pub fn wait_a_little() {
     for _ in 0..HINTS {
         hint::spin_loop();
     }

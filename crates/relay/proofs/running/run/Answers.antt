@@ -11,15 +11,15 @@ use Rattle.relay.proofs.running.run.Given as given
 use Rattle.relay.proofs.running.run.Goals as goal
 
 pub join_done-unsent-requires-clause-passes : goal.join_done-unsent-requires-clause-passes
-join_done-unsent-requires-clause-passes g c κs within = sent_passes (pool_of (g.C.Container.is_pass c.args.container) g.C.Container.pass (g.C.Container.shape c.args.container)) _ 0 c.args.inputs.items _ c.in_ok-sent.ensures.senders
+join_done-unsent-requires-clause-passes g c κs within = sent_passes (pool_of g.C.Container.is_pass g.C.Container.pass g.C.Container.shape c.args.container) _ 0 c.args.inputs.items _ c.in_ok-sent.ensures.senders
 
 pub join_done-unsent-requires-clause-room : goal.join_done-unsent-requires-clause-room
 join_done-unsent-requires-clause-room g c κs within =
-    let long = sent_long (pool_of (g.C.Container.is_pass c.args.container) g.C.Container.pass (g.C.Container.shape c.args.container)) _ 0 c.args.inputs.items _ c.in_ok-sent.ensures.senders in
+    let long = sent_long (pool_of g.C.Container.is_pass g.C.Container.pass g.C.Container.shape c.args.container) _ 0 c.args.inputs.items _ c.in_ok-sent.ensures.senders in
     fits_within (omega (arith, long, c.len.ensures, c.args.inputs.ok.0, c.in_ok-sent.field-0.sent.ok.0)) c.in-Ok.ensures.outcome.unsent
 
 pub join_done-lists-requires-clause-passes : goal.join_done-lists-requires-clause-passes
-join_done-lists-requires-clause-passes g c κs within = took_passes (pool_of (g.C.Container.is_pass c.args.container) g.C.Container.pass (g.C.Container.shape c.args.container)) _ 0 _ c.in_ok-sent.ensures.takers
+join_done-lists-requires-clause-passes g c κs within = took_passes (pool_of g.C.Container.is_pass g.C.Container.pass g.C.Container.shape c.args.container) _ 0 _ c.in_ok-sent.ensures.takers
 
 pub merge-delivered-requires-clause-some : goal.merge-delivered-requires-clause-some
 merge-delivered-requires-clause-some g c =
@@ -31,7 +31,7 @@ merge-delivered-requires-clause-some g c =
 pub merge-delivered-requires-clause-up : goal.merge-delivered-requires-clause-up
 merge-delivered-requires-clause-up g c =
     let C = g.C.Container in
-    let pool = pool_of (C.is_pass c.args.container) C.pass (C.shape c.args.container) in
+    let pool = pool_of C.is_pass C.pass C.shape c.args.container in
     let laws = g.met.C.Container g.world.𝓛 g.world.𝓜 g.world.𝓡 ((λ s x. x), (λ x. x), (λ x. x), λ x. x) in
     let did = c.in_ok-sent.ensures in
     let ended = c.in_ok-sent.field-0 in
@@ -44,7 +44,7 @@ merge-delivered-requires-clause-up g c =
 pub merge-delivered-requires-clause-room : goal.merge-delivered-requires-clause-room
 merge-delivered-requires-clause-room g c =
     let C = g.C.Container in
-    let pool = pool_of (C.is_pass c.args.container) C.pass (C.shape c.args.container) in
+    let pool = pool_of C.is_pass C.pass C.shape c.args.container in
     let laws = g.met.C.Container g.world.𝓛 g.world.𝓜 g.world.𝓡 ((λ s x. x), (λ x. x), (λ x. x), λ x. x) in
     let did = c.in_ok-sent.ensures in
     let ended = c.in_ok-sent.field-0 in
@@ -59,7 +59,7 @@ merge-delivered-requires-clause-room g c =
 pub drain-left-requires : goal.drain-left-requires
 drain-left-requires g c =
     let C = g.C.Container in
-    let pool = pool_of (C.is_pass c.args.container) C.pass (C.shape c.args.container) in
+    let pool = pool_of C.is_pass C.pass C.shape c.args.container in
     let laws = g.met.C.Container g.world.𝓛 g.world.𝓜 g.world.𝓡 ((λ s x. x), (λ x. x), (λ x. x), λ x. x) in
     let did = c.in_ok-sent.ensures in
     let ended = c.in_ok-sent.field-0 in
@@ -74,7 +74,7 @@ drain-left-requires g c =
 all : (g : given.Over) (c : goal.After-drain-left g) → Relays (g.C.Container.shape c.args.container) c.args.plan c.args.inputs.items (record { delivered = c.merge-delivered.result; left = c.drain-left.result; unsent = c.join_done-unsent.result })
 all g c =
     let C = g.C.Container in
-    let pool = pool_of (C.is_pass c.args.container) C.pass (C.shape c.args.container) in
+    let pool = pool_of C.is_pass C.pass C.shape c.args.container in
     let laws = g.met.C.Container g.world.𝓛 g.world.𝓜 g.world.𝓡 ((λ s x. x), (λ x. x), (λ x. x), λ x. x) in
     let did = c.in_ok-sent.ensures in
     let ended = c.in_ok-sent.field-0 in

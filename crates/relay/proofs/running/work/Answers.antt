@@ -14,7 +14,7 @@ run_workers-requires-clause-ready g c κs within =
     let C = g.C.Container in
     let container = c.args.site.now.container in
     let orders = c.args.site.now.orders in
-    let pool = pool_of (C.is_pass container) C.pass (C.shape container) in
+    let pool = pool_of C.is_pass C.pass C.shape container in
     let none = ap (λ (r : RootView Message). r.given) c.requires.fresh in
     let many = ap (λ (r : RootView Message). r.given) c.in-Some.ensures.given in
     let few : orders.producers < 2 ^ 63 = omega (arith, c.requires.producers, c.args.inputs.small, c.args.inputs.ok.1) in
@@ -37,7 +37,7 @@ returns-in-Some-run_workers-clause-senders g c =
     let C = g.C.Container in
     let container = c.args.site.now.container in
     let none = ap (λ (r : RootView Message). r.given) c.requires.fresh in
-    all_sent (pool_of (C.is_pass container) C.pass (C.shape container)) c.args.site.now.orders c.args.inputs.items c.in-Some.senders.items c.in-Some-run_workers.ended.sent.items
+    all_sent (pool_of C.is_pass C.pass C.shape container) c.args.site.now.orders c.args.inputs.items c.in-Some.senders.items c.in-Some-run_workers.ended.sent.items
     (subst (λ n. EachFrom (IsNewJob (C.is_pass container) C.pass n) 0 c.in-Some.senders.items) none c.in-Some.ensures.new) c.in-Some.ensures.lists c.in-Some-run_workers.ensures.sent
 
 pub returns-in-Some-run_workers-clause-takers : goal.returns-in-Some-run_workers-clause-takers
@@ -46,7 +46,7 @@ returns-in-Some-run_workers-clause-takers g c =
     let container = c.args.site.now.container in
     let none = ap (λ (r : RootView Message). r.given) c.requires.fresh in
     let many = ap (λ (r : RootView Message). r.given) c.in-Some.ensures.given in
-    each_took (pool_of (C.is_pass container) C.pass (C.shape container)) c.args.site.now.orders 0 c.in-Some-split_jobs.takers.items c.in-Some-run_workers.ended.took.items
+    each_took (pool_of C.is_pass C.pass C.shape container) c.args.site.now.orders 0 c.in-Some-split_jobs.takers.items c.in-Some-run_workers.ended.took.items
     (subst (λ n. EachFrom (IsNewJob (C.is_pass container) C.pass n) 0 c.in-Some-split_jobs.takers.items) (omega (arith, none, many, c.requires.producers)) c.in-Some-split_jobs.ensures.new) c.in-Some-run_workers.ensures.took
 
 pub returns-in-Some-run_workers-clause-consumers : goal.returns-in-Some-run_workers-clause-consumers

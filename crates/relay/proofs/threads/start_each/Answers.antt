@@ -1,5 +1,6 @@
 use Rattle.std.proofs.Common.{◌≡◌, ap, arith, ◌∙◌, sym, length}
 use Rattle.std.proofs.lemmas.List.Elements.{All-head, All-rest}
+use Rattle.relay.specs.Pools.{pool_of}
 use Rattle.relay.proofs.Zips.{So_none, So_more, So_all, is_nil}
 use Rattle.relay.proofs.threads.start_each.Goals as goal
 
@@ -16,7 +17,7 @@ loop-job-init g c =
 pub spawn_with-requires-clause-runs : goal.spawn_with-requires-clause-runs
 spawn_with-requires-clause-runs g c κs within =
     let steps = c.in-Some.ensures.steps in
-    All-head (g.J.Works.is_ready (g.C.Pool.view c.args.site.now.container) c.args.site.now.orders) c.in-Some.job _ (rw steps.0 at c.loop-job.invariant.ready)
+    All-head (g.J.Works.is_ready (pool_of g.C.Shared.is_pass g.C.Shared.pass g.C.Shared.shape c.args.site.now.container) c.args.site.now.orders) c.in-Some.job _ (rw steps.0 at c.loop-job.invariant.ready)
 
 pub spawn_with-requires-clause-keeps : goal.spawn_with-requires-clause-keeps
 spawn_with-requires-clause-keeps g c κs within = λ r d. rw (c.of.ensures, c.of-in-loop-job.ensures) d
@@ -30,7 +31,7 @@ loop-job-preserved g c =
     record {
       room = omega (arith, steps.1, pushed.len, pushed.capacity, c.loop-job.invariant.room);
       so = rw pushed.items (So_more _ _ c.in-Some.job _ _ c.in-Ok.child (rw steps.0 at c.loop-job.invariant.so) (made, at));
-      ready = All-rest (g.J.Works.is_ready (g.C.Pool.view c.args.site.now.container) c.args.site.now.orders) c.in-Some.job _ _ steps.0 c.loop-job.invariant.ready;
+      ready = All-rest (g.J.Works.is_ready (pool_of g.C.Shared.is_pass g.C.Shared.pass g.C.Shared.shape c.args.site.now.container) c.args.site.now.orders) c.in-Some.job _ _ steps.0 c.loop-job.invariant.ready;
     }
 
 pub returns : goal.returns

@@ -1,4 +1,5 @@
 use Rattle.std.proofs.Common.{sym, ◌∙◌, subst}
+use Rattle.relay.specs.Pools.{pool_of}
 use Rattle.relay.specs.Parts.{DidSend, DidTake}
 use Rattle.relay.specs.Rooms.{IsRoomFor}
 use Rattle.relay.proofs.Starting.{zip_long}
@@ -17,7 +18,8 @@ join_workers-requires-clause-took g c =
 
 pub returns : goal.returns
 returns g c =
-    let pool = g.C.Pool.view c.args.site.now.container in
+    let S = g.C.Shared in
+    let pool = pool_of S.is_pass S.pass S.shape c.args.site.now.container in
     let orders = c.args.site.now.orders in
     let did = c.join_workers.ensures in
     record {

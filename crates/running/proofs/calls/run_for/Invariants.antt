@@ -1,11 +1,14 @@
 use Rattle.std.proofs.Common.{◌≡◌}
+use Rattle.running.specs.Code.{Tells}
 use Rattle.running.specs.Passes.{begun_of}
 use Rattle.running.specs.Steps.{Stands}
+use Rattle.running.specs.declared.code.Next.TheVariants.{On}
 use Rattle.running.proofs.calls.run_for.Given as goal
 
 abbrev pub invariant-loop : goal.invariant-loop
 invariant-loop g l =
     let s = g.S.Code in
     let m = g.M.Machine.machine (s.key l.fn.on) in
-    Stands m s.operation s.line s.slots (s.knows l.fn.on) s.answer (s.id l.fn.on) l.pass l.at
+    Stands m s.operation s.line s.slots (s.knows l.fn.on) s.answer s.rest (s.id l.fn.on) l.pass l.at
     × (l.fn.operation ≡ s.operation l.at) × (begun_of m l.pass ≡ begun_of m l.fn.by)
+    × Tells (s.told l.fn.on) l.fn.under_way (On l.at)

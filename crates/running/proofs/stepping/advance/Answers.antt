@@ -17,8 +17,8 @@ next-next-requires-clause-came g c =
     tells m.core (s.line a.at) r.result (s.slots a.at) r.new.seat.me.1 made.found made.came (m.core.access (s.line a.at))
     (subst (λ had. FoundBy m.core (m.core.access (s.line a.at)) (s.line a.at) r.result had r.new.seat.me.1 made.found made.came) is.at.at.has made.is) told
 
-pub returns : goal.returns
-returns g c =
+pub returns-clause-gives : goal.returns-clause-gives
+returns-clause-gives g c =
     let s = g.S.Code in
     let a = c.args in
     let m = g.M.Machine.machine (s.key a.on.now) in
@@ -28,9 +28,9 @@ returns g c =
     let steps = subst (λ o. Found m o a.by.seat.me.0 r.new.seat.me.0 made.found made.came) c.requires.named made.steps in
     let found = subst (λ had. FoundBy m.core (m.core.access (s.line a.at)) (s.line a.at) r.result had r.new.seat.me.1 made.found made.came) is.at.at.has made.is in
     let seat = c.next-next.ensures.seat in
-    gave m s.operation s.line s.slots (s.knows a.on.now) s.answer (s.id a.on.now) a.by (record { seat = c.next-next.new.seat }) a.at is (seat.0 ∙ r.ensures.table)
+    gave m s.operation s.line s.slots (s.knows a.on.now) s.answer s.rest (s.id a.on.now) a.by (record a.by { seat = c.next-next.new.seat }) a.at is (seat.0 ∙ r.ensures.table)
     made.found made.came (subst (λ v. Found m (s.operation a.at) a.by.seat.me.0 v made.found made.came) (sym seat.1) steps)
     c.next-next.result
     (shows m.core (s.line a.at) r.result (s.slots a.at) r.new.seat.me.1 made.found made.came
-    (λ n zs. Leads g.M.Machine.names s.operation s.line s.slots (s.knows a.on.now) s.answer a.at (m.core.next (s.line a.at) n zs) c.next-next.new.seat.me.1 c.next-next.result)
+    (λ n zs. Leads g.M.Machine.names s.operation s.line s.slots (s.knows a.on.now) s.answer s.rest a.at (m.core.next (s.line a.at) n zs) c.next-next.new.seat.me.1 c.next-next.result)
     (m.core.access (s.line a.at)) found c.next-next.ensures.leads)

@@ -185,6 +185,26 @@ pub returns-in-TakeBare-clause-made : goal.returns-in-TakeBare-clause-made
 returns-in-TakeBare-clause-made g c =
     let is = known (g.M.Machine.machine c.args.table.now.key) g.M.ListMachine.lists c.requires.at _ _ c.in-TakeBare.is c.requires.access in let s = c.take_bare_step-won in stayed (g.M.Machine.machine c.args.table.now.key) g.M.ListMachine.lists c.requires.at s.new.seat.me _ _ _ _ is.0.2 (ap (λ (b : Bool). side b (change.Take c.in-TakeBare.next)) is.2) s.ensures.seat.1 s.ensures.won s.ensures.lost
 
+pub take_all_step-won-requires-clause-table : goal.take_all_step-won-requires-clause-table
+take_all_step-won-requires-clause-table g c =
+    let is = known (g.M.Machine.machine c.args.table.now.key) g.M.ListMachine.lists c.requires.at _ _ c.in-TakeAll.is c.requires.access in (c.requires.table, is.0.0, is.1)
+
+pub take_all_step-won-requires-clause-access : goal.take_all_step-won-requires-clause-access
+take_all_step-won-requires-clause-access g c =
+    at_step (g.M.Machine.machine c.args.table.now.key) g.M.ListMachine.lists c.requires.at _ _ (known (g.M.Machine.machine c.args.table.now.key) g.M.ListMachine.lists c.requires.at _ _ c.in-TakeAll.is c.requires.access).0.1
+
+pub take_all_step-won-requires-clause-carries : goal.take_all_step-won-requires-clause-carries
+take_all_step-won-requires-clause-carries g c =
+    let is = known (g.M.Machine.machine c.args.table.now.key) g.M.ListMachine.lists c.requires.at _ _ c.in-TakeAll.is c.requires.access in is.2
+
+pub take_all_step-won-requires-clause-word : goal.take_all_step-won-requires-clause-word
+take_all_step-won-requires-clause-word g c =
+    let is = known (g.M.Machine.machine c.args.table.now.key) g.M.ListMachine.lists c.requires.at _ _ c.in-TakeAll.is c.requires.access in is.3
+
+pub returns-in-TakeAll-clause-made : goal.returns-in-TakeAll-clause-made
+returns-in-TakeAll-clause-made g c =
+    let is = known (g.M.Machine.machine c.args.table.now.key) g.M.ListMachine.lists c.requires.at _ _ c.in-TakeAll.is c.requires.access in let s = c.take_all_step-won in brought (g.M.Machine.machine c.args.table.now.key) g.M.ListMachine.lists c.requires.at s.new.seat.me _ _ _ _ is.0.2 (ap (λ (b : Bool). side b (change.TakeAll c.in-TakeAll.front)) is.2) s.ensures.won s.ensures.lost
+
 pub give_one_step-won-requires-clause-table : goal.give_one_step-won-requires-clause-table
 give_one_step-won-requires-clause-table g c =
     let is = known (g.M.Machine.machine c.args.table.now.key) g.M.ListMachine.lists c.requires.at _ _ c.in-Give.is c.requires.access in (c.requires.table, is.0.0, is.1)

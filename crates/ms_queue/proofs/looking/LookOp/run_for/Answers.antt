@@ -7,10 +7,10 @@ try_for-requires-clause-ran g c = (c.args.self.pass, (record { at = c.requires.l
 
 pub returns-in-Again : goal.returns-in-Again
 returns-in-Again g c =
-    let e = c.in-Again.ensures c.args.self.pass (record { at = c.requires.line; knows = c.requires.read }, refl, refl) in
+    let e = c.in-Again.ensures.ran c.args.self.pass (record { at = c.requires.line; knows = c.requires.read }, refl, refl) in
     (record { line = e.0.at; read = e.0.knows }, e.2)
 
 pub returns-in-Done : goal.returns-in-Done
 returns-in-Done g c =
-    let e = c.in-Done.ensures c.args.self.pass (record { at = c.requires.line; knows = c.requires.read }, refl, refl) in
+    let e = c.in-Done.ensures.ran c.args.self.pass (record { at = c.requires.line; knows = c.requires.read }, refl, refl) in
     (e.0, look_gives c.args.queue.now c.in-Done.empty e.1)

@@ -9,10 +9,10 @@ try_for-requires-clause-ran g c = let is = c.requires.1 in (c.args.self.pass, (r
 
 pub returns-in-Again : goal.returns-in-Again
 returns-in-Again g c x is =
-    let e = c.in-Again.ensures c.args.self.pass (record { at = is.line; knows = is.read }, put_named c.args.self.operation (put_value c.args.self.at) is.named, refl) in
+    let e = c.in-Again.ensures.ran c.args.self.pass (record { at = is.line; knows = is.read }, put_named c.args.self.operation (put_value c.args.self.at) is.named, refl) in
     (record { of = is.of; named = ap call_of e.1; line = e.0.at; read = e.0.knows }, e.2)
 
 pub returns-in-Done : goal.returns-in-Done
 returns-in-Done g c x is =
-    let e = c.in-Done.ensures c.args.self.pass (record { at = is.line; knows = is.read }, put_named c.args.self.operation (put_value c.args.self.at) is.named, refl) in
+    let e = c.in-Done.ensures.ran c.args.self.pass (record { at = is.line; knows = is.read }, put_named c.args.self.operation (put_value c.args.self.at) is.named, refl) in
     (e.0, put_gives c.args.queue.now x c.args.self.operation is.of c.in-Done.answer e.1)

@@ -8,11 +8,11 @@ use Rattle.ms_queue.proofs.Closes.{close_gives}
 use Rattle.ms_queue.proofs.queue.Queue.close_whole.Goals as goal
 
 pub to_the_end-requires-clause-ran : goal.to_the_end-requires-clause-ran
-to_the_end-requires-clause-ran g c = (c.args.by, c.any-first.ensures)
+to_the_end-requires-clause-ran g c = (c.args.by, c.first_step-first.ensures.ran)
 
 pub returns : goal.returns
 returns g c =
     let q = c.args.self.now in
-    let e = c.to_the_end.ensures c.args.by c.any-first.ensures in
+    let e = c.to_the_end.ensures.stops c.args.by c.first_step-first.ensures.ran in
     let begun = begun_is (machine_of q) q.table.shared.table_id c.args.by c.requires in
     (e.0, subst (λ (v : PassView _). CloseGives (shape_of q) v (pass_in c.to_the_end.result.0) c.to_the_end.result.1) begun (close_gives q c.to_the_end.result.1 e.1))

@@ -8,21 +8,21 @@ use Rattle.ms_queue.proofs.Closes.{len_gives, len_within}
 use Rattle.ms_queue.proofs.queue.Queue.len.Goals as goal
 
 pub to_the_end-pass-requires-clause-ran : goal.to_the_end-pass-requires-clause-ran
-to_the_end-pass-requires-clause-ran g c = (c.args.by, c.any-first.ensures)
+to_the_end-pass-requires-clause-ran g c = (c.args.by, c.first_step-first.ensures.ran)
 
 pub overflow_cast-result : goal.overflow_cast-result
 overflow_cast-result g c =
     let q = c.args.self.now in
-    let e = c.to_the_end-pass.ensures c.args.by c.any-first.ensures in
+    let e = c.to_the_end-pass.ensures.stops c.args.by c.first_step-first.ensures.ran in
     let low = len_within q c.to_the_end-pass.result.1 e.1 in
     omega (arith, low, q.table.shared.key.capacity_in_range)
 
 pub returns-clause-of : goal.returns-clause-of
-returns-clause-of g c = (c.to_the_end-pass.ensures c.args.by c.any-first.ensures).0
+returns-clause-of g c = (c.to_the_end-pass.ensures.stops c.args.by c.first_step-first.ensures.ran).0
 
 pub returns-clause-gives : goal.returns-clause-gives
 returns-clause-gives g c =
     let q = c.args.self.now in
-    let e = c.to_the_end-pass.ensures c.args.by c.any-first.ensures in
+    let e = c.to_the_end-pass.ensures.stops c.args.by c.first_step-first.ensures.ran in
     let begun = begun_is (machine_of q) q.table.shared.table_id c.args.by c.requires in
     subst (λ (v : PassView _). LenGives (shape_of q) v (pass_in c.to_the_end-pass.result.0) c.to_the_end-pass.result.1) begun (len_gives q c.to_the_end-pass.result.1 e.1)

@@ -8,14 +8,14 @@ use Rattle.ms_queue.proofs.Closes.{look_gives}
 use Rattle.ms_queue.proofs.queue.Queue.look.Goals as goal
 
 pub to_the_end-requires-clause-ran : goal.to_the_end-requires-clause-ran
-to_the_end-requires-clause-ran g c = (c.args.by, c.any-first.ensures)
+to_the_end-requires-clause-ran g c = (c.args.by, c.first_step-first.ensures.ran)
 
 pub returns-clause-of : goal.returns-clause-of
-returns-clause-of g c = (c.to_the_end.ensures c.args.by c.any-first.ensures).0
+returns-clause-of g c = (c.to_the_end.ensures.stops c.args.by c.first_step-first.ensures.ran).0
 
 pub returns-clause-gives : goal.returns-clause-gives
 returns-clause-gives g c =
     let q = c.args.self.now in
-    let e = c.to_the_end.ensures c.args.by c.any-first.ensures in
+    let e = c.to_the_end.ensures.stops c.args.by c.first_step-first.ensures.ran in
     let begun = begun_is (machine_of q) q.table.shared.table_id c.args.by c.requires in
     subst (λ (v : PassView _). LookGives (shape_of q) v (pass_in c.to_the_end.result.0) c.to_the_end.result.1) begun (look_gives q c.to_the_end.result.1 e.1)

@@ -13,6 +13,6 @@ to_the_end-requires-clause-ran g c = (c.args.by, c.take_fast-first.ensures)
 pub returns : goal.returns
 returns g c =
     let q = c.args.self.now in
-    let e = c.to_the_end.ensures c.args.by c.take_fast-first.ensures in
+    let e = c.to_the_end.ensures.stops c.args.by c.take_fast-first.ensures in
     let begun = begun_is (machine_of q) q.table.shared.table_id c.args.by c.requires in
     (e.0, subst (λ (v : PassView _). TakeGives (shape_of q) v (pass_in c.to_the_end.result.0) c.to_the_end.result.1) begun (take_gives q c.to_the_end.result.1 e.1))

@@ -8,11 +8,11 @@ try_for-requires-clause-ran g c = let is = c.requires in (c.args.self.pass, (rec
 pub returns-in-Again : goal.returns-in-Again
 returns-in-Again g c =
     let is = c.requires in
-    let e = c.in-Again.ensures c.args.self.pass (record { at = is.line; knows = is.read }, refl, refl) in
+    let e = c.in-Again.ensures.ran c.args.self.pass (record { at = is.line; knows = is.read }, refl, refl) in
     (record { line = e.0.at; read = e.0.knows }, e.2)
 
 pub returns-in-Done : goal.returns-in-Done
 returns-in-Done g c =
     let is = c.requires in
-    let e = c.in-Done.ensures c.args.self.pass (record { at = is.line; knows = is.read }, refl, refl) in
+    let e = c.in-Done.ensures.ran c.args.self.pass (record { at = is.line; knows = is.read }, refl, refl) in
     (e.0, take_gives c.args.queue.now c.in-Done.answer e.1)

@@ -8,10 +8,10 @@ try_for-requires-clause-ran g c = (c.args.self.pass, (record { at = c.requires; 
 
 pub returns-in-Again : goal.returns-in-Again
 returns-in-Again g c =
-    let e = c.in-Again.ensures c.args.self.pass (record { at = c.requires; knows = tt }, refl, refl) in
+    let e = c.in-Again.ensures.ran c.args.self.pass (record { at = c.requires; knows = tt }, refl, refl) in
     (mark_stays c.args.stack.now Closed c.in-Again.at e.1 c.in-Again.pass e.0.at, e.2)
 
 pub returns-in-Done : goal.returns-in-Done
 returns-in-Done g c =
-    let e = c.in-Done.ensures c.args.self.pass (record { at = c.requires; knows = tt }, refl, refl) in
+    let e = c.in-Done.ensures.ran c.args.self.pass (record { at = c.requires; knows = tt }, refl, refl) in
     (e.0, mark_gives c.args.stack.now Closed c.in-Done.closed e.1)

@@ -20,14 +20,14 @@ pub returns-clause-of : goal.returns-clause-of
 returns-clause-of g c =
     let stack = c.args.self.now in
     let s = c.load_top_step-top in
-    let e = ends_so (machine_of stack) (started (machine_of stack) stack.table.shared.table_id First c.args.by c.requires) (record { seat = s.new.seat }) s.result [] s.ensures.steps s.ensures.seat.0 (ends (Answer (eqb c.index.result NULL))) (s.ensures.seat.1 ∙ c.requires.rests.slots) (ap (λ (i : ℕ). ends (Answer (eqb i NULL))) (sym c.index.ensures.field)) refl in
+    let e = ends_so (machine_of stack) (started (machine_of stack) stack.table.shared.table_id First c.args.by c.requires) (record c.args.by { seat = s.new.seat }) s.result [] s.ensures.steps s.ensures.seat.0 (ends (Answer (eqb c.index.result NULL))) (s.ensures.seat.1 ∙ c.requires.rests.slots) (ap (λ (i : ℕ). ends (Answer (eqb i NULL))) (sym c.index.ensures.field)) refl in
     e.0
 
 pub returns-clause-line : goal.returns-clause-line
 returns-clause-line g c =
     let stack = c.args.self.now in
     let s = c.load_top_step-top in
-    let e = ends_so (machine_of stack) (started (machine_of stack) stack.table.shared.table_id First c.args.by c.requires) (record { seat = s.new.seat }) s.result [] s.ensures.steps s.ensures.seat.0 (ends (Answer (eqb c.index.result NULL))) (s.ensures.seat.1 ∙ c.requires.rests.slots) (ap (λ (i : ℕ). ends (Answer (eqb i NULL))) (sym c.index.ensures.field)) refl in
+    let e = ends_so (machine_of stack) (started (machine_of stack) stack.table.shared.table_id First c.args.by c.requires) (record c.args.by { seat = s.new.seat }) s.result [] s.ensures.steps s.ensures.seat.0 (ends (Answer (eqb c.index.result NULL))) (s.ensures.seat.1 ∙ c.requires.rests.slots) (ap (λ (i : ℕ). ends (Answer (eqb i NULL))) (sym c.index.ensures.field)) refl in
     e.2
 
 pub returns-clause-gives : goal.returns-clause-gives
@@ -35,5 +35,5 @@ returns-clause-gives g c =
     let stack = c.args.self.now in
     let id = stack.table.shared.table_id in
     let s = c.load_top_step-top in
-    let e = ends_so (machine_of stack) (started (machine_of stack) id First c.args.by c.requires) (record { seat = s.new.seat }) s.result [] s.ensures.steps s.ensures.seat.0 (ends (Answer (eqb c.index.result NULL))) (s.ensures.seat.1 ∙ c.requires.rests.slots) (ap (λ (i : ℕ). ends (Answer (eqb i NULL))) (sym c.index.ensures.field)) refl in
-    subst (λ (b : PassView _). LookGives (shape_of stack) b (pass_in (record { seat = s.new.seat })) (eqb c.index.result NULL)) (begun_is (machine_of stack) id c.args.by c.requires) (look_gives stack (eqb c.index.result NULL) e.1)
+    let e = ends_so (machine_of stack) (started (machine_of stack) id First c.args.by c.requires) (record c.args.by { seat = s.new.seat }) s.result [] s.ensures.steps s.ensures.seat.0 (ends (Answer (eqb c.index.result NULL))) (s.ensures.seat.1 ∙ c.requires.rests.slots) (ap (λ (i : ℕ). ends (Answer (eqb i NULL))) (sym c.index.ensures.field)) refl in
+    subst (λ (b : PassView _). LookGives (shape_of stack) b (pass_in (record c.args.by { seat = s.new.seat })) (eqb c.index.result NULL)) (begun_is (machine_of stack) id c.args.by c.requires) (look_gives stack (eqb c.index.result NULL) e.1)

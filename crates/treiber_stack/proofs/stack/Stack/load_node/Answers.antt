@@ -33,7 +33,7 @@ overflow_add-count g c =
     let v = next_value vs c.args.held.count next.0 in
     let r = c.fill.new.by in
     let s = c.store_link_step in
-    let few = few_held c.args.self.now c.args.operation.now vs c.args.by c.args.held c.args.index c.requires.1 next.0 r c.fill.ensures.table (c.fill.ensures.filled v.0 (next.1 ∙ v.3)) c.if-held-eq0.false (record { seat = s.new.seat }) _ s.ensures.steps in
+    let few = few_held c.args.self.now c.args.operation.now vs c.args.by c.args.held c.args.index c.requires.1 next.0 r c.fill.ensures.table (c.fill.ensures.filled v.0 (next.1 ∙ v.3)) c.if-held-eq0.false (record r { seat = s.new.seat }) _ s.ensures.steps in
     let most = c.args.self.now.table.shared.key.capacity_in_range in
     omega arith
 
@@ -51,5 +51,5 @@ returns g c vs h next =
     let v = next_value vs c.args.held.count next.0 in
     let r = c.fill.new.by in
     let s = c.store_link_step in
-    let e = fills_more c.args.self.now c.args.operation.now vs c.args.by c.args.held c.args.index h next.0 r c.fill.ensures.table (c.fill.ensures.filled v.0 (next.1 ∙ v.3)) c.if-held-eq0.false (record { seat = s.new.seat }) _ s.ensures.steps s.ensures.seat.0 s.ensures.seat.1 in
+    let e = fills_more c.args.self.now c.args.operation.now vs c.args.by c.args.held c.args.index h next.0 r c.fill.ensures.table (c.fill.ensures.filled v.0 (next.1 ∙ v.3)) c.if-held-eq0.false (record r { seat = s.new.seat }) _ s.ensures.steps s.ensures.seat.0 s.ensures.seat.1 in
     (e.0, refl, e.1, c.fill.ensures.place)

@@ -11,7 +11,7 @@ returns g c =
     let stack = c.args.self.now in
     let back = c.to_the_end.result.0 in
     let answer = c.to_the_end.result.1 in
-    let e = c.to_the_end.ensures c.args.by c.put_on_fast_path-first.ensures in
+    let e = c.to_the_end.ensures.stops c.args.by c.put_on_fast_path-first.ensures in
     let gives = put_gives stack c.args.value c.put_operation-put.result c.put_operation-put.ensures answer e.1 in
     let begun = begun_is (machine_of stack) stack.table.shared.table_id c.args.by c.requires in
     (e.0, subst (λ (v : PassView _). PutGives (shape_of stack) v c.args.value (pass_in back) answer) begun gives)

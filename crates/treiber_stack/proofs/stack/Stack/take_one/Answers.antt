@@ -12,6 +12,6 @@ to_the_end-requires-clause-ran g c = (c.args.by, c.take_on_fast_path-first.ensur
 pub returns : goal.returns
 returns g c =
     let stack = c.args.self.now in
-    let e = c.to_the_end.ensures c.args.by c.take_on_fast_path-first.ensures in
+    let e = c.to_the_end.ensures.stops c.args.by c.take_on_fast_path-first.ensures in
     let begun = begun_is (machine_of stack) stack.table.shared.table_id c.args.by c.requires in
     (e.0, subst (λ (v : PassView _). TakeGives (shape_of stack) v (pass_in c.to_the_end.result.0) c.to_the_end.result.1) begun (take_gives stack c.to_the_end.result.1 e.1))

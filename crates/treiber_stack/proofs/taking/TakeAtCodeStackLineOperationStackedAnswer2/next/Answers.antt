@@ -1,4 +1,4 @@
-use Rattle.std.proofs.Common.{ℕ, refl, sym, subst}
+use Rattle.std.proofs.Common.{ℕ, sym, subst}
 use Rattle.std.specs.Prelude.{Ok, Err}
 use Rattle.running.specs.declared.code.Next.TheVariants.{On, Lost, Done}
 use Rattle.treiber_stack.specs.Refusing.{RefusesTake}
@@ -15,7 +15,7 @@ returns-in-Some-clause-leads g c =
     let stack = c.args.on.now in
     let refuses = subst (λ (w : ℕ). RefusesTake g.row.T.Denot (limit_of stack) w c.in-Some.why) c.from_word-top.ensures c.in-Some.ensures in
     subst (λ (s : TakeAt g.row.T.Denot). Leading stack s c.args.outcome c.args.seat.now.me.1 (Done (Err c.in-Some.why))) (sym c.in-Load.is)
-    (λ kept. record { is = refuses One; idle = refl; hand = kept })
+    (λ kept. record { is = refuses One; hand = kept })
 
 pub returns-in-On-clause-leads : goal.returns-in-On-clause-leads
 returns-in-On-clause-leads g c =

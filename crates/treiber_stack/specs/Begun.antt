@@ -1,0 +1,30 @@
+-- What an operation was at when some of its steps were begun.
+use Rattle.std.specs.Prelude.{List, [], Err}
+use Rattle.stack_machine.specs.Deeds.{handed_back}
+use Rattle.stack_machine.specs.declared.lines.Answer.{Answer}
+use Rattle.stack_machine.specs.declared.lines.Answer.TheVariants.{Put as AnswerPut}
+use Rattle.stack_machine.specs.declared.lines.Putting.{Putting}
+use Rattle.stack_machine.specs.declared.lines.Line.{Line}
+use Rattle.stack_machine.specs.declared.lines.Line.TheVariants.{LoadFree, LoadTop, LoadFreeToGive}
+use Rattle.running.specs.Rule.{line_in, line_now}
+use Rattle.stack_table.specs.Lines.{names}
+use Rattle.treiber_stack.specs.declared.begun.Begun.{Begun}
+
+module _ {T : Type 0} where
+  abbrev pub line_begun : Begun T → Line T
+  line_begun b = line_now names b.operation.value (line_in names b.pass.value.seat.me.0)
+
+  -- the values that an answer hands back
+  abbrev pub handed : Answer T → List T
+  handed (AnswerPut (Err why)) = handed_back why
+  handed a = []
+
+  -- the put that wanted a node, went to the top, or is refused
+  abbrev pub put_at : Line T → Putting T
+  put_at (LoadFree put) = put
+  put_at (LoadTop put) = put
+  put_at (LoadFreeToGive giving) = record { values = handed giving.answer; chain = giving.chain }
+  put_at l = record { values = []; chain = [] }
+
+  abbrev pub put_begun : Begun T → Putting T
+  put_begun b = put_at (line_begun b)

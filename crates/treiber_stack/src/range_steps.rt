@@ -1,0 +1,254 @@
+//! The steps of a range. It stops with each node that it takes, whose slot wants the next value;
+//! where it has put all values that have nodes; and where nothing can be put.
+ghost use Rattle.std.specs.Prelude.{◌≡◌};
+ghost use Rattle.stack_machine.specs.declared.lines.Putting.{Putting};
+ghost use Rattle.treiber_stack.specs.Begun.{put_at};
+ghost use Rattle.treiber_stack.specs.Ranging.{IsRangeAt, StopsSo, range_line};
+ghost use Rattle.treiber_stack.specs.Stack.{begun_of};
+
+use crate::begun::Begun;
+use crate::giving::{Chain, Give};
+use crate::refusing::{Barred, NoNode};
+use crate::rule::Stacked;
+use crate::stack::{Pass, Stack};
+use atomic_table::Seat;
+use machine::View;
+use running::{Access, Code, Next, Outcome, to_the_end};
+use stack_machine::Line;
+use stack_table::Operation;
+use stack_table::layout::{FREE_LIST, STACK_LIST};
+use std::sync::Wait;
+use tagged_index::Tagged;
+
+/// The nodes of a range, each with its value.
+#[derive(Clone, Copy)]
+pub(crate) struct Held {
+    pub(crate) chain: Chain,
+    pub(crate) count: u32,
+}
+
+/// The next step of a range, with what it has read.
+#[derive(Drop)]
+pub(crate) enum RangeAt {
+    /// Load `FREE`.
+    LoadFree,
+    /// Load the link of the free node.
+    Link(Tagged),
+    /// Compare-and-swap `FREE` for the next free node.
+    Hold(Tagged, u32),
+    /// Load `TOP`.
+    Load,
+    /// Link the last node held to the top one.
+    LinkTo(Tagged),
+    /// Compare-and-swap `TOP` for the first node held.
+    Exchange(Tagged),
+    /// No node is free, and none held: load `TOP`, to say why nothing can be put.
+    Refuse,
+    /// Nothing could be put, and the values are back in their places: give the nodes back.
+    GiveBack(Barred, Give),
+}
+
+/// A range under way.
+#[derive(Drop)]
+pub(crate) struct Range<T> {
+    pub(crate) begun: Begun<T>,
+    pub(crate) held: Held,
+    pub(crate) at: RangeAt,
+}
+
+/// What a range stops with.
+#[derive(Clone, Copy)]
+pub(crate) enum RangeStop {
+    /// A node, whose slot wants the next value.
+    Took(u32),
+    /// It is over.
+    Over(RangeEnd),
+}
+
+/// How a range ends.
+#[derive(Clone, Copy)]
+pub(crate) enum RangeEnd {
+    /// The values held were put, with this number.
+    Put(u64),
+    /// No node is free, and none held.
+    Full,
+    /// The same, and nothing can be put onto the top.
+    Refused(Barred),
+    /// No node can be had, and none is held: the tag of the free nodes' top is at the limit.
+    Spent(u64),
+    /// Nothing can be put onto the top: the nodes are held, with their values.
+    Barred(Barred),
+    /// The same, and the nodes were given back.
+    GaveBack(Barred),
+}
+
+/// A range that has stopped.
+#[derive(Drop)]
+pub(crate) struct RangeStopped<T> {
+    pub(crate) begun: Begun<T>,
+    pub(crate) stop: RangeStop,
+}
+
+impl<T> Stack<T> {
+    /// Makes a range's steps until it stops.
+    pub(crate) fn run_range<R: Wait>(
+        &self,
+        rt: &R,
+        by: Pass<T>,
+        held: Held,
+        at: RangeAt,
+        operation: &Operation<T>,
+    ) -> (Pass<T>, RangeStop)
+        requires { (put : Putting T) × IsRangeAt self.now operation.now by put held at
+            × (put_at (range_line put at) ≡ put) }
+        ensures { (put : Putting T) → IsRangeAt self.now operation.now by put held at
+            → put_at (range_line put at) ≡ put
+            → StopsSo self.now operation.now (begun_of self.now by) result.0 put held at result.1 }
+    {
+        let begun = Begun::of(operation, &by);
+        let first = (by, Next::On(Range { begun, held, at }));
+        let (pass, stopped) = to_the_end(rt, &self.table.shared, self, first, operation);
+        let RangeStopped { begun: _, stop } = stopped;
+        (pass, stop)
+    }
+}
+
+impl<T> Code<Stack<T>, T, Line<T>, Operation<T>, Stacked, RangeStopped<T>, 2> for Range<T> {
+    ghost use Rattle.treiber_stack.specs.Ranging.{at_operation, at_line, at_slots, AtKnows, stop_line, stop_hand, StopTold};
+
+    ghost key = { λ c. c.table.shared.key };
+
+    ghost id = { λ c. c.table.shared.table_id };
+
+    ghost operation = { at_operation };
+
+    ghost line = { at_line };
+
+    ghost slots = { at_slots };
+
+    ghost knows = { AtKnows };
+
+    ghost answer = { λ _ r. stop_line r };
+
+    ghost rest = { stop_hand };
+
+    ghost told = { StopTold };
+
+    #[inline(always)]
+    fn access(&self, on: &Stack<T>) -> Access {
+        match &self.at {
+            RangeAt::LoadFree => Access::LoadTop(FREE_LIST),
+            RangeAt::Link(free) => Access::LoadLink(FREE_LIST, free.index()),
+            RangeAt::Hold(free, below) => Access::Take(FREE_LIST, *free, *below),
+            RangeAt::Load => Access::LoadTop(STACK_LIST),
+            RangeAt::LinkTo(top) => {
+                Access::StoreLink(STACK_LIST, self.held.chain.last, top.index() as u64)
+            }
+            RangeAt::Exchange(top) => Access::GiveChain(STACK_LIST, *top, self.held.chain.first),
+            RangeAt::Refuse => Access::LoadTop(STACK_LIST),
+            RangeAt::GiveBack(_, at) => on.give_access(self.held.chain, at),
+        }
+    }
+
+    #[inline(always)]
+    fn next(
+        self,
+        on: &Stack<T>,
+        _seat: &mut Seat<Option<T>, View<T, Line<T>>>,
+        outcome: Outcome,
+    ) -> Next<Range<T>, RangeStopped<T>> {
+        let Range { begun, held, at } = self;
+        match at {
+            RangeAt::LoadFree => {
+                let free = Tagged::from_word(outcome.word);
+                match on.bars_free(free) {
+                    None => {
+                        let at = RangeAt::Link(free);
+                        Next::On(Range { begun, held, at })
+                    }
+                    Some(why) => {
+                        if held.count > 0 {
+                            let at = RangeAt::Load;
+                            return Next::On(Range { begun, held, at });
+                        }
+                        match why {
+                            NoNode::NoneFree => {
+                                let at = RangeAt::Refuse;
+                                Next::On(Range { begun, held, at })
+                            }
+                            NoNode::Spent(tag) => {
+                                let stop = RangeStop::Over(RangeEnd::Spent(tag));
+                                Next::Done(RangeStopped { begun, stop })
+                            }
+                        }
+                    }
+                }
+            }
+            RangeAt::Link(free) => {
+                let at = RangeAt::Hold(free, outcome.word as u32);
+                Next::On(Range { begun, held, at })
+            }
+            RangeAt::Hold(free, _) => {
+                if !outcome.won {
+                    let at = RangeAt::LoadFree;
+                    return Next::Lost(Range { begun, held, at });
+                }
+                let stop = RangeStop::Took(free.index());
+                Next::Done(RangeStopped { begun, stop })
+            }
+            RangeAt::Load => {
+                let top = Tagged::from_word(outcome.word);
+                match on.bars_put(top) {
+                    Some(why) => {
+                        let stop = RangeStop::Over(RangeEnd::Barred(why));
+                        Next::Done(RangeStopped { begun, stop })
+                    }
+                    None => {
+                        let at = RangeAt::LinkTo(top);
+                        Next::On(Range { begun, held, at })
+                    }
+                }
+            }
+            RangeAt::LinkTo(top) => {
+                let at = RangeAt::Exchange(top);
+                Next::On(Range { begun, held, at })
+            }
+            RangeAt::Exchange(top) => {
+                if outcome.won {
+                    // The put has had its effect.
+                    let stop = RangeStop::Over(RangeEnd::Put(top.tag()));
+                    return Next::Done(RangeStopped { begun, stop });
+                }
+                let at = RangeAt::Load;
+                Next::Lost(Range { begun, held, at })
+            }
+            RangeAt::Refuse => {
+                let top = Tagged::from_word(outcome.word);
+                match on.bars_put(top) {
+                    Some(why) => {
+                        let stop = RangeStop::Over(RangeEnd::Refused(why));
+                        Next::Done(RangeStopped { begun, stop })
+                    }
+                    None => {
+                        let stop = RangeStop::Over(RangeEnd::Full);
+                        Next::Done(RangeStopped { begun, stop })
+                    }
+                }
+            }
+            RangeAt::GiveBack(why, at) => match on.give_next(at, outcome) {
+                Next::On(at) => {
+                    let at = RangeAt::GiveBack(why, at);
+                    Next::On(Range { begun, held, at })
+                }
+                Next::Lost(at) => {
+                    let at = RangeAt::GiveBack(why, at);
+                    Next::Lost(Range { begun, held, at })
+                }
+                Next::Done(()) => {
+                    let stop = RangeStop::Over(RangeEnd::GaveBack(why));
+                    Next::Done(RangeStopped { begun, stop })
+                }
+            },
+        }
+    }
+}
