@@ -32,19 +32,20 @@ extern "C" {
 enum {
     LOCKFREE_OK = 0,
     LOCKFREE_FULL = 1,          /* put: each cell holds a value or is held by a call */
-    LOCKFREE_EMPTY = 2,         /* take: no value, and more may come. look: it was empty */
-    LOCKFREE_CLOSED = 3,        /* put: closed. take: no value, and none will come. close: it was closed before */
-    LOCKFREE_SHUT = 4,          /* take: shut. shut: it was shut before */
-    LOCKFREE_SPENT = 5,         /* put, take: a tag is at its limit of 2^42 - 1; number is the tag */
+    LOCKFREE_EMPTY = 2,         /* take, fold: no value, and more may come. look: it was empty */
+    LOCKFREE_CLOSED = 3,        /* put: closed. take, fold: no value, and none will come. close: it was closed before */
+    LOCKFREE_SHUT = 4,          /* take, fold: shut. shut: it was shut before */
+    LOCKFREE_SPENT = 5,         /* put, take, fold: a tag is at its limit of 2^42 - 1; number is the tag */
     LOCKFREE_BUSY = 6,          /* the tries are used up: go on with lockfree_go_on */
     LOCKFREE_UNDER_WAY = 7,     /* the pass has a call under way: lockfree_go_on first */
     LOCKFREE_NO_CALL = 8,       /* go_on: the pass has no call under way */
     LOCKFREE_NO_MEMORY = 9,
     LOCKFREE_NO_PASS = 10,      /* split: the root has given as many passes as it may, 65,535 */
     LOCKFREE_BAD_CAPACITY = 11, /* new: a capacity is 1 to 1,048,573 */
-    LOCKFREE_OTHER_HANDLE = 12, /* a root in the place of a pass, or the other way round */
+    LOCKFREE_OTHER_HANDLE = 12, /* a root in the place of a pass, or the other way round. fold: or a queue's pass */
     LOCKFREE_NO_HANDLE = 13,    /* the handle is empty: never made, or freed */
-    LOCKFREE_IN_USE = 14        /* the handle to be made is not empty */
+    LOCKFREE_IN_USE = 14,       /* the handle to be made is not empty */
+    LOCKFREE_VALUE = 15         /* fold: value is the next one, and the fold is under way: go on with lockfree_go_on */
 };
 
 typedef struct lockfree_handle {
@@ -52,8 +53,9 @@ typedef struct lockfree_handle {
     bool full;
 } lockfree_handle;
 
-/* value: of a take that is done. number: of a put or a take that is done, counted from 0 (puts and
- * takes of a queue each by themselves, those of a stack together); of one that is spent, the tag. */
+/* value: of a take that is done; the next one of a fold, and of a fold that is done how many there were.
+ * number: of a put, a take or a fold that is done, counted from 0 (puts and takes of a queue each by
+ * themselves, those of a stack together); of one that is spent, the tag. */
 typedef struct lockfree_answer {
     uint64_t value;
     uint64_t number;
@@ -68,7 +70,8 @@ uint32_t lockfree_stack_new(lockfree_handle *root, uint32_t capacity);
 uint32_t lockfree_split(lockfree_handle *root, lockfree_handle *pass);
 
 /* Gives up a root or a pass, and empties the handle. A call that is under way ends where it is: its
- * value is out of reach, and its cell stays held. OK, NO_HANDLE. */
+ * value is out of reach, and its cell stays held; of a fold, all that it has not handed out are, and the
+ * cells of all. OK, NO_HANDLE. */
 uint32_t lockfree_free(lockfree_handle *handle);
 
 /* The calls of a pass. Each makes its fast path, and where that does not end it at most so many steps
@@ -85,6 +88,14 @@ lockfree_answer lockfree_close(lockfree_handle *pass, uint64_t tries);
 lockfree_answer lockfree_shut(lockfree_handle *pass, uint64_t tries);
 lockfree_answer lockfree_look(lockfree_handle *pass, uint64_t tries);
 lockfree_answer lockfree_go_on(lockfree_handle *pass, uint64_t tries);
+
+/* A fold of all values of a stack: one compare-and-swap takes them all, so that what is put after it is
+ * not among them. It hands them out one after another, from the top down, or reversed, from the bottom
+ * up: each is an answer with the code VALUE, and lockfree_go_on goes on to the next, and at last to OK.
+ * Then their cells are free again; until then they are held, and the pass makes no other call. A fold
+ * that is reversed makes two steps more for each value, before the first.
+ * OK, VALUE, EMPTY, CLOSED, SHUT, SPENT, BUSY, UNDER_WAY, OTHER_HANDLE, NO_HANDLE. */
+lockfree_answer lockfree_fold(lockfree_handle *pass, bool reversed, uint64_t tries);
 
 /* Goes on until there is another answer than BUSY. */
 static inline lockfree_answer lockfree_until(lockfree_handle *pass, lockfree_answer answer)
@@ -125,6 +136,20 @@ static inline uint64_t lockfree_consume_all(lockfree_handle *pass, void (*use)(u
     while (lockfree_consume_one(pass, use, with) == LOCKFREE_OK)
         count++;
     return count;
+}
+
+/* Takes all values of a stack at once and hands them to `use`, which makes no call with this pass. OK, or
+ * why there were none; *count is how many. */
+static inline uint32_t lockfree_consume_all_atomic(lockfree_handle *pass, bool reversed,
+                                                   void (*use)(uint64_t value, void *with), void *with, uint64_t *count)
+{
+    lockfree_answer answer = lockfree_until(pass, lockfree_fold(pass, reversed, UINT64_MAX));
+    while (answer.code == LOCKFREE_VALUE) {
+        use(answer.value, with);
+        answer = lockfree_until(pass, lockfree_go_on(pass, UINT64_MAX));
+    }
+    *count = answer.code == LOCKFREE_OK ? answer.value : 0;
+    return answer.code;
 }
 
 #ifdef __cplusplus

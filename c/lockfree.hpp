@@ -15,6 +15,9 @@
 // capacity (1 to 1,048,573); so do split, push and pop std::bad_alloc where a thread's first pass or a
 // value's box finds no memory, and std::length_error where 65,535 passes are out. push and pop are false
 // after 2^42 calls and some, when a tag is at its limit.
+//
+// What a function that a stack's consume_all_atomic calls does with the same stack goes by another pass of its
+// thread. Where it throws, the values that it has not got are destroyed, and the exception goes on.
 #pragma once
 
 #include "lockfree.h"
@@ -143,10 +146,8 @@ template <class T, class U> bool pop_word(lockfree_handle &handle, void *shared,
     return true;
 }
 
-template <class T, class F> bool consume_word(lockfree_handle &handle, void *shared, F &&use) {
-    std::uint64_t word;
-    if (lockfree_pop(&handle, &word) != LOCKFREE_OK) return false;
-    gets(shared);
+// Hands the value that a word stands for to `use`, and ends its box.
+template <class T, class F> void use_word(std::uint64_t word, F &use) {
     if constexpr (goes_by_value<T>) {
         alignas(T) unsigned char bytes[sizeof(T)];
         std::memcpy(bytes, &word, sizeof bytes);
@@ -155,7 +156,47 @@ template <class T, class F> bool consume_word(lockfree_handle &handle, void *sha
         const std::unique_ptr<T> box(reinterpret_cast<T *>(word));
         use(*box);
     }
+}
+
+template <class T, class F> bool consume_word(lockfree_handle &handle, void *shared, F &&use) {
+    std::uint64_t word;
+    if (lockfree_pop(&handle, &word) != LOCKFREE_OK) return false;
+    gets(shared);
+    use_word<T>(word, use);
     return true;
+}
+
+// A fold of a stack, which goes to its end also where its values are not wanted any more.
+template <class T> class fold {
+public:
+    fold(lockfree_handle &pass, bool reversed)
+        : handle(pass), answer(lockfree_until(&pass, lockfree_fold(&pass, reversed, UINT64_MAX))) {}
+    fold(const fold &) = delete;
+    fold &operator=(const fold &) = delete;
+    ~fold() {
+        std::uint64_t word;
+        while (next(word)) drop_word<T>(word);
+    }
+
+    bool next(std::uint64_t &word) {
+        if (answer.code != LOCKFREE_VALUE) return false;
+        word = answer.value;
+        answer = lockfree_until(&handle, lockfree_go_on(&handle, UINT64_MAX));
+        return true;
+    }
+
+private:
+    lockfree_handle &handle;
+    lockfree_answer answer;
+};
+
+template <class T, class F> std::size_t fold_words(lockfree_handle &handle, bool reversed, void *shared, F &use) {
+    fold<T> values(handle, reversed);
+    std::uint64_t word;
+    std::size_t count = 0;
+    gets(shared);
+    for (; values.next(word); ++count) use_word<T>(word, use);
+    return count;
 }
 
 inline std::uint64_t next_number() {
@@ -219,17 +260,31 @@ private:
 class cache {
 public:
     owner &pass_of(const std::shared_ptr<core> &of) {
-        for (entry &known : entries)
-            if (known.number == of->number) return *known.pass;
+        if (entry *known = find(*of)) {
+            if (!known->pass) known->pass = of->take_pass();
+            return *known->pass;
+        }
         forget_ended();
         entries.reserve(entries.size() + 1);
         entries.push_back({of->number, of, of->take_pass()});
         return *entries.back().pass;
     }
 
+    // The thread has not this pass until it has it back, so it calls by another.
+    owner &lend(const std::shared_ptr<core> &of) {
+        owner &pass = pass_of(of);
+        find(*of)->pass = nullptr;
+        return pass;
+    }
+
+    void take_back(core &of, owner &pass) noexcept {
+        if (entry *known = find(of); known && !known->pass) known->pass = &pass;
+        else of.give_back(&pass);
+    }
+
     ~cache() {
         for (entry &known : entries)
-            if (const auto of = known.of.lock()) of->give_back(known.pass);
+            if (const auto of = known.of.lock(); of && known.pass) of->give_back(known.pass);
     }
 
 private:
@@ -239,6 +294,12 @@ private:
         owner *pass;
     };
     std::vector<entry> entries;
+
+    entry *find(const core &of) noexcept {
+        for (entry &known : entries)
+            if (known.number == of.number) return &known;
+        return nullptr;
+    }
 
     void forget_ended() {
         std::size_t kept = 0;
@@ -255,13 +316,31 @@ struct latest {
 };
 inline thread_local latest last{0, nullptr};
 
+inline cache &passes_of_thread() {
+    static thread_local cache all;
+    return all;
+}
+
 // Apart from the calls, which find their pass in `last` mostly.
 [[gnu::cold, gnu::noinline]] inline owner &look_up(const std::shared_ptr<core> &of) {
-    static thread_local cache all;
-    owner &pass = all.pass_of(of);
+    owner &pass = passes_of_thread().pass_of(of);
     last = {of->number, &pass};
     return pass;
 }
+
+// A pass of this thread for one fold. What the thread calls meanwhile goes by another.
+class lent {
+public:
+    explicit lent(const std::shared_ptr<core> &from) : of(from), pass(passes_of_thread().lend(from)) { last = {0, nullptr}; }
+    lent(const lent &) = delete;
+    lent &operator=(const lent &) = delete;
+    ~lent() { passes_of_thread().take_back(*of, pass); }
+    lockfree_handle &handle() { return pass.handle; }
+
+private:
+    const std::shared_ptr<core> of;
+    owner &pass;
+};
 
 template <class T, kind K, class... Options> class container {
     static constexpr std::size_t fixed = capacity_of<Options...>::value;
@@ -318,12 +397,14 @@ public:
     // Not Boost's: a pass that a thread keeps itself.
     pass split() { return pass(inner->split(), inner.get()); }
 
-private:
+protected:
     lockfree_handle &mine() {
         if (last.number == number) return last.pass->handle;
         return look_up(inner).handle;
     }
     std::shared_ptr<core> inner;
+
+private:
     const std::uint64_t number = inner->number;
 };
 
@@ -334,7 +415,22 @@ template <class T, class... Options> class queue : public detail::container<T, d
 };
 
 template <class T, class... Options> class stack : public detail::container<T, detail::kind::stack, Options...> {
-    using detail::container<T, detail::kind::stack, Options...>::container;
+    using base = detail::container<T, detail::kind::stack, Options...>;
+
+public:
+    using base::base;
+
+    // Takes all values at once, and hands them to `use` from the top down; answers how many.
+    template <class F> std::size_t consume_all_atomic(F &&use) { return fold(false, use); }
+
+    // The same, from the bottom up.
+    template <class F> std::size_t consume_all_atomic_reversed(F &&use) { return fold(true, use); }
+
+private:
+    template <class F> std::size_t fold(bool reversed, F &use) {
+        detail::lent pass(this->inner);
+        return detail::fold_words<T>(pass.handle(), reversed, this->inner.get(), use);
+    }
 };
 
 }  // namespace lockfree
