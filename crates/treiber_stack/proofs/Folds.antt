@@ -43,7 +43,7 @@ use Rattle.treiber_stack.specs.Folding.{nodes_of, folded_of, folding, front_of, 
 use Rattle.treiber_stack.specs.FoldOp.{IsFolding, FoldTried}
 use Rattle.treiber_stack.specs.Giving.{GaveTo}
 use Rattle.treiber_stack.specs.Refusing.{RefusesTake}
-use Rattle.treiber_stack.specs.Stack.{room_of, limit_of, machine_of, shape_of, pass_in, begun_of, IsPassOf, IsAt}
+use Rattle.treiber_stack.specs.Stack.{room_of, limit_of, machine_of, shape_of, begun_of, IsAt}
 use Rattle.treiber_stack.proofs.Closes.{adds_of}
 use Rattle.treiber_stack.proofs.Gives.{busy_giving, within, gave_within}
 

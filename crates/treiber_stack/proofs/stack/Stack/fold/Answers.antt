@@ -1,11 +1,9 @@
-use Rattle.std.proofs.Common.{◌≡◌, [], ◌∷◌, ◌++◌, length, refl, sym, ap, ◌∙◌, subst, arith}
+use Rattle.std.proofs.Common.{[], ◌∷◌, ◌++◌, length, refl, sym, ap, ◌∙◌, subst, arith}
 use Rattle.tagged_index.specs.Limits.{capacity_of}
 use Rattle.bounded_model.specs.declared.views.PassView.{PassView}
 use Rattle.bounded_model.specs.Laws.{TakesNothing, FoldGives}
 use Rattle.running.proofs.Ways.{started, begun_is}
 use Rattle.stack_table.specs.declared.operation.Operation.TheVariants.{Fold as FoldFirst}
-use Rattle.treiber_stack.specs.declared.fold_op.FoldOp.{FoldOp}
-use Rattle.treiber_stack.specs.Folding.{gone}
 use Rattle.treiber_stack.specs.Stack.{machine_of, shape_of, pass_in}
 use Rattle.treiber_stack.proofs.Folds.{Folds_more, folds_same, hands_on, all_gone, none_taken, gone_few}
 use Rattle.treiber_stack.proofs.stack.Stack.fold.Goals as goal
