@@ -10,4 +10,5 @@ pub mod Trying
 pub mod Naming
 pub mod Putting
 pub mod Folding
+pub mod FoldOp
 pub mod Ranging
