@@ -31,6 +31,16 @@ template <class Container> void one_thread(const char *name, Container &containe
     std::printf("%s: %d and %d consumed, empty %d\n", name, one, static_cast<int>(rest), container.empty());
 }
 
+// A stack's own: all values at once, from the top down or from the bottom up.
+template <class Stack> void all_at_once(const char *name, Stack &stack) {
+    const auto show = [&](order value) { std::printf("%s: at once %d\n", name, value.client); };
+    for (short i = 0; i < 3; ++i) stack.push(order{i, i});
+    const auto down = stack.consume_all_atomic(show);
+    for (short i = 0; i < 3; ++i) stack.push(order{i, i});
+    const auto up = stack.consume_all_atomic_reversed(show);
+    std::printf("%s: %d and %d consumed at once, empty %d\n", name, static_cast<int>(down), static_cast<int>(up), stack.empty());
+}
+
 template <class Container> void many_threads(const char *name, Container &container) {
     constexpr int sides = 4, each = 50000;
     std::atomic<long> taken{0}, sum{0};
@@ -57,6 +67,7 @@ int main() {
     containers::stack<order, containers::capacity<5>> held;
     one_thread("queue", orders);
     one_thread("stack", held);
+    all_at_once("stack", held);
     containers::queue<int, containers::capacity<128>> numbers;
     containers::stack<int, containers::fixed_sized<true>> pile(128);
     many_threads("queue", numbers);

@@ -176,6 +176,72 @@ static void consuming(make_new *make)
     lockfree_free(&pass), lockfree_free(&root);
 }
 
+struct handed {
+    uint64_t values[8];
+    uint64_t count;
+};
+
+static void keep(uint64_t value, void *at)
+{
+    struct handed *handed = at;
+    CHECK(handed->count < 8);
+    handed->values[handed->count++] = value;
+}
+
+/* A fold, one answer after another; a call in the middle of it changes nothing. */
+static void folding(bool reversed)
+{
+    lockfree_handle root = {0}, pass = {0}, other = {0};
+    CHECK(lockfree_fold(&pass, reversed, 1).code == LOCKFREE_NO_HANDLE);
+    CHECK(lockfree_stack_new(&root, 8) == LOCKFREE_OK && lockfree_split(&root, &pass) == LOCKFREE_OK && lockfree_split(&root, &other) == LOCKFREE_OK);
+    CHECK(lockfree_fold(&root, reversed, 1).code == LOCKFREE_OTHER_HANDLE && lockfree_fold(&pass, reversed, 9).code == LOCKFREE_EMPTY);
+    for (uint64_t i = 1; i <= 3; i++)
+        CHECK(lockfree_push(&pass, i) == LOCKFREE_OK);
+    lockfree_answer answer = lockfree_fold(&pass, reversed, 9);
+    for (uint64_t i = 1; i <= 3; i++) {
+        CHECK(answer.code == LOCKFREE_VALUE && answer.value == (reversed ? i : 4 - i));
+        CHECK(lockfree_take(&pass, 9).code == LOCKFREE_UNDER_WAY && lockfree_put(&pass, 9, 9).code == LOCKFREE_UNDER_WAY);
+        CHECK(lockfree_look(&pass, 9).code == LOCKFREE_UNDER_WAY && lockfree_fold(&pass, reversed, 9).code == LOCKFREE_UNDER_WAY);
+        CHECK(lockfree_split(&pass, &root) == LOCKFREE_IN_USE && lockfree_look(&other, 9).code == LOCKFREE_EMPTY);
+        answer = lockfree_go_on(&pass, 9);
+    }
+    CHECK(answer.code == LOCKFREE_OK && answer.number == 3 && answer.value == 3);
+    CHECK(lockfree_go_on(&pass, 9).code == LOCKFREE_NO_CALL && lockfree_fold(&pass, reversed, 9).code == LOCKFREE_EMPTY);
+    for (uint64_t i = 0; i < 8; i++) /* its cells are free again */
+        CHECK(lockfree_push(&other, i) == LOCKFREE_OK);
+    CHECK(lockfree_push(&other, 8) == LOCKFREE_FULL);
+    answer = lockfree_fold(&pass, reversed, 0);
+    CHECK(answer.code == (reversed ? LOCKFREE_BUSY : LOCKFREE_VALUE)); /* eight are not turned round so soon */
+    CHECK(reversed || answer.value == 7);
+    lockfree_answer next = lockfree_until(&pass, answer);
+    CHECK(next.code == LOCKFREE_VALUE && next.value == (reversed ? 0 : 7));
+    CHECK(lockfree_push(&other, 8) == LOCKFREE_FULL); /* while the fold holds them */
+    CHECK(lockfree_free(&pass) == LOCKFREE_OK && lockfree_push(&other, 8) == LOCKFREE_FULL);
+    lockfree_free(&other), lockfree_free(&root);
+}
+
+static void folds(void)
+{
+    lockfree_handle root = {0}, pass = {0}, of_queue = {0};
+    struct handed handed = {0};
+    uint64_t count = 7;
+    CHECK(lockfree_queue_new(&of_queue, 2) == LOCKFREE_OK && lockfree_split(&of_queue, &pass) == LOCKFREE_OK);
+    CHECK(lockfree_push(&pass, 5) == LOCKFREE_OK && lockfree_fold(&pass, false, 9).code == LOCKFREE_OTHER_HANDLE);
+    CHECK(lockfree_pop(&pass, &count) == LOCKFREE_OK && count == 5);
+    lockfree_free(&pass), lockfree_free(&of_queue);
+    CHECK(lockfree_stack_new(&root, 4) == LOCKFREE_OK && lockfree_split(&root, &pass) == LOCKFREE_OK);
+    CHECK(lockfree_consume_all_atomic(&pass, false, keep, &handed, &count) == LOCKFREE_EMPTY && count == 0 && handed.count == 0);
+    CHECK(lockfree_push(&pass, 1) == LOCKFREE_OK && lockfree_push(&pass, 2) == LOCKFREE_OK);
+    CHECK(lockfree_consume_all_atomic(&pass, false, keep, &handed, &count) == LOCKFREE_OK && count == 2);
+    CHECK(lockfree_push(&pass, 1) == LOCKFREE_OK && lockfree_push(&pass, 2) == LOCKFREE_OK);
+    CHECK(lockfree_close(&pass, 9).code == LOCKFREE_OK);
+    CHECK(lockfree_consume_all_atomic(&pass, true, keep, &handed, &count) == LOCKFREE_OK && count == 2 && handed.count == 4);
+    CHECK(handed.values[0] == 2 && handed.values[1] == 1 && handed.values[2] == 1 && handed.values[3] == 2);
+    CHECK(lockfree_fold(&pass, false, 9).code == LOCKFREE_CLOSED);
+    CHECK(lockfree_shut(&pass, 9).code == LOCKFREE_OK && lockfree_fold(&pass, true, 9).code == LOCKFREE_SHUT);
+    lockfree_free(&pass), lockfree_free(&root);
+}
+
 int main(void)
 {
     make_new *const makes[] = {lockfree_queue_new, lockfree_stack_new};
@@ -187,6 +253,9 @@ int main(void)
         many_threads(makes[i], 64, i == 0);
         many_threads(makes[i], 3, i == 0);
     }
+    folding(false);
+    folding(true);
+    folds();
     puts("passed");
     return 0;
 }

@@ -118,6 +118,73 @@ template <class Container> void refusals() {
     CHECK(container.close() && !container.close() && !container.push(1));
 }
 
+// Each value comes out once, and is destroyed once, also where the function throws.
+void folds_of_all_values() {
+    {
+        lockfree::stack<counted> stack(64);
+        std::vector<long> seen;
+        const auto note = [&](counted &value) { seen.push_back(*value.number); };
+        CHECK(stack.consume_all_atomic(note) == 0);
+        for (long i = 1; i <= 3; ++i) CHECK(stack.push(counted(i)));
+        CHECK(stack.consume_all_atomic(note) == 3 && seen == (std::vector<long>{3, 2, 1}) && stack.empty());
+        for (long i = 1; i <= 3; ++i) CHECK(stack.push(counted(i)));
+        seen.clear();
+        CHECK(stack.consume_all_atomic_reversed(note) == 3 && seen == (std::vector<long>{1, 2, 3}) && counted::alive == 0);
+        for (long i = 1; i <= 3; ++i) CHECK(stack.push(counted(i)));
+        bool thrown = false;
+        try {
+            stack.consume_all_atomic([](counted &value) {
+                if (*value.number == 2) throw std::runtime_error("two");
+            });
+        } catch (const std::runtime_error &) {
+            thrown = true;
+        }
+        CHECK(thrown && counted::alive == 0 && stack.empty());
+        for (long i = 0; i < 64; ++i) CHECK(stack.push(counted(i)));
+    }  // sixty-four are left, and end with it
+    CHECK(counted::alive == 0);
+}
+
+// What the function does with the stack is a call as any other.
+void folds_that_call_their_stack() {
+    lockfree::stack<int, lockfree::capacity<8>> stack;
+    for (int i = 0; i < 3; ++i) CHECK(stack.push(i));
+    for (int round = 0; round < 3; ++round)
+        CHECK(stack.consume_all_atomic([&](int value) { CHECK(stack.push(value)); }) == 3);
+    int inner = 0, out = 0;
+    CHECK(stack.consume_all_atomic_reversed([&](int value) {
+        CHECK(stack.push(value));
+        stack.consume_all_atomic([&](int) { ++inner; });
+    }) == 3);
+    CHECK(inner == 3 && stack.empty() && !stack.pop(out));
+}
+
+void folds_of_many_threads(bool reversed) {
+    {
+        lockfree::stack<counted> stack(64);
+        std::vector<std::atomic<int>> seen(sides * each);
+        std::atomic<long> taken{0};
+        std::vector<std::thread> threads;
+        for (int side = 0; side < sides; ++side) {
+            threads.emplace_back([&, side] {
+                for (long i = side * each; i < (side + 1) * each; ++i)
+                    while (!stack.push(counted(i))) std::this_thread::yield();
+            });
+            threads.emplace_back([&] {
+                const auto note = [&](counted &value) {
+                    CHECK(++seen[static_cast<std::size_t>(*value.number)] == 1);
+                    ++taken;
+                };
+                while (taken < sides * each)
+                    if (!(reversed ? stack.consume_all_atomic_reversed(note) : stack.consume_all_atomic(note))) std::this_thread::yield();
+            });
+        }
+        for (auto &thread : threads) thread.join();
+        CHECK(stack.empty() && taken == sides * each);
+    }
+    CHECK(counted::alive == 0);
+}
+
 template <template <class, class...> class Container> void all() {
     values_with_destructors<Container<counted>>();
     for (const bool own_passes : {false, true}) {
@@ -137,5 +204,8 @@ template <template <class, class...> class Container> void all() {
 int main() {
     all<lockfree::queue>();
     all<lockfree::stack>();
+    folds_of_all_values();
+    folds_that_call_their_stack();
+    for (const bool reversed : {false, true}) folds_of_many_threads(reversed);
     std::puts("passed");
 }

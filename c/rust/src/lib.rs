@@ -30,6 +30,8 @@ const CLOSED: u32 = 3;
 const BUSY: u32 = 6;
 const NO_PASS: u32 = 10;
 const BAD_CAPACITY: u32 = 11;
+const OTHER_HANDLE: u32 = 12;
+const VALUE: u32 = 15;
 
 extern "C" {
     fn lockfree_queue_new(root: *mut Handle, capacity: u32) -> u32;
@@ -40,6 +42,7 @@ extern "C" {
     fn lockfree_take(pass: *mut Handle, tries: u64) -> Answer;
     fn lockfree_close(pass: *mut Handle, tries: u64) -> Answer;
     fn lockfree_go_on(pass: *mut Handle, tries: u64) -> Answer;
+    fn lockfree_fold(pass: *mut Handle, reversed: bool, tries: u64) -> Answer;
 }
 
 impl Handle {
@@ -84,6 +87,16 @@ pub enum PopError {
     Closed,
     /// A tag is at its limit.
     Spent,
+}
+
+impl PopError {
+    fn of(code: u32) -> PopError {
+        match code {
+            EMPTY => PopError::Empty,
+            CLOSED => PopError::Closed,
+            _ => PopError::Spent,
+        }
+    }
 }
 
 /// Why there is no container, or no pass.
@@ -133,6 +146,33 @@ impl<T: Send> Root<T> {
     }
 }
 
+// A fold under way, which goes to its end also where its values are not wanted any more.
+struct Fold<'a, T> {
+    handle: &'a mut Handle,
+    answer: Answer,
+    values: PhantomData<fn(T) -> T>,
+}
+
+impl<T> Fold<'_, T> {
+    fn next(&mut self) -> Option<T> {
+        if self.answer.code != VALUE {
+            return None;
+        }
+        let at = self.answer.value as *mut T;
+        // SAFETY: as in `Handle::until`.
+        let answer = unsafe { lockfree_go_on(self.handle, u64::MAX) };
+        self.answer = self.handle.until(answer);
+        // SAFETY: each pointer that was put comes out at most once: that is proved.
+        Some(*unsafe { Box::from_raw(at) })
+    }
+}
+
+impl<T> Drop for Fold<'_, T> {
+    fn drop(&mut self) {
+        while self.next().is_some() {}
+    }
+}
+
 /// One thread's way to a container. It keeps the container's memory.
 pub struct Pass<T: Send> {
     handle: Handle,
@@ -166,9 +206,41 @@ impl<T: Send> Pass<T> {
         match answer.code {
             // SAFETY: each pointer that was put comes out at most once: that is proved.
             OK => Ok(*unsafe { Box::from_raw(answer.value as *mut T) }),
-            EMPTY => Err(PopError::Empty),
-            CLOSED => Err(PopError::Closed),
-            _ => Err(PopError::Spent),
+            code => Err(PopError::of(code)),
+        }
+    }
+
+    /// Takes all values of a stack at once, and hands them to `f` from the top down. Returns how many.
+    /// Where `f` panics, the values that it has not got are dropped.
+    ///
+    /// # Panics
+    ///
+    /// If the pass is a queue's.
+    pub fn consume_all_atomic(&mut self, f: impl FnMut(T)) -> Result<u64, PopError> {
+        self.fold(false, f)
+    }
+
+    /// The same, from the bottom up.
+    ///
+    /// # Panics
+    ///
+    /// If the pass is a queue's.
+    pub fn consume_all_atomic_reversed(&mut self, f: impl FnMut(T)) -> Result<u64, PopError> {
+        self.fold(true, f)
+    }
+
+    fn fold(&mut self, reversed: bool, mut f: impl FnMut(T)) -> Result<u64, PopError> {
+        // SAFETY: as in `Handle::until`.
+        let answer = unsafe { lockfree_fold(&mut self.handle, reversed, u64::MAX) };
+        let answer = self.handle.until(answer);
+        let mut fold = Fold { handle: &mut self.handle, answer, values: PhantomData };
+        while let Some(value) = fold.next() {
+            f(value);
+        }
+        assert!(fold.answer.code != OTHER_HANDLE, "only a stack's values are taken all at once");
+        match fold.answer.code {
+            OK => Ok(fold.answer.value),
+            code => Err(PopError::of(code)),
         }
     }
 

@@ -42,6 +42,46 @@ fn values_are_dropped_once() {
     assert_eq!(Arc::strong_count(&value), 1);
 }
 
+#[test]
+fn all_values_at_once() {
+    let stack = Stack::new(8).unwrap();
+    let mut pass = stack.pass().unwrap();
+    let mut seen = Vec::new();
+    assert_eq!(pass.consume_all_atomic(|value| seen.push(value)), Err(PopError::Empty));
+    for value in 1..=3 {
+        assert!(pass.push(value.to_string()).is_ok());
+    }
+    assert_eq!(pass.consume_all_atomic(|value| seen.push(value)), Ok(3));
+    for value in 4..=5 {
+        assert!(pass.push(value.to_string()).is_ok());
+    }
+    assert_eq!(pass.consume_all_atomic_reversed(|value| seen.push(value)), Ok(2));
+    assert_eq!(seen, ["3", "2", "1", "4", "5"]);
+    assert!(pass.close());
+    assert_eq!(pass.consume_all_atomic(|_| ()), Err(PopError::Closed));
+}
+
+#[test]
+fn a_fold_that_panics_drops_the_rest() {
+    let value = Arc::new(());
+    let stack = Stack::new(8).unwrap();
+    let mut pass = stack.pass().unwrap();
+    for _ in 0..5 {
+        assert!(pass.push(value.clone()).is_ok());
+    }
+    let fold = std::panic::AssertUnwindSafe(|| pass.consume_all_atomic(|_| panic!("on purpose")));
+    assert!(std::panic::catch_unwind(fold).is_err());
+    assert_eq!(Arc::strong_count(&value), 1);
+    assert_eq!(pass.push(value.clone()), Ok(6));
+}
+
+#[test]
+#[should_panic(expected = "only a stack's")]
+fn a_queue_is_not_folded() {
+    let queue = Queue::<u8>::new(2).unwrap();
+    let _ = queue.pass().unwrap().consume_all_atomic(|_| ());
+}
+
 fn many_threads(pass: impl Fn() -> Pass<Box<u64>> + Sync) {
     const EACH: u64 = 50_000;
     let (sum, count, pass) = (&AtomicU64::new(0), &AtomicU64::new(0), &pass);
