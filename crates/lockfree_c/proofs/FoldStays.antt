@@ -1,6 +1,6 @@
 -- A fold that was run leaves a fold that goes on, or a pass at rest.
 use Rattle.std.proofs.Common.{sym, subst}
-use Rattle.std.specs.Prelude.{◌≡◌, ℕ, List, [], ◌∷◌, ◌++◌, Option, Some, None, MatchOption}
+use Rattle.std.specs.Prelude.{◌≡◌, ℕ, List, [], ◌∷◌, ◌++◌, Some, MatchOption}
 use Rattle.bounded_model.specs.declared.views.PassView.{PassView}
 use Rattle.index_list.specs.declared.front.Front.{Front}
 use Rattle.running.specs.Passes.{pass_in}

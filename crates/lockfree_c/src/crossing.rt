@@ -1,7 +1,9 @@
 //! C may give a handle to another thread, also one with a call under way: the parts of what lies
 //! behind one may cross threads.
 
-use crate::held::{QueueOperation, QueuePass, QueueRoot, StackFold, StackOperation, StackPass, StackRoot};
+use crate::held::{
+    QueueOperation, QueuePass, QueueRoot, StackFold, StackOperation, StackPass, StackRoot,
+};
 use bounded_calls::Operation;
 
 // Asks that its type may cross threads, and does nothing.

@@ -18,7 +18,9 @@ ghost use Rattle.lockfree_c.specs.Slots.{
 };
 
 use crate::answers::{Answer, IN_USE, NO_HANDLE, OK};
-use crate::boxed::{boxed_queue, boxed_stack, call_by, fold_by, go_on_by, put_by, split_from, take_by};
+use crate::boxed::{
+    boxed_queue, boxed_stack, call_by, fold_by, go_on_by, put_by, split_from, take_by,
+};
 use crate::slot::Slot;
 use bounded_model::Command;
 use std::alloc::Global;

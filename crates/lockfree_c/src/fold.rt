@@ -55,11 +55,13 @@ fn left(stack: Arc<Stack<u64>, Global>, made: FoldMade<u64>) -> (Held, Answer)
     match made {
         FoldMade::Again(op) => (Held::StackFold(StackFold { stack, op }), Answer::of(BUSY)),
         FoldMade::Value(value, op) => {
-            (Held::StackFold(StackFold { stack, op }), Answer::of_value(value))
+            let fold = StackFold { stack, op };
+            (Held::StackFold(fold), Answer::of_value(value))
         }
         FoldMade::Done(by, said) => {
             let stage = Stage::of(by);
-            (Held::StackPass(StackPass { stack, stage }), Answer::of_fold(said))
+            let pass = StackPass { stack, stage };
+            (Held::StackPass(pass), Answer::of_fold(said))
         }
     }
 }
@@ -79,8 +81,12 @@ impl StackPass {
                 StackFold { stack, op }.go_on(tries)
             }
             None => {
-                let stage = Stage { resting: None, under_way };
-                (Held::StackPass(StackPass { stack, stage }), Answer::of(UNDER_WAY))
+                let stage = Stage {
+                    resting: None,
+                    under_way,
+                };
+                let pass = StackPass { stack, stage };
+                (Held::StackPass(pass), Answer::of(UNDER_WAY))
             }
         }
     }
