@@ -52,10 +52,10 @@ impl<T> Stack<T> {
 }
 
 impl<T> RangeOp<T> {
-    /// Goes on, with the places as it left them: for at most so many steps for each node that it
-    /// takes, as many to put them onto the top, and as many to give them back, with a wait after
-    /// each compare-and-swap that failed. Returns what `put_range` does, which leaves the places
-    /// likewise; or the range is still under way.
+    /// Goes on, with the places as it left them: for at most so many steps to take each node, as
+    /// many to put them onto the top, and as many to give them back, with a wait after each
+    /// compare-and-swap that failed. A node that is linked, or whose value goes back, is a step
+    /// more. Where that ends the range, it returns what `put_range` does, and leaves the places so.
     pub fn run_for(
         self,
         stack: &Stack<T>,
