@@ -11,3 +11,4 @@ pub mod Naming
 pub mod Putting
 pub mod Folding
 pub mod Ranging
+pub mod RangeTrying
