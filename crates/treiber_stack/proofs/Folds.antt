@@ -1,7 +1,8 @@
 -- What a fold gives, and where its first steps and its last lead.
-use Rattle.std.proofs.Common.{◌≡◌, ℕ, ◌≤◌, Bool, false, List, [], ◌∷◌, ◌++◌, length, refl, sym, ap, ◌∙◌, subst, length-append, arith}
-use Rattle.std.specs.Prelude.{Option as Slot, Ok, Err}
+use Rattle.std.proofs.Common.{◌≡◌, ℕ, ◌+◌, ◌≤◌, Bool, false, List, [], ◌∷◌, ◌++◌, length, refl, sym, ap, ◌∙◌, subst, length-append, arith}
+use Rattle.std.specs.Prelude.{take, Option as Slot, Ok, Err}
 use Rattle.bounded_model.specs.declared.answers.TakeRefused.{TakeRefused}
+use Rattle.bounded_model.specs.declared.answers.TakeRefused.TheVariants.{Shut}
 use Rattle.bounded_model.specs.declared.history.Event.TheVariants.{TakeAll as TakeAllEvent, Free}
 use Rattle.bounded_model.specs.declared.views.PassView.{PassView}
 use Rattle.bounded_model.specs.Histories.{own}
@@ -15,10 +16,12 @@ use Rattle.stack_machine.specs.declared.lines.Call.TheVariants.{Take as CallTake
 use Rattle.stack_machine.specs.declared.lines.Taking.TheVariants.{Whole}
 use Rattle.stack_machine.specs.declared.lines.Line.{Line}
 use Rattle.stack_machine.specs.Machine.{ends, is_idle}
-use Rattle.stack_machine.specs.Deeds.{in_order}
 use Rattle.stack_machine.proofs.Made.{made_no_fold}
+use Rattle.stack_table.specs.declared.operation.Operation.{Operation}
 use Rattle.stack_table.specs.declared.operation.Operation.TheVariants.{Fold as FoldFirst}
 use Rattle.stack_table.specs.Lines.{direction, names, next}
+use Rattle.stack_table.specs.Slots.{full}
+use Rattle.stack_table.proofs.Slots.{length_in_order, values_full}
 use Rattle.running.specs.Code.{Finding, Leads}
 use Rattle.running.specs.Going.{Ended}
 use Rattle.running.specs.Steps.{Stops, StopsAt}
@@ -27,6 +30,8 @@ use Rattle.running.specs.declared.access.Outcome.{Outcome}
 use Rattle.running.specs.declared.code.Next.{Next}
 use Rattle.running.specs.declared.code.Next.TheVariants.{Done}
 use Rattle.treiber_stack.specs.declared.stack.Stack.{Stack}
+use Rattle.treiber_stack.specs.declared.fold_op.FoldOp.{FoldOp}
+use Rattle.treiber_stack.specs.declared.fold_op.FoldMade.TheVariants.{Value, Done as Done'}
 use Rattle.treiber_stack.specs.declared.folding.Batch.{Batch}
 use Rattle.treiber_stack.specs.declared.folding.FoldAt.{FoldAt}
 use Rattle.treiber_stack.specs.declared.folding.FoldAt.TheVariants.{Load, TakeAll, LoadToTurn, TurnLink, LoadToFold, GiveBack}
@@ -34,10 +39,11 @@ use Rattle.treiber_stack.specs.declared.folding.FoldStop.{FoldStop}
 use Rattle.treiber_stack.specs.declared.folding.FoldStop.TheVariants.{Yields, Ended as AllGone, Refused}
 use Rattle.treiber_stack.specs.declared.giving.Chain.{Chain}
 use Rattle.treiber_stack.specs.declared.giving.Give.{Give}
-use Rattle.treiber_stack.specs.Folding.{nodes_of, folded_of, folding, front_of, gone, fold_operation, fold_line, fold_slots, fold_answer, fold_rest, HasReadToFold}
+use Rattle.treiber_stack.specs.Folding.{nodes_of, folded_of, folding, front_of, gone, fold_operation, fold_line, fold_slots, fold_answer, fold_rest, HasReadToFold, FoldTold}
+use Rattle.treiber_stack.specs.FoldOp.{IsFolding, FoldTried}
 use Rattle.treiber_stack.specs.Giving.{GaveTo}
 use Rattle.treiber_stack.specs.Refusing.{RefusesTake}
-use Rattle.treiber_stack.specs.Stack.{room_of, limit_of, machine_of, shape_of, pass_in, begun_of, IsPassOf, IsAt}
+use Rattle.treiber_stack.specs.Stack.{room_of, limit_of, machine_of, shape_of, begun_of, IsAt}
 use Rattle.treiber_stack.proofs.Closes.{adds_of}
 use Rattle.treiber_stack.proofs.Gives.{busy_giving, within, gave_within}
 
@@ -49,25 +55,23 @@ Folds_more Gives s (y ∷ ys) r t x folds next = (folds.0, folds.1, Folds_more G
 pub folds_same : {T S : Type 0} (Gives : S → T → S → Type 0) (s : S) (xs ys : List T) (r : S) → xs ≡ ys → Folds Gives s xs r → Folds Gives s ys r
 folds_same Gives s xs ys r e folds = subst (λ (zs : List _). Folds Gives s zs r) e folds
 
--- what a fold has done, by its answer
-pub record Folded {T : Type 0} (front : Front) (begun now : PassView T) (folded : List T) (t : ℕ) : Type 0 where
-  pub values : List T
-  pub gives : FoldGives begun now values t
-  pub order : folded ≡ in_order (direction front) values
-
 module _ {T : Type 0} (c : Stack T) (front : Front) {v : View T (Line T)} {begun : PassView T} where
-  pub fold_gives : (folded : List T) (t : ℕ) → Ended (machine_of c) (FoldFirst front) v begun (ends (AnswerFold (Ok (folded, t)))) → Folded front begun (pass_of v) folded t
+  pub fold_gives : (folded : List T) (t : ℕ) (e : Ended (machine_of c) (FoldFirst front) v begun (ends (AnswerFold (Ok (folded, t))))) → FoldGives begun (pass_of v) e.deeds.made.values t
   fold_gives folded t e =
       let made = e.deeds.made in
       let vs = made.values in
-      record {
-        values = vs;
-        gives = adds_of c e (Free begun.number (length vs) ∷ TakeAllEvent begun.number vs t ∷ []) (made.is ∙ ap (λ (k : ℕ). Free k (length vs) ∷ TakeAllEvent k vs t ∷ []) e.number);
-        order = made.order;
-      }
+      adds_of c e (Free begun.number (length vs) ∷ TakeAllEvent begun.number vs t ∷ []) (made.is ∙ ap (λ (k : ℕ). Free k (length vs) ∷ TakeAllEvent k vs t ∷ []) e.number)
 
   pub takes_nothing : (why : TakeRefused) → Ended (machine_of c) (FoldFirst front) v begun (ends (AnswerFold (Err why))) → TakesNothing (shape_of c) begun (pass_of v) why
   takes_nothing why e = (adds_of c e [] (made_no_fold (pass_of v).number (own (pass_of v).number e.deeds.between) (CallTake (Whole (direction front))) why e.deeds.made), e.tells)
+
+-- the operation of a fold says which end it goes from
+pub front_same : {T : Type 0} (f g : Front) → ◌≡◌ {A = Operation T} (FoldFirst f) (FoldFirst g) → f ≡ g
+front_same {T} f g e = ap (front_in f) e
+  where
+    front_in : Front → Operation T → Front
+    front_in d (FoldFirst h) = h
+    front_in d o = d
 
 -- a fold that hands out a value has not answered yet
 pub fold_busy : {T : Type 0} (at : FoldAt T) → is_idle (fold_line at) ≡ false
@@ -100,18 +104,48 @@ module _ {T : Type 0} (c : Stack T) where
   abbrev pub FoldStops : Front → PassView T → Pass T (Line T) → FoldStop T → Type 0
   FoldStops front begun q stop = Stops (machine_of c) fold_operation fold_line fold_slots (λ k. HasReadToFold (room_of c) (limit_of c) k) fold_answer fold_rest c.table.shared.table_id (FoldFirst front) begun q stop
 
-  module _ (front : Front) (begun : PassView T) (q : Pass T (Line T)) (stop : FoldStop T) (stops : FoldStops front begun q stop) where
-    -- a fold that has handed out a value goes on
-    pub hands_on : (v : T) (at : FoldAt T) → stop ≡ Yields v at → front_of at ≡ front → IsAt c (fold_operation at) q (fold_line at) (fold_slots at) × (begun_of c q ≡ begun)
-    hands_on v at is same =
-        let r = subst (λ (b : Bool). StopsAt (machine_of c) fold_operation fold_line fold_slots (λ k. HasReadToFold (room_of c) (limit_of c) k) fold_answer fold_rest c.table.shared.table_id b (FoldFirst front) begun q (Yields v at)) (fold_busy at) (subst (FoldStops front begun q) is stops) in
-        (subst (λ (f : Front). IsAt c (FoldFirst f) q (fold_line at) (fold_slots at)) (sym same) r.0, r.1)
+  -- what a fold gives that was at `op` and has stopped
+  module _ (front : Front) (values : List T) (op : FoldOp T) (is : IsFolding c front values op) (q : Pass T (Line T)) (stop : FoldStop T) (stops : FoldStops front (begun_of c op.pass) q stop)
+      (told : FoldTold (room_of c) (limit_of c) (front_of op.at) (gone op.at) stop) where
+    pub hands_on : (v : T) (at : FoldAt T) → stop ≡ Yields v at → FoldTried c front values (begun_of c op.pass) (Value v (record { pass = q; at = at; count = op.count + 1 }))
+    hands_on v at e =
+        let t = subst (FoldTold (room_of c) (limit_of c) (front_of op.at) (gone op.at)) e told in
+        let from = t.1 ∙ is.from in
+        let r = subst (λ (b : Bool). StopsAt (machine_of c) fold_operation fold_line fold_slots (λ k. HasReadToFold (room_of c) (limit_of c) k) fold_answer fold_rest c.table.shared.table_id b (FoldFirst front) (begun_of c op.pass) q (Yields v at)) (fold_busy at) (subst (FoldStops front (begun_of c op.pass) q) e stops) in (
+          record {
+            line = subst (λ (f : Front). IsAt c (FoldFirst f) q (fold_line at) (fold_slots at)) (sym from) r.0;
+            read = t.0;
+            from = from;
+            handed = t.2 ∙ ap (λ (vs : List T). vs ++ v ∷ []) is.handed;
+            counted = length-append values (v ∷ []) ∙ ap (λ (k : ℕ). k + 1) is.counted;
+          },
+          r.1,
+        )
 
-    pub all_gone : (b : Batch T) → stop ≡ AllGone b → IsPassOf c q × Folded front begun (pass_in q) (folded_of b) b.number
-    all_gone b is = let e = subst (FoldStops front begun q) is stops in (e.0, fold_gives c front (folded_of b) b.number e.1)
+    pub all_gone : (b : Batch T) → stop ≡ AllGone b → FoldTried c front values (begun_of c op.pass) (Done' q (Ok (record { number = b.number; count = op.count })))
+    all_gone b e =
+        let r = subst (FoldStops front (begun_of c op.pass) q) e stops in
+        let made = r.1.deeds.made in
+        let order = sym is.handed ∙ subst (FoldTold (room_of c) (limit_of c) (front_of op.at) (gone op.at)) e told ∙ made.order in
+        (r.0, (made.values, fold_gives c front (folded_of b) b.number r.1, sym is.counted ∙ ap length order ∙ length_in_order (direction front) made.values, order))
 
-    pub none_taken : (why : TakeRefused) → stop ≡ Refused why → IsPassOf c q × TakesNothing (shape_of c) begun (pass_in q) why
-    none_taken why is = let e = subst (FoldStops front begun q) is stops in (e.0, takes_nothing c front why e.1)
+    pub none_taken : (why : TakeRefused) → stop ≡ Refused why → FoldTried c front values (begun_of c op.pass) (Done' q (Err why))
+    none_taken why e =
+        let r = subst (FoldStops front (begun_of c op.pass) q) e stops in
+        (r.0, (takes_nothing c front why r.1, sym is.handed ∙ subst (FoldTold (room_of c) (limit_of c) (front_of op.at) (gone op.at)) e told))
+
+  -- one that is told whatever is told of where it goes on has handed out the same values
+  pub same_gone : (at to : FoldAt T) → HasReadToFold (room_of c) (limit_of c) to → ((stop : FoldStop T) → FoldTold (room_of c) (limit_of c) (front_of to) (gone to) stop → FoldTold (room_of c) (limit_of c) (front_of at) (gone at) stop) → gone to ≡ gone at
+  same_gone at (LoadToFold b walk) w told =
+      let done = take walk.count (folded_of b) in
+      let part : Batch T = record b { taken = record b.taken { value = record b.taken.value { me = (b.taken.value.me.0, full w.done done) } } } in
+      let same : done ≡ folded_of part = sym (values_full false w.done done (w.counted ∙ sym w.as_many)) in
+      same ∙ sym (told (AllGone part) same)
+  same_gone at (GiveBack b chain give) is told = sym (told (AllGone b) refl)
+  same_gone at (Load front) is told = sym (told (Refused Shut) refl)
+  same_gone at (TakeAll front w) is told = sym (told (Refused Shut) refl)
+  same_gone at (LoadToTurn b above i) is told = sym (told (Refused Shut) refl)
+  same_gone at (TurnLink b above i below) is told = sym (told (Refused Shut) refl)
 
   -- it hands out no more values than there are nodes
   pub gone_few : (at : FoldAt T) → HasReadToFold (room_of c) (limit_of c) at → length (gone at) ≤ room_of c

@@ -10,5 +10,6 @@ pub mod Trying
 pub mod Naming
 pub mod Putting
 pub mod Folding
+pub mod FoldOp
 pub mod Ranging
 pub mod RangeTrying

@@ -19,6 +19,7 @@ mod closing;
 mod container;
 mod ending;
 mod fast_path;
+mod fold_op;
 mod folding;
 mod giving;
 mod making;
@@ -38,6 +39,7 @@ mod trying;
 
 pub use bounded_model::{Folded, RangeRefused, Ranged};
 pub use closing::{CloseOp, ShutOp};
+pub use fold_op::{FoldMade, FoldOp};
 pub use places::stack_places;
 pub use putting::PutOp;
 pub use range_trying::RangeOp;

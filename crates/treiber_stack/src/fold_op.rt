@@ -1,0 +1,113 @@
+//! Folds of all values for callers that may not wait: a fold is run for a bounded number of steps at
+//! a time, and hands out each value by itself.
+ghost use Rattle.std.specs.Prelude.{◌≡◌, List, []};
+ghost use Rattle.index_list.specs.declared.front.Front.{Front};
+ghost use Rattle.index_list.specs.declared.front.Front.TheVariants.{First, Last};
+ghost use Rattle.treiber_stack.specs.FoldOp.{IsFolding, FoldTried};
+ghost use Rattle.treiber_stack.specs.Folding.{front_of};
+ghost use Rattle.treiber_stack.specs.Stack.{IsPassOf, pass_in, begun_of};
+
+use crate::folding::{FoldAt, FoldStop};
+use crate::stack::{Pass, Stack};
+use bounded_model::{Folded, Stepped, TakeRefused};
+use index_list::Front;
+use running::{Next, try_for};
+use stack_table::Operation;
+
+/// A fold under way, between two of its steps. One that is dropped keeps the nodes that it holds for
+/// good.
+#[derive(Drop)]
+pub struct FoldOp<T> {
+    pub(crate) pass: Pass<T>,
+    pub(crate) at: FoldAt<T>,
+    /// How many values were handed out.
+    pub(crate) count: u32,
+}
+
+/// What a fold that was run for some steps has come to.
+#[derive(Drop)]
+pub enum FoldMade<T> {
+    /// The steps are used up, and the fold goes on.
+    Again(FoldOp<T>),
+    /// The next value, and the fold goes on.
+    Value(T, FoldOp<T>),
+    /// All values were handed out, and their nodes are free; or the fold was refused, as a take is,
+    /// and handed out none.
+    Done(Pass<T>, Result<Folded, TakeRefused>),
+}
+
+impl<T> Stack<T> {
+    /// A fold from the top down that makes no step yet.
+    #[inline]
+    pub fn begin_fold(&self, by: Pass<T>) -> FoldOp<T>
+        requires { IsPassOf self.now by }
+        ensures { IsFolding self.now First [] result
+            × (begun_of self.now result.pass ≡ pass_in by) × (pass_in result.pass ≡ pass_in by) }
+    {
+        FoldOp {
+            pass: by,
+            at: FoldAt::Load(Front::First),
+            count: 0,
+        }
+    }
+
+    /// The same, from the bottom up.
+    #[inline]
+    pub fn begin_fold_reversed(&self, by: Pass<T>) -> FoldOp<T>
+        requires { IsPassOf self.now by }
+        ensures { IsFolding self.now Last [] result
+            × (begun_of self.now result.pass ≡ pass_in by) × (pass_in result.pass ≡ pass_in by) }
+    {
+        FoldOp {
+            pass: by,
+            at: FoldAt::Load(Front::Last),
+            count: 0,
+        }
+    }
+}
+
+impl<T> FoldOp<T> {
+    /// Goes on for at most so many steps, with a wait after each compare-and-swap that failed, until
+    /// the next value or the end. All values are taken by one compare-and-swap, so that a value that
+    /// is put after it is not among them.
+    #[inline]
+    pub fn run_for(self, stack: &Stack<T>, steps: u64) -> FoldMade<T>
+        requires { (front : Front) × (values : List T) × IsFolding stack.now front values self }
+        ensures { (front : Front) (values : List T) → IsFolding stack.now front values self
+            → FoldTried stack.now front values (begun_of stack.now self.pass) result }
+    {
+        let FoldOp { pass, at, count } = self;
+        let operation = Operation::Fold(at.front());
+        let first = (pass, Next::On(at));
+        match try_for(&stack.table.shared, stack, first, &operation, steps) {
+            Stepped::Again((pass, at)) => FoldMade::Again(FoldOp { pass, at, count }),
+            Stepped::Done(pass, stop) => match stop {
+                FoldStop::Yields(value, at) => {
+                    let count = count + 1;
+                    FoldMade::Value(value, FoldOp { pass, at, count })
+                }
+                FoldStop::Ended(batch) => {
+                    let number = batch.number;
+                    FoldMade::Done(pass, Ok(Folded { number, count }))
+                }
+                FoldStop::Refused(why) => FoldMade::Done(pass, Err(why)),
+            },
+        }
+    }
+}
+
+impl<T> FoldAt<T> {
+    // Which end its values are handed out from.
+    #[inline]
+    fn front(&self) -> Front
+        ensures { result ≡ front_of self.now }
+    {
+        match self {
+            FoldAt::Load(front) | FoldAt::TakeAll(front, _) => *front,
+            FoldAt::LoadToTurn(batch, _, _)
+            | FoldAt::TurnLink(batch, _, _, _)
+            | FoldAt::LoadToFold(batch, _)
+            | FoldAt::GiveBack(batch, _, _) => batch.front,
+        }
+    }
+}
