@@ -1,3 +1,4 @@
 pub mod AsBox
 pub mod New
 pub mod Stays
+pub mod FoldStays

@@ -4,6 +4,7 @@ use Rattle.bounded_model.specs.declared.answers.PutRefused.{PutRefused}
 use Rattle.bounded_model.specs.declared.answers.PutRefused.TheVariants as put
 use Rattle.bounded_model.specs.declared.answers.TakeRefused.{TakeRefused}
 use Rattle.bounded_model.specs.declared.answers.TakeRefused.TheVariants as take
+use Rattle.bounded_model.specs.declared.bulk.Folded.{Folded}
 use Rattle.bounded_model.specs.declared.commands.Reply.{Reply}
 use Rattle.bounded_model.specs.declared.commands.Reply.TheVariants.{Put, Take, Close, Shut, Look}
 use Rattle.lockfree_c.specs.declared.answers.Answer.{Answer}
@@ -21,6 +22,11 @@ SaysTake (Err take.Empty) a = a.code ≡ EMPTY
 SaysTake (Err take.Closed) a = a.code ≡ CLOSED
 SaysTake (Err take.Shut) a = a.code ≡ SHUT
 SaysTake (Err (take.Spent word t)) a = (a.code ≡ SPENT) × (a.number ≡ t)
+
+-- the number of a fold that is done, and how many values there were; a refusal as that of a take
+abbrev pub SaysFold : Result Folded TakeRefused → Answer → Type 0
+SaysFold (Ok f) a = (a.code ≡ OK) × (a.number ≡ f.number) × (a.value ≡ f.count)
+SaysFold (Err why) a = SaysTake (Err why) a
 
 abbrev pub Says : Reply ℕ → Answer → Type 0
 Says (Put said) a = SaysPut said a

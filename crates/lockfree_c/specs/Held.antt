@@ -1,25 +1,33 @@
 -- What holds of what lies behind a handle, and what the calls do to it.
-use Rattle.std.specs.Prelude.{◌≡◌, ◌≤◌, ◌⊎◌, ℕ, Result, MatchOption, MatchResult, None}
+use Rattle.std.specs.Prelude.{◌≡◌, ◌≤◌, ◌⊎◌, ℕ, List, [], Bool, true, false, Result, MatchOption, MatchResult, None}
 use Rattle.tagged_index.specs.declared.limit.TheConstants.{MIN_CAPACITY, MAX_CAPACITY}
 use Rattle.tagged_index.specs.declared.word.TheConstants.{MAX_TAG}
 use Rattle.bounded_model.specs.Laws.{IsFullOfPasses, Splits, fresh}
 use Rattle.bounded_model.specs.declared.commands.Command.{Command}
 use Rattle.bounded_model.specs.declared.views.RootView.{RootView}
+use Rattle.index_list.specs.declared.front.Front.{Front}
+use Rattle.index_list.specs.declared.front.Front.TheVariants.{First, Last}
 use Rattle.running.specs.Passes.{pass_in, root_in}
 use Rattle.running.specs.declared.passes.Pass.{Pass}
 use Rattle.queue_machine.specs.Answers as queue_machine
 use Rattle.stack_machine.specs.Answers as stack_machine
 use Rattle.ms_queue.specs.Queue as queue
 use Rattle.treiber_stack.specs.Stack as stack
+use Rattle.treiber_stack.specs.FoldOp.{IsFolding, FoldTried}
+use Rattle.treiber_stack.specs.declared.fold_op.FoldMade.{FoldMade}
+use Rattle.treiber_stack.specs.declared.fold_op.FoldMade.TheVariants.{Again, Value, Done}
+use Rattle.treiber_stack.specs.declared.stack.Stack.{Stack}
 use Rattle.bounded_calls.specs.Readings.{queue_reading, stack_reading}
-use Rattle.lockfree_c.specs.Stages.{IsStage, Called, WentOn}
+use Rattle.lockfree_c.specs.Codes.{SaysFold}
+use Rattle.lockfree_c.specs.Stages.{IsStage, Called, Rests, WentOn}
 use Rattle.lockfree_c.specs.declared.answers.Answer.{Answer}
-use Rattle.lockfree_c.specs.declared.answers.TheConstants.{NO_MEMORY, NO_PASS, BAD_CAPACITY, OTHER_HANDLE}
+use Rattle.lockfree_c.specs.declared.answers.TheConstants.{BUSY, UNDER_WAY, NO_MEMORY, NO_PASS, BAD_CAPACITY, OTHER_HANDLE, VALUE}
 use Rattle.lockfree_c.specs.declared.stage.Stage.{Stage}
 use Rattle.lockfree_c.specs.declared.held.Held.{Held}
-use Rattle.lockfree_c.specs.declared.held.Held.TheVariants.{Nothing, QueueRoot as OfQueueRoot, QueuePass as OfQueuePass, StackRoot as OfStackRoot, StackPass as OfStackPass}
+use Rattle.lockfree_c.specs.declared.held.Held.TheVariants.{Nothing, QueueRoot as OfQueueRoot, QueuePass as OfQueuePass, StackRoot as OfStackRoot, StackPass as OfStackPass, StackFold as OfStackFold}
 use Rattle.lockfree_c.specs.declared.held.QueuePass.{QueuePass}
 use Rattle.lockfree_c.specs.declared.held.QueueRoot.{QueueRoot}
+use Rattle.lockfree_c.specs.declared.held.StackFold.{StackFold}
 use Rattle.lockfree_c.specs.declared.held.StackPass.{StackPass}
 use Rattle.lockfree_c.specs.declared.held.StackRoot.{StackRoot}
 
@@ -37,12 +45,17 @@ IsStackRoot r = stack.IsRootOf r.stack.value r.root
 abbrev pub IsStackPass : StackPass → Type 0
 IsStackPass p = IsStage (stack_reading p.stack.value) p.stage
 
+-- a fold that has handed out some values
+abbrev pub IsStackFold : StackFold → Type 0
+IsStackFold f = (front : Front) × (values : List ℕ) × IsFolding f.stack.value front values f.op
+
 abbrev pub IsHeld : Held → Type 0
 IsHeld Nothing = Unit {0}
 IsHeld (OfQueueRoot r) = IsQueueRoot r
 IsHeld (OfQueuePass p) = IsQueuePass p
 IsHeld (OfStackRoot r) = IsStackRoot r
 IsHeld (OfStackPass p) = IsStackPass p
+IsHeld (OfStackFold f) = IsStackFold f
 
 -- The calls of a pass
 
@@ -56,11 +69,16 @@ StackCalled p call q a = (q.stack.value ≡ p.stack.value) × Called (stack_read
 abbrev pub IsOther : Held → Held → Answer → Type 0
 IsOther h g a = (a.code ≡ OTHER_HANDLE) × (g ≡ h)
 
+-- a pass that is in a fold is as it was
+abbrev pub IsInFold : StackFold → Held → Answer → Type 0
+IsInFold f g a = (a.code ≡ UNDER_WAY) × (g ≡ OfStackFold f)
+
 abbrev pub HeldCalled : Held → Command ℕ → Held → Answer → Type 0
 HeldCalled (OfQueuePass p) call (OfQueuePass q) a = QueueCalled p call q a
 HeldCalled (OfQueuePass p) call h a = ⊥
 HeldCalled (OfStackPass p) call (OfStackPass q) a = StackCalled p call q a
 HeldCalled (OfStackPass p) call h a = ⊥
+HeldCalled (OfStackFold f) call g a = IsInFold f g a
 HeldCalled h call g a = IsOther h g a
 
 abbrev pub QueueWentOn : QueuePass → QueuePass → Answer → Type 0
@@ -69,12 +87,44 @@ QueueWentOn p q a = (q.queue.value ≡ p.queue.value) × WentOn (queue_reading p
 abbrev pub StackWentOn : StackPass → StackPass → Answer → Type 0
 StackWentOn p q a = (q.stack.value ≡ p.stack.value) × WentOn (stack_reading p.stack.value) p.stage q.stage a
 
+-- how a fold that was run left what is held, and what C was answered
+abbrev pub FoldLeft : Stack ℕ → FoldMade ℕ → Held → Answer → Type 0
+FoldLeft c (Again next) (OfStackFold f) a = (f.stack.value ≡ c) × (f.op ≡ next) × (a.code ≡ BUSY)
+FoldLeft c (Value x next) (OfStackFold f) a = (f.stack.value ≡ c) × (f.op ≡ next) × (a.code ≡ VALUE) × (a.value ≡ x)
+FoldLeft c (Done back said) (OfStackPass p) a = (p.stack.value ≡ c) × Rests p.stage back × SaysFold said a
+FoldLeft c made h a = ⊥
+
+-- the fold that is under way is tried further, from whichever end and whatever it has handed out
+abbrev pub FoldWentOn : StackFold → Held → Answer → Type 0
+FoldWentOn f g a = (made : FoldMade ℕ)
+    × ((front : Front) (values : List ℕ) → IsFolding f.stack.value front values f.op → FoldTried f.stack.value front values (stack.begun_of f.stack.value f.op.pass) made)
+    × FoldLeft f.stack.value made g a
+
 abbrev pub HeldWentOn : Held → Held → Answer → Type 0
 HeldWentOn (OfQueuePass p) (OfQueuePass q) a = QueueWentOn p q a
 HeldWentOn (OfQueuePass p) h a = ⊥
 HeldWentOn (OfStackPass p) (OfStackPass q) a = StackWentOn p q a
 HeldWentOn (OfStackPass p) h a = ⊥
+HeldWentOn (OfStackFold f) g a = FoldWentOn f g a
 HeldWentOn h g a = IsOther h g a
+
+-- The begin of a fold
+
+-- which end it goes from
+abbrev pub front_from : Bool → Front
+front_from true = Last
+front_from false = First
+
+-- a fold of a pass that rests is tried, from what the pass had seen; of one in a call nothing is changed
+abbrev pub StackFolded : StackPass → Front → Held → Answer → Type 0
+StackFolded p front g a = MatchOption p.stage.resting
+    ((a.code ≡ UNDER_WAY) × (g ≡ OfStackPass p))
+    (λ by. (made : FoldMade ℕ) × FoldTried p.stack.value front [] (pass_in by) made × FoldLeft p.stack.value made g a)
+
+abbrev pub HeldFolded : Held → Front → Held → Answer → Type 0
+HeldFolded (OfStackPass p) front g a = StackFolded p front g a
+HeldFolded (OfStackFold f) front g a = IsInFold f g a
+HeldFolded h front g a = IsOther h g a
 
 -- The calls of a root
 

@@ -1,7 +1,8 @@
 -- What C keeps is as the library left it, and what the exports do to it.
 use Rattle.std.specs.Prelude.{◌≡◌, ℕ, Bool, true, false, Result, MatchResult}
 use Rattle.bounded_model.specs.declared.commands.Command.{Command}
-use Rattle.lockfree_c.specs.Held.{IsHeld, HeldCalled, HeldWentOn, HeldSplit, NewRefused}
+use Rattle.index_list.specs.declared.front.Front.{Front}
+use Rattle.lockfree_c.specs.Held.{IsHeld, HeldCalled, HeldFolded, HeldWentOn, HeldSplit, NewRefused}
 use Rattle.lockfree_c.specs.declared.answers.Answer.{Answer}
 use Rattle.lockfree_c.specs.declared.answers.TheConstants.{OK, NO_HANDLE, IN_USE}
 use Rattle.lockfree_c.specs.declared.held.Held.{Held}
@@ -30,6 +31,11 @@ SlotCalled s call t a = Either s.full
 abbrev pub SlotWentOn : Slot → Slot → Answer → Type 0
 SlotWentOn s t a = Either s.full
     ((t.full ≡ true) × HeldWentOn s.handle.held t.handle.held a)
+    (IsEmpty t × (a.code ≡ NO_HANDLE))
+
+abbrev pub SlotFolded : Slot → Front → Slot → Answer → Type 0
+SlotFolded s front t a = Either s.full
+    ((t.full ≡ true) × HeldFolded s.handle.held front t.handle.held a)
     (IsEmpty t × (a.code ≡ NO_HANDLE))
 
 -- a new root, of which `IsNew` says what it is; a slot that is full is left as it is

@@ -11,6 +11,10 @@ use Rattle.lockfree_c.specs.declared.answers.TheConstants.{BUSY, UNDER_WAY, NO_C
 use Rattle.lockfree_c.specs.declared.stage.Stage.{Stage}
 
 module _ {P O : Type 0} where
+  -- the pass is between its calls
+  abbrev pub Rests : Stage P O → P → Type 0
+  Rests s by = (s.resting ≡ Some by) × (s.under_way ≡ None)
+
   -- how a tried call left its pass, and what C was answered
   abbrev pub LeftBy : Stepped O P (Reply ℕ) → Stage P O → Answer → Type 0
   LeftBy (Again next) s a = (s.resting ≡ None) × (s.under_way ≡ Some next) × (a.code ≡ BUSY)

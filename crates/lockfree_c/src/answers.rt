@@ -1,7 +1,7 @@
 //! What a call returns to C: a code, and with some of them a value and a number.
 ghost use Rattle.std.specs.Prelude.{◌≡◌};
 
-use bounded_model::{PutRefused, Reply, TakeRefused};
+use bounded_model::{Folded, PutRefused, Reply, TakeRefused};
 
 /// Done.
 pub const OK: u32 = 0;
@@ -49,8 +49,12 @@ pub const NO_HANDLE: u32 = 13;
 /// The handle that is to be made is not empty.
 pub const IN_USE: u32 = 14;
 
-/// A code; of a take that is done its value; the number of a put or a take that is done, or the tag
-/// of one that is spent. What is not said is 0.
+/// A fold: the answer has the next value, and the fold goes on.
+pub const VALUE: u32 = 15;
+
+/// A code; of a take that is done its value, of a fold its next value, or at its end how many there
+/// were; the number of a put, a take or a fold that is done, or the tag of one that is spent. What is
+/// not said is 0.
 #[repr(C)]
 #[derive(Clone, Copy)]
 pub struct Answer {
@@ -60,7 +64,7 @@ pub struct Answer {
 }
 
 impl Answer {
-    ghost use Rattle.lockfree_c.specs.Codes.{SaysPut, SaysTake, Says};
+    ghost use Rattle.lockfree_c.specs.Codes.{SaysFold, SaysPut, SaysTake, Says};
 
     /// A code alone.
     #[inline(always)]
@@ -107,6 +111,33 @@ impl Answer {
             Err(TakeRefused::Closed) => Answer::of(CLOSED),
             Err(TakeRefused::Shut) => Answer::of(SHUT),
             Err(TakeRefused::Spent(_, tag)) => Answer::numbered(SPENT, tag),
+        }
+    }
+
+    /// The next value of a fold.
+    #[inline(always)]
+    pub fn of_value(value: u64) -> Answer
+        ensures { (result.code ≡ VALUE) × (result.value ≡ value) }
+    {
+        Answer {
+            value,
+            number: 0,
+            code: VALUE,
+        }
+    }
+
+    /// What a whole fold returned.
+    #[inline(always)]
+    pub fn of_fold(said: Result<Folded, TakeRefused>) -> Answer
+        ensures { SaysFold said result }
+    {
+        match said {
+            Ok(folded) => Answer {
+                value: u64::from(folded.count),
+                number: folded.number,
+                code: OK,
+            },
+            Err(why) => Answer::of_take(Err(why)),
         }
     }
 

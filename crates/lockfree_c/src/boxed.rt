@@ -3,15 +3,17 @@ ghost use Rattle.std.specs.Prelude.{Ok, Err, IfOk, MatchResult};
 ghost use Rattle.bounded_model.specs.declared.commands.Command.TheVariants.{Put, Take};
 ghost use Rattle.lockfree_c.specs.Held.{
   HeldCalled,
+  HeldFolded,
   HeldSplit,
   HeldWentOn,
   IsHeld,
   IsNewQueue,
   IsNewStack,
   NewRefused,
+  front_from,
 };
 
-use crate::answers::{Answer, NO_MEMORY, OTHER_HANDLE};
+use crate::answers::{Answer, NO_MEMORY, OTHER_HANDLE, UNDER_WAY};
 use crate::held::Held;
 use crate::queue::{new_queue, split_queue};
 use crate::stack::{new_stack, split_stack};
@@ -96,6 +98,7 @@ pub fn put_by(held: &mut Held, value: u64, tries: u64) -> Answer
     match held {
         Held::QueuePass(pass) => pass.put(value, tries),
         Held::StackPass(pass) => pass.put(value, tries),
+        Held::StackFold(_) => Answer::of(UNDER_WAY),
         _ => Answer::of(OTHER_HANDLE),
     }
 }
@@ -110,6 +113,7 @@ pub fn take_by(held: &mut Held, tries: u64) -> Answer
     match held {
         Held::QueuePass(pass) => pass.take(tries),
         Held::StackPass(pass) => pass.take(tries),
+        Held::StackFold(_) => Answer::of(UNDER_WAY),
         _ => Answer::of(OTHER_HANDLE),
     }
 }
@@ -123,7 +127,54 @@ pub fn call_by(held: &mut Held, command: Command<u64>, tries: u64) -> Answer
     match held {
         Held::QueuePass(pass) => pass.call(command, tries),
         Held::StackPass(pass) => pass.call(command, tries),
+        Held::StackFold(_) => Answer::of(UNDER_WAY),
         _ => Answer::of(OTHER_HANDLE),
+    }
+}
+
+// A fold by what is held, if that is a stack's pass.
+fn fold(held: Held, reversed: bool, tries: u64) -> (Held, Answer)
+    requires { IsHeld held }
+    ensures of { IsHeld result.0 }
+    ensures gives { HeldFolded held (front_from reversed) result.0 result.1 }
+{
+    match held {
+        Held::StackPass(pass) => pass.fold(reversed, tries),
+        Held::StackFold(fold) => (Held::StackFold(fold), Answer::of(UNDER_WAY)),
+        other => (other, Answer::of(OTHER_HANDLE)),
+    }
+}
+
+/// A fold of all values by what lies in the box, if that is a stack's pass.
+pub fn fold_by(held: &mut Held, reversed: bool, tries: u64) -> Answer
+    requires { IsHeld held.old }
+    ensures of { IsHeld held.new }
+    ensures gives { HeldFolded held.old (front_from reversed) held.new result }
+{
+    let (next, answer) = fold(mem::replace(held, Held::Nothing), reversed, tries);
+    *held = next;
+    answer
+}
+
+// Goes on with the call of what is held, if that is a pass.
+fn go_on(held: Held, tries: u64) -> (Held, Answer)
+    requires { IsHeld held }
+    ensures of { IsHeld result.0 }
+    ensures gives { HeldWentOn held result.0 result.1 }
+{
+    match held {
+        Held::QueuePass(pass) => {
+            let mut pass = pass;
+            let answer = pass.go_on(tries);
+            (Held::QueuePass(pass), answer)
+        }
+        Held::StackPass(pass) => {
+            let mut pass = pass;
+            let answer = pass.go_on(tries);
+            (Held::StackPass(pass), answer)
+        }
+        Held::StackFold(fold) => fold.go_on(tries),
+        other => (other, Answer::of(OTHER_HANDLE)),
     }
 }
 
@@ -133,9 +184,7 @@ pub fn go_on_by(held: &mut Held, tries: u64) -> Answer
     ensures of { IsHeld held.new }
     ensures gives { HeldWentOn held.old held.new result }
 {
-    match held {
-        Held::QueuePass(pass) => pass.go_on(tries),
-        Held::StackPass(pass) => pass.go_on(tries),
-        _ => Answer::of(OTHER_HANDLE),
-    }
+    let (next, answer) = go_on(mem::replace(held, Held::Nothing), tries);
+    *held = next;
+    answer
 }

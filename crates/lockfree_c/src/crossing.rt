@@ -1,7 +1,7 @@
 //! C may give a handle to another thread, also one with a call under way: the parts of what lies
 //! behind one may cross threads.
 
-use crate::held::{QueueOperation, QueuePass, QueueRoot, StackOperation, StackPass, StackRoot};
+use crate::held::{QueueOperation, QueuePass, QueueRoot, StackFold, StackOperation, StackPass, StackRoot};
 use bounded_calls::Operation;
 
 // Asks that its type may cross threads, and does nothing.
@@ -45,4 +45,10 @@ pub fn stack_pass_crosses(pass: &StackPass) {
 /// A call that a stack's pass is in.
 pub fn stack_operation_crosses(operation: &StackOperation) {
     crosses(operation);
+}
+
+/// The parts of a stack's pass that is in a fold.
+pub fn stack_fold_crosses(fold: &StackFold) {
+    crosses(&fold.stack);
+    crosses(&fold.op);
 }

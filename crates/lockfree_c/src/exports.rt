@@ -6,10 +6,11 @@ ghost use Rattle.bounded_model.specs.declared.commands.Command.TheVariants.{
   Shut,
   Look,
 };
-ghost use Rattle.lockfree_c.specs.Held.{IsNewQueue, IsNewStack};
+ghost use Rattle.lockfree_c.specs.Held.{IsNewQueue, IsNewStack, front_from};
 ghost use Rattle.lockfree_c.specs.Slots.{
   IsSlot,
   SlotCalled,
+  SlotFolded,
   SlotFreed,
   SlotNew,
   SlotSplit,
@@ -17,7 +18,7 @@ ghost use Rattle.lockfree_c.specs.Slots.{
 };
 
 use crate::answers::{Answer, IN_USE, NO_HANDLE, OK};
-use crate::boxed::{boxed_queue, boxed_stack, call_by, go_on_by, put_by, split_from, take_by};
+use crate::boxed::{boxed_queue, boxed_stack, call_by, fold_by, go_on_by, put_by, split_from, take_by};
 use crate::slot::Slot;
 use bounded_model::Command;
 use std::alloc::Global;
@@ -150,7 +151,21 @@ pub extern "C" fn lockfree_look(pass: &mut Slot, tries: u64) -> Answer
     call(pass, Command::Look, tries)
 }
 
-/// Goes on with the call that returned `BUSY`.
+/// Folds all values of a stack, which one compare-and-swap takes: from the top down, or reversed.
+/// Each value is an answer of its own.
+#[unsafe(no_mangle)]
+pub extern "C" fn lockfree_fold(pass: &mut Slot, reversed: bool, tries: u64) -> Answer
+    requires { IsSlot pass.old }
+    ensures of { IsSlot pass.new }
+    ensures gives { SlotFolded pass.old (front_from reversed) pass.new result }
+{
+    if !pass.full {
+        return Answer::of(NO_HANDLE);
+    }
+    fold_by(pass.handle.open_mut(), reversed, tries)
+}
+
+/// Goes on with the call that returned `BUSY`, or with the fold that returned `VALUE`.
 #[unsafe(no_mangle)]
 pub extern "C" fn lockfree_go_on(pass: &mut Slot, tries: u64) -> Answer
     requires { IsSlot pass.old }

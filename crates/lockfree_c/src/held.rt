@@ -4,7 +4,7 @@ use bounded_calls::Operation;
 use ms_queue::Queue;
 use std::alloc::Global;
 use std::sync::Arc;
-use treiber_stack::Stack;
+use treiber_stack::{FoldOp, Stack};
 
 /// A call of a queue's pass that was begun.
 pub type QueueOperation = Operation<
@@ -52,6 +52,14 @@ pub struct StackPass {
     pub stage: Stage<treiber_stack::Pass<u64>, StackOperation>,
 }
 
+/// A stack's pass in a fold of all values, with a share of the stack. It stands apart from the others,
+/// so that their puts and takes do not ask for it.
+#[derive(Drop)]
+pub struct StackFold {
+    pub stack: Arc<Stack<u64>, Global>,
+    pub op: FoldOp<u64>,
+}
+
 #[derive(Drop)]
 pub enum Held {
     Nothing,
@@ -59,4 +67,5 @@ pub enum Held {
     QueuePass(QueuePass),
     StackRoot(StackRoot),
     StackPass(StackPass),
+    StackFold(StackFold),
 }

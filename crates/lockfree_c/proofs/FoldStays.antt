@@ -1,0 +1,60 @@
+-- A fold that was run leaves a fold that goes on, or a pass at rest.
+use Rattle.std.proofs.Common.{sym, subst}
+use Rattle.std.specs.Prelude.{◌≡◌, ℕ, List, [], ◌∷◌, ◌++◌, Option, Some, None, MatchOption}
+use Rattle.bounded_model.specs.declared.views.PassView.{PassView}
+use Rattle.index_list.specs.declared.front.Front.{Front}
+use Rattle.running.specs.Passes.{pass_in}
+use Rattle.running.specs.declared.passes.Pass.{Pass}
+use Rattle.stack_machine.specs.declared.lines.Line.{Line}
+use Rattle.treiber_stack.specs.FoldOp.{IsFolding, FoldTried}
+use Rattle.treiber_stack.specs.declared.fold_op.FoldMade.{FoldMade}
+use Rattle.treiber_stack.specs.declared.fold_op.FoldMade.TheVariants.{Again, Value, Done}
+use Rattle.treiber_stack.specs.declared.fold_op.FoldOp.{FoldOp}
+use Rattle.treiber_stack.specs.declared.stack.Stack.{Stack}
+use Rattle.treiber_stack.specs.Stack.{IsPassOf}
+use Rattle.bounded_calls.specs.Readings.{stack_reading}
+use Rattle.lockfree_c.specs.Held.{IsHeld, IsStackFold, IsStackPass, FoldLeft, StackFolded}
+use Rattle.lockfree_c.specs.Stages.{Rests}
+use Rattle.lockfree_c.specs.declared.answers.Answer.{Answer}
+use Rattle.lockfree_c.specs.declared.answers.TheConstants.{UNDER_WAY}
+use Rattle.lockfree_c.specs.declared.held.Held.{Held}
+use Rattle.lockfree_c.specs.declared.held.Held.TheVariants.{Nothing, QueueRoot as OfQueueRoot, QueuePass as OfQueuePass, StackRoot as OfStackRoot, StackPass as OfStackPass, StackFold as OfStackFold}
+use Rattle.lockfree_c.specs.declared.held.StackFold.{StackFold}
+use Rattle.lockfree_c.specs.declared.held.StackPass.{StackPass}
+use Rattle.lockfree_c.proofs.Stays.{At}
+
+module _ (c : Stack ℕ) (front : Front) where
+  goes_on : (values : List ℕ) (op : FoldOp ℕ) (f : StackFold) → IsFolding c front values op → f.stack.value ≡ c → f.op ≡ op → IsStackFold f
+  goes_on values op f is same_stack same_op =
+      (front, values, subst (λ o. IsFolding f.stack.value front values o) (sym same_op) (subst (λ s. IsFolding s front values op) (sym same_stack) is))
+
+  comes_to_rest : (back : Pass ℕ (Line ℕ)) (p : StackPass) → IsPassOf c back → p.stack.value ≡ c → Rests p.stage back → IsStackPass p
+  comes_to_rest back p is same rests =
+      subst (λ x. At (stack_reading p.stack.value) x p.stage.under_way) (sym rests.0) (subst (λ s. IsPassOf s back) (sym same) is, rests.1)
+
+  pub fold_stays : (values : List ℕ) (begun : PassView ℕ) (made : FoldMade ℕ) (g : Held) (a : Answer) → FoldTried c front values begun made → FoldLeft c made g a → IsHeld g
+  fold_stays values begun (Again op) (OfStackFold f) a tried left = goes_on values op f tried.0 left.0 left.1
+  fold_stays values begun (Value x op) (OfStackFold f) a tried left = goes_on (values ++ x ∷ []) op f tried.0 left.0 left.1
+  fold_stays values begun (Done back said) (OfStackPass p) a tried left = comes_to_rest back p tried.0 left.0 left.1
+  fold_stays values begun (Again op) Nothing a tried left = absurd left
+  fold_stays values begun (Again op) (OfQueueRoot r) a tried left = absurd left
+  fold_stays values begun (Again op) (OfQueuePass p) a tried left = absurd left
+  fold_stays values begun (Again op) (OfStackRoot r) a tried left = absurd left
+  fold_stays values begun (Again op) (OfStackPass p) a tried left = absurd left
+  fold_stays values begun (Value x op) Nothing a tried left = absurd left
+  fold_stays values begun (Value x op) (OfQueueRoot r) a tried left = absurd left
+  fold_stays values begun (Value x op) (OfQueuePass p) a tried left = absurd left
+  fold_stays values begun (Value x op) (OfStackRoot r) a tried left = absurd left
+  fold_stays values begun (Value x op) (OfStackPass p) a tried left = absurd left
+  fold_stays values begun (Done back said) Nothing a tried left = absurd left
+  fold_stays values begun (Done back said) (OfQueueRoot r) a tried left = absurd left
+  fold_stays values begun (Done back said) (OfQueuePass p) a tried left = absurd left
+  fold_stays values begun (Done back said) (OfStackRoot r) a tried left = absurd left
+  fold_stays values begun (Done back said) (OfStackFold f) a tried left = absurd left
+
+-- a fold that a pass at rest began
+pub folded : (p : StackPass) (by : Pass ℕ (Line ℕ)) (front : Front) (g : Held) (a : Answer) → p.stage.resting ≡ Some by
+    → (made : FoldMade ℕ) → FoldTried p.stack.value front [] (pass_in by) made → FoldLeft p.stack.value made g a → StackFolded p front g a
+folded p by front g a rests made tried left =
+    subst (λ x. MatchOption x ((a.code ≡ UNDER_WAY) × (g ≡ OfStackPass p)) (λ b. (m : FoldMade ℕ) × FoldTried p.stack.value front [] (pass_in b) m × FoldLeft p.stack.value m g a))
+    (sym rests) (made, tried, left)

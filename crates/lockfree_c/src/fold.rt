@@ -1,0 +1,100 @@
+//! Folds of all values of a stack, each value handed out by itself.
+ghost use Rattle.std.specs.Prelude.{◌≡◌, []};
+ghost use Rattle.running.specs.Passes.{pass_in};
+ghost use Rattle.treiber_stack.specs.FoldOp.{IsFolding};
+ghost use Rattle.treiber_stack.specs.Stack.{IsPassOf, begun_of};
+ghost use Rattle.lockfree_c.specs.Held.{
+  FoldLeft,
+  FoldWentOn,
+  IsHeld,
+  IsStackFold,
+  IsStackPass,
+  StackFolded,
+  front_from,
+};
+
+use crate::answers::{Answer, BUSY, UNDER_WAY};
+use crate::held::{Held, StackFold, StackPass};
+use crate::stage::Stage;
+use std::alloc::Global;
+use std::sync::Arc;
+use treiber_stack::{FoldMade, FoldOp, Pass, Stack};
+
+// As many steps as lead to a fold's next value or its end, where nobody interferes and no values are
+// turned round.
+const UNDISTURBED: u64 = 10;
+
+// How many steps lead to its next compare-and-swap once one has failed.
+const TO_EXCHANGE: u64 = 3;
+
+// How many steps so many tries are.
+#[inline]
+fn steps_for(tries: u64) -> u64 {
+    tries
+        .saturating_mul(TO_EXCHANGE)
+        .saturating_add(UNDISTURBED)
+}
+
+// A fold that makes no step yet.
+fn begin(stack: &Stack<u64>, by: Pass<u64>, reversed: bool) -> FoldOp<u64>
+    requires { IsPassOf stack.now by }
+    ensures { IsFolding stack.now (front_from reversed) [] result
+        × (begun_of stack.now result.pass ≡ pass_in by) }
+{
+    if reversed {
+        stack.begin_fold_reversed(by)
+    } else {
+        stack.begin_fold(by)
+    }
+}
+
+// What is held once a fold was run, and the answer.
+fn left(stack: Arc<Stack<u64>, Global>, made: FoldMade<u64>) -> (Held, Answer)
+    ensures { FoldLeft stack.value made result.0 result.1 }
+{
+    match made {
+        FoldMade::Again(op) => (Held::StackFold(StackFold { stack, op }), Answer::of(BUSY)),
+        FoldMade::Value(value, op) => {
+            (Held::StackFold(StackFold { stack, op }), Answer::of_value(value))
+        }
+        FoldMade::Done(by, said) => {
+            let stage = Stage::of(by);
+            (Held::StackPass(StackPass { stack, stage }), Answer::of_fold(said))
+        }
+    }
+}
+
+impl StackPass {
+    /// A fold of all values; where the pass is in a call already, nothing.
+    pub fn fold(self, reversed: bool, tries: u64) -> (Held, Answer)
+        requires { IsStackPass self }
+        ensures of { IsHeld result.0 }
+        ensures gives { StackFolded self (front_from reversed) result.0 result.1 }
+    {
+        let StackPass { stack, stage } = self;
+        let Stage { resting, under_way } = stage;
+        match resting {
+            Some(by) => {
+                let op = begin(&stack, by, reversed);
+                StackFold { stack, op }.go_on(tries)
+            }
+            None => {
+                let stage = Stage { resting: None, under_way };
+                (Held::StackPass(StackPass { stack, stage }), Answer::of(UNDER_WAY))
+            }
+        }
+    }
+}
+
+impl StackFold {
+    /// Goes on with the fold until its next value or its end.
+    pub fn go_on(self, tries: u64) -> (Held, Answer)
+        requires { IsStackFold self }
+        ensures of { IsHeld result.0 }
+        ensures gives { FoldWentOn self result.0 result.1 }
+    {
+        let StackFold { stack, op } = self;
+        let made = op.run_for(&stack, steps_for(tries));
+        left(stack, made)
+    }
+}
