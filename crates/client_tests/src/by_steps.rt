@@ -1,54 +1,51 @@
+ghost use Rattle.std.specs.Prelude.{IfSome};
 ghost use Rattle.bounded_model.specs.Laws.{PutGives, TakeGives};
 
 use bounded_model::{Container, PutRefused, Stepped, Stepwise, TakeRefused};
-use std::sync::Wait;
 use tagged_index::{Limits, MAX_TAG};
 use treiber_stack::Stack;
 
-/// A put by steps, and how many steps it made. The law of the steps makes it a whole put.
-fn put_by_steps<C: Stepwise<u32>, R: Wait>(
-    rt: &R,
+/// More steps than a call makes that nobody interferes with.
+const MOST_STEPS: u64 = 20;
+
+/// A put by steps, and how many steps it made. The law of the steps makes it a whole put. `None`
+/// where it is not over after the most steps.
+fn put_by_steps<C: Stepwise<u32>>(
     container: &C,
     by: C::Pass,
     value: u32,
-) -> (C::Pass, Result<u64, PutRefused<u32>>, u64)
+) -> Option<(C::Pass, Result<u64, PutRefused<u32>>, u64)>
     requires { C.is_pass container.now by }
-    ensures of { C.is_pass container.now result.0 }
-    ensures gives { PutGives (C.shape container.now) (C.pass by) value
-        (C.pass result.0) result.1 }
+    ensures { IfSome result (λ r. C.is_pass container.now r.0
+        × PutGives (C.shape container.now) (C.pass by) value (C.pass r.0) r.1) }
 {
     let mut op = container.begin_put(by, value);
-    let mut steps: u64 = 0;
-    for _ in rt.forever() {
-        steps = steps.saturating_add(1);
+    for before in 0..MOST_STEPS {
         match container.step_put(op) {
             Stepped::Again(next) => op = next,
-            Stepped::Done(pass, answer) => return (pass, answer, steps),
+            Stepped::Done(pass, answer) => return Some((pass, answer, before + 1)),
         }
     }
-    unreachable!()
+    None
 }
 
 /// The same of a take.
-fn take_by_steps<C: Stepwise<u32>, R: Wait>(
-    rt: &R,
+fn take_by_steps<C: Stepwise<u32>>(
     container: &C,
     by: C::Pass,
-) -> (C::Pass, Result<(u32, u64), TakeRefused>, u64)
+) -> Option<(C::Pass, Result<(u32, u64), TakeRefused>, u64)>
     requires { C.is_pass container.now by }
-    ensures of { C.is_pass container.now result.0 }
-    ensures gives { TakeGives (C.shape container.now) (C.pass by) (C.pass result.0) result.1 }
+    ensures { IfSome result (λ r. C.is_pass container.now r.0
+        × TakeGives (C.shape container.now) (C.pass by) (C.pass r.0) r.1) }
 {
     let mut op = container.begin_take(by);
-    let mut steps: u64 = 0;
-    for _ in rt.forever() {
-        steps = steps.saturating_add(1);
+    for before in 0..MOST_STEPS {
         match container.step_take(op) {
             Stepped::Again(next) => op = next,
-            Stepped::Done(pass, answer) => return (pass, answer, steps),
+            Stepped::Done(pass, answer) => return Some((pass, answer, before + 1)),
         }
     }
-    unreachable!()
+    None
 }
 
 #[test]
@@ -56,13 +53,13 @@ fn steps_of_any_container_are_counted(rt: HostRuntime) {
     let limits = Limits::of(1, MAX_TAG).expect(&rt, "limits");
     let (stack, mut root) = Stack::<u32>::new(rt.alloc(), limits).expect(&rt, "memory");
     let pass = stack.split(&mut root).expect(&rt, "a pass");
-    let (pass, answer, steps) = put_by_steps(&rt, &stack, pass, 7);
+    let (pass, answer, steps) = put_by_steps(&stack, pass, 7).expect(&rt, "a put");
     assert_eq!(rt; (answer, steps), (Ok(0), 6));
-    let (pass, answer, steps) = put_by_steps(&rt, &stack, pass, 8);
+    let (pass, answer, steps) = put_by_steps(&stack, pass, 8).expect(&rt, "a put");
     assert_eq!(rt; (answer, steps), (Err(PutRefused::Full(8)), 2));
-    let (pass, answer, steps) = take_by_steps(&rt, &stack, pass);
+    let (pass, answer, steps) = take_by_steps(&stack, pass).expect(&rt, "a take");
     assert_eq!(rt; (answer, steps), (Ok((7, 1)), 6));
-    let (_, answer, steps) = take_by_steps(&rt, &stack, pass);
+    let (_, answer, steps) = take_by_steps(&stack, pass).expect(&rt, "a take");
     assert_eq!(rt; (answer, steps), (Err(TakeRefused::Empty), 1));
 }
 

@@ -1,6 +1,6 @@
 -- A range takes a node for its next value.
 use Rattle.std.proofs.lemmas.Bool.Decides.{nat_tests}
-use Rattle.std.proofs.Common.{◌≡◌, ◌≢◌, ℕ, zero, suc, ◌+◌, ◌<◌, ◌≤◌, ◌⊎◌, inl, inr, Bool, cond, ltb, List, [], ◌∷◌, ◌++◌, map, length, reverse, take, refl, sym, ap, ◌∙◌, subst, arith}
+use Rattle.std.proofs.Common.{◌≡◌, ◌≢◌, ℕ, zero, suc, ◌+◌, ◌<◌, ◌≤◌, ◌⊎◌, inl, inr, Bool, cond, ltb, List, [], ◌∷◌, ◌++◌, length, reverse, take, refl, sym, ap, ◌∙◌, subst, arith}
 use Rattle.std.specs.Prelude.{Option as Slot, Some, None}
 use Rattle.atomic_table.specs.Table.{rest}
 use Rattle.tagged_index.specs.declared.word.TheConstants.{NULL}
@@ -27,10 +27,10 @@ use Rattle.treiber_stack.specs.declared.stack.Stack.{Stack}
 use Rattle.treiber_stack.specs.declared.giving.Chain.{Chain}
 use Rattle.treiber_stack.specs.declared.range_steps.Held.{Held}
 use Rattle.treiber_stack.specs.declared.range_steps.RangeAt.TheVariants.{LoadFree as AtFree, Load as AtTop}
-use Rattle.treiber_stack.specs.Ranging.{putting, loaded, linking, HasTaken, IsFilling, IsRange, IsRangeAt, TakesNode}
+use Rattle.treiber_stack.specs.Ranging.{putting, loaded, linking, HasTaken, IsFilling, IsRange, IsRangeAt}
 use Rattle.treiber_stack.specs.Stack.{room_of, machine_of, begun_of, IsAt, IsPassOf}
 use Rattle.treiber_stack.proofs.Gives.{moved, ready_step}
-use Rattle.treiber_stack.proofs.Loading.{length_some, next_value, loaded_more}
+use Rattle.treiber_stack.proofs.Loading.{next_value, loaded_more}
 use Rattle.treiber_stack.proofs.RangeSteps.{linking_busy, are_nodes}
 
 -- a chain that is not empty
@@ -81,9 +81,6 @@ module _ {T : Type 0} (c : Stack T) (o : Operation T) (vs : List T) where
         line = subst (λ (l : Line T). IsAt c o p l (loaded (putting vs f.chain))) (next_all (putting vs f.chain) (let e = f.has.counted in omega arith)) f.at;
         read = (some_node, are_nodes c vs f.chain held' f.has some_node);
       }
-
-      pub has_taken : (q : Pass T (Line T)) (i : ℕ) → TakesNode c o (begun_of c p) (putting vs f.chain) q i → HasTaken c o q vs held' i
-      has_taken q i t = record { chain = f.chain; has = f.has; takes = record { at = t.at; low = t.low; begun_is = refl } }
 
     -- a node came, and the value moved in
     module _ (i : ℕ) (h : HasTaken c o p vs held' i) (low : held'.count < length vs) where
@@ -181,10 +178,3 @@ module _ {T : Type 0} (c : Stack T) (o : Operation T) (vs : List T) where
                   },
                   on.1.0 ∙ filled.1,
                 )
-
--- once all values have left the places of a range
-pub top_here : {T : Type 0} (c : Stack T) (o : Operation T) (places : List (Slot T)) (vs : List T) (p : Pass T (Line T)) (held' : Held) (k : ℕ) → places ≡ map Some vs → IsRange o vs → (f : IsFilling c o p vs held') → held'.count ≡ k → length places ≤ k → IsRangeAt c o p (putting vs f.chain) held' AtTop
-top_here c o places vs p held' k are is f same past =
-    let long : length places ≡ length vs = ap length are ∙ length_some vs in
-    let some_value = some_in o vs is in
-    wants_top c o vs p held' f (omega arith) (omega arith)

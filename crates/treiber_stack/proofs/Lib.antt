@@ -12,5 +12,6 @@ pub mod Walking
 pub mod Turning
 pub mod Loading
 pub mod RangeGives
+pub mod RangeTrying
 pub mod Filling
 pub mod Restoring

@@ -77,19 +77,13 @@ module _ {T : Type 0} where
   length_some [] = refl
   length_some (v ∷ vs) = ap suc (length_some vs)
 
-  -- the same while so many values have left the places of a range
-  pub low_here : (old : List (Slot T)) (vs : List T) (k count : ℕ) → old ≡ map Some vs → k < length old → count ≡ k → count < length vs
-  low_here old vs k count are low same = let e : length old ≡ length vs = ap length are ∙ length_some vs in omega arith
+  -- the same in places that so many values have left
+  module _ (vs : List T) (places : List (Slot T)) (k : ℕ) (low : k < length vs) (are : places ≡ places_from k vs) where
+    pub place_here : (d : Slot T) → IsNext vs k (get_or places k d)
+    place_here d = subst (λ (ps : List (Slot T)). IsNext vs k (get_or ps k d)) (sym are) (place_next vs k d low)
 
-  module _ (old places : List (Slot T)) (vs : List T) (k count : ℕ) (are : old ≡ map Some vs) (low : k < length old) (same : count ≡ k) (is : places ≡ places_from k vs) where
-    low_there : k < length vs
-    low_there = low_here old vs k k are low refl
-
-    pub next_here : (d : Slot T) → IsNext vs count (get_or places k d)
-    next_here d = subst (λ (ps : List (Slot T)). IsNext vs count (get_or ps k d)) (sym is) (subst (λ (x : ℕ). IsNext vs x (get_or (places_from k vs) k d)) (sym same) (place_next vs k d low_there))
-
-    pub left_here : (place : Slot T) → place ≡ None → set places k place ≡ places_from (k + 1) vs
-    left_here place none = (λ t. set (is t) k (none t)) ∙ place_left vs k low_there
+    pub place_gone : (more : ℕ) → more ≡ k + 1 → (place : Slot T) → place ≡ None → set places k place ≡ places_from more vs
+    place_gone more e place none = (λ t. set (are t) k (none t)) ∙ place_left vs k low ∙ ap (λ (m : ℕ). places_from m vs) (sym e)
 
   -- the values of places that all have one
   pub all_values : (places : List (Slot T)) → Every (λ p. IsSome p) places → (vs : List T) × (places ≡ map Some vs)

@@ -33,14 +33,12 @@ use Rattle.treiber_stack.specs.declared.range_steps.RangeEnd.TheVariants.{Spent 
 use Rattle.treiber_stack.specs.declared.range_steps.RangeStop.TheVariants.{Took, Over}
 use Rattle.treiber_stack.specs.declared.range_steps.RangeStopped.{RangeStopped}
 use Rattle.treiber_stack.specs.declared.giving.Give.{Give}
-use Rattle.treiber_stack.specs.declared.giving.Give.TheVariants as give
 use Rattle.treiber_stack.specs.declared.refusing.Barred.{Barred}
-use Rattle.treiber_stack.specs.declared.refusing.Barred.TheVariants as barred
 use Rattle.treiber_stack.specs.declared.refusing.NoNode.{NoNode}
 use Rattle.treiber_stack.specs.declared.refusing.NoNode.TheVariants.{NoneFree, Spent}
-use Rattle.treiber_stack.specs.Begun.{line_begun, put_at, put_begun}
-use Rattle.treiber_stack.specs.Giving.{AreNodes, GaveTo, give_line}
-use Rattle.treiber_stack.specs.Ranging.{loaded, linking, putting, refused, range_stop, range_hand, at_operation, at_line, at_slots, AtKnows, stop_line, stop_hand, HasNodes, Stopped, TakesNode}
+use Rattle.treiber_stack.specs.Begun.{line_begun, put_begun}
+use Rattle.treiber_stack.specs.Giving.{AreNodes, GaveTo}
+use Rattle.treiber_stack.specs.Ranging.{loaded, linking, refused, range_stop, range_hand, at_operation, at_line, at_slots, AtKnows, stop_line, stop_hand, HasNodes, Stopped, TakesNode}
 use Rattle.treiber_stack.specs.Refusing.{RefusesNode}
 use Rattle.treiber_stack.specs.Stack.{room_of, limit_of, machine_of, IsAt}
 use Rattle.treiber_stack.proofs.Gives.{within, gave_within}
@@ -150,8 +148,3 @@ module _ {T : Type 0} (c : Stack T) where
   takes_node o begun q wanted i low s =
       let at = subst (Stopped c o begun q (range_stop wanted (Took i)) (range_hand wanted (Took i))) (taken_busy wanted i) s in
       record { at = subst (λ (l : Line T). IsAt c o q l ((i, None) ∷ loaded wanted)) (taken_as wanted i) at.0; low = low; begun_is = at.1 }
-
--- the put whose nodes are given back
-pub back_at : {T : Type 0} (vs : List T) (chain : List ℕ) (why : Barred) → put_at (give_line (refused (putting vs chain) why) give.Load) ≡ putting vs chain
-back_at vs chain barred.Closed = refl
-back_at vs chain (barred.Spent t) = refl

@@ -5,7 +5,8 @@ use Rattle.stack_machine.specs.declared.lines.Answer.{Answer}
 use Rattle.stack_machine.specs.declared.lines.Answer.TheVariants.{Put as AnswerPut}
 use Rattle.stack_machine.specs.declared.lines.Putting.{Putting}
 use Rattle.stack_machine.specs.declared.lines.Line.{Line}
-use Rattle.stack_machine.specs.declared.lines.Line.TheVariants.{LoadFree, LoadTop, LoadFreeToGive}
+use Rattle.stack_machine.specs.declared.lines.Giving.{Giving}
+use Rattle.stack_machine.specs.declared.lines.Line.TheVariants.{LoadFree, LoadFreeLink, TakeFree, LoadTop, LinkToTop, SwapTop, LoadTopToRefuse, LoadFreeToGive, LinkToFree, GiveBack}
 use Rattle.running.specs.Rule.{line_in, line_now}
 use Rattle.stack_table.specs.Lines.{names}
 use Rattle.treiber_stack.specs.declared.begun.Begun.{Begun}
@@ -19,11 +20,22 @@ module _ {T : Type 0} where
   handed (AnswerPut (Err why)) = handed_back why
   handed a = []
 
-  -- the put that wanted a node, went to the top, or is refused
+  -- a put that gives its nodes back
+  abbrev pub put_given : Giving T → Putting T
+  put_given giving = record { values = handed giving.answer; chain = giving.chain }
+
+  -- the put that takes nodes, goes to the top, or is refused
   abbrev pub put_at : Line T → Putting T
   put_at (LoadFree put) = put
+  put_at (LoadFreeLink put w) = put
+  put_at (TakeFree put w k) = put
   put_at (LoadTop put) = put
-  put_at (LoadFreeToGive giving) = record { values = handed giving.answer; chain = giving.chain }
+  put_at (LinkToTop put w) = put
+  put_at (SwapTop put w) = put
+  put_at (LoadTopToRefuse values) = record { values = values; chain = [] }
+  put_at (LoadFreeToGive giving) = put_given giving
+  put_at (LinkToFree giving w) = put_given giving
+  put_at (GiveBack giving w) = put_given giving
   put_at l = record { values = []; chain = [] }
 
   abbrev pub put_begun : Begun T → Putting T

@@ -12,3 +12,4 @@ pub mod Putting
 pub mod Folding
 pub mod FoldOp
 pub mod Ranging
+pub mod RangeTrying

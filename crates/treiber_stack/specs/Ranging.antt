@@ -252,6 +252,7 @@ module _ {T : Type 0} where
   -- they are all back, and the emptied nodes are to be given back
   pub record Restores (c : Stack T) (o : Operation T) (p : Pass T (Line T)) (vs : List T) (held : Held) (why : Barred) (places : List (Slot T)) (q : Pass T (Line T)) : Type 0 where
     pub chain : List ℕ
+    pub has : HasNodes c vs chain held
     pub back : IsGiving c o q (refused (putting vs chain) why) held.chain LoadToGive
     pub places_are : places ≡ map Some vs
     pub begun : begun_of c q ≡ begun_of c p

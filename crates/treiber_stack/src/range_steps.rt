@@ -1,9 +1,8 @@
 //! The steps of a range. It stops with each node that it takes, whose slot wants the next value;
 //! where it has put all values that have nodes; and where nothing can be put.
-ghost use Rattle.std.specs.Prelude.{◌≡◌};
-ghost use Rattle.stack_machine.specs.declared.lines.Putting.{Putting};
-ghost use Rattle.treiber_stack.specs.Begun.{put_at};
-ghost use Rattle.treiber_stack.specs.Ranging.{IsRangeAt, StopsSo, range_line};
+ghost use Rattle.std.specs.Prelude.{List};
+ghost use Rattle.bounded_model.specs.Stepping.{MatchStepped};
+ghost use Rattle.treiber_stack.specs.RangeTrying.{HasStopped, IsRangeOf, RanOn};
 ghost use Rattle.treiber_stack.specs.Stack.{begun_of};
 
 use crate::begun::Begun;
@@ -12,8 +11,9 @@ use crate::refusing::{Barred, NoNode};
 use crate::rule::Stacked;
 use crate::stack::{Pass, Stack};
 use atomic_table::Seat;
+use bounded_model::Stepped;
 use machine::View;
-use running::{Access, Code, Next, Outcome, to_the_end};
+use running::{Access, Code, Next, Outcome, to_the_end, try_for};
 use stack_machine::Line;
 use stack_table::Operation;
 use stack_table::layout::{FREE_LIST, STACK_LIST};
@@ -99,17 +99,40 @@ impl<T> Stack<T> {
         at: RangeAt,
         operation: &Operation<T>,
     ) -> (Pass<T>, RangeStop)
-        requires { (put : Putting T) × IsRangeAt self.now operation.now by put held at
-            × (put_at (range_line put at) ≡ put) }
-        ensures { (put : Putting T) → IsRangeAt self.now operation.now by put held at
-            → put_at (range_line put at) ≡ put
-            → StopsSo self.now operation.now (begun_of self.now by) result.0 put held at result.1 }
+        requires { (vs : List T) × IsRangeOf self.now operation.now by vs held at }
+        ensures { (vs : List T) → IsRangeOf self.now operation.now by vs held at
+            → HasStopped self.now operation.now (begun_of self.now by) result.0 vs held at
+            result.1 }
     {
         let begun = Begun::of(operation, &by);
         let first = (by, Next::On(Range { begun, held, at }));
         let (pass, stopped) = to_the_end(rt, &self.table.shared, self, first, operation);
         let RangeStopped { begun: _, stop } = stopped;
         (pass, stop)
+    }
+
+    /// The same for at most so many steps.
+    pub(crate) fn run_range_for(
+        &self,
+        by: Pass<T>,
+        held: Held,
+        at: RangeAt,
+        operation: &Operation<T>,
+        steps: u64,
+    ) -> Stepped<(Pass<T>, RangeAt), Pass<T>, RangeStop>
+        requires { (vs : List T) × IsRangeOf self.now operation.now by vs held at }
+        ensures { (vs : List T) → IsRangeOf self.now operation.now by vs held at
+            → MatchStepped result
+            (λ next. RanOn self.now operation.now by vs held at next.0 next.1)
+            (λ back stop. HasStopped self.now operation.now (begun_of self.now by) back vs held at
+            stop) }
+    {
+        let begun = Begun::of(operation, &by);
+        let first = (by, Next::On(Range { begun, held, at }));
+        match try_for(&self.table.shared, self, first, operation, steps) {
+            Stepped::Again((pass, range)) => Stepped::Again((pass, range.at)),
+            Stepped::Done(pass, stopped) => Stepped::Done(pass, stopped.stop),
+        }
     }
 }
 

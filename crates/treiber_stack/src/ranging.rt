@@ -6,24 +6,27 @@ ghost use Rattle.atomic_table.specs.Table.{rest};
 ghost use Rattle.bounded_model.specs.declared.views.PassView.{PassView};
 ghost use Rattle.bounded_model.specs.Bulk.{PutsRange};
 ghost use Rattle.machine.specs.Seats.{Looks};
-ghost use Rattle.treiber_stack.specs.Ranging.{IsRange, IsNext, HasTaken, FillsOne, IsOver, IsRefused, Restores, ReadsAgain, PutsOf, places_from};
-ghost use Rattle.treiber_stack.specs.Stack.{room_of, shape_of, call_of, IsPassOf, pass_in};
+ghost use Rattle.treiber_stack.specs.RangeTrying.{HasStopped, IsRanging, RangeTried, gives_back, places_at};
+ghost use Rattle.treiber_stack.specs.Ranging.{IsRange, IsNext, HasTaken, FillsOne, IsRefused, Restores, ReadsAgain, PutsOf, places_from};
+ghost use Rattle.treiber_stack.specs.Stack.{room_of, shape_of, call_of, begun_of, IsPassOf};
+ghost use Rattle.treiber_stack.specs.declared.range_steps.RangeStop.TheVariants.{Over};
 ghost use Rattle.treiber_stack.specs.declared.refusing.Barred.{Barred};
 
 use crate::giving::{Chain, Give};
 use crate::range_steps::{Held, RangeAt, RangeEnd, RangeStop};
+use crate::range_trying::RangeOp;
 use crate::stack::{Pass, Stack};
-use bounded_model::{RangeRefused, Ranged, Word};
+use bounded_model::{RangeRefused, Ranged, Stepped, Word};
 use index_list::put_in;
 use running::{peek, store_link_step};
 use stack_table::layout::{STACK_LIST, link};
 use stack_table::{Listed, Operation};
 use std::snapshot::Snapshot;
 use std::sync::Wait;
-use tagged_index::{NULL, Tagged};
+use tagged_index::Tagged;
 
-// The put of these values, if there is one.
-fn name_of<T>(values: &[Option<T>]) -> Option<Operation<T>>
+/// The put of these values, if there is one.
+pub(crate) fn name_of<T>(values: &[Option<T>]) -> Option<Operation<T>>
     requires { Every (λ place. IsSome place) values.now }
     ensures { MatchOption result (values.now ≡ [])
         (λ o. (vs : List T) × (values.now ≡ map Some vs) × IsRange o vs) }
@@ -50,89 +53,119 @@ impl<T> Stack<T> {
         ensures of { IsPassOf self.now result.0 }
         ensures gives { PutsRange (call_of self.now by result.0) values.old values.new result.1 }
     {
-        let Some(operation) = name_of(values) else {
-            return (by, Err(RangeRefused::Nothing));
-        };
-        self.put_values(rt, by, values, &operation)
+        match self.begin_range(by, values) {
+            Stepped::Again(begun) => self.put_values(rt, begun, values),
+            Stepped::Done(pass, answer) => (pass, answer),
+        }
     }
 
-    // Takes a node for each value, from the front, until there is none for the next one, and puts
-    // those values.
+    // Runs a range that was begun until it is over.
     fn put_values<R: Wait>(
         &self,
         rt: &R,
-        by: Pass<T>,
+        begun: RangeOp<T>,
         values: &mut [Option<T>],
-        operation: &Operation<T>,
     ) -> (Pass<T>, Result<Ranged, RangeRefused>)
-        requires pass { IsPassOf self.now by }
-        requires values { (vs : List T) × (values.old ≡ map Some vs) × IsRange operation.now vs }
-        ensures { (vs : List T) → values.old ≡ map Some vs → IsRange operation.now vs
-            → PutsOf self.now (pass_in by) vs values.new result.0 result.1 }
+        requires { (vs : List T) × IsRanging self.now vs values.old begun }
+        ensures { (vs : List T) → IsRanging self.now vs values.old begun
+            → PutsOf self.now (begun_of self.now begun.pass) vs values.new result.0 result.1 }
     {
-        let mut pass = by;
-        let mut held = Held {
-            chain: Chain::of(NULL),
-            count: 0,
-        };
-        for at in 0..values.len() {
-            let (back, stop) = self.run_range(rt, pass, held, RangeAt::LoadFree, operation);
-            match stop {
-                RangeStop::Took(index) => {
-                    let (filled, more) = self.load_node(
-                        back,
-                        held,
-                        index,
-                        &mut values[at],
-                        operation,
-                    );
-                    pass = filled;
-                    held = more;
-                }
-                RangeStop::Over(end) => {
-                    return self.end_range(rt, back, held, end, values, operation);
-                }
+        let mut range = begun;
+        for _ in rt.forever() {
+            let RangeOp {
+                pass,
+                operation,
+                held,
+                at,
+            } = range;
+            let (back, stop) = self.run_range(rt, pass, held, at, &operation);
+            match self.after_stop(back, held, stop, values, operation) {
+                Stepped::Again(next) => range = next,
+                Stepped::Done(pass, answer) => return (pass, answer),
             }
         }
-        let (pass, stop) = self.run_range(rt, pass, held, RangeAt::Load, operation);
-        match stop {
-            RangeStop::Took(_) => unreachable!(),
-            RangeStop::Over(end) => self.end_range(rt, pass, held, end, values, operation),
+        unreachable!()
+    }
+
+    /// What a range does that has stopped. With a node it moves the next value into its slot, and
+    /// goes on with a node for the one after it, or with all of them to the top.
+    pub(crate) fn after_stop(
+        &self,
+        by: Pass<T>,
+        held: Held,
+        stop: RangeStop,
+        values: &mut [Option<T>],
+        operation: Operation<T>,
+    ) -> Stepped<RangeOp<T>, Pass<T>, Result<Ranged, RangeRefused>>
+        requires { (v : PassView T) × (vs : List T) × (at : RangeAt)
+            × HasStopped self.now operation v by vs held at stop × IsRange operation vs
+            × (values.old ≡ places_at (gives_back at) held.count vs) }
+        ensures { (v : PassView T) (vs : List T) (at : RangeAt)
+            → HasStopped self.now operation v by vs held at stop → IsRange operation vs
+            → values.old ≡ places_at (gives_back at) held.count vs
+            → RangeTried self.now vs v values.new result }
+    {
+        let index = match stop {
+            RangeStop::Took(index) => index,
+            RangeStop::Over(end) => return self.end_range(by, held, end, values, operation),
+        };
+        let place = held.count as usize;
+        let (pass, held) = self.load_node(by, held, index, &mut values[place], &operation);
+        if (held.count as usize) < values.len() {
+            let at = RangeAt::LoadFree;
+            return Stepped::Again(RangeOp {
+                pass,
+                operation,
+                held,
+                at,
+            });
         }
+        let at = RangeAt::Load;
+        Stepped::Again(RangeOp {
+            pass,
+            operation,
+            held,
+            at,
+        })
     }
 
     // Says what a range that is over has put. Where nothing can be put onto the top, the values go
-    // back to their places, and the nodes to the free list.
-    fn end_range<R: Wait>(
+    // back to their places, and then the nodes to the free list.
+    fn end_range(
         &self,
-        rt: &R,
         by: Pass<T>,
         held: Held,
         end: RangeEnd,
         values: &mut [Option<T>],
-        operation: &Operation<T>,
-    ) -> (Pass<T>, Result<Ranged, RangeRefused>)
-        requires { (v : PassView T) × (vs : List T) × IsOver self.now operation.now v by vs held end
-            × IsRange operation.now vs × (values.old ≡ places_from held.count vs) }
-        ensures { (v : PassView T) (vs : List T) → IsOver self.now operation.now v by vs held end
-            → IsRange operation.now vs → values.old ≡ places_from held.count vs
-            → PutsOf self.now v vs values.new result.0 result.1 }
+        operation: Operation<T>,
+    ) -> Stepped<RangeOp<T>, Pass<T>, Result<Ranged, RangeRefused>>
+        requires { (v : PassView T) × (vs : List T) × (at : RangeAt)
+            × HasStopped self.now operation v by vs held at (Over end) × IsRange operation vs
+            × (values.old ≡ places_at (gives_back at) held.count vs) }
+        ensures { (v : PassView T) (vs : List T) (at : RangeAt)
+            → HasStopped self.now operation v by vs held at (Over end) → IsRange operation vs
+            → values.old ≡ places_at (gives_back at) held.count vs
+            → RangeTried self.now vs v values.new result }
     {
         match end {
             RangeEnd::Put(number) => {
                 let count = held.count;
-                (by, Ok(Ranged { number, count }))
+                Stepped::Done(by, Ok(Ranged { number, count }))
             }
-            RangeEnd::Full => (by, Err(RangeRefused::Full)),
-            RangeEnd::Refused(why) => (by, Err(why.of_range())),
-            RangeEnd::Spent(tag) => (by, Err(RangeRefused::Spent(Word::Free, tag))),
+            RangeEnd::Full => Stepped::Done(by, Err(RangeRefused::Full)),
+            RangeEnd::Refused(why) => Stepped::Done(by, Err(why.of_range())),
+            RangeEnd::Spent(tag) => Stepped::Done(by, Err(RangeRefused::Spent(Word::Free, tag))),
             RangeEnd::Barred(why) => {
                 let pass = self.restore(by, held, values);
                 let at = RangeAt::GiveBack(why, Give::Load);
-                let (pass, _) = self.run_range(rt, pass, held, at, operation);
-                (pass, Err(why.of_range()))
+                Stepped::Again(RangeOp {
+                    pass,
+                    operation,
+                    held,
+                    at,
+                })
             }
-            RangeEnd::GaveBack(_) => unreachable!(),
+            RangeEnd::GaveBack(why) => Stepped::Done(by, Err(why.of_range())),
         }
     }
 

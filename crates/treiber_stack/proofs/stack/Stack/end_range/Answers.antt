@@ -1,80 +1,78 @@
-use Rattle.std.proofs.Common.{length, map, refl, sym, ap, ◌∙◌, subst}
+use Rattle.std.proofs.Common.{map, refl, sym, ap, ◌∙◌, subst}
+use Rattle.std.proofs.lemmas.Bool.{false≢true}
 use Rattle.std.specs.Prelude.{Some, Err}
 use Rattle.bounded_model.specs.declared.answers.Word.TheVariants.{Free}
 use Rattle.bounded_model.specs.declared.bulk.RangeRefused.{RangeRefused}
 use Rattle.bounded_model.specs.declared.bulk.RangeRefused.TheVariants.{Full, Spent}
-use Rattle.bounded_model.specs.declared.views.PassView.{PassView}
-use Rattle.stack_machine.specs.Machine.{is_idle}
-use Rattle.treiber_stack.specs.declared.range_steps.RangeStop.{RangeStop}
-use Rattle.treiber_stack.specs.Ranging.{NotPut, PutsOf, IsOver, Stopped, putting, places_from, range_stop, range_hand}
+use Rattle.treiber_stack.specs.declared.range_steps.RangeEnd.{RangeEnd}
+use Rattle.treiber_stack.specs.declared.range_steps.RangeEnd.TheVariants as end
+use Rattle.treiber_stack.specs.declared.range_steps.RangeStop.TheVariants.{Over}
+use Rattle.treiber_stack.specs.Ranging.{PutsOf, places_from}
+use Rattle.treiber_stack.specs.RangeTrying.{HasStopped}
 use Rattle.treiber_stack.specs.Refusing.{barring_range}
-use Rattle.treiber_stack.specs.Stack.{begun_of, shape_of, pass_in}
+use Rattle.treiber_stack.specs.Stack.{shape_of, pass_in}
 use Rattle.treiber_stack.proofs.Filling.{some_in}
 use Rattle.treiber_stack.proofs.RangeGives.{range_gives, none_gives, not_put_full, not_put_spent, not_put_barred, is_refused}
-use Rattle.treiber_stack.proofs.RangeSteps.{back_at}
+use Rattle.treiber_stack.proofs.RangeTrying.{is_over, is_back}
 use Rattle.treiber_stack.proofs.stack.Stack.end_range.Goals as goal
 
 pub returns-in-Put : goal.returns-in-Put
-returns-in-Put g c v vs over is are =
+returns-in-Put g c v vs at h is are =
     let a = c.args in
-    let end = subst (IsOver a.self.now a.operation.now v a.by vs a.held) c.in-Put.is over in
-    let e = end.ends in
-    (e.1.0, range_gives a.self.now a.operation.now (map Some vs) a.values.now vs end.chain a.held.count c.in-Put.number is refl e.0 end.has.few end.has.counted are e.1.1)
+    let over = is_over a.self.now a.operation a.by vs a.held at v a.values.now are (end.Put c.in-Put.number) refl (subst (λ (e : RangeEnd). HasStopped a.self.now a.operation v a.by vs a.held at (Over e)) c.in-Put.is h) in
+    let e = over.0.ends in
+    (e.1.0, range_gives a.self.now a.operation (map Some vs) a.values.now vs over.0.chain a.held.count c.in-Put.number is refl e.0 over.0.has.few over.0.has.counted over.1 e.1.1)
 
 pub returns-in-Full : goal.returns-in-Full
-returns-in-Full g c v vs over is are =
+returns-in-Full g c v vs at h is are =
     let a = c.args in
-    let end = subst (IsOver a.self.now a.operation.now v a.by vs a.held) c.in-Full.is over in
-    let e = end.ends in
-    (e.1.0, none_gives (shape_of a.self.now) v (pass_in a.by) (map Some vs) a.values.now vs Full refl (some_in a.operation.now vs is) (are ∙ ap (λ k. places_from k vs) e.0) (not_put_full a.self.now a.operation.now vs is e.1.1))
+    let over = is_over a.self.now a.operation a.by vs a.held at v a.values.now are end.Full refl (subst (λ (e : RangeEnd). HasStopped a.self.now a.operation v a.by vs a.held at (Over e)) c.in-Full.is h) in
+    let e = over.0.ends in
+    (e.1.0, none_gives (shape_of a.self.now) v (pass_in a.by) (map Some vs) a.values.now vs Full refl (some_in a.operation vs is) (over.1 ∙ ap (λ k. places_from k vs) e.0) (not_put_full a.self.now a.operation vs is e.1.1))
 
 pub returns-in-Refused : goal.returns-in-Refused
-returns-in-Refused g c v vs over is are =
+returns-in-Refused g c v vs at h is are =
     let a = c.args in
-    let end = subst (IsOver a.self.now a.operation.now v a.by vs a.held) c.in-Refused.is over in
-    let e = end.ends in
+    let why = c.in-Refused.why in
+    let over = is_over a.self.now a.operation a.by vs a.held at v a.values.now are (end.Refused why) refl (subst (λ (e : RangeEnd). HasStopped a.self.now a.operation v a.by vs a.held at (Over e)) c.in-Refused.is h) in
+    let e = over.0.ends in
     subst (λ (r : RangeRefused). PutsOf a.self.now v vs a.values.now a.by (Err r)) (sym c.of_range.ensures)
-    (e.1.0, none_gives (shape_of a.self.now) v (pass_in a.by) (map Some vs) a.values.now vs (barring_range c.in-Refused.why) refl (some_in a.operation.now vs is) (are ∙ ap (λ k. places_from k vs) e.0) (not_put_barred a.self.now a.operation.now vs c.in-Refused.why e.1.1))
+    (e.1.0, none_gives (shape_of a.self.now) v (pass_in a.by) (map Some vs) a.values.now vs (barring_range why) refl (some_in a.operation vs is) (over.1 ∙ ap (λ k. places_from k vs) e.0) (not_put_barred a.self.now a.operation vs why e.1.1))
 
 pub returns-in-Spent : goal.returns-in-Spent
-returns-in-Spent g c v vs over is are =
+returns-in-Spent g c v vs at h is are =
     let a = c.args in
-    let end = subst (IsOver a.self.now a.operation.now v a.by vs a.held) c.in-Spent.is over in
-    let e = end.ends in
-    (e.1.0, none_gives (shape_of a.self.now) v (pass_in a.by) (map Some vs) a.values.now vs (Spent Free c.in-Spent.tag) refl (some_in a.operation.now vs is) (are ∙ ap (λ k. places_from k vs) e.0) (not_put_spent a.self.now a.operation.now vs c.in-Spent.tag e.1.1))
+    let tag = c.in-Spent.tag in
+    let over = is_over a.self.now a.operation a.by vs a.held at v a.values.now are (end.Spent tag) refl (subst (λ (e : RangeEnd). HasStopped a.self.now a.operation v a.by vs a.held at (Over e)) c.in-Spent.is h) in
+    let e = over.0.ends in
+    (e.1.0, none_gives (shape_of a.self.now) v (pass_in a.by) (map Some vs) a.values.now vs (Spent Free tag) refl (some_in a.operation vs is) (over.1 ∙ ap (λ k. places_from k vs) e.0) (not_put_spent a.self.now a.operation vs tag e.1.1))
 
 pub restore-pass-requires : goal.restore-pass-requires
 restore-pass-requires g c =
     let a = c.args in
     let r = c.requires in
-    let end = subst (IsOver a.self.now a.operation.now r.0 a.by r.1 a.held) c.in-Barred.is r.2 in
-    (a.operation.now, r.1, c.in-Barred.why, is_refused a.self.now a.operation.now r.0 a.by r.1 a.held c.in-Barred.why end, r.4)
-
-pub run_range-pass-requires : goal.run_range-pass-requires
-run_range-pass-requires g c =
-    let a = c.args in
-    let r = c.requires in
     let why = c.in-Barred.why in
-    let end = subst (IsOver a.self.now a.operation.now r.0 a.by r.1 a.held) c.in-Barred.is r.2 in
-    let back = c.restore-pass.ensures a.operation.now r.1 why (is_refused a.self.now a.operation.now r.0 a.by r.1 a.held why end) r.4 in
-    (putting r.1 back.chain, record { line = back.back.line; read = back.back.are }, back_at r.1 back.chain why)
+    let over = is_over a.self.now a.operation a.by r.1 a.held r.2 r.0 a.values.now r.5 (end.Barred why) refl (subst (λ (e : RangeEnd). HasStopped a.self.now a.operation r.0 a.by r.1 a.held r.2 (Over e)) c.in-Barred.is r.3) in
+    (a.operation, r.1, why, is_refused a.self.now a.operation r.0 a.by r.1 a.held why over.0, over.1)
 
 pub returns-in-Barred : goal.returns-in-Barred
-returns-in-Barred g c v vs over is are =
+returns-in-Barred g c v vs at h is are =
     let a = c.args in
     let why = c.in-Barred.why in
-    let end = subst (IsOver a.self.now a.operation.now v a.by vs a.held) c.in-Barred.is over in
-    let back = c.restore-pass.ensures a.operation.now vs why (is_refused a.self.now a.operation.now v a.by vs a.held why end) are in
-    let put = putting vs back.chain in
-    let q = c.run_range-pass.result.0 in
-    let stops = c.run_range-pass.ensures put (record { line = back.back.line; read = back.back.are }) (back_at vs back.chain why) in
-    let gave = subst (λ (stop : RangeStop). Stopped a.self.now a.operation.now (begun_of a.self.now c.restore-pass.result) q (range_stop put stop) (range_hand put stop) (is_idle (range_stop put stop))) stops.0 stops.1 in
-    let refusal = subst (λ (v : PassView _). NotPut (shape_of a.self.now) v (length vs) (pass_in q) (barring_range why)) (back.begun ∙ end.ends.1.1) (not_put_barred a.self.now a.operation.now vs why gave.1) in
-    subst (λ (r : RangeRefused). PutsOf a.self.now v vs c.restore-pass.new.values q (Err r)) (sym c.of_range-in-Barred.ensures)
-    (gave.0, none_gives (shape_of a.self.now) v (pass_in q) (map Some vs) c.restore-pass.new.values vs (barring_range why) refl (some_in a.operation.now vs is) back.places_are refusal)
+    let over = is_over a.self.now a.operation a.by vs a.held at v a.values.now are (end.Barred why) refl (subst (λ (e : RangeEnd). HasStopped a.self.now a.operation v a.by vs a.held at (Over e)) c.in-Barred.is h) in
+    let back = c.restore-pass.ensures a.operation vs why (is_refused a.self.now a.operation v a.by vs a.held why over.0) over.1 in (
+      record {
+        of = is;
+        at = record { chain = back.chain; has = back.has; is = record { line = back.back.line; read = back.back.are }; wants = λ e. absurd (false≢true e) };
+        places_are = back.places_are;
+      },
+      back.begun ∙ over.0.ends.1.1,
+    )
 
-pub unreachable-requires : goal.unreachable-requires
-unreachable-requires g c =
+pub returns-in-GaveBack : goal.returns-in-GaveBack
+returns-in-GaveBack g c v vs at h is are =
     let a = c.args in
-    let r = c.requires in
-    (subst (IsOver a.self.now a.operation.now r.0 a.by r.1 a.held) c.in-GaveBack.is r.2).ends.0
+    let why = c.in-GaveBack.why in
+    let back = is_back a.self.now a.operation a.by vs a.held at v a.values.now are why (subst (λ (e : RangeEnd). HasStopped a.self.now a.operation v a.by vs a.held at (Over e)) c.in-GaveBack.is h) in
+    subst (λ (r : RangeRefused). PutsOf a.self.now v vs a.values.now a.by (Err r)) (sym c.of_range-in-GaveBack.ensures)
+    (back.0, none_gives (shape_of a.self.now) v (pass_in a.by) (map Some vs) a.values.now vs (barring_range why) refl (some_in a.operation vs is) back.2 (not_put_barred a.self.now a.operation vs why back.1))

@@ -1,10 +1,10 @@
-use Rattle.std.proofs.Common.{◌≡◌, List, map}
-use Rattle.std.specs.Prelude.{Some}
-use Rattle.treiber_stack.specs.Ranging.{IsFilling, IsRange, places_from}
-use Rattle.treiber_stack.specs.Stack.{begun_of, pass_in}
+use Rattle.std.proofs.Common.{◌≡◌, List}
+use Rattle.treiber_stack.specs.RangeTrying.{IsRanging}
+use Rattle.treiber_stack.specs.Stack.{begun_of}
 use Rattle.treiber_stack.proofs.stack.Stack.put_values.Given as goal
 
-abbrev pub invariant-loop-at : goal.invariant-loop-at
-invariant-loop-at g l =
-    (vs : List g.row.T.Denot) → l.fn.values ≡ map Some vs → IsRange l.fn.operation vs
-    → IsFilling l.fn.self l.fn.operation l.pass vs l.held × (l.held.count ≡ l.at) × (l.values ≡ places_from l.at vs) × (begun_of l.fn.self l.pass ≡ pass_in l.fn.by)
+abbrev pub invariant-loop : goal.invariant-loop
+invariant-loop g l =
+    (goal.iterator-loop g).can_next l.iterator' × (goal.iterator-loop g).is_finite l.iterator'
+    × ((vs : List g.row.T.Denot) → IsRanging l.fn.self vs l.fn.values l.fn.begun
+    → IsRanging l.fn.self vs l.values l.range × (begun_of l.fn.self l.range.pass ≡ begun_of l.fn.self l.fn.begun.pass))

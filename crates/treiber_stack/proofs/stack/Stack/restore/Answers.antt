@@ -92,6 +92,7 @@ returns g c o vs why first are =
     let none : i.1.0 ≡ 0 = omega arith in
     record {
       chain = i.0.chain;
+      has = i.0.has;
       back = restore_done c.args.self.now o vs c.args.held why c.loop-moved.pass c.loop-moved.moved c.loop-moved.index i.0 all first.some_node;
       places_are = i.1.2 ∙ ap (λ (k : ℕ). places_from k vs) none;
       begun = i.2;

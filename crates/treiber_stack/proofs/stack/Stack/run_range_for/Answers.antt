@@ -1,0 +1,26 @@
+use Rattle.treiber_stack.proofs.RangeTrying.{begins, stops_so, ran_on}
+use Rattle.treiber_stack.proofs.stack.Stack.run_range_for.Goals as goal
+
+pub try_for-requires-clause-ran : goal.try_for-requires-clause-ran
+try_for-requires-clause-ran g c =
+    let a = c.args in
+    let b = c.of-begun in
+    (a.by, begins a.self.now a.operation.now a.by c.requires.0 a.held a.at b.result b.ensures.0 b.ensures.1 c.requires.1)
+
+pub returns-in-Again : goal.returns-in-Again
+returns-in-Again g c vs is =
+    let a = c.args in
+    let b = c.of-begun in
+    let r = c.in-Again in
+    ran_on a.self.now a.operation.now a.by vs a.held a.at b.result b.ensures.0 b.ensures.1 is r.pass r.range
+    (r.ensures.ran a.by (begins a.self.now a.operation.now a.by vs a.held a.at b.result b.ensures.0 b.ensures.1 is))
+    (r.ensures.told (record { begun = b.result; held = a.held; at = a.at }) (λ x t. t))
+
+pub returns-in-Done : goal.returns-in-Done
+returns-in-Done g c vs is =
+    let a = c.args in
+    let b = c.of-begun in
+    let r = c.in-Done in
+    stops_so a.self.now a.operation.now a.by vs a.held a.at b.result b.ensures.0 b.ensures.1 is r.pass r.stopped
+    (r.ensures.told (record { begun = b.result; held = a.held; at = a.at }) (λ x t. t))
+    (r.ensures.ran a.by (begins a.self.now a.operation.now a.by vs a.held a.at b.result b.ensures.0 b.ensures.1 is))

@@ -1,0 +1,66 @@
+-- A range that is put in parts: where it stands between them, and what a part of it has come to.
+use Rattle.std.specs.Prelude.{◌≡◌, ℕ, ◌<◌, Bool, true, false, List, map, length, Option as Slot, Some, Result}
+use Rattle.bounded_model.specs.declared.answers.Stepped.{Stepped}
+use Rattle.bounded_model.specs.declared.bulk.Ranged.{Ranged}
+use Rattle.bounded_model.specs.declared.bulk.RangeRefused.{RangeRefused}
+use Rattle.bounded_model.specs.declared.views.PassView.{PassView}
+use Rattle.bounded_model.specs.Stepping.{MatchStepped}
+use Rattle.stack_machine.specs.declared.lines.Line.{Line}
+use Rattle.running.specs.declared.passes.Pass.{Pass}
+use Rattle.stack_table.specs.declared.operation.Operation.{Operation}
+use Rattle.treiber_stack.specs.declared.stack.Stack.{Stack}
+use Rattle.treiber_stack.specs.declared.range_steps.Held.{Held}
+use Rattle.treiber_stack.specs.declared.range_steps.RangeAt.{RangeAt}
+use Rattle.treiber_stack.specs.declared.range_steps.RangeAt.TheVariants.{GiveBack}
+use Rattle.treiber_stack.specs.declared.range_steps.RangeStop.{RangeStop}
+use Rattle.treiber_stack.specs.declared.range_trying.RangeOp.{RangeOp}
+use Rattle.treiber_stack.specs.Ranging.{HasNodes, IsRange, IsRangeAt, PutsOf, StopsSo, places_from, putting, takes}
+use Rattle.treiber_stack.specs.Stack.{pass_in, begun_of}
+
+-- its values are back in their places
+abbrev pub gives_back : RangeAt → Bool
+gives_back (GiveBack why at) = true
+gives_back at = false
+
+module _ {T : Type 0} where
+  -- the places while k values are in nodes, and once all are back
+  abbrev pub places_at : Bool → ℕ → List T → List (Slot T)
+  places_at false k vs = places_from k vs
+  places_at true k vs = map Some vs
+
+module _ {T : Type 0} (c : Stack T) (o : Operation T) where
+  -- a range of these values is at this; where it takes a node, there is a value for it
+  pub record IsRangeOf (p : Pass T (Line T)) (vs : List T) (held : Held) (at : RangeAt) : Type 0 where
+    pub chain : List ℕ
+    pub has : HasNodes c vs chain held
+    pub is : IsRangeAt c o p (putting vs chain) held at
+    pub wants : takes at ≡ true → held.count < length vs
+
+  -- it was at this, begun as the pass was v, and has stopped
+  pub record HasStopped (v : PassView T) (p : Pass T (Line T)) (vs : List T) (held : Held) (at : RangeAt) (stop : RangeStop) : Type 0 where
+    pub chain : List ℕ
+    pub has : HasNodes c vs chain held
+    pub wants : takes at ≡ true → held.count < length vs
+    pub stops : StopsSo c o v p (putting vs chain) held at stop
+
+  -- some steps led it on
+  abbrev pub RanOn : Pass T (Line T) → List T → Held → RangeAt → Pass T (Line T) → RangeAt → Type 0
+  RanOn p vs held at q at' = IsRangeOf q vs held at' × (begun_of c q ≡ begun_of c p) × (gives_back at' ≡ gives_back at)
+
+module _ {T : Type 0} (c : Stack T) where
+  -- a put of these values is under way, and its places are these
+  pub record IsRanging (vs : List T) (places : List (Slot T)) (op : RangeOp T) : Type 0 where
+    pub of : IsRange op.operation vs
+    pub at : IsRangeOf c op.operation op.pass vs op.held op.at
+    pub places_are : places ≡ places_at (gives_back op.at) op.held.count vs
+
+  -- begun as the pass was v, it is under way, or gave what the whole put gives
+  abbrev pub RangeTried : List T → PassView T → List (Slot T) → Stepped (RangeOp T) (Pass T (Line T)) (Result Ranged RangeRefused) → Type 0
+  RangeTried vs v places made = MatchStepped made
+      (λ next. IsRanging vs places next × (begun_of c next.pass ≡ v))
+      (λ back answer. PutsOf c v vs places back answer)
+
+  -- a put of the values in these places was begun, and has made no step
+  abbrev pub RangeBegun : PassView T → List (Slot T) → Stepped (RangeOp T) (Pass T (Line T)) (Result Ranged RangeRefused) → Type 0
+  RangeBegun v places made = ((vs : List T) × (places ≡ map Some vs) × RangeTried vs v places made)
+      × MatchStepped made (λ next. pass_in next.pass ≡ v) (λ back answer. pass_in back ≡ v)

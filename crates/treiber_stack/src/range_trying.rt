@@ -1,0 +1,97 @@
+//! Ranges that are put in parts of a bounded number of steps, for callers that may not wait. Where
+//! the steps are used up, the range comes back as it is, begun as before.
+ghost use Rattle.std.specs.Prelude.{List, IsSome};
+ghost use Rattle.std.specs.List.{AllByRecursion as Every};
+ghost use Rattle.treiber_stack.specs.RangeTrying.{IsRanging, RangeBegun, RangeTried};
+ghost use Rattle.treiber_stack.specs.Stack.{IsPassOf, pass_in, begun_of};
+
+use crate::giving::Chain;
+use crate::range_steps::{Held, RangeAt};
+use crate::ranging::name_of;
+use crate::stack::{Pass, Stack};
+use bounded_model::{RangeRefused, Ranged, Stepped};
+use stack_table::Operation;
+use tagged_index::NULL;
+
+/// A put of a range that was begun. The values that have no node yet are in their places.
+#[derive(Drop)]
+pub struct RangeOp<T> {
+    pub(crate) pass: Pass<T>,
+    /// It shows proofs the values that are put.
+    pub(crate) operation: Operation<T>,
+    pub(crate) held: Held,
+    pub(crate) at: RangeAt,
+}
+
+impl<T> Stack<T> {
+    /// A put of the values in these places that makes no step yet. An empty range is refused at
+    /// once, as `Nothing`.
+    pub fn begin_range(
+        &self,
+        by: Pass<T>,
+        values: &[Option<T>],
+    ) -> Stepped<RangeOp<T>, Pass<T>, Result<Ranged, RangeRefused>>
+        requires pass { IsPassOf self.now by }
+        requires values { Every (λ place. IsSome place) values.now }
+        ensures { RangeBegun self.now (pass_in by) values.now result }
+    {
+        let Some(operation) = name_of(values) else {
+            return Stepped::Done(by, Err(RangeRefused::Nothing));
+        };
+        let held = Held {
+            chain: Chain::of(NULL),
+            count: 0,
+        };
+        Stepped::Again(RangeOp {
+            pass: by,
+            operation,
+            held,
+            at: RangeAt::LoadFree,
+        })
+    }
+}
+
+impl<T> RangeOp<T> {
+    /// Goes on, with the places as it left them: for at most so many steps to take each node, as
+    /// many to put them onto the top, and as many to give them back, with a wait after each
+    /// compare-and-swap that failed. A node that is linked, or whose value goes back, is a step
+    /// more. Where that ends the range, it returns what `put_range` does, and leaves the places so.
+    pub fn run_for(
+        self,
+        stack: &Stack<T>,
+        values: &mut [Option<T>],
+        steps: u64,
+    ) -> Stepped<RangeOp<T>, Pass<T>, Result<Ranged, RangeRefused>>
+        requires { (vs : List T) × IsRanging stack.now vs values.old self }
+        ensures { (vs : List T) → IsRanging stack.now vs values.old self
+            → RangeTried stack.now vs (begun_of stack.now self.pass) values.new result }
+    {
+        let mut range = self;
+        // It stops with each node, where the values go back to their places, and at its end.
+        for _ in 0..values.len().saturating_add(2) {
+            let RangeOp {
+                pass,
+                operation,
+                held,
+                at,
+            } = range;
+            match stack.run_range_for(pass, held, at, &operation, steps) {
+                Stepped::Again((pass, at)) => {
+                    return Stepped::Again(RangeOp {
+                        pass,
+                        operation,
+                        held,
+                        at,
+                    });
+                }
+                Stepped::Done(back, stop) => {
+                    match stack.after_stop(back, held, stop, values, operation) {
+                        Stepped::Again(next) => range = next,
+                        Stepped::Done(pass, answer) => return Stepped::Done(pass, answer),
+                    }
+                }
+            }
+        }
+        Stepped::Again(range)
+    }
+}
