@@ -10,6 +10,9 @@ use std::sync::Wait;
 use tagged_index::{Limits, MAX_TAG};
 use treiber_stack::{FoldMade, FoldOp, Pass, Stack};
 
+/// More parts than a fold here has.
+const MOST_PARTS: u64 = 20;
+
 /// Puts `'a'`, `'b'` and `'c'`.
 fn put_three<R: Wait>(rt: &R, stack: &Stack<char>, by: Pass<char>) -> Pass<char>
     requires { IsPassOf stack.now by }
@@ -23,7 +26,7 @@ fn put_three<R: Wait>(rt: &R, stack: &Stack<char>, by: Pass<char>) -> Pass<char>
 
 /// Ends a fold in parts of one step. Returns also the values that it handed out, in order, and how
 /// many parts used up their step.
-fn fold_in_parts<R: Abort + AllocGlobal + Wait>(
+fn fold_in_parts<R: Abort + AllocGlobal>(
     rt: &R,
     stack: &Stack<char>,
     begun: FoldOp<char>,
@@ -34,7 +37,7 @@ fn fold_in_parts<R: Abort + AllocGlobal + Wait>(
     let mut fold = begun;
     let mut values = Vec::new(rt.alloc());
     let mut used_up: u64 = 0;
-    for _ in rt.forever() {
+    for _ in 0..MOST_PARTS {
         match fold.run_for(stack, 1) {
             FoldMade::Again(next) => {
                 used_up = used_up.saturating_add(1);
@@ -47,7 +50,7 @@ fn fold_in_parts<R: Abort + AllocGlobal + Wait>(
             FoldMade::Done(pass, answer) => return (pass, answer, values, used_up),
         }
     }
-    unreachable!()
+    panic!(rt; "it has not ended")
 }
 
 // Steps are used up by two parts that take all, and by two of the three that give the nodes back;

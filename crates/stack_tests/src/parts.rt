@@ -5,12 +5,15 @@ ghost use Rattle.std.specs.List.{AllByRecursion as Every};
 ghost use Rattle.treiber_stack.specs.Stack.{IsPassOf};
 
 use bounded_model::{Container, RangeRefused, Ranged, Stepped};
-use std::sync::Wait;
+use std::process::Abort;
 use tagged_index::{Limits, MAX_TAG};
 use treiber_stack::{Pass, Stack};
 
+/// More parts than a range here has.
+const MOST_PARTS: u64 = 20;
+
 /// Puts a range in parts of one step, and counts them.
-fn put_in_parts<R: Wait>(
+fn put_in_parts<R: Abort>(
     rt: &R,
     stack: &Stack<char>,
     by: Pass<char>,
@@ -24,15 +27,13 @@ fn put_in_parts<R: Wait>(
         Stepped::Again(begun) => begun,
         Stepped::Done(pass, answer) => return (pass, answer, 0),
     };
-    let mut parts: u64 = 0;
-    for _ in rt.forever() {
-        parts = parts.saturating_add(1);
+    for before in 0..MOST_PARTS {
         match range.run_for(stack, values, 1) {
             Stepped::Again(next) => range = next,
-            Stepped::Done(pass, answer) => return (pass, answer, parts),
+            Stepped::Done(pass, answer) => return (pass, answer, before + 1),
         }
     }
-    unreachable!()
+    panic!(rt; "it has not ended")
 }
 
 // A part in which the range stops makes the first step after the stop too: three values take a node

@@ -1,11 +1,15 @@
+use Rattle.std.proofs.Common.{◌∷◌, [], ◌++◌, sym, subst}
+use Rattle.treiber_stack.specs.FoldOp.{IsFolding}
 use Rattle.stack_tests.proofs.fold_parts.fold_in_parts.Goals as goal
-
-pub loop-preserved-in-Again : goal.loop-preserved-in-Again
-loop-preserved-in-Again g c =
-    let i = c.loop.invariant.2 in
-    (tt, tt, (_, _, (c.in-Again.ensures i.0 i.1 i.2).0))
+use Rattle.stack_tests.proofs.fold_parts.fold_in_parts.Goals.{in-Again, in-Value}
 
 pub loop-preserved : goal.loop-preserved
 loop-preserved g c =
-    let i = c.loop.invariant.2 in
-    (tt, tt, (_, _, (c.in-Value.ensures i.0 i.1 i.2).0))
+    let i = c.loop.invariant in
+    elim c.match-run_for.branch [
+      | in-Again w ↦ (i.0, i.1, subst (IsFolding c.args.stack.now i.0 i.1) (sym w.fold-is) (w.in-Again.ensures i.0 i.1 i.2).0)
+      | in-Value w ↦ (i.0, i.1 ++ w.in-Value.value ∷ [], subst (IsFolding c.args.stack.now i.0 (i.1 ++ w.in-Value.value ∷ [])) (sym w.fold-is) (w.in-Value.ensures i.0 i.1 i.2).0)
+    ]
+
+pub returns-in-Done : goal.returns-in-Done
+returns-in-Done g c = let i = c.loop.invariant in (c.in-Done.ensures i.0 i.1 i.2).0

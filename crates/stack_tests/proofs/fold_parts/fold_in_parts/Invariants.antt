@@ -3,6 +3,4 @@ use Rattle.treiber_stack.specs.FoldOp.{IsFolding}
 use Rattle.stack_tests.proofs.fold_parts.fold_in_parts.Given as goal
 
 abbrev pub invariant-loop : goal.invariant-loop
-invariant-loop g l =
-    (goal.iterator-loop g).can_next l.iterator' × (goal.iterator-loop g).is_finite l.iterator'
-    × ((front : _) × (values : List _) × IsFolding l.fn.stack front values l.fold)
+invariant-loop g l = (front : _) × (values : List _) × IsFolding l.fn.stack front values l.fold
