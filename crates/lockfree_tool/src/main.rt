@@ -3,17 +3,15 @@
 //! `program`; here are the arguments, files and streams of a process.
 #![tactic(auto)]
 
-mod pipe;
-
-use pipe::{Errors, Output};
+pub use file_relay::relay_main;
+pub use program::replay;
 use program::run;
-pub use program::{relay_main, replay};
 use std::cell::Cell;
 use std::io::{self, BufWriter};
 use std::process::ExitCode;
 use std::rt::Files;
 use std::{env, fs};
-use streams::OpenFiles;
+use streams::{Errors, OpenFiles, Output};
 pub use streams::{ReplayFault, ToolFault};
 pub use words::{Chosen, Kind, RelayArgs, WordsRefused, read_words};
 

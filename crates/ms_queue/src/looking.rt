@@ -49,7 +49,7 @@ impl<T> Queue<T> {
         to_the_end(rt, table, self, first, &look)
     }
 
-    /// A look that makes no step yet. Begun and stepped in `player`, as `Stepwise` has it.
+    /// A look that makes no step yet. Begun and stepped in `scripted`, as `Stepwise` has it.
     #[inline]
     pub fn begin_look(&self, by: Pass<T>) -> LookOp<T>
         requires { IsPassOf self.now by }

@@ -1,3 +1,2 @@
 pub mod Showing
 pub mod Telling
-pub mod Folding

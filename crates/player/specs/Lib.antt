@@ -1,4 +1,3 @@
-pub mod Calls
 pub mod Plays
 pub mod Shows
 pub mod Traces

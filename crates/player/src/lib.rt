@@ -8,20 +8,12 @@
 #![tactic(auto)]
 
 mod acts;
-mod calls;
-mod operation;
 mod place;
 mod played;
 mod playing;
-mod queue;
-mod ranges;
-mod stack;
 mod stage;
 mod trace;
 
 pub use played::Played;
 pub use playing::play;
-pub use queue::play_queue;
-pub use ranges::Ranges;
-pub use stack::play_stack;
 pub use trace::{MadeStep, Trace};

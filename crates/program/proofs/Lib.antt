@@ -1,3 +1,2 @@
-pub mod AllDelivered
 pub mod Outcomes
 pub mod Asked

@@ -1,4 +1,1 @@
-pub mod Measuring
 pub mod Outcome
-pub mod Relaying
-pub mod Stats

@@ -13,7 +13,7 @@ use Rattle.script.specs.AnswerTexts.{answer_text}
 use Rattle.script.specs.Faults.{IsUnended, IsFirstBad, IsAccepted}
 use Rattle.script.specs.Reading.{split_lines}
 use Rattle.script.specs.Script.{Head, IsScript, text_of}
-use Rattle.program.specs.Relaying.{Written}
+use Rattle.file_relay.specs.Relaying.{Written}
 
 -- what is written for a script, which is played over a new container of this order: the answers of its calls, each under
 -- the container's own laws

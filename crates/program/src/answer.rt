@@ -7,8 +7,9 @@ ghost use Rattle.script.specs.Script.{FinishesLast, IsLine, is_allowed};
 ghost use Rattle.script.specs.View.{head_view};
 
 use bounded_model::{MakeRefused, Order};
-use player::{Trace, play_queue, play_stack};
+use player::Trace;
 use script::Script;
+use scripted::{play_queue, play_stack};
 use std::alloc::Global;
 use std::sync::Wait;
 

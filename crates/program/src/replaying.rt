@@ -3,7 +3,7 @@
 ghost use Rattle.std.specs.Prelude.{◌≡◌, ◌≢◌, ◌≤◌, length, IfErr, IfOk, OnOk, IfSome, string_bytes};
 ghost use Rattle.streams.specs.declared.fault.ReplayFault.TheVariants.{Output};
 ghost use Rattle.program.specs.Outcome.{IsFaultOf, IsOutputFor, IsOutside, Replays, Wrote, WroteFront};
-ghost use Rattle.program.specs.Relaying.{written};
+ghost use Rattle.file_relay.specs.Relaying.{written};
 ghost use Rattle.script.specs.Faults.{IsAccepted};
 
 use crate::answer::answer;

@@ -4,9 +4,8 @@ ghost use Rattle.std.specs.Prelude.{◌≡◌, ◌≢◌, IfErr, IfOk, OnErr, On
 ghost use Rattle.streams.specs.declared.failure.Failure.TheVariants.{Output};
 ghost use Rattle.words.specs.Ranges.{AreInRange, AskForDetails, IsDetailed};
 
-use crate::measuring::relay_measured;
-use crate::relaying::relay_main;
 use crate::replaying::{replay, replay_traced};
+use file_relay::{relay_main, relay_measured};
 use std::alloc::{AllocError, Global};
 use std::io::{self, ErrorKind, Read, Write};
 use std::sync::Wait;

@@ -2,7 +2,7 @@
 
 use crate::command_lines::split;
 use audit::ReadFault;
-use program::relay_main;
+use file_relay::relay_main;
 use relay::RelayFault;
 use std::process::Abort;
 use std::sync::Wait;

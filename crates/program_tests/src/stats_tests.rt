@@ -1,6 +1,6 @@
 //! What is counted of a worker that a relay does not have, and of more tries than a count holds.
 
-use program::Tries;
+use file_relay::Tries;
 use relay::Gate;
 use std::test::Fail;
 

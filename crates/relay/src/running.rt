@@ -96,7 +96,7 @@ fn work<C: Container<Message> + Sync, G: Gate + Sync, R: Threads + Wait + Sync>(
 /// `NoMemory`, where there is no room for the outcome; `NoPass`, exactly where more than
 /// [`MAX_PASSES`](bounded_model::MAX_PASSES) would be needed, one for each worker and one to close;
 /// `NoThread`, where a worker's thread could not be started. A fault consumes the container and the
-/// inputs, and no worker runs on. Called in `program`, with a gate that counts the tries.
+/// inputs, and no worker runs on. Called in `file_relay`, with a gate that counts the tries.
 pub fn run<C: Container<Message> + Sync, G: Gate + Sync, R: Threads + Wait + Sync>(
     rt: &R,
     alloc: Global,

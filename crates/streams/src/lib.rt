@@ -3,7 +3,8 @@
 //! The name `-` stands for the standard input, once (`Source`, `open_sources`). A script's text is
 //! all that its reader gives (`read_text`), and each reader of a relay gives the messages of one
 //! sender (`read_inputs`). A text goes out whole, or a front of it did (`write_all`,
-//! `write_outcome`). The status and the line on standard error follow from the fault (`Failure`).
+//! `write_outcome`); where nobody reads the output any more, nothing goes to the errors either
+//! (`Output`, `Errors`). The status and the line on standard error follow from the fault (`Failure`).
 #![tactic(auto)]
 
 mod failure;
@@ -13,6 +14,7 @@ mod inputs;
 mod opening;
 mod outcome;
 mod output;
+mod pipe;
 mod source;
 mod tool_fault;
 
@@ -23,5 +25,6 @@ pub use inputs::read_inputs;
 pub use opening::{OpenFiles, open_source, open_sources};
 pub use outcome::write_outcome;
 pub use output::write_all;
+pub use pipe::{Errors, Output};
 pub use source::{STANDARD_INPUT, Source};
 pub use tool_fault::ToolFault;

@@ -1,0 +1,32 @@
+-- What a relay of files does that is measured.
+use Rattle.std.specs.Prelude.{ℕ, Result, Ok, Err}
+use Rattle.std.specs.Io.KnownBytes.{Appends}
+use Rattle.relay.specs.declared.outcome.Relayed.{Relayed}
+use Rattle.relay.specs.Promises.{Lists}
+use Rattle.file_relay.specs.declared.stats.Stats.{Stats}
+use Rattle.streams.specs.declared.tool_fault.ToolFault.{ToolFault}
+use Rattle.words.specs.declared.chosen.RelayArgs.{RelayArgs}
+use Rattle.streams.specs.Writing.{AppendsFront, outcome_text}
+use Rattle.file_relay.specs.Relaying.{IsRelayed, RelaysInputs, Written}
+use Rattle.file_relay.specs.Stats.{IsStatsOf, stats_text}
+
+-- the stats of this outcome, or a front of them, were told to a writer
+pub record Tells (args : RelayArgs) (relayed : Relayed) (errors : Written) : Type 0 where
+  pub puts : ℕ
+  pub takes : ℕ
+  pub stats : Stats
+  pub of : IsStatsOf args relayed puts takes stats
+  pub went_out : AppendsFront errors.old errors.new (stats_text stats)
+
+-- what is known of the bytes of a run's output and of its errors
+pub record Streams : Type 0 where
+  pub output : Written
+  pub errors : Written
+
+-- what a measured relay of inputs does to these streams
+abbrev pub MeasuresInputs : RelayArgs → Streams → Lists → Result (Unit {0}) ToolFault → Type 0
+MeasuresInputs args streams inputs (Ok _) =
+    (relayed : Relayed) × IsRelayed args inputs relayed
+    × Appends streams.output.old streams.output.new (outcome_text args.list relayed)
+    × Tells args relayed streams.errors
+MeasuresInputs args streams inputs (Err fault) = RelaysInputs args streams.output inputs (Err fault)

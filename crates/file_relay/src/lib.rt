@@ -1,0 +1,16 @@
+//! Files relayed through a queue or a stack.
+//!
+//! Promised: what is written is the outcome of a relay of the messages that were read (`relay_main`),
+//! also where stats of that very relay are then written on standard error (`relay_measured`, `Stats`).
+//! After a fault of a file, of a relay or of memory nothing was written.
+#![tactic(auto)]
+
+mod measuring;
+mod relaying;
+mod stats;
+mod tries;
+
+pub use measuring::relay_measured;
+pub use relaying::relay_main;
+pub use stats::Stats;
+pub use tries::Tries;

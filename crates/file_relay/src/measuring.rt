@@ -1,0 +1,66 @@
+//! A relay of files that is measured.
+
+ghost use Rattle.std.specs.Prelude.{◌≡◌, ◌≢◌, ◌≤◌, IfErr, length};
+ghost use Rattle.words.specs.declared.command_line.TheConstants.{MAX_FILES};
+ghost use Rattle.streams.specs.declared.tool_fault.ToolFault.TheVariants.{Output};
+ghost use Rattle.file_relay.specs.Measuring.{MeasuresInputs, Streams};
+ghost use Rattle.words.specs.Ranges.{IsInRange};
+ghost use Rattle.file_relay.specs.Relaying.{FromReaders, written};
+
+use crate::relaying::relay_inputs;
+use crate::stats::Stats;
+use crate::tries::Tries;
+use std::alloc::Global;
+use std::io::{self, Read, Write};
+use std::mem;
+use std::sync::Wait;
+use std::thread::Threads;
+use std::time::{Clock, Instant};
+use streams::{ToolFault, read_inputs, write_all, write_outcome};
+use words::RelayArgs;
+
+/// Relays as [`relay_main`](crate::relay_main) does, and then writes stats of the relay on `errors`:
+/// its time and messages a second, how many messages each consumer took, and the refusals that were
+/// met.
+///
+/// The faults are those of `relay_main`; after a fault no stats are written. They are made before
+/// the outcome is written, so that `Relay(NoMemory)` also comes where there is no memory for them.
+/// That they cannot be written is no fault.
+pub fn relay_measured<T: Threads + Wait + Clock + Sync, R: Read + Drop, W: Write, E: Write>(
+    rt: &T,
+    alloc: Global,
+    args: &RelayArgs,
+    readers: Vec<R>,
+    writer: &mut W,
+    errors: &mut E,
+) -> Result<(), ToolFault>
+    requires args { IsInRange args.now }
+    requires some { 1 ≤ length readers.items }
+    requires few { length readers.items ≤ MAX_FILES }
+    // What is written is the outcome of a relay of the messages that were read, and the stats are
+    // those of that relay.
+    ensures measures { let streams : Streams = record {
+      output = written W.contents writer.old writer.new;
+      errors = written E.contents errors.old errors.new;
+    } in FromReaders R.remaining readers.items (MeasuresInputs args.now streams) result }
+    ensures untouched { IfErr result (λ fault. fault ≢ Output → writer.new ≡ writer.old) }
+    ensures untold { IfErr result (λ fault. errors.new ≡ errors.old) }
+{
+    let inputs = read_inputs(alloc, readers)?;
+    let tries = Tries::new(alloc, inputs.len(), args.consumers as usize)?;
+    let start = Instant::now(rt);
+    let relayed = relay_inputs(rt, alloc, args, inputs, &tries)?;
+    let time = nanoseconds_since(rt, start);
+    let stats = Stats::of(alloc, args, &relayed, tries.puts(), tries.takes(), time)?;
+    let told = stats.text(alloc)?;
+    write_outcome(&relayed, args.list, writer)?;
+    // Nothing is left to do where standard error fails.
+    let _ = write_all(errors, told.as_bytes());
+    mem::forget(relayed);
+    Ok(())
+}
+
+// How long ago that was, where the clock could be read then and now.
+fn nanoseconds_since<T: Clock>(rt: &T, start: io::Result<Instant>) -> Option<u128> {
+    Some(start.ok()?.elapsed(rt).ok()?.as_nanos())
+}

@@ -1,0 +1,116 @@
+//! Files relayed through a container.
+
+ghost use Rattle.std.specs.Prelude.{◌≡◌, ◌≢◌, ◌≤◌, ◌*◌, IfErr, IfOk, List, ℕ, length};
+ghost use Rattle.bounded_model.specs.Laws.{fresh};
+ghost use Rattle.tagged_index.specs.Limits.{capacity_of, tag_limit_of};
+ghost use Rattle.tagged_index.specs.declared.word.TheConstants.{MAX_TAG};
+ghost use Rattle.words.specs.declared.command_line.TheConstants.{MAX_FILES};
+ghost use Rattle.streams.specs.declared.tool_fault.ToolFault.TheVariants.{Output, Relay};
+ghost use Rattle.relay.specs.declared.faults.RelayFault.{RelayFault};
+ghost use Rattle.relay.specs.declared.faults.RelayFault.TheVariants.{NoMemory};
+ghost use Rattle.words.specs.Ranges.{IsInRange};
+ghost use Rattle.file_relay.specs.Relaying.{AreReady, FromReaders, IsCause, IsRelayed, RelaysInputs, shape_for, written};
+
+use bounded_model::Container;
+use ms_queue::Queue;
+use relay::{FreeGate, Gate, Message, Relayed, run};
+use std::alloc::Global;
+use std::io::{Read, Write};
+use std::mem;
+use std::sync::Wait;
+use std::thread::Threads;
+use streams::{ToolFault, read_inputs, write_outcome};
+use tagged_index::{Limits, MAX_TAG};
+use treiber_stack::Stack;
+use words::{Kind, RelayArgs};
+
+/// Relays what the readers give, reader `k`, counted from 0, as sender `k`, and writes the outcome:
+/// the audit, and then the list where that is wanted.
+///
+/// All readers are read, in order, before the container is made; `File` has the number, from 1, of
+/// the first that is no message file, or fails. `Relay(NoMemory)` also comes where the container
+/// cannot be made. `Output` comes where a write fails, and then a front of the text went out. After
+/// any other fault nothing was written. The memory of what was relayed is not given back, since the
+/// process is about to end.
+pub fn relay_main<T: Threads + Wait + Sync, R: Read + Drop, W: Write>(
+    rt: &T,
+    alloc: Global,
+    args: &RelayArgs,
+    readers: Vec<R>,
+    writer: &mut W,
+) -> Result<(), ToolFault>
+    requires args { IsInRange args.now }
+    requires some { 1 ≤ length readers.items }
+    requires few { length readers.items ≤ MAX_FILES }
+    // What is written is the outcome of a relay of the messages that were read.
+    ensures relays { let output = written W.contents writer.old writer.new in
+        FromReaders R.remaining readers.items (RelaysInputs args.now output) result }
+    ensures untouched { IfErr result (λ fault. fault ≢ Output → writer.new ≡ writer.old) }
+{
+    let inputs = read_inputs(alloc, readers)?;
+    let relayed = relay_inputs(rt, alloc, args, inputs, &FreeGate)?;
+    let written = write_outcome(&relayed, args.list, writer);
+    // The process ends behind it: to free each message by itself would take a seventh of its time.
+    mem::forget(relayed);
+    written
+}
+
+/// The outcome of a relay of these inputs through a container of the kind that is asked for, at
+/// whose gate each try is made.
+pub(crate) fn relay_inputs<T: Threads + Wait + Sync, G: Gate + Sync>(
+    rt: &T,
+    alloc: Global,
+    args: &RelayArgs,
+    inputs: Vec<Vec<Message>>,
+    gate: &G,
+) -> Result<Relayed, ToolFault>
+    requires args { IsInRange args.now }
+    requires ready { AreReady inputs.items }
+    ensures relayed { IfOk result (IsRelayed args.now inputs.items) }
+    ensures fault { IfErr result (λ fault. (cause : RelayFault) × (fault ≡ Relay cause)
+        × IsCause args.now inputs.items cause) }
+{
+    match args.kind {
+        Kind::Queue => {
+            let (queue, root) = Queue::new(alloc, limits_for(args))?;
+            relay_through(rt, alloc, queue, root, args, inputs, gate)
+        }
+        Kind::Stack => {
+            let (stack, root) = Stack::new(alloc, limits_for(args))?;
+            relay_through(rt, alloc, stack, root, args, inputs, gate)
+        }
+    }
+}
+
+// The limits that are asked for.
+fn limits_for(args: &RelayArgs) -> Limits
+    requires { IsInRange args.now }
+    ensures { (capacity_of result ≡ args.now.capacity) × (tag_limit_of result ≡ MAX_TAG) }
+{
+    match Limits::of(args.capacity, MAX_TAG) {
+        Some(limits) => limits,
+        None => unreachable!(),
+    }
+}
+
+// The outcome of a relay of these inputs through this container.
+fn relay_through<T: Threads + Wait + Sync, C: Container<Message> + Sync, G: Gate + Sync>(
+    rt: &T,
+    alloc: Global,
+    container: C,
+    root: C::Root,
+    args: &RelayArgs,
+    inputs: Vec<Vec<Message>>,
+    gate: &G,
+) -> Result<Relayed, ToolFault>
+    requires args { IsInRange args.now }
+    requires root { C.is_root container root }
+    requires fresh { C.root root ≡ fresh }
+    requires shape { C.shape container ≡ shape_for args.now }
+    requires ready { AreReady inputs.items }
+    ensures relayed { IfOk result (IsRelayed args.now inputs.items) }
+    ensures fault { IfErr result (λ fault. (cause : RelayFault) × (fault ≡ Relay cause)
+        × IsCause args.now inputs.items cause) }
+{
+    Ok(run(rt, alloc, container, root, inputs, args.plan(), gate)?)
+}

@@ -1,0 +1,71 @@
+//! Output that nobody reads to its end, as in `lockfree | head -1`: the program then ends quietly.
+
+ghost use Rattle.std.specs.Prelude.{◌≡◌};
+
+use std::cell::Cell;
+use std::io::{self, ErrorKind, Write};
+
+/// Standard output. It notes where a write finds that its reader has gone.
+#[derive(Drop)]
+pub struct Output<'a, W> {
+    writer: W,
+    is_read: &'a Cell<bool>,
+}
+
+impl<'a, W: Write + Drop> Output<'a, W> {
+    /// An output to this writer, which notes there whether it is read.
+    pub fn new(writer: W, is_read: &'a Cell<bool>) -> Output<'a, W>
+        ensures { result.writer ≡ writer }
+    {
+        Output { writer, is_read }
+    }
+}
+
+impl<W: Write + Drop> Write for Output<'_, W> {
+    ghost contents = { λ output. W.contents output.writer };
+
+    fn write(&mut self, bytes: &[u8]) -> io::Result<usize> {
+        let written = self.writer.write(bytes);
+        if let Err(error) = &written {
+            if error.kind() == ErrorKind::BrokenPipe {
+                self.is_read.set(false);
+            }
+        }
+        written
+    }
+
+    fn flush(&mut self) -> io::Result<()> {
+        self.writer.flush()
+    }
+}
+
+/// Standard error, as long as the output is read. That nobody reads the output is no failure that
+/// its user has to hear of, so from then on nothing goes out.
+#[derive(Drop)]
+pub struct Errors<'a, W> {
+    writer: W,
+    is_read: &'a Cell<bool>,
+}
+
+impl<'a, W: Write + Drop> Errors<'a, W> {
+    /// Errors that go to this writer as long as it is noted there that the output is read.
+    pub fn new(writer: W, is_read: &'a Cell<bool>) -> Errors<'a, W>
+        ensures { result.writer ≡ writer }
+    {
+        Errors { writer, is_read }
+    }
+}
+
+impl<W: Write + Drop> Write for Errors<'_, W> {
+    fn write(&mut self, bytes: &[u8]) -> io::Result<usize> {
+        if self.is_read.get() {
+            self.writer.write(bytes)
+        } else {
+            Ok(bytes.len())
+        }
+    }
+
+    fn flush(&mut self) -> io::Result<()> {
+        self.writer.flush()
+    }
+}
