@@ -2,7 +2,7 @@
 //!
 //! Promised: a call either answers what the container's law gives for it, from its begin on, or it
 //! is still under way, begun as before, and can be gone on with. No call here waits or runs forever,
-//! so no handle is needed.
+//! so no runtime is needed.
 #![tactic(auto)]
 
 mod calls;

@@ -133,7 +133,7 @@ pub fn try_give_chain<S, V, K, P: ListHost<S, V, K, L>, const L: usize>(
     exchange_top::<S, V, K, P, L>(table, seat, list, seen, new, change, line)
 }
 
-/// Exchanges the seen top for the same with its mark set: index, second mark and tag stay.
+/// Compare-and-swaps the seen top for the same with its mark set: index, second mark and tag stay.
 #[inline]
 pub fn try_mark<S, V, K, P: ListHost<S, V, K, L>, const L: usize>(
     table: &Shared<S, V, K, P>,
@@ -156,7 +156,7 @@ pub fn try_mark<S, V, K, P: ListHost<S, V, K, L>, const L: usize>(
     exchange_top::<S, V, K, P, L>(table, seat, list, seen, new, Change::Mark, line)
 }
 
-/// Exchanges the seen top for the same with its second mark set: index, mark and tag stay.
+/// Compare-and-swaps the seen top for the same with its second mark set: index, mark and tag stay.
 #[inline]
 pub fn try_shut<S, V, K, P: ListHost<S, V, K, L>, const L: usize>(
     table: &Shared<S, V, K, P>,
@@ -179,7 +179,7 @@ pub fn try_shut<S, V, K, P: ListHost<S, V, K, L>, const L: usize>(
     exchange_top::<S, V, K, P, L>(table, seat, list, seen, new, Change::Shut, line)
 }
 
-// Exchanges the seen top for a new one.
+// Compare-and-swaps the seen top for a new one.
 #[inline]
 fn exchange_top<S, V, K, P: ListHost<S, V, K, L>, const L: usize>(
     table: &Shared<S, V, K, P>,

@@ -9,8 +9,8 @@
 //! refusal was right at some time between the pass's last step before the call and the answer.
 //!
 //! Passes are split off a root, meet and are joined again. An operation is begun and then made step
-//! by step, or by a whole call, which is a fast path over the same steps, and retries, with a
-//! wait, while others interfere.
+//! by step, or by a whole call, which is a fast path over the same steps and retries, with a wait,
+//! while others interfere, or for a bounded number of steps, and can then be gone on with.
 #![tactic(auto)]
 
 mod closing;

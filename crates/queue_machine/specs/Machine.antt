@@ -1,5 +1,5 @@
 -- The queue of Michael and Scott as a machine: any number of passes put, take, close, shut, look and count,
--- one atomic step at a time. `step` is its table of lines.
+-- one atomic step at a time. `table` has its lines.
 use Rattle.std.specs.Prelude.{ℕ, ◌+◌, ◌-◌, ◌==◌, leb, if◌then◌else◌, Bool, true, false, List, [], ◌∷◌, Option as Slot, Some, None, Ok, Err}
 use mathlib.Core.Option.{Option, none, some}
 use Rattle.tagged_index.specs.declared.word.TheConstants.{NULL}

@@ -1,5 +1,5 @@
 -- Treiber's stack as a machine: any number of passes put, take, fold, close, shut and look, one
--- atomic step at a time. `step` is its table of lines.
+-- atomic step at a time. `table` has its lines.
 use Rattle.std.specs.Prelude.{ℕ, ◌==◌, ltb, leb, if◌then◌else◌, Bool, true, false, List, [], ◌∷◌, length, reverse, take, drop, Option as Slot, Some, None, Ok, Err}
 use mathlib.Core.Option.{Option, none, some}
 use Rattle.tagged_index.specs.declared.word.TheConstants.{NULL}

@@ -52,12 +52,6 @@ module _ {T : Type 0} where
       ap (λ (ps : List (Slot T)). set ps k None) (places_here vs k h) ∙ leave_suc k (Some (next_value vs k h).0) None (map Some (drop (k + 1) vs)) ∙ none_more k (map Some (drop (k + 1) vs))
       ∙ ap (λ (m : ℕ). replicate m None ++ map Some (drop (k + 1) vs)) e
 
-  -- or stays
-  pub place_stays : (vs : List T) (k : ℕ) (place : Slot T) → IsNext vs k place → set (places_from k vs) k place ≡ places_from k vs
-  place_stays vs k place next =
-      let v = next_value vs k next.0 in
-      (λ t. set (places_here vs k next.0 t) k ((next.1 ∙ v.3) t)) ∙ leave_suc k (Some v.0) (Some v.0) (map Some (drop (k + 1) vs)) ∙ sym (places_here vs k next.0)
-
   -- places as values come back
   none_suc : (p : ℕ) (d : Slot T) (ys : List (Slot T)) → get_or (replicate (suc p) None ++ ys) p d ≡ None
   none_suc zero d ys = refl

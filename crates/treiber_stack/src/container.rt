@@ -1,5 +1,5 @@
 //! A stack as a container. A whole call makes an operation's steps on its fast path, and again
-//! after each compare-and-swap that was lost.
+//! after each compare-and-swap that failed.
 use crate::closing::Mark;
 use crate::rest::Rest;
 use crate::stack::{Note, Pass, Root, Stack};

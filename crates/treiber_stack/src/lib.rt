@@ -6,7 +6,7 @@
 //! rule of `stack_machine`. Each step of an operation is one line of that machine, from a memory
 //! and a history that meet the rule; the events that it adds and its answer are that line's. So
 //! what a pass has seen is always a legal history of one sequential stack, which only grows, and a
-//! refusal was right at some time of its call.
+//! refusal was right at some time between the pass's last step before the call and the answer.
 //!
 //! Passes are split off a root, meet and are joined again. An operation is begun and then made step
 //! by step, or by a whole call, which retries while others interfere, or for a bounded number of
