@@ -23,6 +23,7 @@ mod looking;
 mod making;
 mod naming;
 mod places;
+mod put_fast;
 mod putting;
 mod queue;
 mod rest;

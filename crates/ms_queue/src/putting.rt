@@ -9,9 +9,8 @@ ghost use Rattle.queue_machine.specs.declared.lines.Call.TheVariants.{Put as Cal
 ghost use Rattle.queue_table.specs.Lines.{call_of};
 ghost use Rattle.running.specs.Passes.{pass_in};
 ghost use Rattle.ms_queue.specs.Queue.{IsPassOf, begun_of, shape_of};
-ghost use Rattle.ms_queue.specs.Putting.{IsPutting, PutStep, PutStands, PutRan, put_of};
+ghost use Rattle.ms_queue.specs.Putting.{IsPutting, PutStep, put_of};
 
-use crate::fast_path::fast_path;
 use crate::giving::{Give, Held};
 use crate::queue::{Pass, Queue};
 use crate::rule::Queued;
@@ -23,9 +22,7 @@ use machine::seats::View;
 use queue_machine::Line;
 use queue_table::Operation;
 use queue_table::layout::{CELL_LIST, NODE_LIST, TAIL, cell, next};
-use running::{
-    Access, Code, Next, Outcome, any, aside, first_step, raised, single_step, to_the_end,
-};
+use running::{Access, Code, Next, Outcome, raised, single_step, to_the_end};
 use std::snapshot::Snapshot;
 use std::sync::Wait;
 use tagged_index::{NULL, Tagged};
@@ -73,7 +70,8 @@ pub(crate) enum PutAt<T> {
     GiveBack(PutRefused<T>, Held, Give),
 }
 
-type Answer<T> = Result<u64, PutRefused<T>>;
+/// What a put answers.
+pub(crate) type Answer<T> = Result<u64, PutRefused<T>>;
 
 // Null with this tag.
 #[inline(always)]
@@ -121,153 +119,6 @@ impl<T> Queue<T> {
         let put = put_operation(&value);
         let first = self.put_fast(by, value, &put);
         to_the_end(rt, &self.table.shared, self, first, &put)
-    }
-
-    /// A put's steps on its fast path, as long as nobody is faster.
-    #[inline(always)]
-    pub(crate) fn put_fast(
-        &self,
-        by: Pass<T>,
-        value: T,
-        put: &Operation<T>,
-    ) -> (Pass<T>, Next<PutAt<T>, Answer<T>>)
-        requires named { put.now ≡ put_of value }
-        requires pass { IsPassOf self.now by }
-        ensures { PutRan self.now put.now by result.0 result.1 }
-    {
-        let (pass, at) = fast_path!(self.put_fast_cell(by, value, put));
-        let (pass, at) = fast_path!(self.put_fast_node(pass, at, put));
-        let (pass, at) = fast_path!(self.put_fast_prepare(pass, at, put));
-        let (pass, at) = fast_path!(self.put_fast_seek(pass, at, put));
-        self.put_fast_link(pass, at, put)
-    }
-
-    // First those that take a cell.
-    #[inline]
-    fn put_fast_cell(
-        &self,
-        by: Pass<T>,
-        value: T,
-        put: &Operation<T>,
-    ) -> (Pass<T>, Next<PutAt<T>, Answer<T>>)
-        requires named { put.now ≡ put_of value }
-        requires pass { IsPassOf self.now by }
-        ensures { PutRan self.now put.now by result.0 result.1 }
-    {
-        let table = &self.table.shared;
-        let (pass, value, cells) = fast_path!(
-            first_step(table, self, by, PutAt::LoadCells(value), put),
-            PutAt::LoadCellLink(value, cells) => value, cells
-        );
-        let (pass, value, cells, link) = fast_path!(
-            any(table, self, pass, PutAt::LoadCellLink(value, cells), put),
-            PutAt::TakeCell(value, cells, link) => value, cells, link
-        );
-        any(table, self, pass, PutAt::TakeCell(value, cells, link), put)
-    }
-
-    // Then those that take a node.
-    #[inline]
-    fn put_fast_node(
-        &self,
-        by: Pass<T>,
-        has_cell: PutAt<T>,
-        put: &Operation<T>,
-    ) -> (Pass<T>, Next<PutAt<T>, Answer<T>>)
-        requires stands { PutStands self.now put.now by has_cell }
-        ensures { PutRan self.now put.now by result.0 result.1 }
-    {
-        let PutAt::LoadNodes(shown, cell) = has_cell else {
-            return (by, Next::On(has_cell));
-        };
-        let table = &self.table.shared;
-        let (pass, shown, cell, nodes) = fast_path!(
-            any(table, self, by, PutAt::LoadNodes(shown, cell), put),
-            PutAt::LoadNodeLink(shown, cell, nodes) => shown, cell, nodes
-        );
-        let (pass, at) = fast_path!(any(
-            table,
-            self,
-            pass,
-            PutAt::LoadNodeLink(shown, cell, nodes),
-            put,
-        ));
-        any(table, self, pass, at, put)
-    }
-
-    // Those that prepare the node.
-    #[inline]
-    fn put_fast_prepare(
-        &self,
-        by: Pass<T>,
-        held: PutAt<T>,
-        put: &Operation<T>,
-    ) -> (Pass<T>, Next<PutAt<T>, Answer<T>>)
-        requires stands { PutStands self.now put.now by held }
-        ensures { PutRan self.now put.now by result.0 result.1 }
-    {
-        let PutAt::StoreCell(shown, held) = held else {
-            return (by, Next::On(held));
-        };
-        let table = &self.table.shared;
-        let (pass, at) = fast_path!(any(table, self, by, PutAt::StoreCell(shown, held), put));
-        let (pass, shown, held, link) = fast_path!(
-            any(table, self, pass, at, put),
-            PutAt::PrepareNext(shown, held, link) => shown, held, link
-        );
-        any(
-            table,
-            self,
-            pass,
-            PutAt::PrepareNext(shown, held, link),
-            put,
-        )
-    }
-
-    // Those that go to the end of the chain.
-    #[inline]
-    fn put_fast_seek(
-        &self,
-        by: Pass<T>,
-        prepared: PutAt<T>,
-        put: &Operation<T>,
-    ) -> (Pass<T>, Next<PutAt<T>, Answer<T>>)
-        requires stands { PutStands self.now put.now by prepared }
-        ensures { PutRan self.now put.now by result.0 result.1 }
-    {
-        let PutAt::Seeking(shown, held, Seek::LoadTail) = prepared else {
-            return (by, Next::On(prepared));
-        };
-        let table = &self.table.shared;
-        let begun = PutAt::Seeking(shown, held, Seek::LoadTail);
-        let (pass, at) = fast_path!(any(table, self, by, begun, put));
-        let (pass, at) = fast_path!(any(table, self, pass, at, put));
-        any(table, self, pass, at, put)
-    }
-
-    // And those that link the node there and swing the tail.
-    #[inline]
-    fn put_fast_link(
-        &self,
-        by: Pass<T>,
-        there: PutAt<T>,
-        put: &Operation<T>,
-    ) -> (Pass<T>, Next<PutAt<T>, Answer<T>>)
-        requires stands { PutStands self.now put.now by there }
-        ensures { PutRan self.now put.now by result.0 result.1 }
-    {
-        let PutAt::LinkNext(shown, held, tail, link) = there else {
-            return (by, Next::On(there));
-        };
-        let table = &self.table.shared;
-        let (pass, at) = fast_path!(any(
-            table,
-            self,
-            by,
-            PutAt::LinkNext(shown, held, tail, link),
-            put,
-        ));
-        any(table, self, pass, at, put)
     }
 }
 
