@@ -18,39 +18,46 @@ use Rattle.lockfree_c.specs.Stages.{Rests}
 use Rattle.lockfree_c.specs.declared.answers.Answer.{Answer}
 use Rattle.lockfree_c.specs.declared.answers.TheConstants.{UNDER_WAY}
 use Rattle.lockfree_c.specs.declared.held.Held.{Held}
-use Rattle.lockfree_c.specs.declared.held.Held.TheVariants.{Nothing, QueueRoot as OfQueueRoot, QueuePass as OfQueuePass, StackRoot as OfStackRoot, StackPass as OfStackPass, StackFold as OfStackFold}
+use Rattle.lockfree_c.specs.declared.held.Held.TheVariants.{Nothing, QueueRoot as OfQueueRoot, QueuePass as OfQueuePass, StackRoot as OfStackRoot, StackPass as OfStackPass, StackFold as OfStackFold, StackRange as OfStackRange, StackRangePut as OfStackRangePut}
 use Rattle.lockfree_c.specs.declared.held.StackFold.{StackFold}
 use Rattle.lockfree_c.specs.declared.held.StackPass.{StackPass}
 use Rattle.lockfree_c.proofs.Stays.{At}
+
+-- a stack's pass that rests
+pub comes_to_rest : (c : Stack ℕ) (back : Pass ℕ (Line ℕ)) (p : StackPass) → IsPassOf c back → p.stack.value ≡ c → Rests p.stage back → IsStackPass p
+comes_to_rest c back p is same rests =
+    subst (λ x. At (stack_reading p.stack.value) x p.stage.under_way) (sym rests.0) (subst (λ s. IsPassOf s back) (sym same) is, rests.1)
 
 module _ (c : Stack ℕ) (front : Front) where
   goes_on : (values : List ℕ) (op : FoldOp ℕ) (f : StackFold) → IsFolding c front values op → f.stack.value ≡ c → f.op ≡ op → IsStackFold f
   goes_on values op f is same_stack same_op =
       (front, values, subst (λ o. IsFolding f.stack.value front values o) (sym same_op) (subst (λ s. IsFolding s front values op) (sym same_stack) is))
 
-  comes_to_rest : (back : Pass ℕ (Line ℕ)) (p : StackPass) → IsPassOf c back → p.stack.value ≡ c → Rests p.stage back → IsStackPass p
-  comes_to_rest back p is same rests =
-      subst (λ x. At (stack_reading p.stack.value) x p.stage.under_way) (sym rests.0) (subst (λ s. IsPassOf s back) (sym same) is, rests.1)
-
   pub fold_stays : (values : List ℕ) (begun : PassView ℕ) (made : FoldMade ℕ) (g : Held) (a : Answer) → FoldTried c front values begun made → FoldLeft c made g a → IsHeld g
   fold_stays values begun (Again op) (OfStackFold f) a tried left = goes_on values op f tried.0 left.0 left.1
   fold_stays values begun (Value x op) (OfStackFold f) a tried left = goes_on (values ++ x ∷ []) op f tried.0 left.0 left.1
-  fold_stays values begun (Done back said) (OfStackPass p) a tried left = comes_to_rest back p tried.0 left.0 left.1
+  fold_stays values begun (Done back said) (OfStackPass p) a tried left = comes_to_rest c back p tried.0 left.0 left.1
   fold_stays values begun (Again op) Nothing a tried left = absurd left
   fold_stays values begun (Again op) (OfQueueRoot r) a tried left = absurd left
   fold_stays values begun (Again op) (OfQueuePass p) a tried left = absurd left
   fold_stays values begun (Again op) (OfStackRoot r) a tried left = absurd left
   fold_stays values begun (Again op) (OfStackPass p) a tried left = absurd left
+  fold_stays values begun (Again op) (OfStackRange r) a tried left = absurd left
+  fold_stays values begun (Again op) (OfStackRangePut r) a tried left = absurd left
   fold_stays values begun (Value x op) Nothing a tried left = absurd left
   fold_stays values begun (Value x op) (OfQueueRoot r) a tried left = absurd left
   fold_stays values begun (Value x op) (OfQueuePass p) a tried left = absurd left
   fold_stays values begun (Value x op) (OfStackRoot r) a tried left = absurd left
   fold_stays values begun (Value x op) (OfStackPass p) a tried left = absurd left
+  fold_stays values begun (Value x op) (OfStackRange r) a tried left = absurd left
+  fold_stays values begun (Value x op) (OfStackRangePut r) a tried left = absurd left
   fold_stays values begun (Done back said) Nothing a tried left = absurd left
   fold_stays values begun (Done back said) (OfQueueRoot r) a tried left = absurd left
   fold_stays values begun (Done back said) (OfQueuePass p) a tried left = absurd left
   fold_stays values begun (Done back said) (OfStackRoot r) a tried left = absurd left
   fold_stays values begun (Done back said) (OfStackFold f) a tried left = absurd left
+  fold_stays values begun (Done back said) (OfStackRange r) a tried left = absurd left
+  fold_stays values begun (Done back said) (OfStackRangePut r) a tried left = absurd left
 
 -- a fold that a pass at rest began
 pub folded : (p : StackPass) (by : Pass ℕ (Line ℕ)) (front : Front) (g : Held) (a : Answer) → p.stage.resting ≡ Some by

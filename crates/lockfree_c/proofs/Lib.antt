@@ -2,3 +2,4 @@ pub mod AsBox
 pub mod New
 pub mod Stays
 pub mod FoldStays
+pub mod RangeStays

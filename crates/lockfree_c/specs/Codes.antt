@@ -5,6 +5,9 @@ use Rattle.bounded_model.specs.declared.answers.PutRefused.TheVariants as put
 use Rattle.bounded_model.specs.declared.answers.TakeRefused.{TakeRefused}
 use Rattle.bounded_model.specs.declared.answers.TakeRefused.TheVariants as take
 use Rattle.bounded_model.specs.declared.bulk.Folded.{Folded}
+use Rattle.bounded_model.specs.declared.bulk.Ranged.{Ranged}
+use Rattle.bounded_model.specs.declared.bulk.RangeRefused.{RangeRefused}
+use Rattle.bounded_model.specs.declared.bulk.RangeRefused.TheVariants as range
 use Rattle.bounded_model.specs.declared.commands.Reply.{Reply}
 use Rattle.bounded_model.specs.declared.commands.Reply.TheVariants.{Put, Take, Close, Shut, Look}
 use Rattle.lockfree_c.specs.declared.answers.Answer.{Answer}
@@ -27,6 +30,14 @@ SaysTake (Err (take.Spent word t)) a = (a.code ≡ SPENT) × (a.number ≡ t)
 abbrev pub SaysFold : Result Folded TakeRefused → Answer → Type 0
 SaysFold (Ok f) a = (a.code ≡ OK) × (a.number ≡ f.number) × (a.value ≡ f.count)
 SaysFold (Err why) a = SaysTake (Err why) a
+
+-- the number of a put of a range that is done, and how many of its values went in
+abbrev pub SaysRange : Result Ranged RangeRefused → Answer → Type 0
+SaysRange (Ok r) a = (a.code ≡ OK) × (a.number ≡ r.number) × (a.value ≡ r.count)
+SaysRange (Err range.Nothing) a = a.code ≡ EMPTY
+SaysRange (Err range.Full) a = a.code ≡ FULL
+SaysRange (Err range.Closed) a = a.code ≡ CLOSED
+SaysRange (Err (range.Spent word t)) a = (a.code ≡ SPENT) × (a.number ≡ t)
 
 abbrev pub Says : Reply ℕ → Answer → Type 0
 Says (Put said) a = SaysPut said a

@@ -1,8 +1,13 @@
 -- What holds of what lies behind a handle, and what the calls do to it.
-use Rattle.std.specs.Prelude.{◌≡◌, ◌≤◌, ◌⊎◌, ℕ, List, [], Bool, true, false, Result, MatchOption, MatchResult, None}
+use Rattle.std.specs.Prelude.{◌≡◌, ◌≤◌, ◌⊎◌, ℕ, List, [], ◌∷◌, ◌++◌, map, Bool, true, false, Option, Some, IsSome, Result, MatchOption, MatchResult, None}
+use Rattle.std.specs.List.{AllByRecursion as Every}
 use Rattle.tagged_index.specs.declared.limit.TheConstants.{MIN_CAPACITY, MAX_CAPACITY}
 use Rattle.tagged_index.specs.declared.word.TheConstants.{MAX_TAG}
 use Rattle.bounded_model.specs.Laws.{IsFullOfPasses, Splits, fresh}
+use Rattle.bounded_model.specs.declared.answers.Stepped.{Stepped}
+use Rattle.bounded_model.specs.declared.answers.Stepped.TheVariants as stepped
+use Rattle.bounded_model.specs.declared.bulk.Ranged.{Ranged}
+use Rattle.bounded_model.specs.declared.bulk.RangeRefused.{RangeRefused}
 use Rattle.bounded_model.specs.declared.commands.Command.{Command}
 use Rattle.bounded_model.specs.declared.views.RootView.{RootView}
 use Rattle.index_list.specs.declared.front.Front.{Front}
@@ -11,24 +16,29 @@ use Rattle.running.specs.Passes.{pass_in, root_in}
 use Rattle.running.specs.declared.passes.Pass.{Pass}
 use Rattle.queue_machine.specs.Answers as queue_machine
 use Rattle.stack_machine.specs.Answers as stack_machine
+use Rattle.stack_machine.specs.declared.lines.Line.{Line}
 use Rattle.ms_queue.specs.Queue as queue
 use Rattle.treiber_stack.specs.Stack as stack
 use Rattle.treiber_stack.specs.FoldOp.{IsFolding, FoldTried}
+use Rattle.treiber_stack.specs.RangeTrying.{IsRanging, RangeTried}
 use Rattle.treiber_stack.specs.declared.fold_op.FoldMade.{FoldMade}
 use Rattle.treiber_stack.specs.declared.fold_op.FoldMade.TheVariants.{Again, Value, Done}
+use Rattle.treiber_stack.specs.declared.range_trying.RangeOp.{RangeOp}
 use Rattle.treiber_stack.specs.declared.stack.Stack.{Stack}
 use Rattle.bounded_calls.specs.Readings.{queue_reading, stack_reading}
-use Rattle.lockfree_c.specs.Codes.{SaysFold}
+use Rattle.lockfree_c.specs.Codes.{SaysFold, SaysRange}
 use Rattle.lockfree_c.specs.Stages.{IsStage, Called, Rests, WentOn}
 use Rattle.lockfree_c.specs.declared.answers.Answer.{Answer}
-use Rattle.lockfree_c.specs.declared.answers.TheConstants.{BUSY, UNDER_WAY, NO_MEMORY, NO_PASS, BAD_CAPACITY, OTHER_HANDLE, VALUE}
+use Rattle.lockfree_c.specs.declared.answers.TheConstants.{OK, EMPTY, BUSY, UNDER_WAY, NO_CALL, NO_MEMORY, NO_PASS, BAD_CAPACITY, OTHER_HANDLE, VALUE}
 use Rattle.lockfree_c.specs.declared.stage.Stage.{Stage}
 use Rattle.lockfree_c.specs.declared.held.Held.{Held}
-use Rattle.lockfree_c.specs.declared.held.Held.TheVariants.{Nothing, QueueRoot as OfQueueRoot, QueuePass as OfQueuePass, StackRoot as OfStackRoot, StackPass as OfStackPass, StackFold as OfStackFold}
+use Rattle.lockfree_c.specs.declared.held.Held.TheVariants.{Nothing, QueueRoot as OfQueueRoot, QueuePass as OfQueuePass, StackRoot as OfStackRoot, StackPass as OfStackPass, StackFold as OfStackFold, StackRange as OfStackRange, StackRangePut as OfStackRangePut}
 use Rattle.lockfree_c.specs.declared.held.QueuePass.{QueuePass}
 use Rattle.lockfree_c.specs.declared.held.QueueRoot.{QueueRoot}
 use Rattle.lockfree_c.specs.declared.held.StackFold.{StackFold}
 use Rattle.lockfree_c.specs.declared.held.StackPass.{StackPass}
+use Rattle.lockfree_c.specs.declared.held.StackRange.{StackRange}
+use Rattle.lockfree_c.specs.declared.held.StackRangePut.{StackRangePut}
 use Rattle.lockfree_c.specs.declared.held.StackRoot.{StackRoot}
 
 -- What holds between calls
@@ -49,6 +59,14 @@ IsStackPass p = IsStage (stack_reading p.stack.value) p.stage
 abbrev pub IsStackFold : StackFold → Type 0
 IsStackFold f = (front : Front) × (values : List ℕ) × IsFolding f.stack.value front values f.op
 
+-- each place of a range that is collected has its value
+abbrev pub IsStackRange : StackRange → Type 0
+IsStackRange r = stack.IsPassOf r.stack.value r.by × Every (λ place. IsSome place) r.values.items
+
+-- a put of some values
+abbrev pub IsStackRangePut : StackRangePut → Type 0
+IsStackRangePut r = (values : List ℕ) × IsRanging r.stack.value values r.values.items r.op
+
 abbrev pub IsHeld : Held → Type 0
 IsHeld Nothing = Unit {0}
 IsHeld (OfQueueRoot r) = IsQueueRoot r
@@ -56,6 +74,8 @@ IsHeld (OfQueuePass p) = IsQueuePass p
 IsHeld (OfStackRoot r) = IsStackRoot r
 IsHeld (OfStackPass p) = IsStackPass p
 IsHeld (OfStackFold f) = IsStackFold f
+IsHeld (OfStackRange r) = IsStackRange r
+IsHeld (OfStackRangePut r) = IsStackRangePut r
 
 -- The calls of a pass
 
@@ -65,21 +85,23 @@ QueueCalled p call q a = (q.queue.value ≡ p.queue.value) × Called (queue_read
 abbrev pub StackCalled : StackPass → Command ℕ → StackPass → Answer → Type 0
 StackCalled p call q a = (q.stack.value ≡ p.stack.value) × Called (stack_reading p.stack.value) p.stage call q.stage a
 
--- what is no pass is as it was
-abbrev pub IsOther : Held → Held → Answer → Type 0
-IsOther h g a = (a.code ≡ OTHER_HANDLE) × (g ≡ h)
+-- why what is no pass for a call makes none: it is a stack's pass that is in a fold or has a range, or another handle
+abbrev pub refusal_of : Held → ℕ
+refusal_of (OfStackFold f) = UNDER_WAY
+refusal_of (OfStackRange r) = UNDER_WAY
+refusal_of (OfStackRangePut r) = UNDER_WAY
+refusal_of h = OTHER_HANDLE
 
--- a pass that is in a fold is as it was
-abbrev pub IsInFold : StackFold → Held → Answer → Type 0
-IsInFold f g a = (a.code ≡ UNDER_WAY) × (g ≡ OfStackFold f)
+-- what is held is as it was, and C is told why
+abbrev pub Refused : ℕ → Held → Held → ℕ → Type 0
+Refused why h g code = (code ≡ why) × (g ≡ h)
 
 abbrev pub HeldCalled : Held → Command ℕ → Held → Answer → Type 0
 HeldCalled (OfQueuePass p) call (OfQueuePass q) a = QueueCalled p call q a
 HeldCalled (OfQueuePass p) call h a = ⊥
 HeldCalled (OfStackPass p) call (OfStackPass q) a = StackCalled p call q a
 HeldCalled (OfStackPass p) call h a = ⊥
-HeldCalled (OfStackFold f) call g a = IsInFold f g a
-HeldCalled h call g a = IsOther h g a
+HeldCalled h call g a = Refused (refusal_of h) h g a.code
 
 abbrev pub QueueWentOn : QueuePass → QueuePass → Answer → Type 0
 QueueWentOn p q a = (q.queue.value ≡ p.queue.value) × WentOn (queue_reading p.queue.value) p.stage q.stage a
@@ -100,13 +122,32 @@ FoldWentOn f g a = (made : FoldMade ℕ)
     × ((front : Front) (values : List ℕ) → IsFolding f.stack.value front values f.op → FoldTried f.stack.value front values (stack.begun_of f.stack.value f.op.pass) made)
     × FoldLeft f.stack.value made g a
 
+-- what some steps of a put of a range have come to
+abbrev pub RangeMade : Type 0
+RangeMade = Stepped (RangeOp ℕ) (Pass ℕ (Line ℕ)) (Result Ranged RangeRefused)
+
+-- how a put of a range that was run left what is held, with these places, and what C was answered
+abbrev pub RangeLeft : Stack ℕ → List (Option ℕ) → RangeMade → Held → Answer → Type 0
+RangeLeft c places (stepped.Again next) (OfStackRangePut r) a = (r.stack.value ≡ c) × (r.op ≡ next) × (r.values.items ≡ places) × (a.code ≡ BUSY)
+RangeLeft c places (stepped.Done back said) (OfStackPass p) a = (p.stack.value ≡ c) × Rests p.stage back × SaysRange said a
+RangeLeft c places made h a = ⊥
+
+-- the put that is under way is tried further, whichever values it puts
+abbrev pub RangeWentOn : StackRangePut → Held → Answer → Type 0
+RangeWentOn r g a = (places : List (Option ℕ)) × (made : RangeMade)
+    × ((values : List ℕ) → IsRanging r.stack.value values r.values.items r.op → RangeTried r.stack.value values (stack.begun_of r.stack.value r.op.pass) places made)
+    × RangeLeft r.stack.value places made g a
+
+-- where a range is collected, no call is under way
 abbrev pub HeldWentOn : Held → Held → Answer → Type 0
 HeldWentOn (OfQueuePass p) (OfQueuePass q) a = QueueWentOn p q a
 HeldWentOn (OfQueuePass p) h a = ⊥
 HeldWentOn (OfStackPass p) (OfStackPass q) a = StackWentOn p q a
 HeldWentOn (OfStackPass p) h a = ⊥
 HeldWentOn (OfStackFold f) g a = FoldWentOn f g a
-HeldWentOn h g a = IsOther h g a
+HeldWentOn (OfStackRange r) g a = Refused NO_CALL (OfStackRange r) g a.code
+HeldWentOn (OfStackRangePut r) g a = RangeWentOn r g a
+HeldWentOn h g a = Refused OTHER_HANDLE h g a.code
 
 -- The begin of a fold
 
@@ -118,13 +159,53 @@ front_from false = First
 -- a fold of a pass that rests is tried, from what the pass had seen; of one in a call nothing is changed
 abbrev pub StackFolded : StackPass → Front → Held → Answer → Type 0
 StackFolded p front g a = MatchOption p.stage.resting
-    ((a.code ≡ UNDER_WAY) × (g ≡ OfStackPass p))
+    (Refused UNDER_WAY (OfStackPass p) g a.code)
     (λ by. (made : FoldMade ℕ) × FoldTried p.stack.value front [] (pass_in by) made × FoldLeft p.stack.value made g a)
 
 abbrev pub HeldFolded : Held → Front → Held → Answer → Type 0
 HeldFolded (OfStackPass p) front g a = StackFolded p front g a
-HeldFolded (OfStackFold f) front g a = IsInFold f g a
-HeldFolded h front g a = IsOther h g a
+HeldFolded h front g a = Refused (refusal_of h) h g a.code
+
+-- A range, value by value, and its put
+
+-- a range of this pass is collected, with these places
+abbrev pub Collects : Stack ℕ → Pass ℕ (Line ℕ) → List (Option ℕ) → Held → Type 0
+Collects c by places (OfStackRange r) = (r.stack.value ≡ c) × (r.by ≡ by) × (r.values.items ≡ places)
+Collects c by places h = ⊥
+
+-- a value was added at the end, or there was no memory for it
+abbrev pub RangeAdded : StackRange → ℕ → StackRange → ℕ → Type 0
+RangeAdded r x s code = (s.stack.value ≡ r.stack.value) × (s.by ≡ r.by)
+    × (((code ≡ OK) × (s.values.items ≡ r.values.items ++ Some x ∷ [])) ⊎ ((code ≡ NO_MEMORY) × (s.values.items ≡ r.values.items)))
+
+-- a pass that rests begins a range with this value; of one in a call nothing is changed
+abbrev pub RangeBegan : StackPass → ℕ → Held → ℕ → Type 0
+RangeBegan p x g code = MatchOption p.stage.resting
+    (Refused UNDER_WAY (OfStackPass p) g code)
+    (λ by. ((code ≡ OK) × Collects p.stack.value by (Some x ∷ []) g) ⊎ Refused NO_MEMORY (OfStackPass p) g code)
+
+abbrev pub HeldAdded : Held → ℕ → Held → ℕ → Type 0
+HeldAdded (OfStackPass p) x g code = RangeBegan p x g code
+HeldAdded (OfStackRange r) x (OfStackRange s) code = RangeAdded r x s code
+HeldAdded (OfStackRange r) x h code = ⊥
+HeldAdded h x g code = Refused (refusal_of h) h g code
+
+-- the put of the values that were collected is tried, from what the pass had seen
+abbrev pub RangePut : StackRange → Held → Answer → Type 0
+RangePut r g a = (values : List ℕ) × (r.values.items ≡ map Some values)
+    × ((places : List (Option ℕ)) × (made : RangeMade)
+    × RangeTried r.stack.value values (pass_in r.by) places made × RangeLeft r.stack.value places made g a)
+
+-- no value was added, or the pass is in a call: nothing is changed
+abbrev pub NothingPut : StackPass → Held → Answer → Type 0
+NothingPut p g a = MatchOption p.stage.resting
+    (Refused UNDER_WAY (OfStackPass p) g a.code)
+    (λ by. Refused EMPTY (OfStackPass p) g a.code)
+
+abbrev pub HeldRangePut : Held → Held → Answer → Type 0
+HeldRangePut (OfStackPass p) g a = NothingPut p g a
+HeldRangePut (OfStackRange r) g a = RangePut r g a
+HeldRangePut h g a = Refused (refusal_of h) h g a.code
 
 -- The calls of a root
 

@@ -2,7 +2,7 @@
 use Rattle.std.specs.Prelude.{◌≡◌, ℕ, Bool, true, false, Result, MatchResult}
 use Rattle.bounded_model.specs.declared.commands.Command.{Command}
 use Rattle.index_list.specs.declared.front.Front.{Front}
-use Rattle.lockfree_c.specs.Held.{IsHeld, HeldCalled, HeldFolded, HeldWentOn, HeldSplit, NewRefused}
+use Rattle.lockfree_c.specs.Held.{IsHeld, HeldAdded, HeldCalled, HeldFolded, HeldRangePut, HeldWentOn, HeldSplit, NewRefused}
 use Rattle.lockfree_c.specs.declared.answers.Answer.{Answer}
 use Rattle.lockfree_c.specs.declared.answers.TheConstants.{OK, NO_HANDLE, IN_USE}
 use Rattle.lockfree_c.specs.declared.held.Held.{Held}
@@ -36,6 +36,16 @@ SlotWentOn s t a = Either s.full
 abbrev pub SlotFolded : Slot → Front → Slot → Answer → Type 0
 SlotFolded s front t a = Either s.full
     ((t.full ≡ true) × HeldFolded s.handle.held front t.handle.held a)
+    (IsEmpty t × (a.code ≡ NO_HANDLE))
+
+abbrev pub SlotAdded : Slot → ℕ → Slot → ℕ → Type 0
+SlotAdded s x t code = Either s.full
+    ((t.full ≡ true) × HeldAdded s.handle.held x t.handle.held code)
+    (IsEmpty t × (code ≡ NO_HANDLE))
+
+abbrev pub SlotRangePut : Slot → Slot → Answer → Type 0
+SlotRangePut s t a = Either s.full
+    ((t.full ≡ true) × HeldRangePut s.handle.held t.handle.held a)
     (IsEmpty t × (a.code ≡ NO_HANDLE))
 
 -- a new root, of which `IsNew` says what it is; a slot that is full is left as it is

@@ -1,7 +1,7 @@
 //! What a call returns to C: a code, and with some of them a value and a number.
 ghost use Rattle.std.specs.Prelude.{◌≡◌};
 
-use bounded_model::{Folded, PutRefused, Reply, TakeRefused};
+use bounded_model::{Folded, PutRefused, RangeRefused, Ranged, Reply, TakeRefused};
 
 /// Done.
 pub const OK: u32 = 0;
@@ -9,7 +9,8 @@ pub const OK: u32 = 0;
 /// A put: each cell holds a value or is held by a pass.
 pub const FULL: u32 = 1;
 
-/// A take: there is no value, and more may come. A look: it was empty.
+/// A take: there is no value, and more may come. A look: it was empty. A put of a range: no value was
+/// added.
 pub const EMPTY: u32 = 2;
 
 /// A put: the container is closed. A take: it is closed, and there is no value. A close: it was
@@ -25,7 +26,7 @@ pub const SPENT: u32 = 5;
 /// The tries are used up: the call is under way.
 pub const BUSY: u32 = 6;
 
-/// The pass has a call under way already.
+/// The pass has a call under way already, or the values of a range.
 pub const UNDER_WAY: u32 = 7;
 
 /// The pass has no call under way.
@@ -53,8 +54,8 @@ pub const IN_USE: u32 = 14;
 pub const VALUE: u32 = 15;
 
 /// A code; of a take that is done its value, of a fold its next value, or at its end how many there
-/// were; the number of a put, a take or a fold that is done, or the tag of one that is spent. What is
-/// not said is 0.
+/// were, of a put of a range how many went in; the number of a put, a take or a fold that is done, or
+/// the tag of one that is spent. What is not said is 0.
 #[repr(C)]
 #[derive(Clone, Copy)]
 pub struct Answer {
@@ -64,7 +65,7 @@ pub struct Answer {
 }
 
 impl Answer {
-    ghost use Rattle.lockfree_c.specs.Codes.{SaysFold, SaysPut, SaysTake, Says};
+    ghost use Rattle.lockfree_c.specs.Codes.{SaysFold, SaysPut, SaysRange, SaysTake, Says};
 
     /// A code alone.
     #[inline(always)]
@@ -138,6 +139,24 @@ impl Answer {
                 code: OK,
             },
             Err(why) => Answer::of_take(Err(why)),
+        }
+    }
+
+    /// What a whole put of a range returned.
+    #[inline(always)]
+    pub fn of_range(said: Result<Ranged, RangeRefused>) -> Answer
+        ensures { SaysRange said result }
+    {
+        match said {
+            Ok(ranged) => Answer {
+                value: u64::from(ranged.count),
+                number: ranged.number,
+                code: OK,
+            },
+            Err(RangeRefused::Nothing) => Answer::of(EMPTY),
+            Err(RangeRefused::Full) => Answer::of(FULL),
+            Err(RangeRefused::Closed) => Answer::of(CLOSED),
+            Err(RangeRefused::Spent(_, tag)) => Answer::numbered(SPENT, tag),
         }
     }
 

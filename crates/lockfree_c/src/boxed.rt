@@ -2,8 +2,10 @@
 ghost use Rattle.std.specs.Prelude.{Ok, Err, IfOk, MatchResult};
 ghost use Rattle.bounded_model.specs.declared.commands.Command.TheVariants.{Put, Take};
 ghost use Rattle.lockfree_c.specs.Held.{
+  HeldAdded,
   HeldCalled,
   HeldFolded,
+  HeldRangePut,
   HeldSplit,
   HeldWentOn,
   IsHeld,
@@ -13,7 +15,7 @@ ghost use Rattle.lockfree_c.specs.Held.{
   front_from,
 };
 
-use crate::answers::{Answer, NO_MEMORY, OTHER_HANDLE, UNDER_WAY};
+use crate::answers::{Answer, NO_CALL, NO_MEMORY, OTHER_HANDLE};
 use crate::held::Held;
 use crate::queue::{new_queue, split_queue};
 use crate::stack::{new_stack, split_stack};
@@ -98,8 +100,7 @@ pub fn put_by(held: &mut Held, value: u64, tries: u64) -> Answer
     match held {
         Held::QueuePass(pass) => pass.put(value, tries),
         Held::StackPass(pass) => pass.put(value, tries),
-        Held::StackFold(_) => Answer::of(UNDER_WAY),
-        _ => Answer::of(OTHER_HANDLE),
+        other => Answer::of(other.refusal()),
     }
 }
 
@@ -113,8 +114,7 @@ pub fn take_by(held: &mut Held, tries: u64) -> Answer
     match held {
         Held::QueuePass(pass) => pass.take(tries),
         Held::StackPass(pass) => pass.take(tries),
-        Held::StackFold(_) => Answer::of(UNDER_WAY),
-        _ => Answer::of(OTHER_HANDLE),
+        other => Answer::of(other.refusal()),
     }
 }
 
@@ -127,8 +127,7 @@ pub fn call_by(held: &mut Held, command: Command<u64>, tries: u64) -> Answer
     match held {
         Held::QueuePass(pass) => pass.call(command, tries),
         Held::StackPass(pass) => pass.call(command, tries),
-        Held::StackFold(_) => Answer::of(UNDER_WAY),
-        _ => Answer::of(OTHER_HANDLE),
+        other => Answer::of(other.refusal()),
     }
 }
 
@@ -140,8 +139,10 @@ fn fold(held: Held, reversed: bool, tries: u64) -> (Held, Answer)
 {
     match held {
         Held::StackPass(pass) => pass.fold(reversed, tries),
-        Held::StackFold(fold) => (Held::StackFold(fold), Answer::of(UNDER_WAY)),
-        other => (other, Answer::of(OTHER_HANDLE)),
+        other => {
+            let answer = Answer::of(other.refusal());
+            (other, answer)
+        }
     }
 }
 
@@ -152,6 +153,64 @@ pub fn fold_by(held: &mut Held, reversed: bool, tries: u64) -> Answer
     ensures gives { HeldFolded held.old (front_from reversed) held.new result }
 {
     let (next, answer) = fold(mem::replace(held, Held::Nothing), reversed, tries);
+    *held = next;
+    answer
+}
+
+// Adds a value to the range that is collected here, if this is a stack's pass.
+fn add(alloc: Global, held: Held, value: u64) -> (Held, u32)
+    requires { IsHeld held }
+    ensures of { IsHeld result.0 }
+    ensures gives { HeldAdded held value result.0 result.1 }
+{
+    match held {
+        Held::StackPass(pass) => pass.begin_range(alloc, value),
+        Held::StackRange(range) => {
+            let mut range = range;
+            let code = range.add(value);
+            (Held::StackRange(range), code)
+        }
+        other => {
+            let code = other.refusal();
+            (other, code)
+        }
+    }
+}
+
+/// Adds a value to the range that what lies in the box collects, if that is a stack's pass.
+pub fn add_by(alloc: Global, held: &mut Held, value: u64) -> u32
+    requires { IsHeld held.old }
+    ensures of { IsHeld held.new }
+    ensures gives { HeldAdded held.old value held.new result }
+{
+    let (next, code) = add(alloc, mem::replace(held, Held::Nothing), value);
+    *held = next;
+    code
+}
+
+// Puts the range that is collected here, if this is a stack's pass.
+fn put_range(held: Held, tries: u64) -> (Held, Answer)
+    requires { IsHeld held }
+    ensures of { IsHeld result.0 }
+    ensures gives { HeldRangePut held result.0 result.1 }
+{
+    match held {
+        Held::StackPass(pass) => pass.put_nothing(),
+        Held::StackRange(range) => range.put(tries),
+        other => {
+            let answer = Answer::of(other.refusal());
+            (other, answer)
+        }
+    }
+}
+
+/// Puts the range that what lies in the box has collected, if that is a stack's pass.
+pub fn put_range_by(held: &mut Held, tries: u64) -> Answer
+    requires { IsHeld held.old }
+    ensures of { IsHeld held.new }
+    ensures gives { HeldRangePut held.old held.new result }
+{
+    let (next, answer) = put_range(mem::replace(held, Held::Nothing), tries);
     *held = next;
     answer
 }
@@ -174,6 +233,8 @@ fn go_on(held: Held, tries: u64) -> (Held, Answer)
             (Held::StackPass(pass), answer)
         }
         Held::StackFold(fold) => fold.go_on(tries),
+        Held::StackRange(range) => (Held::StackRange(range), Answer::of(NO_CALL)),
+        Held::StackRangePut(put) => put.go_on(tries),
         other => (other, Answer::of(OTHER_HANDLE)),
     }
 }

@@ -2,7 +2,8 @@
 //! behind one may cross threads.
 
 use crate::held::{
-    QueueOperation, QueuePass, QueueRoot, StackFold, StackOperation, StackPass, StackRoot,
+    QueueOperation, QueuePass, QueueRoot, StackFold, StackOperation, StackPass, StackRange,
+    StackRangePut, StackRoot,
 };
 use bounded_calls::Operation;
 
@@ -53,4 +54,18 @@ pub fn stack_operation_crosses(operation: &StackOperation) {
 pub fn stack_fold_crosses(fold: &StackFold) {
     crosses(&fold.stack);
     crosses(&fold.op);
+}
+
+/// The parts of a stack's pass that collects a range.
+pub fn stack_range_crosses(range: &StackRange) {
+    crosses(&range.stack);
+    crosses(&range.by);
+    crosses(&range.values);
+}
+
+/// The parts of a stack's pass that is in a put of a range.
+pub fn stack_range_put_crosses(put: &StackRangePut) {
+    crosses(&put.stack);
+    crosses(&put.op);
+    crosses(&put.values);
 }

@@ -9,17 +9,20 @@ ghost use Rattle.bounded_model.specs.declared.commands.Command.TheVariants.{
 ghost use Rattle.lockfree_c.specs.Held.{IsNewQueue, IsNewStack, front_from};
 ghost use Rattle.lockfree_c.specs.Slots.{
   IsSlot,
+  SlotAdded,
   SlotCalled,
   SlotFolded,
   SlotFreed,
   SlotNew,
+  SlotRangePut,
   SlotSplit,
   SlotWentOn,
 };
 
 use crate::answers::{Answer, IN_USE, NO_HANDLE, OK};
 use crate::boxed::{
-    boxed_queue, boxed_stack, call_by, fold_by, go_on_by, put_by, split_from, take_by,
+    add_by, boxed_queue, boxed_stack, call_by, fold_by, go_on_by, put_by, put_range_by, split_from,
+    take_by,
 };
 use crate::slot::Slot;
 use bounded_model::Command;
@@ -165,6 +168,34 @@ pub extern "C" fn lockfree_fold(pass: &mut Slot, reversed: bool, tries: u64) -> 
         return Answer::of(NO_HANDLE);
     }
     fold_by(pass.handle.open_mut(), reversed, tries)
+}
+
+/// Adds a value to the range that a stack's pass collects; the first one begins it. Until they are
+/// put the pass makes no other call.
+#[unsafe(no_mangle)]
+pub extern "C" fn lockfree_range_add(alloc: Global, pass: &mut Slot, value: u64) -> u32
+    requires { IsSlot pass.old }
+    ensures of { IsSlot pass.new }
+    ensures gives { SlotAdded pass.old value pass.new result }
+{
+    if !pass.full {
+        return NO_HANDLE;
+    }
+    add_by(alloc, pass.handle.open_mut(), value)
+}
+
+/// Puts as many of the values as cells can be had, from the first that was added, by one
+/// compare-and-swap. The values that are not put are forgotten.
+#[unsafe(no_mangle)]
+pub extern "C" fn lockfree_range_put(pass: &mut Slot, tries: u64) -> Answer
+    requires { IsSlot pass.old }
+    ensures of { IsSlot pass.new }
+    ensures gives { SlotRangePut pass.old pass.new result }
+{
+    if !pass.full {
+        return Answer::of(NO_HANDLE);
+    }
+    put_range_by(pass.handle.open_mut(), tries)
 }
 
 /// Goes on with the call that returned `BUSY`, or with the fold that returned `VALUE`.

@@ -16,24 +16,10 @@ ghost use Rattle.lockfree_c.specs.Held.{
 use crate::answers::{Answer, BUSY, UNDER_WAY};
 use crate::held::{Held, StackFold, StackPass};
 use crate::stage::Stage;
+use crate::steps::steps_for;
 use std::alloc::Global;
 use std::sync::Arc;
 use treiber_stack::{FoldMade, FoldOp, Pass, Stack};
-
-// As many steps as lead to a fold's next value or its end, where nobody interferes and no values are
-// turned round.
-const UNDISTURBED: u64 = 10;
-
-// How many steps lead to its next compare-and-swap once one has failed.
-const TO_EXCHANGE: u64 = 3;
-
-// How many steps so many tries are.
-#[inline]
-fn steps_for(tries: u64) -> u64 {
-    tries
-        .saturating_mul(TO_EXCHANGE)
-        .saturating_add(UNDISTURBED)
-}
 
 // A fold that makes no step yet.
 fn begin(stack: &Stack<u64>, by: Pass<u64>, reversed: bool) -> FoldOp<u64>

@@ -1,10 +1,14 @@
 //! What lies behind a handle.
+ghost use Rattle.std.specs.Prelude.{◌≡◌};
+ghost use Rattle.lockfree_c.specs.Held.{refusal_of};
+
+use crate::answers::{OTHER_HANDLE, UNDER_WAY};
 use crate::stage::Stage;
 use bounded_calls::Operation;
 use ms_queue::Queue;
 use std::alloc::Global;
 use std::sync::Arc;
-use treiber_stack::{FoldOp, Stack};
+use treiber_stack::{FoldOp, RangeOp, Stack};
 
 /// A call of a queue's pass that was begun.
 pub type QueueOperation = Operation<
@@ -60,6 +64,24 @@ pub struct StackFold {
     pub op: FoldOp<u64>,
 }
 
+/// A stack's pass that collects the values of a range, each in a place, with a share of the stack. It
+/// makes no call until they are put.
+#[derive(Drop)]
+pub struct StackRange {
+    pub stack: Arc<Stack<u64>, Global>,
+    pub by: treiber_stack::Pass<u64>,
+    pub values: Vec<Option<u64>>,
+}
+
+/// A stack's pass in a put of a range, with a share of the stack. A value that is in a cell is not in
+/// its place.
+#[derive(Drop)]
+pub struct StackRangePut {
+    pub stack: Arc<Stack<u64>, Global>,
+    pub op: RangeOp<u64>,
+    pub values: Vec<Option<u64>>,
+}
+
 #[derive(Drop)]
 pub enum Held {
     Nothing,
@@ -68,4 +90,21 @@ pub enum Held {
     StackRoot(StackRoot),
     StackPass(StackPass),
     StackFold(StackFold),
+    StackRange(StackRange),
+    StackRangePut(StackRangePut),
+}
+
+impl Held {
+    /// Why it makes no call, where it is no pass for one. Apart from the calls, which ask a pass mostly.
+    #[cold]
+    pub fn refusal(&self) -> u32
+        ensures { result ≡ refusal_of self.now }
+    {
+        match self {
+            Held::StackFold(_) => UNDER_WAY,
+            Held::StackRange(_) => UNDER_WAY,
+            Held::StackRangePut(_) => UNDER_WAY,
+            _ => OTHER_HANDLE,
+        }
+    }
 }

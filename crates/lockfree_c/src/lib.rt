@@ -15,6 +15,8 @@ mod handle;
 mod held;
 mod parts;
 mod queue;
+mod range;
 mod slot;
 mod stack;
 mod stage;
+mod steps;

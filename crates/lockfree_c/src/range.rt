@@ -1,0 +1,130 @@
+//! Ranges of a stack: C gives the values one after another, and then one compare-and-swap puts them.
+ghost use Rattle.lockfree_c.specs.Held.{
+  IsHeld,
+  IsStackPass,
+  IsStackRange,
+  IsStackRangePut,
+  NothingPut,
+  RangeAdded,
+  RangeBegan,
+  RangeLeft,
+  RangePut,
+  RangeWentOn,
+};
+
+use crate::answers::{Answer, BUSY, EMPTY, NO_MEMORY, OK, UNDER_WAY};
+use crate::held::{Held, StackPass, StackRange, StackRangePut};
+use crate::stage::Stage;
+use crate::steps::steps_for;
+use bounded_model::{RangeRefused, Ranged, Stepped};
+use std::alloc::Global;
+use std::sync::Arc;
+use treiber_stack::{Pass, RangeOp, Stack};
+
+// What is held once a put of a range was run, and the answer.
+fn left(
+    stack: Arc<Stack<u64>, Global>,
+    values: Vec<Option<u64>>,
+    made: Stepped<RangeOp<u64>, Pass<u64>, Result<Ranged, RangeRefused>>,
+) -> (Held, Answer)
+    ensures { RangeLeft stack.value values.items made result.0 result.1 }
+{
+    match made {
+        Stepped::Again(op) => {
+            let put = StackRangePut { stack, op, values };
+            (Held::StackRangePut(put), Answer::of(BUSY))
+        }
+        Stepped::Done(by, said) => {
+            let stage = Stage::of(by);
+            let pass = StackPass { stack, stage };
+            (Held::StackPass(pass), Answer::of_range(said))
+        }
+    }
+}
+
+impl StackPass {
+    /// Begins a range with this value; where the pass is in a call already, nothing.
+    pub fn begin_range(self, alloc: Global, value: u64) -> (Held, u32)
+        requires { IsStackPass self }
+        ensures of { IsHeld result.0 }
+        ensures gives { RangeBegan self value result.0 result.1 }
+    {
+        let StackPass { stack, stage } = self;
+        let Stage { resting, under_way } = stage;
+        let Some(by) = resting else {
+            let stage = Stage {
+                resting: None,
+                under_way,
+            };
+            return (Held::StackPass(StackPass { stack, stage }), UNDER_WAY);
+        };
+        let mut values = Vec::new(alloc);
+        match values.push(Some(value)) {
+            Ok(()) => {
+                let range = StackRange { stack, by, values };
+                (Held::StackRange(range), OK)
+            }
+            Err(_) => {
+                let stage = Stage {
+                    resting: Some(by),
+                    under_way,
+                };
+                (Held::StackPass(StackPass { stack, stage }), NO_MEMORY)
+            }
+        }
+    }
+
+    /// The answer to a put of a range where none is collected; nothing is done.
+    pub fn put_nothing(self) -> (Held, Answer)
+        requires { IsStackPass self }
+        ensures of { IsHeld result.0 }
+        ensures gives { NothingPut self result.0 result.1 }
+    {
+        let code = match self.stage.resting {
+            Some(_) => EMPTY,
+            None => UNDER_WAY,
+        };
+        (Held::StackPass(self), Answer::of(code))
+    }
+}
+
+impl StackRange {
+    /// Adds a value at the end, where there is memory.
+    pub fn add(&mut self, value: u64) -> u32
+        requires { IsStackRange self.old }
+        ensures of { IsStackRange self.new }
+        ensures gives { RangeAdded self.old value self.new result }
+    {
+        match self.values.push(Some(value)) {
+            Ok(()) => OK,
+            Err(_) => NO_MEMORY,
+        }
+    }
+
+    /// Puts the values.
+    pub fn put(self, tries: u64) -> (Held, Answer)
+        requires { IsStackRange self }
+        ensures of { IsHeld result.0 }
+        ensures gives { RangePut self result.0 result.1 }
+    {
+        let StackRange { stack, by, values } = self;
+        match stack.begin_range(by, &values) {
+            Stepped::Again(op) => StackRangePut { stack, op, values }.go_on(tries),
+            Stepped::Done(by, said) => left(stack, values, Stepped::Done(by, said)),
+        }
+    }
+}
+
+impl StackRangePut {
+    /// Goes on with the put.
+    pub fn go_on(self, tries: u64) -> (Held, Answer)
+        requires { IsStackRangePut self }
+        ensures of { IsHeld result.0 }
+        ensures gives { RangeWentOn self result.0 result.1 }
+    {
+        let StackRangePut { stack, op, values } = self;
+        let mut values = values;
+        let made = op.run_for(&stack, &mut values, steps_for(tries));
+        left(stack, values, made)
+    }
+}
