@@ -100,8 +100,8 @@ lockfree_answer lockfree_fold(lockfree_handle *pass, bool reversed, uint64_t tri
 
 /* A range of values for a stack, of which others see all or none: one compare-and-swap puts them. The pass
  * collects them, one after another, which takes memory and no cell; then range_put puts as many as cells
- * can be had, from the first that was added, so that the last one put is on top. It makes the tries for
- * each value, and for all of them together. From the first value to the end of the put the pass makes no
+ * can be had, from the first that was added, so that the last one put is on top. `tries` are for each
+ * value, and again for all of them together. From the first value to the end of the put the pass makes no
  * other call, and go_on is NO_CALL until the put is BUSY. The end of the put gives back the memory, and the
  * pass has forgotten the values: those that were not put are the last `added - value`.
  * add: OK, NO_MEMORY, UNDER_WAY, OTHER_HANDLE, NO_HANDLE

@@ -351,7 +351,8 @@ static void *puts_ranges(void *at)
             adds(&work->pass, first + done, first + LONG - 1);
             lockfree_answer put = lockfree_range_put(&work->pass, 0);
             while (put.code == LOCKFREE_BUSY) {
-                CHECK(lockfree_range_add(&work->pass, 1) == LOCKFREE_UNDER_WAY && lockfree_range_put(&work->pass, 1).code == LOCKFREE_UNDER_WAY);
+                CHECK(lockfree_range_add(&work->pass, 1) == LOCKFREE_UNDER_WAY);
+                CHECK(lockfree_range_put(&work->pass, 1).code == LOCKFREE_UNDER_WAY);
                 put = lockfree_go_on(&work->pass, 0);
             }
             CHECK(put.code == LOCKFREE_OK || put.code == LOCKFREE_FULL);
