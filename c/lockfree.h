@@ -15,14 +15,15 @@
  *   - no call is made in a signal handler, or in the child of a fork of a process with threads.
  *
  * Other misuse of a handle, and all else that can go wrong in a call, is answered by a code, and then
- * nothing has changed but what is said here. No call but the two _new, _split and _free takes or gives
- * back memory. None waits for another thread: each makes a bounded number of steps, but for the inline
- * functions at the end, which go on until they have another answer than BUSY.
+ * nothing has changed but what is said here. No call but the two _new, _split, _free and those of a range
+ * takes or gives back memory. None waits for another thread: each makes a bounded number of steps, but for
+ * the inline functions at the end, which go on until they have another answer than BUSY.
  */
 #ifndef LOCKFREE_H
 #define LOCKFREE_H
 
 #include <stdbool.h>
+#include <stddef.h>
 #include <stdint.h>
 
 #ifdef __cplusplus
@@ -32,17 +33,17 @@ extern "C" {
 enum {
     LOCKFREE_OK = 0,
     LOCKFREE_FULL = 1,          /* put: each cell holds a value or is held by a call */
-    LOCKFREE_EMPTY = 2,         /* take, fold: no value, and more may come. look: it was empty */
+    LOCKFREE_EMPTY = 2,         /* take, fold: no value, and more may come. look: it was empty. range_put: no value was added */
     LOCKFREE_CLOSED = 3,        /* put: closed. take, fold: no value, and none will come. close: it was closed before */
     LOCKFREE_SHUT = 4,          /* take, fold: shut. shut: it was shut before */
     LOCKFREE_SPENT = 5,         /* put, take, fold: a tag is at its limit of 2^42 - 1; number is the tag */
     LOCKFREE_BUSY = 6,          /* the tries are used up: go on with lockfree_go_on */
-    LOCKFREE_UNDER_WAY = 7,     /* the pass has a call under way: lockfree_go_on first */
+    LOCKFREE_UNDER_WAY = 7,     /* the pass has a call under way: lockfree_go_on first. Or a range's values: lockfree_range_put first */
     LOCKFREE_NO_CALL = 8,       /* go_on: the pass has no call under way */
     LOCKFREE_NO_MEMORY = 9,
     LOCKFREE_NO_PASS = 10,      /* split: the root has given as many passes as it may, 65,535 */
     LOCKFREE_BAD_CAPACITY = 11, /* new: a capacity is 1 to 1,048,573 */
-    LOCKFREE_OTHER_HANDLE = 12, /* a root in the place of a pass, or the other way round. fold: or a queue's pass */
+    LOCKFREE_OTHER_HANDLE = 12, /* a root in the place of a pass, or the other way round. fold, range: or a queue's pass */
     LOCKFREE_NO_HANDLE = 13,    /* the handle is empty: never made, or freed */
     LOCKFREE_IN_USE = 14,       /* the handle to be made is not empty */
     LOCKFREE_VALUE = 15         /* fold: value is the next one, and the fold is under way: go on with lockfree_go_on */
@@ -53,9 +54,9 @@ typedef struct lockfree_handle {
     bool full;
 } lockfree_handle;
 
-/* value: of a take that is done; the next one of a fold, and of a fold that is done how many there were.
- * number: of a put, a take or a fold that is done, counted from 0 (puts and takes of a queue each by
- * themselves, those of a stack together); of one that is spent, the tag. */
+/* value: of a take that is done; the next one of a fold, and of a fold that is done how many there were; of a
+ * range_put that is done how many were put. number: of a put, a take or a fold that is done, counted from 0
+ * (puts and takes of a queue each by themselves, those of a stack together); of one that is spent, the tag. */
 typedef struct lockfree_answer {
     uint64_t value;
     uint64_t number;
@@ -71,7 +72,7 @@ uint32_t lockfree_split(lockfree_handle *root, lockfree_handle *pass);
 
 /* Gives up a root or a pass, and empties the handle. A call that is under way ends where it is: its
  * value is out of reach, and its cell stays held; of a fold, all that it has not handed out are, and the
- * cells of all. OK, NO_HANDLE. */
+ * cells of all; of a range_put, all of its values, and the cells that it has. OK, NO_HANDLE. */
 uint32_t lockfree_free(lockfree_handle *handle);
 
 /* The calls of a pass. Each makes its fast path, and where that does not end it at most so many steps
@@ -96,6 +97,17 @@ lockfree_answer lockfree_go_on(lockfree_handle *pass, uint64_t tries);
  * that is reversed makes two steps more for each value, before the first.
  * OK, VALUE, EMPTY, CLOSED, SHUT, SPENT, BUSY, UNDER_WAY, OTHER_HANDLE, NO_HANDLE. */
 lockfree_answer lockfree_fold(lockfree_handle *pass, bool reversed, uint64_t tries);
+
+/* A range of values for a stack, of which others see all or none: one compare-and-swap puts them. The pass
+ * collects them, one after another, which takes memory and no cell; then range_put puts as many as cells
+ * can be had, from the first that was added, so that the last one put is on top. `tries` are for each
+ * value, and again for all of them together. From the first value to the end of the put the pass makes no
+ * other call, and go_on is NO_CALL until the put is BUSY. The end of the put gives back the memory, and the
+ * pass has forgotten the values: those that were not put are the last `added - value`.
+ * add: OK, NO_MEMORY, UNDER_WAY, OTHER_HANDLE, NO_HANDLE
+ * put: OK; FULL, CLOSED, SPENT, EMPTY, and then none was put; BUSY, UNDER_WAY, OTHER_HANDLE, NO_HANDLE */
+uint32_t lockfree_range_add(lockfree_handle *pass, uint64_t value);
+lockfree_answer lockfree_range_put(lockfree_handle *pass, uint64_t tries);
 
 /* Goes on until there is another answer than BUSY. */
 static inline lockfree_answer lockfree_until(lockfree_handle *pass, lockfree_answer answer)
@@ -150,6 +162,20 @@ static inline uint32_t lockfree_consume_all_atomic(lockfree_handle *pass, bool r
     }
     *count = answer.code == LOCKFREE_OK ? answer.value : 0;
     return answer.code;
+}
+
+/* Puts values onto a stack at once, from the first: as many as there is memory for and cells can be had. More
+ * than the capacity cannot be put, and take memory all the same. The answer is range_put's, or range_add's
+ * where it refused the first value. */
+static inline lockfree_answer lockfree_push_range(lockfree_handle *pass, const uint64_t *values, size_t count)
+{
+    lockfree_answer answer = {0, 0, LOCKFREE_OK};
+    size_t added = 0;
+    while (added < count && (answer.code = lockfree_range_add(pass, values[added])) == LOCKFREE_OK)
+        added++;
+    if (added == 0 && answer.code != LOCKFREE_OK)
+        return answer;
+    return lockfree_until(pass, lockfree_range_put(pass, UINT64_MAX));
 }
 
 #ifdef __cplusplus

@@ -12,9 +12,9 @@
 // container, which must not be in use then, as any object.
 //
 // Exceptions: the constructors throw std::bad_alloc, and std::invalid_argument where no container has that
-// capacity (1 to 1,048,573); so do split, push and pop std::bad_alloc where a thread's first pass or a
-// value's box finds no memory, and std::length_error where 65,535 passes are out. push and pop are false
-// after 2^42 calls and some, when a tag is at its limit.
+// capacity (1 to 1,048,573); so do split, push and pop std::bad_alloc where a thread's first pass, a
+// value's box or a range finds no memory, and std::length_error where 65,535 passes are out. push and pop are
+// false after 2^42 calls and some, when a tag is at its limit. A push that throws has pushed nothing.
 //
 // What a function that a stack's consume_all_atomic calls does with the same stack goes by another pass of its
 // thread. Where it throws, the values that it has not got are destroyed, and the exception goes on.
@@ -25,6 +25,7 @@
 #include <atomic>
 #include <cstddef>
 #include <cstring>
+#include <iterator>
 #include <memory>
 #include <mutex>
 #include <new>
@@ -138,6 +139,38 @@ template <class T> bool push_word(lockfree_handle &handle, void *shared, std::ui
     return false;
 }
 
+// The words of a range. Those that are not put end with it.
+template <class T> class words {
+public:
+    words() = default;
+    words(const words &) = delete;
+    words &operator=(const words &) = delete;
+    ~words() {
+        for (std::size_t i = put; i < all.size(); ++i) drop_word<T>(all[i]);
+    }
+    std::vector<std::uint64_t> all;
+    std::size_t put = 0;
+};
+
+// Puts what is in the range at once, from the front, as many as go; `room` is the capacity. Answers the first
+// that was not put.
+template <class T, class It> It push_range(lockfree_handle &handle, void *shared, std::size_t room, It begin, It end) {
+    using traits = std::iterator_traits<It>;
+    static_assert(std::is_base_of_v<std::forward_iterator_tag, typename traits::iterator_category>,
+                  "a range that is pushed is read once more where some of it is left");
+    words<T> range;
+    for (It at = begin; at != end && range.all.size() < room; ++at) {
+        range.all.push_back(0);
+        range.all.back() = to_word<T>(*at);
+    }
+    if (range.all.empty()) return begin;
+    gives(shared);
+    const lockfree_answer answer = lockfree_push_range(&handle, range.all.data(), range.all.size());
+    if (answer.code == LOCKFREE_NO_MEMORY) throw std::bad_alloc();
+    if (answer.code == LOCKFREE_OK) range.put = static_cast<std::size_t>(answer.value);
+    return std::next(begin, static_cast<typename traits::difference_type>(range.put));
+}
+
 template <class T, class U> bool pop_word(lockfree_handle &handle, void *shared, U &to) {
     std::uint64_t word;
     if (lockfree_pop(&handle, &word) != LOCKFREE_OK) return false;
@@ -207,12 +240,13 @@ inline std::uint64_t next_number() {
 // A root, and the passes that threads use by its container's push and pop. Its number is never another's.
 class core {
 public:
-    core(kind which, std::size_t room) {
+    core(kind which, std::size_t capacity) : room(capacity) {
         const auto size = static_cast<std::uint32_t>(room > 0xFFFFFFFF ? 0 : room);
         refuse(which == kind::queue ? lockfree_queue_new(&root.handle, size) : lockfree_stack_new(&root.handle, size));
     }
 
     const std::uint64_t number = next_number();
+    const std::size_t room;
 
     owner split() {
         const std::lock_guard<std::mutex> guard(lock);
@@ -357,11 +391,18 @@ public:
         bool push(T &&value) { return push_word<T>(held.handle, shared, to_word<T>(std::move(value))); }
         template <class U> bool pop(U &to) { return pop_word<T>(held.handle, shared, to); }
 
+        // A stack's, as `stack::push`.
+        template <class It> It push(It begin, It end) {
+            static_assert(K == kind::stack, "only a stack puts a range at once");
+            return push_range<T>(held.handle, shared, room, begin, end);
+        }
+
     private:
         friend class container;
-        pass(owner from, void *of) : held(std::move(from)), shared(of) {}
+        pass(owner from, core &of) : held(std::move(from)), shared(&of), room(of.room) {}
         owner held;
         void *shared = nullptr;
+        std::size_t room = 0;
     };
 
     template <std::size_t N = fixed, class = std::enable_if_t<N != 0>>
@@ -395,7 +436,7 @@ public:
     bool close() { return lockfree_until(&mine(), lockfree_close(&mine(), UINT64_MAX)).code == LOCKFREE_OK; }
 
     // Not Boost's: a pass that a thread keeps itself.
-    pass split() { return pass(inner->split(), inner.get()); }
+    pass split() { return pass(inner->split(), *inner); }
 
 protected:
     lockfree_handle &mine() {
@@ -419,6 +460,15 @@ template <class T, class... Options> class stack : public detail::container<T, d
 
 public:
     using base::base;
+    using base::bounded_push;
+    using base::push;
+
+    // Puts the values of a range at once, from its front, as many as there are cells for; the last one put is on
+    // top. Answers the first that was not put. The iterators are forward iterators at least.
+    template <class It> It push(It begin, It end) {
+        return detail::push_range<T>(this->mine(), this->inner.get(), this->inner->room, begin, end);
+    }
+    template <class It> It bounded_push(It begin, It end) { return push(begin, end); }
 
     // Takes all values at once, and hands them to `use` from the top down; answers how many.
     template <class F> std::size_t consume_all_atomic(F &&use) { return fold(false, use); }

@@ -41,6 +41,20 @@ template <class Stack> void all_at_once(const char *name, Stack &stack) {
     std::printf("%s: %d and %d consumed at once, empty %d\n", name, static_cast<int>(down), static_cast<int>(up), stack.empty());
 }
 
+// A stack's own: a range at once, of which as many go as fit. Boost 1.74 compiles it for a stack of no fixed size alone, of
+// which `bounded_push` takes the cells that there are.
+template <class Stack> void ranges(const char *name, Stack &stack) {
+    const std::vector<order> orders{{1, 1}, {2, 2}, {3, 3}, {4, 4}};
+    const auto put = [&](auto from) {
+        const auto left = stack.bounded_push(from, orders.end());
+        std::printf("%s: %d put, %d left\n", name, static_cast<int>(left - from), static_cast<int>(orders.end() - left));
+        return left;
+    };
+    put(orders.begin());
+    put(put(orders.begin()));
+    stack.consume_all([&](order value) { std::printf("%s: of a range %d\n", name, value.client); });
+}
+
 template <class Container> void many_threads(const char *name, Container &container) {
     constexpr int sides = 4, each = 50000;
     std::atomic<long> taken{0}, sum{0};
@@ -68,6 +82,8 @@ int main() {
     one_thread("queue", orders);
     one_thread("stack", held);
     all_at_once("stack", held);
+    containers::stack<order> shelf(5);
+    ranges("stack", shelf);
     containers::queue<int, containers::capacity<128>> numbers;
     containers::stack<int, containers::fixed_sized<true>> pile(128);
     many_threads("queue", numbers);

@@ -176,15 +176,17 @@ static void consuming(make_new *make)
     lockfree_free(&pass), lockfree_free(&root);
 }
 
+enum { MOST = 20 };
+
 struct handed {
-    uint64_t values[8];
+    uint64_t values[MOST];
     uint64_t count;
 };
 
 static void keep(uint64_t value, void *at)
 {
     struct handed *handed = at;
-    CHECK(handed->count < 8);
+    CHECK(handed->count < MOST);
     handed->values[handed->count++] = value;
 }
 
@@ -202,6 +204,7 @@ static void folding(bool reversed)
         CHECK(answer.code == LOCKFREE_VALUE && answer.value == (reversed ? i : 4 - i));
         CHECK(lockfree_take(&pass, 9).code == LOCKFREE_UNDER_WAY && lockfree_put(&pass, 9, 9).code == LOCKFREE_UNDER_WAY);
         CHECK(lockfree_look(&pass, 9).code == LOCKFREE_UNDER_WAY && lockfree_fold(&pass, reversed, 9).code == LOCKFREE_UNDER_WAY);
+        CHECK(lockfree_range_add(&pass, 9) == LOCKFREE_UNDER_WAY && lockfree_range_put(&pass, 9).code == LOCKFREE_UNDER_WAY);
         CHECK(lockfree_split(&pass, &root) == LOCKFREE_IN_USE && lockfree_look(&other, 9).code == LOCKFREE_EMPTY);
         answer = lockfree_go_on(&pass, 9);
     }
@@ -242,6 +245,176 @@ static void folds(void)
     lockfree_free(&pass), lockfree_free(&root);
 }
 
+static void adds(lockfree_handle *pass, uint64_t from, uint64_t to)
+{
+    for (uint64_t i = from; i <= to; i++)
+        CHECK(lockfree_range_add(pass, i) == LOCKFREE_OK);
+}
+
+static void pops(lockfree_handle *pass, uint64_t expected)
+{
+    uint64_t value = 0;
+    CHECK(lockfree_pop(pass, &value) == LOCKFREE_OK && value == expected);
+}
+
+/* While a pass collects a range nobody sees its values, and another call changes nothing. */
+static void collecting(void)
+{
+    lockfree_handle root = {0}, pass = {0}, other = {0};
+    CHECK(lockfree_range_add(&pass, 1) == LOCKFREE_NO_HANDLE && lockfree_range_put(&pass, 9).code == LOCKFREE_NO_HANDLE);
+    CHECK(lockfree_stack_new(&root, 4) == LOCKFREE_OK && lockfree_split(&root, &pass) == LOCKFREE_OK && lockfree_split(&root, &other) == LOCKFREE_OK);
+    CHECK(lockfree_range_add(&root, 1) == LOCKFREE_OTHER_HANDLE && lockfree_range_put(&root, 9).code == LOCKFREE_OTHER_HANDLE);
+    CHECK(lockfree_range_put(&pass, 9).code == LOCKFREE_EMPTY && lockfree_push(&pass, 1) == LOCKFREE_OK);
+    pops(&pass, 1);
+    for (uint64_t i = 1; i <= 3; i++) {
+        CHECK(lockfree_range_add(&pass, i) == LOCKFREE_OK && lockfree_go_on(&pass, 9).code == LOCKFREE_NO_CALL);
+        CHECK(lockfree_put(&pass, 9, 9).code == LOCKFREE_UNDER_WAY && lockfree_take(&pass, 9).code == LOCKFREE_UNDER_WAY);
+        CHECK(lockfree_close(&pass, 9).code == LOCKFREE_UNDER_WAY && lockfree_shut(&pass, 9).code == LOCKFREE_UNDER_WAY);
+        CHECK(lockfree_look(&pass, 9).code == LOCKFREE_UNDER_WAY && lockfree_fold(&pass, false, 9).code == LOCKFREE_UNDER_WAY);
+        CHECK(lockfree_split(&pass, &root) == LOCKFREE_IN_USE && lockfree_look(&other, 9).code == LOCKFREE_EMPTY);
+    }
+    lockfree_answer put = lockfree_range_put(&pass, 0);
+    CHECK(put.code == LOCKFREE_OK && put.number == 2 && put.value == 3); /* after one put and one take */
+    CHECK(lockfree_go_on(&pass, 9).code == LOCKFREE_NO_CALL && lockfree_range_put(&pass, 9).code == LOCKFREE_EMPTY);
+    pops(&other, 3), pops(&pass, 2), pops(&other, 1);
+    adds(&pass, 1, 2);
+    CHECK(lockfree_free(&pass) == LOCKFREE_OK); /* it held no cell */
+    for (uint64_t i = 1; i <= 4; i++)
+        CHECK(lockfree_push(&other, i) == LOCKFREE_OK);
+    lockfree_free(&other), lockfree_free(&root);
+}
+
+/* What is put where there is not room for all, or for none, or no put is let in. */
+static void ranges(void)
+{
+    lockfree_handle root = {0}, pass = {0}, other = {0};
+    const uint64_t seven[] = {1, 2, 3, 4, 5, 6, 7};
+    CHECK(lockfree_queue_new(&root, 4) == LOCKFREE_OK && lockfree_split(&root, &pass) == LOCKFREE_OK);
+    CHECK(lockfree_range_add(&pass, 1) == LOCKFREE_OTHER_HANDLE && lockfree_range_put(&pass, 9).code == LOCKFREE_OTHER_HANDLE);
+    CHECK(lockfree_push_range(&pass, seven, 7).code == LOCKFREE_OTHER_HANDLE && lockfree_look(&pass, 9).code == LOCKFREE_EMPTY);
+    lockfree_free(&pass), lockfree_free(&root);
+    CHECK(lockfree_stack_new(&root, 4) == LOCKFREE_OK && lockfree_split(&root, &pass) == LOCKFREE_OK && lockfree_split(&root, &other) == LOCKFREE_OK);
+    CHECK(lockfree_push_range(&pass, seven, 0).code == LOCKFREE_EMPTY);
+    lockfree_answer put = lockfree_push_range(&pass, seven, 7);
+    CHECK(put.code == LOCKFREE_OK && put.number == 0 && put.value == 4);
+    CHECK(lockfree_push_range(&pass, seven, 2).code == LOCKFREE_FULL && lockfree_push(&pass, 8) == LOCKFREE_FULL);
+    pops(&other, 4), pops(&pass, 3);
+    adds(&pass, 11, 13);
+    put = lockfree_range_put(&pass, 9);
+    CHECK(put.code == LOCKFREE_OK && put.number == 3 && put.value == 2);
+    pops(&other, 12), pops(&pass, 11), pops(&other, 2), pops(&pass, 1);
+    adds(&pass, 1, 2);
+    CHECK(lockfree_close(&other, 9).code == LOCKFREE_OK && lockfree_range_put(&pass, 9).code == LOCKFREE_CLOSED);
+    CHECK(lockfree_put(&pass, 1, 9).code == LOCKFREE_CLOSED && lockfree_take(&other, 9).code == LOCKFREE_CLOSED);
+    lockfree_free(&pass), lockfree_free(&root), lockfree_free(&other);
+}
+
+/* What was added before there was no memory is still there. */
+static void ranges_without_memory(void)
+{
+    const uint64_t nine[] = {1, 2, 3, 4, 5, 6, 7, 8, 9};
+    lockfree_handle root = {0}, pass = {0};
+    CHECK(lockfree_stack_new(&root, 16) == LOCKFREE_OK && lockfree_split(&root, &pass) == LOCKFREE_OK);
+    refused = 1;
+    CHECK(lockfree_range_add(&pass, 1) == LOCKFREE_NO_MEMORY && lockfree_range_put(&pass, 9).code == LOCKFREE_EMPTY);
+    for (long at = 1, all = 0; !all; at++) {
+        refused = at;
+        lockfree_answer put = lockfree_push_range(&pass, nine, 9);
+        all = refused > 0;
+        refused = 0;
+        CHECK(put.code == (at == 1 ? LOCKFREE_NO_MEMORY : LOCKFREE_OK));
+        CHECK(all ? put.value == 9 : at == 1 ? put.value == 0 : put.value > 0 && put.value < 9);
+        for (uint64_t i = put.value; i >= 1; i--)
+            pops(&pass, i);
+        CHECK(lockfree_look(&pass, 9).code == LOCKFREE_EMPTY);
+    }
+    uint64_t next = 1;
+    CHECK(lockfree_range_add(&pass, next++) == LOCKFREE_OK);
+    refused = 1;
+    while (lockfree_range_add(&pass, next) == LOCKFREE_OK)
+        next++;
+    CHECK(refused == 0 && next < 16 && lockfree_range_add(&pass, next) == LOCKFREE_OK);
+    CHECK(lockfree_range_put(&pass, 9).value == next);
+    for (uint64_t i = next; i >= 1; i--)
+        pops(&pass, i);
+    lockfree_free(&pass), lockfree_free(&root);
+}
+
+enum { RANGES = 20000, LONG = 3 };
+static unsigned char *in_parts; /* by range: whether it was put in more than one */
+
+static void *puts_ranges(void *at)
+{
+    struct work *work = at;
+    for (uint64_t first = work->from; first < work->from + RANGES * LONG; first += LONG)
+        for (uint64_t done = 0; done < LONG;) {
+            adds(&work->pass, first + done, first + LONG - 1);
+            lockfree_answer put = lockfree_range_put(&work->pass, 0);
+            while (put.code == LOCKFREE_BUSY) {
+                CHECK(lockfree_range_add(&work->pass, 1) == LOCKFREE_UNDER_WAY);
+                CHECK(lockfree_range_put(&work->pass, 1).code == LOCKFREE_UNDER_WAY);
+                put = lockfree_go_on(&work->pass, 0);
+            }
+            CHECK(put.code == LOCKFREE_OK || put.code == LOCKFREE_FULL);
+            if (put.code == LOCKFREE_FULL)
+                sched_yield();
+            else if ((done += put.value) < LONG)
+                __atomic_store_n(&in_parts[first / LONG], 1, __ATOMIC_RELAXED);
+        }
+    return NULL;
+}
+
+/* Each fold has all of a range or none of it, one value beside the other. */
+static void *folds_ranges(void *at)
+{
+    struct work *work = at;
+    for (;;) {
+        struct handed handed = {0};
+        uint64_t count;
+        uint32_t code = lockfree_consume_all_atomic(&work->pass, false, keep, &handed, &count);
+        if (code == LOCKFREE_CLOSED)
+            return NULL;
+        CHECK(code == LOCKFREE_OK || code == LOCKFREE_EMPTY);
+        if (code == LOCKFREE_EMPTY)
+            sched_yield();
+        for (uint64_t i = 0; i < count; i++) {
+            uint64_t value = handed.values[i];
+            if (value % LONG != 0 && !__atomic_load_n(&in_parts[value / LONG], __ATOMIC_RELAXED))
+                CHECK(i + 1 < count && handed.values[i + 1] == value - 1);
+            CHECK(__atomic_add_fetch(&seen[value], 1, __ATOMIC_RELAXED) == 1);
+        }
+        work->count += count;
+    }
+}
+
+static void ranges_of_many_threads(void)
+{
+    lockfree_handle root = {0}, closing = {0};
+    struct work works[2 * SIDES] = {0};
+    pthread_t threads[2 * SIDES];
+    seen = calloc(SIDES, RANGES * LONG);
+    in_parts = calloc(SIDES, RANGES);
+    CHECK(seen && in_parts && lockfree_stack_new(&root, MOST) == LOCKFREE_OK && lockfree_split(&root, &closing) == LOCKFREE_OK);
+    for (int i = 0; i < 2 * SIDES; i++) {
+        works[i].from = (uint64_t)i * RANGES * LONG;
+        CHECK(lockfree_split(&root, &works[i].pass) == LOCKFREE_OK);
+        CHECK(pthread_create(&threads[i], NULL, i < SIDES ? puts_ranges : folds_ranges, &works[i]) == 0);
+    }
+    for (int i = 0; i < SIDES; i++)
+        pthread_join(threads[i], NULL);
+    CHECK(lockfree_until(&closing, lockfree_close(&closing, 0)).code == LOCKFREE_OK);
+    uint64_t count = 0;
+    for (int i = SIDES; i < 2 * SIDES; i++) {
+        pthread_join(threads[i], NULL);
+        count += works[i].count;
+    }
+    CHECK(count == (uint64_t)SIDES * RANGES * LONG);
+    for (int i = 0; i < 2 * SIDES; i++)
+        CHECK(lockfree_free(&works[i].pass) == LOCKFREE_OK);
+    lockfree_free(&closing), lockfree_free(&root);
+    free(seen), free(in_parts);
+}
+
 int main(void)
 {
     make_new *const makes[] = {lockfree_queue_new, lockfree_stack_new};
@@ -256,6 +429,10 @@ int main(void)
     folding(false);
     folding(true);
     folds();
+    collecting();
+    ranges();
+    ranges_without_memory();
+    ranges_of_many_threads();
     puts("passed");
     return 0;
 }

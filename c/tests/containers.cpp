@@ -4,6 +4,7 @@
 #include <atomic>
 #include <cstdio>
 #include <cstdlib>
+#include <iterator>
 #include <memory>
 #include <string>
 #include <thread>
@@ -185,6 +186,108 @@ void folds_of_many_threads(bool reversed) {
     CHECK(counted::alive == 0);
 }
 
+// What of a range is not put is destroyed, and what is put comes out, the last of it first.
+void ranges() {
+    {
+        lockfree::stack<counted> stack(4);
+        std::vector<counted> values;
+        for (long i = 1; i <= 6; ++i) values.emplace_back(i);
+        CHECK(stack.push(values.begin(), values.begin()) == values.begin() && stack.empty());
+        CHECK(stack.push(values.begin(), values.begin() + 3) == values.begin() + 3 && counted::alive == 9);
+        CHECK(stack.bounded_push(values.cbegin() + 3, values.cend()) == values.cbegin() + 4 && counted::alive == 10);
+        CHECK(stack.push(values.begin(), values.end()) == values.begin() && counted::alive == 10);
+        std::vector<long> seen;
+        CHECK(stack.consume_all([&](counted &value) { seen.push_back(*value.number); }) == 4 && seen == (std::vector<long>{4, 3, 2, 1}));
+        CHECK(stack.push(std::make_move_iterator(values.begin()), std::make_move_iterator(values.end())).base() == values.begin() + 4);
+        CHECK(counted::alive == 10);
+    }  // four are left, and end with it
+    CHECK(counted::alive == 0);
+    lockfree::stack<int, lockfree::capacity<4>> numbers;
+    const int six[] = {1, 2, 3, 4, 5, 6};
+    auto pass = numbers.split();
+    int out = 0;
+    CHECK(pass.push(six, six + 6) == six + 4 && pass.pop(out) && out == 4 && numbers.pop(out) && out == 3);
+    CHECK(numbers.push(six, six + 6) == six + 2 && numbers.pop(out) && out == 2 && numbers.close());
+    CHECK(numbers.push(six, six + 6) == six && pass.push(six, six + 1) == six && pass.pop(out) && out == 1);
+}
+
+// Cannot be copied where it is the third.
+struct third_throws {
+    counted inner;
+    explicit third_throws(long number) : inner(number) {}
+    third_throws(const third_throws &other) : inner(other.inner) {
+        if (*inner.number == 3) throw std::runtime_error("three");
+    }
+};
+
+// Goes over values that lie apart.
+struct reads {
+    using iterator_category = std::forward_iterator_tag;
+    using value_type = third_throws;
+    using difference_type = std::ptrdiff_t;
+    using pointer = const third_throws *;
+    using reference = const third_throws &;
+    const std::unique_ptr<third_throws> *at;
+    reference operator*() const { return **at; }
+    reads &operator++() { return ++at, *this; }
+    bool operator==(const reads &other) const { return at == other.at; }
+    bool operator!=(const reads &other) const { return at != other.at; }
+};
+
+// A range of which a value cannot be copied leaves the stack and the thread's pass as they were.
+void ranges_that_throw() {
+    {
+        std::vector<std::unique_ptr<third_throws>> values;
+        lockfree::stack<third_throws> stack(8);
+        for (long i = 1; i <= 4; ++i) values.push_back(std::make_unique<third_throws>(i));
+        bool thrown = false;
+        try {
+            stack.push(reads{values.data()}, reads{values.data() + 4});
+        } catch (const std::runtime_error &) {
+            thrown = true;
+        }
+        CHECK(thrown && counted::alive == 4 && stack.empty());
+        CHECK(stack.push(reads{values.data()}, reads{values.data() + 2}) == reads{values.data() + 2} && counted::alive == 6);
+    }
+    CHECK(counted::alive == 0);
+}
+
+void ranges_of_many_threads() {
+    {
+        lockfree::stack<counted> stack(64);
+        std::vector<std::atomic<int>> seen(sides * each);
+        std::atomic<long> taken{0};
+        std::vector<std::thread> threads;
+        for (int side = 0; side < sides; ++side) {
+            threads.emplace_back([&, side] {
+                for (long first = side * each; first < (side + 1) * each; first += 5) {
+                    const std::vector<counted> values = [&] {
+                        std::vector<counted> five;
+                        for (long i = first; i < first + 5; ++i) five.emplace_back(i);
+                        return five;
+                    }();
+                    for (auto next = values.begin(); next != values.end(); next = stack.push(next, values.end()))
+                        std::this_thread::yield();
+                }
+            });
+            threads.emplace_back([&] {
+                counted out;
+                while (taken < sides * each) {
+                    if (!stack.pop(out)) {
+                        std::this_thread::yield();
+                        continue;
+                    }
+                    CHECK(++seen[static_cast<std::size_t>(*out.number)] == 1);
+                    ++taken;
+                }
+            });
+        }
+        for (auto &thread : threads) thread.join();
+        CHECK(stack.empty() && taken == sides * each);
+    }
+    CHECK(counted::alive == 0);
+}
+
 template <template <class, class...> class Container> void all() {
     values_with_destructors<Container<counted>>();
     for (const bool own_passes : {false, true}) {
@@ -207,5 +310,8 @@ int main() {
     folds_of_all_values();
     folds_that_call_their_stack();
     for (const bool reversed : {false, true}) folds_of_many_threads(reversed);
+    ranges();
+    ranges_that_throw();
+    ranges_of_many_threads();
     std::puts("passed");
 }

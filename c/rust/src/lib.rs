@@ -27,7 +27,9 @@ const OK: u32 = 0;
 const FULL: u32 = 1;
 const EMPTY: u32 = 2;
 const CLOSED: u32 = 3;
+const SPENT: u32 = 5;
 const BUSY: u32 = 6;
+const NO_MEMORY: u32 = 9;
 const NO_PASS: u32 = 10;
 const BAD_CAPACITY: u32 = 11;
 const OTHER_HANDLE: u32 = 12;
@@ -43,6 +45,8 @@ extern "C" {
     fn lockfree_close(pass: *mut Handle, tries: u64) -> Answer;
     fn lockfree_go_on(pass: *mut Handle, tries: u64) -> Answer;
     fn lockfree_fold(pass: *mut Handle, reversed: bool, tries: u64) -> Answer;
+    fn lockfree_range_add(pass: *mut Handle, value: u64) -> u32;
+    fn lockfree_range_put(pass: *mut Handle, tries: u64) -> Answer;
 }
 
 impl Handle {
@@ -76,6 +80,15 @@ pub enum PushError<T> {
     Closed(T),
     /// A tag is at its limit.
     Spent(T),
+}
+
+/// A range that was pushed, as far as there was room for it.
+#[derive(Debug, PartialEq)]
+pub struct Pushed<T> {
+    /// How many values were pushed, from the first.
+    pub count: u64,
+    /// The others.
+    pub left: Vec<T>,
 }
 
 /// Why there was no value.
@@ -196,6 +209,46 @@ impl<T: Send> Pass<T> {
             CLOSED => PushError::Closed(value),
             _ => PushError::Spent(value),
         })
+    }
+
+    /// Puts values onto a stack by one compare-and-swap, from the first, as many as there is room for: other threads
+    /// see all of these or none. The last one is on top.
+    ///
+    /// # Panics
+    ///
+    /// If the pass is a queue's.
+    pub fn push_range(&mut self, values: impl IntoIterator<Item = T>) -> Result<Pushed<T>, PushError<Vec<T>>> {
+        let boxes: Vec<Box<T>> = values.into_iter().map(Box::new).collect();
+        let boxes: Vec<*mut T> = boxes.into_iter().map(Box::into_raw).collect();
+        let answer = self.put_range(&boxes);
+        let put = if answer.code == OK { answer.value } else { 0 };
+        // SAFETY: those that were not put are in no container.
+        let left = boxes[put as usize..].iter().map(|at| *unsafe { Box::from_raw(*at) }).collect();
+        match answer.code {
+            OK | EMPTY => Ok(Pushed { count: put, left }),
+            FULL => Err(PushError::Full(left)),
+            CLOSED => Err(PushError::Closed(left)),
+            SPENT => Err(PushError::Spent(left)),
+            NO_MEMORY => std::alloc::handle_alloc_error(std::alloc::Layout::new::<u64>()),
+            _ => panic!("only a stack's pass pushes a range"),
+        }
+    }
+
+    // Puts as many as there is memory for.
+    fn put_range(&mut self, boxes: &[*mut T]) -> Answer {
+        for (added, at) in boxes.iter().enumerate() {
+            // SAFETY: as in `Handle::until`.
+            let code = unsafe { lockfree_range_add(&mut self.handle, *at as u64) };
+            if code != OK && added == 0 {
+                return Answer { value: 0, number: 0, code };
+            }
+            if code != OK {
+                break;
+            }
+        }
+        // SAFETY: as in `Handle::until`.
+        let answer = unsafe { lockfree_range_put(&mut self.handle, u64::MAX) };
+        self.handle.until(answer)
     }
 
     /// Takes a value.

@@ -1,4 +1,4 @@
-use lockfree::{MakeError, Pass, PopError, PushError, Queue, Stack};
+use lockfree::{MakeError, Pass, PopError, PushError, Pushed, Queue, Stack};
 use std::sync::atomic::{AtomicU64, Ordering};
 use std::sync::Arc;
 
@@ -80,6 +80,40 @@ fn a_fold_that_panics_drops_the_rest() {
 fn a_queue_is_not_folded() {
     let queue = Queue::<u8>::new(2).unwrap();
     let _ = queue.pass().unwrap().consume_all_atomic(|_| ());
+}
+
+#[test]
+fn a_range_at_once() {
+    let texts = |range: std::ops::RangeInclusive<u8>| range.map(|value| value.to_string());
+    let stack = Stack::new(4).unwrap();
+    let mut pass = stack.pass().unwrap();
+    assert_eq!(pass.push_range(texts(1..=3)), Ok(Pushed { count: 3, left: vec![] }));
+    assert_eq!(pass.push_range(texts(4..=6)), Ok(Pushed { count: 1, left: texts(5..=6).collect() }));
+    assert_eq!(pass.push_range(texts(7..=8)), Err(PushError::Full(texts(7..=8).collect())));
+    assert_eq!(pass.push_range([]), Ok(Pushed { count: 0, left: vec![] }));
+    assert_eq!((pass.pop(), pass.pop()), (Ok("4".to_string()), Ok("3".to_string())));
+    assert!(pass.close());
+    assert_eq!(pass.push_range(texts(7..=8)), Err(PushError::Closed(texts(7..=8).collect())));
+    assert_eq!((pass.pop(), pass.pop()), (Ok("2".to_string()), Ok("1".to_string())));
+    assert_eq!(pass.pop(), Err(PopError::Closed));
+}
+
+#[test]
+fn values_of_a_range_are_dropped_once() {
+    let value = Arc::new(());
+    let stack = Stack::new(4).unwrap();
+    let mut pass = stack.pass().unwrap();
+    drop(pass.push_range(vec![value.clone(); 6]));
+    assert_eq!(Arc::strong_count(&value), 5);
+    drop(stack);
+    assert_eq!(Arc::strong_count(&value), 1);
+}
+
+#[test]
+#[should_panic(expected = "only a stack's")]
+fn a_queue_takes_no_range() {
+    let queue = Queue::<u8>::new(2).unwrap();
+    let _ = queue.pass().unwrap().push_range([1]);
 }
 
 fn many_threads(pass: impl Fn() -> Pass<Box<u64>> + Sync) {
