@@ -184,11 +184,14 @@ RangeBegan p x g code = MatchOption p.stage.resting
     (Refused UNDER_WAY (OfStackPass p) g code)
     (λ by. ((code ≡ OK) × Collects p.stack.value by (Some x ∷ []) g) ⊎ Refused NO_MEMORY (OfStackPass p) g code)
 
+abbrev pub HeldBegan : Held → ℕ → Held → ℕ → Type 0
+HeldBegan (OfStackPass p) x g code = RangeBegan p x g code
+HeldBegan h x g code = Refused (refusal_of h) h g code
+
 abbrev pub HeldAdded : Held → ℕ → Held → ℕ → Type 0
-HeldAdded (OfStackPass p) x g code = RangeBegan p x g code
 HeldAdded (OfStackRange r) x (OfStackRange s) code = RangeAdded r x s code
 HeldAdded (OfStackRange r) x h code = ⊥
-HeldAdded h x g code = Refused (refusal_of h) h g code
+HeldAdded h x g code = HeldBegan h x g code
 
 -- the put of the values that were collected is tried, from what the pass had seen
 abbrev pub RangePut : StackRange → Held → Answer → Type 0

@@ -3,6 +3,7 @@ ghost use Rattle.std.specs.Prelude.{Ok, Err, IfOk, MatchResult};
 ghost use Rattle.bounded_model.specs.declared.commands.Command.TheVariants.{Put, Take};
 ghost use Rattle.lockfree_c.specs.Held.{
   HeldAdded,
+  HeldBegan,
   HeldCalled,
   HeldFolded,
   HeldRangePut,
@@ -157,19 +158,14 @@ pub fn fold_by(held: &mut Held, reversed: bool, tries: u64) -> Answer
     answer
 }
 
-// Adds a value to the range that is collected here, if this is a stack's pass.
-fn add(alloc: Global, held: Held, value: u64) -> (Held, u32)
+// Begins a range with this value, if this is a stack's pass.
+fn begin_range(alloc: Global, held: Held, value: u64) -> (Held, u32)
     requires { IsHeld held }
     ensures of { IsHeld result.0 }
-    ensures gives { HeldAdded held value result.0 result.1 }
+    ensures gives { HeldBegan held value result.0 result.1 }
 {
     match held {
         Held::StackPass(pass) => pass.begin_range(alloc, value),
-        Held::StackRange(range) => {
-            let mut range = range;
-            let code = range.add(value);
-            (Held::StackRange(range), code)
-        }
         other => {
             let code = other.refusal();
             (other, code)
@@ -177,15 +173,28 @@ fn add(alloc: Global, held: Held, value: u64) -> (Held, u32)
     }
 }
 
-/// Adds a value to the range that what lies in the box collects, if that is a stack's pass.
+// Begins a range of what lies in the box.
+fn begin_range_by(alloc: Global, held: &mut Held, value: u64) -> u32
+    requires { IsHeld held.old }
+    ensures of { IsHeld held.new }
+    ensures gives { HeldBegan held.old value held.new result }
+{
+    let (next, code) = begin_range(alloc, mem::replace(held, Held::Nothing), value);
+    *held = next;
+    code
+}
+
+/// Adds a value to the range that what lies in the box collects, where it lies; begins one, if that is
+/// a stack's pass that has none.
 pub fn add_by(alloc: Global, held: &mut Held, value: u64) -> u32
     requires { IsHeld held.old }
     ensures of { IsHeld held.new }
     ensures gives { HeldAdded held.old value held.new result }
 {
-    let (next, code) = add(alloc, mem::replace(held, Held::Nothing), value);
-    *held = next;
-    code
+    match held {
+        Held::StackRange(range) => range.add(value),
+        other => begin_range_by(alloc, other, value),
+    }
 }
 
 // Puts the range that is collected here, if this is a stack's pass.

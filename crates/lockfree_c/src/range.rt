@@ -43,7 +43,8 @@ fn left(
 }
 
 impl StackPass {
-    /// Begins a range with this value; where the pass is in a call already, nothing.
+    /// Begins a range with this value. A pass that is in a call already, or for which there is no memory,
+    /// is as it was.
     pub fn begin_range(self, alloc: Global, value: u64) -> (Held, u32)
         requires { IsStackPass self }
         ensures of { IsHeld result.0 }
@@ -89,7 +90,7 @@ impl StackPass {
 }
 
 impl StackRange {
-    /// Adds a value at the end, where there is memory.
+    /// Adds a value at the end; where there is no memory, nothing.
     pub fn add(&mut self, value: u64) -> u32
         requires { IsStackRange self.old }
         ensures of { IsStackRange self.new }
@@ -101,7 +102,7 @@ impl StackRange {
         }
     }
 
-    /// Puts the values.
+    /// Begins the put of the values, and goes on with it.
     pub fn put(self, tries: u64) -> (Held, Answer)
         requires { IsStackRange self }
         ensures of { IsHeld result.0 }
@@ -116,7 +117,7 @@ impl StackRange {
 }
 
 impl StackRangePut {
-    /// Goes on with the put.
+    /// Goes on with the put until its end, or until the tries are used up.
     pub fn go_on(self, tries: u64) -> (Held, Answer)
         requires { IsStackRangePut self }
         ensures of { IsHeld result.0 }

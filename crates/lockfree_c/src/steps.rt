@@ -9,7 +9,7 @@ const TO_EXCHANGE: u64 = 3;
 
 /// How many steps so many tries are.
 #[inline]
-pub fn steps_for(tries: u64) -> u64 {
+pub(crate) fn steps_for(tries: u64) -> u64 {
     tries
         .saturating_mul(TO_EXCHANGE)
         .saturating_add(UNDISTURBED)
