@@ -14,7 +14,7 @@ use Rattle.treiber_stack.specs.Putting.{IsPutting}
 use Rattle.treiber_stack.specs.Stack.{begun_of, shape_of, pass_in, IsPassOf}
 use Rattle.bounded_calls.specs.Calls.{Tried}
 use Rattle.bounded_calls.specs.Readings.{stack_reading}
-use Rattle.bounded_calls.specs.declared.operation.Operation.TheVariants.{Put}
+use Rattle.bounded_model.specs.declared.commands.Operation.TheVariants.{Put}
 
 module _ (c : Stack ℕ) (op : PutOp ℕ) where
   pub put_goes_on : (next : PutOp ℕ) → ((x : ℕ) → IsPutting c x op → IsPutting c x next × (begun_of c next.pass ≡ begun_of c op.pass)) → Tried (stack_reading c) (Put op) (Again (Put next))

@@ -15,7 +15,7 @@ use Rattle.ms_queue.specs.Putting.{IsPutting}
 use Rattle.ms_queue.specs.Queue.{begun_of, shape_of, IsPassOf}
 use Rattle.bounded_calls.specs.Calls.{Tried}
 use Rattle.bounded_calls.specs.Readings.{queue_reading}
-use Rattle.bounded_calls.specs.declared.operation.Operation.TheVariants.{Put}
+use Rattle.bounded_model.specs.declared.commands.Operation.TheVariants.{Put}
 
 module _ (c : Queue ℕ) (op : PutOp ℕ) where
   pub put_goes_on : (next : PutOp ℕ) → ((x : ℕ) → IsPutting c x op → IsPutting c x next × (begun_of c next.pass ≡ begun_of c op.pass)) → Tried (queue_reading c) (Put op) (Again (Put next))

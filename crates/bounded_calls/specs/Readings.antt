@@ -29,7 +29,7 @@ use Rattle.treiber_stack.specs.Stack as stack
 use Rattle.treiber_stack.specs.Stepwise as stack_steps
 use Rattle.treiber_stack.specs.Taking as stack_taking
 use Rattle.bounded_calls.specs.Calls.{Reading, by_steps}
-use Rattle.bounded_calls.specs.declared.operation.Operation.{Operation}
+use Rattle.bounded_model.specs.declared.commands.Operation.{Operation}
 
 module _ {T : Type 0} where
   abbrev pub queue_reading : Queue T → Reading T (Pass T (of_queue.Line T)) (Operation (q_put.PutOp T) (q_take.TakeOp T) (q_close.CloseOp T) (q_shut.ShutOp T) (q_look.LookOp T))

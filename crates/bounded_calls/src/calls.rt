@@ -3,8 +3,7 @@
 ghost use Rattle.bounded_model.specs.declared.commands.Command.TheVariants.{Put, Take};
 ghost use Rattle.bounded_calls.specs.Calls.{MakesSome, Tried, TriedFrom, by_steps};
 
-use crate::operation::Operation;
-use bounded_model::{Command, Reply, Stepped, Stepwise};
+use bounded_model::{Command, Operation, Reply, Stepped, Stepwise};
 
 /// A container whose calls give up after so many tries, and can then be gone on with.
 pub trait BoundedCalls<T>: Stepwise<T> {

@@ -6,9 +6,7 @@
 #![tactic(auto)]
 
 mod calls;
-mod operation;
 mod queue;
 mod stack;
 
 pub use calls::BoundedCalls;
-pub use operation::Operation;

@@ -4,8 +4,7 @@ ghost use Rattle.bounded_calls.specs.Readings.{queue_reading};
 ghost use Rattle.ms_queue.specs.Queue.{IsPassOf};
 
 use crate::calls::BoundedCalls;
-use crate::operation::Operation;
-use bounded_model::{Command, Reply, Stepped, Stepwise};
+use bounded_model::{Command, Operation, Reply, Stepped, Stepwise};
 use ms_queue::{CloseOp, LookOp, Pass, PutOp, Queue, ShutOp, TakeOp};
 
 // As many steps as any call makes that loses no compare-and-swap.

@@ -4,8 +4,7 @@ ghost use Rattle.bounded_calls.specs.Readings.{stack_reading};
 ghost use Rattle.treiber_stack.specs.Stack.{IsPassOf};
 
 use crate::calls::BoundedCalls;
-use crate::operation::Operation;
-use bounded_model::{Command, Reply, Stepped, Stepwise};
+use bounded_model::{Command, Operation, Reply, Stepped, Stepwise};
 use treiber_stack::{CloseOp, LookOp, Pass, PutOp, ShutOp, Stack, TakeOp};
 
 // As many steps as any call makes that loses no compare-and-swap.

@@ -4,6 +4,7 @@ pub mod Justified
 pub mod Laws
 pub mod Consumes
 pub mod Stepping
+pub mod Calls
 pub mod Bulk
 pub mod Gathers
 pub mod Latest

@@ -16,7 +16,7 @@ mod views;
 
 pub use answers::{MakeRefused, PutRefused, Stepped, TakeRefused, Word};
 pub use bulk::{Bulk, Folded, RangeRefused, Ranged};
-pub use commands::{Command, Reply};
+pub use commands::{Command, Operation, Reply};
 pub use consume::{consume_all, consume_one};
 pub use container::{Container, Leaving, MAX_PASSES};
 pub use history::{Event, Order};

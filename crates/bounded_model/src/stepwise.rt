@@ -23,7 +23,7 @@ use std::sync::Wait;
 /// }
 /// ```
 ///
-/// So `example_stack` puts a value, and `scripted` begins and steps every operation.
+/// So `example_stack` puts a value, and `script_replay` begins and steps every operation.
 pub trait Stepwise<T>: Container<T> {
     type PutOp: Drop + Send;
 
@@ -135,7 +135,7 @@ pub trait Stepwise<T>: Container<T> {
             × LookGives (Self.shape self.now) (looking op).begun (Self.pass back) empty) };
 
     /// Whether the container was empty at some time since its pass's last step before the call.
-    /// Called in `scripted`.
+    /// Called in `script_replay`.
     fn look<R: Wait>(&self, rt: &R, by: Self::Pass) -> (Self::Pass, bool)
         requires { Self.is_pass self.now by }
         ensures of { Self.is_pass self.now result.0 }

@@ -15,9 +15,8 @@ use Rattle.audit.proofs.Delivered.{AreTaken, audit-all}
 use Rattle.words.specs.declared.chosen.RelayArgs.{RelayArgs}
 use Rattle.words.specs.declared.command_line.TheConstants.{MAX_FILES}
 use Rattle.streams.specs.Inputs.{AreRead}
-use Rattle.streams.specs.Writing.{GrowsByFront, outcome_text}
-use Rattle.words.specs.Ranges.{plan_of}
-use Rattle.file_relay.specs.Relaying.{AreReady, FromReaders, IsRelayed, RelaysInputs, Written, shape_for}
+use Rattle.streams.specs.Writing.{GrowsByFront, Written, outcome_text}
+use Rattle.file_relay.specs.Relaying.{AreReady, FromReaders, IsRelayed, RelaysInputs, plan_of, shape_for}
 use Rattle.file_relay.specs.Measuring.{MeasuresInputs, Streams}
 use Rattle.streams.specs.declared.tool_fault.ToolFault.{ToolFault}
 use Rattle.streams.specs.declared.tool_fault.ToolFault.TheVariants.{Output}

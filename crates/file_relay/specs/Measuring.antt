@@ -6,8 +6,8 @@ use Rattle.relay.specs.Promises.{Lists}
 use Rattle.file_relay.specs.declared.stats.Stats.{Stats}
 use Rattle.streams.specs.declared.tool_fault.ToolFault.{ToolFault}
 use Rattle.words.specs.declared.chosen.RelayArgs.{RelayArgs}
-use Rattle.streams.specs.Writing.{AppendsFront, outcome_text}
-use Rattle.file_relay.specs.Relaying.{IsRelayed, RelaysInputs, Written}
+use Rattle.streams.specs.Writing.{AppendsFront, Written, outcome_text}
+use Rattle.file_relay.specs.Relaying.{IsRelayed, RelaysInputs}
 use Rattle.file_relay.specs.Stats.{IsStatsOf, stats_text}
 
 -- the stats of this outcome, or a front of them, were told to a writer

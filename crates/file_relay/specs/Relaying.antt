@@ -7,6 +7,7 @@ use Rattle.bounded_model.specs.Machine.{Shape}
 use Rattle.tagged_index.specs.declared.word.TheConstants.{MAX_TAG}
 use Rattle.relay.specs.declared.faults.RelayFault.{RelayFault}
 use Rattle.relay.specs.declared.faults.RelayFault.TheVariants.{NoMemory, NoPass, NoThread, TooSmall}
+use Rattle.relay.specs.declared.outcome.Plan.{Plan}
 use Rattle.relay.specs.declared.outcome.Relayed.{Relayed}
 use Rattle.relay.specs.Messages.{AreInputsFrom}
 use Rattle.relay.specs.Promises.{Lists, Relays, IsTooSmall, total}
@@ -19,9 +20,8 @@ use Rattle.words.specs.declared.chosen.RelayArgs.{RelayArgs}
 use Rattle.streams.specs.declared.tool_fault.ToolFault.{ToolFault}
 use Rattle.streams.specs.declared.tool_fault.ToolFault.TheVariants.{File, Relay, Output}
 use Rattle.streams.specs.Inputs.{AreRead, IsFileFault}
-use Rattle.streams.specs.Writing.{GrowsByFront, outcome_text}
+use Rattle.streams.specs.Writing.{GrowsByFront, Written, outcome_text}
 use Rattle.words.specs.declared.command_line.TheConstants.{MAX_FILES}
-use Rattle.words.specs.Ranges.{plan_of}
 
 -- in which order a container of this kind gives values back
 abbrev pub order_of : Kind → Order
@@ -31,6 +31,10 @@ order_of Stack = Lifo
 -- a container of the kind and the capacity that were asked for, with the largest limit of tags
 abbrev pub shape_for : RelayArgs → Shape
 shape_for args = record { order = order_of args.kind; capacity = args.capacity; limit = MAX_TAG }
+
+-- what a relay's workers are told
+abbrev pub plan_of : RelayArgs → Plan
+plan_of args = record { consumers = args.consumers; take = args.take; close_after = args.close_after; shut_after = args.shut_after }
 
 -- no worker is to stop early
 pub record StopsNowhere (args : RelayArgs) : Type 0 where
@@ -58,14 +62,6 @@ IsCause args inputs TooSmall = IsTooSmall (plan_of args) args.capacity (total in
 IsCause args inputs NoThread = ¬ (IsTooSmall (plan_of args) args.capacity (total inputs))
 IsCause args inputs NoPass = ⊥
 IsCause args inputs NoMemory = Unit {0}
-
--- what is known of a writer's bytes, before and after
-pub record Written : Type 0 where
-  pub old : Option (List ℕ)
-  pub new : Option (List ℕ)
-
-abbrev pub written : {W : Type 0} → (W → Option (List ℕ)) → W → W → Written
-written contents before after = record { old = contents before; new = contents after }
 
 -- what a relay of inputs does to a writer: it writes their outcome
 abbrev pub RelaysInputs : RelayArgs → Written → Lists → Result (Unit {0}) ToolFault → Type 0

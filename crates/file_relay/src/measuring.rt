@@ -5,7 +5,8 @@ ghost use Rattle.words.specs.declared.command_line.TheConstants.{MAX_FILES};
 ghost use Rattle.streams.specs.declared.tool_fault.ToolFault.TheVariants.{Output};
 ghost use Rattle.file_relay.specs.Measuring.{MeasuresInputs, Streams};
 ghost use Rattle.words.specs.Ranges.{IsInRange};
-ghost use Rattle.file_relay.specs.Relaying.{FromReaders, written};
+ghost use Rattle.file_relay.specs.Relaying.{FromReaders};
+ghost use Rattle.streams.specs.Writing.{written};
 
 use crate::relaying::relay_inputs;
 use crate::stats::Stats;

@@ -9,11 +9,12 @@ ghost use Rattle.streams.specs.declared.tool_fault.ToolFault.TheVariants.{Output
 ghost use Rattle.relay.specs.declared.faults.RelayFault.{RelayFault};
 ghost use Rattle.relay.specs.declared.faults.RelayFault.TheVariants.{NoMemory};
 ghost use Rattle.words.specs.Ranges.{IsInRange};
-ghost use Rattle.file_relay.specs.Relaying.{AreReady, FromReaders, IsCause, IsRelayed, RelaysInputs, shape_for, written};
+ghost use Rattle.file_relay.specs.Relaying.{AreReady, FromReaders, IsCause, IsRelayed, RelaysInputs, plan_of, shape_for};
+ghost use Rattle.streams.specs.Writing.{written};
 
 use bounded_model::Container;
 use ms_queue::Queue;
-use relay::{FreeGate, Gate, Message, Relayed, run};
+use relay::{FreeGate, Gate, Message, Plan, Relayed, run};
 use std::alloc::Global;
 use std::io::{Read, Write};
 use std::mem;
@@ -93,6 +94,18 @@ fn limits_for(args: &RelayArgs) -> Limits
     }
 }
 
+// What the relay's workers are to do.
+fn plan_for(args: &RelayArgs) -> Plan
+    ensures { result ≡ plan_of args.now }
+{
+    Plan {
+        consumers: args.consumers,
+        take: args.take,
+        close_after: args.close_after,
+        shut_after: args.shut_after,
+    }
+}
+
 // The outcome of a relay of these inputs through this container.
 fn relay_through<T: Threads + Wait + Sync, C: Container<Message> + Sync, G: Gate + Sync>(
     rt: &T,
@@ -112,5 +125,5 @@ fn relay_through<T: Threads + Wait + Sync, C: Container<Message> + Sync, G: Gate
     ensures fault { IfErr result (λ fault. (cause : RelayFault) × (fault ≡ Relay cause)
         × IsCause args.now inputs.items cause) }
 {
-    Ok(run(rt, alloc, container, root, inputs, args.plan(), gate)?)
+    Ok(run(rt, alloc, container, root, inputs, plan_for(args), gate)?)
 }

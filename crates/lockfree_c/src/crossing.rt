@@ -5,7 +5,7 @@ use crate::held::{
     QueueOperation, QueuePass, QueueRoot, StackFold, StackOperation, StackPass, StackRange,
     StackRangePut, StackRoot,
 };
-use bounded_calls::Operation;
+use bounded_model::Operation;
 
 // Asks that its type may cross threads, and does nothing.
 fn crosses<T: Send>(_part: &T) {}

@@ -4,7 +4,7 @@ ghost use Rattle.lockfree_c.specs.Held.{refusal_of};
 
 use crate::answers::{OTHER_HANDLE, UNDER_WAY};
 use crate::stage::Stage;
-use bounded_calls::Operation;
+use bounded_model::Operation;
 use ms_queue::Queue;
 use std::alloc::Global;
 use std::sync::Arc;

@@ -20,8 +20,8 @@ ghost use Rattle.lockfree_c.specs.Held.{
 use crate::answers::{Answer, BAD_CAPACITY, NO_CALL, NO_MEMORY, NO_PASS, UNDER_WAY};
 use crate::held::{QueuePass, QueueRoot};
 use crate::stage::Stage;
-use bounded_calls::{BoundedCalls, Operation};
-use bounded_model::{Command, Container, Reply, Stepped};
+use bounded_calls::BoundedCalls;
+use bounded_model::{Command, Container, Operation, Reply, Stepped};
 use ms_queue::Queue;
 use std::alloc::Global;
 use std::sync::Arc;

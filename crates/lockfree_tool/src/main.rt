@@ -1,11 +1,14 @@
 //! The program `lockfree`: it replays a script of calls on a container, or relays the lines of
-//! files through one, as the arguments of its command line ask. What it does stands in the crate
-//! `program`; here are the arguments, files and streams of a process.
+//! files through one, as the arguments of its command line ask (`run`). What it does stands in the
+//! crates `script_replay` and `file_relay`; here are what the arguments ask for (`words`), and the
+//! arguments, files and streams of a process.
 #![tactic(auto)]
 
+mod session;
+
 pub use file_relay::relay_main;
-pub use program::replay;
-use program::run;
+pub use script_replay::replay;
+use session::run;
 use std::cell::Cell;
 use std::io::{self, BufWriter};
 use std::process::ExitCode;

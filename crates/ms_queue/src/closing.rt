@@ -35,7 +35,7 @@ pub(crate) enum CloseAt {
 }
 
 impl<T> Queue<T> {
-    /// A close that makes no step yet. Begun and stepped in `scripted`, as `Stepwise` has it.
+    /// A close that makes no step yet. Begun and stepped in `script_replay`, as `Stepwise` has it.
     #[inline]
     pub fn begin_close(&self, by: Pass<T>) -> CloseOp<T>
         requires { IsPassOf self.now by }

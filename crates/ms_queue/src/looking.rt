@@ -49,7 +49,7 @@ impl<T> Queue<T> {
         to_the_end(rt, table, self, first, &look)
     }
 
-    /// A look that makes no step yet. Begun and stepped in `scripted`, as `Stepwise` has it.
+    /// A look that makes no step yet. Begun and stepped in `script_replay`, as `Stepwise` has it.
     #[inline]
     pub fn begin_look(&self, by: Pass<T>) -> LookOp<T>
         requires { IsPassOf self.now by }

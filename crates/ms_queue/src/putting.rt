@@ -94,7 +94,7 @@ pub(crate) fn put_operation<T>(value: &T) -> Operation<T>
 }
 
 impl<T> Queue<T> {
-    /// A put that makes no step yet. Begun and stepped in `scripted`, as `Stepwise` has it.
+    /// A put that makes no step yet. Begun and stepped in `script_replay`, as `Stepwise` has it.
     #[inline]
     pub fn begin_put(&self, by: Pass<T>, value: T) -> PutOp<T>
         requires { IsPassOf self.now by }

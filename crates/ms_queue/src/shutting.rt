@@ -34,7 +34,7 @@ pub(crate) enum ShutAt {
 }
 
 impl<T> Queue<T> {
-    /// A shut that makes no step yet. Begun and stepped in `scripted`, as `Stepwise` has it.
+    /// A shut that makes no step yet. Begun and stepped in `script_replay`, as `Stepwise` has it.
     #[inline]
     pub fn begin_shut(&self, by: Pass<T>) -> ShutOp<T>
         requires { IsPassOf self.now by }

@@ -62,7 +62,7 @@ pub(crate) struct Taken<T> {
 type Answer<T> = Result<(T, u64), TakeRefused>;
 
 impl<T> Queue<T> {
-    /// A take that makes no step yet. Begun and stepped in `scripted`, as `Stepwise` has it.
+    /// A take that makes no step yet. Begun and stepped in `script_replay`, as `Stepwise` has it.
     #[inline]
     pub fn begin_take(&self, by: Pass<T>) -> TakeOp<T>
         requires { IsPassOf self.now by }

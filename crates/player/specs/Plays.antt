@@ -6,16 +6,14 @@ use Rattle.bounded_model.specs.declared.bulk.Ranged.{Ranged}
 use Rattle.bounded_model.specs.declared.bulk.RangeRefused.{RangeRefused}
 use Rattle.bounded_model.specs.declared.bulk.RangeRefused.TheVariants as refused
 use Rattle.bounded_model.specs.declared.commands.Command.{Command}
-use Rattle.bounded_model.specs.declared.commands.Command.TheVariants as command
-use Rattle.bounded_model.specs.declared.commands.Reply.{Reply}
-use Rattle.bounded_model.specs.declared.commands.Reply.TheVariants as reply
 use Rattle.bounded_model.specs.declared.history.Order.{Order}
 use Rattle.bounded_model.specs.declared.history.Order.TheVariants.{Lifo}
 use Rattle.bounded_model.specs.declared.views.PassView.{PassView}
 use Rattle.bounded_model.specs.declared.views.RootView.{RootView}
 use Rattle.bounded_model.specs.Bulk.{PutsRange}
+use Rattle.bounded_model.specs.Calls.{CallGives}
 use Rattle.bounded_model.specs.Histories.{Later}
-use Rattle.bounded_model.specs.Laws.{PutGives, TakeGives, CloseGives, ShutGives, LookGives, FoldGives, TakesNothing, MeetGives, Splits, Joins, Leaves, IsFullOfPasses}
+use Rattle.bounded_model.specs.Laws.{FoldGives, TakesNothing, MeetGives, Splits, Joins, Leaves, IsFullOfPasses}
 use Rattle.bounded_model.specs.Machine.{Shape}
 use Rattle.bounded_model.specs.Stepping.{Underway, no_step}
 use Rattle.script.specs.Words.{values_in}
@@ -43,15 +41,6 @@ abbrev pub start : RootView (List ℕ) → World
 start r = record { root = r; names = replicate 26 Nobody }
 
 -- ---- one call
-
--- what a whole call gives, by its reply
-abbrev pub CallGives : Shape → PassView (List ℕ) → Command (List ℕ) → PassView (List ℕ) → Reply (List ℕ) → Type 0
-CallGives c v (command.Put value) w (reply.Put said) = PutGives c v value w said
-CallGives c v command.Take w (reply.Take said) = TakeGives c v w said
-CallGives c v command.Close w (reply.Close said) = CloseGives c v w said
-CallGives c v command.Shut w (reply.Shut said) = ShutGives c v w said
-CallGives c v command.Look w (reply.Look said) = LookGives c v w said
-CallGives c v call w said = ⊥
 
 -- what a range's answer is called in a script
 abbrev pub range_reply : Result Ranged RangeRefused → RangeReply

@@ -6,13 +6,14 @@ use Rattle.bounded_model.specs.declared.commands.Command.{Command}
 use Rattle.bounded_model.specs.declared.commands.Reply.{Reply}
 use Rattle.bounded_model.specs.declared.views.PassView.{PassView}
 use Rattle.bounded_model.specs.declared.views.RootView.{RootView}
+use Rattle.bounded_model.specs.Calls.{CallGives}
 use Rattle.bounded_model.specs.Laws.{IsFullOfPasses, Splits}
 use Rattle.bounded_model.specs.Machine.{Shape}
 use Rattle.bounded_model.specs.Stepping.{GoesOn, MatchStepped, OneStep, Underway}
 use Rattle.player.specs.declared.place.Place.{Place}
 use Rattle.player.specs.declared.place.Place.TheVariants as place
 use Rattle.player.specs.declared.stage.Stage.{Stage}
-use Rattle.player.specs.Plays.{Named, Nobody, Resting, Acting, World, CallGives, Finds, FoldTold, RangeTold, named, renamed, steps_since}
+use Rattle.player.specs.Plays.{Named, Nobody, Resting, Acting, World, Finds, FoldTold, RangeTold, named, renamed, steps_since}
 use Rattle.script.specs.declared.answer.RangeReply.{RangeReply}
 
 -- how a container's roots, passes and operations are read

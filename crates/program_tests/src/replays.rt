@@ -4,7 +4,7 @@ use crate::queue_rows::QUEUE;
 use crate::resumed_rows::RESUMED;
 use crate::stack_rows::STACK;
 use crate::stopped_rows::STOPPED;
-use program::replay;
+use script_replay::replay;
 use streams::ReplayFault;
 
 #[test]

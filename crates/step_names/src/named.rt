@@ -5,7 +5,7 @@ ghost use Rattle.step_names.specs.declared.step_name.StepName.{StepName};
 use crate::step_name::StepName;
 use bounded_model::Stepwise;
 
-/// A container that names the next step of each operation under way. Called in `scripted`.
+/// A container that names the next step of each operation under way. Called in `script_replay`.
 pub trait Named<T>: Stepwise<T> {
     /// Whether this is the name of the next step of a put.
     ghost is_put_step: { Self.PutOp → StepName → Type 0 };

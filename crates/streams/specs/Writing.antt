@@ -4,6 +4,14 @@ use Rattle.std.specs.Io.KnownBytes.{Appends}
 use Rattle.relay.specs.declared.outcome.Relayed.{Relayed}
 use Rattle.audit.specs.Texts.{audit_text, list_text}
 
+-- what is known of a writer's bytes, before and after
+pub record Written : Type 0 where
+  pub old : Option (List ℕ)
+  pub new : Option (List ℕ)
+
+abbrev pub written : {W : Type 0} → (W → Option (List ℕ)) → W → W → Written
+written contents before after = record { old = contents before; new = contents after }
+
 -- known bytes grow by a front of these
 abbrev pub AppendsFront : Option (List ℕ) → Option (List ℕ) → List ℕ → Type 0
 AppendsFront old new bytes = (n : ℕ) × Appends old new (take n bytes)

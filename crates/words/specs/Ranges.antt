@@ -1,6 +1,5 @@
 -- What the arguments ask for, and its ranges.
 use Rattle.std.specs.Prelude.{◌≡◌, ◌≢◌, ◌⊎◌, ◌≤◌, ℕ, Bool, Contains, IfSome, IsTrue, List, codes, length}
-use Rattle.relay.specs.declared.outcome.Plan.{Plan}
 use Rattle.tagged_index.specs.declared.limit.TheConstants.{MAX_CAPACITY}
 use Rattle.words.specs.declared.command_line.TheConstants.{MAX_CONSUMERS, MAX_COUNT, MAX_FILES}
 use Rattle.words.specs.declared.chosen.Chosen.{Chosen}
@@ -56,7 +55,3 @@ IsRelay is_measured chosen = ⊥
 abbrev pub IsRefusalOf : Error → WordsRefused → Type 0
 IsRefusalOf error (Help text) = (text ≡ error) × ((kind_of error ≡ DisplayHelp) ⊎ (kind_of error ≡ DisplayVersion))
 IsRefusalOf error (Bad reason) = (reason ≡ error) × (kind_of error ≢ DisplayHelp) × (kind_of error ≢ DisplayVersion)
-
--- what a relay's workers are told
-abbrev pub plan_of : RelayArgs → Plan
-plan_of args = record { consumers = args.consumers; take = args.take; close_after = args.close_after; shut_after = args.shut_after }

@@ -1,12 +1,11 @@
 //! What the arguments of the command line ask for.
 
 ghost use Rattle.std.specs.Prelude.{◌≡◌, ◌↔◌, ◌≤◌, Contains, IsTrue, IfOk, IfSome, map};
-ghost use Rattle.words.specs.Ranges.{AreInRange, IsAskedFor, IsInRange, IsRelay, plan_of};
+ghost use Rattle.words.specs.Ranges.{AreInRange, IsAskedFor, IsInRange, IsRelay};
 
 use crate::command_line::{MAX_CONSUMERS, MAX_COUNT, MAX_FILES, command_line};
 use clap::ArgMatches;
 use clap::error::ErrorKind;
-use relay::Plan;
 use std::alloc::{AllocError, AllocFailed, Global};
 use tagged_index::MAX_CAPACITY;
 use thiserror::Error;
@@ -199,18 +198,6 @@ fn args_of(found: &ArgMatches<'_>) -> Option<RelayArgs>
 }
 
 impl RelayArgs {
-    /// What the relay's workers are to do.
-    pub fn plan(&self) -> Plan
-        ensures { result ≡ plan_of self.now }
-    {
-        Plan {
-            consumers: self.consumers,
-            take: self.take,
-            close_after: self.close_after,
-            shut_after: self.shut_after,
-        }
-    }
-
     // Whether each value lies in its range.
     fn is_in_range(&self) -> bool
         ensures { IsTrue result ↔ IsInRange self.now }

@@ -1,7 +1,8 @@
 use Rattle.std.proofs.Common.{◌≡◌, ℕ, ◌+◌, ◌≤◌, List, refl, sym, ap, subst, ◌∙◌, arith}
 use Rattle.bounded_model.specs.declared.views.PassView.{PassView}
+use Rattle.bounded_model.specs.Calls.{CallGives}
 use Rattle.bounded_model.specs.Stepping.{Underway}
-use Rattle.player.specs.Plays.{Resting, Acting, CallGives, MakesSteps, steps_since}
+use Rattle.player.specs.Plays.{Resting, Acting, MakesSteps, steps_since}
 use Rattle.player.proofs.Showing.{makes_more, since_more}
 use Rattle.player.proofs.acts.make_steps.Goals as goal
 

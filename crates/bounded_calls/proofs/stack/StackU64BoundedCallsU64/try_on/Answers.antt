@@ -3,7 +3,7 @@ use Rattle.bounded_model.specs.declared.answers.Stepped.TheVariants.{Again, Done
 use Rattle.bounded_model.specs.declared.commands.Reply.TheVariants as reply
 use Rattle.bounded_calls.specs.Calls.{Tried}
 use Rattle.bounded_calls.specs.Readings.{stack_reading}
-use Rattle.bounded_calls.specs.declared.operation.Operation.TheVariants.{Put}
+use Rattle.bounded_model.specs.declared.commands.Operation.TheVariants.{Put}
 use Rattle.bounded_calls.proofs.Puts.{put_goes_on, put_ends}
 use Rattle.bounded_calls.proofs.stack.StackU64BoundedCallsU64.try_on.Goals as goal
 

@@ -4,7 +4,7 @@ use Rattle.bounded_model.specs.declared.commands.Command.TheVariants.{Put}
 use Rattle.bounded_model.specs.declared.commands.Reply.TheVariants as reply
 use Rattle.bounded_calls.specs.Calls.{TriedFrom}
 use Rattle.bounded_calls.specs.Readings.{queue_reading}
-use Rattle.bounded_calls.specs.declared.operation.Operation.TheVariants as operation
+use Rattle.bounded_model.specs.declared.commands.Operation.TheVariants as operation
 use Rattle.running.specs.Passes.{pass_in}
 use Rattle.ms_queue.specs.Trying.{PutTried}
 use Rattle.lockfree_c.proofs.Stays.{called, set_out}

@@ -1,0 +1,158 @@
+//! A run of the program over what a process would give it.
+
+ghost use Rattle.std.specs.Prelude.{◌≡◌, ◌≢◌, IfErr, IfOk, OnErr, OnOk, map, string_bytes};
+ghost use Rattle.streams.specs.declared.failure.Failure.TheVariants.{Output};
+ghost use Rattle.words.specs.Ranges.{AreInRange, AskForDetails, IsDetailed};
+
+use file_relay::{relay_main, relay_measured};
+use script_replay::{replay, replay_traced};
+use std::alloc::{AllocError, Global};
+use std::io::{self, ErrorKind, Read, Write};
+use std::sync::Wait;
+use std::thread::Threads;
+use std::time::Clock;
+use streams::{Failure, OpenFiles, STANDARD_INPUT, open_source, open_sources};
+use words::{Chosen, WordsRefused, read_words};
+
+/// Does what the arguments of the command line ask for, the program's name first, and returns the
+/// status that the program ends with. `words` are these arguments, or why they could not be read:
+/// one is not UTF-8, or memory ran out. A script without a name, and the name `-`, come from
+/// `input`.
+///
+/// The output is flushed before the status is known. A failure is one line on `errors`, by one write
+/// where there is memory for it; behind it stands what is wrong with arguments that are refused.
+/// Where the arguments ask for them, the stats of a relay or the trace of a script are written on
+/// `errors`.
+pub(crate) fn run<
+    T: Threads + Wait + Clock + Sync,
+    F: OpenFiles,
+    I: Read + Drop,
+    O: Write,
+    E: Write,
+>(
+    rt: &T,
+    alloc: Global,
+    words: io::Result<Vec<String>>,
+    files: &F,
+    input: I,
+    output: &mut O,
+    errors: &mut E,
+) -> u8
+    // A run that is done writes no error, unless the arguments ask for stats or for a trace.
+    ensures silent { result ≡ 0
+        → ¬ (IfOk words (λ all. AskForDetails (map string_bytes all.items)))
+        → errors.new ≡ errors.old }
+    // Nothing is written where the arguments, a text, a file or a relay failed.
+    ensures unwritten { result ≢ 0 → result ≢ 5 → output.new ≡ output.old }
+{
+    let chosen = match choose(alloc, words) {
+        Ok(chosen) => chosen,
+        Err(refused) => return refuse(alloc, &refused, output, errors),
+    };
+    match attempt(rt, alloc, chosen, files, input, output, errors) {
+        Ok(()) => 0,
+        Err(failure) => fail(alloc, failure, errors),
+    }
+}
+
+// What the arguments ask for.
+fn choose(alloc: Global, words: io::Result<Vec<String>>) -> Result<Chosen, WordsRefused>
+    ensures ranges { IfOk result AreInRange }
+    ensures asked { IfOk result (λ chosen. IsDetailed chosen
+        → IfOk words (λ all. AskForDetails (map string_bytes all.items))) }
+{
+    let words = match words {
+        Ok(words) => words,
+        Err(error) if error.kind() == ErrorKind::OutOfMemory => return Err(AllocError.into()),
+        Err(_) => return Err(WordsRefused::not_text(alloc)),
+    };
+    let mut texts = Vec::new(alloc);
+    for word in &words {
+        texts.push(word.as_str())?;
+    }
+    read_words(alloc, &texts)
+}
+
+// Writes the help or the version, or what is wrong with the arguments. Returns the status.
+fn refuse<O: Write, E: Write>(
+    alloc: Global,
+    refused: &WordsRefused,
+    output: &mut O,
+    errors: &mut E,
+) -> u8
+    ensures silent { result ≡ 0 → errors.new ≡ errors.old }
+    ensures unwritten { result ≢ 0 → result ≢ 5 → output.new ≡ output.old }
+{
+    match refused {
+        WordsRefused::Help(text) => {
+            let Err(failure) = write_help(text, output) else {
+                return 0;
+            };
+            fail(alloc, failure, errors)
+        }
+        WordsRefused::Bad(reason) => {
+            let status = fail(alloc, Failure::CommandLine, errors);
+            let _ = write!(errors, "{reason}");
+            status
+        }
+    }
+}
+
+// Writes the failure in a line, and returns its status. Nothing is left to do where that fails too.
+fn fail<E: Write>(alloc: Global, failure: Failure, errors: &mut E) -> u8
+    ensures failed { result ≢ 0 }
+    ensures output { failure ≡ Output → result ≡ 5 }
+{
+    let _ = match format!(in alloc; "lockfree: {failure}\n") {
+        Ok(line) => errors.write_all(line.as_bytes()),
+        Err(_) => writeln!(errors, "lockfree: {failure}"),
+    };
+    failure.status()
+}
+
+// Does what was chosen.
+fn attempt<T: Threads + Wait + Clock + Sync, F: OpenFiles, I: Read + Drop, O: Write, E: Write>(
+    rt: &T,
+    alloc: Global,
+    chosen: Chosen,
+    files: &F,
+    input: I,
+    output: &mut O,
+    errors: &mut E,
+) -> Result<(), Failure>
+    requires { AreInRange chosen }
+    ensures unwritten { IfErr result (λ failure. failure ≢ Output → output.new ≡ output.old) }
+    ensures untold { OnErr result (errors.new ≡ errors.old) }
+    ensures silent { OnOk result (¬ (IsDetailed chosen) → errors.new ≡ errors.old) }
+{
+    let mut input = Some(input);
+    match chosen {
+        Chosen::Replay(name) => {
+            let name = name.as_ref().map_or(STANDARD_INPUT, |name| name.as_str());
+            let source = open_source(files, name, &mut input);
+            let mut source = source.ok_or(Failure::ScriptUnopened)?;
+            Ok(replay(rt, alloc, &mut source, output)?)
+        }
+        Chosen::Traced(name) => {
+            let source = open_source(files, name.as_str(), &mut input);
+            let mut source = source.ok_or(Failure::ScriptUnopened)?;
+            Ok(replay_traced(rt, alloc, &mut source, output, errors)?)
+        }
+        Chosen::Relay(args, names) => {
+            let sources = open_sources(alloc, files, &names, input)?;
+            Ok(relay_main(rt, alloc, &args, sources, output)?)
+        }
+        Chosen::Measured(args, names) => {
+            let sources = open_sources(alloc, files, &names, input)?;
+            Ok(relay_measured(rt, alloc, &args, sources, output, errors)?)
+        }
+    }
+}
+
+// Writes the text of help, or of the version.
+fn write_help<O: Write>(help: &clap::Error, output: &mut O) -> Result<(), Failure>
+    ensures { IfErr result (λ failure. failure ≡ Output) }
+{
+    write!(output, "{help}").map_err(|_| Failure::Output)?;
+    output.flush().map_err(|_| Failure::Output)
+}

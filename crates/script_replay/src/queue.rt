@@ -1,0 +1,62 @@
+//! Scripts of a queue, which has no ranges and folds.
+
+ghost use Rattle.std.specs.Prelude.{◌≡◌, IfOk, IsTrue, string_bytes};
+ghost use Rattle.std.specs.List.{AllByRecursion};
+ghost use Rattle.bounded_model.specs.declared.history.Order.TheVariants.{Fifo};
+ghost use Rattle.script.specs.Script.{FinishesLast, IsLine, is_allowed};
+ghost use Rattle.script.specs.View.{head_view};
+ghost use Rattle.script_replay.specs.Outcome.{IsOutputIn};
+
+use crate::ranges::Ranges;
+use crate::scripted::Scripted;
+use bounded_model::{MakeRefused, TakeRefused};
+use ms_queue::{Pass, Queue};
+use player::{Trace, play};
+use script::{RangeReply, Script, Value, ValueList, Values};
+use std::alloc::{AllocError, Global};
+use std::sync::Wait;
+
+/// A queue has no ranges and no folds, and no line of its script asks for one: the values come
+/// back, and nothing is taken.
+impl<'a> Ranges<'a> for Queue<Value<'a>> {
+    fn range<R: Wait>(
+        &self,
+        _rt: &R,
+        alloc: Global,
+        by: Pass<Value<'a>>,
+        values: Values<'a>,
+    ) -> Result<(Pass<Value<'a>>, RangeReply, ValueList<'a>), AllocError> {
+        let places = values.to_places(alloc)?;
+        Ok((by, RangeReply::Nothing, ValueList::left_in(places)))
+    }
+
+    fn fold<R: Wait>(
+        &self,
+        _rt: &R,
+        _alloc: Global,
+        by: Pass<Value<'a>>,
+        _reversed: bool,
+    ) -> Result<(Pass<Value<'a>>, Result<(u64, ValueList<'a>), TakeRefused>), AllocError> {
+        Ok((by, Err(TakeRefused::Empty)))
+    }
+}
+
+/// Plays a queue's script, and adds its steps to the trace. `NoMemory` where memory ran out for the
+/// queue or for the lines.
+pub(crate) fn play_queue<R: Wait>(
+    rt: &R,
+    alloc: Global,
+    script: Script<'_>,
+    trace: &mut Trace,
+) -> Result<String, MakeRefused>
+    requires each { AllByRecursion IsLine script.lines.items }
+    requires allowed { AllByRecursion (λ line. IsTrue (is_allowed Fifo line)) script.lines.items }
+    requires finish_last { FinishesLast script.lines.items }
+    ensures { IfOk result (λ output. IsOutputIn Fifo (head_view script.entry.header)
+        script.entry.lines.items (string_bytes output)) }
+{
+    let Script { header, lines } = script;
+    let (queue, root) = Queue::new(alloc, header.limits)?;
+    let container = Scripted { container: queue };
+    Ok(play(rt, alloc, container, root, lines, trace)?)
+}

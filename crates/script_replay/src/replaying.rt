@@ -1,0 +1,100 @@
+//! Scripts replayed.
+
+ghost use Rattle.std.specs.Prelude.{◌≡◌, ◌≢◌, ◌≤◌, length, IfErr, IfOk, OnOk, IfSome, string_bytes};
+ghost use Rattle.streams.specs.declared.fault.ReplayFault.TheVariants.{Output};
+ghost use Rattle.script_replay.specs.Outcome.{IsFaultOf, IsOutputFor, IsOutside, Replays, Wrote, WroteFront};
+ghost use Rattle.streams.specs.Writing.{written};
+ghost use Rattle.script.specs.Faults.{IsAccepted};
+
+use crate::answer::answer;
+use player::Trace;
+use script::{MAX_SCRIPT_LEN, parse};
+use std::alloc::Global;
+use std::io::{Read, Write};
+use std::sync::Wait;
+use streams::{ReplayFault, read_text, write_all};
+
+/// What is to be written for the script that the reader gives, all of it, and its steps in the trace.
+fn output_for<S: Wait, R: Read>(
+    rt: &S,
+    alloc: Global,
+    reader: &mut R,
+    trace: &mut Trace,
+) -> Result<String, ReplayFault>
+    ensures output { IfOk result (λ output. IfSome (R.remaining reader.old)
+        (λ text. IsOutputFor text (string_bytes output))) }
+    ensures fault { IfErr result
+        (λ fault. IfSome (R.remaining reader.old) (λ text. IsFaultOf fault text)) }
+    ensures only { IfErr result (λ fault. IfSome (R.remaining reader.old)
+        (λ text. IsAccepted text → IsOutside fault)) }
+    ensures short { OnOk result
+        (IfSome (R.remaining reader.old) (λ text. length text ≤ MAX_SCRIPT_LEN)) }
+    ensures unwritten { IfErr result (λ fault. fault ≢ Output) }
+{
+    let text = read_text(alloc, reader)?;
+    let script = parse(alloc, &text)?;
+    Ok(answer(rt, alloc, script, trace)?)
+}
+
+/// Reads a script to its end, checks it whole, runs it on a container, and writes a reply for each
+/// line after the first.
+///
+/// Reading faults (`NoMemory`, `Device`, `TooLong`) come as they are met, then `NoFinalNewline`,
+/// then `BadLine` with the number of the first line that a script cannot have there, then
+/// `NoMemory` of the container and its replies. The writer is touched after all of that;
+/// `Output` comes where a write fails.
+pub fn replay<S: Wait, R: Read, W: Write>(
+    rt: &S,
+    alloc: Global,
+    reader: &mut R,
+    writer: &mut W,
+) -> Result<(), ReplayFault>
+    // What is accepted is a script.
+    ensures accepted { OnOk result (IfSome (R.remaining reader.old) IsAccepted) }
+    ensures short { OnOk result
+        (IfSome (R.remaining reader.old) (λ text. length text ≤ MAX_SCRIPT_LEN)) }
+    // What is written is a line for each line of it after the first, and nothing else.
+    ensures replies { OnOk result (IfSome (R.remaining reader.old)
+        (λ text. Wrote text (W.contents writer.old) (W.contents writer.new))) }
+    // A fault of the text is in the text, and a script has none.
+    ensures fault { IfErr result
+        (λ fault. IfSome (R.remaining reader.old) (λ text. IsFaultOf fault text)) }
+    ensures only { IfErr result (λ fault. IfSome (R.remaining reader.old)
+        (λ text. IsAccepted text → IsOutside fault)) }
+    // Nothing is written before the script was read and checked whole, nor where memory runs out.
+    ensures untouched { IfErr result (λ fault. fault ≢ Output → writer.new ≡ writer.old) }
+    // After a failed write a front of that went out.
+    ensures front { IfErr result (λ fault. fault ≡ Output → IfSome (R.remaining reader.old)
+        (λ text. WroteFront text (W.contents writer.old) (W.contents writer.new))) }
+{
+    let output = output_for(rt, alloc, reader, &mut Trace::none())?;
+    write_all(writer, output.as_bytes())
+}
+
+/// Replays as [`replay`] does, with whole calls made by steps, but for ranges and folds, and then
+/// writes the trace on `errors`: a line for each atomic step.
+///
+/// The faults are those of `replay`; after a fault no trace is written. `NoMemory` also comes where
+/// there is no memory for the trace. That it cannot be written is no fault. The name of each step is
+/// proved (`step_names`); that each step has its line, and that no compare-and-swap that succeeded is
+/// said to have failed, is tested.
+pub fn replay_traced<S: Wait, R: Read, W: Write, E: Write>(
+    rt: &S,
+    alloc: Global,
+    reader: &mut R,
+    writer: &mut W,
+    errors: &mut E,
+) -> Result<(), ReplayFault>
+    // What is written is what `replay` writes.
+    ensures replays { Replays (R.remaining reader.old)
+        (written W.contents writer.old writer.new) result }
+    ensures untouched { IfErr result (λ fault. fault ≢ Output → writer.new ≡ writer.old) }
+    ensures untold { IfErr result (λ fault. errors.new ≡ errors.old) }
+{
+    let mut trace = Trace::new(alloc);
+    let output = output_for(rt, alloc, reader, &mut trace)?;
+    write_all(writer, output.as_bytes())?;
+    // Nothing is left to do where standard error fails.
+    let _ = write_all(errors, trace.text().as_bytes());
+    Ok(())
+}

@@ -1,0 +1,160 @@
+//! Scripts of a stack, and its ranges and folds.
+
+ghost use Rattle.std.specs.Prelude.{◌≡◌, IfOk, IsTrue, string_bytes, true, false};
+ghost use Rattle.std.specs.List.{AllByRecursion};
+ghost use Rattle.bounded_model.specs.declared.history.Order.TheVariants.{Lifo};
+ghost use Rattle.script_replay.specs.Calls.{AddsOne, numbered};
+ghost use Rattle.script_replay.specs.Outcome.{IsOutputIn};
+ghost use Rattle.player.specs.Plays.{FoldTold, RangeTold, range_reply};
+ghost use Rattle.script.specs.Script.{FinishesLast, IsLine, is_allowed};
+ghost use Rattle.script.specs.View.{head_view};
+ghost use Rattle.treiber_stack.specs.Stack.{IsPassOf, pass_in, shape_of};
+
+use crate::ranges::Ranges;
+use crate::scripted::Scripted;
+use bounded_model::{Bulk, Folded, MakeRefused, RangeRefused, Ranged, TakeRefused};
+use player::{Trace, play};
+use script::{RangeReply, Script, Value, ValueList, Values};
+use std::alloc::{AllocError, Global};
+use std::sync::Wait;
+use treiber_stack::{Pass, Stack};
+
+impl<'a> Ranges<'a> for Stack<Value<'a>> {
+    fn range<R: Wait>(
+        &self,
+        rt: &R,
+        alloc: Global,
+        by: Pass<Value<'a>>,
+        values: Values<'a>,
+    ) -> Result<(Pass<Value<'a>>, RangeReply, ValueList<'a>), AllocError> {
+        put_values(self, rt, alloc, by, values)
+    }
+
+    fn fold<R: Wait>(
+        &self,
+        rt: &R,
+        alloc: Global,
+        by: Pass<Value<'a>>,
+        reversed: bool,
+    ) -> Result<(Pass<Value<'a>>, Result<(u64, ValueList<'a>), TakeRefused>), AllocError> {
+        if reversed {
+            fold_up(self, rt, alloc, by)
+        } else {
+            fold_down(self, rt, alloc, by)
+        }
+    }
+}
+
+/// What a range's result is called in a script.
+fn reply_of(answer: Result<Ranged, RangeRefused>) -> RangeReply
+    ensures { result ≡ range_reply answer }
+{
+    match answer {
+        Ok(ranged) => RangeReply::Put(ranged.number, ranged.count),
+        Err(RangeRefused::Nothing) => RangeReply::Nothing,
+        Err(RangeRefused::Full) => RangeReply::Full,
+        Err(RangeRefused::Closed) => RangeReply::Closed,
+        Err(RangeRefused::Spent(word, tag)) => RangeReply::Spent(word, tag),
+    }
+}
+
+/// Puts a range of values by one compare-and-swap, and returns those that were not put, too.
+fn put_values<'a, R: Wait>(
+    stack: &Stack<Value<'a>>,
+    rt: &R,
+    alloc: Global,
+    by: Pass<Value<'a>>,
+    values: Values<'a>,
+) -> Result<(Pass<Value<'a>>, RangeReply, ValueList<'a>), AllocError>
+    requires { IsPassOf stack.now by }
+    ensures of { IfOk result (λ done. IsPassOf stack.now done.0) }
+    ensures gives { IfOk result (λ done. RangeTold (shape_of stack.now)
+        (pass_in by.entry) (pass_in done.0) values.entry done.1 done.2) }
+{
+    let mut places = values.to_places(alloc)?;
+    let (pass, answer) = stack.put_range(rt, by, &mut places);
+    let reply = reply_of(answer);
+    Ok((pass, reply, ValueList::left_in(places)))
+}
+
+/// The values with one more at the end, unless there was no memory for one of them.
+fn pushed<'a>(
+    values: Result<ValueList<'a>, AllocError>,
+    value: Value<'a>,
+) -> Result<ValueList<'a>, AllocError>
+    ensures { AddsOne values.entry value.entry result }
+{
+    let mut values = values?;
+    values.push(value)?;
+    Ok(values)
+}
+
+/// A fold's number with its values, or why it took none.
+fn numbered<'a>(
+    values: ValueList<'a>,
+    answer: Result<Folded, TakeRefused>,
+) -> Result<(u64, ValueList<'a>), TakeRefused>
+    ensures { result ≡ numbered values.entry answer }
+{
+    match answer {
+        Ok(folded) => Ok((folded.number, values)),
+        Err(refused) => Err(refused),
+    }
+}
+
+/// Takes all values by one compare-and-swap, and returns them from the top down.
+fn fold_down<'a, R: Wait>(
+    stack: &Stack<Value<'a>>,
+    rt: &R,
+    alloc: Global,
+    by: Pass<Value<'a>>,
+) -> Result<(Pass<Value<'a>>, Result<(u64, ValueList<'a>), TakeRefused>), AllocError>
+    requires { IsPassOf stack.now by }
+    ensures of { IfOk result (λ done. IsPassOf stack.now done.0) }
+    ensures gives { IfOk result
+        (λ done. FoldTold (shape_of stack.now) false (pass_in by.entry) (pass_in done.0) done.1) }
+{
+    let (pass, values, answer) = stack.fold_all_atomic(rt, by, Ok(ValueList::new(alloc)), pushed);
+    Ok((pass, numbered(values?, answer)))
+}
+
+/// The same, from the bottom up.
+fn fold_up<'a, R: Wait>(
+    stack: &Stack<Value<'a>>,
+    rt: &R,
+    alloc: Global,
+    by: Pass<Value<'a>>,
+) -> Result<(Pass<Value<'a>>, Result<(u64, ValueList<'a>), TakeRefused>), AllocError>
+    requires { IsPassOf stack.now by }
+    ensures of { IfOk result (λ done. IsPassOf stack.now done.0) }
+    ensures gives { IfOk result
+        (λ done. FoldTold (shape_of stack.now) true (pass_in by.entry) (pass_in done.0) done.1) }
+{
+    let (pass, values, answer) = stack.fold_all_atomic_reversed(
+        rt,
+        by,
+        Ok(ValueList::new(alloc)),
+        pushed,
+    );
+    Ok((pass, numbered(values?, answer)))
+}
+
+/// Plays a stack's script, and adds its steps to the trace. `NoMemory` where memory ran out for the
+/// stack, for the values of a range or a fold, or for the lines.
+pub(crate) fn play_stack<R: Wait>(
+    rt: &R,
+    alloc: Global,
+    script: Script<'_>,
+    trace: &mut Trace,
+) -> Result<String, MakeRefused>
+    requires each { AllByRecursion IsLine script.lines.items }
+    requires allowed { AllByRecursion (λ line. IsTrue (is_allowed Lifo line)) script.lines.items }
+    requires finish_last { FinishesLast script.lines.items }
+    ensures { IfOk result (λ output. IsOutputIn Lifo (head_view script.entry.header)
+        script.entry.lines.items (string_bytes output)) }
+{
+    let Script { header, lines } = script;
+    let (stack, root) = Stack::new(alloc, header.limits)?;
+    let container = Scripted { container: stack };
+    Ok(play(rt, alloc, container, root, lines, trace)?)
+}

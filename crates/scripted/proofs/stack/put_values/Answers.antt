@@ -1,9 +1,0 @@
-use Rattle.std.proofs.Common.{ℕ, List, Option, subst, sym, ◌∙◌}
-use Rattle.std.specs.Prelude.{IsSome}
-use Rattle.std.specs.List.{AllByRecursion}
-use Rattle.scripted.proofs.Folding.{all_some}
-use Rattle.scripted.proofs.stack.put_values.Goals as goal
-
-pub put_range-pass-requires-clause-values : goal.put_range-pass-requires-clause-values
-put_range-pass-requires-clause-values g c =
-    subst (λ (places : List (Option (List ℕ))). AllByRecursion (λ place. IsSome place) places) (sym (c.deref_mut.ensures.value ∙ c.in_ok-places.ensures)) (all_some c.args.values)
