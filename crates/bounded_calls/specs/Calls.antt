@@ -1,5 +1,5 @@
 -- What a call gives that is tried so many times.
-use Rattle.std.specs.Prelude.{◌≡◌}
+use Rattle.std.specs.Prelude.{◌≡◌, ℕ, ◌+◌, ◌*◌, ◌-◌, ◌^◌, ◌≤◌, min}
 use Rattle.bounded_model.specs.declared.answers.Stepped.{Stepped}
 use Rattle.bounded_model.specs.declared.commands.Command.{Command}
 use Rattle.bounded_model.specs.declared.commands.Reply.{Reply}
@@ -8,6 +8,10 @@ use Rattle.bounded_model.specs.declared.views.PassView.{PassView}
 use Rattle.bounded_model.specs.Calls.{CallGives, IsMaking, making_in}
 use Rattle.bounded_model.specs.Machine.{Shape}
 use Rattle.bounded_model.specs.Stepping.{MatchStepped, Underway, no_step}
+
+-- How many steps so many tries are: each so many, and those of a call that loses no exchange. They fit in 64 bits
+abbrev pub steps_of : ℕ → ℕ → ℕ → ℕ
+steps_of undisturbed each tries = min (min (tries * each) (2 ^ 64 - 1) + undisturbed) (2 ^ 64 - 1)
 
 -- how a container's passes and operations are read
 pub record Reading (T P O : Type 0) : Type 1 where
@@ -49,3 +53,13 @@ module _ {T P O : Type 0} (r : Reading T P O) where
   -- the same of an operation, whichever call it makes
   abbrev pub Tried : O → Stepped O P (Reply T) → Type 0
   Tried op made = (call : Command T) → r.is_making call op → TriedFrom (r.making op).begun call made
+
+  -- So many steps were to be made of an operation: it goes on after exactly so many, or has ended after at most so many
+  abbrev pub TookFor : ℕ → O → Stepped O P (Reply T) → Type 0
+  TookFor n op made = MatchStepped made
+      (λ next. (r.making next).now.steps ≡ (r.making op).now.steps + n)
+      (λ back said. (r.pass back).steps ≤ (r.making op).now.steps + n)
+
+  -- a call that its pass began as this goes on only after so many steps
+  abbrev pub TookAtLeast : ℕ → PassView T → Stepped O P (Reply T) → Type 0
+  TookAtLeast n begun made = MatchStepped made (λ next. begun.steps + n ≤ (r.making next).now.steps) (λ back said. Unit {0})

@@ -5,11 +5,6 @@ use Rattle.stack_machine.specs.declared.lines.Line as of_stack
 use Rattle.running.specs.declared.passes.Pass.{Pass}
 use Rattle.running.specs.Passes.{pass_in}
 use Rattle.ms_queue.specs.declared.queue.Queue.{Queue}
-use Rattle.ms_queue.specs.declared.putting.PutOp as q_put
-use Rattle.ms_queue.specs.declared.taking.TakeOp as q_take
-use Rattle.ms_queue.specs.declared.closing.CloseOp as q_close
-use Rattle.ms_queue.specs.declared.shutting.ShutOp as q_shut
-use Rattle.ms_queue.specs.declared.looking.LookOp as q_look
 use Rattle.ms_queue.specs.Closing as queue_closing
 use Rattle.ms_queue.specs.Looking as queue_looking
 use Rattle.ms_queue.specs.Putting as queue_putting
@@ -18,8 +13,6 @@ use Rattle.ms_queue.specs.Shutting as queue_shutting
 use Rattle.ms_queue.specs.Stepwise as queue_steps
 use Rattle.ms_queue.specs.Taking as queue_taking
 use Rattle.treiber_stack.specs.declared.stack.Stack.{Stack}
-use Rattle.treiber_stack.specs.declared.putting.PutOp as s_put
-use Rattle.treiber_stack.specs.declared.taking.TakeOp as s_take
 use Rattle.treiber_stack.specs.declared.closing.CloseOp as s_close
 use Rattle.treiber_stack.specs.declared.closing.ShutOp as s_shut
 use Rattle.treiber_stack.specs.declared.stepwise.LookOp as s_look
@@ -32,12 +25,12 @@ use Rattle.bounded_calls.specs.Calls.{Reading, by_steps}
 use Rattle.bounded_model.specs.declared.commands.Operation.{Operation}
 
 module _ {T : Type 0} where
-  abbrev pub queue_reading : Queue T → Reading T (Pass T (of_queue.Line T)) (Operation (q_put.PutOp T) (q_take.TakeOp T) (q_close.CloseOp T) (q_shut.ShutOp T) (q_look.LookOp T))
+  abbrev pub queue_reading : Queue T → Reading T (Pass T (of_queue.Line T)) (Operation (queue_putting.PutOp T) (queue_taking.TakeOp T) (queue_closing.CloseOp T) (queue_shutting.ShutOp T) (queue_looking.LookOp T))
   queue_reading c = by_steps (queue.shape_of c) (queue.IsPassOf c) pass_in
       (queue_putting.IsPutting c) (queue_taking.IsTaking c) (queue_closing.IsClosing c) (queue_shutting.IsShutting c) (queue_looking.IsLooking c)
       (λ op. queue_steps.underway_in op.pass) (λ op. queue_steps.underway_in op.pass) (λ op. queue_steps.underway_in op.pass) (λ op. queue_steps.underway_in op.pass) (λ op. queue_steps.underway_in op.pass)
 
-  abbrev pub stack_reading : Stack T → Reading T (Pass T (of_stack.Line T)) (Operation (s_put.PutOp T) (s_take.TakeOp T) (s_close.CloseOp T) (s_shut.ShutOp T) (s_look.LookOp T))
+  abbrev pub stack_reading : Stack T → Reading T (Pass T (of_stack.Line T)) (Operation (stack_putting.PutOp T) (stack_taking.TakeOp T) (s_close.CloseOp T) (s_shut.ShutOp T) (s_look.LookOp T))
   stack_reading c = by_steps (stack.shape_of c) (stack.IsPassOf c) pass_in
       (stack_putting.IsPutting c) (stack_taking.IsTaking c) (stack_closing.IsClosing c) (stack_closing.IsShutting c) (λ op. stack.IsPassOf c op.pass)
       (λ op. stack_steps.underway_in op.pass) (λ op. stack_steps.underway_in op.pass) (λ op. stack_steps.underway_in op.pass) (λ op. stack_steps.underway_in op.pass) (λ op. no_step (pass_in op.pass))

@@ -1,12 +1,16 @@
 //! Containers whose calls give up after so many tries.
 
 ghost use Rattle.bounded_model.specs.declared.commands.Command.TheVariants.{Put, Take};
-ghost use Rattle.bounded_calls.specs.Calls.{MakesSome, Tried, TriedFrom, by_steps};
+ghost use Rattle.std.specs.Prelude.{ℕ};
+ghost use Rattle.bounded_calls.specs.Calls.{MakesSome, Tried, TriedFrom, TookFor, by_steps};
 
 use bounded_model::{Command, Operation, Reply, Stepped, Stepwise};
 
 /// A container whose calls give up after so many tries, and can then be gone on with.
 pub trait BoundedCalls<T>: Stepwise<T> {
+    /// How many steps so many tries are.
+    ghost steps: { ℕ → ℕ };
+
     /// A call: its fast path, and where that does not end it at most so many further steps as a call
     /// makes where nobody interferes, and those of `tries` tries more. Returns what the whole call
     /// returns; or the call is still under way.
@@ -62,7 +66,9 @@ pub trait BoundedCalls<T>: Stepwise<T> {
             Self.putting Self.taking Self.closing Self.shutting Self.looking)
             (Self.pass by) Take result };
 
-    /// Goes on with a call in the same way. One that is still under way was begun as before.
+    /// Goes on with a call for as many steps as so many tries are. One that is still under way then
+    /// was begun as before, and has made exactly so many steps more; one that has ended made at most
+    /// so many.
     fn try_on(
         &self,
         operation: Operation<Self::PutOp, Self::TakeOp, Self::CloseOp, Self::ShutOp, Self::LookOp>,
@@ -77,9 +83,14 @@ pub trait BoundedCalls<T>: Stepwise<T> {
             (Self.is_shutting self.now) (Self.is_looking self.now)
             Self.putting Self.taking Self.closing Self.shutting Self.looking)
             operation }
-        ensures { Tried (by_steps (Self.shape self.now) (Self.is_pass self.now) Self.pass
+        ensures tried { Tried (by_steps (Self.shape self.now) (Self.is_pass self.now) Self.pass
             (Self.is_putting self.now) (Self.is_taking self.now) (Self.is_closing self.now)
             (Self.is_shutting self.now) (Self.is_looking self.now)
             Self.putting Self.taking Self.closing Self.shutting Self.looking)
-            operation result };
+            operation result }
+        ensures took { TookFor (by_steps (Self.shape self.now) (Self.is_pass self.now) Self.pass
+            (Self.is_putting self.now) (Self.is_taking self.now) (Self.is_closing self.now)
+            (Self.is_shutting self.now) (Self.is_looking self.now)
+            Self.putting Self.taking Self.closing Self.shutting Self.looking)
+            (steps tries) operation result };
 }

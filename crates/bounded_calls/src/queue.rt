@@ -1,5 +1,6 @@
 //! A queue's calls: each makes its fast path and then a bounded number of steps.
-ghost use Rattle.bounded_calls.specs.Calls.{Begins};
+ghost use Rattle.std.specs.Prelude.{◌≡◌, ◌≤◌};
+ghost use Rattle.bounded_calls.specs.Calls.{Begins, steps_of};
 ghost use Rattle.bounded_calls.specs.Readings.{queue_reading};
 ghost use Rattle.ms_queue.specs.Queue.{IsPassOf};
 
@@ -15,7 +16,9 @@ const TO_EXCHANGE: u64 = 6;
 
 // How many steps so many tries are.
 #[inline]
-fn steps_for(tries: u64) -> u64 {
+fn steps_for(tries: u64) -> u64
+    ensures { (result ≡ steps_of 18 6 tries) × (18 ≤ result) }
+{
     tries
         .saturating_mul(TO_EXCHANGE)
         .saturating_add(UNDISTURBED)
@@ -41,10 +44,12 @@ fn begin(
 }
 
 impl BoundedCalls<u64> for Queue<u64> {
-    ghost use Rattle.bounded_calls.specs.Calls.{MakesSome, Tried, TriedFrom};
+    ghost use Rattle.bounded_calls.specs.Calls.{MakesSome, Tried, TriedFrom, TookFor, steps_of};
     ghost use Rattle.bounded_calls.specs.Readings.{queue_reading};
     ghost use Rattle.bounded_model.specs.declared.commands.Command.TheVariants.{Put, Take};
     ghost use Rattle.running.specs.Passes.{pass_in};
+
+    ghost steps = { steps_of 18 6 };
 
     fn try_call(
         &self,
@@ -117,7 +122,8 @@ impl BoundedCalls<u64> for Queue<u64> {
         Reply<u64>,
     >
         requires { MakesSome (queue_reading self.now) operation }
-        ensures { Tried (queue_reading self.now) operation result }
+        ensures tried { Tried (queue_reading self.now) operation result }
+        ensures took { TookFor (queue_reading self.now) (steps_of 18 6 tries) operation result }
     {
         let steps = steps_for(tries);
         match operation {

@@ -1,5 +1,6 @@
 //! A stack's calls: each makes its fast path and then a bounded number of steps. A look has one step.
-ghost use Rattle.bounded_calls.specs.Calls.{Begins};
+ghost use Rattle.std.specs.Prelude.{◌≡◌, ◌≤◌};
+ghost use Rattle.bounded_calls.specs.Calls.{Begins, steps_of};
 ghost use Rattle.bounded_calls.specs.Readings.{stack_reading};
 ghost use Rattle.treiber_stack.specs.Stack.{IsPassOf};
 
@@ -15,7 +16,9 @@ const TO_EXCHANGE: u64 = 3;
 
 // How many steps so many tries are.
 #[inline]
-fn steps_for(tries: u64) -> u64 {
+fn steps_for(tries: u64) -> u64
+    ensures { (result ≡ steps_of 10 3 tries) × (10 ≤ result) }
+{
     tries
         .saturating_mul(TO_EXCHANGE)
         .saturating_add(UNDISTURBED)
@@ -41,10 +44,12 @@ fn begin(
 }
 
 impl BoundedCalls<u64> for Stack<u64> {
-    ghost use Rattle.bounded_calls.specs.Calls.{MakesSome, Tried, TriedFrom};
+    ghost use Rattle.bounded_calls.specs.Calls.{MakesSome, Tried, TriedFrom, TookFor, steps_of};
     ghost use Rattle.bounded_calls.specs.Readings.{stack_reading};
     ghost use Rattle.bounded_model.specs.declared.commands.Command.TheVariants.{Put, Take};
     ghost use Rattle.running.specs.Passes.{pass_in};
+
+    ghost steps = { steps_of 10 3 };
 
     fn try_call(
         &self,
@@ -117,7 +122,8 @@ impl BoundedCalls<u64> for Stack<u64> {
         Reply<u64>,
     >
         requires { MakesSome (stack_reading self.now) operation }
-        ensures { Tried (stack_reading self.now) operation result }
+        ensures tried { Tried (stack_reading self.now) operation result }
+        ensures took { TookFor (stack_reading self.now) (steps_of 10 3 tries) operation result }
     {
         let steps = steps_for(tries);
         match operation {
@@ -137,10 +143,10 @@ impl BoundedCalls<u64> for Stack<u64> {
                 Stepped::Again(op) => Stepped::Again(Operation::Shut(op)),
                 Stepped::Done(pass, shut) => Stepped::Done(pass, Reply::Shut(shut)),
             },
-            Operation::Look(op) => match self.step_look(op) {
-                Stepped::Again(op) => Stepped::Again(Operation::Look(op)),
-                Stepped::Done(pass, is_empty) => Stepped::Done(pass, Reply::Look(is_empty)),
-            },
+            Operation::Look(op) => {
+                let (pass, is_empty) = op.end(self);
+                Stepped::Done(pass, Reply::Look(is_empty))
+            }
         }
     }
 }

@@ -27,8 +27,8 @@ module _ {T : Type 0} where
   pub HasJoined-join : {r s : RootView T} {u v : PassView T} → HasJoined r v → Joins r u s → HasJoined s v
   HasJoined-join {r} {s} {u} {v} h j = record { listed = rw j.account (inr h.listed); seen = Later-trans h.seen j.root_seen }
 
-  pub HasJoined-split : {r s : RootView T} {u v : PassView T} → HasJoined r v → Splits r s u → HasJoined s v
-  HasJoined-split {r} {s} {u} {v} h p = record {
+  pub HasJoined-split : {c : Shape} {r s : RootView T} {u v : PassView T} → HasJoined r v → Splits c r s u → HasJoined s v
+  HasJoined-split {c} {r} {s} {u} {v} h p = record {
     listed = subst (λ (t : RootView T). Among (v.number, own v.number v.seen) t.account) (sym p.root) h.listed;
     seen = subst (λ (t : RootView T). Later v.seen t.seen) (sym p.root) h.seen;
   }

@@ -4,7 +4,6 @@ use Rattle.std.specs.Prelude.{◌≡◌, ◌≢◌, ℕ, suc, zero, ◌+◌, ◌
 use Rattle.std.specs.List.{AllByRecursion as Every}
 use Rattle.bounded_model.specs.declared.history.Event.{Event}
 use Rattle.bounded_model.specs.declared.history.Event.TheVariants.{Hold, Put, Take, TakeAll, Free, Close, Shut}
-use Rattle.bounded_model.specs.declared.container.TheConstants.{MAX_PASSES}
 use Rattle.bounded_model.specs.declared.answers.PutRefused.{PutRefused}
 use Rattle.bounded_model.specs.declared.answers.PutRefused.TheVariants.{Full, Closed, Spent}
 use Rattle.bounded_model.specs.declared.answers.TakeRefused.{TakeRefused}
@@ -25,11 +24,11 @@ abbrev pub NoneOut : {T : Type 0} → RootView T → Type 0
 NoneOut r = length r.account ≡ r.given
 
 -- as many passes are out as there may be, or fewer are
-abbrev pub IsFullOfPasses : {T : Type 0} → RootView T → Type 0
-IsFullOfPasses r = MAX_PASSES + length r.account ≤ r.given
+abbrev pub IsFullOfPasses : {T : Type 0} → Shape → RootView T → Type 0
+IsFullOfPasses c r = c.passes + length r.account ≤ r.given
 
-abbrev pub HasRoomForPass : {T : Type 0} → RootView T → Type 0
-HasRoomForPass r = r.given < MAX_PASSES + length r.account
+abbrev pub HasRoomForPass : {T : Type 0} → Shape → RootView T → Type 0
+HasRoomForPass c r = r.given < c.passes + length r.account
 
 -- a pass between its calls: what it has seen is legal, and its hand is empty
 pub record IsAtRest {T : Type 0} (c : Shape) (v : PassView T) : Type 0 where
@@ -129,8 +128,8 @@ FoldGives v w xs n = Adds v w (Free v.number (length xs) ∷ TakeAll v.number xs
 -- The calls of a root
 
 -- split: the next number goes to a new pass, which has seen what the root has and done nothing
-pub record Splits {T : Type 0} (r s : RootView T) (v : PassView T) : Type 0 where
-  pub room : HasRoomForPass r
+pub record Splits {T : Type 0} (c : Shape) (r s : RootView T) (v : PassView T) : Type 0 where
+  pub room : HasRoomForPass c r
   pub root : s ≡ record r { given = r.given + 1 }
   pub pass : v ≡ record { number = r.given; seen = r.seen; steps = 0 }
 

@@ -6,11 +6,13 @@ use Rattle.bounded_model.specs.declared.history.Order.TheVariants.{Fifo, Lifo}
 use Rattle.bounded_model.specs.declared.history.Event.{Event}
 use Rattle.bounded_model.specs.declared.history.Event.TheVariants.{Hold, Put, Take, TakeAll, Free, Close, Shut}
 
--- what a container was made for: its order, how many cells it has, and how high a tag may rise
+-- what a container was made for: its order, how many cells it has, how high a tag may rise, and how many passes may be
+-- out at one time
 pub record Shape : Type 0 where
   pub order : Order
   pub capacity : ℕ
   pub limit : ℕ
+  pub passes : ℕ
 
 -- a queue's values stand from the front, a stack's from the top; `held` is the sum of all hands;
 -- the last three count the Holds, the puts and the takes so far

@@ -24,8 +24,9 @@ pub record Plain (T : Type 0) : Type 0 where
 abbrev pub empty_list : {T : Type 0} → Order → ℕ → Plain T
 empty_list order capacity = record { order = order; capacity = capacity; values = []; closed = false; shut = false; puts = 0; takes = 0 }
 
+-- one caller has it
 abbrev pub shape_of : {T : Type 0} → Plain T → Shape
-shape_of p = record { order = p.order; capacity = p.capacity; limit = COUNT_LIMIT }
+shape_of p = record { order = p.order; capacity = p.capacity; limit = COUNT_LIMIT; passes = 1 }
 
 -- the machine with this list and no cell in hand
 abbrev pub at_rest : {T : Type 0} → Plain T → State T

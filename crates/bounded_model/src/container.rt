@@ -24,7 +24,8 @@ ghost use Rattle.bounded_model.specs.Laws.{
 use crate::{Order, PutRefused, TakeRefused};
 use std::sync::Wait;
 
-/// The most passes of a container that may be out at one time.
+/// The most passes of a queue or of a stack that may be out at one time. A container says in its
+/// `shape` how many of its own may be.
 pub const MAX_PASSES: u32 = 65_535;
 
 // Laws and clauses say the name; this says the number.
@@ -68,7 +69,7 @@ pub trait Container<T>: Drop {
 
     ghost ORDER: { Order };
 
-    /// Its order, its capacity, and the limit of its tags.
+    /// Its order, its capacity, the limit of its tags, and how many passes may be out at one time.
     ghost shape: { Self → Shape };
 
     /// Whether this is a pass of this container, between its calls.
@@ -93,14 +94,17 @@ pub trait Container<T>: Drop {
     fn capacity(&self) -> u32
         ensures { result ≡ (shape self.now).capacity };
 
-    /// A new pass; `None` exactly where [`MAX_PASSES`] are out, and then nothing has changed.
-    /// Called in `example_calls`, and for many threads in `example_jobs`.
+    /// A new pass; `None` exactly where as many are out as may be at one time, of a queue or a stack
+    /// [`MAX_PASSES`], and then nothing has changed. Called in `example_calls`, and for many
+    /// threads in `example_jobs`.
     fn split(&self, parent: &mut Self::Root) -> Option<Self::Pass>
         requires { is_root self.now parent.old }
         ensures root { is_root self.now parent.new }
         ensures gives { MatchOption result
-            ((root parent.new ≡ root parent.old) × IsFullOfPasses (root parent.old))
-            (λ p. is_pass self.now p × Splits (root parent.old) (root parent.new) (pass p)) };
+            ((root parent.new ≡ root parent.old)
+            × IsFullOfPasses (shape self.now) (root parent.old))
+            (λ p. is_pass self.now p
+            × Splits (shape self.now) (root parent.old) (root parent.new) (pass p)) };
 
     /// Puts one value; returns the put's number. A refusal hands the value back. Called in
     /// `example_calls`, and again where it is full in `example_jobs`.

@@ -1,4 +1,4 @@
-//! Containers whose calls can be made by single atomic steps.
+//! Containers whose calls can be made step by step.
 
 ghost use Rattle.std.specs.Prelude.{◌≡◌};
 ghost use Rattle.bounded_model.specs.Laws.{PutGives, TakeGives, CloseGives, ShutGives, LookGives};
@@ -7,7 +7,8 @@ ghost use Rattle.bounded_model.specs.Stepping.{Underway, no_step, OneStep, GoesO
 use crate::{Container, PutRefused, Stepped, TakeRefused};
 use std::sync::Wait;
 
-/// A container whose calls are begun and then made step by step, each step one atomic instruction.
+/// A container whose calls are begun and then made step by step. Each step adds one to the steps that
+/// the call's pass has made.
 ///
 /// To begin makes no step. A step either goes on, exactly one step further, or it ends the
 /// operation: then the pass comes back, exactly one step further, with the answer that the whole
@@ -88,7 +89,7 @@ pub trait Stepwise<T>: Container<T> {
         ensures look { is_looking self.now result }
         ensures begun { looking result ≡ no_step (Self.pass by) };
 
-    /// One atomic step of a put. The answer is a put's.
+    /// One step of a put. The answer is a put's.
     fn step_put(
         &self,
         op: Self::PutOp,
@@ -99,7 +100,7 @@ pub trait Stepwise<T>: Container<T> {
             (λ back answer. Self.is_pass self.now back × OneStep (putting op).now (Self.pass back)
             × PutGives (Self.shape self.now) (putting op).begun x (Self.pass back) answer) };
 
-    /// One atomic step of a take. The answer is a take's.
+    /// One step of a take. The answer is a take's.
     fn step_take(
         &self,
         op: Self::TakeOp,
@@ -110,7 +111,7 @@ pub trait Stepwise<T>: Container<T> {
             (λ back answer. Self.is_pass self.now back × OneStep (taking op).now (Self.pass back)
             × TakeGives (Self.shape self.now) (taking op).begun (Self.pass back) answer) };
 
-    /// One atomic step of a close. The answer is whether this operation closed the container.
+    /// One step of a close. The answer is whether this operation closed the container.
     fn step_close(&self, op: Self::CloseOp) -> Stepped<Self::CloseOp, Self::Pass, bool>
         requires { is_closing self.now op }
         ensures { MatchStepped result
@@ -118,7 +119,7 @@ pub trait Stepwise<T>: Container<T> {
             (λ back closed. Self.is_pass self.now back × OneStep (closing op).now (Self.pass back)
             × CloseGives (Self.shape self.now) (closing op).begun (Self.pass back) closed) };
 
-    /// One atomic step of a shut. The answer is whether this operation shut the container.
+    /// One step of a shut. The answer is whether this operation shut the container.
     fn step_shut(&self, op: Self::ShutOp) -> Stepped<Self::ShutOp, Self::Pass, bool>
         requires { is_shutting self.now op }
         ensures { MatchStepped result
@@ -126,7 +127,7 @@ pub trait Stepwise<T>: Container<T> {
             (λ back shut. Self.is_pass self.now back × OneStep (shutting op).now (Self.pass back)
             × ShutGives (Self.shape self.now) (shutting op).begun (Self.pass back) shut) };
 
-    /// One atomic step of a look. The answer is whether the container was empty.
+    /// One step of a look. The answer is whether the container was empty.
     fn step_look(&self, op: Self::LookOp) -> Stepped<Self::LookOp, Self::Pass, bool>
         requires { is_looking self.now op }
         ensures { MatchStepped result

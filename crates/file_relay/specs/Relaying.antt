@@ -3,6 +3,7 @@ use Rattle.std.specs.Prelude.{◌≡◌, ℕ, ◌*◌, ◌≤◌, List, length, 
 use Rattle.std.specs.Io.KnownBytes.{Appends}
 use Rattle.bounded_model.specs.declared.history.Order.{Order}
 use Rattle.bounded_model.specs.declared.history.Order.TheVariants.{Fifo, Lifo}
+use Rattle.bounded_model.specs.declared.container.TheConstants.{MAX_PASSES}
 use Rattle.bounded_model.specs.Machine.{Shape}
 use Rattle.tagged_index.specs.declared.word.TheConstants.{MAX_TAG}
 use Rattle.relay.specs.declared.faults.RelayFault.{RelayFault}
@@ -28,9 +29,9 @@ abbrev pub order_of : Kind → Order
 order_of Queue = Fifo
 order_of Stack = Lifo
 
--- a container of the kind and the capacity that were asked for, with the largest limit of tags
+-- a container of the kind and the capacity that were asked for, with the largest limit of tags and the most passes
 abbrev pub shape_for : RelayArgs → Shape
-shape_for args = record { order = order_of args.kind; capacity = args.capacity; limit = MAX_TAG }
+shape_for args = record { order = order_of args.kind; capacity = args.capacity; limit = MAX_TAG; passes = MAX_PASSES }
 
 -- what a relay's workers are told
 abbrev pub plan_of : RelayArgs → Plan

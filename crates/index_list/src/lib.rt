@@ -2,7 +2,7 @@
 //! Boost.Lockfree: a tagged top names the first index, and each index's link names the next.
 //!
 //! `ListHost` says of a table where its lists are, and has a law over plain data for each kind of
-//! step. The step functions are written once for every host, each a single atomic step. Promised: a
+//! step. The step functions are written once for every host; each makes one step of the table. Promised: a
 //! successful take gives the first of the list, which no pass held; a successful give puts what the
 //! pass held before the list; a successful mark sets the mark and nothing else; a load gives the
 //! word as it was; a store changes the link of a held index alone.

@@ -9,11 +9,11 @@ use Rattle.std.proofs.lemmas.Bool.Decides.{eqb_tells}
 use mathlib.Core.Option.{Option, none, some, some-injective, some-ne-none}
 use lib.ListN.{get_elem?}
 use Rattle.machine.specs.Words.{total}
-use Rattle.machine.specs.Schedule.{Machine, Pass, State, Act, Begin, Step, Schedule, stepped, begun, acts, acts_at, next, run, start, first_pass, having_begun, having_stepped}
+use Rattle.machine.specs.Schedule.{Machine, Pass, State, Act, Begin, Step, Schedule, stepped, begun, acts, acts_at, next, run, start, first_passes, having_begun, having_stepped}
 use Rattle.machine.specs.Bound.{wins_at, IsStretch, is_busy, counted, own_steps, AtLine}
 use Rattle.machine.specs.Progress.{IsAllowed, Only, steps_at, ends_at, costs_at, steps_made, calls_ended, calls_cost, others_win, in_call, AtOnce, SomeEnds}
 use Rattle.machine.proofs.Tests.{cases, one_of}
-use Rattle.machine.proofs.Sums.{total_set, total_same, at_set}
+use Rattle.machine.proofs.Sums.{total_set, at_set}
 use Rattle.machine.proofs.Scheduled.{Holds, next_kept, set_other, set_same, same_passes}
 
 -- sums over lists
@@ -313,11 +313,14 @@ module _ {M L C E : Type 0} (x : Machine M L C E) (Kept : State M L C E → Type
         omega (arith, act_paid s keeps a.0 a.1 (get_elem? s.passes a.0) refl few.0, paid more (next x s a) (next_kept x Kept y.weighs.holds s a keeps) few.1)
 
     -- at the start nobody has anything to spend
-    pub all_paid : (passes : ℕ) (schedule : Schedule C) → Kept (start x passes) → x.is_idle x.rest ≡ true → AtOnce x (suc k) schedule (start x passes)
+    pub all_paid : (passes : ℕ) (schedule : Schedule C) → Kept (start x passes) → ((p : ℕ) → x.is_idle (x.rest p) ≡ true) → AtOnce x (suc k) schedule (start x passes)
         → steps_made x schedule (start x passes) ≤ calls_cost x cost schedule (start x passes)
     all_paid passes schedule keeps idle few =
-        let none = y.idle x.first x.rest idle in
-        omega (arith, paid schedule (start x passes) keeps few, total_same (has x.first) (first_pass x) passes (omega (arith, none.0, ap (λ (h : ℕ). h * k) none.1)))
+        omega (arith, paid schedule (start x passes) keeps few, nothing 0 passes)
+      where
+        nothing : (p n : ℕ) → total (has x.first) (first_passes x p n) ≡ 0
+        nothing p zero = refl
+        nothing p (suc n) = let none = y.idle x.first (x.rest p) (idle p) in omega (arith, nothing (p + 1) n, none.0, ap (λ (h : ℕ). h * k) none.1)
 
     -- calls that are begun end, or are still made at the end
     counted_calls : (schedule : Schedule C) (s : State M L C E) → Kept s → AtOnce x (suc k) schedule s → calls_cost x (λ call. 1) schedule s + in_call x s ≤ calls_ended x schedule s + suc k

@@ -3,8 +3,9 @@ use Rattle.std.proofs.Common.{◌≡◌, ℕ, List, ◌++◌, refl}
 use Rattle.bounded_model.specs.declared.history.Event.{Event}
 use Rattle.bounded_model.specs.Histories.{own}
 use Rattle.machine.specs.Words.{same}
+use Rattle.machine.specs.Chains.{away, back}
 use Rattle.machine.specs.Schedule.{Outcome}
-use Rattle.machine.specs.Program.{Memories, Deed, new_word, with_word, with_link, onward, won, does, rests, loads, checks, follows, stores, links, attempts, swaps}
+use Rattle.machine.specs.Program.{Memories, Deed, new_word, with_word, with_link, with_slots, onward, won, does, rests, loads, checks, follows, fetches, stows, stores, links, attempts, swaps}
 use Rattle.machine.proofs.Tests.{cases, same-is}
 
 module _ {T M P Q L E : Type 0} (x : Memories T M P Q) (idle : L) (m : M) (p : ℕ) (Is : Outcome M L E → Type 0) where
@@ -14,6 +15,8 @@ module _ {T M P Q L E : Type 0} (x : Memories T M P Q) (idle : L) (m : M) (p : �
   Cases l (loads at to) = Is (onward x m (to (x.word m at)))
   Cases l (checks at w here else_) = (x.word m at ≡ w → Is (onward x m here)) × Is (onward x m else_)
   Cases l (follows at to) = Is (onward x m (to (x.link m at)))
+  Cases l (fetches at is to) = Is (onward x (with_slots x m (away (x.home m) is)) (to (x.word m at)))
+  Cases l (stows at zs to) = Is (onward x (with_slots x m (back (x.home m) zs)) to)
   Cases l (stores at w to) = Is (onward x (with_word x m at w (x.home m)) to)
   Cases l (links at k to) = Is (onward x (with_link x m at k) to)
   Cases l (attempts at old new to) = (x.word m at ≡ old → Is (onward x (with_word x m at new (x.home m)) to)) × Is (onward x m to)
@@ -24,6 +27,8 @@ module _ {T M P Q L E : Type 0} (x : Memories T M P Q) (idle : L) (m : M) (p : �
   by_cases l (loads at to) h = h
   by_cases l (checks at w here else_) h = cases Is (same (x.word m at) w) (onward x m here) (onward x m else_) (λ b. h.0 (same-is (x.word m at) w b)) (λ b. h.1)
   by_cases l (follows at to) h = h
+  by_cases l (fetches at is to) h = h
+  by_cases l (stows at zs to) h = h
   by_cases l (stores at w to) h = h
   by_cases l (links at k to) h = h
   by_cases l (attempts at old new to) h = cases Is (same (x.word m at) old) (onward x (with_word x m at new (x.home m)) to) (onward x m to) (λ b. h.0 (same-is (x.word m at) old b)) (λ b. h.1)
@@ -44,6 +49,8 @@ module _ {T M P Q L : Type 0} (x : Memories T M P Q) (idle : L) (m : M) (p q : �
   adds_own l (loads at to) h = refl
   adds_own l (checks at w here else_) h = by_cases x idle m p Kept l (checks at w here else_) (λ won. refl, refl)
   adds_own l (follows at to) h = refl
+  adds_own l (fetches at is to) h = refl
+  adds_own l (stows at zs to) h = refl
   adds_own l (stores at w to) h = refl
   adds_own l (links at k to) h = refl
   adds_own l (attempts at old new to) h = by_cases x idle m p Kept l (attempts at old new to) (λ won. refl, refl)

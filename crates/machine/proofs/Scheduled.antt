@@ -1,9 +1,9 @@
 -- What every act keeps, every schedule keeps. Proved once, for every machine.
-use Rattle.std.proofs.Common.{◌≡◌, ◌≢◌, ℕ, zero, suc, true, false, List, [], ◌∷◌, length, set, refl, sym, ap, ◌∙◌}
-use Rattle.std.proofs.lemmas.List.{length-set, length-replicate}
-use mathlib.Core.Option.{Option, none, some, some-ne-none}
+use Rattle.std.proofs.Common.{◌≡◌, ◌≢◌, ℕ, zero, suc, ◌+◌, true, false, List, [], ◌∷◌, length, set, refl, sym, ap, ◌∙◌, arith}
+use Rattle.std.proofs.lemmas.List.{length-set}
+use mathlib.Core.Option.{Option, none, some, some-injective, some-ne-none}
 use lib.ListN.{get_elem?}
-use Rattle.machine.specs.Schedule.{Machine, Pass, State, Act, Begin, Step, stepped, begun, acts_at, next, run, start, first_pass, after, having_begun, having_stepped}
+use Rattle.machine.specs.Schedule.{Machine, Pass, State, Act, Begin, Step, stepped, begun, acts_at, next, run, start, first_pass, first_passes, after, having_begun, having_stepped}
 use Rattle.machine.proofs.Tests.{cases}
 
 pub set_other : {A : Type 0} (xs : List A) (q p : ℕ) (x : A) → q ≢ p → get_elem? (set xs q x) p ≡ get_elem? xs p
@@ -44,5 +44,23 @@ module _ {M L C E : Type 0} (x : Machine M L C E) where
     steps = λ s p v k at busy. length-set s.passes p (having_stepped x s v (x.step s.memory p v.line)) ∙ k;
   }
 
+  -- the lines of so many passes that have begun nothing, from pass p on
+  abbrev pub first_lines : ℕ → ℕ → List L
+  first_lines p zero = []
+  first_lines p (suc k) = x.rest p ∷ first_lines (p + 1) k
+
+  first_length : (p k : ℕ) → length (first_passes x p k) ≡ k
+  first_length p zero = refl
+  first_length p (suc k) = ap suc (first_length (p + 1) k)
+
+  -- who stands at a place at the start
+  pub first_at : (p k q r : ℕ) (v : Pass L C E) → get_elem? (first_passes x p k) q ≡ some v → r ≡ p + q → first_pass x r ≡ v
+  first_at p zero q r v e is = absurd (some-ne-none v (sym e))
+  first_at p (suc k) zero r v e is = ap (first_pass x) (omega (arith, is)) ∙ some-injective (first_pass x p) v e
+  first_at p (suc k) (suc q) r v e is = first_at (p + 1) k q r v e (omega (arith, is))
+
+  pub start_at : (k p : ℕ) (v : Pass L C E) → get_elem? (start x k).passes p ≡ some v → first_pass x p ≡ v
+  start_at k p v e = first_at 0 k p p v e (omega arith)
+
   pub passes_after : (passes : ℕ) (schedule : List (ℕ × Act C)) → length (after x passes schedule).passes ≡ passes
-  passes_after passes schedule = run_kept x (λ s. length s.passes ≡ passes) (same_passes passes) schedule (start x passes) (length-replicate passes (first_pass x))
+  passes_after passes schedule = run_kept x (λ s. length s.passes ≡ passes) (same_passes passes) schedule (start x passes) (first_length 0 passes)

@@ -11,7 +11,7 @@ use Rattle.bounded_model.specs.Histories.{own, Later}
 use Rattle.bounded_model.proofs.Histories.{Later-refl, Later-trans, own-earlier}
 use Rattle.machine.specs.declared.seats.View.{View}
 use Rattle.machine.specs.declared.seats.View.TheVariants.{AtRoot, AtPass, AtMeeting, AtNote, AtHearing, Left}
-use Rattle.machine.specs.Seats.{IsJoined, Owns, Saw, Rooted, Knows, Fine, Seated, held_at, first_view, left_of, right_of, both_of, takes_back}
+use Rattle.machine.specs.Seats.{IsJoined, Owns, Saw, Rooted, Knows, Fine, Seated, Shares, held_at, first_view, left_of, right_of, both_of, takes_back}
 use Rattle.machine.proofs.Hands.{same_hand}
 use Rattle.machine.proofs.Sums.{at_set}
 
@@ -51,7 +51,7 @@ module _ {T : Type 0} where
 
 module _ {T L : Type 0} where
   knows_later : (h k : List (Event T)) (v : View T L) → Knows h v → Later h k → ((x : ℕ) → Owns v x → own x k ≡ own x h) → Knows k v
-  knows_later h k (AtRoot r heard) f later same = record {
+  knows_later h k (AtRoot r heard l) f later same = record {
     seen = Later-trans f.seen later;
     heard_seen = Later-trans f.heard_seen later;
     joined = account_later h k r.account f.joined (λ x j. same x (inr j));
@@ -60,69 +60,69 @@ module _ {T L : Type 0} where
     unknown = λ x le. same x (inl le) ∙ f.unknown x le;
   }
   knows_later h k (AtPass p begun l) f later same = saw_later h k p f later (same p.number refl)
-  knows_later h k (AtMeeting p q) f later same = (saw_later h k p f.0 later (same p.number (inl refl)), saw_later h k q f.1 later (same q.number (inr refl)), f.2)
+  knows_later h k (AtMeeting p a q b) f later same = (saw_later h k p f.0 later (same p.number (inl refl)), saw_later h k q f.1 later (same q.number (inr refl)), f.2)
   knows_later h k (AtNote told) f later same = Later-trans f later
-  knows_later h k (AtHearing p told) f later same = (saw_later h k p f.0 later (same p.number refl), Later-trans f.1 later)
+  knows_later h k (AtHearing p l told) f later same = (saw_later h k p f.0 later (same p.number refl), Later-trans f.1 later)
   knows_later h k Left f later same = tt
 
   -- how a cut shares out the numbers
-  left_owns : (idle : L) (v : View T L) (x : ℕ) → Owns (left_of idle v) x → Owns v x
-  left_owns idle (AtRoot r heard) x (inl le) = inl (omega arith)
-  left_owns idle (AtRoot r heard) x (inr j) = inr j
-  left_owns idle (AtMeeting p q) x o = inl o
-  left_owns idle v x o = o
+  pub left_owns : (sh : Shares L) (v : View T L) (x : ℕ) → Owns (left_of sh v) x → Owns v x
+  left_owns sh (AtRoot r heard l) x (inl le) = inl (omega arith)
+  left_owns sh (AtRoot r heard l) x (inr j) = inr j
+  left_owns sh (AtMeeting p k q l) x o = inl o
+  left_owns sh v x o = o
 
-  right_owns : (idle : L) (v : View T L) (x : ℕ) → Owns (right_of idle v) x → Owns v x
-  right_owns idle (AtRoot r heard) x o = inl (omega arith)
-  right_owns idle (AtPass p begun l) x o = absurd o
-  right_owns idle (AtMeeting p q) x o = inr o
-  right_owns idle (AtHearing p told) x o = absurd o
-  right_owns idle v x o = o
+  pub right_owns : (sh : Shares L) (v : View T L) (x : ℕ) → Owns (right_of sh v) x → Owns v x
+  right_owns sh (AtRoot r heard l) x o = inl (omega arith)
+  right_owns sh (AtPass p begun l) x o = absurd o
+  right_owns sh (AtMeeting p k q l) x o = inr o
+  right_owns sh (AtHearing p l told) x o = absurd o
+  right_owns sh v x o = o
 
-  halves_apart : (idle : L) (h : List (Event T)) (v : View T L) → Knows h v → (x : ℕ) → Owns (left_of idle v) x → Owns (right_of idle v) x → ⊥
-  halves_apart idle h (AtRoot r heard) f x (inl le) e = omega arith
-  halves_apart idle h (AtRoot r heard) f x (inr j) e = let l = joined-below r.given x r.account f.given j in omega arith
-  halves_apart idle h (AtMeeting p q) f x o e = f.2 (sym o ∙ e)
-  halves_apart idle h v f x o e = e
+  halves_apart : (sh : Shares L) (h : List (Event T)) (v : View T L) → Knows h v → (x : ℕ) → Owns (left_of sh v) x → Owns (right_of sh v) x → ⊥
+  halves_apart sh h (AtRoot r heard l) f x (inl le) e = omega arith
+  halves_apart sh h (AtRoot r heard l) f x (inr j) e = let l = joined-below r.given x r.account f.given j in omega arith
+  halves_apart sh h (AtMeeting p k q l) f x o e = f.2 (sym o ∙ e)
+  halves_apart sh h v f x o e = e
 
-  left_knows : (idle : L) (h : List (Event T)) (v : View T L) → Knows h v → Knows h (left_of idle v)
-  left_knows idle h (AtRoot r heard) f = record { seen = f.seen; heard_seen = f.heard_seen; joined = f.joined; apart = f.apart; given = below_more r.given r.account f.given; unknown = λ x le. f.unknown x (omega arith) }
-  left_knows idle h (AtPass p begun l) f = f
-  left_knows idle h (AtMeeting p q) f = f.0
-  left_knows idle h (AtNote told) f = f
-  left_knows idle h (AtHearing p told) f = f.0
-  left_knows idle h Left f = tt
+  left_knows : (sh : Shares L) (h : List (Event T)) (v : View T L) → Knows h v → Knows h (left_of sh v)
+  left_knows sh h (AtRoot r heard l) f = record { seen = f.seen; heard_seen = f.heard_seen; joined = f.joined; apart = f.apart; given = below_more r.given r.account f.given; unknown = λ x le. f.unknown x (omega arith) }
+  left_knows sh h (AtPass p begun l) f = f
+  left_knows sh h (AtMeeting p k q l) f = f.0
+  left_knows sh h (AtNote told) f = f
+  left_knows sh h (AtHearing p l told) f = f.0
+  left_knows sh h Left f = tt
 
-  right_knows : (idle : L) (h : List (Event T)) (v : View T L) → Knows h v → Knows h (right_of idle v)
-  right_knows idle h (AtRoot r heard) f = record { seen = f.seen; own_events = f.unknown r.given (omega arith) ∙ sym (own-earlier r.given f.seen (f.unknown r.given (omega arith))) }
-  right_knows idle h (AtPass p begun l) f = f.seen
-  right_knows idle h (AtMeeting p q) f = f.1
-  right_knows idle h (AtNote told) f = f
-  right_knows idle h (AtHearing p told) f = f.1
-  right_knows idle h Left f = tt
+  right_knows : (sh : Shares L) (h : List (Event T)) (v : View T L) → Knows h v → Knows h (right_of sh v)
+  right_knows sh h (AtRoot r heard l) f = record { seen = f.seen; own_events = f.unknown r.given (omega arith) ∙ sym (own-earlier r.given f.seen (f.unknown r.given (omega arith))) }
+  right_knows sh h (AtPass p begun l) f = f.seen
+  right_knows sh h (AtMeeting p k q l) f = f.1
+  right_knows sh h (AtNote told) f = f
+  right_knows sh h (AtHearing p l told) f = f.1
+  right_knows sh h Left f = tt
 
   -- and a union puts them together
-  both_owns : (v w : View T L) (x : ℕ) → Owns (both_of v w) x → Owns v x ⊎ Owns w x
-  both_owns (AtRoot r heard) (AtPass p begun l) x (inl le) = inl (inl le)
-  both_owns (AtRoot r heard) (AtPass p begun l) x (inr (inl e)) = inr e
-  both_owns (AtRoot r heard) (AtPass p begun l) x (inr (inr j)) = inl (inr j)
-  both_owns (AtPass p begun l) (AtPass q begun' l') x o = o
-  both_owns v w x o = inl o
+  pub both_owns : (sh : Shares L) (v w : View T L) (x : ℕ) → Owns (both_of sh v w) x → Owns v x ⊎ Owns w x
+  both_owns sh (AtRoot r heard l) (AtPass p begun k) x (inl le) = inl (inl le)
+  both_owns sh (AtRoot r heard l) (AtPass p begun k) x (inr (inl e)) = inr e
+  both_owns sh (AtRoot r heard l) (AtPass p begun k) x (inr (inr j)) = inl (inr j)
+  both_owns sh (AtPass p begun l) (AtPass q begun' l') x o = o
+  both_owns sh v w x o = inl o
 
-  both_knows : (h : List (Event T)) (v w : View T L) → Knows h v → Knows h w → ((x : ℕ) → Owns v x → Owns w x → ⊥) → Knows h (both_of v w)
-  both_knows h (AtRoot r heard) (AtPass p begun l) f g off = takes_back_rooted h r heard p f g (λ o. off p.number o refl)
-  both_knows h (AtPass p begun l) (AtPass q begun' l') f g off = (f, g, λ e. off p.number refl e)
-  both_knows h (AtPass p begun l) (AtNote told) f g off = (f, g)
-  both_knows h v w f g off = f
+  both_knows : (sh : Shares L) (h : List (Event T)) (v w : View T L) → Knows h v → Knows h w → ((x : ℕ) → Owns v x → Owns w x → ⊥) → Knows h (both_of sh v w)
+  both_knows sh h (AtRoot r heard l) (AtPass p begun k) f g off = takes_back_rooted h r heard p f g (λ o. off p.number o refl)
+  both_knows sh h (AtPass p begun l) (AtPass q begun' l') f g off = (f, g, λ e. off p.number refl e)
+  both_knows sh h (AtPass p begun l) (AtNote told) f g off = (f, g)
+  both_knows sh h v w f g off = f
 
-  set_swap : (l : List (View T L)) (i j : ℕ) (a b : View T L) → i ≢ j → set (set l i a) j b ≡ set (set l j b) i a
+  pub set_swap : (l : List (View T L)) (i j : ℕ) (a b : View T L) → i ≢ j → set (set l i a) j b ≡ set (set l j b) i a
   set_swap [] i j a b ne = refl
   set_swap (x ∷ l) zero zero a b ne = absurd (ne refl)
   set_swap (x ∷ l) zero (suc j) a b ne = refl
   set_swap (x ∷ l) (suc i) zero a b ne = refl
   set_swap (x ∷ l) (suc i) (suc j) a b ne = ap (λ ys. x ∷ ys) (set_swap l i j a b (λ e. ne (ap suc e)))
 
-  at_end : (l : List (View T L)) (a b : View T L) (j : ℕ) → get_elem? (l ++ a ∷ []) j ≡ some b → (get_elem? l j ≡ some b) ⊎ ((a ≡ b) × (j ≡ length l))
+  pub at_end : (l : List (View T L)) (a b : View T L) (j : ℕ) → get_elem? (l ++ a ∷ []) j ≡ some b → (get_elem? l j ≡ some b) ⊎ ((a ≡ b) × (j ≡ length l))
   at_end [] a b zero e = inr (some-injective a b e, refl)
   at_end [] a b (suc j) e = absurd (some-ne-none b (sym e))
   at_end (x ∷ xs) a b zero e = inl e
@@ -160,73 +160,82 @@ module _ {T L : Type 0} (c : Shape) (held : L → ℕ) where
         (at_end views w a i ea);
   }
 
-  left_holds : (idle : L) (v : View T L) → held idle ≡ 0 → held_at held v ≡ held_at held (left_of idle v)
-  left_holds idle (AtRoot r heard) e = refl
-  left_holds idle (AtPass p begun l) e = refl
-  left_holds idle (AtMeeting p q) e = sym e
-  left_holds idle (AtNote told) e = refl
-  left_holds idle (AtHearing p told) e = sym e
-  left_holds idle Left e = refl
+  -- the passes that a cut gives have nothing in hand
+  abbrev pub EmptyParts : Shares L → View T L → Type 0
+  EmptyParts sh (AtRoot r heard l) = held (sh.gives l).1 ≡ 0
+  EmptyParts sh (AtMeeting p k q l) = (held k ≡ 0) × (held l ≡ 0)
+  EmptyParts sh (AtHearing p l told) = held l ≡ 0
+  EmptyParts sh v = Unit {0}
 
-  right_holds : (idle : L) (v : View T L) (x : ℕ) → held idle ≡ 0 → Owns (right_of idle v) x → held_at held v ≡ held_at held (right_of idle v)
-  right_holds idle (AtRoot r heard) x e o = sym e
-  right_holds idle (AtPass p begun l) x e o = absurd o
-  right_holds idle (AtMeeting p q) x e o = sym e
-  right_holds idle v x e o = refl
+  left_holds : (sh : Shares L) (v : View T L) → EmptyParts sh v → held_at held v ≡ held_at held (left_of sh v)
+  left_holds sh (AtRoot r heard l) e = refl
+  left_holds sh (AtPass p begun l) e = refl
+  left_holds sh (AtMeeting p k q l) e = sym e.0
+  left_holds sh (AtNote told) e = refl
+  left_holds sh (AtHearing p l told) e = sym e
+  left_holds sh Left e = refl
+
+  right_holds : (sh : Shares L) (v : View T L) (x : ℕ) → EmptyParts sh v → Owns (right_of sh v) x → held_at held v ≡ held_at held (right_of sh v)
+  right_holds sh (AtRoot r heard l) x e o = sym e
+  right_holds sh (AtPass p begun l) x e o = absurd o
+  right_holds sh (AtMeeting p k q l) x e o = sym e.1
+  right_holds sh (AtNote told) x e o = refl
+  right_holds sh (AtHearing p l told) x e o = absurd o
+  right_holds sh Left x e o = refl
 
   -- a seat was cut in two
-  pub seated_split : (idle : L) (h : List (Event T)) (views : List (View T L)) (id : ℕ) (v : View T L) → held idle ≡ 0 → Seated c held h views → get_elem? views id ≡ some v → Seated c held h (set views id (left_of idle v) ++ right_of idle v ∷ [])
-  seated_split idle h views id v empty f mine =
+  pub seated_split : (sh : Shares L) (h : List (Event T)) (views : List (View T L)) (id : ℕ) (v : View T L) → EmptyParts sh v → Seated c held h views → get_elem? views id ≡ some v → Seated c held h (set views id (left_of sh v) ++ right_of sh v ∷ [])
+  seated_split sh h views id v empty f mine =
       let fine = f.each id v mine in
-      let left : Fine c held h (left_of idle v) = record { knows = left_knows idle h v fine.knows; hands = λ x o. fine.hands x (left_owns idle v x o) ∙ left_holds idle v empty } in
-      let right : Fine c held h (right_of idle v) = record { knows = right_knows idle h v fine.knows; hands = λ x o. fine.hands x (right_owns idle v x o) ∙ right_holds idle v x empty o } in
-      let s = seated_step h h views id v (left_of idle v) f mine (Later-refl h) (λ x never. refl) left (left_owns idle v) in
-      seated_new h (set views id (left_of idle v)) (right_of idle v) s right (λ j u e x o o'. ⊎_elim
-      (λ t. halves_apart idle h v fine.knows x (subst (λ (y : View T L). Owns y x) (sym t.1) o) o')
-      (λ t. f.apart j id u v t.0 t.1 mine x o (right_owns idle v x o'))
-      (at_set views id j (left_of idle v) u e))
+      let left : Fine c held h (left_of sh v) = record { knows = left_knows sh h v fine.knows; hands = λ x o. fine.hands x (left_owns sh v x o) ∙ left_holds sh v empty } in
+      let right : Fine c held h (right_of sh v) = record { knows = right_knows sh h v fine.knows; hands = λ x o. fine.hands x (right_owns sh v x o) ∙ right_holds sh v x empty o } in
+      let s = seated_step h h views id v (left_of sh v) f mine (Later-refl h) (λ x never. refl) left (left_owns sh v) in
+      seated_new h (set views id (left_of sh v)) (right_of sh v) s right (λ j u e x o o'. ⊎_elim
+      (λ t. halves_apart sh h v fine.knows x (subst (λ (y : View T L). Owns y x) (sym t.1) o) o')
+      (λ t. f.apart j id u v t.0 t.1 mine x o (right_owns sh v x o'))
+      (at_set views id j (left_of sh v) u e))
 
-  both_holds : (v w : View T L) → held_at held v ≡ 0 → 0 ≡ held_at held (both_of v w)
-  both_holds (AtRoot r heard) (AtPass p begun l) e = refl
-  both_holds (AtPass p begun l) (AtRoot s heard) e = sym e
-  both_holds (AtPass p begun l) (AtMeeting q q') e = sym e
-  both_holds (AtPass p begun l) (AtHearing q told) e = sym e
-  both_holds (AtPass p begun l) Left e = sym e
-  both_holds v w e = refl
+  both_holds : (sh : Shares L) (v w : View T L) → held_at held v ≡ 0 → 0 ≡ held_at held (both_of sh v w)
+  both_holds sh (AtRoot r heard l) (AtPass p begun k) e = refl
+  both_holds sh (AtPass p begun l) (AtRoot s heard l') e = sym e
+  both_holds sh (AtPass p begun l) (AtMeeting q k q' l') e = sym e
+  both_holds sh (AtPass p begun l) (AtHearing q l' told) e = sym e
+  both_holds sh (AtPass p begun l) Left e = sym e
+  both_holds sh v w e = refl
 
   -- a seat with empty hands was taken in by another
-  pub seated_join : (h : List (Event T)) (views : List (View T L)) (id other : ℕ) (v w : View T L) → Seated c held h views → get_elem? views id ≡ some v → other ≢ id → get_elem? views other ≡ some w → held_at held v ≡ 0 → held_at held w ≡ 0
-      → Seated c held h (set (set views id (both_of v w)) other Left)
-  seated_join h views id other v w f mine ne theirs hv hw =
+  pub seated_join : (sh : Shares L) (h : List (Event T)) (views : List (View T L)) (id other : ℕ) (v w : View T L) → Seated c held h views → get_elem? views id ≡ some v → other ≢ id → get_elem? views other ≡ some w → held_at held v ≡ 0 → held_at held w ≡ 0
+      → Seated c held h (set (set views id (both_of sh v w)) other Left)
+  seated_join sh h views id other v w f mine ne theirs hv hw =
       let gone : Fine c held h Left = record { knows = tt; hands = λ x o. absurd o } in
       let g = seated_step h h views other w Left f theirs (Later-refl h) (λ x never. refl) gone (λ x o. absurd o) in
       let off : (x : ℕ) → Owns v x → Owns w x → ⊥ = λ x o o'. f.apart id other v w (λ e. ne (sym e)) mine theirs x o o' in
       let mine_fine = f.each id v mine in
       let their_fine = f.each other w theirs in
-      let both : Fine c held h (both_of v w) = record {
-        knows = both_knows h v w mine_fine.knows their_fine.knows off;
-        hands = λ x o. ⊎_elim (λ a. mine_fine.hands x a ∙ hv) (λ b. their_fine.hands x b ∙ hw) (both_owns v w x o) ∙ both_holds v w hv;
+      let both : Fine c held h (both_of sh v w) = record {
+        knows = both_knows sh h v w mine_fine.knows their_fine.knows off;
+        hands = λ x o. ⊎_elim (λ a. mine_fine.hands x a ∙ hv) (λ b. their_fine.hands x b ∙ hw) (both_owns sh v w x o) ∙ both_holds sh v w hv;
       } in
-      subst (Seated c held h) (sym (set_swap views id other (both_of v w) Left (λ e. ne (sym e))))
-      (seated_set h h (set views other Left) id (both_of v w) g
+      subst (Seated c held h) (sym (set_swap views id other (both_of sh v w) Left (λ e. ne (sym e))))
+      (seated_set h h (set views other Left) id (both_of sh v w) g
       (λ j u nj e. g.each j u e)
       both
       (λ j u nj e x o o'. ⊎_elim
       (λ t. subst (λ (y : View T L). Owns y x) (sym t.1) o)
-      (λ t. ⊎_elim (λ a. f.apart j id u v nj t.1 mine x o a) (λ b. f.apart j other u w t.0 t.1 theirs x o b) (both_owns v w x o'))
+      (λ t. ⊎_elim (λ a. f.apart j id u v nj t.1 mine x o a) (λ b. f.apart j other u w t.0 t.1 theirs x o b) (both_owns sh v w x o'))
       (at_set views other j Left u e)))
 
-  only_first : (j : ℕ) (a v : View T L) → get_elem? (a ∷ []) j ≡ some v → (j ≡ 0) × (a ≡ v)
+  pub only_first : (j : ℕ) (a v : View T L) → get_elem? (a ∷ []) j ≡ some v → (j ≡ 0) × (a ≡ v)
   only_first zero a v e = (refl, some-injective a v e)
   only_first (suc j) a v e = absurd (some-ne-none v (sym e))
 
   -- at the start there is the root, and nothing has happened
-  pub seated_first : Seated {T = T} c held [] (first_view ∷ [])
-  seated_first =
-      let fine : Fine {T = T} c held [] first_view = record {
+  pub seated_first : (l : L) → Seated {T = T} c held [] (first_view l ∷ [])
+  seated_first l =
+      let fine : Fine {T = T} c held [] (first_view l) = record {
         knows = record { seen = Later-refl []; heard_seen = Later-refl []; joined = tt; apart = tt; given = tt; unknown = λ x le. refl };
         hands = λ x o. refl;
       } in record {
-        each = λ j v e. subst (Fine c held []) (only_first j first_view v e).1 fine;
-        apart = λ j k v w ne ev ew x o o'. let a = (only_first j first_view v ev).0 in let b = (only_first k first_view w ew).0 in ne (omega arith);
+        each = λ j v e. subst (Fine c held []) (only_first j (first_view l) v e).1 fine;
+        apart = λ j k v w ne ev ew x o o'. let a = (only_first j (first_view l) v ev).0 in let b = (only_first k (first_view l) w ew).0 in ne (omega arith);
       }

@@ -1,8 +1,8 @@
 -- The list that a new container starts with: all indexes in order.
-use Rattle.std.proofs.Common.{◌≡◌, ℕ, zero, suc, ◌+◌, ◌<◌, ◌≤◌, cond, ltb, List, [], ◌∷◌, length, refl, sym, ap, ⊎_elim, arith, eq-eqb, ne_eqb}
+use Rattle.std.proofs.Common.{◌≡◌, ℕ, zero, suc, ◌+◌, ◌<◌, ◌≤◌, cond, ltb, List, [], ◌∷◌, length, refl, sym, ap, ⊎_elim, lt_of_not-le, arith, eq-eqb, ne_eqb}
 use Rattle.std.proofs.lemmas.Bool.Decides.{nat_tests, eqb_tells}
 use Rattle.machine.specs.Words.{times, Stands, start_link}
-use Rattle.machine.proofs.Tests.{cases}
+use Rattle.machine.proofs.Tests.{cases, not_below}
 use Rattle.machine.proofs.Lists.{times_here, times_else}
 
 unfoldable pub from : ℕ → ℕ → List ℕ
@@ -34,6 +34,10 @@ from_within j (suc k) i h l = ⊎_elim
 
 pub from_all : (j n : ℕ) → times j (from 0 n) ≡ cond (ltb j n) 1 0
 from_all j n = cases (λ x. times j (from 0 n) ≡ x) (ltb j n) 1 0 (λ h. from_within j n 0 (omega arith) (grind (arith, nat_tests))) (λ h. from_above j n 0 (grind (arith, nat_tests)))
+
+-- what is among the first n numbers is below their number
+pub from_low : (n j : ℕ) → 0 < times j (from 0 n) → j < n
+from_low n j there = lt_of_not-le (λ above. absurd (omega (arith, from_all j n, not_below j n above)))
 
 pub from_length : (k i : ℕ) → length (from i k) ≡ k
 unfolding from

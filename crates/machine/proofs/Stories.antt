@@ -1,17 +1,17 @@
 -- A machine's rule holds in every schedule, and with it what each line says of the histories that its
 -- pass had seen at the begin of its call and has seen by now. Proved once, for every machine.
-use Rattle.std.proofs.Common.{◌≡◌, ◌≢◌, ℕ, zero, suc, true, false, List, [], ◌∷◌, ◌++◌, map, set, replicate, refl, sym, ap, ◌∙◌, subst, ⊎_elim}
+use Rattle.std.proofs.Common.{◌≡◌, ◌≢◌, ℕ, zero, suc, ◌+◌, true, false, List, [], ◌∷◌, ◌++◌, map, set, replicate, refl, sym, ap, ◌∙◌, subst, ⊎_elim}
 use Rattle.std.proofs.lemmas.List.{map-set}
 use mathlib.Core.Option.{Option, none, some}
 use lib.ListN.{get_elem?}
 use Rattle.bounded_model.specs.declared.history.Event.{Event}
 use Rattle.bounded_model.specs.Histories.{Later, own}
 use Rattle.bounded_model.proofs.Histories.{Later-refl, Later-trans, own-between}
-use Rattle.machine.specs.Schedule.{Machine, Pass, State, stepped, begun, start, first_pass, having_begun, having_stepped}
+use Rattle.machine.specs.Schedule.{Machine, Pass, State, stepped, begun, start, first_passes, having_begun, having_stepped}
 use Rattle.machine.specs.Seen.{Knows}
 use Rattle.machine.proofs.Ahead.{Ahead}
-use Rattle.machine.proofs.Scheduled.{Holds}
-use Rattle.machine.proofs.Sums.{at_set, at_map, same_at}
+use Rattle.machine.proofs.Scheduled.{Holds, first_lines, start_at}
+use Rattle.machine.proofs.Sums.{at_set, at_map}
 
 -- A rule of memories, the lines of all passes and histories; and a story, what the line of pass p says,
 -- which began this call at the history `begun`, and has seen `seen` by now
@@ -101,16 +101,29 @@ module _ {T M L C : Type 0} (x : Machine M L C (Event T)) (Rule : M → List L �
   pub stays_holds : Told x Rule Story → Holds x Stays
   stays_holds t = record { begins = λ s p v k e. begun_stays t s p v k e; steps = λ s p v k e. stepped_stays t s p v k e }
 
-  rest_lines : (passes : ℕ) → lines_of (replicate passes (first_pass x)) ≡ replicate passes x.rest
-  rest_lines zero = refl
-  rest_lines (suc k) = ap (λ (ls : List L). x.rest ∷ ls) (rest_lines k)
+  lines_first : (p k : ℕ) → lines_of (first_passes x p k) ≡ first_lines x p k
+  lines_first p zero = refl
+  lines_first p (suc k) = ap (λ (ls : List L). x.rest p ∷ ls) (lines_first (p + 1) k)
 
-  pub start_rules : (passes : ℕ) → Rule x.first (replicate passes x.rest) [] → Rules (start x passes)
-  start_rules passes rule = subst (λ (ls : List L). Rule x.first ls []) (sym (rest_lines passes)) rule
+  -- they are alike where each pass starts at one line
+  alike : (l : L) → ((p : ℕ) → x.rest p ≡ l) → (p k : ℕ) → replicate k l ≡ first_lines x p k
+  alike l same p zero = refl
+  alike l same p (suc k) = λ i. sym (same p) i ∷ alike l same (p + 1) k i
 
-  pub start_stays : (passes : ℕ) → Rule x.first (replicate passes x.rest) [] → ((p : ℕ) → Story p none x.rest [] []) → Stays (start x passes)
+  pub start_rules : (passes : ℕ) → Rule x.first (first_lines x 0 passes) [] → Rules (start x passes)
+  start_rules passes rule = subst (λ (ls : List L). Rule x.first ls []) (sym (lines_first 0 passes)) rule
+
+  pub start_stays : (passes : ℕ) → Rule x.first (first_lines x 0 passes) [] → ((p : ℕ) → Story p none (x.rest p) [] []) → Stays (start x passes)
   start_stays passes rule story = record {
     rule = start_rules passes rule;
-    knows = λ p v e. subst (λ (u : Pass L C (Event T)). Knows p u []) (same_at passes p (first_pass x) v e) (record { before = Later-refl []; now = Later-refl []; own_events = refl });
-    story = λ p v e. subst (λ (u : Pass L C (Event T)). Story p u.call u.line u.begun u.seen) (same_at passes p (first_pass x) v e) (story p);
+    knows = λ p v e. subst (λ (u : Pass L C (Event T)). Knows p u []) (start_at x passes p v e) (record { before = Later-refl []; now = Later-refl []; own_events = refl });
+    story = λ p v e. subst (λ (u : Pass L C (Event T)). Story p u.call u.line u.begun u.seen) (start_at x passes p v e) (story p);
   }
+
+  -- the same where each pass starts at one line
+  module _ (l : L) (same : (p : ℕ) → x.rest p ≡ l) (passes : ℕ) (rule : Rule x.first (replicate passes l) []) where
+    pub start_rules_alike : Rules (start x passes)
+    start_rules_alike = start_rules passes (subst (λ (ls : List L). Rule x.first ls []) (alike l same 0 passes) rule)
+
+    pub start_stays_alike : ((p : ℕ) → Story p none l [] []) → Stays (start x passes)
+    start_stays_alike story = start_stays passes (subst (λ (ls : List L). Rule x.first ls []) (alike l same 0 passes) rule) (λ p. subst (λ (k : L). Story p none k [] []) (sym (same p)) (story p))

@@ -13,6 +13,13 @@ pub either_way : {C : Type 0} (b : Bool) → (b ≡ true → C) → (b ≡ false
 either_way true f g = f refl
 either_way false f g = g refl
 
+-- where a number is below a bound, and where it is not
+pub if_below : {A : Type 0} (i n : ℕ) (x y : A) → i < n → cond (ltb i n) x y ≡ x
+if_below i n x y low = cases (λ v. v ≡ x) (ltb i n) x y (λ b. refl) (λ b. absurd (grind (arith, nat_tests)))
+
+pub if_not_below : {A : Type 0} (i n : ℕ) (x y : A) → n ≤ i → cond (ltb i n) x y ≡ y
+if_not_below i n x y past = cases (λ v. v ≡ y) (ltb i n) x y (λ b. absurd (grind (arith, nat_tests))) (λ b. refl)
+
 -- a test that cannot fail holds, and one that cannot hold fails
 pub is_true : (b : Bool) → (b ≡ false → ⊥) → b ≡ true
 is_true true h = refl

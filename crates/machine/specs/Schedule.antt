@@ -1,6 +1,6 @@
 -- A pure machine and its schedules: any number of passes begin calls and make steps, one act after
 -- another, in any order. A container shows its machine as one record, and this runs it.
-use Rattle.std.specs.Prelude.{ℕ, if◌then◌else◌, Bool, List, [], ◌∷◌, ◌++◌, set, replicate}
+use Rattle.std.specs.Prelude.{ℕ, zero, suc, ◌+◌, if◌then◌else◌, Bool, List, [], ◌∷◌, ◌++◌, set}
 use mathlib.Core.Option.{Option, none, some}
 use lib.ListN.{get_elem?}
 
@@ -13,9 +13,9 @@ pub record Outcome (M L E : Type 0) : Type 0 where
 
 -- A machine of memories, lines, calls and events
 pub record Machine (M L C E : Type 0) : Type 0 where
-  -- the memory before the first act, and the line of a pass that has begun nothing
+  -- the memory before the first act, and the line of each pass that has begun nothing
   pub first : M
-  pub rest : L
+  pub rest : ℕ → L
   -- whether a pass at a line is between two calls, and the line at which it then begins one
   pub is_idle : L → Bool
   pub starts : C → L → L
@@ -79,11 +79,16 @@ module _ {M L C E : Type 0} (x : Machine M L C E) where
   run [] s = s
   run (a ∷ more) s = run more (next s a)
 
-  abbrev pub first_pass : Pass L C E
-  first_pass = record { line = x.rest; call = none; begun = []; seen = [] }
+  abbrev pub first_pass : ℕ → Pass L C E
+  first_pass p = record { line = x.rest p; call = none; begun = []; seen = [] }
+
+  -- so many passes, from pass p on
+  abbrev pub first_passes : ℕ → ℕ → List (Pass L C E)
+  first_passes p zero = []
+  first_passes p (suc k) = first_pass p ∷ first_passes (p + 1) k
 
   abbrev pub start : ℕ → State M L C E
-  start passes = record { memory = x.first; passes = replicate passes first_pass; history = [] }
+  start passes = record { memory = x.first; passes = first_passes 0 passes; history = [] }
 
   -- the state after a schedule of so many passes
   abbrev pub after : ℕ → Schedule C → State M L C E

@@ -5,18 +5,36 @@
 use bounded_model::{Event, PassView, RootView};
 use std::collections::LinkedList;
 
+/// What a pass does to a machine of lines `L`.
+pub enum Doing<L> {
+    /// It begins an operation, at its first line.
+    Begins(L),
+    /// It makes the step of its line.
+    Steps,
+    /// It loads a word, and that belongs to no line.
+    Looks,
+}
+
+/// What a pass knew as its operation was begun: itself as it was, and what all passes had done by then.
+/// And what they have done by its last step. Of both the newest stands first.
+pub struct Begun<T, L> {
+    pub view: PassView<T>,
+    pub before: LinkedList<(u64, Doing<L>)>,
+    pub now: LinkedList<(u64, Doing<L>)>,
+}
+
 /// What one seat knows; `L` is what the passes of this container are at between two steps.
 pub enum View<T, L> {
-    /// The root, and what the pass that it has just joined had seen.
-    AtRoot(RootView<T>, LinkedList<Event<T>>),
-    /// A pass: as it is, as it was when its operation was begun, and its line.
-    AtPass(PassView<T>, PassView<T>, L),
-    /// Two passes that meet in one seat.
-    AtMeeting(PassView<T>, PassView<T>),
+    /// The root, what the pass that it has just joined had seen, and its line.
+    AtRoot(RootView<T>, LinkedList<Event<T>>, L),
+    /// A pass: as it is, what it knew as its operation was begun, and its line.
+    AtPass(PassView<T>, Begun<T, L>, L),
+    /// Two passes that meet in one seat, each with its line.
+    AtMeeting(PassView<T>, L, PassView<T>, L),
     /// A note: what its pass had seen when it was made.
     AtNote(LinkedList<Event<T>>),
-    /// A pass that hears a note.
-    AtHearing(PassView<T>, LinkedList<Event<T>>),
+    /// A pass that hears a note, and its line.
+    AtHearing(PassView<T>, L, LinkedList<Event<T>>),
     /// A seat that was joined to another.
     Left,
 }

@@ -29,7 +29,7 @@ use Rattle.ms_queue.specs.declared.closing.CloseAt.TheVariants.{Seeking, Mark}
 use Rattle.ms_queue.specs.declared.seeking.Seek.{Seek}
 use Rattle.ms_queue.specs.declared.seeking.End.{End}
 use Rattle.ms_queue.specs.declared.seeking.End.TheVariants.{Closed as EndClosed, Open}
-use Rattle.ms_queue.specs.Closing.{close_line, HasReadToClose}
+use Rattle.ms_queue.specs.Closing.{close_account, close_line, HasReadToClose}
 use Rattle.ms_queue.specs.Queue.{room_of, limit_of, machine_of, shape_of}
 use Rattle.ms_queue.specs.Seeking.{Seeks, SoughtTo}
 use Rattle.ms_queue.proofs.Seeks.{busy, sought_within}
@@ -72,7 +72,7 @@ marking (Done (Open w x)) = On (Mark w x)
 
 module _ {T : Type 0} (c : Queue T) where
   abbrev pub ClosesTo : CloseAt → List (ℕ × Slot T) → Next CloseAt Bool → Line T → Type 0
-  ClosesTo s has to l = Leads names (λ x. CloseFirst) close_line (λ x. []) (λ at. HasReadToClose (room_of c) (limit_of c) at) (λ x b. ends (AnswerClose b)) (λ a. []) s l has to
+  ClosesTo s has to l = Leads names (close_account c.table.shared.key) s l has to
 
   abbrev pub Closing : CloseAt → Outcome → List (ℕ × Slot T) → Next CloseAt Bool → Type 0
   Closing s r has to = Finding (machine_of c).core (close_line s) r [] has (λ found came. ClosesTo s has to (next (limit_of c) (close_line s) found came))

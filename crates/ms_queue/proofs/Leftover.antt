@@ -133,8 +133,9 @@ module _ {T : Type 0} where
   values_home homes slots same (i ∷ is) [] has = absurd has
 
   -- what a table that was closed with the root's seat has left
-  pub leaves_all : (n limit id : ℕ) (v : View T (Line T)) (r : RootView T) (words : List ℕ) (slots : List (Slot T)) → Final (Seen (Rule (queue T n limit)) id v) words slots → v ≡ AtRoot r [] → IsSound (shape n limit) r → length slots ≡ n
+  pub leaves_all : {root : Line T} (n limit id : ℕ) (v : View T (Line T)) (r : RootView T) (words : List ℕ) (slots : List (Slot T)) → (final : Final (Seen (Rule (queue T n limit)) id v) words slots) → v ≡ AtRoot r [] root → IsSound (shape n limit) r → length slots ≡ n
       → (index_of (slice_index words head_at) ≤ n) × Leaves (shape n limit) r (left_along words slots (node_behind words (index_of (slice_index words head_at))))
+      × (left_along words slots (node_behind words (index_of (slice_index words head_at))) ≡ (state (shape n limit) final.1.0.history).values)
   leaves_all n limit id v r words slots final is sound long =
       let rule = final.1.0 in
       let s = final.0 in
@@ -154,7 +155,7 @@ module _ {T : Type 0} where
       (λ j there. let low = node_below j linked (omega (arith, there, times_rest j chain)) in omega (arith, long, low))
       (λ i. subst (λ (is : List ℕ). times i is ≤ 1) cells (at_most_once i n _ _ _ (linked.cells_once i)))
       stands stored in
-      (front, subst (λ (vs : List T). Leaves (shape n limit) r vs) (sym are) (leaves (shape n limit) rule.history r [] k.good.told.legal rooted sound))
+      (front, subst (λ (vs : List T). Leaves (shape n limit) r vs) (sym are) (leaves (shape n limit) rule.history r [] k.good.told.legal rooted sound), are)
     where
       at_most_once : (j n a b c : ℕ) → a + b + c ≡ cond (ltb j n) 1 0 → b ≤ 1
       at_most_once j n a b c e = cases (λ v. a + b + c ≡ v → b ≤ 1) (ltb j n) 1 0 (λ _ q. omega arith) (λ _ q. omega arith) e

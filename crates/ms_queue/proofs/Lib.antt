@@ -6,3 +6,4 @@ pub mod Crossing
 pub mod Takes
 pub mod Puts
 pub mod Stepping
+pub mod FastPath

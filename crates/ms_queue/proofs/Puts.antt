@@ -40,7 +40,7 @@ use Rattle.ms_queue.specs.declared.seeking.Seek.{Seek}
 use Rattle.ms_queue.specs.declared.seeking.End.{End}
 use Rattle.ms_queue.specs.declared.seeking.End.TheVariants.{Closed as AtMark, Open as AtNull}
 use Rattle.ms_queue.specs.Giving.{AreHeld, Gives, GaveTo}
-use Rattle.ms_queue.specs.Putting.{linking, refused, put_of, put_value, put_line, put_slots, full_slot, HasReadToPut}
+use Rattle.ms_queue.specs.Putting.{put_account, linking, refused, put_of, put_value, put_line, put_slots, full_slot, HasReadToPut}
 use Rattle.ms_queue.specs.Queue.{room_of, limit_of, machine_of, shape_of}
 use Rattle.ms_queue.specs.Seeking.{Seeks, SoughtTo}
 use Rattle.ms_queue.proofs.Gives.{busy_giving, gave_within}
@@ -111,7 +111,7 @@ module _ {T : Type 0} where
 -- where the code of a put goes on
 module _ {T : Type 0} (c : Queue T) where
   abbrev pub PutsTo : PutAt T → List (ℕ × Slot T) → Onward (PutAt T) (Result ℕ (PutRefused T)) → Line T → Type 0
-  PutsTo s has to l = Leads names (λ a. put_of (put_value a)) put_line put_slots (λ a. HasReadToPut (room_of c) (limit_of c) a) (λ x r. ends (AnswerPut r)) (λ a. []) s l has to
+  PutsTo s has to l = Leads names (put_account c.table.shared.key) s l has to
 
   abbrev pub Putting : PutAt T → Outcome → List (ℕ × Slot T) → List (ℕ × Slot T) → Onward (PutAt T) (Result ℕ (PutRefused T)) → Type 0
   Putting s r had has to = Finding (machine_of c).core (put_line s) r (put_slots s) had (λ found came. PutsTo s has to (next (limit_of c) (put_line s) found came))

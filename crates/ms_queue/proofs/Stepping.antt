@@ -8,21 +8,14 @@ use Rattle.bounded_model.specs.declared.views.PassView.{PassView}
 use Rattle.bounded_model.specs.Laws.{PutGives, TakeGives, CloseGives, ShutGives, LookGives}
 use Rattle.bounded_model.specs.Stepping.{Underway, no_step, OneStep, GoesOn as Further, MatchStepped}
 use Rattle.queue_machine.specs.declared.lines.Line.{Line}
+use Rattle.queue_table.specs.Lines.{call_of}
+use Rattle.running.specs.Ops.{OpStep}
 use Rattle.running.specs.Passes.{pass_in}
 use Rattle.running.specs.declared.passes.Pass.{Pass}
-use Rattle.ms_queue.specs.Closing.{IsClosing, CloseStep}
-use Rattle.ms_queue.specs.Looking.{IsLooking, LookStep}
-use Rattle.ms_queue.specs.Putting.{IsPutting, PutStep}
-use Rattle.ms_queue.specs.Queue.{shape_of, begun_of, IsPassOf}
-use Rattle.ms_queue.specs.Shutting.{IsShutting, ShutStep}
+use Rattle.ms_queue.specs.Putting.{IsPutting, PutOp, put_account, put_promises}
+use Rattle.ms_queue.specs.Queue.{machine_of, shape_of, begun_of, IsPassOf}
 use Rattle.ms_queue.specs.Stepwise.{underway_in}
-use Rattle.ms_queue.specs.Taking.{IsTaking, TakeStep}
-use Rattle.ms_queue.specs.declared.closing.CloseOp.{CloseOp}
-use Rattle.ms_queue.specs.declared.looking.LookOp.{LookOp}
-use Rattle.ms_queue.specs.declared.putting.PutOp.{PutOp}
 use Rattle.ms_queue.specs.declared.queue.Queue.{Queue}
-use Rattle.ms_queue.specs.declared.shutting.ShutOp.{ShutOp}
-use Rattle.ms_queue.specs.declared.taking.TakeOp.{TakeOp}
 
 module _ {T : Type 0} (c : Queue T) where
   -- a pass that has begun an operation has made no step of it
@@ -31,32 +24,9 @@ module _ {T : Type 0} (c : Queue T) where
       let first : underway_in q ≡ record { begun = pass_in p; now = pass_in q } = ap (λ (v : PassView T). let u : Underway T = record { begun = v; now = pass_in q } in u) begun in
       first ∙ ap (λ (v : PassView T). let u : Underway T = record { begun = pass_in p; now = v } in u) now
 
-  pub put_steps : (x : T) (op : PutOp T) (r : Stepped (PutOp T) (Pass T (Line T)) (Result ℕ (PutRefused T))) → PutStep c x op r
+  pub put_steps : (x : T) (op : PutOp T) (r : Stepped (PutOp T) (Pass T (Line T)) (Result ℕ (PutRefused T))) → IsPutting c x op
+      → OpStep (machine_of c) (put_account c.table.shared.key) c.table.shared.table_id (put_promises c.table.shared.key) op r
       → MatchStepped r (λ next. IsPutting c x next × Further (underway_in op.pass) (underway_in next.pass))
       (λ back answer. IsPassOf c back × OneStep (pass_in op.pass) (pass_in back) × PutGives (shape_of c) (begun_of c op.pass) x (pass_in back) answer)
-  put_steps x op (Again next) s = (s.0, record { begun = s.1.0; step = s.1.1.1 })
-  put_steps x op (Done back answer) s = (s.0, s.2.1, s.1)
-
-  pub take_steps : (op : TakeOp T) (r : Stepped (TakeOp T) (Pass T (Line T)) (Result (T × ℕ) TakeRefused)) → TakeStep c op.pass op.at r
-      → MatchStepped r (λ next. IsTaking c next × Further (underway_in op.pass) (underway_in next.pass))
-      (λ back answer. IsPassOf c back × OneStep (pass_in op.pass) (pass_in back) × TakeGives (shape_of c) (begun_of c op.pass) (pass_in back) answer)
-  take_steps op (Again next) s = (s.0, record { begun = s.1.0; step = s.1.1.1 })
-  take_steps op (Done back answer) s = (s.0, s.2.1, s.1)
-
-  pub close_steps : (op : CloseOp T) (r : Stepped (CloseOp T) (Pass T (Line T)) Bool) → CloseStep c op.pass op.at r
-      → MatchStepped r (λ next. IsClosing c next × Further (underway_in op.pass) (underway_in next.pass))
-      (λ back closed. IsPassOf c back × OneStep (pass_in op.pass) (pass_in back) × CloseGives (shape_of c) (begun_of c op.pass) (pass_in back) closed)
-  close_steps op (Again next) s = (s.0, record { begun = s.1.0; step = s.1.1.1 })
-  close_steps op (Done back closed) s = (s.0, s.2.1, s.1)
-
-  pub shut_steps : (op : ShutOp T) (r : Stepped (ShutOp T) (Pass T (Line T)) Bool) → ShutStep c op.pass op.at r
-      → MatchStepped r (λ next. IsShutting c next × Further (underway_in op.pass) (underway_in next.pass))
-      (λ back shut. IsPassOf c back × OneStep (pass_in op.pass) (pass_in back) × ShutGives (shape_of c) (begun_of c op.pass) (pass_in back) shut)
-  shut_steps op (Again next) s = (s.0, record { begun = s.1.0; step = s.1.1.1 })
-  shut_steps op (Done back shut) s = (s.0, s.2.1, s.1)
-
-  pub look_steps : (op : LookOp T) (r : Stepped (LookOp T) (Pass T (Line T)) Bool) → LookStep c op.pass op.at r
-      → MatchStepped r (λ next. IsLooking c next × Further (underway_in op.pass) (underway_in next.pass))
-      (λ back empty. IsPassOf c back × OneStep (pass_in op.pass) (pass_in back) × LookGives (shape_of c) (begun_of c op.pass) (pass_in back) empty)
-  look_steps op (Again next) s = (s.0, record { begun = s.1.0; step = s.1.1.1 })
-  look_steps op (Done back empty) s = (s.0, s.2.1, s.1)
+  put_steps x op (Again next) is s = (record { of = ap call_of s.2 ∙ is.of; under_way = s.0 }, s.1)
+  put_steps x op (Done back answer) is s = (s.0, s.1, s.2 x is.of)

@@ -36,7 +36,7 @@ use Rattle.ms_queue.specs.declared.taking.TakeAt.{TakeAt}
 use Rattle.ms_queue.specs.declared.taking.TakeAt.TheVariants.{TakeHead as TakeFirstNode, GiveBack}
 use Rattle.ms_queue.specs.Giving.{AreHeld, Gives, GaveTo}
 use Rattle.ms_queue.specs.Queue.{room_of, limit_of, machine_of, shape_of}
-use Rattle.ms_queue.specs.Taking.{took, take_line, take_slots, HasReadToTake}
+use Rattle.ms_queue.specs.Taking.{take_account, took, take_line, take_slots, HasReadToTake}
 use Rattle.ms_queue.proofs.Gives.{busy_giving, gave_within}
 use Rattle.ms_queue.proofs.Closes.{adds_of}
 
@@ -73,7 +73,7 @@ returning t (Done x) = Done (Ok (t.value, t.number))
 
 module _ {T : Type 0} (c : Queue T) where
   abbrev pub TakesTo : TakeAt T → List (ℕ × Slot T) → Next (TakeAt T) (Result (T × ℕ) TakeRefused) → Line T → Type 0
-  TakesTo s has to l = Leads names (λ x. First) take_line take_slots (λ at. HasReadToTake (room_of c) (limit_of c) at) (λ x a. ends (AnswerTake a)) (λ a. []) s l has to
+  TakesTo s has to l = Leads names (take_account c.table.shared.key) s l has to
 
   abbrev pub Taking : TakeAt T → Outcome → List (ℕ × Slot T) → List (ℕ × Slot T) → Next (TakeAt T) (Result (T × ℕ) TakeRefused) → Type 0
   Taking s r had has to = Finding (machine_of c).core (take_line s) r (take_slots s) had (λ found came. TakesTo s has to (next (limit_of c) (take_line s) found came))

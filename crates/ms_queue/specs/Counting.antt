@@ -1,6 +1,11 @@
 -- Counts made by steps.
 use Rattle.std.specs.Prelude.{ℕ, ◌+◌, ◌<◌, []}
 use Rattle.tagged_index.specs.Fields.{fields_of, index_of}
+use Rattle.tagged_index.specs.Limits.{capacity_of, tag_limit_of}
+use Rattle.tagged_index.specs.declared.limit.Limits.{Limits}
+use Rattle.running.specs.Code.{Account, to_answer}
+use Rattle.running.specs.Steps.{Stands}
+use Rattle.queue_table.specs.declared.operation.Operation.{Operation}
 use Rattle.bounded_model.specs.declared.answers.Stepped.{Stepped}
 use Rattle.bounded_model.specs.declared.answers.Stepped.TheVariants.{Again, Done}
 use Rattle.bounded_model.specs.Laws.{LenGives}
@@ -15,7 +20,7 @@ use Rattle.ms_queue.specs.declared.counting.LenOp.{LenOp}
 use Rattle.ms_queue.specs.declared.counting.LenAt.{LenAt}
 use Rattle.ms_queue.specs.declared.counting.LenAt.TheVariants.{LoadHead, LoadTail, LoadNext, CheckHead}
 use Rattle.ms_queue.specs.declared.queue.Queue.{Queue}
-use Rattle.ms_queue.specs.Queue.{room_of, shape_of, begun_of, IsPassOf, IsAt, OneLine, WentOn}
+use Rattle.ms_queue.specs.Queue.{machine_of, room_of, shape_of, begun_of, IsPassOf, IsAt, OneLine, WentOn}
 
 -- what was read names a node
 abbrev pub HasReadToCount : ℕ → LenAt → Type 0
@@ -30,12 +35,16 @@ module _ {T : Type 0} where
   len_line (LoadNext h w) = LoadNextToCount (fields_of h) (fields_of w)
   len_line (CheckHead h w x) = CheckHeadToCount (fields_of h) (fields_of w) (fields_of x)
 
-  pub record IsCountingAt (c : Queue T) (p : Pass T (Line T)) (at : LenAt) : Type 0 where
-    pub line : IsAt c LenFirst p (len_line at) []
-    pub read : HasReadToCount (room_of c) at
+  -- how it is read
+  abbrev pub len_account : Limits → Account T (Line T) (Operation T) LenAt ℕ
+  len_account k = to_answer (λ at. LenFirst) len_line (λ at. []) (λ at. HasReadToCount (capacity_of k) at) (λ o count. ends (AnswerLen count))
+
+  -- a whole call is at this
+  abbrev pub LenStands : Queue T → Pass T (Line T) → LenAt → Type 0
+  LenStands c p at = Stands (machine_of c) (len_account c.table.shared.key) c.table.shared.table_id p at
 
   abbrev pub IsCounting : Queue T → LenOp T → Type 0
-  IsCounting c op = IsCountingAt c op.pass op.at
+  IsCounting c op = LenStands c op.pass op.at
 
   -- what a step gives
   abbrev pub LenStep : Queue T → Pass T (Line T) → LenAt → Stepped (LenOp T) (Pass T (Line T)) ℕ → Type 0

@@ -3,6 +3,7 @@ pub mod Seeking
 pub mod Closing
 pub mod Giving
 pub mod Left
+pub mod Ran
 pub mod Taking
 pub mod Shutting
 pub mod Counting
@@ -11,3 +12,4 @@ pub mod Naming
 pub mod Putting
 pub mod Stepwise
 pub mod Trying
+pub mod KeepsAnswers

@@ -1,6 +1,12 @@
 -- Looks made by steps.
 use Rattle.std.specs.Prelude.{ℕ, ◌+◌, ◌<◌, Bool, []}
 use Rattle.tagged_index.specs.Fields.{fields_of, index_of}
+use Rattle.tagged_index.specs.Limits.{capacity_of, tag_limit_of}
+use Rattle.tagged_index.specs.declared.limit.Limits.{Limits}
+use Rattle.running.specs.Code.{Account, to_answer}
+use Rattle.running.specs.Ops.{IsUnderWay}
+use Rattle.running.specs.Steps.{Stands}
+use Rattle.queue_table.specs.declared.operation.Operation.{Operation}
 use Rattle.bounded_model.specs.declared.answers.Stepped.{Stepped}
 use Rattle.bounded_model.specs.declared.answers.Stepped.TheVariants.{Again, Done}
 use Rattle.bounded_model.specs.Laws.{LookGives}
@@ -11,17 +17,20 @@ use Rattle.queue_machine.specs.Machine.{ends}
 use Rattle.queue_table.specs.declared.operation.Operation.TheVariants.{Look as LookFirst}
 use Rattle.running.specs.Passes.{pass_in}
 use Rattle.running.specs.declared.passes.Pass.{Pass}
-use Rattle.ms_queue.specs.declared.looking.LookOp.{LookOp}
+use Rattle.running.specs.declared.op.Op.{Op}
 use Rattle.ms_queue.specs.declared.looking.LookAt.{LookAt}
 use Rattle.ms_queue.specs.declared.looking.LookAt.TheVariants.{LoadHead, LoadNext, CheckHead}
 use Rattle.ms_queue.specs.declared.queue.Queue.{Queue}
-use Rattle.ms_queue.specs.Queue.{room_of, shape_of, begun_of, IsPassOf, IsAt, OneLine, WentOn}
+use Rattle.ms_queue.specs.Queue.{machine_of, room_of, shape_of, begun_of, IsPassOf, IsAt, OneLine, WentOn}
 
 -- what was read names a node
 abbrev pub HasReadToLook : ℕ → LookAt → Type 0
 HasReadToLook n LoadHead = Unit {0}
 HasReadToLook n (LoadNext h) = index_of h < n + 1
 HasReadToLook n (CheckHead h x) = Unit {0}
+
+abbrev pub LookOp : Type 0 → Type 0
+LookOp T = Op T (Line T) (Operation T) LookAt
 
 module _ {T : Type 0} where
   -- the machine's line
@@ -30,14 +39,13 @@ module _ {T : Type 0} where
   look_line (LoadNext h) = LoadNextToLook (fields_of h)
   look_line (CheckHead h x) = CheckHeadToLook (fields_of h) (fields_of x)
 
-  pub record IsLookingAt (c : Queue T) (p : Pass T (Line T)) (at : LookAt) : Type 0 where
-    pub line : IsAt c LookFirst p (look_line at) []
-    pub read : HasReadToLook (room_of c) at
+  -- how it is read
+  abbrev pub look_account : Limits → Account T (Line T) (Operation T) LookAt Bool
+  look_account k = to_answer (λ at. LookFirst) look_line (λ at. []) (λ at. HasReadToLook (capacity_of k) at) (λ o empty. ends (AnswerLook empty))
+
+  -- a whole call is at this
+  abbrev pub LookStands : Queue T → Pass T (Line T) → LookAt → Type 0
+  LookStands c p at = Stands (machine_of c) (look_account c.table.shared.key) c.table.shared.table_id p at
 
   abbrev pub IsLooking : Queue T → LookOp T → Type 0
-  IsLooking c op = IsLookingAt c op.pass op.at
-
-  -- what a step gives
-  abbrev pub LookStep : Queue T → Pass T (Line T) → LookAt → Stepped (LookOp T) (Pass T (Line T)) Bool → Type 0
-  LookStep c p at (Again next) = IsLooking c next × WentOn c p next.pass (look_line at) (look_line next.at)
-  LookStep c p at (Done q b) = IsPassOf c q × LookGives (shape_of c) (begun_of c p) (pass_in q) b × OneLine c p q (look_line at) (ends (AnswerLook b))
+  IsLooking c op = IsUnderWay (machine_of c) (look_account c.table.shared.key) c.table.shared.table_id op

@@ -2,6 +2,9 @@
 use Rattle.std.specs.Prelude.{◌≡◌, ℕ, ◌+◌, ◌<◌, ◌≤◌, List, [], ◌∷◌, Option as Slot, Some, Result, Err}
 use Rattle.tagged_index.specs.Fields.{fields_of, index_of, tag_of}
 use Rattle.tagged_index.specs.declared.word.TheConstants.{NULL}
+use Rattle.tagged_index.specs.Limits.{capacity_of, tag_limit_of}
+use Rattle.tagged_index.specs.declared.limit.Limits.{Limits}
+use Rattle.running.specs.Code.{Account, to_answer}
 use Rattle.bounded_model.specs.declared.answers.Stepped.{Stepped}
 use Rattle.bounded_model.specs.declared.answers.Stepped.TheVariants.{Again, Done}
 use Rattle.bounded_model.specs.declared.answers.PutRefused.{PutRefused}
@@ -24,12 +27,18 @@ use Rattle.running.specs.Passes.{pass_in}
 use Rattle.running.specs.declared.passes.Pass.{Pass}
 use Rattle.ms_queue.specs.declared.queue.Queue.{Queue}
 use Rattle.ms_queue.specs.declared.giving.Held.{Held}
-use Rattle.ms_queue.specs.declared.putting.PutOp.{PutOp}
+use Rattle.running.specs.declared.op.Op.{Op}
+use Rattle.running.specs.Ops.{IsUnderWay}
+use Rattle.bounded_model.specs.declared.views.PassView.{PassView}
+use Rattle.queue_machine.specs.Answers.{shape}
 use Rattle.ms_queue.specs.declared.putting.PutAt.{PutAt}
 use Rattle.ms_queue.specs.declared.putting.PutAt.TheVariants.{LoadCells as AtCells, LoadCellLink as AtCellLink, TakeCell as AtTakeCell, Refusing, LoadNodes as AtNodes, LoadNodeLink as AtNodeLink, TakeNode as AtTakeNode, StoreCell as AtStoreCell, LoadNext as AtNext, PrepareNext as AtPrepare, Seeking, LinkNext as AtLink, SwingTail, GiveBack}
 use Rattle.ms_queue.specs.Queue.{room_of, limit_of, machine_of, shape_of, begun_of, IsPassOf, IsAt, OneLine, WentOn}
 use Rattle.ms_queue.specs.Giving.{give_line, held_slot, AreHeld}
 use Rattle.ms_queue.specs.Seeking.{seek_line, IsRead}
+
+abbrev pub PutOp : Type 0 → Type 0
+PutOp T = Op T (Line T) (Operation T) (PutAt T)
 
 module _ {T : Type 0} where
   abbrev pub linking : T → Held → Linking T
@@ -114,22 +123,23 @@ module _ {T : Type 0} where
   HasReadToPut n limit (SwingTail shown w y) = tag_of w < limit
   HasReadToPut n limit (GiveBack why held at) = AreHeld n held
 
+  -- how it is read
+  abbrev pub put_account : Limits → Account T (Line T) (Operation T) (PutAt T) (Result ℕ (PutRefused T))
+  put_account k = to_answer (λ at. put_of (put_value at)) put_line put_slots (λ at. HasReadToPut (capacity_of k) (tag_limit_of k) at) (λ o r. ends (AnswerPut r))
+
   -- a put of x, by its operation, which is also the put of the value that it has
   pub record IsPutting (c : Queue T) (x : T) (op : PutOp T) : Type 0 where
     pub of : call_of op.operation ≡ CallPut x
-    pub named : call_of op.operation ≡ CallPut (put_value op.at)
-    pub line : IsAt c (put_of (put_value op.at)) op.pass (put_line op.at) (put_slots op.at)
-    pub read : HasReadToPut (room_of c) (limit_of c) op.at
+    pub under_way : IsUnderWay (machine_of c) (put_account c.table.shared.key) c.table.shared.table_id op
 
-  -- what a step of it gives
-  abbrev pub PutStep : Queue T → T → PutOp T → Stepped (PutOp T) (Pass T (Line T)) (Result ℕ (PutRefused T)) → Type 0
-  PutStep c x op (Again next) = IsPutting c x next × WentOn c op.pass next.pass (put_line op.at) (put_line next.at)
-  PutStep c x op (Done q r) = IsPassOf c q × PutGives (shape_of c) (begun_of c op.pass) x (pass_in q) r × OneLine c op.pass q (put_line op.at) (ends (AnswerPut r))
+  -- what it promises: that it is a put of whichever value it is a put of
+  abbrev pub put_promises : Limits → Operation T → PassView T → PassView T → Result ℕ (PutRefused T) → Type 0
+  put_promises k o begun now r = (x : T) → call_of o ≡ CallPut x → PutGives (shape (capacity_of k) (tag_limit_of k)) begun x now r
 
   -- a whole call of this operation is at this
   abbrev pub PutStands : Queue T → Operation T → Pass T (Line T) → PutAt T → Type 0
-  PutStands c o p at = (o ≡ put_of (put_value at)) × Stands (machine_of c) {A = Result ℕ (PutRefused T)} (λ s. put_of (put_value s)) put_line put_slots (λ s. HasReadToPut (room_of c) (limit_of c) s) (λ x r. ends (AnswerPut r)) (λ a. []) c.table.shared.table_id p at
+  PutStands c o p at = (o ≡ put_of (put_value at)) × Stands (machine_of c) (put_account c.table.shared.key) c.table.shared.table_id p at
 
   -- what some steps of it give
   abbrev pub PutRan : Queue T → Operation T → Pass T (Line T) → Pass T (Line T) → Next (PutAt T) (Result ℕ (PutRefused T)) → Type 0
-  PutRan c o p q r = Ran (machine_of c) (λ s. put_of (put_value s)) put_line put_slots (λ s. HasReadToPut (room_of c) (limit_of c) s) (λ x a. ends (AnswerPut a)) (λ a. []) c.table.shared.table_id o p q r
+  PutRan c o p q r = Ran (machine_of c) (put_account c.table.shared.key) c.table.shared.table_id o p q r

@@ -1,6 +1,12 @@
 -- Shuts made by steps.
 use Rattle.std.specs.Prelude.{Bool, []}
 use Rattle.tagged_index.specs.Fields.{fields_of}
+use Rattle.tagged_index.specs.Limits.{capacity_of, tag_limit_of}
+use Rattle.tagged_index.specs.declared.limit.Limits.{Limits}
+use Rattle.running.specs.Code.{Account, to_answer}
+use Rattle.running.specs.Ops.{IsUnderWay}
+use Rattle.running.specs.Steps.{Stands}
+use Rattle.queue_table.specs.declared.operation.Operation.{Operation}
 use Rattle.bounded_model.specs.declared.answers.Stepped.{Stepped}
 use Rattle.bounded_model.specs.declared.answers.Stepped.TheVariants.{Again, Done}
 use Rattle.bounded_model.specs.Laws.{ShutGives}
@@ -11,11 +17,14 @@ use Rattle.queue_machine.specs.Machine.{ends}
 use Rattle.queue_table.specs.declared.operation.Operation.TheVariants.{Shut as ShutFirst}
 use Rattle.running.specs.Passes.{pass_in}
 use Rattle.running.specs.declared.passes.Pass.{Pass}
-use Rattle.ms_queue.specs.declared.shutting.ShutOp.{ShutOp}
+use Rattle.running.specs.declared.op.Op.{Op}
 use Rattle.ms_queue.specs.declared.shutting.ShutAt.{ShutAt}
 use Rattle.ms_queue.specs.declared.shutting.ShutAt.TheVariants.{LoadHead, Mark}
 use Rattle.ms_queue.specs.declared.queue.Queue.{Queue}
-use Rattle.ms_queue.specs.Queue.{shape_of, begun_of, IsPassOf, IsAt, OneLine, WentOn}
+use Rattle.ms_queue.specs.Queue.{machine_of, shape_of, begun_of, IsPassOf, IsAt, OneLine, WentOn}
+
+abbrev pub ShutOp : Type 0 → Type 0
+ShutOp T = Op T (Line T) (Operation T) ShutAt
 
 module _ {T : Type 0} where
   -- the machine's line
@@ -23,13 +32,13 @@ module _ {T : Type 0} where
   shut_line LoadHead = LoadHeadToShut
   shut_line (Mark h) = ShutHead (fields_of h)
 
-  abbrev pub IsShuttingAt : Queue T → Pass T (Line T) → ShutAt → Type 0
-  IsShuttingAt c p at = IsAt c ShutFirst p (shut_line at) []
+  -- how it is read
+  abbrev pub shut_account : Limits → Account T (Line T) (Operation T) ShutAt Bool
+  shut_account k = to_answer (λ at. ShutFirst) shut_line (λ at. []) (λ at. Unit {0}) (λ o shut. ends (AnswerShut shut))
+
+  -- a whole call is at this
+  abbrev pub ShutStands : Queue T → Pass T (Line T) → ShutAt → Type 0
+  ShutStands c p at = Stands (machine_of c) (shut_account c.table.shared.key) c.table.shared.table_id p at
 
   abbrev pub IsShutting : Queue T → ShutOp T → Type 0
-  IsShutting c op = IsShuttingAt c op.pass op.at
-
-  -- what a step gives
-  abbrev pub ShutStep : Queue T → Pass T (Line T) → ShutAt → Stepped (ShutOp T) (Pass T (Line T)) Bool → Type 0
-  ShutStep c p at (Again next) = IsShutting c next × WentOn c p next.pass (shut_line at) (shut_line next.at)
-  ShutStep c p at (Done q b) = IsPassOf c q × ShutGives (shape_of c) (begun_of c p) (pass_in q) b × OneLine c p q (shut_line at) (ends (AnswerShut b))
+  IsShutting c op = IsUnderWay (machine_of c) (shut_account c.table.shared.key) c.table.shared.table_id op

@@ -2,6 +2,9 @@
 use Rattle.std.specs.Prelude.{◌≢◌, ℕ, ◌+◌, ◌<◌, ◌≤◌, List, [], Option as Slot, Result, Ok}
 use Rattle.tagged_index.specs.Fields.{fields_of, index_of, tag_of}
 use Rattle.tagged_index.specs.declared.word.TheConstants.{NULL}
+use Rattle.tagged_index.specs.Limits.{capacity_of, tag_limit_of}
+use Rattle.tagged_index.specs.declared.limit.Limits.{Limits}
+use Rattle.running.specs.Code.{Account, to_answer}
 use Rattle.bounded_model.specs.declared.answers.Stepped.{Stepped}
 use Rattle.bounded_model.specs.declared.answers.Stepped.TheVariants.{Again, Done}
 use Rattle.bounded_model.specs.declared.answers.TakeRefused.{TakeRefused}
@@ -14,16 +17,20 @@ use Rattle.queue_machine.specs.Machine.{ends}
 use Rattle.queue_table.specs.declared.operation.Operation.{Operation}
 use Rattle.queue_table.specs.declared.operation.Operation.TheVariants.{Take as TakeFirst}
 use Rattle.running.specs.Passes.{pass_in}
+use Rattle.running.specs.Ops.{IsUnderWay}
 use Rattle.running.specs.Steps.{Stands, Ran}
 use Rattle.running.specs.declared.code.Next.{Next}
 use Rattle.running.specs.declared.passes.Pass.{Pass}
 use Rattle.ms_queue.specs.declared.queue.Queue.{Queue}
 use Rattle.ms_queue.specs.declared.taking.Taken.{Taken}
-use Rattle.ms_queue.specs.declared.taking.TakeOp.{TakeOp}
+use Rattle.running.specs.declared.op.Op.{Op}
 use Rattle.ms_queue.specs.declared.taking.TakeAt.{TakeAt}
 use Rattle.ms_queue.specs.declared.taking.TakeAt.TheVariants.{LoadHead as LoadHeadFirst, LoadTail, LoadNext, CheckHead as CheckHeadAgain, SwingTail, LoadCell as LoadFirstCell, TakeHead as TakeFirstNode, GiveBack}
 use Rattle.ms_queue.specs.Queue.{room_of, limit_of, machine_of, shape_of, begun_of, IsPassOf, IsAt, OneLine, WentOn}
 use Rattle.ms_queue.specs.Giving.{give_line, held_slot, AreHeld}
+
+abbrev pub TakeOp : Type 0 → Type 0
+TakeOp T = Op T (Line T) (Operation T) (TakeAt T)
 
 module _ {T : Type 0} where
   abbrev pub took : Taken T → Answer T
@@ -56,22 +63,17 @@ module _ {T : Type 0} where
   HasReadToTake n limit (TakeFirstNode h x k) = (index_of h < n + 1) × (index_of x < n + 1) × (k ≤ NULL) × (tag_of h < limit)
   HasReadToTake n limit (GiveBack t at) = AreHeld n t.held
 
-  pub record IsTakingAt (c : Queue T) (p : Pass T (Line T)) (at : TakeAt T) : Type 0 where
-    pub line : IsAt c TakeFirst p (take_line at) (take_slots at)
-    pub read : HasReadToTake (room_of c) (limit_of c) at
-
-  abbrev pub IsTaking : Queue T → TakeOp T → Type 0
-  IsTaking c op = IsTakingAt c op.pass op.at
-
-  -- what a step gives
-  abbrev pub TakeStep : Queue T → Pass T (Line T) → TakeAt T → Stepped (TakeOp T) (Pass T (Line T)) (Result (T × ℕ) TakeRefused) → Type 0
-  TakeStep c p at (Again next) = IsTaking c next × WentOn c p next.pass (take_line at) (take_line next.at)
-  TakeStep c p at (Done q r) = IsPassOf c q × TakeGives (shape_of c) (begun_of c p) (pass_in q) r × OneLine c p q (take_line at) (ends (AnswerTake r))
+  -- how it is read
+  abbrev pub take_account : Limits → Account T (Line T) (Operation T) (TakeAt T) (Result (T × ℕ) TakeRefused)
+  take_account k = to_answer (λ at. TakeFirst) take_line take_slots (λ at. HasReadToTake (capacity_of k) (tag_limit_of k) at) (λ o r. ends (AnswerTake r))
 
   -- a whole call is at this
   abbrev pub TakeStands : Queue T → Pass T (Line T) → TakeAt T → Type 0
-  TakeStands c p at = Stands (machine_of c) {A = Result (T × ℕ) TakeRefused} (λ x. TakeFirst) take_line take_slots (λ s. HasReadToTake (room_of c) (limit_of c) s) (λ x a. ends (AnswerTake a)) (λ a. []) c.table.shared.table_id p at
+  TakeStands c p at = Stands (machine_of c) (take_account c.table.shared.key) c.table.shared.table_id p at
+
+  abbrev pub IsTaking : Queue T → TakeOp T → Type 0
+  IsTaking c op = IsUnderWay (machine_of c) (take_account c.table.shared.key) c.table.shared.table_id op
 
   -- what some steps of it give
   abbrev pub TakeRan : Queue T → Operation T → Pass T (Line T) → Pass T (Line T) → Next (TakeAt T) (Result (T × ℕ) TakeRefused) → Type 0
-  TakeRan c o p q r = Ran (machine_of c) (λ x. TakeFirst) take_line take_slots (λ at. HasReadToTake (room_of c) (limit_of c) at) (λ x a. ends (AnswerTake a)) (λ a. []) c.table.shared.table_id o p q r
+  TakeRan c o p q r = Ran (machine_of c) (take_account c.table.shared.key) c.table.shared.table_id o p q r

@@ -1,26 +1,18 @@
 -- A call that made a bounded number of steps: it is under way, begun as before, or it gave what the whole call gives.
-use Rattle.std.specs.Prelude.{◌≡◌, ℕ, Bool, Result}
+use Rattle.std.specs.Prelude.{◌≡◌, ℕ, Result}
 use Rattle.bounded_model.specs.declared.answers.PutRefused.{PutRefused}
 use Rattle.bounded_model.specs.declared.answers.Stepped.{Stepped}
 use Rattle.bounded_model.specs.declared.answers.TakeRefused.{TakeRefused}
 use Rattle.bounded_model.specs.declared.views.PassView.{PassView}
-use Rattle.bounded_model.specs.Laws.{PutGives, TakeGives, CloseGives, ShutGives, LookGives}
+use Rattle.bounded_model.specs.Laws.{PutGives, TakeGives}
 use Rattle.bounded_model.specs.Stepping.{MatchStepped}
 use Rattle.queue_machine.specs.declared.lines.Line.{Line}
 use Rattle.running.specs.Passes.{pass_in}
 use Rattle.running.specs.declared.passes.Pass.{Pass}
-use Rattle.ms_queue.specs.declared.looking.LookOp.{LookOp}
-use Rattle.ms_queue.specs.declared.closing.CloseOp.{CloseOp}
-use Rattle.ms_queue.specs.declared.shutting.ShutOp.{ShutOp}
-use Rattle.ms_queue.specs.declared.putting.PutOp.{PutOp}
 use Rattle.ms_queue.specs.declared.queue.Queue.{Queue}
-use Rattle.ms_queue.specs.declared.taking.TakeOp.{TakeOp}
-use Rattle.ms_queue.specs.Closing.{IsClosing}
-use Rattle.ms_queue.specs.Looking.{IsLooking}
-use Rattle.ms_queue.specs.Putting.{IsPutting}
+use Rattle.ms_queue.specs.Putting.{IsPutting, PutOp}
 use Rattle.ms_queue.specs.Queue.{shape_of, begun_of, IsPassOf}
-use Rattle.ms_queue.specs.Shutting.{IsShutting}
-use Rattle.ms_queue.specs.Taking.{IsTaking}
+use Rattle.ms_queue.specs.Taking.{IsTaking, TakeOp}
 
 module _ {T : Type 0} (c : Queue T) where
   abbrev pub PutTried : T → PassView T → Stepped (PutOp T) (Pass T (Line T)) (Result ℕ (PutRefused T)) → Type 0
@@ -32,18 +24,3 @@ module _ {T : Type 0} (c : Queue T) where
   TakeTried begun made = MatchStepped made
       (λ next. IsTaking c next × (begun_of c next.pass ≡ begun))
       (λ back answer. IsPassOf c back × TakeGives (shape_of c) begun (pass_in back) answer)
-
-  abbrev pub CloseTried : PassView T → Stepped (CloseOp T) (Pass T (Line T)) Bool → Type 0
-  CloseTried begun made = MatchStepped made
-      (λ next. IsClosing c next × (begun_of c next.pass ≡ begun))
-      (λ back closed. IsPassOf c back × CloseGives (shape_of c) begun (pass_in back) closed)
-
-  abbrev pub ShutTried : PassView T → Stepped (ShutOp T) (Pass T (Line T)) Bool → Type 0
-  ShutTried begun made = MatchStepped made
-      (λ next. IsShutting c next × (begun_of c next.pass ≡ begun))
-      (λ back shut. IsPassOf c back × ShutGives (shape_of c) begun (pass_in back) shut)
-
-  abbrev pub LookTried : PassView T → Stepped (LookOp T) (Pass T (Line T)) Bool → Type 0
-  LookTried begun made = MatchStepped made
-      (λ next. IsLooking c next × (begun_of c next.pass ≡ begun))
-      (λ back empty. IsPassOf c back × LookGives (shape_of c) begun (pass_in back) empty)

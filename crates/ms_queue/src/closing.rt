@@ -2,32 +2,30 @@
 ghost use Rattle.std.specs.Prelude.{◌≡◌};
 ghost use Rattle.bounded_model.specs.Laws.{CloseGives};
 ghost use Rattle.running.specs.Passes.{pass_in};
-ghost use Rattle.ms_queue.specs.Closing.{IsClosing, CloseStep};
+ghost use Rattle.ms_queue.specs.Closing.{IsClosing};
 ghost use Rattle.ms_queue.specs.Queue.{IsPassOf, begun_of, shape_of};
+ghost use Rattle.ms_queue.specs.Ran.{WasRun};
+ghost use Rattle.queue_machine.specs.declared.lines.Answer.TheVariants.{Close as AnswerClose};
+ghost use Rattle.queue_table.specs.declared.operation.Operation.TheVariants.{Close as CloseFirst};
 
 use crate::queue::{Pass, Queue};
 use crate::rule::Queued;
 use crate::seeking::{End, Seek};
 use atomic_table::Seat;
-use bounded_model::Stepped;
 use machine::seats::View;
 use queue_machine::Line;
 use queue_table::Operation;
 use queue_table::layout::next;
-use running::{Access, Code, Next, Outcome, first_step, raised, single_step, to_the_end};
+use running::{Access, Call, Code, Next, Op, Outcome, first_step, raised, to_the_end};
 use std::sync::Wait;
 use tagged_index::{NULL, Tagged};
 
 /// A close that was begun.
-#[derive(Drop)]
-pub struct CloseOp<T> {
-    pub(crate) pass: Pass<T>,
-    pub(crate) at: CloseAt,
-}
+pub type CloseOp<T> = Op<T, Line<T>, Operation<T>, CloseAt>;
 
 /// The next step of a close.
 #[derive(Drop)]
-pub(crate) enum CloseAt {
+pub enum CloseAt {
     /// On the way to the end of the chain.
     Seeking(Seek),
     /// Compare-and-swap the last node's `next` for null with the mark.
@@ -42,18 +40,17 @@ impl<T> Queue<T> {
         ensures { IsClosing self.now result
             × (begun_of self.now result.pass ≡ pass_in by) × (pass_in result.pass ≡ pass_in by) }
     {
-        CloseOp {
-            pass: by,
-            at: CloseAt::Seeking(Seek::LoadTail),
-        }
+        Op::begin(self, by, Operation::Close, CloseAt::Seeking(Seek::LoadTail))
     }
 
-    /// Closes the queue by a whole call, and returns whether it did.
+    /// Closes the queue by a whole call, as `close` of `Container`, and returns whether it did. The
+    /// call was a run of the machine's steps.
     #[inline]
-    pub(crate) fn close_whole<R: Wait>(&self, rt: &R, by: Pass<T>) -> (Pass<T>, bool)
+    pub fn close_whole<R: Wait>(&self, rt: &R, by: Pass<T>) -> (Pass<T>, bool)
         requires { IsPassOf self.now by }
-        ensures { IsPassOf self.now result.0
+        ensures gives { IsPassOf self.now result.0
             × CloseGives (shape_of self.now) (pass_in by) (pass_in result.0) result.1 }
+        ensures ran { WasRun self.now CloseFirst (pass_in by) result.0 (AnswerClose result.1) }
     {
         let table = &self.table.shared;
         let close = Operation::Close;
@@ -63,26 +60,9 @@ impl<T> Queue<T> {
 }
 
 impl<T> Code<Queue<T>, T, Line<T>, Operation<T>, Queued, bool, 2> for CloseAt {
-    ghost use Rattle.std.specs.Prelude.{[]};
-    ghost use Rattle.queue_machine.specs.declared.lines.Answer.TheVariants.{Close as AnswerClose};
-    ghost use Rattle.queue_machine.specs.Machine.{ends};
-    ghost use Rattle.queue_table.specs.declared.operation.Operation.TheVariants.{Close as CloseFirst};
-    ghost use Rattle.ms_queue.specs.Closing.{close_line, HasReadToClose};
-    ghost use Rattle.ms_queue.specs.Queue.{room_of, limit_of};
+    ghost use Rattle.ms_queue.specs.Closing.{close_account};
 
-    ghost key = { λ c. c.table.shared.key };
-
-    ghost id = { λ c. c.table.shared.table_id };
-
-    ghost operation = { λ _. CloseFirst };
-
-    ghost line = { close_line };
-
-    ghost slots = { λ _. [] };
-
-    ghost knows = { λ c at. HasReadToClose (room_of c) (limit_of c) at };
-
-    ghost answer = { λ _ closed. ends (AnswerClose closed) };
+    ghost account = { close_account };
 
     #[inline(always)]
     fn access(&self, on: &Queue<T>) -> Access {
@@ -122,18 +102,13 @@ impl<T> Code<Queue<T>, T, Line<T>, Operation<T>, Queued, bool, 2> for CloseAt {
     }
 }
 
-impl<T> CloseOp<T> {
-    /// One atomic step. Returns whether this operation closed the queue.
-    #[inline]
-    pub fn step(self, queue: &Queue<T>) -> Stepped<CloseOp<T>, Pass<T>, bool>
-        requires { IsClosing queue.now self }
-        ensures { CloseStep queue.now self.pass self.at result }
-    {
-        let table = &queue.table.shared;
-        let made = single_step(table, queue, self.pass, self.at, &Operation::Close);
-        match made {
-            Stepped::Again((pass, at)) => Stepped::Again(CloseOp { pass, at }),
-            Stepped::Done(pass, closed) => Stepped::Done(pass, closed),
-        }
-    }
+impl<T> Call<Queue<T>, T, Line<T>, Operation<T>, Queued, bool, 2> for CloseAt {
+    ghost use Rattle.std.specs.Prelude.{refl};
+    ghost use Rattle.ms_queue.specs.KeepsAnswers.{close_promises, close_keeps};
+
+    ghost promises = { close_promises };
+
+    ghost idle = { λ key o answer. refl };
+
+    ghost keeps = { close_keeps };
 }

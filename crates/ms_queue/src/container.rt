@@ -1,7 +1,7 @@
 //! A queue as a container. A whole call runs an operation until it answers.
 use crate::queue::{Note, Pass, Queue, Root};
 use crate::rest::Rest;
-use bounded_model::{Container, Order, PutRefused, TakeRefused};
+use bounded_model::{Container, MAX_PASSES, Order, PutRefused, TakeRefused};
 use std::sync::Wait;
 
 impl<T: Drop + Send> Container<T> for Queue<T> {
@@ -51,7 +51,7 @@ impl<T: Drop + Send> Container<T> for Queue<T> {
 
     /// The new pass has seen what the root has.
     fn split(&self, parent: &mut Root<T>) -> Option<Pass<T>> {
-        running::split(&self.table.shared, parent)
+        running::split(&self.table.shared, parent, MAX_PASSES)
     }
 
     #[inline(always)]

@@ -67,26 +67,9 @@ impl<T> Queue<T> {
 }
 
 impl<T> Code<Queue<T>, T, Line<T>, Operation<T>, Queued, u64, 2> for LenAt {
-    ghost use Rattle.std.specs.Prelude.{[]};
-    ghost use Rattle.queue_machine.specs.declared.lines.Answer.TheVariants.{Len as AnswerLen};
-    ghost use Rattle.queue_machine.specs.Machine.{ends};
-    ghost use Rattle.queue_table.specs.declared.operation.Operation.TheVariants.{Len as LenFirst};
-    ghost use Rattle.ms_queue.specs.Counting.{len_line, HasReadToCount};
-    ghost use Rattle.ms_queue.specs.Queue.{room_of};
+    ghost use Rattle.ms_queue.specs.Counting.{len_account};
 
-    ghost key = { λ c. c.table.shared.key };
-
-    ghost id = { λ c. c.table.shared.table_id };
-
-    ghost operation = { λ _. LenFirst };
-
-    ghost line = { len_line };
-
-    ghost slots = { λ _. [] };
-
-    ghost knows = { λ c at. HasReadToCount (room_of c) at };
-
-    ghost answer = { λ _ k. ends (AnswerLen k) };
+    ghost account = { len_account };
 
     #[inline(always)]
     fn access(&self, _on: &Queue<T>) -> Access {

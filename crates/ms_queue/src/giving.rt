@@ -14,7 +14,7 @@ use tagged_index::Tagged;
 
 /// The node and the cell that are to be given back. The cell's slot is empty.
 #[derive(Clone, Copy)]
-pub(crate) struct Held {
+pub struct Held {
     pub(crate) cell: u32,
     pub(crate) node: u32,
     /// Nothing: it starts the pair at a multiple of 8 bytes, so that it is moved as one word.
@@ -23,7 +23,7 @@ pub(crate) struct Held {
 
 /// The next step of giving back, with what was read.
 #[derive(Drop)]
-pub(crate) enum Give {
+pub enum Give {
     /// Load `NODES`.
     LoadNodes,
     /// Link the node to the free one.

@@ -17,7 +17,6 @@ mod closing;
 mod container;
 mod counting;
 mod ending;
-mod fast_path;
 mod giving;
 mod looking;
 mod making;

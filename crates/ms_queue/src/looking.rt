@@ -3,30 +3,25 @@ ghost use Rattle.std.specs.Prelude.{◌≡◌};
 ghost use Rattle.bounded_model.specs.Laws.{LookGives};
 ghost use Rattle.running.specs.Passes.{pass_in};
 ghost use Rattle.ms_queue.specs.Queue.{IsPassOf, begun_of, shape_of};
-ghost use Rattle.ms_queue.specs.Looking.{IsLooking, LookStep};
+ghost use Rattle.ms_queue.specs.Looking.{IsLooking};
 
 use crate::queue::{Pass, Queue};
 use crate::rule::Queued;
 use atomic_table::Seat;
-use bounded_model::Stepped;
 use machine::seats::View;
 use queue_machine::Line;
 use queue_table::Operation;
 use queue_table::layout::{HEAD, next};
-use running::{Access, Code, Next, Outcome, first_step, single_step, to_the_end};
+use running::{Access, Call, Code, Next, Op, Outcome, first_step, to_the_end};
 use std::sync::Wait;
 use tagged_index::{NULL, Tagged};
 
 /// A look that was begun.
-#[derive(Drop)]
-pub struct LookOp<T> {
-    pub(crate) pass: Pass<T>,
-    pub(crate) at: LookAt,
-}
+pub type LookOp<T> = Op<T, Line<T>, Operation<T>, LookAt>;
 
 /// The next step of a look.
 #[derive(Drop)]
-pub(crate) enum LookAt {
+pub enum LookAt {
     /// Load `HEAD`.
     LoadHead,
     /// Load `next` of the node that it named.
@@ -56,34 +51,14 @@ impl<T> Queue<T> {
         ensures { IsLooking self.now result
             × (begun_of self.now result.pass ≡ pass_in by) × (pass_in result.pass ≡ pass_in by) }
     {
-        LookOp {
-            pass: by,
-            at: LookAt::LoadHead,
-        }
+        Op::begin(self, by, Operation::Look, LookAt::LoadHead)
     }
 }
 
 impl<T> Code<Queue<T>, T, Line<T>, Operation<T>, Queued, bool, 2> for LookAt {
-    ghost use Rattle.std.specs.Prelude.{[]};
-    ghost use Rattle.queue_machine.specs.declared.lines.Answer.TheVariants.{Look as AnswerLook};
-    ghost use Rattle.queue_machine.specs.Machine.{ends};
-    ghost use Rattle.queue_table.specs.declared.operation.Operation.TheVariants.{Look as LookFirst};
-    ghost use Rattle.ms_queue.specs.Looking.{look_line, HasReadToLook};
-    ghost use Rattle.ms_queue.specs.Queue.{room_of};
+    ghost use Rattle.ms_queue.specs.Looking.{look_account};
 
-    ghost key = { λ c. c.table.shared.key };
-
-    ghost id = { λ c. c.table.shared.table_id };
-
-    ghost operation = { λ _. LookFirst };
-
-    ghost line = { look_line };
-
-    ghost slots = { λ _. [] };
-
-    ghost knows = { λ c at. HasReadToLook (room_of c) at };
-
-    ghost answer = { λ _ empty. ends (AnswerLook empty) };
+    ghost account = { look_account };
 
     #[inline(always)]
     fn access(&self, _on: &Queue<T>) -> Access {
@@ -117,18 +92,13 @@ impl<T> Code<Queue<T>, T, Line<T>, Operation<T>, Queued, bool, 2> for LookAt {
     }
 }
 
-impl<T> LookOp<T> {
-    /// One atomic step. Returns whether the queue was empty.
-    #[inline]
-    pub fn step(self, queue: &Queue<T>) -> Stepped<LookOp<T>, Pass<T>, bool>
-        requires { IsLooking queue.now self }
-        ensures { LookStep queue.now self.pass self.at result }
-    {
-        let table = &queue.table.shared;
-        let made = single_step(table, queue, self.pass, self.at, &Operation::Look);
-        match made {
-            Stepped::Again((pass, at)) => Stepped::Again(LookOp { pass, at }),
-            Stepped::Done(pass, empty) => Stepped::Done(pass, empty),
-        }
-    }
+impl<T> Call<Queue<T>, T, Line<T>, Operation<T>, Queued, bool, 2> for LookAt {
+    ghost use Rattle.std.specs.Prelude.{refl};
+    ghost use Rattle.ms_queue.specs.KeepsAnswers.{look_promises, look_keeps};
+
+    ghost promises = { look_promises };
+
+    ghost idle = { λ key o answer. refl };
+
+    ghost keeps = { look_keeps };
 }

@@ -46,89 +46,76 @@ fn give_step<T>(held: &Held, at: &Give) -> StepName
     }
 }
 
-impl<T> PutOp<T> {
-    // Of a put.
-    fn next_step(&self) -> StepName
-        ensures { IsNextStep (put_line self.now.at) result }
-    {
-        match &self.at {
-            PutAt::LoadCells(_) => StepName::Load(Location::Cells),
-            PutAt::LoadCellLink(_, cells) => StepName::Load(Location::CellLink(cells.index())),
-            PutAt::TakeCell(_, _, _) => StepName::CompareAndSwap(Location::Cells, Location::Cells),
-            PutAt::Refusing(_, at) => seek_step::<T>(at),
-            PutAt::LoadNodes(_, _) => StepName::Load(Location::Nodes),
-            PutAt::LoadNodeLink(_, _, nodes) => StepName::Load(Location::NodeLink(nodes.index())),
-            PutAt::TakeNode(_, _, _, _) => StepName::CompareAndSwap(
-                Location::Nodes,
-                Location::Nodes,
-            ),
-            PutAt::StoreCell(_, held) => StepName::Store(Location::Cell(held.node)),
-            PutAt::LoadNext(_, held) => StepName::Load(Location::Next(held.node)),
-            PutAt::PrepareNext(_, held, _) => StepName::Store(Location::Next(held.node)),
-            PutAt::Seeking(_, _, at) => seek_step::<T>(at),
-            PutAt::LinkNext(_, _, tail, _) => {
-                StepName::CompareAndSwap(Location::Next(tail.index()), Location::Tail)
-            }
-            PutAt::SwingTail(_, _, _) => StepName::Attempt(Location::Tail),
-            PutAt::GiveBack(_, held, at) => give_step::<T>(held, at),
+// Of a put.
+fn put_name<T>(at: &PutAt<T>) -> StepName
+    ensures { IsNextStep (put_line at.now) result }
+{
+    match at {
+        PutAt::LoadCells(_) => StepName::Load(Location::Cells),
+        PutAt::LoadCellLink(_, cells) => StepName::Load(Location::CellLink(cells.index())),
+        PutAt::TakeCell(_, _, _) => StepName::CompareAndSwap(Location::Cells, Location::Cells),
+        PutAt::Refusing(_, at) => seek_step::<T>(at),
+        PutAt::LoadNodes(_, _) => StepName::Load(Location::Nodes),
+        PutAt::LoadNodeLink(_, _, nodes) => StepName::Load(Location::NodeLink(nodes.index())),
+        PutAt::TakeNode(_, _, _, _) => StepName::CompareAndSwap(Location::Nodes, Location::Nodes),
+        PutAt::StoreCell(_, held) => StepName::Store(Location::Cell(held.node)),
+        PutAt::LoadNext(_, held) => StepName::Load(Location::Next(held.node)),
+        PutAt::PrepareNext(_, held, _) => StepName::Store(Location::Next(held.node)),
+        PutAt::Seeking(_, _, at) => seek_step::<T>(at),
+        PutAt::LinkNext(_, _, tail, _) => {
+            StepName::CompareAndSwap(Location::Next(tail.index()), Location::Tail)
+        }
+        PutAt::SwingTail(_, _, _) => StepName::Attempt(Location::Tail),
+        PutAt::GiveBack(_, held, at) => give_step::<T>(held, at),
+    }
+}
+
+// Of a take.
+fn take_name<T>(at: &TakeAt<T>) -> StepName
+    ensures { IsNextStep (take_line at.now) result }
+{
+    match at {
+        TakeAt::LoadHead => StepName::Load(Location::Head),
+        TakeAt::LoadTail(_) => StepName::Load(Location::Tail),
+        TakeAt::LoadNext(head, _) => StepName::Load(Location::Next(head.index())),
+        TakeAt::CheckHead(_, _, _) => StepName::Load(Location::Head),
+        TakeAt::SwingTail(_, _) => StepName::Attempt(Location::Tail),
+        TakeAt::LoadCell(_, link) => StepName::Load(Location::Cell(link.index())),
+        TakeAt::TakeHead(_, _, _) => StepName::CompareAndSwap(Location::Head, Location::Head),
+        TakeAt::GiveBack(taken, at) => give_step::<T>(&taken.held, at),
+    }
+}
+
+// Of a close.
+fn close_name<T>(at: &CloseAt) -> StepName
+    ensures { IsNextStep {T = T} (close_line at.now) result }
+{
+    match at {
+        CloseAt::Seeking(at) => seek_step::<T>(at),
+        CloseAt::Mark(tail, _) => {
+            StepName::CompareAndSwap(Location::Next(tail.index()), Location::Tail)
         }
     }
 }
 
-impl<T> TakeOp<T> {
-    // Of a take.
-    fn next_step(&self) -> StepName
-        ensures { IsNextStep (take_line self.now.at) result }
-    {
-        match &self.at {
-            TakeAt::LoadHead => StepName::Load(Location::Head),
-            TakeAt::LoadTail(_) => StepName::Load(Location::Tail),
-            TakeAt::LoadNext(head, _) => StepName::Load(Location::Next(head.index())),
-            TakeAt::CheckHead(_, _, _) => StepName::Load(Location::Head),
-            TakeAt::SwingTail(_, _) => StepName::Attempt(Location::Tail),
-            TakeAt::LoadCell(_, link) => StepName::Load(Location::Cell(link.index())),
-            TakeAt::TakeHead(_, _, _) => StepName::CompareAndSwap(Location::Head, Location::Head),
-            TakeAt::GiveBack(taken, at) => give_step::<T>(&taken.held, at),
-        }
+// Of a shut.
+fn shut_name<T>(at: &ShutAt) -> StepName
+    ensures { IsNextStep {T = T} (shut_line at.now) result }
+{
+    match at {
+        ShutAt::LoadHead => StepName::Load(Location::Head),
+        ShutAt::Mark(_) => StepName::CompareAndSwap(Location::Head, Location::Head),
     }
 }
 
-impl<T> CloseOp<T> {
-    // Of a close.
-    fn next_step(&self) -> StepName
-        ensures { IsNextStep {T = T} (close_line self.now.at) result }
-    {
-        match &self.at {
-            CloseAt::Seeking(at) => seek_step::<T>(at),
-            CloseAt::Mark(tail, _) => {
-                StepName::CompareAndSwap(Location::Next(tail.index()), Location::Tail)
-            }
-        }
-    }
-}
-
-impl<T> ShutOp<T> {
-    // Of a shut.
-    fn next_step(&self) -> StepName
-        ensures { IsNextStep {T = T} (shut_line self.now.at) result }
-    {
-        match self.at {
-            ShutAt::LoadHead => StepName::Load(Location::Head),
-            ShutAt::Mark(_) => StepName::CompareAndSwap(Location::Head, Location::Head),
-        }
-    }
-}
-
-impl<T> LookOp<T> {
-    // Of a look.
-    fn next_step(&self) -> StepName
-        ensures { IsNextStep {T = T} (look_line self.now.at) result }
-    {
-        match &self.at {
-            LookAt::LoadHead => StepName::Load(Location::Head),
-            LookAt::LoadNext(head) => StepName::Load(Location::Next(head.index())),
-            LookAt::CheckHead(_, _) => StepName::Load(Location::Head),
-        }
+// Of a look.
+fn look_name<T>(at: &LookAt) -> StepName
+    ensures { IsNextStep {T = T} (look_line at.now) result }
+{
+    match at {
+        LookAt::LoadHead => StepName::Load(Location::Head),
+        LookAt::LoadNext(head) => StepName::Load(Location::Next(head.index())),
+        LookAt::CheckHead(_, _) => StepName::Load(Location::Head),
     }
 }
 
@@ -144,22 +131,22 @@ impl<T: Drop + Send> Named<T> for Queue<T> {
     ghost is_look_step = { λ op name. IsNextStep {T = T} (look_line op.at) name };
 
     fn put_step(op: &PutOp<T>) -> StepName {
-        op.next_step()
+        put_name::<T>(&op.at)
     }
 
     fn take_step(op: &TakeOp<T>) -> StepName {
-        op.next_step()
+        take_name::<T>(&op.at)
     }
 
     fn close_step(op: &CloseOp<T>) -> StepName {
-        op.next_step()
+        close_name::<T>(&op.at)
     }
 
     fn shut_step(op: &ShutOp<T>) -> StepName {
-        op.next_step()
+        shut_name::<T>(&op.at)
     }
 
     fn look_step(op: &LookOp<T>) -> StepName {
-        op.next_step()
+        look_name::<T>(&op.at)
     }
 }

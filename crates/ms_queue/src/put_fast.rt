@@ -3,12 +3,11 @@ ghost use Rattle.std.specs.Prelude.{◌≡◌};
 ghost use Rattle.ms_queue.specs.Putting.{PutStands, PutRan, put_of};
 ghost use Rattle.ms_queue.specs.Queue.{IsPassOf};
 
-use crate::fast_path::fast_path;
 use crate::putting::{Answer, PutAt};
 use crate::queue::{Pass, Queue};
 use crate::seeking::Seek;
 use queue_table::Operation;
-use running::{Next, any, aside, first_step};
+use running::{Next, any, aside, fast_step, first_step};
 
 impl<T> Queue<T> {
     /// A put's steps on its fast path, as long as nobody is faster.
@@ -23,10 +22,10 @@ impl<T> Queue<T> {
         requires pass { IsPassOf self.now by }
         ensures { PutRan self.now put.now by result.0 result.1 }
     {
-        let (pass, at) = fast_path!(self.put_fast_cell(by, value, put));
-        let (pass, at) = fast_path!(self.put_fast_node(pass, at, put));
-        let (pass, at) = fast_path!(self.put_fast_prepare(pass, at, put));
-        let (pass, at) = fast_path!(self.put_fast_seek(pass, at, put));
+        let (pass, at) = fast_step!(self.put_fast_cell(by, value, put));
+        let (pass, at) = fast_step!(self.put_fast_node(pass, at, put));
+        let (pass, at) = fast_step!(self.put_fast_prepare(pass, at, put));
+        let (pass, at) = fast_step!(self.put_fast_seek(pass, at, put));
         self.put_fast_link(pass, at, put)
     }
 
@@ -43,11 +42,11 @@ impl<T> Queue<T> {
         ensures { PutRan self.now put.now by result.0 result.1 }
     {
         let table = &self.table.shared;
-        let (pass, value, cells) = fast_path!(
+        let (pass, value, cells) = fast_step!(
             first_step(table, self, by, PutAt::LoadCells(value), put),
             PutAt::LoadCellLink(value, cells) => value, cells
         );
-        let (pass, value, cells, link) = fast_path!(
+        let (pass, value, cells, link) = fast_step!(
             any(table, self, pass, PutAt::LoadCellLink(value, cells), put),
             PutAt::TakeCell(value, cells, link) => value, cells, link
         );
@@ -69,11 +68,11 @@ impl<T> Queue<T> {
             return (by, Next::On(has_cell));
         };
         let table = &self.table.shared;
-        let (pass, shown, cell, nodes) = fast_path!(
+        let (pass, shown, cell, nodes) = fast_step!(
             any(table, self, by, PutAt::LoadNodes(shown, cell), put),
             PutAt::LoadNodeLink(shown, cell, nodes) => shown, cell, nodes
         );
-        let (pass, at) = fast_path!(any(
+        let (pass, at) = fast_step!(any(
             table,
             self,
             pass,
@@ -98,8 +97,8 @@ impl<T> Queue<T> {
             return (by, Next::On(held));
         };
         let table = &self.table.shared;
-        let (pass, at) = fast_path!(any(table, self, by, PutAt::StoreCell(shown, held), put));
-        let (pass, shown, held, link) = fast_path!(
+        let (pass, at) = fast_step!(any(table, self, by, PutAt::StoreCell(shown, held), put));
+        let (pass, shown, held, link) = fast_step!(
             any(table, self, pass, at, put),
             PutAt::PrepareNext(shown, held, link) => shown, held, link
         );
@@ -128,8 +127,8 @@ impl<T> Queue<T> {
         };
         let table = &self.table.shared;
         let begun = PutAt::Seeking(shown, held, Seek::LoadTail);
-        let (pass, at) = fast_path!(any(table, self, by, begun, put));
-        let (pass, at) = fast_path!(any(table, self, pass, at, put));
+        let (pass, at) = fast_step!(any(table, self, by, begun, put));
+        let (pass, at) = fast_step!(any(table, self, pass, at, put));
         any(table, self, pass, at, put)
     }
 
@@ -148,7 +147,7 @@ impl<T> Queue<T> {
             return (by, Next::On(there));
         };
         let table = &self.table.shared;
-        let (pass, at) = fast_path!(any(
+        let (pass, at) = fast_step!(any(
             table,
             self,
             by,

@@ -9,7 +9,9 @@ ghost use Rattle.queue_machine.specs.declared.lines.Call.TheVariants.{Put as Cal
 ghost use Rattle.queue_table.specs.Lines.{call_of};
 ghost use Rattle.running.specs.Passes.{pass_in};
 ghost use Rattle.ms_queue.specs.Queue.{IsPassOf, begun_of, shape_of};
-ghost use Rattle.ms_queue.specs.Putting.{IsPutting, PutStep, put_of};
+ghost use Rattle.ms_queue.specs.Putting.{IsPutting, put_of};
+ghost use Rattle.ms_queue.specs.Ran.{WasRun};
+ghost use Rattle.queue_machine.specs.declared.lines.Answer.TheVariants.{Put as AnswerPut};
 
 use crate::giving::{Give, Held};
 use crate::queue::{Pass, Queue};
@@ -22,23 +24,17 @@ use machine::seats::View;
 use queue_machine::Line;
 use queue_table::Operation;
 use queue_table::layout::{CELL_LIST, NODE_LIST, TAIL, cell, next};
-use running::{Access, Code, Next, Outcome, raised, single_step, to_the_end};
+use running::{Access, Call, Code, Next, Op, Outcome, raised, to_the_end};
 use std::snapshot::Snapshot;
 use std::sync::Wait;
 use tagged_index::{NULL, Tagged};
 
 /// A put that was begun.
-#[derive(Drop)]
-pub struct PutOp<T> {
-    pub(crate) pass: Pass<T>,
-    /// It shows proofs the value that is put.
-    pub(crate) operation: Operation<T>,
-    pub(crate) at: PutAt<T>,
-}
+pub type PutOp<T> = Op<T, Line<T>, Operation<T>, PutAt<T>>;
 
 /// The next step of a put, with what it has read and holds.
 #[derive(Drop)]
-pub(crate) enum PutAt<T> {
+pub enum PutAt<T> {
     /// Load `CELLS`.
     LoadCells(T),
     /// Load the link of the free cell.
@@ -102,19 +98,16 @@ impl<T> Queue<T> {
             × (begun_of self.now result.pass ≡ pass_in by) × (pass_in result.pass ≡ pass_in by) }
     {
         let operation = put_operation(&value);
-        PutOp {
-            pass: by,
-            operation,
-            at: PutAt::LoadCells(value),
-        }
+        Op::begin(self, by, operation, PutAt::LoadCells(value))
     }
 
-    /// Puts a value by a whole call.
+    /// Puts a value by a whole call, as `put` of `Container`. The call was a run of the machine's steps.
     #[inline(always)]
-    pub(crate) fn put_whole<R: Wait>(&self, rt: &R, by: Pass<T>, value: T) -> (Pass<T>, Answer<T>)
+    pub fn put_whole<R: Wait>(&self, rt: &R, by: Pass<T>, value: T) -> (Pass<T>, Answer<T>)
         requires { IsPassOf self.now by }
-        ensures { IsPassOf self.now result.0
+        ensures gives { IsPassOf self.now result.0
             × PutGives (shape_of self.now) (pass_in by) value (pass_in result.0) result.1 }
+        ensures ran { WasRun self.now (put_of value) (pass_in by) result.0 (AnswerPut result.1) }
     {
         let put = put_operation(&value);
         let first = self.put_fast(by, value, &put);
@@ -123,24 +116,9 @@ impl<T> Queue<T> {
 }
 
 impl<T> Code<Queue<T>, T, Line<T>, Operation<T>, Queued, Answer<T>, 2> for PutAt<T> {
-    ghost use Rattle.queue_machine.specs.declared.lines.Answer.TheVariants.{Put as AnswerPut};
-    ghost use Rattle.queue_machine.specs.Machine.{ends};
-    ghost use Rattle.ms_queue.specs.Queue.{room_of, limit_of};
-    ghost use Rattle.ms_queue.specs.Putting.{put_of, put_value, put_line, put_slots, HasReadToPut};
+    ghost use Rattle.ms_queue.specs.Putting.{put_account};
 
-    ghost key = { λ c. c.table.shared.key };
-
-    ghost id = { λ c. c.table.shared.table_id };
-
-    ghost operation = { λ at. put_of (put_value at) };
-
-    ghost line = { put_line };
-
-    ghost slots = { put_slots };
-
-    ghost knows = { λ c at. HasReadToPut (room_of c) (limit_of c) at };
-
-    ghost answer = { λ _ r. ends (AnswerPut r) };
+    ghost account = { put_account };
 
     #[inline]
     fn is_refusal(answer: &Answer<T>) -> bool {
@@ -285,27 +263,14 @@ impl<T> Code<Queue<T>, T, Line<T>, Operation<T>, Queued, Answer<T>, 2> for PutAt
     }
 }
 
-impl<T> PutOp<T> {
-    /// One atomic step. The answer is the put's number, or a refusal, which hands the value back:
-    /// `Spent` where the tag of `CELLS` or of a node's `next` is at its limit, `Closed`, or `Full`.
-    #[inline]
-    pub fn step(self, queue: &Queue<T>) -> Stepped<PutOp<T>, Pass<T>, Result<u64, PutRefused<T>>>
-        requires { (x : T) × IsPutting queue.now x self }
-        ensures { (x : T) → IsPutting queue.now x self
-            → PutStep queue.now x self result }
-    {
-        let PutOp {
-            pass,
-            operation,
-            at,
-        } = self;
-        match single_step(&queue.table.shared, queue, pass, at, &operation) {
-            Stepped::Again((pass, at)) => Stepped::Again(PutOp {
-                pass,
-                operation,
-                at,
-            }),
-            Stepped::Done(pass, answer) => Stepped::Done(pass, answer),
-        }
-    }
+impl<T> Call<Queue<T>, T, Line<T>, Operation<T>, Queued, Answer<T>, 2> for PutAt<T> {
+    ghost use Rattle.std.specs.Prelude.{refl};
+    ghost use Rattle.queue_table.proofs.Gives.{put_gives};
+    ghost use Rattle.ms_queue.specs.Putting.{put_of, put_promises, put_value};
+
+    ghost promises = { put_promises };
+
+    ghost idle = { λ key o answer. refl };
+
+    ghost keeps = { λ key at v begun answer e x is. put_gives key x (put_of (put_value at)) v begun is answer e };
 }

@@ -4,11 +4,11 @@ ghost use Rattle.tagged_index.specs.Limits.{capacity_of};
 ghost use Rattle.queue_table.specs.Layout.{words_for};
 
 use crate::rule::Queued;
-use atomic_table::Table;
+use atomic_table::{Shared, Table};
 use machine::seats::View;
 use queue_machine::Line;
 use queue_table::Operation;
-use running::Running;
+use running::{HasTable, OnTable, Running};
 use std::alloc::Global;
 use tagged_index::Limits;
 
@@ -27,6 +27,19 @@ pub struct Queue<T> {
     pub(crate) ghost words: { table.shared.table_id.words
         ≡ words_for (capacity_of table.shared.key) },
     pub(crate) ghost slots: { table.shared.table_id.slots ≡ capacity_of table.shared.key },
+}
+
+impl<T> OnTable for Queue<T> {
+    ghost key = { λ c. c.table.shared.key };
+
+    ghost id = { λ c. c.table.shared.table_id };
+}
+
+impl<T> HasTable<T, Line<T>, Operation<T>, Queued> for Queue<T> {
+    #[inline(always)]
+    fn table(&self) -> &Shared<Option<T>, View<T, Line<T>>, Limits, Running<Operation<T>, Queued>> {
+        &self.table.shared
+    }
 }
 
 /// Steps on a queue. It has four bytes, by which its calls know whether to wait.

@@ -14,7 +14,7 @@ use tagged_index::{NULL, Tagged};
 
 /// The next step on the way to the end of the chain, with what was read.
 #[derive(Drop)]
-pub(crate) enum Seek {
+pub enum Seek {
     /// Load `TAIL`.
     LoadTail,
     /// Load `next` of the node that it named.
@@ -27,7 +27,7 @@ pub(crate) enum Seek {
 
 /// The end of the chain.
 #[derive(Clone, Copy)]
-pub(crate) enum End {
+pub enum End {
     /// It has the mark.
     Closed,
     /// The tail, and the null link of its node.

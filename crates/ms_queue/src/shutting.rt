@@ -3,30 +3,28 @@ ghost use Rattle.std.specs.Prelude.{◌≡◌};
 ghost use Rattle.bounded_model.specs.Laws.{ShutGives};
 ghost use Rattle.running.specs.Passes.{pass_in};
 ghost use Rattle.ms_queue.specs.Queue.{IsPassOf, begun_of, shape_of};
-ghost use Rattle.ms_queue.specs.Shutting.{IsShutting, ShutStep};
+ghost use Rattle.ms_queue.specs.Shutting.{IsShutting};
+ghost use Rattle.ms_queue.specs.Ran.{WasRun};
+ghost use Rattle.queue_machine.specs.declared.lines.Answer.TheVariants.{Shut as AnswerShut};
+ghost use Rattle.queue_table.specs.declared.operation.Operation.TheVariants.{Shut as ShutFirst};
 
 use crate::queue::{Pass, Queue};
 use crate::rule::Queued;
 use atomic_table::Seat;
-use bounded_model::Stepped;
 use machine::seats::View;
 use queue_machine::Line;
 use queue_table::Operation;
 use queue_table::layout::HEAD;
-use running::{Access, Code, Next, Outcome, first_step, single_step, to_the_end};
+use running::{Access, Call, Code, Next, Op, Outcome, first_step, to_the_end};
 use std::sync::Wait;
 use tagged_index::Tagged;
 
 /// A shut that was begun.
-#[derive(Drop)]
-pub struct ShutOp<T> {
-    pub(crate) pass: Pass<T>,
-    pub(crate) at: ShutAt,
-}
+pub type ShutOp<T> = Op<T, Line<T>, Operation<T>, ShutAt>;
 
 /// The next step of a shut.
 #[derive(Drop)]
-pub(crate) enum ShutAt {
+pub enum ShutAt {
     /// Load `HEAD`.
     LoadHead,
     /// Set its second mark.
@@ -41,18 +39,17 @@ impl<T> Queue<T> {
         ensures { IsShutting self.now result
             × (begun_of self.now result.pass ≡ pass_in by) × (pass_in result.pass ≡ pass_in by) }
     {
-        ShutOp {
-            pass: by,
-            at: ShutAt::LoadHead,
-        }
+        Op::begin(self, by, Operation::Shut, ShutAt::LoadHead)
     }
 
-    /// Shuts the queue by a whole call, and returns whether it did.
+    /// Shuts the queue by a whole call, as `shut` of `Container`, and returns whether it did. The call
+    /// was a run of the machine's steps.
     #[inline]
-    pub(crate) fn shut_whole<R: Wait>(&self, rt: &R, by: Pass<T>) -> (Pass<T>, bool)
+    pub fn shut_whole<R: Wait>(&self, rt: &R, by: Pass<T>) -> (Pass<T>, bool)
         requires { IsPassOf self.now by }
-        ensures { IsPassOf self.now result.0
+        ensures gives { IsPassOf self.now result.0
             × ShutGives (shape_of self.now) (pass_in by) (pass_in result.0) result.1 }
+        ensures ran { WasRun self.now ShutFirst (pass_in by) result.0 (AnswerShut result.1) }
     {
         let table = &self.table.shared;
         let shut = Operation::Shut;
@@ -62,25 +59,9 @@ impl<T> Queue<T> {
 }
 
 impl<T> Code<Queue<T>, T, Line<T>, Operation<T>, Queued, bool, 2> for ShutAt {
-    ghost use Rattle.std.specs.Prelude.{[]};
-    ghost use Rattle.queue_machine.specs.declared.lines.Answer.TheVariants.{Shut as AnswerShut};
-    ghost use Rattle.queue_machine.specs.Machine.{ends};
-    ghost use Rattle.queue_table.specs.declared.operation.Operation.TheVariants.{Shut as ShutFirst};
-    ghost use Rattle.ms_queue.specs.Shutting.{shut_line};
+    ghost use Rattle.ms_queue.specs.Shutting.{shut_account};
 
-    ghost key = { λ c. c.table.shared.key };
-
-    ghost id = { λ c. c.table.shared.table_id };
-
-    ghost operation = { λ _. ShutFirst };
-
-    ghost line = { shut_line };
-
-    ghost slots = { λ _. [] };
-
-    ghost knows = { λ _ _. Unit {0} };
-
-    ghost answer = { λ _ shut. ends (AnswerShut shut) };
+    ghost account = { shut_account };
 
     #[inline(always)]
     fn access(&self, _on: &Queue<T>) -> Access {
@@ -116,18 +97,13 @@ impl<T> Code<Queue<T>, T, Line<T>, Operation<T>, Queued, bool, 2> for ShutAt {
     }
 }
 
-impl<T> ShutOp<T> {
-    /// One atomic step. Returns whether this operation shut the queue.
-    #[inline]
-    pub fn step(self, queue: &Queue<T>) -> Stepped<ShutOp<T>, Pass<T>, bool>
-        requires { IsShutting queue.now self }
-        ensures { ShutStep queue.now self.pass self.at result }
-    {
-        let table = &queue.table.shared;
-        let made = single_step(table, queue, self.pass, self.at, &Operation::Shut);
-        match made {
-            Stepped::Again((pass, at)) => Stepped::Again(ShutOp { pass, at }),
-            Stepped::Done(pass, shut) => Stepped::Done(pass, shut),
-        }
-    }
+impl<T> Call<Queue<T>, T, Line<T>, Operation<T>, Queued, bool, 2> for ShutAt {
+    ghost use Rattle.std.specs.Prelude.{refl};
+    ghost use Rattle.ms_queue.specs.KeepsAnswers.{shut_promises, shut_keeps};
+
+    ghost promises = { shut_promises };
+
+    ghost idle = { λ key o answer. refl };
+
+    ghost keeps = { shut_keeps };
 }

@@ -4,35 +4,32 @@ ghost use Rattle.bounded_model.specs.Laws.{TakeGives};
 ghost use Rattle.queue_table.specs.declared.operation.Operation.TheVariants.{Take as TakeFirst};
 ghost use Rattle.running.specs.Passes.{pass_in};
 ghost use Rattle.ms_queue.specs.Queue.{IsPassOf, begun_of, shape_of};
-ghost use Rattle.ms_queue.specs.Taking.{IsTaking, TakeStep, TakeStands, TakeRan};
+ghost use Rattle.ms_queue.specs.Taking.{IsTaking, TakeStands, TakeRan};
+ghost use Rattle.ms_queue.specs.Ran.{WasRun};
+ghost use Rattle.queue_machine.specs.declared.lines.Answer.TheVariants.{Take as AnswerTake};
 
-use crate::fast_path::fast_path;
 use crate::giving::{Give, Held};
 use crate::queue::{Pass, Queue};
 use crate::rule::Queued;
 use atomic_table::Seat;
-use bounded_model::{Stepped, TakeRefused};
+use bounded_model::TakeRefused;
 use index_list::move_out;
 use machine::seats::View;
 use queue_machine::Line;
 use queue_table::Operation;
 use queue_table::layout::{HEAD, TAIL, cell, next};
 use running::{
-    Access, Code, Next, Outcome, any, aside, first_step, raised, single_step, to_the_end,
+    Access, Call, Code, Next, Op, Outcome, any, aside, fast_step, first_step, raised, to_the_end,
 };
 use std::sync::Wait;
 use tagged_index::{NULL, Tagged};
 
 /// A take that was begun.
-#[derive(Drop)]
-pub struct TakeOp<T> {
-    pub(crate) pass: Pass<T>,
-    pub(crate) at: TakeAt<T>,
-}
+pub type TakeOp<T> = Op<T, Line<T>, Operation<T>, TakeAt<T>>;
 
 /// The next step of a take, with what it has read and holds.
 #[derive(Drop)]
-pub(crate) enum TakeAt<T> {
+pub enum TakeAt<T> {
     /// Load `HEAD`.
     LoadHead,
     /// Load `TAIL`.
@@ -53,7 +50,7 @@ pub(crate) enum TakeAt<T> {
 
 /// A value that was taken, with its number, and what is to be given back.
 #[derive(Drop)]
-pub(crate) struct Taken<T> {
+pub struct Taken<T> {
     pub(crate) value: T,
     pub(crate) number: u64,
     pub(crate) held: Held,
@@ -69,18 +66,17 @@ impl<T> Queue<T> {
         ensures { IsTaking self.now result
             × (begun_of self.now result.pass ≡ pass_in by) × (pass_in result.pass ≡ pass_in by) }
     {
-        TakeOp {
-            pass: by,
-            at: TakeAt::LoadHead,
-        }
+        Op::begin(self, by, Operation::Take, TakeAt::LoadHead)
     }
 
-    /// Takes a value by a whole call.
+    /// Takes a value by a whole call, as `take` of `Container`. The call was a run of the machine's
+    /// steps.
     #[inline(always)]
-    pub(crate) fn take_whole<R: Wait>(&self, rt: &R, by: Pass<T>) -> (Pass<T>, Answer<T>)
+    pub fn take_whole<R: Wait>(&self, rt: &R, by: Pass<T>) -> (Pass<T>, Answer<T>)
         requires { IsPassOf self.now by }
-        ensures { IsPassOf self.now result.0
+        ensures gives { IsPassOf self.now result.0
             × TakeGives (shape_of self.now) (pass_in by) (pass_in result.0) result.1 }
+        ensures ran { WasRun self.now TakeFirst (pass_in by) result.0 (AnswerTake result.1) }
     {
         let take = Operation::Take;
         let first = self.take_fast(by, &take);
@@ -98,9 +94,9 @@ impl<T> Queue<T> {
         requires pass { IsPassOf self.now by }
         ensures { TakeRan self.now take.now by result.0 result.1 }
     {
-        let (pass, at) = fast_path!(self.take_fast_read(by, take));
-        let (pass, at) = fast_path!(self.take_fast_head(pass, at, take));
-        let (pass, at) = fast_path!(self.take_fast_node(pass, at, take));
+        let (pass, at) = fast_step!(self.take_fast_read(by, take));
+        let (pass, at) = fast_step!(self.take_fast_head(pass, at, take));
+        let (pass, at) = fast_step!(self.take_fast_node(pass, at, take));
         self.take_fast_cell(pass, at, take)
     }
 
@@ -116,11 +112,11 @@ impl<T> Queue<T> {
         ensures { TakeRan self.now take.now by result.0 result.1 }
     {
         let table = &self.table.shared;
-        let (pass, head) = fast_path!(
+        let (pass, head) = fast_step!(
             first_step(table, self, by, TakeAt::LoadHead, take),
             TakeAt::LoadTail(head) => head
         );
-        let (pass, head, tail) = fast_path!(
+        let (pass, head, tail) = fast_step!(
             any(table, self, pass, TakeAt::LoadTail(head), take),
             TakeAt::LoadNext(head, tail) => head, tail
         );
@@ -143,11 +139,11 @@ impl<T> Queue<T> {
             return (by, Next::On(read));
         };
         let table = &self.table.shared;
-        let (pass, head, link) = fast_path!(
+        let (pass, head, link) = fast_step!(
             any(table, self, by, TakeAt::CheckHead(head, tail, link), take),
             TakeAt::LoadCell(head, link) => head, link
         );
-        let (pass, head, link, cell) = fast_path!(
+        let (pass, head, link, cell) = fast_step!(
             any(table, self, pass, TakeAt::LoadCell(head, link), take),
             TakeAt::TakeHead(head, link, cell) => head, link, cell
         );
@@ -171,8 +167,8 @@ impl<T> Queue<T> {
         };
         let table = &self.table.shared;
         let begun = TakeAt::GiveBack(taken, Give::LoadNodes);
-        let (pass, at) = fast_path!(any(table, self, by, begun, take));
-        let (pass, at) = fast_path!(any(table, self, pass, at, take));
+        let (pass, at) = fast_step!(any(table, self, by, begun, take));
+        let (pass, at) = fast_step!(any(table, self, pass, at, take));
         any(table, self, pass, at, take)
     }
 
@@ -193,32 +189,16 @@ impl<T> Queue<T> {
         };
         let table = &self.table.shared;
         let begun = TakeAt::GiveBack(taken, Give::LoadCells);
-        let (pass, at) = fast_path!(any(table, self, by, begun, take));
-        let (pass, at) = fast_path!(any(table, self, pass, at, take));
+        let (pass, at) = fast_step!(any(table, self, by, begun, take));
+        let (pass, at) = fast_step!(any(table, self, pass, at, take));
         any(table, self, pass, at, take)
     }
 }
 
 impl<T> Code<Queue<T>, T, Line<T>, Operation<T>, Queued, Answer<T>, 2> for TakeAt<T> {
-    ghost use Rattle.queue_machine.specs.declared.lines.Answer.TheVariants.{Take as AnswerTake};
-    ghost use Rattle.queue_machine.specs.Machine.{ends};
-    ghost use Rattle.queue_table.specs.declared.operation.Operation.TheVariants.{Take as TakeFirst};
-    ghost use Rattle.ms_queue.specs.Queue.{room_of, limit_of};
-    ghost use Rattle.ms_queue.specs.Taking.{take_line, take_slots, HasReadToTake};
+    ghost use Rattle.ms_queue.specs.Taking.{take_account};
 
-    ghost key = { λ c. c.table.shared.key };
-
-    ghost id = { λ c. c.table.shared.table_id };
-
-    ghost operation = { λ _. TakeFirst };
-
-    ghost line = { take_line };
-
-    ghost slots = { take_slots };
-
-    ghost knows = { λ c at. HasReadToTake (room_of c) (limit_of c) at };
-
-    ghost answer = { λ _ r. ends (AnswerTake r) };
+    ghost account = { take_account };
 
     #[inline]
     fn is_refusal(answer: &Answer<T>) -> bool {
@@ -317,22 +297,13 @@ impl<T> Code<Queue<T>, T, Line<T>, Operation<T>, Queued, Answer<T>, 2> for TakeA
     }
 }
 
-impl<T> TakeOp<T> {
-    /// One atomic step. The answer is the value with its number, or why none was taken: `Shut`,
-    /// then `Closed` or `Empty` where there is none.
-    #[inline]
-    pub fn step(
-        self,
-        queue: &Queue<T>,
-    ) -> Stepped<TakeOp<T>, Pass<T>, Result<(T, u64), TakeRefused>>
-        requires { IsTaking queue.now self }
-        ensures { TakeStep queue.now self.pass self.at result }
-    {
-        let table = &queue.table.shared;
-        let made = single_step(table, queue, self.pass, self.at, &Operation::Take);
-        match made {
-            Stepped::Again((pass, at)) => Stepped::Again(TakeOp { pass, at }),
-            Stepped::Done(pass, answer) => Stepped::Done(pass, answer),
-        }
-    }
+impl<T> Call<Queue<T>, T, Line<T>, Operation<T>, Queued, Answer<T>, 2> for TakeAt<T> {
+    ghost use Rattle.std.specs.Prelude.{refl};
+    ghost use Rattle.ms_queue.specs.KeepsAnswers.{take_promises, take_keeps};
+
+    ghost promises = { take_promises };
+
+    ghost idle = { λ key o answer. refl };
+
+    ghost keeps = { take_keeps };
 }

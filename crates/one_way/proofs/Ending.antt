@@ -60,8 +60,8 @@ close-later c v w false g = record { more = g.0.between; is = g.0.seen }
 -- close; the pass that takes as it was split and after its takes
 pub record Run {T : Type 0} (c : Shape) (r0 r1 r2 r3 r4 : RootView T) (p0 p1 p2 q0 q1 : PassView T) (closed : Bool) (items unsent taken left : List T) : Type 0 where
   pub new : r0 ≡ fresh
-  pub first : Splits r0 r1 p0
-  pub second : Splits r1 r2 q0
+  pub first : Splits c r0 r1 p0
+  pub second : Splits c r1 r2 q0
   pub puts : Puts p0 p1 items unsent
   pub close : CloseGives c p1 p2 closed
   pub takes : Takes q0 q1 taken

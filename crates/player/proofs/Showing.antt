@@ -67,17 +67,17 @@ pub have_met : (v u w : PassView (List ℕ)) (has_met : Bool) → MeetGives v u 
 have_met v u w true gives = gives
 have_met v u w false gives = gives
 
-pub finds_new : (r s : RootView (List ℕ)) (n : Named) (v : PassView (List ℕ)) → n ≡ Nobody → Splits r s v → Finds r n s (Resting v)
-finds_new r s n v none splits = subst (λ (m : Named). Finds r m s (Resting v)) (sym none) splits
+pub finds_new : (c : Shape) (r s : RootView (List ℕ)) (n : Named) (v : PassView (List ℕ)) → n ≡ Nobody → Splits c r s v → Finds c r n s (Resting v)
+finds_new c r s n v none splits = subst (λ (m : Named). Finds c r m s (Resting v)) (sym none) splits
 
-pub finds_none : (r s : RootView (List ℕ)) (n : Named) → n ≡ Nobody → IsFullOfPasses r → s ≡ r → Finds r n s Nobody
-finds_none r s n none full same = subst (λ (m : Named). Finds r m s Nobody) (sym none) (full, same)
+pub finds_none : (c : Shape) (r s : RootView (List ℕ)) (n : Named) → n ≡ Nobody → IsFullOfPasses c r → s ≡ r → Finds c r n s Nobody
+finds_none c r s n none full same = subst (λ (m : Named). Finds c r m s Nobody) (sym none) (full, same)
 
 -- the other letter was looked for, since the first names somebody
-pub finds_other : (first : Named) (r s : RootView (List ℕ)) (other found : Named) → (first ≡ Nobody → ⊥) → Finds r other s found → FindsOther first r other s found
-finds_other Nobody r s other found some finds = absurd (some refl)
-finds_other (Resting v) r s other found some finds = finds
-finds_other (Acting call u) r s other found some finds = finds
+pub finds_other : (c : Shape) (first : Named) (r s : RootView (List ℕ)) (other found : Named) → (first ≡ Nobody → ⊥) → Finds c r other s found → FindsOther c first r other s found
+finds_other c Nobody r s other found some finds = absurd (some refl)
+finds_other c (Resting v) r s other found some finds = finds
+finds_other c (Acting call u) r s other found some finds = finds
 
 -- what is said of a line of one pass is what is said of the line
 pub acts_alone : (c : Shape) (world : World) (letter : ℕ) (act : Act) (said : Answer) (next : World) → ((other : PassName) → act ≡ Meet other → ⊥) → Does c world letter act said next → Acts c world letter act said next
@@ -135,7 +135,7 @@ module _ {R P O : Type 0} (r : Reading R P O) where
   is_somebody (place.Acting begun) (Resting v) shows some none = shows
   is_somebody (place.Acting begun) (Acting call u) shows some none = absurd cc
 
-  pub finds_same : (p : Place P O) (n : Named) (root : RootView (List ℕ)) → Shows r p n → (p ≡ place.Nobody → ⊥) → Finds root n root n
+  pub finds_same : (p : Place P O) (n : Named) (root : RootView (List ℕ)) → Shows r p n → (p ≡ place.Nobody → ⊥) → Finds r.shape root n root n
   finds_same p Nobody root shows some = absurd (is_somebody p Nobody shows some refl)
   finds_same p (Resting v) root shows some = (refl, refl)
   finds_same p (Acting call u) root shows some = (refl, refl)

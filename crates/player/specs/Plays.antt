@@ -128,12 +128,12 @@ Told c (Acting call u) act said after = ActingTold c call u act said after
 -- ---- one line
 
 -- a letter that names nobody gets a pass, split off the root, where it can be had
-abbrev pub Finds : RootView (List ℕ) → Named → RootView (List ℕ) → Named → Type 0
-Finds r Nobody s Nobody = IsFullOfPasses r × (s ≡ r)
-Finds r Nobody s (Resting v) = Splits r s v
-Finds r Nobody s (Acting call u) = ⊥
-Finds r (Resting v) s found = (found ≡ Resting v) × (s ≡ r)
-Finds r (Acting call u) s found = (found ≡ Acting call u) × (s ≡ r)
+abbrev pub Finds : Shape → RootView (List ℕ) → Named → RootView (List ℕ) → Named → Type 0
+Finds c r Nobody s Nobody = IsFullOfPasses c r × (s ≡ r)
+Finds c r Nobody s (Resting v) = Splits c r s v
+Finds c r Nobody s (Acting call u) = ⊥
+Finds c r (Resting v) s found = (found ≡ Resting v) × (s ≡ r)
+Finds c r (Acting call u) s found = (found ≡ Acting call u) × (s ≡ r)
 
 abbrev pub named : World → ℕ → Named
 named world letter = slice_index_or world.names (letter - 97) Nobody
@@ -145,7 +145,7 @@ renamed names letter after = slice_set names (letter - 97) after
 pub record Does (c : Shape) (old : World) (letter : ℕ) (act : Act) (said : Answer) (new : World) : Type 0 where
   pub found : Named
   pub after : Named
-  pub finds : Finds old.root (named old letter) new.root found
+  pub finds : Finds c old.root (named old letter) new.root found
   pub told : Told c found act said after
   pub names : new.names ≡ renamed old.names letter after
 
@@ -159,18 +159,18 @@ MeetTold (Resting v) (Resting u) said after = ⊥
 MeetTold first other said after = (said ≡ answer.Busy) × (after ≡ first)
 
 -- the other letter is looked for only where the first has a pass
-abbrev pub FindsOther : Named → RootView (List ℕ) → Named → RootView (List ℕ) → Named → Type 0
-FindsOther Nobody r other s found = (found ≡ other) × (s ≡ r)
-FindsOther (Resting v) r other s found = Finds r other s found
-FindsOther (Acting call u) r other s found = Finds r other s found
+abbrev pub FindsOther : Shape → Named → RootView (List ℕ) → Named → RootView (List ℕ) → Named → Type 0
+FindsOther c Nobody r other s found = (found ≡ other) × (s ≡ r)
+FindsOther c (Resting v) r other s found = Finds c r other s found
+FindsOther c (Acting call u) r other s found = Finds c r other s found
 
 pub record DoesMeet (c : Shape) (old : World) (letter other : ℕ) (said : Answer) (new : World) : Type 0 where
   pub between : RootView (List ℕ)
   pub first : Named
   pub second : Named
   pub after : Named
-  pub finds : Finds old.root (named old letter) between first
-  pub finds_other : FindsOther first between (named old other) new.root second
+  pub finds : Finds c old.root (named old letter) between first
+  pub finds_other : FindsOther c first between (named old other) new.root second
   pub told : MeetTold first second said after
   pub names : new.names ≡ renamed (renamed old.names letter after) other second
 

@@ -29,7 +29,7 @@ pub record Reading (R P O : Type 0) : Type 1 where
 module _ {R P O : Type 0} (r : Reading R P O) where
   -- what a split of a root gives: a new pass, or none where no more can be had
   abbrev pub SplitGives : R → R → Option P → Type 0
-  SplitGives before after got = MatchOption got ((r.root after ≡ r.root before) × IsFullOfPasses (r.root before)) (λ p. r.is_pass p × Splits (r.root before) (r.root after) (r.pass p))
+  SplitGives before after got = MatchOption got ((r.root after ≡ r.root before) × IsFullOfPasses r.shape (r.root before)) (λ p. r.is_pass p × Splits r.shape (r.root before) (r.root after) (r.pass p))
 
   -- what a whole call by a pass gives: the pass that comes back, and the reply
   abbrev pub CallBy : P → Command (List ℕ) → P × Reply (List ℕ) → Type 0
@@ -69,5 +69,5 @@ pub record Found {R P O : Type 0} (r : Reading R P O) (world : World) (letter : 
   pub found : Named
   pub root : RootView (List ℕ)
   pub shows : Shows r place found
-  pub finds : Finds world.root (named world letter) root found
+  pub finds : Finds r.shape world.root (named world letter) root found
   pub on : IsOn r stage (record { root = root; names = renamed world.names letter Nobody })

@@ -1,16 +1,16 @@
 -- A new queue meets the rule; and where the rule holds, the last link has the mark exactly where the
 -- queue is closed.
-use Rattle.std.proofs.Common.{◌≡◌, ◌≢◌, ℕ, zero, suc, ◌+◌, ◌<◌, false, cond, ltb, List, [], ◌∷◌, ◌++◌, length, replicate, refl, sym, ap, ◌∙◌, subst, ne_eqb, None, lt_of_not-le, arith}
+use Rattle.std.proofs.Common.{◌≡◌, ◌≢◌, ℕ, zero, suc, ◌+◌, ◌<◌, false, cond, ltb, List, [], ◌∷◌, ◌++◌, length, replicate, refl, sym, ap, ◌∙◌, subst, ne_eqb, None, arith}
 use Rattle.std.proofs.lemmas.Bool.{false≢true}
-use mathlib.Core.Option.{Option, some, some-injective}
+use mathlib.Core.Option.{Option, none, some, some-injective}
 use Rattle.tagged_index.specs.declared.word.TheConstants.{NULL}
 use Rattle.bounded_model.specs.declared.history.Event.{Event}
 use Rattle.machine.specs.Words.{Stands, Tagged, start_link, start_word, times, total}
 use Rattle.machine.specs.Chains.{last}
-use Rattle.machine.proofs.Tests.{at_most_one, not_below}
+use Rattle.machine.proofs.Tests.{cases, at_most_one, if_below}
 use Rattle.machine.proofs.Sums.{total_same, same_at}
 use Rattle.machine.proofs.Lists.{times_here, not_there, leads_frame, leads_from}
-use Rattle.machine.proofs.Starts.{from, from_stands, from_all, from_length}
+use Rattle.machine.proofs.Starts.{from, from_stands, from_all, from_low, from_length}
 use Rattle.queue_machine.specs.declared.lines.Line.{Line}
 use Rattle.queue_machine.specs.declared.lines.Line.TheVariants.{Idle}
 use Rattle.queue_machine.specs.Machine.{Memory, held_cells, held_nodes, start_nlink, start}
@@ -39,14 +39,10 @@ last_append [] i js = refl
 last_append (x ∷ []) i js = refl
 last_append (x ∷ y ∷ is) i js = last_append (y ∷ is) i js
 
--- what is among the first k + 1 numbers is below their number
-from_below : (k j : ℕ) → 0 < times j (from 0 (suc k)) → j < suc k
-from_below k j there = lt_of_not-le (λ above. absurd (omega (arith, from_all j (suc k), not_below j (suc k) above)))
-
 module _ {T : Type 0} where
   -- The words of a new queue: all cells are free, and all nodes but the dummy. Of words that belong to
   -- no index it asks only that no link has a mark, a tag, or the name of something that is no node
-  pub record IsNew (n : ℕ) (m : Memory T) : Type 0 where
+  record IsNew (n : ℕ) (m : Memory T) : Type 0 where
     pub cells : m.cells ≡ start_word 0
     pub nodes : m.nodes ≡ start_word 1
     pub head : m.head ≡ start_word 0
@@ -59,7 +55,7 @@ module _ {T : Type 0} where
     pub named : (j : ℕ) → (m.next j).index ≢ NULL → (m.next j).index < n + 1
     pub home : (i : ℕ) → i < n → m.home i ≡ some None
 
-  pub new_kept : (n limit passes : ℕ) (m : Memory T) → 0 < n → n < NULL → 0 < limit → IsNew n m → Kept T n limit m some (replicate passes (Idle None)) []
+  new_kept : (n limit passes : ℕ) (m : Memory T) → 0 < n → n < NULL → 0 < limit → IsNew n m → Kept T n limit m some (replicate passes (Idle None)) []
   new_kept zero limit passes m h small some_tags new = absurd (omega arith)
   new_kept (suc k) limit passes m h small some_tags new =
       let g : Lists = record { cells = from 0 (suc k); nodes = from 1 (suc k); chain = 0 ∷ []; before = []; after = []; queued = [] } in
@@ -75,9 +71,9 @@ module _ {T : Type 0} where
           linked = record {
             small = small;
             cells_stand = leads_from m.clink 0 m.cells.index (from 0 (suc k)) NULL (sym (index m.cells (start_word 0) new.cells))
-                (leads_frame (start_link (suc k)) m.clink (from 0 (suc k)) 0 NULL (λ i there. new.clink i (from_below k i there)) (from_stands (suc k) k 0 (omega arith)));
+                (leads_frame (start_link (suc k)) m.clink (from 0 (suc k)) 0 NULL (λ i there. new.clink i (from_low (suc k) i there)) (from_stands (suc k) k 0 (omega arith)));
             nodes_stand = leads_from m.nlink 1 m.nodes.index (from 1 (suc k)) NULL (sym (index m.nodes (start_word 1) new.nodes))
-                (leads_frame (start_nlink (suc k)) m.nlink (from 1 (suc k)) 1 NULL (λ j there. let b = from_below (suc k) j (omega (arith, split_from j (suc k))) in new.nlink j (omega arith)) (free_nodes_stand k));
+                (leads_frame (start_nlink (suc k)) m.nlink (from 1 (suc k)) 1 NULL (λ j there. let b = from_low (suc (suc k)) j (omega (arith, split_from j (suc k))) in new.nlink j (omega arith)) (free_nodes_stand k));
             chained = record {
               stands = (head, new.dummy);
               split = ap (λ (j : ℕ). j ∷ []) (sym tail);
@@ -91,7 +87,7 @@ module _ {T : Type 0} where
             nodes_once = λ j. omega (arith, from_all j (suc (suc k)), split_from j (suc k), none_held (λ l. times j (held_nodes l)) refl, ap (in_range j) (more k));
             fine = λ p l e. subst (IsFine limit m g) (same_at passes p (Idle None) l e) tt;
           };
-          filled = record { empty = λ i there. new.home i (from_below k i there); stored = tt };
+          filled = record { empty = λ i there. new.home i (from_low (suc k) i there); stored = tt };
           numbered = record {
             cells_limit = omega (arith, tag m.cells (start_word 0) new.cells);
             nodes_tag = omega (arith, none_held wanting refl, tag m.nodes (start_word 1) new.nodes);
@@ -127,13 +123,13 @@ module _ {T : Type 0} where
     nodes = refl;
     head = refl;
     tail = refl;
-    clink = λ i below. refl;
-    nlink = λ j below. refl;
-    dummy = refl;
-    unmarked = λ j. refl;
-    untagged = λ j. refl;
-    named = λ j node. absurd (node refl);
-    home = λ i below. refl;
+    clink = λ i below. if_below i (n + 1) (start_link n i) 0 (omega arith);
+    nlink = λ j below. if_below j (n + 1) (start_nlink n j) 0 below;
+    dummy = ap (λ (w : Tagged). w.index) (if_below 0 (n + 1) (start_word NULL) (start_word 0) (omega arith));
+    unmarked = λ j. cases (λ (w : Tagged). w.mark ≡ false) (ltb j (n + 1)) (start_word NULL) (start_word 0) (λ b. refl) (λ b. refl);
+    untagged = λ j. cases (λ (w : Tagged). w.tag ≡ 0) (ltb j (n + 1)) (start_word NULL) (start_word 0) (λ b. refl) (λ b. refl);
+    named = λ j. cases (λ (w : Tagged). w.index ≢ NULL → w.index < n + 1) (ltb j (n + 1)) (start_word NULL) (start_word 0) (λ b node. absurd (node refl)) (λ b node. omega arith);
+    home = λ i below. if_below i n (some None) none below;
   })
 
   -- the last link has the mark exactly where the history is closed

@@ -2,6 +2,7 @@
 use Rattle.std.specs.Prelude.{ℕ, true, false, List, Ok, Err}
 use Rattle.bounded_model.specs.declared.history.Order.TheVariants.{Fifo}
 use Rattle.bounded_model.specs.declared.history.Event.{Event}
+use Rattle.bounded_model.specs.declared.container.TheConstants.{MAX_PASSES}
 use Rattle.bounded_model.specs.Machine as bounded
 use Rattle.bounded_model.specs.Justified as right
 use Rattle.bounded_model.specs.declared.answers.PutRefused.TheVariants.{Full, Closed, Spent}
@@ -10,7 +11,7 @@ use Rattle.queue_machine.specs.declared.lines.Answer.TheVariants.{Put as AnswerP
 
 -- a queue of n cells
 abbrev pub shape : ℕ → ℕ → bounded.Shape
-shape n limit = record { order = Fifo; capacity = n; limit = limit }
+shape n limit = record { order = Fifo; capacity = n; limit = limit; passes = MAX_PASSES }
 
 -- the bounded machine at the end of a history
 abbrev pub state : {T : Type 0} → ℕ → ℕ → List (Event T) → bounded.State T

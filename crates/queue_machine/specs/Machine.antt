@@ -1,6 +1,6 @@
 -- The queue of Michael and Scott as a machine: any number of passes put, take, close, shut, look and count,
 -- one atomic step at a time. `table` has its lines.
-use Rattle.std.specs.Prelude.{ℕ, ◌+◌, ◌-◌, ◌==◌, leb, if◌then◌else◌, Bool, true, false, List, [], ◌∷◌, Option as Slot, Some, None, Ok, Err}
+use Rattle.std.specs.Prelude.{ℕ, ◌+◌, ◌-◌, ◌==◌, leb, ltb, if◌then◌else◌, Bool, true, false, List, [], ◌∷◌, Option as Slot, Some, None, Ok, Err}
 use mathlib.Core.Option.{Option, none, some}
 use Rattle.tagged_index.specs.declared.word.TheConstants.{NULL}
 use Rattle.bounded_model.specs.declared.answers.Word.TheVariants.{Cells as CellsWord, Nodes as NodesWord, Next as NextWord}
@@ -378,25 +378,26 @@ module _ {T : Type 0} where
   starts CallLook = LoadHeadToLook
   starts CallLen = LoadHeadToCount
 
--- the words of a new queue
+-- The words and slots of a new queue: as many of each kind as it has nodes. A number that is no index
+-- has 0 for a word, and no slot
 abbrev pub start : {T : Type 0} → Shape → Memory T
 start c = record {
   cells = start_word 0;
   nodes = start_word 1;
   head = start_word 0;
   tail = start_word 0;
-  clink = start_link c.capacity;
-  nlink = start_nlink c.capacity;
-  next = λ j. start_word NULL;
-  cell = λ j. NULL;
-  home = λ i. some None;
+  clink = λ i. if ltb i (c.capacity + 1) then start_link c.capacity i else 0;
+  nlink = λ j. if ltb j (c.capacity + 1) then start_nlink c.capacity j else 0;
+  next = λ j. if ltb j (c.capacity + 1) then start_word NULL else start_word 0;
+  cell = λ j. if ltb j (c.capacity + 1) then NULL else 0;
+  home = λ i. if ltb i c.capacity then some None else none;
 }
 
 -- the whole machine, for schedules
 abbrev pub queue : {T : Type 0} → Shape → schedule.Machine (Memory T) (Line T) (Call T) (Event T)
 queue c = record {
   first = start c;
-  rest = Idle None;
+  rest = λ p. Idle None;
   is_idle = is_idle;
   starts = λ call idle. starts call;
   step = step c;

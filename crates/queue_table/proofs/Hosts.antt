@@ -68,7 +68,7 @@ both_empty false xs ys a b = b
 hosts : (T : Type 0) (n limit : ℕ) → Hosts (queue T n limit) (lists {T = T}) 2
 hosts T n limit = record {
   idle = λ l line e. both_empty (eqb l 0) (held_cells line) (held_nodes line) (idle_empty line e).cells (idle_empty line e).nodes;
-  first = λ l o. both_empty (eqb l 0) _ _ (first_empty o).cells (first_empty o).nodes;
+  first = λ l o rest. both_empty (eqb l 0) _ _ (first_empty o).cells (first_empty o).nodes;
   apart = λ l i low e. link_off (eqb l 0) i e;
   placed = λ l words homes low sane. let t = top_low (eqb l 0) n in let w = sane.words_are in omega arith;
   access = agrees n limit;

@@ -14,18 +14,18 @@ use Rattle.machine.specs.Words.{times, total}
 use Rattle.machine.specs.Seats.{Saw}
 use Rattle.machine.proofs.Ahead.{Ahead}
 use Rattle.queue_machine.specs.declared.lines.Line.{Line}
-use Rattle.queue_machine.specs.declared.lines.Seeking.TheVariants.{ToLink}
-use Rattle.queue_machine.specs.declared.lines.Line.TheVariants.{Idle, LoadNodes, LoadNodeLink, TakeNode, StoreCell, LoadNext, PrepareNext, LoadTail, LoadTailNext, CheckTail, SwingTail, LinkNext, LoadNodesToGive, LinkToNodes, GiveNode, LoadCellsToGive, LinkToCells, GiveCell}
+use Rattle.queue_machine.specs.declared.lines.Line.TheVariants.{Idle}
 use Rattle.queue_machine.specs.Machine.{Memory, is_idle, held_cells, held_nodes, step}
 use Rattle.queue_machine.specs.Answers.{shape, state}
 use Rattle.queue_machine.specs.Rule.{Lists, IsFine, bare, wanting, putting, Tells, Good, Kept}
 use Rattle.queue_machine.specs.Deeds.{Deeds}
 use Rattle.queue_machine.proofs.Places.{wins_unheld}
-use Rattle.queue_machine.proofs.StepKinds.{Alike, steady, good_goes}
+use Rattle.queue_machine.proofs.StepKinds.{Alike, good_goes}
 use Rattle.queue_machine.proofs.Step.{step_kept}
 use Rattle.queue_machine.proofs.Tells.{tells_kept, step_apart}
 use Rattle.queue_machine.proofs.Doing.{begins, meanwhile, step_does}
 use Rattle.running.specs.Machine.{Laws, Machine}
+use Rattle.running.proofs.Uniting.{alike as all_same}
 use Rattle.queue_table.specs.declared.operation.Operation.{Operation}
 use Rattle.queue_table.specs.declared.operation.Operation.TheVariants.{Put as PutFirst}
 use Rattle.queue_table.specs.Lines.{names, call_of, first_line}
@@ -116,28 +116,6 @@ reseated {T} n limit m g of of' lines lines' h x which hands alone = record {
     sums : (f : Line T → ℕ) → f (Idle None) ≡ 0 → total f lines' ≡ total f lines
     sums f none_held = ⊎_elim (λ e. ap (total f) e) (λ e. ap (total f) e ∙ total_snoc f lines (Idle None) ∙ omega arith) which
 
-module _ {T : Type 0} where
-  -- a line that holds no cell holds no node either
-  quiets : (l : Line T) → length (held_cells l) ≡ 0 → Alike l (Idle None)
-  quiets (LoadNodes put) e = absurd (omega (arith, e))
-  quiets (LoadNodeLink put w) e = absurd (omega (arith, e))
-  quiets (TakeNode put w k) e = absurd (omega (arith, e))
-  quiets (StoreCell link) e = absurd (omega (arith, e))
-  quiets (LoadNext link) e = absurd (omega (arith, e))
-  quiets (PrepareNext link x) e = absurd (omega (arith, e))
-  quiets (LoadTail (ToLink link)) e = absurd (omega (arith, e))
-  quiets (LoadTailNext (ToLink link) w) e = absurd (omega (arith, e))
-  quiets (CheckTail (ToLink link) w x) e = absurd (omega (arith, e))
-  quiets (SwingTail (ToLink link) w x) e = absurd (omega (arith, e))
-  quiets (LinkNext link w x) e = absurd (omega (arith, e))
-  quiets (LoadNodesToGive give) e = absurd (omega (arith, e))
-  quiets (LinkToNodes give w) e = absurd (omega (arith, e))
-  quiets (GiveNode give w) e = absurd (omega (arith, e))
-  quiets (LoadCellsToGive give) e = absurd (omega (arith, e))
-  quiets (LinkToCells give w) e = absurd (omega (arith, e))
-  quiets (GiveCell give w) e = absurd (omega (arith, e))
-  quiets l e = steady refl
-
 module _ {T : Type 0} (n limit : ℕ) where
   -- a pass with nothing in hand goes to another such line
   goes_empty : (m : Memory T) (of : ℕ → Option ℕ) (lines : List (Line T)) (h : List (Event T)) (q : ℕ) (l l' : Line T) → Kept T n limit m of lines h → get_elem? lines q ≡ some l → Empty l → Empty l' → ((g : Lists) → IsFine limit m g l') → Kept T n limit m of (set lines q l') h
@@ -151,20 +129,26 @@ module _ {T : Type 0} (n limit : ℕ) where
 
   pub laws : Laws {T = T} names (core T n limit)
   laws = record {
-    rests = refl;
-    starts = starts;
+    rests = λ l. refl;
+    calm = λ l. refl;
+    fresh = λ p. refl;
+    starts = λ o rest. starts o;
+    stocked = tt;
+    gives_quiet = λ out l is more. refl;
+    gives_stock = λ out l is more. tt;
+    takes_stock = λ out l k is quiet. tt;
     empty = λ l e. ap length (idle_empty l e).cells;
     begins = λ m s o idle. goes_empty m s.who s.lines s.history s.seat s.line (first_line o) s.good s.here (idle_empty s.line idle) (first_empty o) (λ g. first_fine limit m g o);
-    quiets = λ m s none_held. record { lists = s.good.lists; good = good_goes s.seat s.line (Idle None) s.good.good s.here (quiets s.line none_held) tt };
-    reseats = λ m r. record { lists = r.good.lists; good = reseated n limit m r.good.lists r.who r.who' r.lines r.lines' r.history r.good.good r.grows r.hands r.alone };
+    quiets = λ m s idle. goes_empty m s.who s.lines s.history s.seat s.line (Idle None) s.good s.here (idle_empty s.line idle) (idle_empty (Idle None) refl) (λ g. tt);
+    reseats = λ m r. record { lists = r.good.lists; good = reseated n limit m r.good.lists r.who r.who' r.lines r.lines' r.history r.good.good (all_same (Idle None) is_idle (λ o rest. first_line o) (core T n limit) r.lines r.lines' r.shared) r.hands r.alone };
     kept = λ m t. step_kept n limit m t.at.who t.at.lines t.at.history t.at.seat t.pass t.is t.at.good t.at.line t.at.here;
     legal = λ m of lines h k. k.good.told.legal;
     hands = λ m t. t.at.good.good.told.hands t.at.seat t.pass t.at.line t.at.here t.is;
     apart = λ m p l h q ne. step_apart (shape n limit) m p q ne h l;
     deeds = λ o m s d. deeds o m s.at.who s.at.lines s.at.history s.at.seat s.at.line s.at.good s.at.here s.pass s.begun s.saw d;
     tells = λ m s before t. tells_kept s.at.good.good s.at.seat s.pass.number s.begun s.pass.seen before s.saw.seen s.at.line s.at.here t;
-    first_deeds = λ p h o. begins p h (call_of o);
-    first_tells = first_tells n limit;
+    first_deeds = λ p h o rest. begins p h (call_of o);
+    first_tells = λ h o rest. first_tells n limit h o;
     unheld = λ m s p. wins_unheld s.good.good s.seat p s.line s.here;
     does = λ words homes t sane. does n limit words homes sane t.pass t.at.who t.at.lines t.at.history t.at.seat t.at.good t.is t.at.line t.at.here;
   }

@@ -3,3 +3,4 @@ pub mod Does
 pub mod Laws
 pub mod Opening
 pub mod Hosts
+pub mod Gives

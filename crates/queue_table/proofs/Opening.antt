@@ -4,26 +4,28 @@ use Rattle.std.proofs.lemmas.Bool.Decides.{nat_tests}
 use Rattle.std.proofs.lemmas.List.{get_or_past}
 use Rattle.std.proofs.lemmas.Nat.{div-mul-add, mod-mul-add}
 use Rattle.std.specs.Prelude.{slice_index, None}
-use mathlib.Core.Option.{some}
+use mathlib.Core.Option.{none, some}
+use lib.ListN.{get_elem?}
 use Rattle.atomic_table.specs.Table.{opening}
 use Rattle.tagged_index.specs.Fields.{fields_of}
 use Rattle.tagged_index.specs.declared.word.TheConstants.{NULL}
-use Rattle.machine.specs.Words.{start_link}
+use Rattle.machine.specs.Words.{Tagged, start_word, start_link}
 use Rattle.machine.specs.Seats.{first_view}
 use Rattle.machine.proofs.Tests.{cases}
 use Rattle.machine.proofs.Seating.{seated_first}
 use Rattle.queue_machine.specs.declared.lines.Line.{Line}
 use Rattle.queue_machine.specs.declared.lines.Line.TheVariants.{Idle}
-use Rattle.queue_machine.specs.Machine.{start_nlink}
+use Rattle.queue_machine.specs.Machine.{Memory, start_nlink, start}
 use Rattle.queue_machine.specs.Answers.{shape}
 use Rattle.queue_machine.specs.Rule.{Kept}
-use Rattle.queue_machine.proofs.Start.{IsNew, new_kept}
+use Rattle.queue_machine.proofs.Start.{start_kept}
 use Rattle.running.specs.Rule.{Rule}
-use Rattle.running.proofs.Opening.{empties, home_start, homes_start, first_who, nobody, below_or_not}
+use Rattle.running.proofs.Acts.{led_first}
+use Rattle.running.proofs.Opening.{empties, home_start, home_past, homes_start, first_who, nobody, below_or_not}
 use Rattle.queue_table.specs.Layout.{clink_at, nlink_at, next_at, cell_at, words_for, start_of, start_at, number_at}
 use Rattle.queue_machine.specs.declared.lines.Number.{Number}
 use Rattle.queue_machine.specs.declared.lines.Number.TheVariants.{CellLink, NodeLink, Cell}
-use Rattle.queue_table.specs.Memories.{memory_of}
+use Rattle.queue_table.specs.Memories.{memory_of, at_home}
 use Rattle.queue_table.specs.Core.{core}
 use Rattle.queue_table.proofs.Laws.{laws, queue}
 
@@ -54,9 +56,6 @@ module _ (n : ℕ) (ws : List ℕ) (small : n < NULL) (long : length ws ≡ word
       (λ h. omega (arith, h))
       (word_of i r at e low)
 
-  next_word : (j : ℕ) → (slice_index ws (next_at j) ≡ NULL) ⊎ (slice_index ws (next_at j) ≡ 0)
-  next_word j = ⊎_elim (λ h. inl h.1) (λ h. inr h) (word_of j 2 (next_at j) (omega arith) (omega arith))
-
   nlink_small : (j : ℕ) → j < n + 1 → start_nlink n j ≤ NULL
   nlink_small j h = cases (λ v. v ≤ NULL) (eqb j 0) NULL (start_link (n + 1) j) (λ _. omega arith) (λ _. link_small (n + 1) j (omega arith))
 
@@ -65,52 +64,64 @@ module _ (n : ℕ) (ws : List ℕ) (small : n < NULL) (long : length ws ≡ word
   plain_at (NodeLink j) = plain j 1 (nlink_at j) (omega arith) (omega arith) (λ h. nlink_small j h)
   plain_at (Cell j) = plain j 3 (cell_at j) (omega arith) (omega arith) (λ h. omega arith)
 
+module _ (n : ℕ) (ws : List ℕ) (long : length ws ≡ words_for n) (is : (k : ℕ) → k < words_for n → slice_index ws k ≡ start_at n k) where
+  -- the words of each number: those of a new queue, and 0 where there are none
+  number_first : (i r at : ℕ) → at ≡ 64 + 4 * i + r → r < 4 → cond (ltb i (n + 1)) (start_of n r i) 0 ≡ slice_index ws at
+  number_first i r at e low = cases (λ (v : ℕ). v ≡ slice_index ws at) (ltb i (n + 1)) (start_of n r i) 0
+      (λ b. let h : i < n + 1 = grind (arith, nat_tests) in sym (is at (omega (arith, e)) ∙ part_of n i r at e low))
+      (λ b. let h : n + 1 ≤ i = grind (arith, nat_tests) in sym (get_or_past ws at 0 (omega (arith, e, long))))
+
+  next_first : (j : ℕ) → cond (ltb j (n + 1)) (start_word NULL) (start_word 0) ≡ fields_of (slice_index ws (next_at j))
+  next_first j = cases (λ (w : Tagged). w ≡ fields_of (slice_index ws (next_at j))) (ltb j (n + 1)) (start_word NULL) (start_word 0)
+      (λ b. let h : j < n + 1 = grind (arith, nat_tests) in sym (ap fields_of (is (next_at j) (omega arith) ∙ part_of n j 2 (next_at j) (omega arith) (omega arith))))
+      (λ b. let h : n + 1 ≤ j = grind (arith, nat_tests) in sym (ap fields_of (get_or_past ws (next_at j) 0 (omega (arith, long)))))
+
 module _ {T : Type 0} (n limit : ℕ) (ws : List ℕ) (some_cell : 0 < n) (small : n < NULL) (some_tag : 0 < limit) (long : length ws ≡ words_for n) (is : (k : ℕ) → k < words_for n → slice_index ws k ≡ start_at n k) where
-  new : IsNew n (memory_of {T = T} ws (empties T n))
-  new = record {
-    cells = ap fields_of (is 0 (omega arith));
-    nodes = ap fields_of (is 16 (omega arith));
-    head = ap fields_of (is 32 (omega arith));
-    tail = ap fields_of (is 48 (omega arith));
-    clink = λ i low. is (clink_at i) (omega arith) ∙ part_of n i 0 (clink_at i) (omega arith) (omega arith);
-    nlink = λ j low. is (nlink_at j) (omega arith) ∙ part_of n j 1 (nlink_at j) (omega arith) (omega arith);
-    dummy = ap (λ (x : ℕ). (fields_of x).index) (is (next_at 0) (omega arith) ∙ part_of n 0 2 (next_at 0) (omega arith) (omega arith));
-    unmarked = λ j. ⊎_elim (λ e. ap (λ (x : ℕ). (fields_of x).mark) e) (λ e. ap (λ (x : ℕ). (fields_of x).mark) e) (next_word n ws small long is j);
-    untagged = λ j. ⊎_elim (λ e. ap (λ (x : ℕ). (fields_of x).tag) e) (λ e. ap (λ (x : ℕ). (fields_of x).tag) e) (next_word n ws small long is j);
-    named = λ j ne. ⊎_elim
-        (λ e. absurd (ne (ap (λ (x : ℕ). (fields_of x).index) e)))
-        (λ e. subst (λ (x : ℕ). x < n + 1) (sym (ap (λ (x : ℕ). (fields_of x).index) e)) (omega arith))
-        (next_word n ws small long is j);
-    home = λ i low. home_start T n i low;
+  slot_first : (i : ℕ) → cond (ltb i n) (some None) none ≡ at_home (get_elem? (empties T n) i)
+  slot_first i = cases (λ v. v ≡ at_home (get_elem? (empties T n) i)) (ltb i n) (some None) none (λ b. sym (home_start T n i (grind (arith, nat_tests)))) (λ b. sym (home_past T n i (grind (arith, nat_tests))))
+
+  -- a new table shows what a new queue has
+  first_is : start (shape n limit) ≡ memory_of ws (empties T n)
+  first_is = λ t. record {
+    cells = sym (ap fields_of (is 0 (omega arith))) t;
+    nodes = sym (ap fields_of (is 16 (omega arith))) t;
+    head = sym (ap fields_of (is 32 (omega arith))) t;
+    tail = sym (ap fields_of (is 48 (omega arith))) t;
+    clink = λ i. number_first n ws long is i 0 (clink_at i) (omega arith) (omega arith) t;
+    nlink = λ j. number_first n ws long is j 1 (nlink_at j) (omega arith) (omega arith) t;
+    next = λ j. next_first n ws long is j t;
+    cell = λ j. number_first n ws long is j 3 (cell_at j) (omega arith) (omega arith) t;
+    home = λ i. slot_first i t;
   }
 
-  good : Kept T n limit (memory_of ws (empties T n)) (first_who T (Line T)) (Idle None ∷ []) []
+  good : Kept T n limit (memory_of ws (empties T n)) (first_who T {L = Line T} (Idle None)) (Idle None ∷ []) []
   good = (laws n limit).reseats (memory_of ws (empties T n)) (record {
     who = some;
     lines = Idle None ∷ [];
     history = [];
-    good = new_kept n limit 1 (memory_of ws (empties T n)) some_cell small some_tag new;
-    who' = first_who T (Line T);
+    good = subst (λ (m : Memory T). Kept T n limit m some (Idle None ∷ []) []) first_is (start_kept n limit 1 some_cell small some_tag);
+    who' = first_who T {L = Line T} (Idle None);
     lines' = Idle None ∷ [];
-    grows = inl refl;
-    hands = λ q p l _ e. absurd (nobody T (Line T) q p e);
-    alone = λ q r p e _. absurd (nobody T (Line T) q p e);
+    shared = inl refl;
+    hands = λ q p l _ e. absurd (nobody T (Idle None) q p e);
+    alone = λ q r p e _. absurd (nobody T (Idle None) q p e);
   })
 
-  opens_all : Rule {names = _} (queue T n limit) (opening ws (replicate n None) first_view)
+  opens_all : Rule {names = _} (queue T n limit) (opening ws (replicate n None) (first_view (Idle None)))
   opens_all = record {
     history = [];
     good = good;
-    seated = seated_first (shape n limit) (core T n limit).holding;
+    seated = seated_first (shape n limit) (core T n limit).holding (Idle None);
     sane = record {
       words_are = long;
       homes_are = homes_start T n;
       plain = plain_at n ws small long is;
     };
+    led = led_first (queue T n limit) (memory_of ws (empties T n)) first_is;
   }
 
 -- words that are given one after another, and a number of slots
 pub opens : (T : Type 0) (n limit : ℕ) (ws items : List ℕ) → ws ≡ items → 0 < n → n < NULL → 0 < limit → length items ≡ words_for n → ((k : ℕ) → k < words_for n → slice_index items k ≡ start_at n k) → (count : ℕ) → count ≡ n
-    → Rule {names = _} (queue T n limit) (opening ws (replicate count None) first_view)
-opens T n limit ws items e some_cell small some_tag long is count same = subst (λ (k : ℕ). Rule {names = _} (queue T n limit) (opening ws (replicate k None) first_view)) (sym same)
+    → Rule {names = _} (queue T n limit) (opening ws (replicate count None) (first_view (Idle None)))
+opens T n limit ws items e some_cell small some_tag long is count same = subst (λ (k : ℕ). Rule {names = _} (queue T n limit) (opening ws (replicate k None) (first_view (Idle None)))) (sym same)
     (opens_all n limit ws some_cell small some_tag (ap length e ∙ long) (λ k h. ap (λ (l : List ℕ). slice_index l k) e ∙ is k h))

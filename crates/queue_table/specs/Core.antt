@@ -5,7 +5,7 @@ use Rattle.queue_machine.specs.declared.lines.Place.{Place}
 use Rattle.queue_machine.specs.declared.lines.Number.{Number}
 use Rattle.queue_machine.specs.declared.lines.Line.{Line}
 use Rattle.queue_machine.specs.declared.lines.Line.TheVariants.{Idle}
-use Rattle.queue_machine.specs.Machine.{Memory, memories, table, held_cells}
+use Rattle.queue_machine.specs.Machine.{Memory, memories, table, held_cells, start}
 use Rattle.queue_machine.specs.Answers.{shape}
 use Rattle.queue_machine.specs.Rule.{Kept, Tells}
 use Rattle.queue_machine.specs.Deeds.{Deeds}
@@ -25,7 +25,7 @@ module _ (T : Type 0) (n limit : ℕ) where
   board = record {
     memories = memories;
     layout = layout n;
-    idle = Idle None;
+    idle = λ l. Idle None;
     table = table limit;
     Brings = Brings;
     Says = Says n limit;
@@ -34,8 +34,12 @@ module _ (T : Type 0) (n limit : ℕ) where
 
   abbrev pub rules : Rules T (Memory T) (Line T) (Operation T)
   rules = record {
+    first = start (shape n limit);
     shape = shape n limit;
     holding = λ l. length (held_cells l);
+    rest = λ p. Idle None;
+    stock = Idle None;
+    IsStock = λ out l. Unit {0};
     Good = λ m who lines h. Kept T n limit m who lines h;
     Deeds = λ o p l b seen. Deeds p (call_of o) l b seen;
     Tells = λ b seen l. Tells n limit b seen l;

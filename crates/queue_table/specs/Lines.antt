@@ -7,6 +7,7 @@ use Rattle.queue_machine.specs.declared.lines.Call.TheVariants.{Put as CallPut, 
 use Rattle.queue_machine.specs.declared.lines.Line.{Line}
 use Rattle.queue_machine.specs.declared.lines.Line.TheVariants.{Idle, LoadCells, LoadCellLink, TakeCell, LoadNodes, LoadNodeLink, LoadTail, LoadTailNext, CheckTail, SwingTail, LinkNext, SwingToLinked, MarkNext, LoadHead, LoadHeadNext, CheckHead, SwingTailToTake, LoadCell, TakeHead, LoadHeadToLook, LoadTailToCount}
 use Rattle.queue_machine.specs.Machine.{is_idle, starts, table}
+use Rattle.machine.specs.Seats.{all_alike}
 use Rattle.running.specs.Machine.{Names}
 use Rattle.running.specs.Tables.{next_of}
 use Rattle.queue_table.specs.declared.operation.Operation.{Operation}
@@ -26,7 +27,7 @@ module _ {T : Type 0} where
   first_line o = starts (call_of o)
 
   abbrev pub names : Names (Line T) (Operation T)
-  names = record { idle = Idle None; is_idle = is_idle; first = first_line }
+  names = record { shares = all_alike (Idle None); is_idle = is_idle; quiet = λ l. Idle None; first = λ o rest. first_line o }
 
   -- the next line, by the word found and the slots moved
   abbrev pub next : ℕ → Line T → ℕ → List (ℕ × Slot T) → Line T

@@ -36,6 +36,7 @@ fn work<C: Container<Message> + Sync, G: Gate + Sync, R: Threads + Wait + Sync>(
 ) -> Result<Ended<C::Pass>, RelayFault>
     requires root { C.is_root site.now.container root.old }
     requires fresh { C.root root.old ≡ fresh }
+    requires few { (C.shape site.now.container).passes ≤ MAX_PASSES }
     requires numbered { AreInputsFrom 0 inputs.items }
     requires producers { site.now.orders.producers ≡ vec_len inputs }
     requires room { let most = most_taken site.now.orders.take site.now.orders.messages in
@@ -55,9 +56,12 @@ fn work<C: Container<Message> + Sync, G: Gate + Sync, R: Threads + Wait + Sync>(
         ClosedAs pool (vec_len inputs + vec_len room.taken) e.closer e.used) }
     ensures used { IfOk result (λ e. All (MayUse e.used) e.sent.items) }
     ensures never { (result ≡ Err TooSmall) → ⊥ }
-    ensures no_pass { result ≡ Err NoPass → MAX_PASSES ≤ vec_len inputs + vec_len room.taken }
-    ensures no_thread { result ≡ Err NoThread → vec_len inputs + vec_len room.taken < MAX_PASSES }
-    ensures passes { IfOk result (λ e. vec_len inputs + vec_len room.taken < MAX_PASSES) }
+    ensures no_pass { result ≡ Err NoPass →
+        (C.shape site.now.container).passes ≤ vec_len inputs + vec_len room.taken }
+    ensures no_thread { result ≡ Err NoThread →
+        vec_len inputs + vec_len room.taken < (C.shape site.now.container).passes }
+    ensures passes { IfOk result (λ e.
+        vec_len inputs + vec_len room.taken < (C.shape site.now.container).passes) }
 {
     let WorkRoom {
         senders,
@@ -93,10 +97,11 @@ fn work<C: Container<Message> + Sync, G: Gate + Sync, R: Threads + Wait + Sync>(
 /// left that the plan did not ask to stay.
 ///
 /// `TooSmall` comes exactly where some message could never be put, and is looked for first; then
-/// `NoMemory`, where there is no room for the outcome; `NoPass`, exactly where more than
-/// [`MAX_PASSES`](bounded_model::MAX_PASSES) would be needed, one for each worker and one to close;
-/// `NoThread`, where a worker's thread could not be started. A fault consumes the container and the
-/// inputs, and no worker runs on. Called in `file_relay`, with a gate that counts the tries.
+/// `NoMemory`, where there is no room for the outcome; `NoPass`, exactly where more passes would be
+/// needed than may be out at one time, of a queue or a stack
+/// [`MAX_PASSES`](bounded_model::MAX_PASSES): one for each worker and one to close; `NoThread`,
+/// where a worker's thread could not be started. A fault consumes the container and the
+/// inputs, and no worker runs on. No container may have more passes than `MAX_PASSES`. Called in `file_relay`, with a gate that counts the tries.
 pub fn run<C: Container<Message> + Sync, G: Gate + Sync, R: Threads + Wait + Sync>(
     rt: &R,
     alloc: Global,
@@ -109,6 +114,7 @@ pub fn run<C: Container<Message> + Sync, G: Gate + Sync, R: Threads + Wait + Syn
     requires root { C.is_root container root }
     requires fresh { C.root root ≡ fresh }
     requires consumers { 1 ≤ plan.consumers }
+    requires few { (C.shape container).passes ≤ MAX_PASSES }
     requires numbered { AreInputsFrom 0 inputs.items }
     ensures lists { IfOk result (λ r. length r.unsent.items ≡ length inputs.items) }
     ensures all_there { IfOk result (LosesNothing inputs.items) }
@@ -126,9 +132,12 @@ pub fn run<C: Container<Message> + Sync, G: Gate + Sync, R: Threads + Wait + Syn
     ensures all { IfOk result (Relays (C.shape container) plan inputs.items) }
     ensures too_small { (result ≡ Err TooSmall)
         ↔ IsTooSmall plan (C.shape container).capacity (total inputs.items) }
-    ensures no_pass { result ≡ Err NoPass → MAX_PASSES ≤ length inputs.items + plan.consumers }
-    ensures no_thread { result ≡ Err NoThread → length inputs.items + plan.consumers < MAX_PASSES }
-    ensures passes { IfOk result (λ r. length inputs.items + plan.consumers < MAX_PASSES) }
+    ensures no_pass { result ≡ Err NoPass →
+        (C.shape container).passes ≤ length inputs.items + plan.consumers }
+    ensures no_thread { result ≡ Err NoThread →
+        length inputs.items + plan.consumers < (C.shape container).passes }
+    ensures passes { IfOk result (λ r.
+        length inputs.items + plan.consumers < (C.shape container).passes) }
 {
     let messages = count(&inputs);
     if is_too_small(&plan, container.capacity(), messages) {
@@ -177,13 +186,17 @@ pub fn run_freely<C: Container<Message> + Sync, R: Threads + Wait + Sync>(
     requires root { C.is_root container root }
     requires fresh { C.root root ≡ fresh }
     requires consumers { 1 ≤ plan.consumers }
+    requires few { (C.shape container).passes ≤ MAX_PASSES }
     requires numbered { AreInputsFrom 0 inputs.items }
     ensures all { IfOk result (Relays (C.shape container) plan inputs.items) }
     ensures too_small { (result ≡ Err TooSmall)
         ↔ IsTooSmall plan (C.shape container).capacity (total inputs.items) }
-    ensures no_pass { result ≡ Err NoPass → MAX_PASSES ≤ length inputs.items + plan.consumers }
-    ensures no_thread { result ≡ Err NoThread → length inputs.items + plan.consumers < MAX_PASSES }
-    ensures passes { IfOk result (λ r. length inputs.items + plan.consumers < MAX_PASSES) }
+    ensures no_pass { result ≡ Err NoPass →
+        (C.shape container).passes ≤ length inputs.items + plan.consumers }
+    ensures no_thread { result ≡ Err NoThread →
+        length inputs.items + plan.consumers < (C.shape container).passes }
+    ensures passes { IfOk result (λ r.
+        length inputs.items + plan.consumers < (C.shape container).passes) }
 {
     run(rt, alloc, container, root, inputs, plan, &FreeGate)
 }
@@ -199,13 +212,15 @@ pub(crate) fn split_jobs<C: Container<Message>, T: Drop>(
     requires root { C.is_root container.now root.old }
     requires fresh { C.root root.old ≡ gave (C.root root.old).given }
     requires room { IsRoomFor (vec_len lists) room }
+    requires few { (C.shape container.now).passes ≤ MAX_PASSES }
     ensures root { C.is_root container.now root.new }
     ensures given { IfSome result (λ v.
         C.root root.new ≡ gave ((C.root root.old).given + vec_len lists)) }
     ensures new { IfSome result (λ v. let first = (C.root root.old).given in
         EachFrom (IsNewJob (C.is_pass container.now) C.pass first) 0 v.items) }
     ensures lists { IfSome result (λ v. AllZip (λ l j. j.list ≡ l) lists.items v.items) }
-    ensures none { IfNone result (MAX_PASSES ≤ (C.root root.old).given + vec_len lists) }
+    ensures none { IfNone result
+        ((C.shape container.now).passes ≤ (C.root root.old).given + vec_len lists) }
 {
     let mut jobs = room;
     for list in lists {

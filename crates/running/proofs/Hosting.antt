@@ -1,5 +1,5 @@
 -- A machine keeps the laws of a host of its lists.
-use Rattle.std.proofs.Common.{◌≡◌, ◌≢◌, ℕ, ◌<◌, Bool, true, false, cond, List, [], ◌∷◌, set, refl, sym, ap, ◌∙◌, subst}
+use Rattle.std.proofs.Common.{◌≡◌, ◌≢◌, ℕ, ◌<◌, inl, inr, Bool, true, false, cond, List, [], ◌∷◌, set, refl, sym, ap, ◌∙◌, subst}
 use Rattle.std.proofs.lemmas.Bool.{false≢true}
 use Rattle.std.specs.Prelude.{Option as Slot}
 use mathlib.Core.Option.{some}
@@ -14,6 +14,7 @@ use Rattle.index_list.specs.Host.{IsReady, AreSlots, Takes, Laws, Exchanges}
 use Rattle.index_list.specs.declared.front.Front.{Front}
 use Rattle.index_list.specs.declared.change.Change.{Change}
 use Rattle.index_list.specs.declared.change.Change.TheVariants.{Take, TakeAll, Give, GiveChain, Mark, Shut}
+use Rattle.machine.specs.declared.seats.Begun.{Begun}
 use Rattle.machine.specs.declared.seats.View.{View}
 use Rattle.machine.specs.declared.seats.View.TheVariants.{AtPass}
 use Rattle.running.specs.Machine.{Names, Machine, Side, stays, brings, returns, swaps, Leaves}
@@ -21,7 +22,7 @@ use Rattle.running.specs.Rule.{Rule, line_in, line_now}
 use Rattle.running.specs.Going.{AtAccess, now_in}
 use Rattle.running.specs.Lists.{Lists, Hosts, Ready, Bringing, BroughtBy, Returning, ReturnedBy, AtStep, Tells, Rests, kind_access, step_access, side, host}
 use Rattle.running.proofs.Keeps.{at_map, goes, ready, ready_here}
-use Rattle.running.proofs.Made.{ready_does, load_law, store_law}
+use Rattle.running.proofs.Made.{ready_does, makes_now, load_law, store_law}
 
 abbrev does_bring : Side → Bool
 does_bring brings = true
@@ -56,11 +57,11 @@ module _ {T L O : Type 0} {names : Names L O} (m : Machine T L O names) (y : Lis
   pub at_access : (o : O) (v : View T L) (l : ℕ) (kind : Kind) → AtStep m y o v l kind → AtAccess m o v (kind_access y.layout l kind)
   at_access o v l kind a = record { begun = a.begun; line = a.line; going = a.going; access = agrees a.line l kind a.step }
 
-  of_step : (P : View T L → Type 0) (o : O) (v : View T L) (l : ℕ) (kind : Kind) → AtStep m y o v l kind → ((p from : PassView T) (line : L) → y.step (line_now names o line) ≡ some (l, kind) → P (AtPass p from line)) → P v
+  of_step : (P : View T L → Type 0) (o : O) (v : View T L) (l : ℕ) (kind : Kind) → AtStep m y o v l kind → ((p : PassView T) (from : Begun T L) (line : L) → y.step (line_now names o line) ≡ some (l, kind) → P (AtPass p from line)) → P v
   of_step P o v l kind a show = subst P (sym a.going.is) (show a.going.pass a.going.from a.going.at (ap y.step a.going.now ∙ a.step))
 
-  held_by : (o : O) (l : ℕ) (line : L) (b : Bool) → names.is_idle line ≡ b → y.held l (cond b (names.first o) line) ≡ y.held l line
-  held_by o l line true e = hosts.first l o ∙ sym (hosts.idle l line e)
+  held_by : (o : O) (l : ℕ) (line : L) (b : Bool) → names.is_idle line ≡ b → y.held l (cond b (names.first o line) line) ≡ y.held l line
+  held_by o l line true e = hosts.first l o line ∙ sym (hosts.idle l line e)
   held_by o l line false e = refl
 
   held_now : (o : O) (l : ℕ) (line : L) → y.held l (line_now names o line) ≡ y.held l line
@@ -84,7 +85,8 @@ module _ {T L O : Type 0} {names : Names L O} (m : Machine T L O names) (y : Lis
       (λ p from line e met miss.
       let at : ℕ = y.layout.top l in
       let kind : Kind = exchange (fields_of w) c in
-      let g = goes m o id at p from line s met (word s at) [] s.words s.homes ((ready_does m o id at p from line (kind_access y.layout l kind) s met (agrees (line_now names o line) l kind e)).1 (λ f. miss ((same_fields (word s at) w).1 f))) in
+      let access = agrees (line_now names o line) l kind e in
+      let g = goes m o id at p from line s met (word s at) [] s.words s.homes (makes_now m o line (kind_access y.layout l kind) s access _ _ _ _ (refl, inr ((λ f. miss ((same_fields (word s at) w).1 f)), record { words = refl; homes = refl; slots = refl }))) ((ready_does m o id at p from line (kind_access y.layout l kind) s met access).1 (λ f. miss ((same_fields (word s at) w).1 f))) in
       record { view = g.view; rule = g.rule; told = (g.told, (λ f _. absurd (miss ((same_fields (word s at) w).1 f))), (λ f _. absurd (miss ((same_fields (word s at) w).1 f)))) })
 
   module _ (o : O) (l id w x : ℕ) (c : Change) (s : State (Slot T) (View T L)) (is : fields_of x ≡ new_top (y.layout.keeps l) (fields_of w) c) (hit : word s (y.layout.top l) ≡ w) where
@@ -100,9 +102,11 @@ module _ {T L O : Type 0} {names : Names L O} (m : Machine T L O names) (y : Lis
     stay : (v : View T L) → AtStep m y o v l kind → side (y.layout.carries l) c ≡ stays → Before (Rule m) id v at s → Goes (Rule m) (changed s at x s.homes id) (Tells m y o l kind w [] v)
     stay v may es = of_step (λ u. Before (Rule m) id u at s → Goes (Rule m) (changed s at x s.homes id) (Tells m y o l kind w [] u)) o v l kind may
         (λ p from line e met.
+        let access = access_is stays es (line_now names o line) e in
         let g = goes m o id at p from line s met w [] (set s.words at x) s.homes
+        (makes_now m o line (swaps at (fields_of w) (fields_of x) stays) s access _ _ _ _ (sym hit, inl (record { hit = ap fields_of hit; left = x; is = refl; words = refl; slots = (refl, refl) })))
         (subst (λ (k : ℕ). Leaves m.core s.words s.homes p.number (line_now names o line) k [] (set s.words at x) s.homes) hit
-        ((ready_does m o id at p from line (swaps at (fields_of w) (fields_of x) stays) s met (access_is stays es (line_now names o line) e)).0 x (ap fields_of hit) refl)) in
+        ((ready_does m o id at p from line (swaps at (fields_of w) (fields_of x) stays) s met access).0 x (ap fields_of hit) refl)) in
         record { view = g.view; rule = g.rule; told = (g.told, (λ _ b. no_bring (side (y.layout.carries l) c) stays refl es b), (λ _ b. no_return (side (y.layout.carries l) c) stays refl es b)) })
 
     take_none : (v : View T L) (xs : List ℕ) → AtStep m y o v l kind → side (y.layout.carries l) c ≡ stays → Before (Rule m) id v at s → [] ≡ cond (y.layout.carries l) (arranged c (taken (fields_of w) c xs)) []
@@ -115,8 +119,10 @@ module _ {T L O : Type 0} {names : Names L O} (m : Machine T L O names) (y : Lis
     bring v xs may es ec met are = of_step (λ u. Before (Rule m) id u at s → Takes y.layout (host m y) (Rule m) o l id w x c u s xs) o v l kind may
         (λ p from line e met.
         let now : L = line_now names o line in
-        let d = (ready_does m o id at p from line (swaps at (fields_of w) (fields_of x) brings) s met (access_is brings es now e)).0 x (ap fields_of hit) refl in
+        let access = access_is brings es now e in
+        let d = (ready_does m o id at p from line (swaps at (fields_of w) (fields_of x) brings) s met access).0 x (ap fields_of hit) refl in
         let g = goes m o id at p from line s met w d.slots (set s.words at x) (emptied s.homes d.slots)
+        (makes_now m o line (swaps at (fields_of w) (fields_of x) brings) s access _ _ _ _ (sym hit, inl (record { hit = ap fields_of hit; left = x; is = refl; words = refl; slots = refl })))
         (subst (λ (k : ℕ). Leaves m.core s.words s.homes p.number now k d.slots (set s.words at x) (emptied s.homes d.slots)) hit d.leaves) in
         record {
           slots = d.slots;
@@ -139,8 +145,9 @@ module _ {T L O : Type 0} {names : Names L O} (m : Machine T L O names) (y : Lis
     give_back v may es ec met zs fits are = of_step (λ u. Before (Rule m) id u at s → m.core.Fits (now_in m o u) zs → AreSlots y.layout (host m y) (Rule m) l (given c (y.held l (line_in names u))) zs × Goes (Rule m) (changed s at x (filled s.homes zs) id) (Tells m y o l kind w zs u)) o v l kind may
         (λ p from line e met fits.
         let now : L = line_now names o line in
-        let does = (ready_does m o id at p from line (swaps at (fields_of w) (fields_of x) returns) s met (access_is returns es now e)).0 x (ap fields_of hit) refl in
-        let g = goes m o id at p from line s met w zs (set s.words at x) (filled s.homes zs) (subst (λ (k : ℕ). Leaves m.core s.words s.homes p.number now k zs (set s.words at x) (filled s.homes zs)) hit (does zs fits)) in
+        let access = access_is returns es now e in
+        let does = (ready_does m o id at p from line (swaps at (fields_of w) (fields_of x) returns) s met access).0 x (ap fields_of hit) refl in
+        let g = goes m o id at p from line s met w zs (set s.words at x) (filled s.homes zs) (makes_now m o line (swaps at (fields_of w) (fields_of x) returns) s access _ _ _ _ (sym hit, inl (record { hit = ap fields_of hit; left = x; is = refl; words = refl; slots = refl }))) (subst (λ (k : ℕ). Leaves m.core s.words s.homes p.number now k zs (set s.words at x) (filled s.homes zs)) hit (does zs fits)) in
         let moved : (ys : List (ℕ × Slot T)) → m.core.Fits now ys → Returning y true (y.held l now) ys kind = λ ys fit. subst (λ (b : Bool). Returning y b (y.held l now) ys kind) ec (subst (ReturnedBy y now ys) e (hosts.returned s.words s.homes _ _ met.rule.history id now ys (ready m o id at p from line s met) (ready_here m o id at p from line s met) fit)) in (
           subst (λ (hand : List ℕ). numbers zs ≡ cond (y.layout.carries l) (given c hand) []) (held_now o l line) (are zs (y.held l now) (moved zs fits)),
           record { view = g.view; rule = g.rule; told = (g.told, (λ _ b. no_bring (side (y.layout.carries l) c) returns refl es b), (λ _ _ ys fit. are ys (y.held l now) (moved ys fit) ∙ sym (are zs (y.held l now) (moved zs fits)))) },

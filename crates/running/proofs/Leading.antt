@@ -3,10 +3,11 @@ use Rattle.std.proofs.Common.{◌≡◌, ℕ, Bool, true, false, List, [], refl,
 use Rattle.std.specs.Prelude.{Option as Slot}
 use Rattle.atomic_table.specs.Seated.{TableId}
 use Rattle.bounded_model.specs.declared.views.PassView.{PassView}
-use Rattle.running.specs.Machine.{Names, Machine, Core, Access as Deed, rests, loads, stores, swaps}
+use Rattle.running.specs.Machine.{Names, Machine, Core, Access as Deed, rests, loads, fetches, stows, stores, swaps}
 use Rattle.running.specs.Going.{Found}
-use Rattle.running.specs.Passes.{IsAtOn, OneLine, begun_of}
-use Rattle.running.specs.Code.{FoundBy, CameBy, FindingBy, Leads, Tells, left}
+use Rattle.bounded_model.specs.Stepping.{OneStep}
+use Rattle.running.specs.Passes.{IsAtOn, OneLine, begun_of, pass_in}
+use Rattle.running.specs.Code.{Account, FoundBy, CameBy, FindingBy, Leads, Tells, left}
 use Rattle.running.specs.Steps.{Stands, StopsAt, Gives, Ran}
 use Rattle.running.specs.declared.passes.Pass.{Pass}
 use Rattle.running.specs.declared.access.Outcome.{Outcome}
@@ -19,12 +20,16 @@ module _ {T L O : Type 0} (c : Core T L O) (l : L) (r : Outcome) (had has : List
   pub tells : (a : Deed) → FoundBy c a l r had has found came → c.Says l found → CameBy c a l r had has
   tells rests f says = (f.1, subst (c.Says l) f.0 says)
   tells (loads at) f says = (f.1, subst (c.Says l) f.0 says)
+  tells (fetches at) f says = (found, came, f, says)
+  tells (stows at) f says = (f.1, subst (c.Says l) f.0 says)
   tells (stores at x) f says = (f.1, subst (c.Says l) f.0 says)
   tells (swaps at old new side) f says = (found, came, f, says)
 
   pub shows : (So : ℕ → List (ℕ × Slot T) → Type 0) (a : Deed) → FoundBy c a l r had has found came → FindingBy c a l r had has So → So found came
   shows So rests f so = subst (So found) (sym f.2) (subst (λ (n : ℕ). So n []) (sym f.0) (so f.1))
   shows So (loads at) f so = subst (So found) (sym f.2) (subst (λ (n : ℕ). So n []) (sym f.0) (so f.1))
+  shows So (fetches at) f so = so found came f
+  shows So (stows at) f so = so found came f
   shows So (stores at x) f so = subst (So found) (sym f.2) (subst (λ (n : ℕ). So n []) (sym f.0) (so f.1))
   shows So (swaps at old new side) f so = so found came f
 
@@ -33,38 +38,49 @@ module _ {T L O : Type 0} (c : Core T L O) (l : L) (r : Outcome) (had has : List
   pub finding : (a : Deed) → FindingBy c a l r had has So → FindingBy c a l r had has So'
   finding rests so = λ kept. follows r.word [] (so kept)
   finding (loads at) so = λ kept. follows r.word [] (so kept)
+  finding (fetches at) so = λ found came f. follows found came (so found came f)
+  finding (stows at) so = λ found came f. follows found came (so found came f)
   finding (stores at x) so = λ kept. follows r.word [] (so kept)
   finding (swaps at old new side) so = λ found came f. follows found came (so found came f)
 
-module _ {T L O S A : Type 0} {names : Names L O} (m : Machine T L O names) (operation : S → O) (line : S → L) (slots : S → List (ℕ × Slot T)) (Knows : S → Type 0) (answer : O → A → L) (rest : A → List (ℕ × Slot T)) (id : TableId) where
-  pub gave : (p q : Pass T L) (s : S) → Stands m operation line slots Knows answer rest id p s → q.seat.table_id ≡ p.seat.table_id → (found : ℕ) (came : List (ℕ × Slot T)) → Found m (operation s) p.seat.me.0 q.seat.me.0 found came
-      → (r : Next S A) → Leads names operation line slots Knows answer rest s (m.core.next (line s) found came) q.seat.me.1 r → Gives m operation line slots Knows answer rest id p s q r
+module _ {T L O S A : Type 0} {names : Names L O} (m : Machine T L O names) (c : Account T L O S A) (id : TableId) where
+  pub gave : (p q : Pass T L) (s : S) → Stands m c id p s → q.seat.table_id ≡ p.seat.table_id → (found : ℕ) (came : List (ℕ × Slot T)) → Found m (c.operation s) p.seat.me.0 q.seat.me.0 found came
+      → (r : Next S A) → Leads names c s (m.core.next (c.line s) found came) q.seat.me.1 r → Gives m c id p s q r
   gave p q s is table found came steps (On s') l =
-      let r = goes_on m is.at q found came steps table (slots s') (line s') l.hand l.is l.busy in
-      (record { at = subst (λ (o : O). IsAtOn m id o q (line s') (slots s')) (sym l.same) r.0; knows = l.knows }, l.same, r.1)
+      let r = goes_on m is.at q found came steps table (c.slots s') (c.line s') l.hand l.is l.busy in
+      (record { at = subst (λ (o : O). IsAtOn m id o q (c.line s') (c.slots s')) (sym l.same) r.0; knows = l.knows }, l.same, r.1)
   gave p q s is table found came steps (Lost s') l =
-      let r = goes_on m is.at q found came steps table (slots s') (line s') l.hand l.is l.busy in
-      (record { at = subst (λ (o : O). IsAtOn m id o q (line s') (slots s')) (sym l.same) r.0; knows = l.knows }, l.same, r.1)
-  gave p q s is table found came steps (Done a) l = stopped (names.is_idle (answer (operation s) a)) refl l.hand
+      let r = goes_on m is.at q found came steps table (c.slots s') (c.line s') l.hand l.is l.busy in
+      (record { at = subst (λ (o : O). IsAtOn m id o q (c.line s') (c.slots s')) (sym l.same) r.0; knows = l.knows }, l.same, r.1)
+  gave p q s is table found came steps (Done a) l = stopped (names.is_idle (c.answer (c.operation s) a)) refl l.hand
     where
-      stopped : (b : Bool) → names.is_idle (answer (operation s) a) ≡ b → q.seat.me.1 ≡ left b (rest a) → StopsAt m operation line slots Knows answer rest id b (operation s) (begun_of m p) q a × OneLine m p q (line s) (answer (operation s) a)
-      stopped true e has = let r = ends_so m is.at q found came steps table (answer (operation s) a) has l.is e in ((r.0, r.1), r.2)
-      stopped false e has = let r = goes_on m is.at q found came steps table (rest a) (answer (operation s) a) has l.is e in ((r.0, r.1.0), r.1.1)
+      stopped : (b : Bool) → names.is_idle (c.answer (c.operation s) a) ≡ b → q.seat.me.1 ≡ left b (c.rest a) → StopsAt m c id b (c.operation s) (begun_of m p) q a × OneLine m p q (c.line s) (c.answer (c.operation s) a)
+      stopped true e has = let r = ends_so m is.at q found came steps table (c.answer (c.operation s) a) has l.is e in ((r.0, r.1), r.2)
+      stopped false e has = let r = goes_on m is.at q found came steps table (c.rest a) (c.answer (c.operation s) a) has l.is e in ((r.0, r.1.0), r.1.1)
 
   abbrev StopsSo : Bool → O → PassView T → Pass T L → A → Type 0
-  StopsSo b o v q a = StopsAt m operation line slots Knows answer rest id b o v q a
+  StopsSo b o v q a = StopsAt m c id b o v q a
+
+  pub one : (p q : Pass T L) (s : S) (r : Next S A) → Gives m c id p s q r → OneStep (pass_in p) (pass_in q)
+  one p q s (On s') e = e.2.1.1
+  one p q s (Lost s') e = e.2.1.1
+  one p q s (Done a) e = e.1.1
+
+  -- what has stopped with its machine's answer has ended
+  pub ended : (o : O) (v : PassView T) (q : Pass T L) (a : A) → names.is_idle (c.answer o a) ≡ true → StopsAt m c id (names.is_idle (c.answer o a)) o v q a → StopsAt m c id true o v q a
+  ended o v q a idle stops = subst (λ (b : Bool). StopsAt m c id b o v q a) idle stops
 
   -- a step is the first of some
-  pub ran : (o : O) (p q : Pass T L) (s : S) → o ≡ operation s → (r : Next S A) → Gives m operation line slots Knows answer rest id p s q r → Ran m operation line slots Knows answer rest id o p q r
+  pub ran : (o : O) (p q : Pass T L) (s : S) → o ≡ c.operation s → (r : Next S A) → Gives m c id p s q r → Ran m c id o p q r
   ran o p q s named (On s') e = (e.0, named ∙ sym e.1, e.2.0)
   ran o p q s named (Lost s') e = (e.0, named ∙ sym e.1, e.2.0)
-  ran o p q s named (Done a) e = subst (λ (k : O). StopsSo (names.is_idle (answer k a)) k (begun_of m p) q a) (sym named) e.0
+  ran o p q s named (Done a) e = subst (λ (k : O). StopsSo (names.is_idle (c.answer k a)) k (begun_of m p) q a) (sym named) e.0
 
   -- and others may follow it
-  pub ran_on : (o : O) (p q t : Pass T L) → begun_of m q ≡ begun_of m p → (r : Next S A) → Ran m operation line slots Knows answer rest id o q t r → Ran m operation line slots Knows answer rest id o p t r
+  pub ran_on : (o : O) (p q t : Pass T L) → begun_of m q ≡ begun_of m p → (r : Next S A) → Ran m c id o q t r → Ran m c id o p t r
   ran_on o p q t begun (On u) e = (e.0, e.1, e.2 ∙ begun)
   ran_on o p q t begun (Lost u) e = (e.0, e.1, e.2 ∙ begun)
-  ran_on o p q t begun (Done a) e = subst (λ (v : PassView T). StopsSo (names.is_idle (answer o a)) o v t a) begun e
+  ran_on o p q t begun (Done a) e = subst (λ (v : PassView T). StopsSo (names.is_idle (c.answer o a)) o v t a) begun e
 
 -- what is told of where an operation goes on is told of where it came from
 module _ {S A : Type 0} (Told : S → A → Type 0) (s t : S) (on : (a : A) → Told t a → Told s a) where

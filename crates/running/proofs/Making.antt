@@ -10,7 +10,7 @@ use Rattle.index_list.specs.declared.change.Change.{Change}
 use Rattle.machine.specs.Words.{Tagged}
 use Rattle.machine.specs.declared.seats.View.{View}
 use Rattle.machine.proofs.Tests.{either_way, not_same, same-self}
-use Rattle.running.specs.Machine.{Names, Core, Machine, Access as Deed, Side, stays, brings, returns, loads, stores, swaps}
+use Rattle.running.specs.Machine.{Names, Core, Machine, Access as Deed, Side, stays, brings, returns, loads, fetches, stows, stores, swaps}
 use Rattle.running.specs.Going.{At, AtAccess, Found, Missed, Brings, begun_in, now_in}
 use Rattle.running.specs.Lists.{Lists, AtStep, kind_access, side}
 use Rattle.running.specs.Code.{IsAccess, FoundBy, Won, plain}
@@ -41,6 +41,23 @@ module _ {T L O : Type 0} {names : Names L O} (m : Machine T L O names) (y : Lis
       found = w;
       came = [];
       is = subst (λ (a : Deed). FoundBy m.core a l r me.1 me'.1 w []) (sym e) (is_word, kept, refl);
+      steps = steps;
+    }
+
+    -- a load that brings slots, and one that gives them back
+    pub fetched : (at w : ℕ) → m.core.access l ≡ fetches at → w ≡ r.word → Brings m o me.0 me'.0 w me.1 me'.1 → Made m o l me me' r
+    fetched at w e is_word b = record {
+      found = w;
+      came = b.slots;
+      is = subst (λ (a : Deed). FoundBy m.core a l r me.1 me'.1 w b.slots) (sym e) (is_word, b.moved, b.fits (begun_in m me.0) l is.going);
+      steps = b.steps;
+    }
+
+    pub stowed : (at w : ℕ) → m.core.access l ≡ stows at → w ≡ r.word → me'.1 ≡ [] → Found m o me.0 me'.0 w me.1 → Made m o l me me' r
+    stowed at w e is_word none_left steps = record {
+      found = w;
+      came = me.1;
+      is = subst (λ (a : Deed). FoundBy m.core a l r me.1 me'.1 w me.1) (sym e) (is_word, none_left, refl);
       steps = steps;
     }
 

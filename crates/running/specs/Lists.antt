@@ -119,7 +119,7 @@ module _ {T L O : Type 0} {names : Names L O} (m : Machine T L O names) (y : Lis
   -- what a container shows of its n lists, beyond what its machine's laws say
   pub record Hosts (n : ℕ) : Type 0 where
     pub idle : (l : ℕ) (line : L) → names.is_idle line ≡ true → y.held l line ≡ []
-    pub first : (l : ℕ) (o : O) → y.held l (names.first o) ≡ []
+    pub first : (l : ℕ) (o : O) (rest : L) → y.held l (names.first o rest) ≡ []
     pub apart : (l i : ℕ) → l < n → y.layout.link l i ≡ y.layout.top l → ⊥
     pub placed : (l : ℕ) (words : List ℕ) (homes : List (Option (Slot T))) → l < n → m.core.Sane words homes → y.layout.top l < length words
     pub access : (line : L) → m.core.access line ≡ step_access y (m.core.access line) (y.step line)

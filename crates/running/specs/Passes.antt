@@ -10,6 +10,7 @@ use Rattle.bounded_model.specs.Stepping.{OneStep}
 use Rattle.machine.specs.declared.seats.View.TheVariants.{AtRoot, AtNote}
 use Rattle.machine.specs.Seats.{pass_of, root_of, told_of}
 use Rattle.running.specs.Machine.{Names, Machine}
+use Rattle.running.specs.Rule.{line_in}
 use Rattle.running.specs.Going.{Rests, At, IsLine, begun_in}
 use Rattle.running.specs.declared.passes.Pass.{Pass}
 use Rattle.running.specs.declared.passes.Root.{Root}
@@ -34,10 +35,11 @@ module _ {T L O : Type 0} {names : Names L O} (m : Machine T L O names) where
   -- a root between its calls
   pub record IsRootOn (id : TableId) (r : Root T L) : Type 0 where
     pub table : r.seat.table_id ≡ id
-    pub view : r.seat.me.0 ≡ AtRoot (root_in r) []
+    pub view : r.seat.me.0 ≡ AtRoot (root_in r) [] (line_in names r.seat.me.0)
     pub slots : r.seat.me.1 ≡ []
     pub sound : IsSound m.core.shape (root_in r)
     pub counted : (root_in r).given ≡ r.out + length (root_in r).account
+    pub stock : m.core.IsStock r.out (line_in names r.seat.me.0)
 
   -- a note
   pub record IsNoteOn (id : TableId) (n : Note T L) : Type 0 where

@@ -12,7 +12,7 @@ use Rattle.machine.specs.Words.{Tagged, same}
 pub use Rattle.machine.specs.Chains.{turned}
 use Rattle.machine.specs.Program.{Memories, Then, Won, Deed, new_word, does}
 use Rattle.machine.specs.Program as program
-use Rattle.running.specs.Machine.{Access, Side, Core, rests, loads, stores, swaps, stays, brings, returns}
+use Rattle.running.specs.Machine.{Access, Side, Core, rests, loads, fetches, stows, stores, swaps, stays, brings, returns}
 
 -- where the words of the places lie, how many words there are, and how many slots
 pub record Layout (P Q : Type 0) : Type 0 where
@@ -43,12 +43,12 @@ pub record Lies {T M P Q : Type 0} (x : Memories T M P Q) (y : Layout P Q) : Typ
 abbrev pub memory_in : {T M P Q : Type 0} → Memories T M P Q → Layout P Q → List ℕ → List (Option (Slot T)) → M
 memory_in x y words homes = x.of (λ a. fields_of (slice_index words (y.place a))) (λ q. slice_index words (y.link q)) (λ i. at_home (get_elem? homes i))
 
--- a machine on a table: besides the data what slots a won exchange may bring, and what the word that a
--- line finds tells the code
+-- a machine on a table: besides the data where a pass stops that finds what there never is, what slots a step
+-- may bring, and what the word that a line finds tells the code
 pub record Board (T M P Q L : Type 0) : Type 1 where
   pub memories : Memories T M P Q
   pub layout : Layout P Q
-  pub idle : L
+  pub idle : L → L
   pub table : L → Deed T M P Q L (Event T)
   pub Brings : L → List (ℕ × Slot T) → Type 0
   pub Says : L → ℕ → Type 0
@@ -79,6 +79,8 @@ next_of idle l program.rests y zs = l
 next_of idle l (program.loads at to) y zs = to (fields_of y)
 next_of idle l (program.checks at w here else_) y zs = if same (fields_of y) w then here else else_
 next_of idle l (program.follows at to) y zs = to y
+next_of idle l (program.fetches at is to) y zs = to (fields_of y)
+next_of idle l (program.stows at slots to) y zs = to
 next_of idle l (program.stores at w to) y zs = to
 next_of idle l (program.links at k to) y zs = to
 next_of idle l (program.attempts at old new to) y zs = to
@@ -98,6 +100,8 @@ module _ {T M P Q L : Type 0} (b : Board T M P Q L) where
   access_of (program.loads at to) = loads (b.layout.place at)
   access_of (program.checks at w here else_) = loads (b.layout.place at)
   access_of (program.follows at to) = loads (b.layout.link at)
+  access_of (program.fetches at is to) = fetches (b.layout.place at)
+  access_of (program.stows at slots to) = stows (b.layout.place at)
   access_of (program.stores at w to) = stores (b.layout.place at) (number w)
   access_of (program.links at k to) = stores (b.layout.link at) k
   access_of (program.attempts at old new to) = swaps (b.layout.place at) old new stays
@@ -111,6 +115,8 @@ module _ {T M P Q L : Type 0} (b : Board T M P Q L) where
 
   abbrev pub fits_of : L → Deed T M P Q L (Event T) → List (ℕ × Slot T) → Type 0
   fits_of l (program.swaps at old change w lost) zs = fits_won l w zs
+  fits_of l (program.fetches at is to) zs = b.Brings l zs
+  fits_of l (program.stows at slots to) zs = zs ≡ slots
   fits_of l d zs = Unit {0}
 
   -- in which memory an exchange brings these slots
@@ -120,6 +126,7 @@ module _ {T M P Q L : Type 0} (b : Board T M P Q L) where
 
   abbrev pub moves_of : M → Deed T M P Q L (Event T) → List (ℕ × Slot T) → Type 0
   moves_of m (program.swaps at old change w lost) zs = moves_won m w zs
+  moves_of m (program.fetches at is to) zs = numbers zs ≡ is
   moves_of m d zs = Unit {0}
 
   -- What a container shows of a line, from its rule alone, for its step to be made on the table
@@ -138,6 +145,14 @@ module _ {T M P Q L : Type 0} (b : Board T M P Q L) where
       pub to : Then L (Event T)
       pub replies : reply (map some (turned way (values slots))) ≡ some to
 
+    -- and those of these indexes
+    pub record Fetches (l : L) (is : List ℕ) : Type 0 where
+      pub slots : List (ℕ × Slot T)
+      pub apart : Distinct (numbers slots)
+      pub home : Each (IsHome homes) slots
+      pub fits : b.Brings l slots
+      pub are : numbers slots ≡ is
+
     -- slots that go: each is one, once
     pub record Goes (slots : List (ℕ × Slot T)) : Type 0 where
       pub apart : Distinct (numbers slots)
@@ -153,6 +168,8 @@ module _ {T M P Q L : Type 0} (b : Board T M P Q L) where
     Needs l (program.loads at to) = b.Says l (found (b.layout.place at))
     Needs l (program.checks at w here else_) = b.Says l (found (b.layout.place at))
     Needs l (program.follows at to) = b.Says l (found (b.layout.link at))
+    Needs l (program.fetches at is to) = Fetches l is × b.Says l (found (b.layout.place at))
+    Needs l (program.stows at slots to) = Goes slots × b.Says l (found (b.layout.place at))
     Needs l (program.stores at w to) = (b.layout.place at < length words) × (fields_of (number w) ≡ w) × b.Says l (number w)
     Needs l (program.links at k to) = (b.layout.link at < length words) × b.Says l k
     Needs l (program.attempts at old new to) = (fields_of (found (b.layout.place at)) ≡ old → b.layout.place at < length words) × b.Says l (found (b.layout.place at))
@@ -160,8 +177,12 @@ module _ {T M P Q L : Type 0} (b : Board T M P Q L) where
 
 -- what the rule of a container says, for its core
 pub record Rules (T M L O : Type 0) : Type 1 where
+  pub first : M
   pub shape : Shape
   pub holding : L → ℕ
+  pub rest : ℕ → L
+  pub stock : L
+  pub IsStock : ℕ → L → Type 0
   pub Good : M → (ℕ → Option ℕ) → List L → List (Event T) → Type 0
   pub Deeds : O → ℕ → L → List (Event T) → List (Event T) → Type 0
   pub Tells : List (Event T) → List (Event T) → L → Type 0
@@ -171,11 +192,15 @@ module _ {T M P Q L O : Type 0} (b : Board T M P Q L) (r : Rules T M L O) where
   abbrev pub core_of : Core T L O
   core_of = record {
     Memory = M;
+    first = r.first;
     shape = r.shape;
-    after = λ m p l. (does b.memories b.idle m p l (b.table l)).memory;
-    lands = λ m p l. (does b.memories b.idle m p l (b.table l)).line;
-    adds = λ m p l. (does b.memories b.idle m p l (b.table l)).events;
+    after = λ m p l. (does b.memories (b.idle l) m p l (b.table l)).memory;
+    lands = λ m p l. (does b.memories (b.idle l) m p l (b.table l)).line;
+    adds = λ m p l. (does b.memories (b.idle l) m p l (b.table l)).events;
     holding = r.holding;
+    rest = r.rest;
+    stock = r.stock;
+    IsStock = r.IsStock;
     Good = r.Good;
     Deeds = r.Deeds;
     Tells = r.Tells;
@@ -183,7 +208,7 @@ module _ {T M P Q L O : Type 0} (b : Board T M P Q L) (r : Rules T M L O) where
     read = read b;
     Sane = Sane b.layout;
     access = λ l. access_of b (b.table l);
-    next = λ l. next_of b.idle l (b.table l);
+    next = λ l. next_of (b.idle l) l (b.table l);
     Fits = λ l. fits_of b l (b.table l);
     Moves = λ m l. moves_of b m (b.table l);
     Says = b.Says;

@@ -1,6 +1,6 @@
 //! An atomic step of an operation, as data.
-ghost use Rattle.std.specs.Prelude.{◌≡◌};
-ghost use Rattle.running.specs.Code.{plain};
+ghost use Rattle.std.specs.Prelude.{◌≡◌, true};
+ghost use Rattle.running.specs.Code.{is_single, plain};
 
 use index_list::Front;
 use tagged_index::Tagged;
@@ -11,6 +11,10 @@ use tagged_index::Tagged;
 pub enum Access {
     /// Load this word.
     Load(usize),
+    /// Load this word; slots come.
+    Fetch(usize),
+    /// Load this word; all slots held go home.
+    Stow(usize),
     /// Store in this word.
     Store(usize, u64),
     /// The same by a load where the word is that already, which costs less.
@@ -50,15 +54,24 @@ pub enum Access {
 impl Access {
     /// The same as one access: a store with no load before it.
     #[inline(always)]
-    pub(crate) fn plain(self) -> Access
-        ensures { result ≡ plain self }
+    pub(crate) fn plain(self) -> Single
+        ensures { result.access ≡ plain self }
     {
-        match self {
+        let access = match self {
             Access::Keep(place, word) => Access::Store(place, word),
             Access::KeepLink(list, index, next) => Access::StoreLink(list, index, next),
             access => access,
-        }
+        };
+        Single { access }
     }
+}
+
+/// One access alone: a load, a store or a compare-and-swap, and never the pair of a load and a store
+/// that `Keep` and `KeepLink` are.
+#[derive(Clone, Copy)]
+pub(crate) struct Single {
+    pub(crate) access: Access,
+    pub(crate) ghost alone: { is_single access ≡ true },
 }
 
 /// What such a step came to.

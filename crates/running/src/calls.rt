@@ -3,14 +3,14 @@ ghost use Rattle.std.specs.Prelude.{◌≡◌, ◌<◌};
 ghost use Rattle.running.specs.Code.{Tells};
 ghost use Rattle.running.specs.Passes.{begun_of};
 ghost use Rattle.running.specs.declared.passes.Pass.{Pass};
-ghost use Rattle.running.specs.Steps.{Stands, Stops, Ran, RanFor, TellsFor};
+ghost use Rattle.running.specs.Steps.{Stands, Stops, Ran, RanFor, TellsFor, TookFor};
 
-use crate::code::{Code, Next};
+use crate::code::{Code, Next, OnTable};
 use crate::lists::ListMachine;
 use crate::passes::Pass;
 use crate::pause::Pause;
 use crate::rule::Running;
-use crate::stepping::any;
+use crate::stepping::{any, counted_step};
 use atomic_table::Shared;
 use bounded_model::Stepped;
 use machine::View;
@@ -22,7 +22,7 @@ use tagged_index::Limits;
 #[inline(always)]
 pub fn to_the_end<
     R: Wait,
-    C,
+    C: OnTable,
     T,
     L,
     O,
@@ -37,17 +37,14 @@ pub fn to_the_end<
     first: (Pass<T, L>, Next<S, A>),
     operation: &O,
 ) -> (Pass<T, L>, A)
-    requires table { (table.now.key ≡ S.key on.now) × (table.now.table_id ≡ S.id on.now) }
+    requires table { (table.now.key ≡ C.key on.now) × (table.now.table_id ≡ C.id on.now) }
     requires some_word { 0 < table.now.table_id.words }
-    requires ran { (by : Pass T L) × Ran (M.machine (S.key on.now)) S.operation S.line S.slots
-        (S.knows on.now) S.answer S.rest (S.id on.now) operation.now by first.0 first.1 }
-    ensures stops { (by : Pass T L) → Ran (M.machine (S.key on.now)) S.operation S.line S.slots
-        (S.knows on.now) S.answer S.rest (S.id on.now) operation.now by first.0 first.1
-        → Stops (M.machine (S.key on.now)) S.operation S.line S.slots (S.knows on.now) S.answer
-        S.rest (S.id on.now) operation.now (begun_of (M.machine (S.key on.now)) by) result.0
+    requires ran { (by : Pass T L) × Ran (M.machine (C.key on.now)) (S.account (C.key on.now)) (C.id on.now) operation.now by first.0 first.1 }
+    ensures stops { (by : Pass T L) → Ran (M.machine (C.key on.now)) (S.account (C.key on.now)) (C.id on.now) operation.now by first.0 first.1
+        → Stops (M.machine (C.key on.now)) (S.account (C.key on.now)) (C.id on.now) operation.now (begun_of (M.machine (C.key on.now)) by) result.0
         result.1 }
-    ensures told { (from : S) → Tells (S.told on.now) from first.1
-        → S.told on.now from result.1 }
+    ensures told { (from : S) → Tells (S.account (C.key on.now)).told from first.1
+        → (S.account (C.key on.now)).told from result.1 }
 {
     match first {
         (pass, Next::Done(answer)) => (pass, answer),
@@ -60,7 +57,7 @@ pub fn to_the_end<
 #[inline(never)]
 fn go_on<
     R: Wait,
-    C,
+    C: OnTable,
     T,
     L,
     O,
@@ -75,17 +72,14 @@ fn go_on<
     first: (Pass<T, L>, Next<S, A>),
     operation: &O,
 ) -> (Pass<T, L>, A)
-    requires table { (table.now.key ≡ S.key on.now) × (table.now.table_id ≡ S.id on.now) }
+    requires table { (table.now.key ≡ C.key on.now) × (table.now.table_id ≡ C.id on.now) }
     requires some_word { 0 < table.now.table_id.words }
-    requires ran { (by : Pass T L) × Ran (M.machine (S.key on.now)) S.operation S.line S.slots
-        (S.knows on.now) S.answer S.rest (S.id on.now) operation.now by first.0 first.1 }
-    ensures stops { (by : Pass T L) → Ran (M.machine (S.key on.now)) S.operation S.line S.slots
-        (S.knows on.now) S.answer S.rest (S.id on.now) operation.now by first.0 first.1
-        → Stops (M.machine (S.key on.now)) S.operation S.line S.slots (S.knows on.now) S.answer
-        S.rest (S.id on.now) operation.now (begun_of (M.machine (S.key on.now)) by) result.0
+    requires ran { (by : Pass T L) × Ran (M.machine (C.key on.now)) (S.account (C.key on.now)) (C.id on.now) operation.now by first.0 first.1 }
+    ensures stops { (by : Pass T L) → Ran (M.machine (C.key on.now)) (S.account (C.key on.now)) (C.id on.now) operation.now by first.0 first.1
+        → Stops (M.machine (C.key on.now)) (S.account (C.key on.now)) (C.id on.now) operation.now (begun_of (M.machine (C.key on.now)) by) result.0
         result.1 }
-    ensures told { (from : S) → Tells (S.told on.now) from first.1
-        → S.told on.now from result.1 }
+    ensures told { (from : S) → Tells (S.account (C.key on.now)).told from first.1
+        → (S.account (C.key on.now)).told from result.1 }
 {
     match first {
         (pass, Next::Done(answer)) => (pass, answer),
@@ -104,7 +98,7 @@ fn go_on<
 #[inline]
 fn run_on<
     R: Wait,
-    C,
+    C: OnTable,
     T,
     L,
     O,
@@ -121,15 +115,13 @@ fn run_on<
     operation: &O,
     pause: Pause,
 ) -> (Pass<T, L>, A)
-    requires table { (table.now.key ≡ S.key on.now) × (table.now.table_id ≡ S.id on.now) }
+    requires table { (table.now.key ≡ C.key on.now) × (table.now.table_id ≡ C.id on.now) }
     requires some_word { 0 < table.now.table_id.words }
-    requires named { operation.now ≡ S.operation under_way }
-    requires stands { Stands (M.machine (S.key on.now)) S.operation S.line S.slots (S.knows on.now)
-        S.answer S.rest (S.id on.now) by under_way }
-    ensures stops { Stops (M.machine (S.key on.now)) S.operation S.line S.slots (S.knows on.now)
-        S.answer S.rest (S.id on.now) operation.now (begun_of (M.machine (S.key on.now)) by)
+    requires named { operation.now ≡ (S.account (C.key on.now)).operation under_way }
+    requires stands { Stands (M.machine (C.key on.now)) (S.account (C.key on.now)) (C.id on.now) by under_way }
+    ensures stops { Stops (M.machine (C.key on.now)) (S.account (C.key on.now)) (C.id on.now) operation.now (begun_of (M.machine (C.key on.now)) by)
         result.0 result.1 }
-    ensures told { S.told on.now under_way result.1 }
+    ensures told { (S.account (C.key on.now)).told under_way result.1 }
 {
     let mut pass = by;
     let mut at = under_way;
@@ -160,7 +152,7 @@ fn run_on<
 /// they have ended it, there is nothing to go on with.
 #[inline(always)]
 pub fn at_once<
-    C,
+    C: OnTable,
     T,
     L,
     O,
@@ -169,12 +161,9 @@ pub fn at_once<
     S: Code<C, T, L, O, M, A, N>,
     const N: usize,
 >(on: &C, first: (Pass<T, L>, Next<S, A>), operation: &O) -> Stepped<(Pass<T, L>, S), Pass<T, L>, A>
-    requires ran { (by : Pass T L) × Ran (M.machine (S.key on.now)) S.operation S.line S.slots
-        (S.knows on.now) S.answer S.rest (S.id on.now) operation.now by first.0 first.1 }
-    ensures { (by : Pass T L) → Ran (M.machine (S.key on.now)) S.operation S.line S.slots
-        (S.knows on.now) S.answer S.rest (S.id on.now) operation.now by first.0 first.1
-        → RanFor (M.machine (S.key on.now)) S.operation S.line S.slots
-        (S.knows on.now) S.answer S.rest (S.id on.now) operation.now by result }
+    requires ran { (by : Pass T L) × Ran (M.machine (C.key on.now)) (S.account (C.key on.now)) (C.id on.now) operation.now by first.0 first.1 }
+    ensures { (by : Pass T L) → Ran (M.machine (C.key on.now)) (S.account (C.key on.now)) (C.id on.now) operation.now by first.0 first.1
+        → RanFor (M.machine (C.key on.now)) (S.account (C.key on.now)) (C.id on.now) operation.now by result }
 {
     let _ = on;
     let _ = operation;
@@ -194,7 +183,7 @@ pub fn at_once<
 /// another was faster. Where they are used up, the operation comes back as it is.
 #[inline(always)]
 pub fn try_for<
-    C,
+    C: OnTable,
     T,
     L,
     O,
@@ -209,16 +198,14 @@ pub fn try_for<
     operation: &O,
     steps: u64,
 ) -> Stepped<(Pass<T, L>, S), Pass<T, L>, A>
-    requires table { (table.now.key ≡ S.key on.now) × (table.now.table_id ≡ S.id on.now) }
+    requires table { (table.now.key ≡ C.key on.now) × (table.now.table_id ≡ C.id on.now) }
     requires some_word { 0 < table.now.table_id.words }
-    requires ran { (by : Pass T L) × Ran (M.machine (S.key on.now)) S.operation S.line S.slots
-        (S.knows on.now) S.answer S.rest (S.id on.now) operation.now by first.0 first.1 }
-    ensures ran { (by : Pass T L) → Ran (M.machine (S.key on.now)) S.operation S.line S.slots
-        (S.knows on.now) S.answer S.rest (S.id on.now) operation.now by first.0 first.1
-        → RanFor (M.machine (S.key on.now)) S.operation S.line S.slots
-        (S.knows on.now) S.answer S.rest (S.id on.now) operation.now by result }
-    ensures told { (from : S) → Tells (S.told on.now) from first.1
-        → TellsFor (S.told on.now) from result }
+    requires ran { (by : Pass T L) × Ran (M.machine (C.key on.now)) (S.account (C.key on.now)) (C.id on.now) operation.now by first.0 first.1 }
+    ensures ran { (by : Pass T L) → Ran (M.machine (C.key on.now)) (S.account (C.key on.now)) (C.id on.now) operation.now by first.0 first.1
+        → RanFor (M.machine (C.key on.now)) (S.account (C.key on.now)) (C.id on.now) operation.now by result }
+    ensures took { TookFor steps first.0 result }
+    ensures told { (from : S) → Tells (S.account (C.key on.now)).told from first.1
+        → TellsFor (S.account (C.key on.now)).told from result }
 {
     match first {
         (pass, Next::Done(answer)) => Stepped::Done(pass, answer),
@@ -235,7 +222,16 @@ pub fn try_for<
 
 // Makes at most so many steps of an operation that is under way.
 #[inline(never)]
-fn run_for<C, T, L, O, M: ListMachine<T, L, O, N>, A, S: Code<C, T, L, O, M, A, N>, const N: usize>(
+fn run_for<
+    C: OnTable,
+    T,
+    L,
+    O,
+    M: ListMachine<T, L, O, N>,
+    A,
+    S: Code<C, T, L, O, M, A, N>,
+    const N: usize,
+>(
     table: &Shared<Option<T>, View<T, L>, Limits, Running<O, M>>,
     on: &C,
     by: Pass<T, L>,
@@ -244,20 +240,19 @@ fn run_for<C, T, L, O, M: ListMachine<T, L, O, N>, A, S: Code<C, T, L, O, M, A, 
     pause: Pause,
     steps: u64,
 ) -> Stepped<(Pass<T, L>, S), Pass<T, L>, A>
-    requires table { (table.now.key ≡ S.key on.now) × (table.now.table_id ≡ S.id on.now) }
+    requires table { (table.now.key ≡ C.key on.now) × (table.now.table_id ≡ C.id on.now) }
     requires some_word { 0 < table.now.table_id.words }
-    requires named { operation.now ≡ S.operation under_way }
-    requires stands { Stands (M.machine (S.key on.now)) S.operation S.line S.slots (S.knows on.now)
-        S.answer S.rest (S.id on.now) by under_way }
-    ensures ran { RanFor (M.machine (S.key on.now)) S.operation S.line S.slots (S.knows on.now)
-        S.answer S.rest (S.id on.now) operation.now by result }
-    ensures told { TellsFor (S.told on.now) under_way result }
+    requires named { operation.now ≡ (S.account (C.key on.now)).operation under_way }
+    requires stands { Stands (M.machine (C.key on.now)) (S.account (C.key on.now)) (C.id on.now) by under_way }
+    ensures ran { RanFor (M.machine (C.key on.now)) (S.account (C.key on.now)) (C.id on.now) operation.now by result }
+    ensures took { TookFor steps by result }
+    ensures told { TellsFor (S.account (C.key on.now)).told under_way result }
 {
     let mut pass = by;
     let mut at = under_way;
     let mut pause = pause;
-    for _ in 0..steps {
-        match any::<C, T, L, O, M, A, S, N>(table, on, pass, at, operation) {
+    for _done in 0..steps {
+        match counted_step::<C, T, L, O, M, A, S, N>(table, on, pass, at, operation) {
             (back, Next::Done(answer)) => {
                 let Pass { seat, density } = back;
                 let refused = S::is_refusal(&answer);

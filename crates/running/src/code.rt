@@ -1,8 +1,8 @@
 //! The code of an operation: two functions of what it is at.
-ghost use Rattle.std.specs.Prelude.{◌≡◌, ℕ, List, [], Option as Slot};
+ghost use Rattle.std.specs.Prelude.{◌≡◌};
 ghost use Rattle.atomic_table.specs.Seated.{TableId};
 ghost use Rattle.tagged_index.specs.declared.limit.Limits.{Limits};
-ghost use Rattle.running.specs.Code.{IsAccess, Came, Finding, Leads, Tells};
+ghost use Rattle.running.specs.Code.{Account, IsAccess, Came, Finding, Leads, Tells};
 
 use crate::access::{Access, Outcome};
 use crate::lists::ListMachine;
@@ -19,32 +19,19 @@ pub enum Next<S, A> {
     Done(A),
 }
 
-/// An operation on a container `C` of a machine `M` with `N` lists, by what it is at between two of
-/// its atomic steps; its answer is an `A`.
-pub trait Code<C, T, L, O, M: ListMachine<T, L, O, N>, A, const N: usize>: Sized {
-    /// What the container's table is made with, and which table it is.
-    ghost key: { C → Limits };
+/// What has a table of atomic words.
+pub trait OnTable {
+    /// What it is made with, and which table it is.
+    ghost key: { Self → Limits };
 
-    ghost id: { C → TableId };
+    ghost id: { Self → TableId };
+}
 
-    /// Which operation it is, the machine's line, and the slots in hand.
-    ghost operation: { Self → O };
-
-    ghost line: { Self → L };
-
-    ghost slots: { Self → List (ℕ × Slot T) };
-
-    /// What is known of the words that were read.
-    ghost knows: { C → Self → Type 0 };
-
-    /// The line of an operation that has stopped. Where that is an idle one, the operation has
-    /// answered; else the caller has to act there, and these slots are in hand.
-    ghost answer: { O → A → L };
-
-    ghost rest: { A → List (ℕ × Slot T) } = { λ _. [] };
-
-    /// What is told of what it stops with, by where it was before.
-    ghost told: { C → Self → A → Type 0 } = { λ _ _ _. Unit {0} };
+/// The states of an operation on a container `C` of a machine `M` with `N` lists, between two of its
+/// atomic steps: `access` says what the next step does, `next` where it goes on. Its answer is an `A`.
+pub trait Code<C: OnTable, T, L, O, M: ListMachine<T, L, O, N>, A, const N: usize>: Sized {
+    /// How it is read.
+    ghost account: { Limits → Account T L O Self A };
 
     /// Whether this answer refuses what was asked for. Its caller then does something else before
     /// it asks again.
@@ -56,22 +43,23 @@ pub trait Code<C, T, L, O, M: ListMachine<T, L, O, N>, A, const N: usize>: Sized
 
     /// What its next step does.
     fn access(&self, on: &C) -> Access
-        requires { knows on.now self.now }
-        ensures { IsAccess (M.machine (key on.now)).core M.lists N (id on.now).words
-            (line self.now) (slots self.now) result };
+        requires { (account (C.key on.now)).knows self.now }
+        ensures { IsAccess (M.machine (C.key on.now)).core M.lists N (C.id on.now).words
+            ((account (C.key on.now)).line self.now) ((account (C.key on.now)).slots self.now) result };
 
     /// Where it goes on from a step that came to this. The value in a slot that came may be moved
     /// out here, and one be moved in; nothing else is done to the table.
     fn next(self, on: &C, seat: &mut Seat<Option<T>, View<T, L>>, outcome: Outcome) -> Next<Self, A>
-        requires table { seat.old.table_id ≡ id on.now }
-        requires knows { knows on.now self }
-        requires came { Came (M.machine (key on.now)).core (line self) outcome (slots self)
-            seat.old.me.1 }
+        requires table { seat.old.table_id ≡ C.id on.now }
+        requires knows { (account (C.key on.now)).knows self }
+        requires came { Came (M.machine (C.key on.now)).core ((account (C.key on.now)).line self)
+            outcome ((account (C.key on.now)).slots self) seat.old.me.1 }
         ensures seat { (seat.new.table_id ≡ seat.old.table_id)
             × (seat.new.me.0 ≡ seat.old.me.0) }
-        ensures leads { Finding (M.machine (key on.now)).core (line self) outcome (slots self)
-            seat.old.me.1 (λ found came. Leads M.names operation line slots (knows on.now) answer
-            rest self ((M.machine (key on.now)).core.next (line self) found came) seat.new.me.1
-            result) }
-        ensures told { Tells (told on.now) self result };
+        ensures leads { Finding (M.machine (C.key on.now)).core
+            ((account (C.key on.now)).line self) outcome ((account (C.key on.now)).slots self)
+            seat.old.me.1 (λ found came. Leads M.names (account (C.key on.now)) self
+            ((M.machine (C.key on.now)).core.next ((account (C.key on.now)).line self) found came)
+            seat.new.me.1 result) }
+        ensures told { Tells (account (C.key on.now)).told self result };
 }

@@ -5,10 +5,13 @@
 #![tactic(auto)]
 
 mod access;
+mod call;
 mod calls;
 mod code;
+mod fast_path;
 mod leaving;
 mod lists;
+mod op;
 mod passes;
 mod pause;
 mod rule;
@@ -17,14 +20,16 @@ mod stepping;
 mod steps;
 
 pub use access::{Access, Outcome};
+pub use call::{Call, HasTable};
 pub use calls::{at_once, to_the_end, try_for};
-pub use code::{Code, Next};
+pub use code::{Code, Next, OnTable};
 pub use index_list::raised;
 pub use leaving::aside;
 pub use lists::{
     ListMachine, give_chain_step, load_link_step, load_top_step, store_link_step, take_all_step,
     take_first_step,
 };
+pub use op::Op;
 pub use passes::{Note, Pass, Root, heed, join, make_note, meet, split};
 pub use pause::{Density, Pause};
 pub use rule::{Machine, Running};

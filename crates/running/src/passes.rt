@@ -7,7 +7,6 @@ use crate::pause::Density;
 use crate::rule::{Machine, Running};
 use crate::seats::{join_seats, look_round, split_seat};
 use atomic_table::{Seat, Shared};
-use bounded_model::MAX_PASSES;
 use machine::seats::View;
 use tagged_index::Limits;
 
@@ -32,20 +31,25 @@ pub struct Note<T, L> {
     pub seat: Seat<Option<T>, View<T, L>>,
 }
 
-/// A new pass, which has seen what the root has; `None` exactly where [`MAX_PASSES`] are out.
+/// A new pass, which has seen what the root has; `None` exactly where `most` are out, which is as
+/// many as may be at one time.
 pub fn split<T, L, O, M: Machine<T, L, O>>(
     table: &Shared<Option<T>, View<T, L>, Limits, Running<O, M>>,
     parent: &mut Root<T, L>,
+    most: u32,
 ) -> Option<Pass<T, L>>
+    requires most { most ≡ (M.machine table.now.key).core.shape.passes }
     requires some_word { 0 < table.now.table_id.words }
     requires root { IsRootOn (M.machine table.now.key) table.now.table_id parent.old }
     ensures root { IsRootOn (M.machine table.now.key) table.now.table_id parent.new }
     ensures gives { MatchOption result
-        ((root_in parent.new ≡ root_in parent.old) × IsFullOfPasses (root_in parent.old))
+        ((root_in parent.new ≡ root_in parent.old)
+        × IsFullOfPasses (M.machine table.now.key).core.shape (root_in parent.old))
         (λ p. IsPassOn (M.machine table.now.key) table.now.table_id p
-        × Splits (root_in parent.old) (root_in parent.new) (pass_in p)) }
+        × Splits (M.machine table.now.key).core.shape
+        (root_in parent.old) (root_in parent.new) (pass_in p)) }
 {
-    if parent.out >= MAX_PASSES {
+    if parent.out >= most {
         return None;
     }
     let seat = split_seat::<T, L, O, M>(table, &mut parent.seat);

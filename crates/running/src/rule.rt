@@ -25,5 +25,5 @@ impl<T, L, O, M: Machine<T, L, O>> TableRule<Option<T>, View<T, L>, Limits> for 
 
     ghost holds = { λ limits. Rule (M.machine limits) };
 
-    ghost first = { λ _. first_view };
+    ghost first = { λ limits. first_view (M.machine limits).core.stock };
 }

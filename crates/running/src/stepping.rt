@@ -1,11 +1,13 @@
 //! One atomic step of an operation, for all operations on all machines.
 ghost use Rattle.std.specs.Prelude.{◌≡◌, ◌<◌};
 ghost use Rattle.running.specs.Going.{At};
+ghost use Rattle.bounded_model.specs.Stepping.{OneStep};
+ghost use Rattle.running.specs.Passes.{pass_in};
 ghost use Rattle.running.specs.Code.{IsAccess, Tells};
 ghost use Rattle.running.specs.Steps.{Made, Stands, Gives, GivesSingle, Ran};
 
-use crate::access::{Access, Outcome};
-use crate::code::{Code, Next};
+use crate::access::{Access, Outcome, Single};
+use crate::code::{Code, Next, OnTable};
 use crate::lists::{
     ListMachine, give_bare_step, give_chain_step, give_one_step, keep_link_step, load_link_step,
     load_top_step, mark_step, shut_step, store_link_step, take_all_step, take_bare_step,
@@ -13,7 +15,9 @@ use crate::lists::{
 };
 use crate::passes::Pass;
 use crate::rule::Running;
-use crate::steps::{give_step, keep_step, load_step, store_step, swap_step, take_step};
+use crate::steps::{
+    fetch_step, give_step, keep_step, load_step, store_step, stow_step, swap_step, take_step,
+};
 use atomic_table::{Seat, Shared};
 use bounded_model::Stepped;
 use machine::View;
@@ -21,7 +25,16 @@ use tagged_index::Limits;
 
 // Makes the access of the line that an operation is at.
 #[inline(always)]
-fn make<C, T, L, O, M: ListMachine<T, L, O, N>, A, S: Code<C, T, L, O, M, A, N>, const N: usize>(
+fn make<
+    C: OnTable,
+    T,
+    L,
+    O,
+    M: ListMachine<T, L, O, N>,
+    A,
+    S: Code<C, T, L, O, M, A, N>,
+    const N: usize,
+>(
     table: &Shared<Option<T>, View<T, L>, Limits, Running<O, M>>,
     seat: &mut Seat<Option<T>, View<T, L>>,
     access: Access,
@@ -30,17 +43,25 @@ fn make<C, T, L, O, M: ListMachine<T, L, O, N>, A, S: Code<C, T, L, O, M, A, N>,
 ) -> Outcome
     requires table { seat.old.table_id ≡ table.now.table_id }
     requires access { IsAccess (M.machine table.now.key).core M.lists N table.now.table_id.words
-        (S.line at.now) (S.slots at.now) access }
-    requires at { At (M.machine table.now.key) operation.now seat.old.me (S.line at.now)
-        (S.slots at.now) }
+        ((S.account table.now.key).line at.now) ((S.account table.now.key).slots at.now) access }
+    requires at { At (M.machine table.now.key) operation.now seat.old.me ((S.account table.now.key).line at.now)
+        ((S.account table.now.key).slots at.now) }
     ensures table { seat.new.table_id ≡ seat.old.table_id }
-    ensures made { Made (M.machine table.now.key) operation.now (S.line at.now) seat.old.me
+    ensures made { Made (M.machine table.now.key) operation.now ((S.account table.now.key).line at.now) seat.old.me
         seat.new.me result }
 {
     let _ = at;
     match access {
         Access::Load(place) => {
             let word = load_step::<T, L, O, M>(table, seat, place, operation);
+            Outcome { word, won: true }
+        }
+        Access::Fetch(place) => {
+            let word = fetch_step::<T, L, O, M>(table, seat, place, operation);
+            Outcome { word, won: true }
+        }
+        Access::Stow(place) => {
+            let word = stow_step::<T, L, O, M>(table, seat, place, operation);
             Outcome { word, won: true }
         }
         Access::Store(place, word) => {
@@ -152,7 +173,16 @@ fn make<C, T, L, O, M: ListMachine<T, L, O, N>, A, S: Code<C, T, L, O, M, A, N>,
 
 // Makes this access of an operation that is at this, and goes on from what it came to.
 #[inline(always)]
-fn advance<C, T, L, O, M: ListMachine<T, L, O, N>, A, S: Code<C, T, L, O, M, A, N>, const N: usize>(
+fn advance<
+    C: OnTable,
+    T,
+    L,
+    O,
+    M: ListMachine<T, L, O, N>,
+    A,
+    S: Code<C, T, L, O, M, A, N>,
+    const N: usize,
+>(
     table: &Shared<Option<T>, View<T, L>, Limits, Running<O, M>>,
     on: &C,
     by: Pass<T, L>,
@@ -160,15 +190,13 @@ fn advance<C, T, L, O, M: ListMachine<T, L, O, N>, A, S: Code<C, T, L, O, M, A, 
     operation: &O,
     access: Access,
 ) -> (Pass<T, L>, Next<S, A>)
-    requires table { (table.now.key ≡ S.key on.now) × (table.now.table_id ≡ S.id on.now) }
-    requires named { operation.now ≡ S.operation at }
-    requires stands { Stands (M.machine (S.key on.now)) S.operation S.line S.slots (S.knows on.now)
-        S.answer S.rest (S.id on.now) by at }
-    requires access { IsAccess (M.machine (S.key on.now)).core M.lists N (S.id on.now).words
-        (S.line at) (S.slots at) access }
-    ensures gives { Gives (M.machine (S.key on.now)) S.operation S.line S.slots (S.knows on.now)
-        S.answer S.rest (S.id on.now) by at result.0 result.1 }
-    ensures told { Tells (S.told on.now) at result.1 }
+    requires table { (table.now.key ≡ C.key on.now) × (table.now.table_id ≡ C.id on.now) }
+    requires named { operation.now ≡ (S.account (C.key on.now)).operation at }
+    requires stands { Stands (M.machine (C.key on.now)) (S.account (C.key on.now)) (C.id on.now) by at }
+    requires access { IsAccess (M.machine (C.key on.now)).core M.lists N (C.id on.now).words
+        ((S.account (C.key on.now)).line at) ((S.account (C.key on.now)).slots at) access }
+    ensures gives { Gives (M.machine (C.key on.now)) (S.account (C.key on.now)) (C.id on.now) by at result.0 result.1 }
+    ensures told { Tells (S.account (C.key on.now)).told at result.1 }
 {
     let mut pass = by;
     let outcome = make::<C, T, L, O, M, A, S, N>(table, &mut pass.seat, access, operation, &at);
@@ -176,10 +204,40 @@ fn advance<C, T, L, O, M: ListMachine<T, L, O, N>, A, S: Code<C, T, L, O, M, A, 
     (pass, next)
 }
 
+// The same of one access alone.
+#[inline(always)]
+fn advance_single<
+    C: OnTable,
+    T,
+    L,
+    O,
+    M: ListMachine<T, L, O, N>,
+    A,
+    S: Code<C, T, L, O, M, A, N>,
+    const N: usize,
+>(
+    table: &Shared<Option<T>, View<T, L>, Limits, Running<O, M>>,
+    on: &C,
+    by: Pass<T, L>,
+    at: S,
+    operation: &O,
+    single: Single,
+) -> (Pass<T, L>, Next<S, A>)
+    requires table { (table.now.key ≡ C.key on.now) × (table.now.table_id ≡ C.id on.now) }
+    requires named { operation.now ≡ (S.account (C.key on.now)).operation at }
+    requires stands { Stands (M.machine (C.key on.now)) (S.account (C.key on.now)) (C.id on.now) by at }
+    requires access { IsAccess (M.machine (C.key on.now)).core M.lists N (C.id on.now).words
+        ((S.account (C.key on.now)).line at) ((S.account (C.key on.now)).slots at) single.access }
+    ensures gives { Gives (M.machine (C.key on.now)) (S.account (C.key on.now)) (C.id on.now) by at result.0 result.1 }
+    ensures told { Tells (S.account (C.key on.now)).told at result.1 }
+{
+    advance::<C, T, L, O, M, A, S, N>(table, on, by, at, operation, single.access)
+}
+
 /// Makes the next atomic step of an operation that is at this.
 #[inline(always)]
 pub fn step<
-    C,
+    C: OnTable,
     T,
     L,
     O,
@@ -194,22 +252,22 @@ pub fn step<
     at: S,
     operation: &O,
 ) -> (Pass<T, L>, Next<S, A>)
-    requires table { (table.now.key ≡ S.key on.now) × (table.now.table_id ≡ S.id on.now) }
-    requires named { operation.now ≡ S.operation at }
-    requires stands { Stands (M.machine (S.key on.now)) S.operation S.line S.slots (S.knows on.now)
-        S.answer S.rest (S.id on.now) by at }
-    ensures gives { Gives (M.machine (S.key on.now)) S.operation S.line S.slots (S.knows on.now)
-        S.answer S.rest (S.id on.now) by at result.0 result.1 }
-    ensures told { Tells (S.told on.now) at result.1 }
+    requires table { (table.now.key ≡ C.key on.now) × (table.now.table_id ≡ C.id on.now) }
+    requires named { operation.now ≡ (S.account (C.key on.now)).operation at }
+    requires stands { Stands (M.machine (C.key on.now)) (S.account (C.key on.now)) (C.id on.now) by at }
+    ensures gives { Gives (M.machine (C.key on.now)) (S.account (C.key on.now)) (C.id on.now) by at result.0 result.1 }
+    ensures told { Tells (S.account (C.key on.now)).told at result.1 }
 {
     let access = at.access(on);
     advance::<C, T, L, O, M, A, S, N>(table, on, by, at, operation, access)
 }
 
-/// The same by one access alone, for a caller to whom it is one that an operation goes on.
+/// The same by one access alone, for a caller to whom it is one that an operation goes on. That the
+/// pass's seat makes one access is a clause, since each is an act of the pass; a load that no seat
+/// makes would change nothing and be counted nowhere, so that there is none stands in the code alone.
 #[inline(always)]
 pub fn single_step<
-    C,
+    C: OnTable,
     T,
     L,
     O,
@@ -224,15 +282,13 @@ pub fn single_step<
     at: S,
     operation: &O,
 ) -> Stepped<(Pass<T, L>, S), Pass<T, L>, A>
-    requires table { (table.now.key ≡ S.key on.now) × (table.now.table_id ≡ S.id on.now) }
-    requires named { operation.now ≡ S.operation at }
-    requires stands { Stands (M.machine (S.key on.now)) S.operation S.line S.slots (S.knows on.now)
-        S.answer S.rest (S.id on.now) by at }
-    ensures { GivesSingle (M.machine (S.key on.now)) S.operation S.line S.slots (S.knows on.now)
-        S.answer S.rest (S.id on.now) by at result }
+    requires table { (table.now.key ≡ C.key on.now) × (table.now.table_id ≡ C.id on.now) }
+    requires named { operation.now ≡ (S.account (C.key on.now)).operation at }
+    requires stands { Stands (M.machine (C.key on.now)) (S.account (C.key on.now)) (C.id on.now) by at }
+    ensures { GivesSingle (M.machine (C.key on.now)) (S.account (C.key on.now)) (C.id on.now) by at result }
 {
-    let access = at.access(on).plain();
-    match advance::<C, T, L, O, M, A, S, N>(table, on, by, at, operation, access) {
+    let single = at.access(on).plain();
+    match advance_single::<C, T, L, O, M, A, S, N>(table, on, by, at, operation, single) {
         (pass, Next::On(at)) => Stepped::Again((pass, at)),
         (pass, Next::Lost(at)) => Stepped::Again((pass, at)),
         (pass, Next::Done(answer)) => Stepped::Done(pass, answer),
@@ -241,29 +297,8 @@ pub fn single_step<
 
 /// The same as a step of a whole call, and what that has to know of it.
 #[inline(always)]
-pub fn any<C, T, L, O, M: ListMachine<T, L, O, N>, A, S: Code<C, T, L, O, M, A, N>, const N: usize>(
-    table: &Shared<Option<T>, View<T, L>, Limits, Running<O, M>>,
-    on: &C,
-    by: Pass<T, L>,
-    at: S,
-    operation: &O,
-) -> (Pass<T, L>, Next<S, A>)
-    requires table { (table.now.key ≡ S.key on.now) × (table.now.table_id ≡ S.id on.now) }
-    requires named { operation.now ≡ S.operation at }
-    requires stands { Stands (M.machine (S.key on.now)) S.operation S.line S.slots (S.knows on.now)
-        S.answer S.rest (S.id on.now) by at }
-    ensures ran { Ran (M.machine (S.key on.now)) S.operation S.line S.slots (S.knows on.now)
-        S.answer S.rest (S.id on.now) operation.now by result.0 result.1 }
-    ensures told { Tells (S.told on.now) at result.1 }
-{
-    step::<C, T, L, O, M, A, S, N>(table, on, by, at, operation)
-}
-
-/// The same as the first step of a whole call. Before it the pass may look whether the others got
-/// something done while its caller was away, by a load that tells nothing of the operation.
-#[inline(always)]
-pub fn first_step<
-    C,
+pub fn any<
+    C: OnTable,
     T,
     L,
     O,
@@ -278,14 +313,68 @@ pub fn first_step<
     at: S,
     operation: &O,
 ) -> (Pass<T, L>, Next<S, A>)
-    requires table { (table.now.key ≡ S.key on.now) × (table.now.table_id ≡ S.id on.now) }
+    requires table { (table.now.key ≡ C.key on.now) × (table.now.table_id ≡ C.id on.now) }
+    requires named { operation.now ≡ (S.account (C.key on.now)).operation at }
+    requires stands { Stands (M.machine (C.key on.now)) (S.account (C.key on.now)) (C.id on.now) by at }
+    ensures ran { Ran (M.machine (C.key on.now)) (S.account (C.key on.now)) (C.id on.now) operation.now by result.0 result.1 }
+    ensures told { Tells (S.account (C.key on.now)).told at result.1 }
+{
+    step::<C, T, L, O, M, A, S, N>(table, on, by, at, operation)
+}
+
+/// The same, for a caller that counts its steps.
+#[inline(always)]
+pub(crate) fn counted_step<
+    C: OnTable,
+    T,
+    L,
+    O,
+    M: ListMachine<T, L, O, N>,
+    A,
+    S: Code<C, T, L, O, M, A, N>,
+    const N: usize,
+>(
+    table: &Shared<Option<T>, View<T, L>, Limits, Running<O, M>>,
+    on: &C,
+    by: Pass<T, L>,
+    at: S,
+    operation: &O,
+) -> (Pass<T, L>, Next<S, A>)
+    requires table { (table.now.key ≡ C.key on.now) × (table.now.table_id ≡ C.id on.now) }
+    requires named { operation.now ≡ (S.account (C.key on.now)).operation at }
+    requires stands { Stands (M.machine (C.key on.now)) (S.account (C.key on.now)) (C.id on.now) by at }
+    ensures ran { Ran (M.machine (C.key on.now)) (S.account (C.key on.now)) (C.id on.now) operation.now by result.0 result.1 }
+    ensures one { OneStep (pass_in by) (pass_in result.0) }
+    ensures told { Tells (S.account (C.key on.now)).told at result.1 }
+{
+    step::<C, T, L, O, M, A, S, N>(table, on, by, at, operation)
+}
+
+/// The same as the first step of a whole call. Before it the pass may look whether the others got
+/// something done while its caller was away, by a load that tells nothing of the operation.
+#[inline(always)]
+pub fn first_step<
+    C: OnTable,
+    T,
+    L,
+    O,
+    M: ListMachine<T, L, O, N>,
+    A,
+    S: Code<C, T, L, O, M, A, N>,
+    const N: usize,
+>(
+    table: &Shared<Option<T>, View<T, L>, Limits, Running<O, M>>,
+    on: &C,
+    by: Pass<T, L>,
+    at: S,
+    operation: &O,
+) -> (Pass<T, L>, Next<S, A>)
+    requires table { (table.now.key ≡ C.key on.now) × (table.now.table_id ≡ C.id on.now) }
     requires some_word { 0 < table.now.table_id.words }
-    requires named { operation.now ≡ S.operation at }
-    requires stands { Stands (M.machine (S.key on.now)) S.operation S.line S.slots (S.knows on.now)
-        S.answer S.rest (S.id on.now) by at }
-    ensures ran { Ran (M.machine (S.key on.now)) S.operation S.line S.slots (S.knows on.now)
-        S.answer S.rest (S.id on.now) operation.now by result.0 result.1 }
-    ensures told { Tells (S.told on.now) at result.1 }
+    requires named { operation.now ≡ (S.account (C.key on.now)).operation at }
+    requires stands { Stands (M.machine (C.key on.now)) (S.account (C.key on.now)) (C.id on.now) by at }
+    ensures ran { Ran (M.machine (C.key on.now)) (S.account (C.key on.now)) (C.id on.now) operation.now by result.0 result.1 }
+    ensures told { Tells (S.account (C.key on.now)).told at result.1 }
 {
     let Pass { seat, density } = by;
     let density = density.at_begin::<T, L, O, M>(table);

@@ -7,6 +7,7 @@ use Rattle.streams.specs.Writing.{AppendsFront, Written}
 use Rattle.bounded_model.specs.declared.history.Order.{Order}
 use Rattle.script.specs.declared.answer.Answer.{Answer}
 use Rattle.script.specs.declared.line.Line.{Line}
+use Rattle.bounded_model.specs.declared.container.TheConstants.{MAX_PASSES}
 use Rattle.bounded_model.specs.Laws.{fresh}
 use Rattle.player.specs.Plays.{Plays, start}
 use Rattle.script.specs.AnswerTexts.{answer_text}
@@ -17,7 +18,7 @@ use Rattle.script.specs.Script.{Head, IsScript, text_of}
 -- what is written for a script, which is played over a new container of this order: the answers of its calls, each under
 -- the container's own laws
 abbrev pub IsOutputIn : Order → Head → List Line → List ℕ → Type 0
-IsOutputIn order head lines output = (answers : List Answer) × Plays (record { order = order; capacity = head.capacity; limit = head.tag_limit }) (start fresh) lines answers × (output ≡ text_of (map answer_text answers))
+IsOutputIn order head lines output = (answers : List Answer) × Plays (record { order = order; capacity = head.capacity; limit = head.tag_limit; passes = MAX_PASSES }) (start fresh) lines answers × (output ≡ text_of (map answer_text answers))
 
 abbrev pub IsOutputOf : Head → List Line → List ℕ → Type 0
 IsOutputOf head lines output = IsOutputIn head.order head lines output

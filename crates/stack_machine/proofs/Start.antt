@@ -1,15 +1,17 @@
 -- The rule holds of a new stack, and what the words say wherever it holds.
 use Rattle.std.proofs.Common.{◌≡◌, ℕ, zero, suc, ◌<◌, ◌≤◌, List, [], ◌∷◌, length, replicate, refl, sym, ap, ◌∙◌, subst, arith}
 use Rattle.std.specs.Prelude.{None}
-use mathlib.Core.Option.{Option, some, some-injective}
+use mathlib.Core.Option.{Option, none, some, some-injective}
 use lib.ListN.{get_elem?}
 use Rattle.tagged_index.specs.declared.word.TheConstants.{NULL}
 use Rattle.bounded_model.specs.declared.history.Event.{Event}
-use Rattle.machine.specs.Words.{times, Stands}
+use Rattle.machine.specs.Words.{times, Stands, start_link}
 use Rattle.machine.specs.Chains.{values_in, HasValues}
 use Rattle.machine.proofs.Sums.{total_same, same_at}
 use Rattle.machine.proofs.Chains.{first_value}
-use Rattle.machine.proofs.Starts.{from, from_stands, from_all, from_length}
+use Rattle.machine.proofs.Lists.{leads_frame}
+use Rattle.machine.proofs.Starts.{from, from_stands, from_all, from_low, from_length}
+use Rattle.machine.proofs.Tests.{if_below}
 use Rattle.stack_machine.specs.declared.lines.Line.{Line}
 use Rattle.stack_machine.specs.declared.lines.Line.TheVariants.{Idle}
 use Rattle.stack_machine.specs.Answers.{shape, state}
@@ -27,12 +29,12 @@ module _ {T : Type 0} where
     good = record {
       linked = record {
         small = small;
-        free_stands = from_stands (suc k) k 0 (omega arith);
+        free_stands = leads_frame (start_link (suc k)) (start {T = T} (shape (suc k) limit)).link (from 0 (suc k)) 0 NULL (λ i there. if_below i (suc k) (start_link (suc k) i) 0 (from_low (suc k) i there)) (from_stands (suc k) k 0 (omega arith));
         top_stands = refl;
         once = λ i. omega (arith, from_all i (suc k), total_same (λ (l : Line T). times i (held l)) (Idle None) passes refl);
         fine = λ p l e. subst (IsFine limit (start (shape (suc k) limit)) (record { frees = from 0 (suc k); stack = [] })) (same_at passes p (Idle None) l e) tt;
       };
-      filled = record { empty = λ i there. refl; stored = tt };
+      filled = record { empty = λ i there. if_below i (suc k) (some None) none (from_low (suc k) i there); stored = tt };
       told = record {
         legal = tt;
         room = omega (arith, from_length (suc k) 0);

@@ -4,6 +4,7 @@ use Rattle.bounded_model.specs.declared.history.Order.TheVariants.{Lifo}
 use Rattle.bounded_model.specs.declared.history.Event.{Event}
 use Rattle.bounded_model.specs.declared.answers.PutRefused.{PutRefused}
 use Rattle.bounded_model.specs.declared.answers.PutRefused.TheVariants.{Full, Closed, Spent}
+use Rattle.bounded_model.specs.declared.container.TheConstants.{MAX_PASSES}
 use Rattle.bounded_model.specs.Machine as bounded
 use Rattle.bounded_model.specs.Justified as right
 use Rattle.stack_machine.specs.declared.lines.Answer.{Answer}
@@ -11,7 +12,7 @@ use Rattle.stack_machine.specs.declared.lines.Answer.TheVariants.{Put as AnswerP
 
 -- a stack of n nodes
 abbrev pub shape : ℕ → ℕ → bounded.Shape
-shape n limit = record { order = Lifo; capacity = n; limit = limit }
+shape n limit = record { order = Lifo; capacity = n; limit = limit; passes = MAX_PASSES }
 
 -- the bounded machine at the end of a history
 abbrev pub state : {T : Type 0} → ℕ → ℕ → List (Event T) → bounded.State T

@@ -258,7 +258,7 @@ module _ {T : Type 0} where
   step c m p l = does memories (Idle None) m p l (table c l)
 
   abbrev pub wins_exchange : Memory T → Line T → Bool
-  wins_exchange m l = won_by memories m (table (record { order = Lifo; capacity = 0; limit = 0 }) l)
+  wins_exchange m l = won_by memories m (table (record { order = Lifo; capacity = 0; limit = 0; passes = 0 }) l)
 
   -- what the exchanges of TakeTop and of TakeChain leave
   abbrev pub wins_value : Memory T → ℕ → Tagged → ℕ → Option (Slot T) → Outcome T
@@ -296,15 +296,20 @@ module _ {T : Type 0} where
   starts CallShut = LoadTopToShut
   starts CallLook = LoadTopToLook
 
--- the words and slots of a new stack
+-- the words and slots of a new stack; a number that is no node has 0 for a link, and no slot
 abbrev pub start : {T : Type 0} → Shape → Memory T
-start c = record { free = start_word 0; top = start_word NULL; link = start_link c.capacity; home = λ i. some None }
+start c = record {
+  free = start_word 0;
+  top = start_word NULL;
+  link = λ i. if ltb i c.capacity then start_link c.capacity i else 0;
+  home = λ i. if ltb i c.capacity then some None else none;
+}
 
 -- the whole machine, for schedules
 abbrev pub stack : {T : Type 0} → Shape → schedule.Machine (Memory T) (Line T) (Call T) (Event T)
 stack c = record {
   first = start c;
-  rest = Idle None;
+  rest = λ p. Idle None;
   is_idle = is_idle;
   starts = λ call idle. starts call;
   step = step c;

@@ -108,7 +108,7 @@ link_off false i e = omega arith
 hosts : (T : Type 0) (n limit : ℕ) → Hosts (stack T n limit) (lists {T = T}) 2
 hosts T n limit = record {
   idle = λ l line e. idle_holds line e;
-  first = λ l o. (first_empty o).none_held;
+  first = λ l o rest. (first_empty o).none_held;
   apart = λ l i low e. link_off (eqb l 0) i e;
   placed = λ l words homes low sane. let t = top_low (eqb l 0) n in let w = sane.words_are in omega arith;
   access = agrees n limit;

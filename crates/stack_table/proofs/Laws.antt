@@ -9,7 +9,6 @@ use Rattle.bounded_model.specs.declared.history.Event.{Event}
 use Rattle.bounded_model.specs.declared.views.PassView.{PassView}
 use Rattle.bounded_model.specs.Histories.{own}
 use Rattle.bounded_model.proofs.Histories.{own-between}
-use Rattle.machine.proofs.Lists.{none_of}
 use Rattle.machine.proofs.Sums.{total_snoc}
 use Rattle.machine.specs.Words.{times, total}
 use Rattle.machine.specs.Seats.{Saw}
@@ -27,6 +26,7 @@ use Rattle.stack_machine.proofs.Step.{step_kept}
 use Rattle.stack_machine.proofs.Tells.{tells_kept, step_apart}
 use Rattle.stack_machine.proofs.Doing.{begins, meanwhile, step_does}
 use Rattle.running.specs.Machine.{Laws, Machine}
+use Rattle.running.proofs.Uniting.{alike}
 use Rattle.stack_table.specs.declared.operation.Operation.{Operation}
 use Rattle.stack_table.specs.declared.operation.Operation.TheVariants.{Put as PutFirst}
 use Rattle.stack_table.specs.Lines.{names, call_of, first_line}
@@ -109,20 +109,26 @@ module _ {T : Type 0} (n limit : ℕ) where
 
   pub laws : Laws {T = T} names (core T n limit)
   laws = record {
-    rests = refl;
-    starts = starts;
+    rests = λ l. refl;
+    calm = λ l. refl;
+    fresh = λ p. refl;
+    starts = λ o rest. starts o;
+    stocked = tt;
+    gives_quiet = λ out l is more. refl;
+    gives_stock = λ out l is more. tt;
+    takes_stock = λ out l k is quiet. tt;
     empty = λ l e. ap length (idle_holds l e);
     begins = λ m s o idle. goes_empty m s.who s.lines s.history s.seat s.line (first_line o) s.good s.here (idle_holds s.line idle) (first_empty o) (first_fine limit m s.good.lists o);
-    quiets = λ m s none_held. goes_empty m s.who s.lines s.history s.seat s.line (Idle None) s.good s.here (none_of (held s.line) none_held) (record { none_held = refl; none_put = refl }) tt;
-    reseats = λ m r. record { lists = r.good.lists; good = reseated n limit m r.good.lists r.who r.who' r.lines r.lines' r.history r.good.good r.grows r.hands r.alone };
+    quiets = λ m s idle. goes_empty m s.who s.lines s.history s.seat s.line (Idle None) s.good s.here (idle_holds s.line idle) (record { none_held = refl; none_put = refl }) tt;
+    reseats = λ m r. record { lists = r.good.lists; good = reseated n limit m r.good.lists r.who r.who' r.lines r.lines' r.history r.good.good (alike (Idle None) is_idle (λ o rest. first_line o) (core T n limit) r.lines r.lines' r.shared) r.hands r.alone };
     kept = λ m t. step_kept n limit m t.at.who t.at.lines t.at.history t.at.seat t.pass t.is t.at.good t.at.line t.at.here;
     legal = λ m of lines h k. k.good.told.legal;
     hands = λ m t. t.at.good.good.told.hands t.at.seat t.pass t.at.line t.at.here t.is;
     apart = λ m p l h q ne. step_apart (shape n limit) m p q ne h l;
     deeds = λ o m s d. deeds o m s.at.who s.at.lines s.at.history s.at.seat s.at.line s.at.good s.at.here s.pass s.begun s.saw d;
     tells = λ m s before t. tells_kept s.at.good.good s.pass.number s.begun s.pass.seen before s.saw.seen s.at.line t;
-    first_deeds = λ p h o. begins (shape n limit) p h (call_of o);
-    first_tells = first_tells n limit;
+    first_deeds = λ p h o rest. begins (shape n limit) p h (call_of o);
+    first_tells = λ h o rest. first_tells n limit h o;
     unheld = λ m s p. wins_unheld s.good.good s.seat p s.line s.here;
     does = λ words homes t sane. does n limit words homes sane t.at.who t.at.lines t.at.history t.at.seat t.at.good t.pass t.at.line t.at.here;
   }

@@ -5,7 +5,7 @@ use Rattle.stack_machine.specs.declared.lines.Top.{Top}
 use Rattle.stack_machine.specs.declared.lines.Link.{Link}
 use Rattle.stack_machine.specs.declared.lines.Line.{Line}
 use Rattle.stack_machine.specs.declared.lines.Line.TheVariants.{Idle}
-use Rattle.stack_machine.specs.Machine.{Memory, memories, table, held}
+use Rattle.stack_machine.specs.Machine.{Memory, memories, table, held, start}
 use Rattle.stack_machine.specs.Answers.{shape}
 use Rattle.stack_machine.specs.Rule.{Tells, Kept}
 use Rattle.stack_machine.specs.Deeds.{Deeds}
@@ -21,7 +21,7 @@ module _ (T : Type 0) (n limit : ℕ) where
   board = record {
     memories = memories;
     layout = layout n;
-    idle = Idle None;
+    idle = λ l. Idle None;
     table = table (shape n limit);
     Brings = Brings n;
     Says = Says n;
@@ -30,8 +30,12 @@ module _ (T : Type 0) (n limit : ℕ) where
 
   abbrev pub rules : Rules T (Memory T) (Line T) (Operation T)
   rules = record {
+    first = start (shape n limit);
     shape = shape n limit;
     holding = λ l. length (held l);
+    rest = λ p. Idle None;
+    stock = Idle None;
+    IsStock = λ out l. Unit {0};
     Good = λ m who lines h. Kept T n limit m who lines h;
     Deeds = λ o p l b seen. Deeds (shape n limit) p (call_of o) l b seen;
     Tells = λ b seen l. Tells n limit b seen l;

@@ -12,6 +12,7 @@ use Rattle.stack_machine.specs.declared.lines.Call.TheVariants.{Put as CallPut, 
 use Rattle.stack_machine.specs.declared.lines.Line.{Line}
 use Rattle.stack_machine.specs.declared.lines.Line.TheVariants.{Idle, LoadFree, LoadFreeLink, TakeFree, LoadTopToTake, LoadTopLink, TakeTop, TakeChain, LoadLinkToTurn, LoadLinkToFold}
 use Rattle.stack_machine.specs.Machine.{is_idle, starts, is_up, took, took_all, table}
+use Rattle.machine.specs.Seats.{all_alike}
 use Rattle.running.specs.Machine.{Names}
 use Rattle.stack_table.specs.declared.operation.Operation.{Operation}
 use Rattle.stack_table.specs.declared.operation.Operation.TheVariants.{Put as PutFirst, Take as TakeFirst, Close as CloseFirst, Shut as ShutFirst, Look as LookFirst, Fold as FoldFirst}
@@ -49,7 +50,7 @@ module _ {T : Type 0} where
   first_line o = starts (call_of o)
 
   abbrev pub names : Names (Line T) (Operation T)
-  names = record { idle = Idle None; is_idle = is_idle; first = first_line }
+  names = record { shares = all_alike (Idle None); is_idle = is_idle; quiet = λ l. Idle None; first = λ o rest. first_line o }
 
   -- the next line, by the word found and the slots moved
   abbrev pub next : ℕ → ℕ → Line T → ℕ → List (ℕ × Slot T) → Line T

@@ -6,3 +6,4 @@ pub mod Falls
 pub mod list
 pub mod stack
 pub mod queue
+pub mod ring

@@ -11,10 +11,10 @@ use Rattle.bounded_model.specs.Histories.{own}
 use Rattle.bounded_model.specs.Justified.{Sometime}
 use Rattle.bounded_model.specs.Machine.{Legal}
 use Rattle.bounded_model.proofs.Histories.{no_parts, own-append, own-between}
-use Rattle.machine.specs.Schedule.{Machine, Outcome, Pass, State, Act, Begin, Step, next, run, start, stepped, begun, acts_at, first_pass}
-use Rattle.machine.proofs.Scheduled.{set_same, next_kept}
+use Rattle.machine.specs.Schedule.{Machine, Outcome, Pass, State, Act, Begin, Step, next, run, start, stepped, begun, acts_at}
+use Rattle.machine.proofs.Scheduled.{set_same, next_kept, start_at}
 use Rattle.machine.proofs.Stories.{Told, Stays, stays_holds}
-use Rattle.machine.proofs.Sums.{at_set, same_at}
+use Rattle.machine.proofs.Sums.{at_set}
 use Rattle.step_core.specs.Linearizable.{Operation, Object, Entry, Invokes, Responds, Reads, Rests, Pending, TookEffect, without_points, events, stage, IsLinearization, response_of, history_at, concurrent_history, Linearizable}
 use Rattle.step_core.proofs.Entries.{visible, visible-append, all_mine, single, cut, Quiets, quiet_append, quiet_first, quiet_last, without_points-append, events-append, stage-quiet, talk-insert, events-insert, quiet_insert, stage-insert, run-insert, split, hands, place}
 
@@ -57,7 +57,7 @@ with w s = record { at = s.at; since = s.since; until = s.until; holds = (w, s.h
 -- What a rule and a story of a machine say of the object's calls
 pub record Speaks {M L T C A : Type 0} (x : Machine M L C (Event T)) (answer : L → Option A) (o : Object T C A) (Rule : M → List L → List (Event T) → Type 0) (Story : ℕ → Option C → L → List (Event T) → List (Event T) → Type 0) : Type 0 where
   pub legal : (m : M) (lines : List L) (h : List (Event T)) → Rule m lines h → Legal o.shape h
-  pub rest_idle : x.is_idle x.rest ≡ true
+  pub rest_idle : (p : ℕ) → x.is_idle (x.rest p) ≡ true
   pub starts_busy : (call : C) (l : L) → x.is_idle (x.starts call l) ≡ false
   pub unbegun : (p : ℕ) (l : L) (b seen : List (Event T)) → Story p none l b seen → x.is_idle l ≡ true
   pub going : (p : ℕ) (c : C) (l : L) (b seen : List (Event T)) → Story p (some c) l b seen → x.is_idle l ≡ false → Going o p c b seen
@@ -457,7 +457,7 @@ module _ {M L T C A : Type 0} (x : Machine M L C (Event T)) (answer : L → Opti
       history = refl;
       each = λ p v e. record {
         rests = λ idle. refl;
-        goes = λ busy. absurd (false≢true (sym busy ∙ ap (λ (w : Pass L C (Event T)). x.is_idle w.line) (sym (same_at passes p (first_pass x) v e)) ∙ says.rest_idle));
+        goes = λ busy. absurd (false≢true (sym busy ∙ ap (λ (w : Pass L C (Event T)). x.is_idle w.line) (sym (start_at x passes p v e)) ∙ says.rest_idle p));
       };
     }
 

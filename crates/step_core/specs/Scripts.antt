@@ -31,12 +31,12 @@ pub record Stage (M L C E : Type 0) : Type 0 where
   pub counts : List ℕ
 
 module _ {M L C A E : Type 0} (x : Player M L C A E) where
-  abbrev pub line_of : Option (Pass L C E) → L
-  line_of none = x.machine.rest
-  line_of (some v) = v.line
+  abbrev pub line_of : ℕ → Option (Pass L C E) → L
+  line_of p none = x.machine.rest p
+  line_of p (some v) = v.line
 
   abbrev pub line_at : Stage M L C E → ℕ → L
-  line_at s p = line_of (get_elem? s.state.passes p)
+  line_at s p = line_of p (get_elem? s.state.passes p)
 
   abbrev pub or_zero : Option ℕ → ℕ
   or_zero none = 0

@@ -1,6 +1,6 @@
 -- The names of a machine's steps, by its table of steps, and what a step did.
 use Rattle.std.specs.Prelude.{◌≡◌, ◌≢◌, Option, Some}
-use Rattle.machine.specs.Program.{Deed, loads, checks, follows, stores, links, attempts, swaps}
+use Rattle.machine.specs.Program.{Deed, loads, checks, follows, fetches, stows, stores, links, attempts, swaps}
 use Rattle.step_names.specs.declared.location.Location.{Location}
 use Rattle.step_names.specs.declared.step_name.StepName.{StepName}
 use Rattle.step_names.specs.declared.step_name.StepName.TheVariants.{Load, Store, CompareAndSwap, Attempt}
@@ -19,6 +19,8 @@ module _ {T M P Q L E : Type 0} (naming : Naming T M P Q L E) where
   LoadsWord (loads at to) location = location ≡ naming.word at
   LoadsWord (checks at seen here elsewhere) location = location ≡ naming.word at
   LoadsWord (follows at to) location = location ≡ naming.number at
+  LoadsWord (fetches at indexes to) location = location ≡ naming.word at
+  LoadsWord (stows at slots to) location = location ≡ naming.word at
   LoadsWord deed location = ⊥
 
   -- a step has this name; that of a compare-and-swap tells the word that is loaded where it failed, too

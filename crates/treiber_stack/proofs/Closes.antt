@@ -1,5 +1,6 @@
 -- What a close, a shut and a look give.
 use Rattle.std.proofs.Common.{◌≡◌, ℕ, Bool, true, false, List, [], ◌∷◌, refl, sym, ap, ◌∙◌, subst}
+use Rattle.std.specs.Prelude.{Option as Slot}
 use Rattle.bounded_model.specs.declared.history.Event.{Event}
 use Rattle.bounded_model.specs.declared.history.Event.TheVariants.{Close, Shut as ShutEvent}
 use Rattle.bounded_model.specs.declared.views.PassView.{PassView}
@@ -18,9 +19,10 @@ use Rattle.treiber_stack.specs.declared.closing.Mark.{Mark}
 use Rattle.treiber_stack.specs.declared.closing.Mark.TheVariants.{Closed, Shut}
 use Rattle.treiber_stack.specs.declared.closing.MarkAt.{MarkAt}
 use Rattle.running.specs.Steps.{Stops}
-use Rattle.treiber_stack.specs.Closing.{mark_name, mark_answer, mark_line, mark_ends, MarkGives, IsMarking}
+use Rattle.treiber_stack.specs.Closing.{mark_account, mark_name, mark_answer, mark_line, mark_ends, MarkGives, IsMarking, MarkGoes}
 use Rattle.running.specs.declared.passes.Pass.{Pass}
-use Rattle.treiber_stack.specs.Stack.{machine_of, shape_of, pass_in, IsPassOf}
+use Rattle.treiber_stack.specs.Ran.{WasRun}
+use Rattle.treiber_stack.specs.Stack.{machine_of, shape_of, pass_in, IsPassOf, WentOn}
 
 module _ {T : Type 0} (c : Stack T) where
   -- an operation of any kind has added its own events
@@ -44,17 +46,30 @@ module _ {T : Type 0} (c : Stack T) where
     look_gives b e = (adds_of e [] e.deeds.made, e.tells)
 
 -- a whole call that sets a mark has answered
-pub mark_stops : {T : Type 0} (c : Stack T) (mark : Mark) (done : Bool) (begun : PassView T) (q : Pass T (Line T)) → Stops (machine_of c) (λ (at : MarkAt). mark_name at.mark) (λ at. mark_line at.mark at.seen) (λ at. []) (λ at. Unit {0}) mark_ends (λ a. []) c.table.shared.table_id (mark_name mark) begun q done
+pub mark_stops : {T : Type 0} (c : Stack T) (mark : Mark) (done : Bool) (begun : PassView T) (q : Pass T (Line T)) → Stops (machine_of c) (mark_account c.table.shared.key) c.table.shared.table_id (mark_name mark) begun q done
     → IsPassOf c q × MarkGives mark (shape_of c) begun (pass_in q) done
 mark_stops c Closed done begun q e = (e.0, mark_gives c Closed done e.1)
 mark_stops c Shut done begun q e = (e.0, mark_gives c Shut done e.1)
 
+-- and was run
+pub mark_ran : {T : Type 0} (c : Stack T) (mark : Mark) (done : Bool) (begun : PassView T) (q : Pass T (Line T)) → Stops (machine_of c) (mark_account c.table.shared.key) c.table.shared.table_id (mark_name mark) begun q done
+    → WasRun c (mark_name mark) begun q (mark_answer mark done)
+mark_ran c Closed done begun q e = e.1.ran refl
+mark_ran c Shut done begun q e = e.1.ran refl
+
+-- the name of the operation says the mark
+same_mark : {T : Type 0} (j k : Mark) → mark_name {T = T} j ≡ mark_name k → j ≡ k
+same_mark Closed Closed e = refl
+same_mark Shut Shut e = refl
+same_mark Closed Shut e = cc
+same_mark Shut Closed e = cc
+
 -- an operation that sets a mark goes on setting that mark
 pub mark_stays : {T : Type 0} (c : Stack T) (mark : Mark) (at : MarkAt) → mark_name {T = T} mark ≡ mark_name at.mark → (q : Pass T (Line T)) → IsMarking c at.mark q at.seen → IsMarking c mark q at.seen
 mark_stays c mark at same q is = subst (λ (k : Mark). IsMarking c k q at.seen) (sym (same_mark mark at.mark same)) is
-  where
-    same_mark : {T : Type 0} (j k : Mark) → mark_name {T = T} j ≡ mark_name k → j ≡ k
-    same_mark Closed Closed e = refl
-    same_mark Shut Shut e = refl
-    same_mark Closed Shut e = cc
-    same_mark Shut Closed e = cc
+
+-- so does one that has made a step
+pub mark_goes : {T : Type 0} (c : Stack T) (mark : Mark) (p : Pass T (Line T)) (seen : Slot ℕ) (q : Pass T (Line T)) (at : MarkAt)
+    → IsMarking c at.mark q at.seen → mark_name {T = T} at.mark ≡ mark_name mark → WentOn c p q (mark_line mark seen) (mark_line at.mark at.seen) → MarkGoes c mark p seen q at.seen
+mark_goes {T} c mark p seen q at is same went = let e = same_mark {T = T} at.mark mark same in
+    (subst (λ (k : Mark). IsMarking c k q at.seen) e is, subst (λ (k : Mark). WentOn c p q (mark_line mark seen) (mark_line k at.seen)) e went)

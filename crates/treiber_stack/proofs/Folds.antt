@@ -39,9 +39,10 @@ use Rattle.treiber_stack.specs.declared.folding.FoldStop.{FoldStop}
 use Rattle.treiber_stack.specs.declared.folding.FoldStop.TheVariants.{Yields, Ended as AllGone, Refused}
 use Rattle.treiber_stack.specs.declared.giving.Chain.{Chain}
 use Rattle.treiber_stack.specs.declared.giving.Give.{Give}
-use Rattle.treiber_stack.specs.Folding.{nodes_of, folded_of, folding, front_of, gone, fold_operation, fold_line, fold_slots, fold_answer, fold_rest, HasReadToFold, FoldTold}
+use Rattle.treiber_stack.specs.Folding.{fold_account, nodes_of, folded_of, folding, front_of, gone, fold_operation, fold_line, fold_slots, fold_answer, fold_rest, HasReadToFold, FoldTold}
 use Rattle.treiber_stack.specs.FoldOp.{IsFolding, FoldTried}
 use Rattle.treiber_stack.specs.Giving.{GaveTo}
+use Rattle.treiber_stack.specs.Ran.{WasRun}
 use Rattle.treiber_stack.specs.Refusing.{RefusesTake}
 use Rattle.treiber_stack.specs.Stack.{room_of, limit_of, machine_of, shape_of, begun_of, IsAt}
 use Rattle.treiber_stack.proofs.Closes.{adds_of}
@@ -85,7 +86,7 @@ fold_busy (GiveBack b chain at) = busy_giving (folding b (nodes_of b)) at
 -- where the code of a fold goes on
 module _ {T : Type 0} (c : Stack T) where
   abbrev pub FoldsTo : FoldAt T → List (ℕ × Slot T) → Next (FoldAt T) (FoldStop T) → Line T → Type 0
-  FoldsTo s has to l = Leads names fold_operation fold_line fold_slots (λ at. HasReadToFold (room_of c) (limit_of c) at) fold_answer fold_rest s l has to
+  FoldsTo s has to l = Leads names (fold_account c.table.shared.key) s l has to
 
   abbrev pub Folding : FoldAt T → Outcome → List (ℕ × Slot T) → List (ℕ × Slot T) → Next (FoldAt T) (FoldStop T) → Type 0
   Folding s r had has to = Finding (machine_of c).core (fold_line s) r (fold_slots s) had (λ found came. FoldsTo s has to (next (room_of c) (limit_of c) (fold_line s) found came))
@@ -97,12 +98,12 @@ module _ {T : Type 0} (c : Stack T) where
   -- by the give inside it
   pub gave_fold : {s : FoldAt T} {b : Batch T} {chain : Chain} {at : Give} → s ≡ GiveBack b chain at → HasReadToFold (room_of c) (limit_of c) s → (r : Outcome) (has : List (ℕ × Slot T)) (to : Next Give (Unit {0})) → GaveTo c (folding b (nodes_of b)) at r has to → Folding s r has has (within (GiveBack b chain) (AllGone b) to)
   gave_fold {s} {b} {chain} {at} is knows r has to gave = subst (λ (k : FoldAt T). Folding k r has has (within (GiveBack b chain) (AllGone b) to)) (sym is)
-      (gave_within c fold_operation fold_line fold_slots (λ k. HasReadToFold (room_of c) (limit_of c) k) fold_answer fold_rest (folding b (nodes_of b)) (GiveBack b chain) (AllGone b) (GiveBack b chain at)
+      (gave_within c (fold_account c.table.shared.key) (folding b (nodes_of b)) (GiveBack b chain) (AllGone b) (GiveBack b chain at)
       (λ at'. refl) (λ at'. refl) (λ at'. refl) (λ at'. subst (HasReadToFold (room_of c) (limit_of c)) is knows) refl at r has to gave)
 
 module _ {T : Type 0} (c : Stack T) where
   abbrev pub FoldStops : Front → PassView T → Pass T (Line T) → FoldStop T → Type 0
-  FoldStops front begun q stop = Stops (machine_of c) fold_operation fold_line fold_slots (λ k. HasReadToFold (room_of c) (limit_of c) k) fold_answer fold_rest c.table.shared.table_id (FoldFirst front) begun q stop
+  FoldStops front begun q stop = Stops (machine_of c) (fold_account c.table.shared.key) c.table.shared.table_id (FoldFirst front) begun q stop
 
   -- what a fold gives that was at `op` and has stopped
   module _ (front : Front) (values : List T) (op : FoldOp T) (is : IsFolding c front values op) (q : Pass T (Line T)) (stop : FoldStop T) (stops : FoldStops front (begun_of c op.pass) q stop)
@@ -111,7 +112,7 @@ module _ {T : Type 0} (c : Stack T) where
     hands_on v at e =
         let t = subst (FoldTold (room_of c) (limit_of c) (front_of op.at) (gone op.at)) e told in
         let from = t.1 ∙ is.from in
-        let r = subst (λ (b : Bool). StopsAt (machine_of c) fold_operation fold_line fold_slots (λ k. HasReadToFold (room_of c) (limit_of c) k) fold_answer fold_rest c.table.shared.table_id b (FoldFirst front) (begun_of c op.pass) q (Yields v at)) (fold_busy at) (subst (FoldStops front (begun_of c op.pass) q) e stops) in (
+        let r = subst (λ (b : Bool). StopsAt (machine_of c) (fold_account c.table.shared.key) c.table.shared.table_id b (FoldFirst front) (begun_of c op.pass) q (Yields v at)) (fold_busy at) (subst (FoldStops front (begun_of c op.pass) q) e stops) in (
           record {
             line = subst (λ (f : Front). IsAt c (FoldFirst f) q (fold_line at) (fold_slots at)) (sym from) r.0;
             read = t.0;
@@ -133,6 +134,13 @@ module _ {T : Type 0} (c : Stack T) where
     none_taken why e =
         let r = subst (FoldStops front (begun_of c op.pass) q) e stops in
         (r.0, (takes_nothing c front why r.1, sym is.handed ∙ subst (FoldTold (room_of c) (limit_of c) (front_of op.at) (gone op.at)) e told))
+
+    -- it was run, as one call
+    pub all_ran : (b : Batch T) → stop ≡ AllGone b → WasRun c (FoldFirst front) (begun_of c op.pass) q (AnswerFold (Ok (folded_of b, b.number)))
+    all_ran b e = (subst (FoldStops front (begun_of c op.pass) q) e stops).1.ran refl
+
+    pub none_ran : (why : TakeRefused) → stop ≡ Refused why → WasRun c (FoldFirst front) (begun_of c op.pass) q (AnswerFold (Err why))
+    none_ran why e = (subst (FoldStops front (begun_of c op.pass) q) e stops).1.ran refl
 
   -- one that is told whatever is told of where it goes on has handed out the same values
   pub same_gone : (at to : FoldAt T) → HasReadToFold (room_of c) (limit_of c) to → ((stop : FoldStop T) → FoldTold (room_of c) (limit_of c) (front_of to) (gone to) stop → FoldTold (room_of c) (limit_of c) (front_of at) (gone at) stop) → gone to ≡ gone at

@@ -12,7 +12,7 @@ use Rattle.index_list.specs.Kinds.{Kind}
 use Rattle.stack_table.specs.Lists.{lists, list_step}
 use Rattle.running.specs.Lists.{AtStep}
 use Rattle.running.specs.Going.{Going, begun_in}
-use Rattle.running.specs.Code.{Finding, Leads, MatchNext, left}
+use Rattle.running.specs.Code.{Account, Finding, Leads, MatchNext, left}
 use Rattle.running.specs.declared.access.Outcome.{Outcome}
 use Rattle.running.specs.declared.code.Next.{Next}
 use Rattle.running.specs.declared.code.Next.TheVariants.{On as NextOn, Lost as NextLost, Done as NextDone}
@@ -41,8 +41,8 @@ within inside a (NextOn at) = NextOn (inside at)
 within inside a (NextLost at) = NextLost (inside at)
 within inside a (NextDone x) = NextDone a
 
-module _ {T S A : Type 0} (c : Stack T) (operation : S → Operation T) (line : S → Line T) (slots : S → List (ℕ × Slot T)) (Knows : S → Type 0) (answer : Operation T → A → Line T) (rest : A → List (ℕ × Slot T)) (giving : Giving T) (inside : Give → S) (a : A) (s : S)
-    (same : (at : Give) → operation (inside at) ≡ operation s) (is : (at : Give) → give_line giving at ≡ line (inside at)) (hand : (at : Give) → vacant giving.chain ≡ slots (inside at)) (knows : (at : Give) → Knows (inside at)) (answers : ends giving.answer ≡ answer (operation s) a)
+module _ {T S A : Type 0} (c : Stack T) (y : Account T (Line T) (Operation T) S A) (giving : Giving T) (inside : Give → S) (a : A) (s : S)
+    (same : (at : Give) → y.operation (inside at) ≡ y.operation s) (is : (at : Give) → give_line giving at ≡ y.line (inside at)) (hand : (at : Give) → vacant giving.chain ≡ y.slots (inside at)) (knows : (at : Give) → y.knows (inside at)) (answers : ends giving.answer ≡ y.answer (y.operation s) a)
     (at : Give) (r : Outcome) (has : List (ℕ × Slot T)) where
   abbrev led : ℕ → List (ℕ × Slot T) → Line T
   led found came = next (room_of c) (limit_of c) (give_line giving at) found came
@@ -51,12 +51,12 @@ module _ {T S A : Type 0} (c : Stack T) (operation : S → Operation T) (line : 
   GaveSo to found came = MatchNext to (λ at'. (led found came ≡ give_line giving at') × (has ≡ vacant giving.chain)) (λ done. (led found came ≡ ends giving.answer) × (has ≡ []))
 
   abbrev LeadsSo : Next Give (Unit {0}) → ℕ → List (ℕ × Slot T) → Type 0
-  LeadsSo to found came = Leads names operation line slots Knows answer rest s (led found came) has (within inside a to)
+  LeadsSo to found came = Leads names y s (led found came) has (within inside a to)
 
   follows : (to : Next Give (Unit {0})) (found : ℕ) (came : List (ℕ × Slot T)) → GaveSo to found came → LeadsSo to found came
   follows (NextOn at') found came e = record { same = same at'; is = e.0 ∙ is at'; busy = subst (λ (l : Line T). is_idle l ≡ false) (is at') (busy_giving giving at'); hand = e.1 ∙ hand at'; knows = knows at' }
   follows (NextLost at') found came e = record { same = same at'; is = e.0 ∙ is at'; busy = subst (λ (l : Line T). is_idle l ≡ false) (is at') (busy_giving giving at'); hand = e.1 ∙ hand at'; knows = knows at' }
-  follows (NextDone x) found came e = record { is = e.0 ∙ answers; hand = e.1 ∙ ap (λ (l : Line T). left (is_idle l) (rest a)) answers }
+  follows (NextDone x) found came e = record { is = e.0 ∙ answers; hand = e.1 ∙ ap (λ (l : Line T). left (is_idle l) (y.rest a)) answers }
 
   pub gave_within : (to : Next Give (Unit {0})) → GaveTo c giving at r has to → Finding (machine_of c).core (give_line giving at) r (vacant giving.chain) has (LeadsSo to)
   gave_within to so = finding (machine_of c).core (give_line giving at) r (vacant giving.chain) has (GaveSo to) (LeadsSo to) (follows to) ((machine_of c).core.access (give_line giving at)) so

@@ -113,8 +113,8 @@ module _ {T : Type 0} where
   values_home homes slots same (i ∷ is) [] has = absurd has
 
   -- what a table that was closed with the root's seat has left
-  pub leaves_all : (n limit id : ℕ) (v : View T (Line T)) (r : RootView T) (words : List ℕ) (slots : List (Slot T)) (index : ℕ) → Final (Seen (Rule {names = _} (stack T n limit)) id v) words slots → v ≡ AtRoot r [] → IsSound (shape n limit) r → length slots ≤ NULL
-      → index ≡ index_of (slice_index words top_at) → Leaves (shape n limit) r (left_along words slots index)
+  pub leaves_all : {root : Line T} (n limit id : ℕ) (v : View T (Line T)) (r : RootView T) (words : List ℕ) (slots : List (Slot T)) (index : ℕ) → (final : Final (Seen (Rule {names = _} (stack T n limit)) id v) words slots) → v ≡ AtRoot r [] root → IsSound (shape n limit) r → length slots ≤ NULL
+      → index ≡ index_of (slice_index words top_at) → Leaves (shape n limit) r (left_along words slots index) × (left_along words slots index ≡ (state (shape n limit) final.1.0.history).values)
   leaves_all n limit id v r words slots index final is sound few top =
       let rule = final.1.0 in
       let s = final.0 in
@@ -126,7 +126,7 @@ module _ {T : Type 0} where
       (subst (λ (ws : List ℕ). Leads (λ j. slice_index ws (link_at j)) (index_of (slice_index ws top_at)) g.stack NULL) final.2 rule.good.good.linked.top_stands) in
       let stored = values_home s.homes slots final.4 g.stack (state (shape n limit) rule.history).values rule.good.good.filled.stored in
       let are = values_along words plain g.stack (state (shape n limit) rule.history).values slots index few (λ j. at_most_once j n _ _ _ (rule.good.good.linked.once j)) stands stored in
-      subst (λ (vs : List T). Leaves (shape n limit) r vs) (sym are) (leaves (shape n limit) rule.history r [] rule.good.good.told.legal rooted sound)
+      (subst (λ (vs : List T). Leaves (shape n limit) r vs) (sym are) (leaves (shape n limit) rule.history r [] rule.good.good.told.legal rooted sound), are)
     where
       at_most_once : (j n a b c : ℕ) → a + b + c ≡ cond (ltb j n) 1 0 → b ≤ 1
       at_most_once j n a b c e = cases (λ v. a + b + c ≡ v → b ≤ 1) (ltb j n) 1 0 (λ _ q. omega arith) (λ _ q. omega arith) e

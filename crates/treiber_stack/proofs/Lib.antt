@@ -15,3 +15,4 @@ pub mod RangeGives
 pub mod RangeTrying
 pub mod Filling
 pub mod Restoring
+pub mod FastPath

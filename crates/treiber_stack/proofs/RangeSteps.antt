@@ -38,7 +38,7 @@ use Rattle.treiber_stack.specs.declared.refusing.NoNode.{NoNode}
 use Rattle.treiber_stack.specs.declared.refusing.NoNode.TheVariants.{NoneFree, Spent}
 use Rattle.treiber_stack.specs.Begun.{line_begun, put_begun}
 use Rattle.treiber_stack.specs.Giving.{AreNodes, GaveTo}
-use Rattle.treiber_stack.specs.Ranging.{loaded, linking, refused, range_stop, range_hand, at_operation, at_line, at_slots, AtKnows, stop_line, stop_hand, HasNodes, Stopped, TakesNode}
+use Rattle.treiber_stack.specs.Ranging.{range_account, loaded, linking, refused, range_stop, range_hand, at_operation, at_line, at_slots, AtKnows, stop_line, stop_hand, HasNodes, Stopped, TakesNode}
 use Rattle.treiber_stack.specs.Refusing.{RefusesNode}
 use Rattle.treiber_stack.specs.Stack.{room_of, limit_of, machine_of, IsAt}
 use Rattle.treiber_stack.proofs.Gives.{within, gave_within}
@@ -46,7 +46,7 @@ use Rattle.treiber_stack.proofs.Refusals.{free_null, free_spent}
 
 module _ {T : Type 0} (c : Stack T) (o : Operation T) where
   -- a range that has stopped
-  pub stopped : (begun : PassView T) (q : Pass T (Line T)) (r : RangeStopped T) (b : Bool) → StopsAt (machine_of c) at_operation at_line at_slots (AtKnows c) (λ x a. stop_line a) stop_hand c.table.shared.table_id b o begun q r → Stopped c o begun q (stop_line r) (stop_hand r) b
+  pub stopped : (begun : PassView T) (q : Pass T (Line T)) (r : RangeStopped T) (b : Bool) → StopsAt (machine_of c) (range_account c.table.shared.key) c.table.shared.table_id b o begun q r → Stopped c o begun q (stop_line r) (stop_hand r) b
   stopped begun q r true s = s
   stopped begun q r false s = s
 
@@ -102,7 +102,7 @@ module _ {T : Type 0} (c : Stack T) where
   -- where the code of a range goes on
   abbrev pub LeadingRange : Range T → Outcome → List (ℕ × Slot T) → Next (Range T) (RangeStopped T) → Type 0
   LeadingRange s r has to = Finding (machine_of c).core (at_line s) r (at_slots s) has
-      (λ found came. Leads names at_operation at_line at_slots (AtKnows c) (λ o a. stop_line a) stop_hand s (next (room_of c) (limit_of c) (at_line s) found came) has to)
+      (λ found came. Leads names (range_account c.table.shared.key) s (next (room_of c) (limit_of c) (at_line s) found came) has to)
 
   module _ (b : Begun T) (held : Held) (r : Outcome) (has : List (ℕ × Slot T)) (w : ℕ) where
     abbrev put : Putting T
@@ -140,7 +140,7 @@ module _ {T : Type 0} (c : Stack T) where
     -- by the give inside it
     pub gave_range : (why : Barred) (at : Give) → AreNodes (room_of c) put.chain held.chain → (to : Next Give (Unit {0})) → GaveTo c (refused put why) at r has to
         → LeadingRange (record { begun = b; held = held; at = GiveBack why at }) r has (within (λ x. record { begun = b; held = held; at = GiveBack why x }) (record { begun = b; stop = Over (GaveBack why) }) to)
-    gave_range why at are = gave_within c at_operation at_line at_slots (AtKnows c) (λ o a. stop_line a) stop_hand (refused put why) (λ x. record { begun = b; held = held; at = GiveBack why x }) (record { begun = b; stop = Over (GaveBack why) }) (record { begun = b; held = held; at = GiveBack why at })
+    gave_range why at are = gave_within c (range_account c.table.shared.key) (refused put why) (λ x. record { begun = b; held = held; at = GiveBack why x }) (record { begun = b; stop = Over (GaveBack why) }) (record { begun = b; held = held; at = GiveBack why at })
         (λ x. refl) (λ x. refl) (λ x. refl) (λ x. are) refl at r has
 
   -- a range that has stopped with a node

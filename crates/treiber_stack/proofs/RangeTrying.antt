@@ -1,6 +1,6 @@
 -- Where the steps of a range lead, by what they have told.
 use Rattle.std.proofs.lemmas.Bool.{false≢true}
-use Rattle.std.proofs.Common.{◌≡◌, ℕ, ◌<◌, ◌≤◌, Bool, true, false, List, map, length, replicate, drop, refl, sym, ap, ◌∙◌, subst, length-append, arith}
+use Rattle.std.proofs.Common.{◌≡◌, ℕ, ◌+◌, ◌-◌, ◌<◌, ◌≤◌, Bool, true, false, List, map, length, replicate, drop, refl, sym, ap, ◌∙◌, subst, length-append, arith}
 use Rattle.std.proofs.lemmas.List.{length-drop, length-replicate}
 use Rattle.std.specs.Prelude.{Option as Slot, Some, None, Err}
 use Rattle.bounded_model.specs.declared.views.PassView.{PassView}
@@ -32,7 +32,7 @@ use Rattle.treiber_stack.specs.declared.refusing.Barred.{Barred}
 use Rattle.treiber_stack.specs.declared.refusing.Barred.TheVariants as barred
 use Rattle.treiber_stack.specs.Begun.{put_at, put_begun}
 use Rattle.treiber_stack.specs.Giving.{AreNodes, give_line}
-use Rattle.treiber_stack.specs.Ranging.{at_operation, at_line, at_slots, AtKnows, stop_line, stop_hand, StopTold, HasNodes, HasRead, HasTaken, IsFilling, IsOver, IsRange, IsRangeAt, StopsSo, Told, ToldStop, putting, places_from, range_line, range_slots, refused, takes}
+use Rattle.treiber_stack.specs.Ranging.{range_account, at_operation, at_line, at_slots, AtKnows, stop_line, stop_hand, StopTold, HasNodes, HasRead, HasTaken, IsFilling, IsOver, IsRange, IsRangeAt, StopsSo, Told, ToldStop, putting, places_from, range_line, range_slots, refused, takes}
 use Rattle.treiber_stack.specs.RangeTrying.{HasStopped, IsRangeOf, IsRanging, RanOn, gives_back, places_at}
 use Rattle.treiber_stack.specs.Refusing.{barring}
 use Rattle.treiber_stack.specs.Stack.{room_of, machine_of, begun_of, IsAt, IsPassOf}
@@ -69,6 +69,10 @@ module _ {T : Type 0} (vs : List T) (chain : List ℕ) where
   put_of c nodes Refuse has read = ap (putting vs) (sym (none_of chain (has.counted ∙ read)))
   put_of c nodes (GiveBack why at) has read = given why at
   put_of c nodes at has read = refl
+
+-- a place that a value goes back to is there
+pub place_low : {T : Type 0} (vs : List T) (places : List (Slot T)) (m moved count : ℕ) → places ≡ places_from m vs → m + moved ≡ count → moved < count → count - 1 - moved < length places
+place_low {T} vs places m moved count are all here = omega (arith, ap length are, length-append {A = Slot T} (replicate m None) (map Some (drop m vs)), length-replicate {A = Slot T} m None)
 
 -- places keep their number
 pub length_places : {T : Type 0} (k : ℕ) (vs : List T) → k ≤ length vs → length (places_from k vs) ≡ length vs
@@ -142,13 +146,13 @@ module _ {T : Type 0} (c : Stack T) (o : Operation T) (p : Pass T (Line T)) (vs 
     named : put_begun b ≡ putting vs is.chain
     named = ap put_at (begun_at c o b p (range_line (putting vs is.chain) at) (range_slots (putting vs is.chain) at) of whose is.is.line) ∙ put_of vs is.chain c nodes at is.has is.is.read
 
-    pub begins : Ran (machine_of c) at_operation at_line at_slots (AtKnows c) (λ x a. stop_line a) stop_hand c.table.shared.table_id o p p (On from)
+    pub begins : Ran (machine_of c) (range_account c.table.shared.key) c.table.shared.table_id o p p (On from)
     begins =
         let so = subst (λ (k : Operation T). IsRangeAt c k p (put_begun b) nodes at) (sym of) (subst (λ (put : Putting T). IsRangeAt c o p put nodes at) (sym named) is.is) in
         (record { at = so.line; knows = so.read }, sym of, refl)
 
     -- they have stopped
-    pub stops_so : (q : Pass T (Line T)) (r : RangeStopped T) → StopTold c from r → Stops (machine_of c) at_operation at_line at_slots (AtKnows c) (λ x a. stop_line a) stop_hand c.table.shared.table_id o (begun_of c p) q r → HasStopped c o (begun_of c p) q vs nodes at r.stop
+    pub stops_so : (q : Pass T (Line T)) (r : RangeStopped T) → StopTold c from r → Stops (machine_of c) (range_account c.table.shared.key) c.table.shared.table_id o (begun_of c p) q r → HasStopped c o (begun_of c p) q vs nodes at r.stop
     stops_so q r told stops = record {
       chain = is.chain;
       has = is.has;
@@ -157,7 +161,7 @@ module _ {T : Type 0} (c : Stack T) (o : Operation T) (p : Pass T (Line T)) (vs 
     }
 
     -- or go on
-    pub ran_on : (q : Pass T (Line T)) (s : Range T) → Ran (machine_of c) at_operation at_line at_slots (AtKnows c) (λ x a. stop_line a) stop_hand c.table.shared.table_id o p q (On s) → Tells (StopTold c) from (On s) → RanOn c o p vs nodes at q s.at
+    pub ran_on : (q : Pass T (Line T)) (s : Range T) → Ran (machine_of c) (range_account c.table.shared.key) c.table.shared.table_id o p q (On s) → Tells (StopTold c) from (On s) → RanOn c o p vs nodes at q s.at
     ran_on q s ran tells =
         let w = may_stop c (put_begun s.begun) s.held s.at ran.0.knows in
         let same : put_begun s.begun ≡ putting vs is.chain = ap put_begun (tells (record { begun = s.begun; stop = w.0 }) (refl, w.1)).0 ∙ named in

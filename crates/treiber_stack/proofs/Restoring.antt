@@ -13,7 +13,9 @@ use Rattle.machine.specs.Words.{times, IsChain}
 use Rattle.machine.specs.Chains.{first, last}
 use Rattle.machine.proofs.Chains.{first_in, last_in}
 use Rattle.machine.specs.Seats.{Looks}
+use Rattle.machine.specs.declared.seats.Begun.{Begun}
 use Rattle.machine.specs.declared.seats.View.{View}
+use Rattle.running.specs.Acts.{Course, made}
 use Rattle.machine.specs.declared.seats.View.TheVariants.{AtPass}
 use Rattle.machine.proofs.Lists.{times_here, times_append}
 use Rattle.stack_machine.specs.Deeds.{Deeds}
@@ -85,7 +87,7 @@ module _ {T : Type 0} (c : Stack T) where
     no_start (CallPut v vs) giving e = cc
     no_start call giving e = cc
 
-    begun_same : (l : Line T) (giving : Giving T) (p q b : PassView T) → line_now names o l ≡ LoadFreeToGive giving → begun_now names q b l ≡ begun_now names p b l
+    begun_same : (l : Line T) (giving : Giving T) (p q : PassView T) (b : Begun T (Line T)) → line_now names o l ≡ LoadFreeToGive giving → begun_now names q b l ≡ begun_now names p b l
     begun_same (Idle a) giving p q b e = absurd (no_start (call_of o) giving e)
     begun_same l giving p q b e = refl
 
@@ -119,6 +121,8 @@ module _ {T : Type 0} (c : Stack T) where
           deeds = subst (λ (k : ℕ). Deeds (shape_of c) k (call_of o) l begun.seen q.seen) (sym adds.number)
               (meanwhile (shape_of c) g.pass.number (call_of o) begun.seen g.pass.seen q.seen l (record { rest = adds.between; is = adds.seen; none_own = adds.own_events }) g.deeds);
           tells = Sometime-wider (Later-refl begun.seen) (record { more = adds.between; is = adds.seen }) g.tells;
+          course = λ busy. let was = g.course busy in (was.0, subst (λ (k : ℕ). Course names (machine_of c).core g.from.before g.from.now k (names.first o was.0) g.at) (sym adds.number) was.1);
+          counted = λ busy. subst (λ (k : ℕ). begun.steps ≡ made k g.from.before) (sym adds.number) (g.counted busy);
         }
 
 module _ {T : Type 0} (c : Stack T) (o : Operation T) (vs : List T) (nodes : Held) (why : Barred) where

@@ -27,14 +27,9 @@ use Rattle.treiber_stack.specs.declared.taking.TakeAt.TheVariants.{GiveBack}
 use Rattle.treiber_stack.specs.declared.taking.Taken.{Taken}
 use Rattle.treiber_stack.specs.Giving.{GaveTo}
 use Rattle.treiber_stack.specs.Stack.{room_of, limit_of, machine_of, shape_of}
-use Rattle.treiber_stack.specs.Taking.{giving, take_line, take_slots, HasReadToTake}
+use Rattle.treiber_stack.specs.Taking.{take_account, giving, take_line, take_slots, HasReadToTake}
 use Rattle.treiber_stack.proofs.Closes.{adds_of}
 use Rattle.treiber_stack.proofs.Gives.{within, gave_within}
-
-module _ {T : Type 0} (c : Stack T) {v : View T (Line T)} {begun : PassView T} where
-  pub take_gives : (r : Result (T × ℕ) TakeRefused) → Ended (machine_of c) First v begun (ends (AnswerTake r)) → TakeGives (shape_of c) begun (pass_of v) r
-  take_gives (Ok r) e = adds_of c e (Free begun.number 1 ∷ Take begun.number r.0 r.1 ∷ []) (e.deeds.made ∙ ap (λ (k : ℕ). Free k 1 ∷ Take k r.0 r.1 ∷ []) e.number)
-  take_gives (Err why) e = (adds_of c e [] (made_no_take (pass_of v).number (own (pass_of v).number e.deeds.between) (CallTake One) why e.deeds.made), e.tells)
 
 module _ {T : Type 0} where
   value_or : T → List (ℕ × Slot T) → T
@@ -49,9 +44,9 @@ module _ {T : Type 0} where
 module _ {T : Type 0} (c : Stack T) where
   abbrev pub Leading : TakeAt T → Outcome → List (ℕ × Slot T) → Next (TakeAt T) (Result (T × ℕ) TakeRefused) → Type 0
   Leading s r has to = Finding (machine_of c).core (take_line s) r (take_slots s) has
-      (λ found came. Leads names (λ x. First) take_line take_slots (λ at. HasReadToTake (room_of c) (limit_of c) at) (λ x a. ends (AnswerTake a)) (λ a. []) s (next (room_of c) (limit_of c) (take_line s) found came) has to)
+      (λ found came. Leads names (take_account c.table.shared.key) s (next (room_of c) (limit_of c) (take_line s) found came) has to)
 
   -- by the give inside it
   pub gave_take : (t : Taken T) (at : Give) (r : Outcome) (has : List (ℕ × Slot T)) → t.index < room_of c → (to : Next Give (Unit {0})) → GaveTo c (giving t) at r has to → Leading (GiveBack t at) r has (within (GiveBack t) (Ok (t.value, t.number)) to)
-  gave_take t at r has low = gave_within c (λ x. First) take_line take_slots (λ at. HasReadToTake (room_of c) (limit_of c) at) (λ x a. ends (AnswerTake a)) (λ a. []) (giving t) (GiveBack t) (Ok (t.value, t.number)) (GiveBack t at)
+  gave_take t at r has low = gave_within c (take_account c.table.shared.key) (giving t) (GiveBack t) (Ok (t.value, t.number)) (GiveBack t at)
       (λ at'. refl) (λ at'. refl) (λ at'. refl) (λ at'. low) refl at r has

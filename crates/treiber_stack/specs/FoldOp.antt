@@ -1,5 +1,5 @@
 -- A fold that is run for some steps at a time.
-use Rattle.std.specs.Prelude.{◌≡◌, List, [], ◌∷◌, ◌++◌, length}
+use Rattle.std.specs.Prelude.{◌≡◌, ◌≤◌, ◌+◌, ℕ, List, [], ◌∷◌, ◌++◌, length}
 use Rattle.bounded_model.specs.declared.views.PassView.{PassView}
 use Rattle.bounded_model.specs.Bulk.{FoldsAll}
 use Rattle.index_list.specs.declared.front.Front.{Front}
@@ -11,6 +11,12 @@ use Rattle.treiber_stack.specs.declared.fold_op.FoldMade.TheVariants.{Again, Val
 use Rattle.treiber_stack.specs.declared.stack.Stack.{Stack}
 use Rattle.treiber_stack.specs.Folding.{front_of, gone, fold_operation, fold_line, fold_slots, HasReadToFold}
 use Rattle.treiber_stack.specs.Stack.{room_of, limit_of, shape_of, pass_in, begun_of, IsPassOf, IsAt}
+
+-- So many steps were to be made: the fold goes on after exactly so many, or has handed out a value or ended after at most so many
+abbrev pub FoldSteps : {T : Type 0} → ℕ → PassView T → FoldMade T → Type 0
+FoldSteps n v (Again op) = (pass_in op.pass).steps ≡ v.steps + n
+FoldSteps n v (Value x op) = (pass_in op.pass).steps ≤ v.steps + n
+FoldSteps n v (Done back answer) = (pass_in back).steps ≤ v.steps + n
 
 module _ {T : Type 0} (c : Stack T) (front : Front) where
   -- it goes from this end, and has handed out these values, in this order

@@ -1,5 +1,8 @@
 -- Folds: what each state of one is, and what is told of the values that it hands out.
 use Rattle.std.specs.Prelude.{◌≡◌, ℕ, ◌<◌, ◌≤◌, List, [], ◌∷◌, ◌++◌, length, reverse, take, map, Option as Slot, Ok, Err}
+use Rattle.tagged_index.specs.Limits.{capacity_of, tag_limit_of}
+use Rattle.tagged_index.specs.declared.limit.Limits.{Limits}
+use Rattle.running.specs.Code.{Account}
 use mathlib.Core.Option.{some}
 use Rattle.tagged_index.specs.Fields.{fields_of, index_of, tag_of}
 use Rattle.tagged_index.specs.declared.word.TheConstants.{NULL}
@@ -123,3 +126,15 @@ module _ {T : Type 0} where
   FoldTold n limit front before (Yields v at) = HasReadToFold n limit at × (front_of at ≡ front) × (gone at ≡ before ++ v ∷ [])
   FoldTold n limit front before (Ended b) = before ≡ folded_of b
   FoldTold n limit front before (Refused why) = before ≡ []
+
+  -- how it is read
+  abbrev pub fold_account : Limits → Account T (Line T) (Operation T) (FoldAt T) (FoldStop T)
+  fold_account k = record {
+    operation = fold_operation;
+    line = fold_line;
+    slots = fold_slots;
+    knows = λ at. HasReadToFold (capacity_of k) (tag_limit_of k) at;
+    answer = fold_answer;
+    rest = fold_rest;
+    told = λ at stop. FoldTold (capacity_of k) (tag_limit_of k) (front_of at) (gone at) stop;
+  }

@@ -13,3 +13,5 @@ pub mod Folding
 pub mod FoldOp
 pub mod Ranging
 pub mod RangeTrying
+pub mod KeepsAnswers
+pub mod Ran

@@ -1,5 +1,8 @@
 -- A put made by steps.
 use Rattle.std.specs.Prelude.{◌≡◌, ℕ, ◌<◌, ◌≤◌, List, [], ◌∷◌, Option as Slot, Some, Result, Ok, Err}
+use Rattle.tagged_index.specs.Limits.{capacity_of, tag_limit_of}
+use Rattle.tagged_index.specs.declared.limit.Limits.{Limits}
+use Rattle.running.specs.Code.{Account, to_answer}
 use Rattle.tagged_index.specs.Fields.{fields_of, index_of, tag_of}
 use Rattle.tagged_index.specs.declared.word.TheConstants.{NULL}
 use Rattle.bounded_model.specs.declared.answers.Stepped.{Stepped}
@@ -22,11 +25,15 @@ use Rattle.stack_table.specs.declared.operation.Operation.TheVariants.{Put as Pu
 use Rattle.stack_table.specs.declared.operation.Listed.TheVariants.{End}
 use Rattle.stack_table.specs.Slots.{vacant}
 use Rattle.treiber_stack.specs.declared.stack.Stack.{Stack}
-use Rattle.treiber_stack.specs.declared.putting.PutOp.{PutOp}
+use Rattle.running.specs.declared.op.Op.{Op}
+use Rattle.running.specs.Ops.{IsUnderWay}
 use Rattle.treiber_stack.specs.declared.putting.PutAt.{PutAt}
 use Rattle.treiber_stack.specs.declared.putting.PutAt.TheVariants.{LoadFree, Link, Hold, Load, LinkTo, Exchange, Refuse, GiveBack}
 use Rattle.treiber_stack.specs.Giving.{give_line}
 use Rattle.treiber_stack.specs.Stack.{room_of, limit_of, shape_of, pass_in, begun_of, IsPassOf, IsAt, OneLine, WentOn, machine_of}
+
+abbrev pub PutOp : Type 0 → Type 0
+PutOp T = Op T (Line T) (Operation T) (PutAt T)
 
 module _ {T : Type 0} where
   -- a put of one value, without its node and with it
@@ -103,25 +110,19 @@ module _ {T : Type 0} where
   HasReadToPut n limit (Refuse x) = Unit {0}
   HasReadToPut n limit (GiveBack why i at) = i < n
 
+  -- how it is read
+  abbrev pub put_account : Limits → Account T (Line T) (Operation T) (PutAt T) (Result ℕ (PutRefused T))
+  put_account k = to_answer (λ at. put_of (put_value at)) put_line put_slots (λ at. HasReadToPut (capacity_of k) (tag_limit_of k) at) (λ o r. ends (put_answer r))
+
   -- a put of x, by its operation, which is also the put of the value that it has
-  pub record IsPuttingAt (c : Stack T) (x : T) (o : Operation T) (p : Pass T (Line T)) (at : PutAt T) : Type 0 where
-    pub of : o ≡ put_of x
-    pub named : o ≡ put_of (put_value at)
-    pub line : IsAt c (put_of (put_value at)) p (put_line at) (put_slots at)
-    pub read : HasReadToPut (room_of c) (limit_of c) at
-
-  abbrev pub IsPutting : Stack T → T → PutOp T → Type 0
-  IsPutting c x op = IsPuttingAt c x op.operation op.pass op.at
-
-  -- what a step gives
-  abbrev pub PutStep : Stack T → T → Pass T (Line T) → PutAt T → Stepped (PutOp T) (Pass T (Line T)) (Result ℕ (PutRefused T)) → Type 0
-  PutStep c x p at (Again next) = IsPutting c x next × WentOn c p next.pass (put_line at) (put_line next.at)
-  PutStep c x p at (Done q r) = IsPassOf c q × PutGives (shape_of c) (begun_of c p) x (pass_in q) r × OneLine c p q (put_line at) (ends (put_answer r))
+  pub record IsPutting (c : Stack T) (x : T) (op : PutOp T) : Type 0 where
+    pub of : op.operation ≡ put_of x
+    pub under_way : IsUnderWay (machine_of c) (put_account c.table.shared.key) c.table.shared.table_id op
 
   -- a whole call of this operation is at this
   abbrev pub PutStands : Stack T → Operation T → Pass T (Line T) → PutAt T → Type 0
-  PutStands c o p at = (o ≡ put_of (put_value at)) × Stands (machine_of c) {A = Result ℕ (PutRefused T)} (λ s. put_of (put_value s)) put_line put_slots (λ s. HasReadToPut (room_of c) (limit_of c) s) (λ x a. ends (put_answer a)) (λ a. []) c.table.shared.table_id p at
+  PutStands c o p at = (o ≡ put_of (put_value at)) × Stands (machine_of c) (put_account c.table.shared.key) c.table.shared.table_id p at
 
   -- what some steps of a whole call give
   abbrev pub PutRan : Stack T → Operation T → Pass T (Line T) → Pass T (Line T) → Next (PutAt T) (Result ℕ (PutRefused T)) → Type 0
-  PutRan c o p q r = Ran (machine_of c) (λ at. put_of (put_value at)) put_line put_slots (λ at. HasReadToPut (room_of c) (limit_of c) at) (λ x a. ends (put_answer a)) (λ a. []) c.table.shared.table_id o p q r
+  PutRan c o p q r = Ran (machine_of c) (put_account c.table.shared.key) c.table.shared.table_id o p q r

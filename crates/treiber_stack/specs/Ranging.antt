@@ -1,5 +1,8 @@
 -- Puts of a range: what each state of one is, what it stops with, and where a pass stands between its stops.
 use Rattle.std.specs.Prelude.{◌≡◌, ℕ, zero, suc, ◌==◌, ◌+◌, ◌<◌, ◌≤◌, if◌then◌else◌, Bool, true, false, List, [], ◌∷◌, ◌++◌, map, length, reverse, take, drop, replicate, Option as Slot, Some, None, Result, Ok, Err}
+use Rattle.tagged_index.specs.Limits.{capacity_of, tag_limit_of}
+use Rattle.tagged_index.specs.declared.limit.Limits.{Limits}
+use Rattle.running.specs.Code.{Account}
 use Rattle.tagged_index.specs.Fields.{fields_of, index_of, tag_of}
 use Rattle.tagged_index.specs.declared.word.TheConstants.{NULL}
 use Rattle.bounded_model.specs.declared.answers.Word.TheVariants.{Free as FreeWord}
@@ -85,12 +88,15 @@ module _ {T : Type 0} where
   refused put why = record { chain = put.chain; answer = AnswerPut (Err (barring why put.values)) }
 
   -- nodes are in hand for the first values, and hold them
-  pub record HasNodes (c : Stack T) (vs : List T) (chain : List ℕ) (held : Held) : Type 0 where
+  pub record HasNodesBelow (n : ℕ) (vs : List T) (chain : List ℕ) (held : Held) : Type 0 where
     pub counted : length chain ≡ held.count
     pub few : held.count ≤ length vs
-    pub low : (i : ℕ) → 0 < times i chain → i < room_of c
+    pub low : (i : ℕ) → 0 < times i chain → i < n
     pub begins : first chain ≡ held.chain.first
     pub ends : last chain ≡ held.chain.last
+
+  abbrev pub HasNodes : Stack T → List T → List ℕ → Held → Type 0
+  HasNodes c vs chain held = HasNodesBelow (room_of c) vs chain held
 
   -- the machine's line of a state, its slots in hand, and what is known of what it has read and holds
   abbrev pub range_line : Putting T → RangeAt → Line T
@@ -108,15 +114,18 @@ module _ {T : Type 0} where
   range_slots put (GiveBack why at) = vacant put.chain
   range_slots put at = loaded put
 
+  abbrev pub HasReadFor : ℕ → ℕ → Putting T → Held → RangeAt → Type 0
+  HasReadFor n limit put held LoadFree = HasNodesBelow n put.values put.chain held
+  HasReadFor n limit put held (Link w) = HasNodesBelow n put.values put.chain held × (index_of w < n) × (tag_of w < limit)
+  HasReadFor n limit put held (Hold w k) = HasNodesBelow n put.values put.chain held × (index_of w < n) × (tag_of w < limit) × (k ≤ NULL)
+  HasReadFor n limit put held Load = (0 < held.count) × AreNodes n put.chain held.chain
+  HasReadFor n limit put held (LinkTo w) = (0 < held.count) × AreNodes n put.chain held.chain × (tag_of w < limit)
+  HasReadFor n limit put held (Exchange w) = (0 < held.count) × AreNodes n put.chain held.chain × (tag_of w < limit)
+  HasReadFor n limit put held Refuse = held.count ≡ 0
+  HasReadFor n limit put held (GiveBack why at) = AreNodes n put.chain held.chain
+
   abbrev pub HasRead : Stack T → Putting T → Held → RangeAt → Type 0
-  HasRead c put held LoadFree = HasNodes c put.values put.chain held
-  HasRead c put held (Link w) = HasNodes c put.values put.chain held × (index_of w < room_of c) × (tag_of w < limit_of c)
-  HasRead c put held (Hold w k) = HasNodes c put.values put.chain held × (index_of w < room_of c) × (tag_of w < limit_of c) × (k ≤ NULL)
-  HasRead c put held Load = (0 < held.count) × AreNodes (room_of c) put.chain held.chain
-  HasRead c put held (LinkTo w) = (0 < held.count) × AreNodes (room_of c) put.chain held.chain × (tag_of w < limit_of c)
-  HasRead c put held (Exchange w) = (0 < held.count) × AreNodes (room_of c) put.chain held.chain × (tag_of w < limit_of c)
-  HasRead c put held Refuse = held.count ≡ 0
-  HasRead c put held (GiveBack why at) = AreNodes (room_of c) put.chain held.chain
+  HasRead c put held at = HasReadFor (room_of c) (limit_of c) put held at
 
   -- and where it stops
   abbrev pub end_line : Putting T → RangeEnd → Line T
@@ -156,6 +165,18 @@ module _ {T : Type 0} where
 
   abbrev pub StopTold : Stack T → Range T → RangeStopped T → Type 0
   StopTold c s r = (r.begun ≡ s.begun) × Told (room_of c) s.held.count s.at r.stop
+
+  -- how it is read
+  abbrev pub range_account : Limits → Account T (Line T) (Operation T) (Range T) (RangeStopped T)
+  range_account k = record {
+    operation = at_operation;
+    line = at_line;
+    slots = at_slots;
+    knows = λ s. HasReadFor (capacity_of k) (tag_limit_of k) (put_begun s.begun) s.held s.at;
+    answer = λ o r. stop_line r;
+    rest = stop_hand;
+    told = λ s r. (r.begun ≡ s.begun) × Told (capacity_of k) s.held.count s.at r.stop;
+  }
 
   -- a range is at this
   pub record IsRangeAt (c : Stack T) (o : Operation T) (p : Pass T (Line T)) (put : Putting T) (held : Held) (at : RangeAt) : Type 0 where

@@ -1,5 +1,8 @@
 -- A take made by steps.
 use Rattle.std.specs.Prelude.{ℕ, ◌<◌, ◌≤◌, List, [], ◌∷◌, Option as Slot, Result, Ok}
+use Rattle.tagged_index.specs.Limits.{capacity_of, tag_limit_of}
+use Rattle.tagged_index.specs.declared.limit.Limits.{Limits}
+use Rattle.running.specs.Code.{Account, to_answer}
 use Rattle.tagged_index.specs.Fields.{fields_of, index_of, tag_of}
 use Rattle.tagged_index.specs.declared.word.TheConstants.{NULL}
 use Rattle.bounded_model.specs.declared.answers.Stepped.{Stepped}
@@ -20,11 +23,15 @@ use Rattle.stack_table.specs.declared.operation.Operation.TheVariants.{Take as T
 use Rattle.stack_table.specs.Slots.{vacant}
 use Rattle.treiber_stack.specs.declared.stack.Stack.{Stack}
 use Rattle.treiber_stack.specs.declared.taking.Taken.{Taken}
-use Rattle.treiber_stack.specs.declared.taking.TakeOp.{TakeOp}
+use Rattle.running.specs.declared.op.Op.{Op}
+use Rattle.running.specs.Ops.{IsUnderWay}
 use Rattle.treiber_stack.specs.declared.taking.TakeAt.{TakeAt}
 use Rattle.treiber_stack.specs.declared.taking.TakeAt.TheVariants.{Load, Link, Exchange, GiveBack}
 use Rattle.treiber_stack.specs.Giving.{give_line}
 use Rattle.treiber_stack.specs.Stack.{room_of, limit_of, shape_of, pass_in, begun_of, IsPassOf, IsAt, OneLine, WentOn, machine_of}
+
+abbrev pub TakeOp : Type 0 → Type 0
+TakeOp T = Op T (Line T) (Operation T) (TakeAt T)
 
 module _ {T : Type 0} where
   -- the node that is given back, and then the answer
@@ -50,22 +57,17 @@ module _ {T : Type 0} where
   HasReadToTake n limit (Exchange w k) = (index_of w < n) × (tag_of w < limit) × (k ≤ NULL)
   HasReadToTake n limit (GiveBack t at) = t.index < n
 
-  pub record IsTakingAt (c : Stack T) (p : Pass T (Line T)) (at : TakeAt T) : Type 0 where
-    pub line : IsAt c TakeFirst p (take_line at) (take_slots at)
-    pub read : HasReadToTake (room_of c) (limit_of c) at
+  -- how it is read
+  abbrev pub take_account : Limits → Account T (Line T) (Operation T) (TakeAt T) (Result (T × ℕ) TakeRefused)
+  take_account k = to_answer (λ at. TakeFirst) take_line take_slots (λ at. HasReadToTake (capacity_of k) (tag_limit_of k) at) (λ o r. ends (AnswerTake r))
 
   abbrev pub IsTaking : Stack T → TakeOp T → Type 0
-  IsTaking c op = IsTakingAt c op.pass op.at
-
-  -- what a step gives
-  abbrev pub TakeStep : Stack T → Pass T (Line T) → TakeAt T → Stepped (TakeOp T) (Pass T (Line T)) (Result (T × ℕ) TakeRefused) → Type 0
-  TakeStep c p at (Again next) = IsTaking c next × WentOn c p next.pass (take_line at) (take_line next.at)
-  TakeStep c p at (Done q r) = IsPassOf c q × TakeGives (shape_of c) (begun_of c p) (pass_in q) r × OneLine c p q (take_line at) (ends (AnswerTake r))
+  IsTaking c op = IsUnderWay (machine_of c) (take_account c.table.shared.key) c.table.shared.table_id op
 
   -- a whole call is at this
   abbrev pub TakeStands : Stack T → Pass T (Line T) → TakeAt T → Type 0
-  TakeStands c p at = Stands (machine_of c) {A = Result (T × ℕ) TakeRefused} (λ x. TakeFirst) take_line take_slots (λ s. HasReadToTake (room_of c) (limit_of c) s) (λ x a. ends (AnswerTake a)) (λ a. []) c.table.shared.table_id p at
+  TakeStands c p at = Stands (machine_of c) (take_account c.table.shared.key) c.table.shared.table_id p at
 
   -- what some steps of a whole call give
   abbrev pub TakeRan : Stack T → Operation T → Pass T (Line T) → Pass T (Line T) → Next (TakeAt T) (Result (T × ℕ) TakeRefused) → Type 0
-  TakeRan c o p q r = Ran (machine_of c) (λ x. TakeFirst) take_line take_slots (λ at. HasReadToTake (room_of c) (limit_of c) at) (λ x a. ends (AnswerTake a)) (λ a. []) c.table.shared.table_id o p q r
+  TakeRan c o p q r = Ran (machine_of c) (take_account c.table.shared.key) c.table.shared.table_id o p q r

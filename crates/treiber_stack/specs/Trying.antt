@@ -1,5 +1,5 @@
 -- A call that made a bounded number of steps: it is under way, begun as before, or it gave what the whole call gives.
-use Rattle.std.specs.Prelude.{◌≡◌, ℕ, Bool, Result}
+use Rattle.std.specs.Prelude.{◌≡◌, ◌≤◌, ◌+◌, ℕ, Bool, Result}
 use Rattle.bounded_model.specs.declared.answers.PutRefused.{PutRefused}
 use Rattle.bounded_model.specs.declared.answers.Stepped.{Stepped}
 use Rattle.bounded_model.specs.declared.answers.TakeRefused.{TakeRefused}
@@ -10,13 +10,22 @@ use Rattle.stack_machine.specs.declared.lines.Line.{Line}
 use Rattle.running.specs.declared.passes.Pass.{Pass}
 use Rattle.treiber_stack.specs.declared.closing.CloseOp.{CloseOp}
 use Rattle.treiber_stack.specs.declared.closing.ShutOp.{ShutOp}
-use Rattle.treiber_stack.specs.declared.putting.PutOp.{PutOp}
 use Rattle.treiber_stack.specs.declared.stack.Stack.{Stack}
-use Rattle.treiber_stack.specs.declared.taking.TakeOp.{TakeOp}
 use Rattle.treiber_stack.specs.Closing.{IsClosing, IsShutting}
-use Rattle.treiber_stack.specs.Putting.{IsPutting}
+use Rattle.treiber_stack.specs.Putting.{IsPutting, PutOp}
 use Rattle.treiber_stack.specs.Stack.{shape_of, pass_in, begun_of, IsPassOf}
-use Rattle.treiber_stack.specs.Taking.{IsTaking}
+use Rattle.treiber_stack.specs.Taking.{IsTaking, TakeOp}
+
+-- So many steps were to be made: the operation goes on after exactly so many, or has ended after at most so many
+module _ {T : Type 0} where
+  abbrev pub StepsFor : {O A : Type 0} → (O → Pass T (Line T)) → ℕ → PassView T → Stepped O (Pass T (Line T)) A → Type 0
+  StepsFor pass n v made = MatchStepped made (λ next. (pass_in (pass next)).steps ≡ v.steps + n) (λ back answer. (pass_in back).steps ≤ v.steps + n)
+
+  abbrev pub CloseSteps : ℕ → PassView T → Stepped (CloseOp T) (Pass T (Line T)) Bool → Type 0
+  CloseSteps n v made = StepsFor (λ (op : CloseOp T). op.pass) n v made
+
+  abbrev pub ShutSteps : ℕ → PassView T → Stepped (ShutOp T) (Pass T (Line T)) Bool → Type 0
+  ShutSteps n v made = StepsFor (λ (op : ShutOp T). op.pass) n v made
 
 module _ {T : Type 0} (c : Stack T) where
   abbrev pub PutTried : T → PassView T → Stepped (PutOp T) (Pass T (Line T)) (Result ℕ (PutRefused T)) → Type 0

@@ -1,9 +1,8 @@
 //! A stack as a container. A whole call makes an operation's steps on its fast path, and again
 //! after each compare-and-swap that failed.
-use crate::closing::Mark;
 use crate::rest::Rest;
 use crate::stack::{Note, Pass, Root, Stack};
-use bounded_model::{Container, Order, PutRefused, TakeRefused};
+use bounded_model::{Container, MAX_PASSES, Order, PutRefused, TakeRefused};
 use std::sync::Wait;
 
 impl<T: Drop + Send> Container<T> for Stack<T> {
@@ -60,7 +59,7 @@ impl<T: Drop + Send> Container<T> for Stack<T> {
 
     /// The new pass has seen what the root has.
     fn split(&self, parent: &mut Root<T>) -> Option<Pass<T>> {
-        running::split(&self.table.shared, parent)
+        running::split(&self.table.shared, parent, MAX_PASSES)
     }
 
     #[inline(always)]
@@ -74,11 +73,11 @@ impl<T: Drop + Send> Container<T> for Stack<T> {
     }
 
     fn close<R: Wait>(&self, rt: &R, by: Pass<T>) -> (Pass<T>, bool) {
-        self.set_mark(rt, by, Mark::Closed)
+        self.close_whole(rt, by)
     }
 
     fn shut<R: Wait>(&self, rt: &R, by: Pass<T>) -> (Pass<T>, bool) {
-        self.set_mark(rt, by, Mark::Shut)
+        self.shut_whole(rt, by)
     }
 
     /// The answer is always true, since the table never lacks a seat.

@@ -3,7 +3,7 @@
 ghost use Rattle.std.specs.Prelude.{◌≡◌, List, []};
 ghost use Rattle.index_list.specs.declared.front.Front.{Front};
 ghost use Rattle.index_list.specs.declared.front.Front.TheVariants.{First, Last};
-ghost use Rattle.treiber_stack.specs.FoldOp.{IsFolding, FoldTried};
+ghost use Rattle.treiber_stack.specs.FoldOp.{IsFolding, FoldTried, FoldSteps};
 ghost use Rattle.treiber_stack.specs.Folding.{front_of};
 ghost use Rattle.treiber_stack.specs.Stack.{IsPassOf, pass_in, begun_of};
 
@@ -73,8 +73,9 @@ impl<T> FoldOp<T> {
     #[inline]
     pub fn run_for(self, stack: &Stack<T>, steps: u64) -> FoldMade<T>
         requires { (front : Front) × (values : List T) × IsFolding stack.now front values self }
-        ensures { (front : Front) (values : List T) → IsFolding stack.now front values self
+        ensures tried { (front : Front) (values : List T) → IsFolding stack.now front values self
             → FoldTried stack.now front values (begun_of stack.now self.pass) result }
+        ensures took { FoldSteps steps (pass_in self.pass) result }
     {
         let FoldOp { pass, at, count } = self;
         let operation = Operation::Fold(at.front());

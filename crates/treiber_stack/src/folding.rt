@@ -6,7 +6,10 @@ ghost use Rattle.bounded_model.specs.Bulk.{FoldsAll};
 ghost use Rattle.bounded_model.specs.Consumes.{Folds};
 ghost use Rattle.stack_machine.specs.Deeds.{in_order};
 ghost use Rattle.stack_table.specs.Lines.{direction};
-ghost use Rattle.treiber_stack.specs.Stack.{call_of, IsPassOf};
+ghost use Rattle.index_list.specs.declared.front.Front.TheVariants.{First, Last};
+ghost use Rattle.stack_table.specs.declared.operation.Operation.TheVariants.{Fold as FoldFirst};
+ghost use Rattle.treiber_stack.specs.Ran.{WasFolded};
+ghost use Rattle.treiber_stack.specs.Stack.{call_of, pass_in, IsPassOf};
 
 use crate::giving::{Chain, Give};
 use crate::rule::Stacked;
@@ -91,6 +94,7 @@ impl<T> Stack<T> {
         ensures gives { FoldsAll (call_of self.now by result.0)
             (λ values. Folds (λ s x t. F.post f s x t) state values result.1)
             (result.1 ≡ state) result.2 }
+        ensures ran { WasFolded self.now (FoldFirst First) (pass_in by) result.0 result.2 }
     {
         self.fold(rt, by, Front::First, state, f)
     }
@@ -109,6 +113,7 @@ impl<T> Stack<T> {
         ensures gives { FoldsAll (call_of self.now by result.0)
             (λ values. Folds (λ s x t. F.post f s x t) state (reverse values) result.1)
             (result.1 ≡ state) result.2 }
+        ensures ran { WasFolded self.now (FoldFirst Last) (pass_in by) result.0 result.2 }
     {
         self.fold(rt, by, Front::Last, state, f)
     }
@@ -128,6 +133,7 @@ impl<T> Stack<T> {
             (λ values. Folds (λ s x t. F.post f s x t) state (in_order (direction front) values)
             result.1)
             (result.1 ≡ state) result.2 }
+        ensures ran { WasFolded self.now (FoldFirst front) (pass_in by) result.0 result.2 }
     {
         let table = &self.table.shared;
         let mut pass = by;
@@ -171,26 +177,9 @@ impl<T> Stack<T> {
 }
 
 impl<T> Code<Stack<T>, T, Line<T>, Operation<T>, Stacked, FoldStop<T>, 2> for FoldAt<T> {
-    ghost use Rattle.treiber_stack.specs.Stack.{room_of, limit_of};
-    ghost use Rattle.treiber_stack.specs.Folding.{fold_operation, fold_line, fold_slots, fold_answer, fold_rest, front_of, gone, HasReadToFold, FoldTold};
+    ghost use Rattle.treiber_stack.specs.Folding.{fold_account};
 
-    ghost key = { λ c. c.table.shared.key };
-
-    ghost id = { λ c. c.table.shared.table_id };
-
-    ghost operation = { fold_operation };
-
-    ghost line = { fold_line };
-
-    ghost slots = { fold_slots };
-
-    ghost knows = { λ c at. HasReadToFold (room_of c) (limit_of c) at };
-
-    ghost answer = { fold_answer };
-
-    ghost rest = { fold_rest };
-
-    ghost told = { λ c at stop. FoldTold (room_of c) (limit_of c) (front_of at) (gone at) stop };
+    ghost account = { fold_account };
 
     #[inline(always)]
     fn access(&self, on: &Stack<T>) -> Access {

@@ -34,7 +34,7 @@ impl Chain {
 
 /// The next step of giving a chain back, with what was read. Its slots are empty.
 #[derive(Drop)]
-pub(crate) enum Give {
+pub enum Give {
     /// Load `FREE`.
     Load,
     /// Link the last node to the free one.

@@ -30,35 +30,31 @@ fn give_step<T>(last: u32, at: &Give) -> StepName
     }
 }
 
-impl<T> PutOp<T> {
-    // Of a put.
-    fn next_step(&self) -> StepName
-        ensures { IsNextStep (put_line self.now.at) result }
-    {
-        match &self.at {
-            PutAt::LoadFree(_) => StepName::Load(Location::Free),
-            PutAt::Link(_, free) => StepName::Load(Location::Link(free.index())),
-            PutAt::Hold(_, _, _) => StepName::CompareAndSwap(Location::Free, Location::Free),
-            PutAt::Load(_, _) => StepName::Load(Location::Top),
-            PutAt::LinkTo(_, index, _) => StepName::Store(Location::Link(*index)),
-            PutAt::Exchange(_, _, _) => StepName::CompareAndSwap(Location::Top, Location::Top),
-            PutAt::Refuse(_) => StepName::Load(Location::Top),
-            PutAt::GiveBack(_, index, at) => give_step::<T>(*index, at),
-        }
+// Of a put.
+fn put_name<T>(at: &PutAt<T>) -> StepName
+    ensures { IsNextStep (put_line at.now) result }
+{
+    match at {
+        PutAt::LoadFree(_) => StepName::Load(Location::Free),
+        PutAt::Link(_, free) => StepName::Load(Location::Link(free.index())),
+        PutAt::Hold(_, _, _) => StepName::CompareAndSwap(Location::Free, Location::Free),
+        PutAt::Load(_, _) => StepName::Load(Location::Top),
+        PutAt::LinkTo(_, index, _) => StepName::Store(Location::Link(*index)),
+        PutAt::Exchange(_, _, _) => StepName::CompareAndSwap(Location::Top, Location::Top),
+        PutAt::Refuse(_) => StepName::Load(Location::Top),
+        PutAt::GiveBack(_, index, at) => give_step::<T>(*index, at),
     }
 }
 
-impl<T> TakeOp<T> {
-    // Of a take.
-    fn next_step(&self) -> StepName
-        ensures { IsNextStep (take_line self.now.at) result }
-    {
-        match &self.at {
-            TakeAt::Load => StepName::Load(Location::Top),
-            TakeAt::Link(top) => StepName::Load(Location::Link(top.index())),
-            TakeAt::Exchange(_, _) => StepName::CompareAndSwap(Location::Top, Location::Top),
-            TakeAt::GiveBack(taken, at) => give_step::<T>(taken.index, at),
-        }
+// Of a take.
+fn take_name<T>(at: &TakeAt<T>) -> StepName
+    ensures { IsNextStep (take_line at.now) result }
+{
+    match at {
+        TakeAt::Load => StepName::Load(Location::Top),
+        TakeAt::Link(top) => StepName::Load(Location::Link(top.index())),
+        TakeAt::Exchange(_, _) => StepName::CompareAndSwap(Location::Top, Location::Top),
+        TakeAt::GiveBack(taken, at) => give_step::<T>(taken.index, at),
     }
 }
 
@@ -98,11 +94,11 @@ impl<T: Drop + Send> Named<T> for Stack<T> {
     ghost is_look_step = { λ op name. IsNextStep {T = T} LoadTopToLook name };
 
     fn put_step(op: &PutOp<T>) -> StepName {
-        op.next_step()
+        put_name::<T>(&op.at)
     }
 
     fn take_step(op: &TakeOp<T>) -> StepName {
-        op.next_step()
+        take_name::<T>(&op.at)
     }
 
     fn close_step(op: &CloseOp<T>) -> StepName {

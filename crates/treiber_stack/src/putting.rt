@@ -3,17 +3,18 @@
 ghost use Rattle.std.specs.Prelude.{◌≡◌};
 ghost use Rattle.bounded_model.specs.Laws.{PutGives};
 ghost use Rattle.treiber_stack.specs.Stack.{IsPassOf, shape_of, pass_in, begun_of};
-ghost use Rattle.treiber_stack.specs.Putting.{IsPutting, PutStep, PutStands, PutRan, put_of};
+ghost use Rattle.treiber_stack.specs.Putting.{IsPutting, PutStands, PutRan, put_answer, put_of};
+ghost use Rattle.treiber_stack.specs.Ran.{WasRun};
 
 use crate::fast_path::fast_step;
 use crate::giving::{Chain, Give};
 use crate::rule::Stacked;
 use crate::stack::{Pass, Stack};
 use atomic_table::Seat;
-use bounded_model::{PutRefused, Stepped, Word};
+use bounded_model::{PutRefused, Word};
 use index_list::{move_out, put_in};
 use machine::View;
-use running::{Access, Code, Next, Outcome, any, aside, first_step, single_step, to_the_end};
+use running::{Access, Call, Code, Next, Op, Outcome, any, aside, first_step, to_the_end};
 use stack_machine::Line;
 use stack_table::layout::{FREE_LIST, STACK_LIST};
 use stack_table::{Listed, Operation};
@@ -22,17 +23,11 @@ use std::sync::Wait;
 use tagged_index::{NULL, Tagged};
 
 /// A put that was begun.
-#[derive(Drop)]
-pub struct PutOp<T> {
-    pub(crate) pass: Pass<T>,
-    /// It shows proofs the value that is put.
-    pub(crate) operation: Operation<T>,
-    pub(crate) at: PutAt<T>,
-}
+pub type PutOp<T> = Op<T, Line<T>, Operation<T>, PutAt<T>>;
 
 /// The next step of a put, with what it has read and holds.
 #[derive(Drop)]
-pub(crate) enum PutAt<T> {
+pub enum PutAt<T> {
     /// Load `FREE`.
     LoadFree(T),
     /// Load the link of the free node.
@@ -70,24 +65,21 @@ impl<T> Stack<T> {
             × (begun_of self.now result.pass ≡ pass_in by) × (pass_in result.pass ≡ pass_in by) }
     {
         let operation = put_operation(&value);
-        PutOp {
-            pass: by,
-            operation,
-            at: PutAt::LoadFree(value),
-        }
+        Op::begin(self, by, operation, PutAt::LoadFree(value))
     }
 
-    /// Puts a value by a whole call.
+    /// Puts a value by a whole call, as `put` of `Container`. The call was a run of the machine's steps.
     #[inline(always)]
-    pub(crate) fn put_one<R: Wait>(
+    pub fn put_one<R: Wait>(
         &self,
         rt: &R,
         by: Pass<T>,
         value: T,
     ) -> (Pass<T>, Result<u64, PutRefused<T>>)
         requires { IsPassOf self.now by }
-        ensures { IsPassOf self.now result.0
+        ensures gives { IsPassOf self.now result.0
             × PutGives (shape_of self.now) (pass_in by) value (pass_in result.0) result.1 }
+        ensures ran { WasRun self.now (put_of value) (pass_in by) result.0 (put_answer result.1) }
     {
         let put = put_operation(&value);
         let first = self.put_on_fast_path(by, value, &put);
@@ -162,23 +154,9 @@ impl<T> Stack<T> {
 }
 
 impl<T> Code<Stack<T>, T, Line<T>, Operation<T>, Stacked, Answer<T>, 2> for PutAt<T> {
-    ghost use Rattle.stack_machine.specs.Machine.{ends};
-    ghost use Rattle.treiber_stack.specs.Stack.{room_of, limit_of};
-    ghost use Rattle.treiber_stack.specs.Putting.{put_of, put_value, put_line, put_slots, put_answer, HasReadToPut};
+    ghost use Rattle.treiber_stack.specs.Putting.{put_account};
 
-    ghost key = { λ c. c.table.shared.key };
-
-    ghost id = { λ c. c.table.shared.table_id };
-
-    ghost operation = { λ at. put_of (put_value at) };
-
-    ghost line = { put_line };
-
-    ghost slots = { put_slots };
-
-    ghost knows = { λ c at. HasReadToPut (room_of c) (limit_of c) at };
-
-    ghost answer = { λ _ r. ends (put_answer r) };
+    ghost account = { put_account };
 
     #[inline]
     fn is_refusal(answer: &Answer<T>) -> bool {
@@ -266,29 +244,15 @@ impl<T> Code<Stack<T>, T, Line<T>, Operation<T>, Stacked, Answer<T>, 2> for PutA
     }
 }
 
-impl<T> PutOp<T> {
-    /// One atomic step. The answer is the put's number, or a refusal, which hands the value back.
-    /// With a free node: `Closed`, then `Spent` where the tag of the top is at its limit. Without
-    /// one: `Closed`, then `Spent`, then `Full`. And `Spent` where the tag of the free nodes' top
-    /// is at its limit.
-    #[inline]
-    pub fn step(self, stack: &Stack<T>) -> Stepped<PutOp<T>, Pass<T>, Result<u64, PutRefused<T>>>
-        requires { (x : T) × IsPutting stack.now x self }
-        ensures { (x : T) → IsPutting stack.now x self
-            → PutStep stack.now x self.pass self.at result }
-    {
-        let PutOp {
-            pass,
-            operation,
-            at,
-        } = self;
-        match single_step(&stack.table.shared, stack, pass, at, &operation) {
-            Stepped::Again((pass, at)) => Stepped::Again(PutOp {
-                pass,
-                operation,
-                at,
-            }),
-            Stepped::Done(pass, answer) => Stepped::Done(pass, answer),
-        }
-    }
+// The answer is the put's number, or a refusal, which hands the value back. With a free node:
+// `Closed`, then `Spent` where the tag of the top is at its limit. Without one: `Closed`, then
+// `Spent`, then `Full`. And `Spent` where the tag of the free nodes' top is at its limit.
+impl<T> Call<Stack<T>, T, Line<T>, Operation<T>, Stacked, Answer<T>, 2> for PutAt<T> {
+    ghost use Rattle.treiber_stack.specs.KeepsAnswers.{put_promises, put_keeps, put_idle};
+
+    ghost promises = { put_promises };
+
+    ghost idle = { put_idle };
+
+    ghost keeps = { put_keeps };
 }

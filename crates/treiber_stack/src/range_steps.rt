@@ -137,25 +137,9 @@ impl<T> Stack<T> {
 }
 
 impl<T> Code<Stack<T>, T, Line<T>, Operation<T>, Stacked, RangeStopped<T>, 2> for Range<T> {
-    ghost use Rattle.treiber_stack.specs.Ranging.{at_operation, at_line, at_slots, AtKnows, stop_line, stop_hand, StopTold};
+    ghost use Rattle.treiber_stack.specs.Ranging.{range_account};
 
-    ghost key = { λ c. c.table.shared.key };
-
-    ghost id = { λ c. c.table.shared.table_id };
-
-    ghost operation = { at_operation };
-
-    ghost line = { at_line };
-
-    ghost slots = { at_slots };
-
-    ghost knows = { AtKnows };
-
-    ghost answer = { λ _ r. stop_line r };
-
-    ghost rest = { stop_hand };
-
-    ghost told = { StopTold };
+    ghost account = { range_account };
 
     #[inline(always)]
     fn access(&self, on: &Stack<T>) -> Access {

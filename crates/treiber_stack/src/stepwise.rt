@@ -1,8 +1,9 @@
 //! A stack's calls by single steps, as every such container has them.
-ghost use Rattle.bounded_model.specs.Stepping.{no_step};
+ghost use Rattle.bounded_model.specs.Laws.{LookGives};
+ghost use Rattle.bounded_model.specs.Stepping.{OneStep, no_step};
 ghost use Rattle.treiber_stack.specs.Closing.{IsClosing, IsShutting};
 ghost use Rattle.treiber_stack.specs.Putting.{IsPutting};
-ghost use Rattle.treiber_stack.specs.Stack.{IsPassOf, pass_in};
+ghost use Rattle.treiber_stack.specs.Stack.{IsPassOf, pass_in, shape_of};
 ghost use Rattle.treiber_stack.specs.Stepwise.{underway_in};
 ghost use Rattle.treiber_stack.specs.Taking.{IsTaking};
 
@@ -17,6 +18,19 @@ use std::sync::Wait;
 #[derive(Drop)]
 pub struct LookOp<T> {
     pub(crate) pass: Pass<T>,
+}
+
+impl<T> LookOp<T> {
+    /// Makes the one step of a look, and so ends it. Called in `bounded_calls`.
+    #[inline]
+    pub fn end(self, stack: &Stack<T>) -> (Pass<T>, bool)
+        requires { IsPassOf stack.now self.pass }
+        ensures of { IsPassOf stack.now result.0 }
+        ensures gives { LookGives (shape_of stack.now) (pass_in self.pass) (pass_in result.0) result.1 }
+        ensures one { OneStep (pass_in self.pass) (pass_in result.0) }
+    {
+        stack.is_empty(self.pass)
+    }
 }
 
 impl<T: Drop + Send> Stepwise<T> for Stack<T> {

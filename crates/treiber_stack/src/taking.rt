@@ -3,17 +3,19 @@ ghost use Rattle.std.specs.Prelude.{◌≡◌};
 ghost use Rattle.bounded_model.specs.Laws.{TakeGives};
 ghost use Rattle.stack_table.specs.declared.operation.Operation.TheVariants.{Take as TakeFirst};
 ghost use Rattle.treiber_stack.specs.Stack.{IsPassOf, shape_of, pass_in, begun_of};
-ghost use Rattle.treiber_stack.specs.Taking.{IsTaking, TakeStep, TakeStands, TakeRan};
+ghost use Rattle.treiber_stack.specs.Taking.{IsTaking, TakeStands, TakeRan};
+ghost use Rattle.treiber_stack.specs.Ran.{WasRun};
+ghost use Rattle.stack_machine.specs.declared.lines.Answer.TheVariants.{Take as AnswerTake};
 
 use crate::fast_path::fast_step;
 use crate::giving::{Chain, Give};
 use crate::rule::Stacked;
 use crate::stack::{Pass, Stack};
 use atomic_table::Seat;
-use bounded_model::{Stepped, TakeRefused};
+use bounded_model::TakeRefused;
 use index_list::move_out;
 use machine::View;
-use running::{Access, Code, Next, Outcome, any, aside, first_step, single_step, to_the_end};
+use running::{Access, Call, Code, Next, Op, Outcome, any, aside, first_step, to_the_end};
 use stack_machine::Line;
 use stack_table::Operation;
 use stack_table::layout::STACK_LIST;
@@ -21,15 +23,11 @@ use std::sync::Wait;
 use tagged_index::Tagged;
 
 /// A take that was begun.
-#[derive(Drop)]
-pub struct TakeOp<T> {
-    pub(crate) pass: Pass<T>,
-    pub(crate) at: TakeAt<T>,
-}
+pub type TakeOp<T> = Op<T, Line<T>, Operation<T>, TakeAt<T>>;
 
 /// The next step of a take, with what it has read and holds.
 #[derive(Drop)]
-pub(crate) enum TakeAt<T> {
+pub enum TakeAt<T> {
     /// Load `TOP`.
     Load,
     /// Load the link of the top node.
@@ -42,7 +40,7 @@ pub(crate) enum TakeAt<T> {
 
 /// A value that was taken, with its number, and its node, which is to be given back.
 #[derive(Drop)]
-pub(crate) struct Taken<T> {
+pub struct Taken<T> {
     pub(crate) value: T,
     pub(crate) number: u64,
     pub(crate) index: u32,
@@ -58,22 +56,17 @@ impl<T> Stack<T> {
         ensures { IsTaking self.now result
             × (begun_of self.now result.pass ≡ pass_in by) × (pass_in result.pass ≡ pass_in by) }
     {
-        TakeOp {
-            pass: by,
-            at: TakeAt::Load,
-        }
+        Op::begin(self, by, Operation::Take, TakeAt::Load)
     }
 
-    /// Takes a value by a whole call.
+    /// Takes a value by a whole call, as `take` of `Container`. The call was a run of the machine's
+    /// steps.
     #[inline(always)]
-    pub(crate) fn take_one<R: Wait>(
-        &self,
-        rt: &R,
-        by: Pass<T>,
-    ) -> (Pass<T>, Result<(T, u64), TakeRefused>)
+    pub fn take_one<R: Wait>(&self, rt: &R, by: Pass<T>) -> (Pass<T>, Result<(T, u64), TakeRefused>)
         requires { IsPassOf self.now by }
-        ensures { IsPassOf self.now result.0
+        ensures gives { IsPassOf self.now result.0
             × TakeGives (shape_of self.now) (pass_in by) (pass_in result.0) result.1 }
+        ensures ran { WasRun self.now TakeFirst (pass_in by) result.0 (AnswerTake result.1) }
     {
         let take = Operation::Take;
         let first = self.take_on_fast_path(by, &take);
@@ -147,25 +140,9 @@ impl<T> Stack<T> {
 }
 
 impl<T> Code<Stack<T>, T, Line<T>, Operation<T>, Stacked, Answer<T>, 2> for TakeAt<T> {
-    ghost use Rattle.stack_machine.specs.declared.lines.Answer.TheVariants.{Take as AnswerTake};
-    ghost use Rattle.stack_machine.specs.Machine.{ends};
-    ghost use Rattle.stack_table.specs.declared.operation.Operation.TheVariants.{Take as TakeFirst};
-    ghost use Rattle.treiber_stack.specs.Stack.{room_of, limit_of};
-    ghost use Rattle.treiber_stack.specs.Taking.{take_line, take_slots, HasReadToTake};
+    ghost use Rattle.treiber_stack.specs.Taking.{take_account};
 
-    ghost key = { λ c. c.table.shared.key };
-
-    ghost id = { λ c. c.table.shared.table_id };
-
-    ghost operation = { λ _. TakeFirst };
-
-    ghost line = { take_line };
-
-    ghost slots = { take_slots };
-
-    ghost knows = { λ c at. HasReadToTake (room_of c) (limit_of c) at };
-
-    ghost answer = { λ _ r. ends (AnswerTake r) };
+    ghost account = { take_account };
 
     #[inline]
     fn is_refusal(answer: &Answer<T>) -> bool {
@@ -222,22 +199,15 @@ impl<T> Code<Stack<T>, T, Line<T>, Operation<T>, Stacked, Answer<T>, 2> for Take
     }
 }
 
-impl<T> TakeOp<T> {
-    /// One atomic step. The answer is the value with its number, or why none was taken: `Shut`,
-    /// then `Closed` or `Empty` where there is none, then `Spent`.
-    #[inline]
-    pub fn step(
-        self,
-        stack: &Stack<T>,
-    ) -> Stepped<TakeOp<T>, Pass<T>, Result<(T, u64), TakeRefused>>
-        requires { IsTaking stack.now self }
-        ensures { TakeStep stack.now self.pass self.at result }
-    {
-        let table = &stack.table.shared;
-        let made = single_step(table, stack, self.pass, self.at, &Operation::Take);
-        match made {
-            Stepped::Again((pass, at)) => Stepped::Again(TakeOp { pass, at }),
-            Stepped::Done(pass, answer) => Stepped::Done(pass, answer),
-        }
-    }
+// The answer is the value with its number, or why none was taken: `Shut`, then `Closed` or `Empty`
+// where there is none, then `Spent`.
+impl<T> Call<Stack<T>, T, Line<T>, Operation<T>, Stacked, Answer<T>, 2> for TakeAt<T> {
+    ghost use Rattle.std.specs.Prelude.{refl};
+    ghost use Rattle.treiber_stack.specs.KeepsAnswers.{take_promises, take_keeps};
+
+    ghost promises = { take_promises };
+
+    ghost idle = { λ key o answer. refl };
+
+    ghost keeps = { take_keeps };
 }

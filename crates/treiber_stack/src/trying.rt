@@ -1,10 +1,8 @@
 //! Calls that make a bounded number of steps, for callers that may not wait. Where the steps are
 //! used up, the operation comes back as it is, begun as before.
 ghost use Rattle.treiber_stack.specs.Closing.{IsClosing, IsShutting};
-ghost use Rattle.treiber_stack.specs.Putting.{IsPutting};
 ghost use Rattle.treiber_stack.specs.Stack.{IsPassOf, pass_in, begun_of};
-ghost use Rattle.treiber_stack.specs.Taking.{IsTaking};
-ghost use Rattle.treiber_stack.specs.Trying.{PutTried, TakeTried, CloseTried, ShutTried};
+ghost use Rattle.treiber_stack.specs.Trying.{PutTried, TakeTried, CloseTried, ShutTried, CloseSteps, ShutSteps};
 
 use crate::closing::{CloseOp, Mark, MarkAt, ShutOp};
 use crate::putting::{PutOp, put_operation};
@@ -50,55 +48,11 @@ impl<T> Stack<T> {
         let take = Operation::Take;
         let first = self.take_on_fast_path(by, &take);
         match at_once(self, first, &take) {
-            Stepped::Again((pass, at)) => Stepped::Again(TakeOp { pass, at }),
-            Stepped::Done(pass, answer) => Stepped::Done(pass, answer),
-        }
-    }
-}
-
-impl<T> PutOp<T> {
-    /// Goes on for at most so many steps, with a wait after each compare-and-swap that failed.
-    #[inline]
-    pub fn run_for(
-        self,
-        stack: &Stack<T>,
-        steps: u64,
-    ) -> Stepped<PutOp<T>, Pass<T>, Result<u64, PutRefused<T>>>
-        requires { (x : T) × IsPutting stack.now x self }
-        ensures { (x : T) → IsPutting stack.now x self
-            → PutTried stack.now x (begun_of stack.now self.pass) result }
-    {
-        let PutOp {
-            pass,
-            operation,
-            at,
-        } = self;
-        let first = (pass, Next::On(at));
-        match try_for(&stack.table.shared, stack, first, &operation, steps) {
-            Stepped::Again((pass, at)) => Stepped::Again(PutOp {
+            Stepped::Again((pass, at)) => Stepped::Again(TakeOp {
                 pass,
-                operation,
+                operation: take,
                 at,
             }),
-            Stepped::Done(pass, answer) => Stepped::Done(pass, answer),
-        }
-    }
-}
-
-impl<T> TakeOp<T> {
-    /// Goes on for at most so many steps, with a wait after each compare-and-swap that failed.
-    #[inline]
-    pub fn run_for(
-        self,
-        stack: &Stack<T>,
-        steps: u64,
-    ) -> Stepped<TakeOp<T>, Pass<T>, Result<(T, u64), TakeRefused>>
-        requires { IsTaking stack.now self }
-        ensures { TakeTried stack.now (begun_of stack.now self.pass) result }
-    {
-        let first = (self.pass, Next::On(self.at));
-        match try_for(&stack.table.shared, stack, first, &Operation::Take, steps) {
-            Stepped::Again((pass, at)) => Stepped::Again(TakeOp { pass, at }),
             Stepped::Done(pass, answer) => Stepped::Done(pass, answer),
         }
     }
@@ -109,7 +63,8 @@ impl<T> CloseOp<T> {
     #[inline]
     pub fn run_for(self, stack: &Stack<T>, steps: u64) -> Stepped<CloseOp<T>, Pass<T>, bool>
         requires { IsClosing stack.now self }
-        ensures { CloseTried stack.now (begun_of stack.now self.pass) result }
+        ensures tried { CloseTried stack.now (begun_of stack.now self.pass) result }
+        ensures took { CloseSteps steps (pass_in self.pass) result }
     {
         let mark = Mark::Closed;
         let seen = self.seen;
@@ -129,7 +84,8 @@ impl<T> ShutOp<T> {
     #[inline]
     pub fn run_for(self, stack: &Stack<T>, steps: u64) -> Stepped<ShutOp<T>, Pass<T>, bool>
         requires { IsShutting stack.now self }
-        ensures { ShutTried stack.now (begun_of stack.now self.pass) result }
+        ensures tried { ShutTried stack.now (begun_of stack.now self.pass) result }
+        ensures took { ShutSteps steps (pass_in self.pass) result }
     {
         let mark = Mark::Shut;
         let seen = self.seen;

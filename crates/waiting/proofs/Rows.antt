@@ -68,6 +68,6 @@ Taken-more {T} {S} {c} {Gives} {v} {s} {u} {r} {x} {w} {t} before take fold = re
 
 -- Passes
 
-pub SplitsEach-more : {T P : Type 0} (view : P → PassView T) (r : RootView T) (ps : List P) (q s : RootView T) (p : P) → SplitsEach r (map view ps) q → Splits q s (view p) → SplitsEach r (map view (ps ++ p ∷ [])) s
-SplitsEach-more view r [] q s p splits last = (s, rw splits last, refl)
-SplitsEach-more view r (y ∷ ys) q s p splits last = (splits.0, splits.1, SplitsEach-more view splits.0 ys q s p splits.2 last)
+pub SplitsEach-more : {T P : Type 0} (c : Shape) (view : P → PassView T) (r : RootView T) (ps : List P) (q s : RootView T) (p : P) → SplitsEach c r (map view ps) q → Splits c q s (view p) → SplitsEach c r (map view (ps ++ p ∷ [])) s
+SplitsEach-more c view r [] q s p splits last = (s, rw splits last, refl)
+SplitsEach-more c view r (y ∷ ys) q s p splits last = (splits.0, splits.1, SplitsEach-more c view splits.0 ys q s p splits.2 last)

@@ -13,7 +13,8 @@ pub enum SplitRefused {
     /// The allocator had no memory for the list of passes.
     #[error("no memory")]
     NoMemory,
-    /// More than [`MAX_PASSES`](bounded_model::MAX_PASSES) would be out at one time.
+    /// More passes would be out at one time than may be, of a queue or a stack
+    /// [`MAX_PASSES`](bounded_model::MAX_PASSES).
     #[error("no pass")]
     NoPass,
 }
@@ -30,8 +31,9 @@ pub fn split_many<T, C: Container<T>>(
     ensures root { C.is_root c.now root.new }
     ensures gives { MatchResult result
         (λ passes. All (C.is_pass c.now) passes.items
-        × SplitsMany count (C.root root.old) (map C.pass passes.items) (C.root root.new))
-        (λ why. SplitsNone count (C.root root.old) (C.root root.new) why) }
+        × SplitsMany (C.shape c.now) count
+        (C.root root.old) (map C.pass passes.items) (C.root root.new))
+        (λ why. SplitsNone (C.shape c.now) count (C.root root.old) (C.root root.new) why) }
 {
     let Ok(room) = Vec::with_capacity(alloc, count as usize) else {
         return Err(SplitRefused::NoMemory);

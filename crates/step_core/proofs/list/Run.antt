@@ -9,7 +9,7 @@ use Rattle.tagged_index.specs.declared.word.TheConstants.{NULL}
 use Rattle.machine.specs.Words.{Tagged, raised, kept, same, times, Stands}
 use Rattle.machine.specs.Schedule.{Act, Pass, run, start}
 use Rattle.machine.proofs.Scheduled.{run_kept}
-use Rattle.machine.proofs.Stories.{Told, Stays, stays_holds, start_stays}
+use Rattle.machine.proofs.Stories.{Told, Stays, stays_holds, start_stays_alike}
 use Rattle.machine.proofs.Tests.{cases, neither, same-is}
 use Rattle.machine.proofs.Sums.{total_same, total_map, same_at}
 use Rattle.machine.proofs.Lists.{times_remove}
@@ -86,7 +86,7 @@ module _ (n limit : ℕ) where
     apart = λ m h p q at ne. ap (λ (es : List Events). own q (es ++ h)) (no_events m at.line at.hand);
   }
 
-start_kept : (n limit passes : ℕ) → 0 < n → Kept n limit (list n limit).first (replicate passes (list n limit).rest)
+start_kept : (n limit passes : ℕ) → 0 < n → Kept n limit (list n limit).first (replicate passes (record { line = Idle; hand = [] }))
 start_kept zero limit passes h = absurd (omega arith)
 start_kept (suc k) limit passes h = record {
   list = from 0 (suc k);
@@ -103,7 +103,7 @@ list_lawful n limit passes schedule h =
     let s = run (list n limit) schedule (start (list n limit) passes) in
     let told = list_told n limit in
     let x = run_kept (list n limit) (Stays (list n limit) (Rule n limit) (Story n limit)) (stays_holds (list n limit) (Rule n limit) (Story n limit) told) schedule (start (list n limit) passes)
-    (start_stays (list n limit) (Rule n limit) (Story n limit) passes (start_kept n limit passes h) (λ p. tt)) in
+    (start_stays_alike (list n limit) (Rule n limit) (Story n limit) (record { line = Idle; hand = [] }) (λ p. refl) passes (start_kept n limit passes h) (λ p. tt)) in
     let g = x.rule in
     record {
       list = g.list;

@@ -1,6 +1,6 @@
 -- The queue's calls end: in every schedule the steps made are paid for by the calls, and each call by its own
 -- steps and by the exchanges that others win.
-use Rattle.std.proofs.Common.{◌≡◌, ℕ, suc, ◌+◌, ◌*◌, ◌<◌, ◌≤◌, true, map, refl, arith}
+use Rattle.std.proofs.Common.{◌≡◌, ℕ, suc, ◌+◌, ◌*◌, ◌<◌, ◌≤◌, true, map, refl, None, arith}
 use Rattle.std.proofs.Math.Nat.{mul-le-mul_right}
 use Rattle.std.proofs.lemmas.Bool.{false≢true}
 use mathlib.Core.Option.{Option, none, some}
@@ -11,7 +11,7 @@ use Rattle.machine.specs.Progress.{steps_made, calls_ended, calls_cost, others_w
 use Rattle.machine.specs.Schedule.{Schedule, start as start_state, after}
 use Rattle.machine.proofs.Paying.{Weighs, Pays, AnyLine, any_line, AnyCall, any_call, overtaken, unhindered, all_paid, calls_end, some_ends, left_at}
 use Rattle.machine.proofs.Scheduled.{passes_after}
-use Rattle.machine.proofs.Stories.{rule_holds, start_rules}
+use Rattle.machine.proofs.Stories.{rule_holds, start_rules_alike}
 use Rattle.machine.proofs.Sums.{at_map}
 use Rattle.queue_machine.specs.declared.lines.Call.{Call}
 use Rattle.queue_machine.specs.declared.lines.Call.TheVariants.{Put as CallPut}
@@ -91,7 +91,7 @@ module _ {T : Type 0} (n limit : ℕ) where
       → steps_made (queue (shape n limit)) schedule (start_state (queue (shape n limit)) passes) ≤ calls_cost (queue (shape n limit)) (cost k) schedule (start_state (queue (shape n limit)) passes)
   queue_costs k passes schedule pos small below few =
       all_paid (queue (shape n limit)) Rules weight price harm alone harms queue_pays k passes schedule
-      (start_rules (queue (shape n limit)) (Rule n limit) (Story n limit) passes (start_kept n limit passes pos small below)) refl few
+      (start_rules_alike (queue (shape n limit)) (Rule n limit) (Story n limit) (Idle None) (λ p. refl) passes (start_kept n limit passes pos small below)) (λ p. refl) few
 
   left_small : (m : Memory T) (o : Option (Pass T)) → left_at (queue (shape n limit)) Rules AnyLine weight price weighs m o ≤ 20
   left_small m none = omega arith

@@ -96,7 +96,7 @@ module _ {T : Type 0} (n limit : ℕ) where
   queue_speaks : Speaks {T = T} (queue (shape n limit)) answer (object n limit) (Rule n limit) (Story n limit)
   queue_speaks = record {
     legal = λ m lines h k. k.good.told.legal;
-    rest_idle = refl;
+    rest_idle = λ p. refl;
     starts_busy = λ call l. starts_busy n limit call;
     unbegun = λ p l b seen story. ap is_idle story.1;
     going = λ p c l b seen story busy. let d = story.1 in record { between = d.between; is = d.is; point = point p c l (own p d.between) d.made busy };

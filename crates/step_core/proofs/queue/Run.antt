@@ -12,7 +12,7 @@ use Rattle.machine.specs.Schedule.{Act, run, start}
 use Rattle.machine.proofs.Sums.{total_map, at_map}
 use Rattle.machine.proofs.OneList.{front}
 use Rattle.machine.proofs.Scheduled.{run_kept}
-use Rattle.machine.proofs.Stories.{Told, Stays, stays_holds, start_stays}
+use Rattle.machine.proofs.Stories.{Told, Stays, stays_holds, start_stays_alike}
 use Rattle.queue_machine.specs.declared.lines.Answer.{Answer}
 use Rattle.queue_machine.specs.declared.lines.Call.{Call}
 use Rattle.queue_machine.specs.declared.lines.Call.TheVariants.{Put as CallPut}
@@ -93,7 +93,7 @@ module _ {T : Type 0} (n limit : ℕ) where
 
   pub run_stays : (passes : ℕ) (schedule : List (ℕ × Act (Call T))) → 0 < n → n < NULL → 0 < limit → Kept_at (run (queue (shape n limit)) schedule (start (queue (shape n limit)) passes))
   run_stays passes schedule h small some_tags = run_kept (queue (shape n limit)) Kept_at (stays_holds (queue (shape n limit)) Rule Story queue_told) schedule (start (queue (shape n limit)) passes)
-      (start_stays (queue (shape n limit)) Rule Story passes (start_kept n limit passes h small some_tags) (λ p. (tt, refl)))
+      (start_stays_alike (queue (shape n limit)) Rule Story (Idle None) (λ p. refl) passes (start_kept n limit passes h small some_tags) (λ p. (tt, refl)))
 
   pub run_meets : (passes : ℕ) (schedule : List (ℕ × Act (Call T))) → 0 < n → n < NULL → 0 < limit → MeetsRule n limit (run (queue (shape n limit)) schedule (start (queue (shape n limit)) passes))
   run_meets passes schedule h small some_tags = (run_stays passes schedule h small some_tags).rule

@@ -1,6 +1,6 @@
 -- The stack's calls end: in every schedule the steps made are paid for by the calls, and each call by its own
 -- steps and by the exchanges that others win.
-use Rattle.std.proofs.Common.{◌≡◌, ℕ, suc, ◌+◌, ◌*◌, ◌<◌, ◌≤◌, ◌==◌, Bool, true, false, cond, ltb, leb, List, [], ◌∷◌, length, map, refl, ap, subst, arith, Option as Slot, Some}
+use Rattle.std.proofs.Common.{◌≡◌, ℕ, suc, ◌+◌, ◌*◌, ◌<◌, ◌≤◌, ◌==◌, Bool, true, false, cond, ltb, leb, List, [], ◌∷◌, length, map, refl, ap, subst, arith, Option as Slot, Some, None}
 use Rattle.std.proofs.Math.Nat.{mul-le-mul_right}
 use Rattle.std.proofs.lemmas.Bool.{false≢true}
 use Rattle.std.proofs.lemmas.Bool.Decides.{nat_tests}
@@ -11,12 +11,12 @@ use Rattle.bounded_model.specs.declared.history.Event.{Event}
 use Rattle.bounded_model.specs.Machine.{Shape}
 use Rattle.machine.specs.Bound.{AtLine, IsStretch, own_steps}
 use Rattle.machine.specs.Progress.{Only, steps_made, calls_ended, calls_cost, others_win, AtOnce, LockFree, LockFreeOf}
-use Rattle.machine.specs.Schedule.{Schedule, start as start_state, first_pass, after}
+use Rattle.machine.specs.Schedule.{Schedule, start as start_state, after}
 use Rattle.machine.specs.Words.{same}
 use Rattle.machine.proofs.Paying.{Weighs, Pays, AnyLine, any_line, AnyCall, any_call, overtaken, unhindered, all_paid, all_count, calls_end, some_ends, left_at}
-use Rattle.machine.proofs.Scheduled.{passes_after}
-use Rattle.machine.proofs.Stories.{rule_holds, start_rules}
-use Rattle.machine.proofs.Sums.{at_map, same_at, total_one}
+use Rattle.machine.proofs.Scheduled.{passes_after, start_at}
+use Rattle.machine.proofs.Stories.{rule_holds, start_rules_alike}
+use Rattle.machine.proofs.Sums.{at_map, total_one}
 use Rattle.machine.proofs.Tests.{one_of, lost_small, lost_none}
 use Rattle.stack_machine.specs.declared.lines.Call.{Call}
 use Rattle.stack_machine.specs.declared.lines.Call.TheVariants.{Put as CallPut, Take as CallTake}
@@ -269,7 +269,7 @@ module _ {T : Type 0} (n limit : ℕ) (pos : 0 < n) where
       → steps_made (stack (shape n limit)) schedule (start_state (stack (shape n limit)) passes) ≤ calls_cost (stack (shape n limit)) (cost n k) schedule (start_state (stack (shape n limit)) passes)
   stack_costs k passes schedule small few =
       all_paid (stack (shape n limit)) Rules (weighs n) (price n) (harm n) (alone n) (harms n) stack_pays k passes schedule
-      (start_rules (stack (shape n limit)) (Rule n limit) (Story n limit) passes (start_kept n limit passes pos small)) refl few
+      (start_rules_alike (stack (shape n limit)) (Rule n limit) (Story n limit) (Idle None) (λ p. refl) passes (start_kept n limit passes pos small)) (λ p. refl) few
 
   -- a call that others overtake
 
@@ -320,7 +320,7 @@ module _ {T : Type 0} (n limit : ℕ) (pos : 0 < n) where
       let s = after x (suc k) before in
       let rules = run_rules (suc k) before small in
       let all : Singles s = all_count x Rules IsSingle (weighs n) (price n) singles IsSingleCall (λ l call single. starts_single call single) before (start_state x (suc k)) (run_rules (suc k) [] small) only
-      (λ q v at. subst (λ (u : Pass T). IsSingle u.line) (same_at (suc k) q (first_pass x) v at) tt) in
+      (λ q v at. subst (λ (u : Pass T). IsSingle u.line) (start_at x (suc k) q v at) tt) in
       some_ends x Rules (weighs n) (price n) (harm n) (alone n) (harms n) stack_pays k IsSingleCall (9 + 7 * k) (single_call_small k) s rules (single_pass_small k s rules all) during only' (passes_after x (suc k) before)
 
   single_left_small : (s : State T) (o : Option (Pass T)) (p : ℕ) → Rules s → get_elem? s.passes p ≡ o → AtLine IsSingle o → left_at (stack (shape n limit)) Rules IsSingle (weighs n) (price n) singles s.memory o ≤ 9

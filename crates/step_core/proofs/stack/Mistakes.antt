@@ -1,7 +1,7 @@
 -- Why those of specs/stack/Mistakes are refused.
 use Rattle.std.proofs.Common.{◌≡◌, ⊎_elim, ℕ, ◌+◌, List, [], ◌∷◌, refl, sym, ap, ◌∙◌, arith, Some, None, Option as Slot}
 use Rattle.std.proofs.lemmas.Bool.{false≢true}
-use mathlib.Core.Option.{Option, some}
+use mathlib.Core.Option.{Option, none, some, some-ne-none}
 use Rattle.tagged_index.specs.declared.word.TheConstants.{NULL}
 use Rattle.bounded_model.specs.declared.history.Event.TheVariants.{Hold, Put, Take, Free, Close, Shut}
 use Rattle.bounded_model.specs.Machine.{Legal}
@@ -32,8 +32,8 @@ number_again-unlawful law =
     let legal : Legal {T = ℕ} (shape 2 15) (Put 0 (11 ∷ []) 1 ∷ Hold 0 ∷ Free 0 1 ∷ Take 0 10 1 ∷ Put 0 (10 ∷ []) 0 ∷ Hold 0 ∷ []) = law.legal in
     absurd (omega (arith, legal.0.3))
 
-empty : (v : ℕ) → ◌≡◌ {A = Option (Slot ℕ)} (some None) (some (Some v)) → ⊥
-empty v e = cc
+no_slot : (v : ℕ) → ◌≡◌ {A = Option (Slot ℕ)} none (some (Some v)) → ⊥
+no_slot v e = some-ne-none (Some v) (sym e)
 
 pub cut_off-unlawful : ¬ Lawful ℕ 2 15 cut_off
 cut_off-unlawful law = two law.stack law.top_stands law.stored
@@ -43,7 +43,7 @@ cut_off-unlawful law = two law.stack law.top_stands law.stored
     two (i ∷ []) s v = v.1
     two (i ∷ j ∷ js) s v =
         let below : NULL ≡ j = ap cut_off.memory.link s.0 ∙ s.1.0 in
-        empty 11 (ap cut_off.memory.home below ∙ v.1.0)
+        no_slot 11 (ap cut_off.memory.home below ∙ v.1.0)
 
 pub forgotten-unlawful : ¬ Lawful ℕ 1 15 forgotten
 forgotten-unlawful law =

@@ -8,7 +8,7 @@ use Rattle.bounded_model.specs.declared.history.Event.{Event}
 use Rattle.machine.specs.Words.{times}
 use Rattle.machine.specs.Schedule.{Act, run, start}
 use Rattle.machine.proofs.Scheduled.{Holds, run_kept}
-use Rattle.machine.proofs.Stories.{Told, Stays, stays_holds, start_stays}
+use Rattle.machine.proofs.Stories.{Told, Stays, stays_holds, start_stays_alike}
 use Rattle.machine.proofs.Ahead.{Ahead}
 use Rattle.machine.proofs.Sums.{total_map, at_map}
 use Rattle.stack_machine.specs.declared.lines.Answer.{Answer}
@@ -94,7 +94,7 @@ module _ {T : Type 0} (n limit : ℕ) where
 
   pub run_stays : (passes : ℕ) (schedule : List (ℕ × Act (Call T))) → 0 < n → n ≤ NULL → Kept_at (run (stack (shape n limit)) schedule (start (stack (shape n limit)) passes))
   run_stays passes schedule h small = run_kept (stack (shape n limit)) Kept_at stack_holds schedule (start (stack (shape n limit)) passes)
-      (start_stays (stack (shape n limit)) Rule Story passes (start_kept n limit passes h small) (λ p. (tt, refl)))
+      (start_stays_alike (stack (shape n limit)) Rule Story (Idle None) (λ p. refl) passes (start_kept n limit passes h small) (λ p. (tt, refl)))
 
   pub stack_lawful : (passes : ℕ) (schedule : List (ℕ × Act (Call T))) → 0 < n → n ≤ NULL → Lawful T n limit (run (stack (shape n limit)) schedule (start (stack (shape n limit)) passes))
   stack_lawful passes schedule h small =

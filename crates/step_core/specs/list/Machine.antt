@@ -76,7 +76,7 @@ wins_exchange m l = false
 abbrev pub list : ℕ → ℕ → schedule.Machine Memory At Call Events
 list n limit = record {
   first = record { top = start_word 0; link = start_link n };
-  rest = record { line = Idle; hand = [] };
+  rest = λ p. record { line = Idle; hand = [] };
   is_idle = λ at. is_idle at.line;
   starts = λ call at. starts call at.hand;
   step = λ m p at. step limit m at.line at.hand;

@@ -10,4 +10,4 @@ pub returns-in-Drop : goal.returns-in-Drop
 returns-in-Drop g c call u shows = rw c.in-Drop.is (Nobody, tt, (refl, refl))
 
 pub returns-in_default : goal.returns-in_default
-returns-in_default g c call u shows = (Acting call u, shows, is_busy _ call u c.args.act c.in_default.not-Step c.in_default.not-Drop)
+returns-in_default g c call u shows = (Acting call u, shows, is_busy (g.C.Played.reading c.args.container.now).shape call u c.args.act c.in_default.not-Step c.in_default.not-Drop)

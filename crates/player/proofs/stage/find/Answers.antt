@@ -14,13 +14,13 @@ returns-in-Some g c world on =
     let gives = c.in-Some.ensures.gives in
     let at : Shows r c.exchange.result (named world c.args.name.0) = shows_at r _ _ i c.exchange.result on.names e.within e.was in
     let none : named world c.args.name.0 ≡ Nobody = is_nobody r _ (rw c.in-Nobody.is at at) in
-    let splits : Splits world.root (r.root c.split.new.parent) (r.pass c.in-Some.pass) = rw on.root gives.1 in
+    let splits : Splits r.shape world.root (r.root c.split.new.parent) (r.pass c.in-Some.pass) = rw on.root gives.1 in
     let names : ShowsAll r c.exchange.new.self.of.items (renamed world.names c.args.name.0 Nobody) = rw e.places (shows_set r _ _ i place.Nobody Nobody on.names tt) in
     record {
       found = Resting (r.pass c.in-Some.pass);
       root = r.root c.split.new.parent;
       shows = (gives.0, refl);
-      finds = finds_new _ _ _ _ none splits;
+      finds = finds_new _ _ _ _ _ none splits;
       on = record { is = c.in-Some.ensures.root; root = refl; names = names };
     }
 
@@ -32,13 +32,13 @@ returns-in-None g c world on =
     let gives = c.in-None.ensures.gives in
     let at : Shows r c.exchange.result (named world c.args.name.0) = shows_at r _ _ i c.exchange.result on.names e.within e.was in
     let none : named world c.args.name.0 ≡ Nobody = is_nobody r _ (rw c.in-Nobody.is at at) in
-    let full : IsFullOfPasses world.root = rw on.root gives.1 in
+    let full : IsFullOfPasses r.shape world.root = rw on.root gives.1 in
     let names : ShowsAll r c.exchange.new.self.of.items (renamed world.names c.args.name.0 Nobody) = rw e.places (shows_set r _ _ i place.Nobody Nobody on.names tt) in
     record {
       found = Nobody;
       root = r.root c.split.new.parent;
       shows = tt;
-      finds = finds_none _ _ _ none full (gives.0 ∙ sym on.root);
+      finds = finds_none _ _ _ _ none full (gives.0 ∙ sym on.root);
       on = record { is = c.in-None.ensures.root; root = refl; names = names };
     }
 

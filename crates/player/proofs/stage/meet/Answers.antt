@@ -15,7 +15,7 @@ returns-in-Nobody g c world on =
     let j = c.args.other.0 - 97 in
     let f = c.find-first.ensures world on in
     let none : f.found ≡ Nobody = is_nobody r f.found (rw c.in-Nobody.is at f.shows) in
-    let finds : Finds world.root (named world c.args.name.0) f.root Nobody = subst (λ (n : Named). Finds world.root (named world c.args.name.0) f.root n) none f.finds in
+    let finds : Finds r.shape world.root (named world c.args.name.0) f.root Nobody = subst (λ (n : Named). Finds r.shape world.root (named world c.args.name.0) f.root n) none f.finds in
     let next : World = record { root = f.root; names = renamed world.names c.args.name.0 Nobody } in (
       next,
       f.on,
@@ -47,7 +47,7 @@ returns g c world on =
     let m = c.meet_at-first.ensures f.found s.found f.shows s.shows in
     let far : i ≢ j = apart c.args.name.0 c.args.other.0 c.requires.name c.requires.other.0 c.requires.other.1 in
     let some : f.found ≡ Nobody → ⊥ = is_somebody r c.find-first.result f.found f.shows c.in_default.not-Nobody in
-    let finds : Finds f.root (named world c.args.other.0) s.root s.found = subst (λ (n : Named). Finds f.root n s.root s.found) (other_named world.names i j Nobody far) s.finds in
+    let finds : Finds r.shape f.root (named world c.args.other.0) s.root s.found = subst (λ (n : Named). Finds r.shape f.root n s.root s.found) (other_named world.names i j Nobody far) s.finds in
     let names = renamed (renamed world.names c.args.name.0 m.0) c.args.other.0 s.found in
     let set-first = shows_set r _ _ i c.meet_at-first.result.0 m.0 s.on.names m.1 in
     let set-second = shows_set r _ _ j c.meet_at-first.result.1 s.found set-first m.2 in
@@ -64,7 +64,7 @@ returns g c world on =
         second = s.found;
         after = m.0;
         finds = f.finds;
-        finds_other = finds_other f.found f.root s.root (named world c.args.other.0) s.found some finds;
+        finds_other = finds_other r.shape f.found f.root s.root (named world c.args.other.0) s.found some finds;
         told = m.3;
         names = refl;
       },

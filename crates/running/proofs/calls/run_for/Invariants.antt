@@ -1,14 +1,16 @@
-use Rattle.std.proofs.Common.{◌≡◌}
+use Rattle.std.proofs.Common.{◌≡◌, ◌+◌}
 use Rattle.running.specs.Code.{Tells}
-use Rattle.running.specs.Passes.{begun_of}
+use Rattle.running.specs.Passes.{begun_of, pass_in}
 use Rattle.running.specs.Steps.{Stands}
 use Rattle.running.specs.declared.code.Next.TheVariants.{On}
 use Rattle.running.proofs.calls.run_for.Given as goal
 
-abbrev pub invariant-loop : goal.invariant-loop
-invariant-loop g l =
-    let s = g.S.Code in
-    let m = g.M.Machine.machine (s.key l.fn.on) in
-    Stands m s.operation s.line s.slots (s.knows l.fn.on) s.answer s.rest (s.id l.fn.on) l.pass l.at
+abbrev pub invariant-loop-done : goal.invariant-loop-done
+invariant-loop-done g l =
+    let key = g.C.OnTable.key l.fn.on in
+    let s = g.S.Code.account key in
+    let m = g.M.Machine.machine key in
+    Stands m s (g.C.OnTable.id l.fn.on) l.pass l.at
     × (l.fn.operation ≡ s.operation l.at) × (begun_of m l.pass ≡ begun_of m l.fn.by)
-    × Tells (s.told l.fn.on) l.fn.under_way (On l.at)
+    × ((pass_in l.pass).steps ≡ (pass_in l.fn.by).steps + l._done)
+    × Tells s.told l.fn.under_way (On l.at)

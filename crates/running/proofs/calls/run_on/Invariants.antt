@@ -7,9 +7,10 @@ use Rattle.running.proofs.calls.run_on.Given as goal
 
 abbrev pub invariant-loop : goal.invariant-loop
 invariant-loop g l =
-    let s = g.S.Code in
-    let m = g.M.Machine.machine (s.key l.fn.on) in
+    let key = g.C.OnTable.key l.fn.on in
+    let s = g.S.Code.account key in
+    let m = g.M.Machine.machine key in
     (goal.iterator-loop g).can_next l.iterator' × (goal.iterator-loop g).is_finite l.iterator'
-    × Stands m s.operation s.line s.slots (s.knows l.fn.on) s.answer s.rest (s.id l.fn.on) l.pass l.at
+    × Stands m s (g.C.OnTable.id l.fn.on) l.pass l.at
     × (l.fn.operation ≡ s.operation l.at) × (begun_of m l.pass ≡ begun_of m l.fn.by)
-    × Tells (s.told l.fn.on) l.fn.under_way (On l.at)
+    × Tells s.told l.fn.under_way (On l.at)

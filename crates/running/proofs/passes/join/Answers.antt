@@ -1,25 +1,29 @@
-use Rattle.std.proofs.Common.{◌≡◌, ℕ, ◌+◌, ◌-◌, ◌<◌, length, arith, ap, ◌∙◌}
+use Rattle.std.proofs.Common.{◌≡◌, ℕ, ◌+◌, ◌-◌, ◌<◌, length, arith, ap, ◌∙◌, sym, subst}
 use Rattle.bounded_model.specs.declared.views.RootView.{RootView}
-use Rattle.machine.specs.Seats.{held_at, root_of}
+use Rattle.machine.specs.Seats.{root_of}
+use Rattle.running.specs.Rule.{line_in}
 use Rattle.machine.proofs.SeatedCalls.{join_view, was_out}
 use Rattle.running.specs.Passes.{root_in, pass_in}
+use Rattle.running.proofs.Acts.{root_takes}
+use Rattle.running.proofs.Uniting.{unites_root}
 use Rattle.running.proofs.passes.join.Goals as goal
 
 pub join_seats-requires-clause-empty : goal.join_seats-requires-clause-empty
-join_seats-requires-clause-empty g c =
-    let m = g.M.Machine.machine c.args.table.now.key in
-    (c.requires.pass.rests.slots, ap (held_at m.core.holding) c.requires.root.view, ap (held_at m.core.holding) c.requires.pass.rests.view ∙ m.laws.empty g.M.Machine.names.idle m.laws.rests)
+join_seats-requires-clause-empty g c = c.requires.pass.rests.slots
+
+pub join_seats-requires-clause-may : goal.join_seats-requires-clause-may
+join_seats-requires-clause-may g c = unites_root (g.M.Machine.machine c.args.table.now.key) c.args.parent.now.seat.me.0 c.args.by.seat.me.0 _ c.args.parent.now.out c.requires.root.view c.requires.root.stock c.requires.pass.rests.view
 
 pub overflow_sub-parent : goal.overflow_sub-parent
 overflow_sub-parent g c =
     let m = g.M.Machine.machine c.args.table.now.key in
-    let v = join_view m.core.shape g.M.Machine.names.idle c.args.parent.now.seat.me.0 c.args.by.seat.me.0 c.join_seats.new.seat.me.0 c.look_round.new.seat.me.0 c.requires.root.view c.requires.pass.rests.view (ap (λ m. m.0) c.join_seats.ensures.both) c.look_round.ensures.looks in
+    let v = join_view m.core.shape g.M.Machine.names.shares (line_in g.M.Machine.names c.args.parent.now.seat.me.0) (g.M.Machine.names.quiet (line_in g.M.Machine.names c.args.by.seat.me.0)) c.args.parent.now.seat.me.0 c.args.by.seat.me.0 c.join_seats.new.seat.me.0 c.look_round.new.seat.me.0 c.requires.root.view c.requires.pass.rests.view (ap (λ m. m.0) c.join_seats.ensures.both) c.look_round.ensures.looks in
     was_out m.core.shape (root_in c.args.parent.now) (root_of c.look_round.new.seat.me.0) (pass_in c.args.by) c.args.parent.now.out v.gives v.sound c.requires.root.counted
 
 pub returns-clause-root : goal.returns-clause-root
 returns-clause-root g c =
     let m = g.M.Machine.machine c.args.table.now.key in
-    let v = join_view m.core.shape g.M.Machine.names.idle c.args.parent.now.seat.me.0 c.args.by.seat.me.0 c.join_seats.new.seat.me.0 c.look_round.new.seat.me.0 c.requires.root.view c.requires.pass.rests.view (ap (λ m. m.0) c.join_seats.ensures.both) c.look_round.ensures.looks in
+    let v = join_view m.core.shape g.M.Machine.names.shares (line_in g.M.Machine.names c.args.parent.now.seat.me.0) (g.M.Machine.names.quiet (line_in g.M.Machine.names c.args.by.seat.me.0)) c.args.parent.now.seat.me.0 c.args.by.seat.me.0 c.join_seats.new.seat.me.0 c.look_round.new.seat.me.0 c.requires.root.view c.requires.pass.rests.view (ap (λ m. m.0) c.join_seats.ensures.both) c.look_round.ensures.looks in
     let root : RootView _ = root_in c.args.parent.now in
     let after : RootView _ = root_of c.look_round.new.seat.me.0 in
     let out : ℕ = c.args.parent.now.out in
@@ -28,10 +32,22 @@ returns-clause-root g c =
     let given : after.given ≡ root.given = v.gives.given in
     let account : length after.account ≡ length root.account + 1 = ap length v.gives.account ∙ omega arith in
     let counted : after.given ≡ (out - 1) + length after.account = omega arith in
-    record { table = c.look_round.ensures.seat.0 ∙ c.join_seats.ensures.table ∙ c.requires.root.table; view = v.root; slots = c.look_round.ensures.seat.1 ∙ ap (λ m. m.1) c.join_seats.ensures.both ∙ c.requires.root.slots; sound = v.sound; counted = counted }
+    let before : out ≡ (out - 1) + 1 = omega arith in
+    let by = g.M.Machine.names.quiet (line_in g.M.Machine.names c.args.by.seat.me.0) in
+    record {
+      table = c.look_round.ensures.seat.0 ∙ c.join_seats.ensures.table ∙ c.requires.root.table;
+      view = v.root;
+      slots = c.look_round.ensures.seat.1 ∙ ap (λ m. m.1) c.join_seats.ensures.both ∙ c.requires.root.slots;
+      sound = v.sound;
+      counted = counted;
+      stock = subst (m.core.IsStock (out - 1)) (sym v.line) (m.laws.takes_stock (out - 1) _ by (subst (λ (k : ℕ). m.core.IsStock k (line_in g.M.Machine.names c.args.parent.now.seat.me.0)) before c.requires.root.stock) (m.laws.calm (line_in g.M.Machine.names c.args.by.seat.me.0)));
+    }
 
 pub returns-clause-gives : goal.returns-clause-gives
 returns-clause-gives g c =
     let m = g.M.Machine.machine c.args.table.now.key in
-    let v = join_view m.core.shape g.M.Machine.names.idle c.args.parent.now.seat.me.0 c.args.by.seat.me.0 c.join_seats.new.seat.me.0 c.look_round.new.seat.me.0 c.requires.root.view c.requires.pass.rests.view (ap (λ m. m.0) c.join_seats.ensures.both) c.look_round.ensures.looks in
+    let v = join_view m.core.shape g.M.Machine.names.shares (line_in g.M.Machine.names c.args.parent.now.seat.me.0) (g.M.Machine.names.quiet (line_in g.M.Machine.names c.args.by.seat.me.0)) c.args.parent.now.seat.me.0 c.args.by.seat.me.0 c.join_seats.new.seat.me.0 c.look_round.new.seat.me.0 c.requires.root.view c.requires.pass.rests.view (ap (λ m. m.0) c.join_seats.ensures.both) c.look_round.ensures.looks in
     v.gives
+
+pub join_seats-requires-clause-owns : goal.join_seats-requires-clause-owns
+join_seats-requires-clause-owns g c = root_takes (g.M.Machine.machine c.args.table.now.key) c.args.parent.now.seat.me.0 c.args.by.seat.me.0 _ _ _ _ _ c.requires.root.view c.requires.pass.rests.view

@@ -1,25 +1,35 @@
 use Rattle.std.proofs.Common.{ap, sym, subst, ◌∙◌}
 use Rattle.bounded_model.specs.Laws.{IsAtRest}
-use Rattle.machine.specs.Seats.{held_at}
+use Rattle.running.specs.Rule.{line_in}
 use Rattle.machine.proofs.SeatedCalls.{meet_view}
+use Rattle.running.proofs.Acts.{pass_takes}
+use Rattle.running.proofs.Going.{rests_view}
+use Rattle.running.proofs.Uniting.{unites_passes, cuts_passes}
 use Rattle.running.proofs.passes.meet.Goals as goal
 
 pub join_seats-requires-clause-empty : goal.join_seats-requires-clause-empty
-join_seats-requires-clause-empty g c =
+join_seats-requires-clause-empty g c = c.requires.second.rests.slots
+
+pub join_seats-requires-clause-may : goal.join_seats-requires-clause-may
+join_seats-requires-clause-may g c =
     let m = g.M.Machine.machine c.args.table.now.key in
-    let none_held = m.laws.empty g.M.Machine.names.idle m.laws.rests in
-    (c.requires.second.rests.slots, ap (held_at m.core.holding) c.requires.first.rests.view ∙ none_held, ap (held_at m.core.holding) c.requires.second.rests.view ∙ none_held)
+    unites_passes m c.args.first.now.seat.me.0 c.args.second.seat.me.0 c.requires.first.rests.view c.requires.second.rests.view
+
+pub split_seat-seat-requires-clause-may : goal.split_seat-seat-requires-clause-may
+split_seat-seat-requires-clause-may g c =
+    let m = g.M.Machine.machine c.args.table.now.key in
+    cuts_passes m c.args.first.now.seat.me.0 c.args.second.seat.me.0 c.join_seats.new.seat.me.0 c.look_round.new.seat.me.0 c.requires.first.rests.view c.requires.second.rests.view (ap (λ m. m.0) c.join_seats.ensures.both) c.look_round.ensures.looks
 
 pub returns-clause-first : goal.returns-clause-first
 returns-clause-first g c =
     let m = g.M.Machine.machine c.args.table.now.key in
     let e = c.split_seat-seat.ensures in
-    let v = meet_view m.core.shape g.M.Machine.names.idle c.args.first.now.seat.me.0 c.args.second.seat.me.0 c.join_seats.new.seat.me.0 c.look_round.new.seat.me.0 c.split_seat-seat.new.seat.me.0 c.split_seat-seat.result.me.0
+    let v = meet_view m.core.shape g.M.Machine.names.shares (g.M.Machine.names.quiet (line_in g.M.Machine.names c.args.first.now.seat.me.0)) (g.M.Machine.names.quiet (line_in g.M.Machine.names c.args.second.seat.me.0)) c.args.first.now.seat.me.0 c.args.second.seat.me.0 c.join_seats.new.seat.me.0 c.look_round.new.seat.me.0 c.split_seat-seat.new.seat.me.0 c.split_seat-seat.result.me.0
     c.requires.first.rests.view c.requires.second.rests.view (ap (λ m. m.0) c.join_seats.ensures.both) c.look_round.ensures.looks (ap (λ m. m.0) e.left) (ap (λ m. m.0) e.right) in
     record {
       table = e.table.0 ∙ c.look_round.ensures.seat.0 ∙ c.join_seats.ensures.table ∙ c.requires.first.table;
       rests = record {
-        view = v.first;
+        view = rests_view m (line_in g.M.Machine.names c.args.first.now.seat.me.0) c.split_seat-seat.new.seat.me.0 v.first;
         slots = ap (λ m. m.1) e.left ∙ c.look_round.ensures.seat.1 ∙ ap (λ m. m.1) c.join_seats.ensures.both ∙ c.requires.first.rests.slots;
         rests = v.rests c.requires.first.rests.rests;
       };
@@ -29,11 +39,11 @@ pub returns-clause-second : goal.returns-clause-second
 returns-clause-second g c =
     let m = g.M.Machine.machine c.args.table.now.key in
     let e = c.split_seat-seat.ensures in
-    let v = meet_view m.core.shape g.M.Machine.names.idle c.args.first.now.seat.me.0 c.args.second.seat.me.0 c.join_seats.new.seat.me.0 c.look_round.new.seat.me.0 c.split_seat-seat.new.seat.me.0 c.split_seat-seat.result.me.0
+    let v = meet_view m.core.shape g.M.Machine.names.shares (g.M.Machine.names.quiet (line_in g.M.Machine.names c.args.first.now.seat.me.0)) (g.M.Machine.names.quiet (line_in g.M.Machine.names c.args.second.seat.me.0)) c.args.first.now.seat.me.0 c.args.second.seat.me.0 c.join_seats.new.seat.me.0 c.look_round.new.seat.me.0 c.split_seat-seat.new.seat.me.0 c.split_seat-seat.result.me.0
     c.requires.first.rests.view c.requires.second.rests.view (ap (λ m. m.0) c.join_seats.ensures.both) c.look_round.ensures.looks (ap (λ m. m.0) e.left) (ap (λ m. m.0) e.right) in (
       record {
         table = e.table.1 ∙ c.look_round.ensures.seat.0 ∙ c.join_seats.ensures.table ∙ c.requires.first.table;
-        rests = record { view = v.second; slots = ap (λ m. m.1) e.right; rests = subst (IsAtRest m.core.shape) (sym v.same) c.requires.second.rests.rests };
+        rests = record { view = rests_view m (line_in g.M.Machine.names c.args.second.seat.me.0) c.split_seat-seat.result.me.0 v.second; slots = ap (λ m. m.1) e.right; rests = subst (IsAtRest m.core.shape) (sym v.same) c.requires.second.rests.rests };
       },
       v.same,
     )
@@ -42,6 +52,9 @@ pub returns-clause-gives : goal.returns-clause-gives
 returns-clause-gives g c =
     let m = g.M.Machine.machine c.args.table.now.key in
     let e = c.split_seat-seat.ensures in
-    let v = meet_view m.core.shape g.M.Machine.names.idle c.args.first.now.seat.me.0 c.args.second.seat.me.0 c.join_seats.new.seat.me.0 c.look_round.new.seat.me.0 c.split_seat-seat.new.seat.me.0 c.split_seat-seat.result.me.0
+    let v = meet_view m.core.shape g.M.Machine.names.shares (g.M.Machine.names.quiet (line_in g.M.Machine.names c.args.first.now.seat.me.0)) (g.M.Machine.names.quiet (line_in g.M.Machine.names c.args.second.seat.me.0)) c.args.first.now.seat.me.0 c.args.second.seat.me.0 c.join_seats.new.seat.me.0 c.look_round.new.seat.me.0 c.split_seat-seat.new.seat.me.0 c.split_seat-seat.result.me.0
     c.requires.first.rests.view c.requires.second.rests.view (ap (λ m. m.0) c.join_seats.ensures.both) c.look_round.ensures.looks (ap (λ m. m.0) e.left) (ap (λ m. m.0) e.right) in
     v.gives
+
+pub join_seats-requires-clause-owns : goal.join_seats-requires-clause-owns
+join_seats-requires-clause-owns g c = pass_takes (g.M.Machine.machine c.args.table.now.key) c.args.first.now.seat.me.0 c.args.second.seat.me.0 _ _ _ _ _ _ c.requires.first.rests.view c.requires.second.rests.view

@@ -2,7 +2,7 @@ use Rattle.std.proofs.Common.{Bool, refl, sym, ap}
 use Rattle.index_list.specs.declared.change.Change.TheVariants as change
 use Rattle.running.specs.Lists.{side}
 use Rattle.running.proofs.Hosting.{mark_stays, shut_stays}
-use Rattle.running.proofs.Making.{known, at_access, at_step, fits_now, loaded, stored, stayed_at, brought_at, returned_at, stayed, brought, returned}
+use Rattle.running.proofs.Making.{known, at_access, at_step, fits_now, loaded, fetched, stowed, stored, stayed_at, brought_at, returned_at, stayed, brought, returned}
 use Rattle.running.proofs.stepping.make.Goals as goal
 
 pub load_step-word-requires-clause-table : goal.load_step-word-requires-clause-table
@@ -16,6 +16,34 @@ load_step-word-requires-clause-access g c =
 pub returns-in-Load-clause-made : goal.returns-in-Load-clause-made
 returns-in-Load-clause-made g c =
     let s = c.load_step-word in loaded (g.M.Machine.machine c.args.table.now.key) g.M.ListMachine.lists c.requires.at s.new.seat.me (record { word = s.result; won = _ }) _ _ (known (g.M.Machine.machine c.args.table.now.key) g.M.ListMachine.lists c.requires.at _ _ c.in-Load.is c.requires.access).0 refl s.ensures.seat.1 s.ensures.steps
+
+pub fetch_step-word-requires-clause-table : goal.fetch_step-word-requires-clause-table
+fetch_step-word-requires-clause-table g c =
+    (c.requires.table, (known (g.M.Machine.machine c.args.table.now.key) g.M.ListMachine.lists c.requires.at _ _ c.in-Fetch.is c.requires.access).1)
+
+pub fetch_step-word-requires-clause-access : goal.fetch_step-word-requires-clause-access
+fetch_step-word-requires-clause-access g c =
+    at_access (g.M.Machine.machine c.args.table.now.key) g.M.ListMachine.lists c.requires.at _ (known (g.M.Machine.machine c.args.table.now.key) g.M.ListMachine.lists c.requires.at _ _ c.in-Fetch.is c.requires.access).0
+
+pub returns-in-Fetch-clause-made : goal.returns-in-Fetch-clause-made
+returns-in-Fetch-clause-made g c =
+    let s = c.fetch_step-word in fetched (g.M.Machine.machine c.args.table.now.key) g.M.ListMachine.lists c.requires.at s.new.seat.me (record { word = s.result; won = _ }) _ _ (known (g.M.Machine.machine c.args.table.now.key) g.M.ListMachine.lists c.requires.at _ _ c.in-Fetch.is c.requires.access).0 refl s.ensures.steps
+
+pub stow_step-word-requires-clause-table : goal.stow_step-word-requires-clause-table
+stow_step-word-requires-clause-table g c =
+    (c.requires.table, (known (g.M.Machine.machine c.args.table.now.key) g.M.ListMachine.lists c.requires.at _ _ c.in-Stow.is c.requires.access).1)
+
+pub stow_step-word-requires-clause-access : goal.stow_step-word-requires-clause-access
+stow_step-word-requires-clause-access g c =
+    at_access (g.M.Machine.machine c.args.table.now.key) g.M.ListMachine.lists c.requires.at _ (known (g.M.Machine.machine c.args.table.now.key) g.M.ListMachine.lists c.requires.at _ _ c.in-Stow.is c.requires.access).0
+
+pub stow_step-word-requires-clause-fits : goal.stow_step-word-requires-clause-fits
+stow_step-word-requires-clause-fits g c =
+    fits_now (g.M.Machine.machine c.args.table.now.key) g.M.ListMachine.lists c.requires.at (known (g.M.Machine.machine c.args.table.now.key) g.M.ListMachine.lists c.requires.at _ _ c.in-Stow.is c.requires.access).2
+
+pub returns-in-Stow-clause-made : goal.returns-in-Stow-clause-made
+returns-in-Stow-clause-made g c =
+    let s = c.stow_step-word in stowed (g.M.Machine.machine c.args.table.now.key) g.M.ListMachine.lists c.requires.at s.new.seat.me (record { word = s.result; won = _ }) _ _ (known (g.M.Machine.machine c.args.table.now.key) g.M.ListMachine.lists c.requires.at _ _ c.in-Stow.is c.requires.access).0 refl s.ensures.seat.1 s.ensures.steps
 
 pub store_step-requires-clause-table : goal.store_step-requires-clause-table
 store_step-requires-clause-table g c =

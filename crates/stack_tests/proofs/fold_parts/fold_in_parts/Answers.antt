@@ -7,9 +7,9 @@ pub loop-preserved : goal.loop-preserved
 loop-preserved g c =
     let i = c.loop.invariant in
     elim c.match-run_for.branch [
-      | in-Again w ↦ (i.0, i.1, subst (IsFolding c.args.stack.now i.0 i.1) (sym w.fold-is) (w.in-Again.ensures i.0 i.1 i.2).0)
-      | in-Value w ↦ (i.0, i.1 ++ w.in-Value.value ∷ [], subst (IsFolding c.args.stack.now i.0 (i.1 ++ w.in-Value.value ∷ [])) (sym w.fold-is) (w.in-Value.ensures i.0 i.1 i.2).0)
+      | in-Again w ↦ (i.0, i.1, subst (IsFolding c.args.stack.now i.0 i.1) (sym w.fold-is) (w.in-Again.ensures.tried i.0 i.1 i.2).0)
+      | in-Value w ↦ (i.0, i.1 ++ w.in-Value.value ∷ [], subst (IsFolding c.args.stack.now i.0 (i.1 ++ w.in-Value.value ∷ [])) (sym w.fold-is) (w.in-Value.ensures.tried i.0 i.1 i.2).0)
     ]
 
 pub returns-in-Done : goal.returns-in-Done
-returns-in-Done g c = let i = c.loop.invariant in (c.in-Done.ensures i.0 i.1 i.2).0
+returns-in-Done g c = let i = c.loop.invariant in (c.in-Done.ensures.tried i.0 i.1 i.2).0

@@ -12,5 +12,5 @@ loop-root-preserved g c =
       passes = rw pushed.items (All-push (g.C.Container.is_pass c.args.c.now) _ _ old.passes c.in-Some.ensures.gives.0);
       few = omega (arith, pushed.len, c.len.ensures, c.loop-root-test.true);
       room = omega (arith, pushed.capacity, old.room);
-      splits = rw pushed.items (SplitsEach-more g.C.Container.pass _ c.loop-root.passes.items _ _ c.in-Some.pass old.splits c.in-Some.ensures.gives.1);
+      splits = rw pushed.items (SplitsEach-more _ g.C.Container.pass _ c.loop-root.passes.items _ _ c.in-Some.pass old.splits c.in-Some.ensures.gives.1);
     }

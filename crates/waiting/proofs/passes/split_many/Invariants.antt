@@ -9,7 +9,7 @@ invariant-loop-root g l = record {
   passes : All (g.C.Container.is_pass l.c) l.passes.items;
   few : vec_len l.passes ≤ l.count;
   room : l.count ≤ vec_capacity l.passes;
-  splits : SplitsEach (g.C.Container.root l.fn.root) (map g.C.Container.pass l.passes.items) (g.C.Container.root l.root);
+  splits : SplitsEach (g.C.Container.shape l.c) (g.C.Container.root l.fn.root) (map g.C.Container.pass l.passes.items) (g.C.Container.root l.root);
 }
 
 abbrev pub decreases-loop-root : goal.decreases-loop-root

@@ -7,12 +7,12 @@ use Rattle.bounded_model.specs.declared.commands.Operation.TheVariants.{Put}
 use Rattle.bounded_calls.proofs.QueuePuts.{put_goes_on, put_ends}
 use Rattle.bounded_calls.proofs.queue.QueueU64BoundedCallsU64.try_on.Goals as goal
 
-pub returns-in-Again : goal.returns-in-Again
-returns-in-Again c =
+pub returns-in-Again-clause-tried : goal.returns-in-Again-clause-tried
+returns-in-Again-clause-tried c =
     subst (λ op. Tried (queue_reading c.args.self.now) op (Again (Put c.in-Again.op))) (sym c.in-Put.is)
-    (put_goes_on c.args.self.now c.in-Put.op c.in-Again.op c.in-Again.ensures)
+    (put_goes_on c.args.self.now c.in-Put.op _ c.in-Again.op c.in-Again.ensures)
 
-pub returns-in-Done : goal.returns-in-Done
-returns-in-Done c =
+pub returns-in-Done-clause-tried : goal.returns-in-Done-clause-tried
+returns-in-Done-clause-tried c =
     subst (λ op. Tried (queue_reading c.args.self.now) op (Done c.in-Done.pass (reply.Put c.in-Done.answer))) (sym c.in-Put.is)
-    (put_ends c.args.self.now c.in-Put.op c.in-Done.pass c.in-Done.answer c.in-Done.ensures)
+    (put_ends c.args.self.now c.in-Put.op _ c.in-Done.pass c.in-Done.answer c.in-Done.ensures)

@@ -10,4 +10,4 @@ try_on-requires c = (Take, c.in-Again.ensures.0)
 pub returns-in-Again : goal.returns-in-Again
 returns-in-Again c =
     subst (λ begun. TriedFrom (queue_reading c.args.self.now) begun Take c.try_on.result) c.in-Again.ensures.1
-    (c.try_on.ensures Take c.in-Again.ensures.0)
+    (c.try_on.ensures.tried Take c.in-Again.ensures.0)

@@ -10,4 +10,4 @@ try_on-requires c = ((Put c.args.value), c.in-Again.ensures.0)
 pub returns-in-Again : goal.returns-in-Again
 returns-in-Again c =
     subst (λ begun. TriedFrom (stack_reading c.args.self.now) begun (Put c.args.value) c.try_on.result) c.in-Again.ensures.1
-    (c.try_on.ensures (Put c.args.value) c.in-Again.ensures.0)
+    (c.try_on.ensures.tried (Put c.args.value) c.in-Again.ensures.0)

@@ -13,7 +13,7 @@ returns-in-Again g c =
     let on = c.args.self.now in
     let e = c.in-Again.ensures c.args.by c.put_fast-first.ensures in
     let begun = begun_is (machine_of on) on.table.shared.table_id c.args.by c.requires in
-    (record { of = c.put_operation-operation.ensures.1; named = ap call_of e.1; line = e.0.at; read = e.0.knows }, e.2 ∙ begun)
+    (record { of = c.put_operation-operation.ensures.1; under_way = record { named = e.1; stands = e.0 } }, e.2 ∙ begun)
 
 pub returns-in-Done : goal.returns-in-Done
 returns-in-Done g c =

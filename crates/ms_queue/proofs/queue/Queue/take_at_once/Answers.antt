@@ -15,10 +15,10 @@ returns-in-Again g c =
     let on = c.args.self.now in
     let e = c.in-Again.ensures c.args.by c.take_fast-first.ensures in
     let begun = begun_is (machine_of on) on.table.shared.table_id c.args.by c.requires in
-    (record { line = e.0.at; read = e.0.knows }, e.2 ∙ begun)
+    (record { named = e.1; stands = e.0 }, e.2 ∙ begun)
 
-pub returns : goal.returns
-returns g c =
+pub returns-in-Done : goal.returns-in-Done
+returns-in-Done g c =
     let on = c.args.self.now in
     let back = c.in-Done.pass in
     let answer = c.in-Done.answer in

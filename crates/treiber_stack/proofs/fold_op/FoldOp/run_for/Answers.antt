@@ -10,8 +10,8 @@ try_for-requires-clause-ran g c =
     let is = c.requires.2 in
     (c.args.self.pass, (record { at = is.line; knows = is.read }, ap FoldFirst c.front.ensures, refl))
 
-pub returns-in-Again : goal.returns-in-Again
-returns-in-Again g c = λ front values is.
+pub returns-in-Again-clause-tried : goal.returns-in-Again-clause-tried
+returns-in-Again-clause-tried g c = λ front values is.
     let stack = c.args.stack.now in
     let e = c.in-Again.ensures in
     let r = e.ran c.args.self.pass (record { at = is.line; knows = is.read }, ap FoldFirst c.front.ensures, refl) in (
@@ -37,23 +37,35 @@ overflow_add-count g c =
     let most = stack.table.shared.key.capacity_in_range in
     omega arith
 
-pub returns-in-Yields : goal.returns-in-Yields
-returns-in-Yields g c = λ front values is.
+pub returns-in-Yields-clause-tried : goal.returns-in-Yields-clause-tried
+returns-in-Yields-clause-tried g c = λ front values is.
     let stack = c.args.stack.now in
     let e = c.in-Done.ensures in
     let stops = subst (λ (f : Front). FoldStops stack f (begun_of stack c.args.self.pass) c.in-Done.pass c.in-Done.stop) (c.front.ensures ∙ is.from) (e.ran c.args.self.pass (record { at = is.line; knows = is.read }, ap FoldFirst c.front.ensures, refl)) in
     hands_on stack front values c.args.self is c.in-Done.pass c.in-Done.stop stops (e.told c.args.self.at (λ a t. t)) c.in-Yields.value c.in-Yields.at c.in-Yields.is
 
-pub returns-in-Ended : goal.returns-in-Ended
-returns-in-Ended g c = λ front values is.
+pub returns-in-Ended-clause-tried : goal.returns-in-Ended-clause-tried
+returns-in-Ended-clause-tried g c = λ front values is.
     let stack = c.args.stack.now in
     let e = c.in-Done.ensures in
     let stops = subst (λ (f : Front). FoldStops stack f (begun_of stack c.args.self.pass) c.in-Done.pass c.in-Done.stop) (c.front.ensures ∙ is.from) (e.ran c.args.self.pass (record { at = is.line; knows = is.read }, ap FoldFirst c.front.ensures, refl)) in
     all_gone stack front values c.args.self is c.in-Done.pass c.in-Done.stop stops (e.told c.args.self.at (λ a t. t)) c.in-Ended.batch c.in-Ended.is
 
-pub returns : goal.returns
-returns g c = λ front values is.
+pub returns-clause-tried : goal.returns-clause-tried
+returns-clause-tried g c = λ front values is.
     let stack = c.args.stack.now in
     let e = c.in-Done.ensures in
     let stops = subst (λ (f : Front). FoldStops stack f (begun_of stack c.args.self.pass) c.in-Done.pass c.in-Done.stop) (c.front.ensures ∙ is.from) (e.ran c.args.self.pass (record { at = is.line; knows = is.read }, ap FoldFirst c.front.ensures, refl)) in
     none_taken stack front values c.args.self is c.in-Done.pass c.in-Done.stop stops (e.told c.args.self.at (λ a t. t)) c.in-Refused.why c.in-Refused.is
+
+pub returns-in-Again-clause-took : goal.returns-in-Again-clause-took
+returns-in-Again-clause-took g c = c.in-Again.ensures.took
+
+pub returns-in-Yields-clause-took : goal.returns-in-Yields-clause-took
+returns-in-Yields-clause-took g c = c.in-Done.ensures.took
+
+pub returns-in-Ended-clause-took : goal.returns-in-Ended-clause-took
+returns-in-Ended-clause-took g c = c.in-Done.ensures.took
+
+pub returns-clause-took : goal.returns-clause-took
+returns-clause-took g c = c.in-Done.ensures.took

@@ -4,8 +4,12 @@ use Rattle.bounded_model.specs.declared.views.PassView.{PassView}
 use Rattle.bounded_model.specs.Laws.{TakesNothing, FoldGives}
 use Rattle.running.proofs.Ways.{started, begun_is}
 use Rattle.stack_table.specs.declared.operation.Operation.TheVariants.{Fold as FoldFirst}
+use Rattle.std.specs.Prelude.{Ok, Err}
+use Rattle.stack_machine.specs.declared.lines.Answer.TheVariants.{Fold as AnswerFold}
+use Rattle.treiber_stack.specs.Folding.{folded_of}
+use Rattle.treiber_stack.specs.Ran.{WasRun}
 use Rattle.treiber_stack.specs.Stack.{machine_of, shape_of, pass_in}
-use Rattle.treiber_stack.proofs.Folds.{Folds_more, folds_same, hands_on, all_gone, none_taken, gone_few}
+use Rattle.treiber_stack.proofs.Folds.{Folds_more, folds_same, hands_on, all_gone, all_ran, none_ran, none_taken, gone_few}
 use Rattle.treiber_stack.proofs.stack.Stack.fold.Goals as goal
 
 pub loop-count-init : goal.loop-count-init
@@ -58,6 +62,17 @@ returns-in-Ended-clause-gives g c =
     let all = (all_gone c.args.self.now c.args.front i.0 (record { pass = l.pass; at = l.at; count = l.count }) i.1 back c.to_the_end-back.result.1 (e.stops l.pass c.any-first.ensures.ran) (e.told l.at c.any-first.ensures.told) b c.in-Ended.is).1 in
     (all.0, subst (λ (v : PassView _). FoldGives v (pass_in back) all.0 b.number) i.2 all.1, all.2, folds_same _ _ _ _ _ all.3 i.3)
 
+pub returns-in-Ended-clause-ran : goal.returns-in-Ended-clause-ran
+returns-in-Ended-clause-ran g c =
+    let stack = c.args.self.now in
+    let l = c.loop-count in
+    let i = l.invariant in
+    let e = c.to_the_end-back.ensures in
+    let back = c.to_the_end-back.result.0 in
+    let b = c.in-Ended.batch in
+    let ran = all_ran stack c.args.front i.0 (record { pass = l.pass; at = l.at; count = l.count }) i.1 back c.to_the_end-back.result.1 (e.stops l.pass c.any-first.ensures.ran) (e.told l.at c.any-first.ensures.told) b c.in-Ended.is in
+    (folded_of b, subst (λ (v : PassView _). WasRun stack (FoldFirst c.args.front) v back (AnswerFold (Ok (folded_of b, b.number)))) i.2 ran)
+
 pub returns-in-Refused-clause-of : goal.returns-in-Refused-clause-of
 returns-in-Refused-clause-of g c =
     let l = c.loop-count in
@@ -73,6 +88,16 @@ returns-in-Refused-clause-gives g c =
     let back = c.to_the_end-back.result.0 in
     let none = (none_taken stack c.args.front i.0 (record { pass = l.pass; at = l.at; count = l.count }) i.1 back c.to_the_end-back.result.1 (e.stops l.pass c.any-first.ensures.ran) (e.told l.at c.any-first.ensures.told) c.in-Refused.why c.in-Refused.is).1 in
     (subst (λ (v : PassView _). TakesNothing (shape_of stack) v (pass_in back) c.in-Refused.why) i.2 none.0, sym (folds_same _ _ _ [] _ none.1 i.3))
+
+pub returns-in-Refused-clause-ran : goal.returns-in-Refused-clause-ran
+returns-in-Refused-clause-ran g c =
+    let stack = c.args.self.now in
+    let l = c.loop-count in
+    let i = l.invariant in
+    let e = c.to_the_end-back.ensures in
+    let back = c.to_the_end-back.result.0 in
+    let ran = none_ran stack c.args.front i.0 (record { pass = l.pass; at = l.at; count = l.count }) i.1 back c.to_the_end-back.result.1 (e.stops l.pass c.any-first.ensures.ran) (e.told l.at c.any-first.ensures.told) c.in-Refused.why c.in-Refused.is in
+    subst (λ (v : PassView _). WasRun stack (FoldFirst c.args.front) v back (AnswerFold (Err c.in-Refused.why))) i.2 ran
 
 pub unreachable-requires : goal.unreachable-requires
 unreachable-requires g c =

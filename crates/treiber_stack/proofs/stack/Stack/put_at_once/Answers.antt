@@ -3,7 +3,7 @@ use Rattle.bounded_model.specs.declared.views.PassView.{PassView}
 use Rattle.bounded_model.specs.Laws.{PutGives}
 use Rattle.running.proofs.Ways.{begun_is}
 use Rattle.treiber_stack.specs.Stack.{machine_of, shape_of, pass_in}
-use Rattle.treiber_stack.proofs.Puts.{put_gives}
+use Rattle.treiber_stack.specs.KeepsAnswers.{put_gives}
 use Rattle.treiber_stack.proofs.stack.Stack.put_at_once.Goals as goal
 
 pub returns-in-Again : goal.returns-in-Again
@@ -11,7 +11,7 @@ returns-in-Again g c =
     let on = c.args.self.now in
     let e = c.in-Again.ensures c.args.by c.put_on_fast_path-first.ensures in
     let begun = begun_is (machine_of on) on.table.shared.table_id c.args.by c.requires in
-    (record { of = c.put_operation-operation.ensures; named = e.1; line = e.0.at; read = e.0.knows }, e.2 ∙ begun)
+    (record { of = c.put_operation-operation.ensures; under_way = record { named = e.1; stands = e.0 } }, e.2 ∙ begun)
 
 pub returns-in-Done : goal.returns-in-Done
 returns-in-Done g c =
@@ -19,6 +19,6 @@ returns-in-Done g c =
     let back = c.in-Done.pass in
     let answer = c.in-Done.answer in
     let e = c.in-Done.ensures c.args.by c.put_on_fast_path-first.ensures in
-    let gives = put_gives on c.args.value c.put_operation-operation.result c.put_operation-operation.ensures answer e.1 in
+    let gives = put_gives on.table.shared.key c.args.value c.put_operation-operation.result back.seat.me.0 _ c.put_operation-operation.ensures answer e.1 in
     let begun = begun_is (machine_of on) on.table.shared.table_id c.args.by c.requires in
     (e.0, subst (λ (v : PassView _). PutGives (shape_of on) v c.args.value (pass_in back) answer) begun gives)

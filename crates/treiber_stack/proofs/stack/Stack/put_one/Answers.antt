@@ -1,17 +1,30 @@
-use Rattle.std.proofs.Common.{subst}
+use Rattle.std.proofs.Common.{refl, subst}
 use Rattle.bounded_model.specs.declared.views.PassView.{PassView}
 use Rattle.bounded_model.specs.Laws.{PutGives}
 use Rattle.running.proofs.Ways.{begun_is}
+use Rattle.stack_table.specs.declared.operation.Operation.{Operation}
+use Rattle.treiber_stack.specs.Putting.{put_answer}
+use Rattle.treiber_stack.specs.Ran.{WasRun}
 use Rattle.treiber_stack.specs.Stack.{machine_of, shape_of, pass_in}
-use Rattle.treiber_stack.proofs.Puts.{put_gives}
+use Rattle.treiber_stack.specs.KeepsAnswers.{put_gives}
 use Rattle.treiber_stack.proofs.stack.Stack.put_one.Goals as goal
 
-pub returns : goal.returns
-returns g c =
+pub returns-clause-gives : goal.returns-clause-gives
+returns-clause-gives g c =
     let stack = c.args.self.now in
     let back = c.to_the_end.result.0 in
     let answer = c.to_the_end.result.1 in
     let e = c.to_the_end.ensures.stops c.args.by c.put_on_fast_path-first.ensures in
-    let gives = put_gives stack c.args.value c.put_operation-put.result c.put_operation-put.ensures answer e.1 in
+    let gives = put_gives stack.table.shared.key c.args.value c.put_operation-put.result back.seat.me.0 _ c.put_operation-put.ensures answer e.1 in
     let begun = begun_is (machine_of stack) stack.table.shared.table_id c.args.by c.requires in
     (e.0, subst (λ (v : PassView _). PutGives (shape_of stack) v c.args.value (pass_in back) answer) begun gives)
+
+pub returns-clause-ran : goal.returns-clause-ran
+returns-clause-ran g c =
+    let stack = c.args.self.now in
+    let back = c.to_the_end.result.0 in
+    let answer = c.to_the_end.result.1 in
+    let e = c.to_the_end.ensures.stops c.args.by c.put_on_fast_path-first.ensures in
+    let begun = begun_is (machine_of stack) stack.table.shared.table_id c.args.by c.requires in
+    subst (λ (o : Operation _). WasRun stack o (pass_in c.args.by) back (put_answer answer)) c.put_operation-put.ensures
+    (subst (λ (v : PassView _). WasRun stack c.put_operation-put.result v back (put_answer answer)) begun (e.1.ran refl))

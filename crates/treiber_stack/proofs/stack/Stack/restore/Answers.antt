@@ -1,10 +1,11 @@
-use Rattle.std.proofs.Common.{◌≡◌, ℕ, suc, ◌+◌, ◌-◌, List, map, drop, set, get_or, refl, sym, ap, ◌∙◌, subst, arith}
+use Rattle.std.proofs.Common.{rules, ◌≡◌, ℕ, suc, ◌+◌, ◌-◌, ◌<◌, length, List, map, drop, set, get_or, refl, sym, ap, ◌∙◌, subst, arith}
 use Rattle.std.specs.Prelude.{Option as Slot, Some}
 use Rattle.running.specs.declared.passes.Pass.{Pass}
 use Rattle.treiber_stack.specs.Ranging.{IsRestoring, places_from}
 use Rattle.treiber_stack.specs.Stack.{begun_of}
 use Rattle.treiber_stack.proofs.Loading.{none_at}
 use Rattle.treiber_stack.proofs.Restoring.{restore_start, restore_full, restore_low, value, restored_value, places_back, restore_last, restore_next, restore_done}
+use Rattle.treiber_stack.proofs.RangeTrying.{place_low}
 use Rattle.treiber_stack.proofs.stack.Stack.restore.Goals.{then-place-gt0, else-place-gt0}
 use Rattle.treiber_stack.proofs.stack.Stack.restore.Goals as goal
 
@@ -25,6 +26,15 @@ take_out-value-requires-clause-full g c =
     let place : ℕ = c.args.held.count - 1 - c.loop-moved.moved in
     let is : place + (1 + c.loop-moved.moved) ≡ c.args.held.count = omega arith in
     (value stack r.0 r.1 c.args.held r.2 c.loop-moved.pass c.loop-moved.moved c.loop-moved.index i.0 here place is, restore_full stack r.0 r.1 c.args.held r.2 c.loop-moved.pass c.loop-moved.moved c.loop-moved.index i.0 here place is)
+
+pub offset_bounds-values-place : goal.offset_bounds-values-place
+offset_bounds-values-place g c =
+    let low : c.args.held.count - 1 - c.loop-moved.moved < length c.loop-moved.values =
+    place_low c.requires.1 c.loop-moved.values (c.loop-moved.invariant c.requires.0 c.requires.1 c.requires.2 c.requires.3 c.requires.4).1.0 c.loop-moved.moved c.args.held.count
+    (c.loop-moved.invariant c.requires.0 c.requires.1 c.requires.2 c.requires.3 c.requires.4).1.2 (c.loop-moved.invariant c.requires.0 c.requires.1 c.requires.2 c.requires.3 c.requires.4).1.1 c.loop-moved-test.true in
+    let less : c.args.held.count - 1 - c.loop-moved.moved < length c.args.values.now = omega (arith, low, c.loop-moved.auto.values) in
+    let w = c.well_formed in
+    search rules
 
 pub unreachable-requires : goal.unreachable-requires
 unreachable-requires g c =

@@ -3,7 +3,8 @@ use Rattle.bounded_model.specs.declared.views.PassView.{PassView}
 use Rattle.bounded_model.specs.Laws.{TakeGives}
 use Rattle.running.proofs.Ways.{begun_is}
 use Rattle.treiber_stack.specs.Stack.{machine_of, shape_of, pass_in}
-use Rattle.treiber_stack.proofs.Takes.{take_gives}
+use Rattle.treiber_stack.specs.KeepsAnswers.{take_keeps}
+use Rattle.treiber_stack.specs.declared.taking.TakeAt.TheVariants.{Load}
 use Rattle.treiber_stack.proofs.stack.Stack.take_at_once.Goals as goal
 
 pub at_once-requires : goal.at_once-requires
@@ -14,13 +15,13 @@ returns-in-Again g c =
     let on = c.args.self.now in
     let e = c.in-Again.ensures c.args.by c.take_on_fast_path-first.ensures in
     let begun = begun_is (machine_of on) on.table.shared.table_id c.args.by c.requires in
-    (record { line = e.0.at; read = e.0.knows }, e.2 ∙ begun)
+    (record { named = e.1; stands = e.0 }, e.2 ∙ begun)
 
-pub returns : goal.returns
-returns g c =
+pub returns-in-Done : goal.returns-in-Done
+returns-in-Done g c =
     let on = c.args.self.now in
     let back = c.in-Done.pass in
     let answer = c.in-Done.answer in
     let e = c.in-Done.ensures c.args.by c.take_on_fast_path-first.ensures in
     let begun = begun_is (machine_of on) on.table.shared.table_id c.args.by c.requires in
-    (e.0, subst (λ (v : PassView _). TakeGives (shape_of on) v (pass_in back) answer) begun (take_gives on answer e.1))
+    (e.0, subst (λ (v : PassView _). TakeGives (shape_of on) v (pass_in back) answer) begun (take_keeps on.table.shared.key Load back.seat.me.0 _ answer e.1))

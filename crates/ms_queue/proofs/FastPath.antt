@@ -1,0 +1,23 @@
+-- Some steps of an operation after others, where the operation went on.
+use Rattle.std.proofs.Common.{◌≡◌, ℕ}
+use Rattle.std.specs.Prelude.{Result}
+use Rattle.bounded_model.specs.declared.answers.PutRefused.{PutRefused}
+use Rattle.bounded_model.specs.declared.answers.TakeRefused.{TakeRefused}
+use Rattle.queue_machine.specs.declared.lines.Line.{Line}
+use Rattle.queue_table.specs.declared.operation.Operation.{Operation}
+use Rattle.running.specs.declared.passes.Pass.{Pass}
+use Rattle.running.specs.declared.code.Next.{Next}
+use Rattle.running.proofs.Leading.{ran_on}
+use Rattle.ms_queue.specs.declared.queue.Queue.{Queue}
+use Rattle.ms_queue.specs.declared.putting.PutAt.{PutAt}
+use Rattle.ms_queue.specs.declared.taking.TakeAt.{TakeAt}
+use Rattle.ms_queue.specs.Queue.{machine_of, begun_of}
+use Rattle.ms_queue.specs.Putting.{PutRan, put_account}
+use Rattle.ms_queue.specs.Taking.{TakeRan, take_account}
+
+module _ {T : Type 0} (c : Queue T) (o : Operation T) (p q t : Pass T (Line T)) where
+  pub put_after : begun_of c q ≡ begun_of c p → (r : Next (PutAt T) (Result ℕ (PutRefused T))) → PutRan c o q t r → PutRan c o p t r
+  put_after begun r ran = ran_on (machine_of c) (put_account c.table.shared.key) c.table.shared.table_id o p q t begun r ran
+
+  pub take_after : begun_of c q ≡ begun_of c p → (r : Next (TakeAt T) (Result (T × ℕ) TakeRefused)) → TakeRan c o q t r → TakeRan c o p t r
+  take_after begun r ran = ran_on (machine_of c) (take_account c.table.shared.key) c.table.shared.table_id o p q t begun r ran

@@ -1,5 +1,0 @@
-use Rattle.queue_machine.specs.declared.lines.Seeking.TheVariants.{ToClose}
-use Rattle.ms_queue.proofs.closing.CloseOp.next_step.Goals as goal
-
-pub returns-in-Seeking : goal.returns-in-Seeking
-returns-in-Seeking g c = rw c.in-Seeking.is (c.seek_step.ensures ToClose)

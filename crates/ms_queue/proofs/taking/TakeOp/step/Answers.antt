@@ -1,5 +1,0 @@
-use Rattle.ms_queue.proofs.Takes.{take_gives}
-use Rattle.ms_queue.proofs.taking.TakeOp.step.Goals as goal
-
-pub returns-in-Done : goal.returns-in-Done
-returns-in-Done g c = let e = c.in-Done.ensures in (e.0.0, take_gives c.args.queue.now c.in-Done.answer e.0.1, e.1)

@@ -1,0 +1,5 @@
+pub mod Same
+pub mod Queues
+pub mod QueueCalls
+pub mod Stacks
+pub mod StackCalls

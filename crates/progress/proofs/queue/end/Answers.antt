@@ -1,0 +1,11 @@
+use Rattle.std.proofs.Common.{ℕ, arith}
+use Rattle.ms_queue.specs.Queue.{room_of, limit_of}
+use Rattle.queue_runs.proofs.Queues.{linearizable}
+use Rattle.progress.proofs.queue.end.Goals as goal
+
+pub returns-clause-run : goal.returns-clause-run
+returns-clause-run g c =
+    let queue = c.args.queue in
+    let limits = queue.table.shared.key in
+    let run = c.end.ensures.run in
+    record { run = run; linearizable = linearizable (room_of queue) (limit_of queue) (let e = limits.some_capacity in omega arith) (let e = limits.capacity_in_range in omega arith) (let e = limits.some_tag_limit in omega arith) run.acts run.allowed }

@@ -1,0 +1,22 @@
+use Rattle.std.proofs.Common.{◌+◌}
+use Rattle.ms_queue.specs.Putting.{put_account, put_promises}
+use Rattle.ms_queue.specs.Queue.{machine_of}
+use Rattle.runs.proofs.Made.{going, some_made}
+use Rattle.progress.proofs.QueueCalls.{ends_or_overtaken, put_tried}
+use Rattle.progress.proofs.queue.put_or_overtaken.Goals as goal
+
+pub returns-clause-tried : goal.returns-clause-tried
+returns-clause-tried g c =
+    let q = c.args.queue.now in
+    let begun = c.begin_put.ensures in
+    let op = c.begin_put.result in
+    let some = some_made (machine_of q) (going (machine_of q) (put_account q.table.shared.key) q.table.shared.table_id op begun.0.under_way) in
+    put_tried q c.args.value _ (some.0 + 21) op begun.0 begun.1 c.step_for.result (c.step_for.ensures some.0 (record { under_way = begun.0.under_way; made = some.1 }))
+
+pub returns-clause-overtaken : goal.returns-clause-overtaken
+returns-clause-overtaken g c =
+    let q = c.args.queue.now in
+    let begun = c.begin_put.ensures in
+    let op = c.begin_put.result in
+    let some = some_made (machine_of q) (going (machine_of q) (put_account q.table.shared.key) q.table.shared.table_id op begun.0.under_way) in
+    ends_or_overtaken q (put_account q.table.shared.key) (put_promises q.table.shared.key) some.0 op c.step_for.result (c.step_for.ensures some.0 (record { under_way = begun.0.under_way; made = some.1 }))

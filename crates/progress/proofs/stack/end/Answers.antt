@@ -1,0 +1,11 @@
+use Rattle.std.proofs.Common.{ℕ, arith}
+use Rattle.treiber_stack.specs.Stack.{room_of, limit_of}
+use Rattle.stack_runs.proofs.Stacks.{linearizable}
+use Rattle.progress.proofs.stack.end.Goals as goal
+
+pub returns-clause-run : goal.returns-clause-run
+returns-clause-run g c =
+    let stack = c.args.stack in
+    let limits = stack.table.shared.key in
+    let run = c.end.ensures.run in
+    record { run = run; linearizable = linearizable (room_of stack) (limit_of stack) (let e = limits.some_capacity in omega arith) (let e = limits.capacity_in_range in omega arith) run.acts run.allowed }

@@ -1,0 +1,103 @@
+//! The bound on the steps of a queue's operations.
+ghost use Rattle.bounded_model.specs.Laws.{Leaves};
+ghost use Rattle.running.specs.Passes.{pass_in, root_in};
+ghost use Rattle.ms_queue.specs.Closing.{IsClosing};
+ghost use Rattle.ms_queue.specs.Left.{left_in};
+ghost use Rattle.ms_queue.specs.Looking.{IsLooking};
+ghost use Rattle.ms_queue.specs.Putting.{IsPutting};
+ghost use Rattle.ms_queue.specs.Queue.{IsPassOf, IsRootOf, shape_of};
+ghost use Rattle.ms_queue.specs.Shutting.{IsShutting};
+ghost use Rattle.ms_queue.specs.Taking.{IsTaking};
+ghost use Rattle.ms_queue.specs.Trying.{PutTried, TakeTried};
+ghost use Rattle.progress.specs.Queues.{StepsAreBounded, EndsOrOvertaken, IsLinearizableRun};
+
+use bounded_model::{PutRefused, Stepped, TakeRefused};
+use ms_queue::{CloseOp, LookOp, Pass, PutOp, Queue, Rest, Root, ShutOp, TakeOp};
+use runs::step_for;
+
+/// The most steps that an operation makes while no other pass's compare-and-swap succeeds. Each by
+/// which another pass succeeds allows 8 more.
+pub const ALONE: u64 = 20;
+
+/// Puts a value step by step, with no wait, for at most `ALONE + 1` steps. If the put has not ended
+/// then, another pass's compare-and-swap has succeeded since it was begun, and it comes back under
+/// way.
+pub fn put_or_overtaken<T>(
+    queue: &Queue<T>,
+    by: Pass<T>,
+    value: T,
+) -> Stepped<PutOp<T>, Pass<T>, Result<u64, PutRefused<T>>>
+    requires { IsPassOf queue.now by }
+    ensures tried { PutTried queue.now value (pass_in by) result }
+    ensures overtaken { EndsOrOvertaken queue.now result }
+{
+    step_for(queue, queue.begin_put(by, value), ALONE + 1)
+}
+
+/// Takes a value in the same way.
+pub fn take_or_overtaken<T>(
+    queue: &Queue<T>,
+    by: Pass<T>,
+) -> Stepped<TakeOp<T>, Pass<T>, Result<(T, u64), TakeRefused>>
+    requires { IsPassOf queue.now by }
+    ensures tried { TakeTried queue.now (pass_in by) result }
+    ensures overtaken { EndsOrOvertaken queue.now result }
+{
+    step_for(queue, queue.begin_take(by), ALONE + 1)
+}
+
+/// Ends a queue, as `finish` does, and returns what is left. That stands for a run of the passes whose
+/// calls are linearizable.
+pub fn end<T>(queue: Queue<T>, parent: Root<T>) -> Rest<T>
+    requires { IsRootOf queue parent }
+    ensures leaves { Leaves (shape_of queue) (root_in parent) (left_in result) }
+    ensures run { IsLinearizableRun queue (root_in parent) (left_in result) }
+{
+    queue.end(parent)
+}
+
+/// A put under way has made at most `ALONE` steps, and 8 for each compare-and-swap by which another
+/// pass has succeeded since it was begun.
+pub fn put_is_bounded<T>(queue: &Queue<T>, op: &PutOp<T>)
+    requires { (x : T) × IsPutting queue.now x op.now }
+    ensures { StepsAreBounded queue.now op.now.operation op.now.pass }
+{
+    let _ = queue;
+    let _ = op;
+}
+
+/// The same of a take.
+pub fn take_is_bounded<T>(queue: &Queue<T>, op: &TakeOp<T>)
+    requires { IsTaking queue.now op.now }
+    ensures { StepsAreBounded queue.now op.now.operation op.now.pass }
+{
+    let _ = queue;
+    let _ = op;
+}
+
+/// The same of a close.
+pub fn close_is_bounded<T>(queue: &Queue<T>, op: &CloseOp<T>)
+    requires { IsClosing queue.now op.now }
+    ensures { StepsAreBounded queue.now op.now.operation op.now.pass }
+{
+    let _ = queue;
+    let _ = op;
+}
+
+/// The same of a shut.
+pub fn shut_is_bounded<T>(queue: &Queue<T>, op: &ShutOp<T>)
+    requires { IsShutting queue.now op.now }
+    ensures { StepsAreBounded queue.now op.now.operation op.now.pass }
+{
+    let _ = queue;
+    let _ = op;
+}
+
+/// The same of a look.
+pub fn look_is_bounded<T>(queue: &Queue<T>, op: &LookOp<T>)
+    requires { IsLooking queue.now op.now }
+    ensures { StepsAreBounded queue.now op.now.operation op.now.pass }
+{
+    let _ = queue;
+    let _ = op;
+}

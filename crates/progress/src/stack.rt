@@ -1,0 +1,116 @@
+//! The bound on the steps of a stack's operations.
+ghost use Rattle.std.specs.Prelude.{List, Option as Slot};
+ghost use Rattle.bounded_model.specs.Laws.{Leaves};
+ghost use Rattle.index_list.specs.declared.front.Front.{Front};
+ghost use Rattle.stack_table.specs.declared.operation.Operation.TheVariants.{Close, Shut};
+ghost use Rattle.treiber_stack.specs.Closing.{IsClosing, IsShutting};
+ghost use Rattle.treiber_stack.specs.FoldOp.{IsFolding};
+ghost use Rattle.treiber_stack.specs.Folding.{fold_operation};
+ghost use Rattle.treiber_stack.specs.Left.{left_in};
+ghost use Rattle.treiber_stack.specs.Putting.{IsPutting};
+ghost use Rattle.treiber_stack.specs.RangeTrying.{IsRanging};
+ghost use Rattle.treiber_stack.specs.Stack.{IsPassOf, IsRootOf, pass_in, root_in, shape_of};
+ghost use Rattle.treiber_stack.specs.Taking.{IsTaking};
+ghost use Rattle.treiber_stack.specs.Trying.{PutTried, TakeTried};
+ghost use Rattle.progress.specs.Stacks.{StepsAreBounded, EndsOrOvertaken, IsLinearizableRun};
+
+use bounded_model::{PutRefused, Stepped, TakeRefused};
+use runs::step_for;
+use treiber_stack::{CloseOp, FoldOp, Pass, PutOp, RangeOp, Rest, Root, ShutOp, Stack, TakeOp};
+
+/// The most steps that a put or a take of one value, a close, a shut or a look makes while no other
+/// pass's compare-and-swap succeeds. Each by which another pass succeeds allows 4 more.
+pub const ALONE: u64 = 9;
+
+/// Puts a value step by step, with no wait, for at most `ALONE + 1` steps. If the put has not ended
+/// then, another pass's compare-and-swap has succeeded since it was begun, and it comes back under
+/// way.
+pub fn put_or_overtaken<T>(
+    stack: &Stack<T>,
+    by: Pass<T>,
+    value: T,
+) -> Stepped<PutOp<T>, Pass<T>, Result<u64, PutRefused<T>>>
+    requires { IsPassOf stack.now by }
+    ensures tried { PutTried stack.now value (pass_in by) result }
+    ensures overtaken { EndsOrOvertaken stack.now result }
+{
+    step_for(stack, stack.begin_put(by, value), ALONE + 1)
+}
+
+/// Takes a value in the same way.
+pub fn take_or_overtaken<T>(
+    stack: &Stack<T>,
+    by: Pass<T>,
+) -> Stepped<TakeOp<T>, Pass<T>, Result<(T, u64), TakeRefused>>
+    requires { IsPassOf stack.now by }
+    ensures tried { TakeTried stack.now (pass_in by) result }
+    ensures overtaken { EndsOrOvertaken stack.now result }
+{
+    step_for(stack, stack.begin_take(by), ALONE + 1)
+}
+
+/// Ends a stack, as `finish` does, and returns what is left. That stands for a run of the passes whose
+/// calls are linearizable.
+pub fn end<T>(stack: Stack<T>, parent: Root<T>) -> Rest<T>
+    requires { IsRootOf stack parent }
+    ensures leaves { Leaves (shape_of stack) (root_in parent) (left_in result) }
+    ensures run { IsLinearizableRun stack (root_in parent) (left_in result) }
+{
+    stack.end(parent)
+}
+
+/// A put under way has made at most `ALONE` steps, and 4 for each compare-and-swap by which another
+/// pass has succeeded since it was begun.
+pub fn put_is_bounded<T>(stack: &Stack<T>, op: &PutOp<T>)
+    requires { (x : T) × IsPutting stack.now x op.now }
+    ensures { StepsAreBounded stack.now op.now.operation op.now.pass }
+{
+    let _ = stack;
+    let _ = op;
+}
+
+/// The same of a take.
+pub fn take_is_bounded<T>(stack: &Stack<T>, op: &TakeOp<T>)
+    requires { IsTaking stack.now op.now }
+    ensures { StepsAreBounded stack.now op.now.operation op.now.pass }
+{
+    let _ = stack;
+    let _ = op;
+}
+
+/// The same of a close.
+pub fn close_is_bounded<T>(stack: &Stack<T>, op: &CloseOp<T>)
+    requires { IsClosing stack.now op.now }
+    ensures { StepsAreBounded stack.now Close op.now.pass }
+{
+    let _ = stack;
+    let _ = op;
+}
+
+/// The same of a shut.
+pub fn shut_is_bounded<T>(stack: &Stack<T>, op: &ShutOp<T>)
+    requires { IsShutting stack.now op.now }
+    ensures { StepsAreBounded stack.now Shut op.now.pass }
+{
+    let _ = stack;
+    let _ = op;
+}
+
+/// A put of a range under way has made at most 4 steps for each node of the stack and 6, and 4 for
+/// each compare-and-swap by which another pass has succeeded since it was begun.
+pub fn range_is_bounded<T>(stack: &Stack<T>, op: &RangeOp<T>)
+    requires { (vs : List T) × (places : List (Slot T)) × IsRanging stack.now vs places op.now }
+    ensures { StepsAreBounded stack.now op.now.operation op.now.pass }
+{
+    let _ = stack;
+    let _ = op;
+}
+
+/// The same of a fold.
+pub fn fold_is_bounded<T>(stack: &Stack<T>, op: &FoldOp<T>)
+    requires { (front : Front) × (values : List T) × IsFolding stack.now front values op.now }
+    ensures { StepsAreBounded stack.now (fold_operation op.now.at) op.now.pass }
+{
+    let _ = stack;
+    let _ = op;
+}

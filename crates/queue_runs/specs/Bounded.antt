@@ -1,0 +1,36 @@
+-- How many steps an operation under way has made, by the compare-and-swaps by which others succeeded meanwhile.
+use Rattle.std.specs.Prelude.{◌≡◌, ℕ, ◌+◌, ◌*◌, ◌≤◌, ◌∷◌, ◌++◌}
+use Rattle.machine.specs.Seats.{Acts}
+use Rattle.machine.specs.Schedule.{after}
+use Rattle.machine.specs.Progress.{others_win}
+use Rattle.queue_machine.specs.declared.lines.Call.{Call}
+use Rattle.queue_machine.specs.declared.lines.Call.TheVariants.{Put as CallPut, Take as CallTake, Close as CallClose, Shut as CallShut, Look as CallLook, Len as CallLen}
+use Rattle.queue_machine.specs.declared.lines.Line.{Line}
+use Rattle.queue_machine.specs.declared.lines.Line.TheVariants.{LoadCells, LoadTail, LoadHeadToShut, LoadHeadToLook, LoadHeadToCount}
+use Rattle.queue_machine.specs.Machine.{State, queue}
+use Rattle.queue_machine.specs.Answers.{shape}
+use Rattle.running.specs.Acts.{Begins, steps_in}
+use Rattle.runs.specs.Runs.{Below, schedule_of}
+
+module _ {T : Type 0} where
+  -- the call that begins at a line
+  abbrev pub call_at : Line T → Call T
+  call_at (LoadCells v) = CallPut v
+  call_at (LoadTail s) = CallClose
+  call_at LoadHeadToShut = CallShut
+  call_at LoadHeadToLook = CallLook
+  call_at LoadHeadToCount = CallLen
+  call_at l = CallTake
+
+  module _ (n limit : ℕ) where
+    -- the machine with so many passes, after these acts
+    abbrev pub state_after : ℕ → Acts (Line T) → State T
+    state_after passes acts = after (queue (shape n limit)) passes (schedule_of call_at acts)
+
+    -- Pass x in an operation with this first line, by the acts as it was begun and those by now: since then it has made so many steps, and so many exchanges of others
+    -- have succeeded. The machine that ran as the passes did says which succeeded
+    pub record IsBounded (before now : Acts (Line T)) (x : ℕ) (first : Line T) : Type 0 where
+      pub since : Acts (Line T)
+      pub is : now ≡ since ++ (x, Begins first) ∷ before
+      pub bound : (passes : ℕ) → Below passes now
+          → steps_in x since ≤ 20 + 8 * others_win (queue (shape n limit)) x (schedule_of call_at since) (state_after passes ((x, Begins first) ∷ before))

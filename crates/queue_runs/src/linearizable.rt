@@ -1,0 +1,30 @@
+//! The calls of a run of threads are linearizable.
+ghost use Rattle.std.specs.Prelude.{ℕ, ◌<◌, ◌++◌, List};
+ghost use Rattle.std.specs.List.{AllByRecursion};
+ghost use Rattle.tagged_index.specs.declared.word.TheConstants.{NULL};
+ghost use Rattle.machine.specs.Seats.{Acts};
+ghost use Rattle.queue_machine.specs.declared.lines.Answer.{Answer};
+ghost use Rattle.queue_machine.specs.declared.lines.Call.{Call};
+ghost use Rattle.queue_machine.specs.declared.lines.Line.{Line};
+ghost use Rattle.queue_table.specs.Lines.{names};
+ghost use Rattle.queue_table.specs.Core.{core};
+ghost use Rattle.step_core.specs.Linearizable.{Entry, IsLinearization, KeepsRealTimeOrder};
+ghost use Rattle.step_core.specs.queue.Object.{object, answer};
+ghost use Rattle.running.specs.Acts.{IsAllowed};
+ghost use Rattle.runs.specs.Heard.{IsLinearizable};
+ghost use Rattle.queue_runs.specs.Bounded.{call_at};
+
+/// The calls of a run of threads on a queue are linearizable (Herlihy and Wing 1990), refusals among
+/// them. Whatever acts led to a queue's table, into their invocations and responses, in the order of
+/// the acts, linearization points can be put, so that in the order of their points the operations are
+/// a legal history of the bounded queue, with the answers that were given, and with the events that
+/// the acts have made. The order of the points keeps real time: wherever such a history is cut, of
+/// each pass the operations that have taken effect are those that it has completed by then, or these
+/// and its pending one.
+pub fn queue_acts_are_linearizable<T>()
+    ensures points { (n limit : ℕ) (acts : Acts (Line T)) → 0 < n → n < NULL → 0 < limit
+        → AllByRecursion (λ a. IsAllowed names (core T n limit) a.1) acts
+        → IsLinearizable names (core T n limit) call_at answer (object n limit) acts }
+    ensures keeps_real_time_order { (n limit p : ℕ) (newer older : List (Entry T (Call T) (Answer T))) →
+        IsLinearization (object n limit) (newer ++ older) → KeepsRealTimeOrder p older }
+{}

@@ -1,0 +1,12 @@
+pub mod Positions
+pub mod Turned
+pub mod Cells
+pub mod Filled
+pub mod Told
+pub mod StepKinds
+pub mod Step
+pub mod Answers
+pub mod Tells
+pub mod Doing
+pub mod Places
+pub mod Start

@@ -1,0 +1,34 @@
+-- The bounded queue that the machine's history is one of, and which answers of its passes are right.
+use Rattle.std.specs.Prelude.{ℕ, ◌*◌, true, false, List, Ok, Err}
+use Rattle.bounded_model.specs.declared.history.Order.TheVariants.{Fifo}
+use Rattle.bounded_model.specs.declared.history.Event.{Event}
+use Rattle.bounded_model.specs.Machine as bounded
+use Rattle.bounded_model.specs.Justified as right
+use Rattle.bounded_model.specs.declared.answers.PutRefused.TheVariants.{Full, Closed, Spent}
+use Rattle.ring_machine.specs.declared.lines.Answer.{Answer}
+use Rattle.ring_machine.specs.declared.lines.Answer.TheVariants.{Put as AnswerPut, Take as AnswerTake, Close as AnswerClose, Shut as AnswerShut, Look as AnswerLook, Len as AnswerLen}
+
+-- a ring of n slots, each of which is filled at most so many times: a lap raises a slot's tag by two. How many passes may
+-- be out is for its root to say
+abbrev pub shape : ℕ → ℕ → bounded.Shape
+shape n laps = record { order = Fifo; capacity = n; limit = 2 * laps; passes = 0 }
+
+-- the bounded machine at the end of a history
+abbrev pub state : {T : Type 0} → ℕ → ℕ → List (Event T) → bounded.State T
+state n laps history = bounded.state (shape n laps) history
+
+-- some history between those seen at the begin and at the end of an operation justifies its answer,
+-- where that is one that changes nothing
+abbrev pub IsRight : {T : Type 0} → ℕ → ℕ → List (Event T) → List (Event T) → Answer T → Type 0
+IsRight n laps begun seen (AnswerPut (Ok done)) = Unit {0}
+IsRight n laps begun seen (AnswerPut (Err (Full v))) = right.Sometime begun seen (λ h. right.Justifies (shape n laps) h right.PutFull)
+IsRight n laps begun seen (AnswerPut (Err (Closed v))) = right.Sometime begun seen (λ h. right.Justifies (shape n laps) h right.PutClosed)
+IsRight n laps begun seen (AnswerPut (Err (Spent v word t))) = right.Sometime begun seen (λ h. right.Justifies (shape n laps) h (right.PutSpent word t))
+IsRight n laps begun seen (AnswerTake (Ok done)) = Unit {0}
+IsRight n laps begun seen (AnswerTake (Err why)) = right.Sometime begun seen (λ h. right.Justifies (shape n laps) h (right.take_answer why))
+IsRight n laps begun seen (AnswerClose true) = Unit {0}
+IsRight n laps begun seen (AnswerClose false) = right.Sometime begun seen (λ h. right.Justifies (shape n laps) h right.NotClosed)
+IsRight n laps begun seen (AnswerShut true) = Unit {0}
+IsRight n laps begun seen (AnswerShut false) = right.Sometime begun seen (λ h. right.Justifies (shape n laps) h right.NotShut)
+IsRight n laps begun seen (AnswerLook empty) = right.Sometime begun seen (λ h. right.Justifies (shape n laps) h (right.Looked empty))
+IsRight n laps begun seen (AnswerLen k) = right.Sometime begun seen (λ h. right.Justifies (shape n laps) h (right.Counted k))

@@ -1,0 +1,5 @@
+pub mod Machine
+pub mod Answers
+pub mod Rule
+pub mod Deeds
+pub mod Places

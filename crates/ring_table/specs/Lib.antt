@@ -1,0 +1,5 @@
+pub mod Layout
+pub mod Memories
+pub mod Lines
+pub mod Seats
+pub mod Core

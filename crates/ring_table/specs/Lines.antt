@@ -1,0 +1,35 @@
+-- What the code is told at a line of the ring.
+use Rattle.std.specs.Prelude.{◌≡◌, ℕ, ◌*◌, ◌<◌, ◌≤◌, List, [], ◌∷◌, Option as Slot, Some, None}
+use Rattle.tagged_index.specs.Fields.{index_of, tag_of}
+use Rattle.ring_machine.specs.declared.lines.Call.{Call}
+use Rattle.ring_machine.specs.declared.lines.Call.TheVariants.{Put as CallPut, Take as CallTake, Close as CallClose, Shut as CallShut, Look as CallLook, Len as CallLen}
+use Rattle.ring_machine.specs.declared.lines.Line.{Line}
+use Rattle.ring_machine.specs.declared.lines.Line.TheVariants.{FetchTail, LoadTail, LoadBack, LoadHead, LoadFront, TakeCell}
+use Rattle.ring_table.specs.declared.operation.Operation.{Operation}
+use Rattle.ring_table.specs.declared.operation.Operation.TheVariants.{Put as PutFirst, Take as TakeFirst, Close as CloseFirst, Shut as ShutFirst, Look as LookFirst, Len as LenFirst}
+
+module _ {T : Type 0} where
+  -- the machine's call of an operation
+  abbrev pub call_of : Operation T → Call T
+  call_of (PutFirst v) = CallPut v.value
+  call_of TakeFirst = CallTake
+  call_of CloseFirst = CallClose
+  call_of ShutFirst = CallShut
+  call_of LookFirst = CallLook
+  call_of LenFirst = CallLen
+
+  -- which slot a step brings: the spare cell, or the one that is taken
+  abbrev pub Brings : Line T → List (ℕ × Slot T) → Type 0
+  Brings (FetchTail c v) zs = zs ≡ (c, None) ∷ []
+  Brings (TakeCell w x) zs = (v : T) × (zs ≡ (x.index, Some v) ∷ [])
+  Brings l zs = Unit {0}
+
+  -- What the word that a line finds tells the code: a hint names a slot, and a slot one of so many cells, with a
+  -- tag that is not above the limit
+  abbrev pub Says : ℕ → ℕ → ℕ → Line T → ℕ → Type 0
+  Says n laps cells (FetchTail c v) y = index_of y < n
+  Says n laps cells (LoadTail c s) y = index_of y < n
+  Says n laps cells (LoadHead c s) y = index_of y < n
+  Says n laps cells (LoadBack w s) y = (index_of y < cells) × (tag_of y ≤ 2 * laps)
+  Says n laps cells (LoadFront w s) y = (index_of y < cells) × (tag_of y ≤ 2 * laps)
+  Says n laps cells l y = Unit {0}

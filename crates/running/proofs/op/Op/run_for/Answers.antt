@@ -1,0 +1,24 @@
+use Rattle.std.proofs.Common.{refl, sym, subst}
+use Rattle.running.specs.Going.{Ended}
+use Rattle.running.specs.Passes.{begun_of, pass_in}
+use Rattle.running.proofs.Leading.{ended}
+use Rattle.running.proofs.op.Op.run_for.Goals as goal
+
+pub returns-in-Done : goal.returns-in-Done
+returns-in-Done g c =
+    let op = c.args.self in
+    let key = g.C.OnTable.key c.args.on.now in
+    let id = g.C.OnTable.id c.args.on.now in
+    let s = g.S.Code.account key in
+    let m = g.M.Machine.machine key in
+    let begun = begun_of m op.pass in
+    let back = c.in-Done.pass in
+    let answer = c.in-Done.answer in
+    let e = c.in-Done.ensures in
+    let ran = e.ran op.pass (c.requires.stands, c.requires.named, refl) in
+    let stops = ended m s id op.operation begun back answer (g.met.S.Call.idle key op.operation answer) ran in
+    let end : Ended m (s.operation op.at) back.seat.me.0 begun (s.answer (s.operation op.at) answer) = subst (λ o. Ended m o back.seat.me.0 begun (s.answer o answer)) c.requires.named stops.1 in (
+      stops.0,
+      subst (λ o. g.S.Call.promises key o begun (pass_in back) answer) (sym c.requires.named) (g.met.S.Call.keeps key op.at back.seat.me.0 begun answer end),
+      e.took,
+    )

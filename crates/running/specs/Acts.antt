@@ -1,0 +1,151 @@
+-- A pure machine as any number of passes run it, each with its own line: the acts that led to a state, the newest first. What a
+-- container's table stands for is such a state (`Led`).
+use Rattle.std.specs.Prelude.{◌≡◌, ℕ, ◌+◌, ◌≤◌, ◌==◌, if◌then◌else◌, true, false, List, [], ◌∷◌, ◌++◌}
+use Rattle.std.specs.List.{AllByRecursion as Every}
+use mathlib.Core.Option.{some}
+use lib.ListN.{get_elem?}
+use Rattle.bounded_model.specs.declared.history.Event.{Event}
+pub use Rattle.machine.specs.declared.seats.Doing.{Doing}
+pub use Rattle.machine.specs.declared.seats.Doing.TheVariants.{Begins, Steps, Looks}
+use Rattle.machine.specs.declared.seats.View.{View}
+use Rattle.machine.specs.declared.seats.View.TheVariants.{AtRoot, AtPass, AtMeeting, AtNote, AtHearing, Left}
+use Rattle.machine.specs.Seats.{Acts, Owns}
+use Rattle.running.specs.Machine.{Names, Core, IsQuiet}
+
+-- the memory, the line of each pass, and the history
+pub record Config (M L E : Type 0) : Type 0 where
+  pub memory : M
+  pub line : ℕ → L
+  pub history : List E
+
+abbrev pub placed : {L : Type 0} → (ℕ → L) → ℕ → L → ℕ → L
+placed line p l q = if q == p then l else line q
+
+-- how many loads, stores and exchanges a pass has made, and how many of them are steps of the machine
+abbrev pub counted : {L : Type 0} → Doing L → ℕ
+counted (Begins l) = 0
+counted Steps = 1
+counted Looks = 1
+
+abbrev pub is_step : {L : Type 0} → Doing L → ℕ
+is_step (Begins l) = 0
+is_step Steps = 1
+is_step Looks = 0
+
+abbrev pub is_begin : {L : Type 0} → Doing L → ℕ
+is_begin (Begins l) = 1
+is_begin Steps = 0
+is_begin Looks = 0
+
+abbrev pub sum_of : {L : Type 0} → (Doing L → ℕ) → ℕ → Acts L → ℕ
+sum_of f x [] = 0
+sum_of f x (a ∷ older) = (if x == a.0 then f a.1 else 0) + sum_of f x older
+
+abbrev pub made : {L : Type 0} → ℕ → Acts L → ℕ
+made x acts = sum_of counted x acts
+
+abbrev pub steps_in : {L : Type 0} → ℕ → Acts L → ℕ
+steps_in x acts = sum_of is_step x acts
+
+abbrev pub begins_in : {L : Type 0} → ℕ → Acts L → ℕ
+begins_in x acts = sum_of is_begin x acts
+
+module _ {T L O : Type 0} (names : Names L O) (c : Core T L O) where
+  abbrev pub Now : Type 0
+  Now = Config c.Memory L (Event T)
+
+  abbrev pub having_stepped : Now → ℕ → L → Now
+  having_stepped s p l = record { memory = c.after s.memory p l; line = placed s.line p (c.lands s.memory p l); history = c.adds s.memory p l ++ s.history }
+
+  -- a begin of a pass in an operation does nothing, nor does a step of one that is in none
+  abbrev pub after_act : Now → ℕ → Doing L → Now
+  after_act s p (Begins first) = if names.is_idle (s.line p) then record { memory = s.memory; line = placed s.line p first; history = s.history } else s
+  after_act s p Steps = if names.is_idle (s.line p) then s else having_stepped s p (s.line p)
+  after_act s p Looks = s
+
+  -- before the first act
+  abbrev pub at_first : Now
+  at_first = record { memory = c.first; line = c.rest; history = [] }
+
+  abbrev pub played : Acts L → Now
+  played [] = at_first
+  played (a ∷ older) = after_act (played older) a.0 a.1
+
+  abbrev pub IsFirst : L → Type 0
+  IsFirst l = (o : O) × (rest : L) × (l ≡ names.first o rest)
+
+  -- only operations of the container are begun
+  abbrev pub IsAllowed : Doing L → Type 0
+  IsAllowed (Begins first) = IsFirst first
+  IsAllowed Steps = Unit {0}
+  IsAllowed Looks = Unit {0}
+
+  -- a seat's pass has made as many steps as its view counts, and a pass that is not given yet none
+  abbrev pub Counts : Acts L → View T L → Type 0
+  Counts acts (AtRoot r heard l) = (x : ℕ) → r.given ≤ x → made x acts ≡ 0
+  Counts acts (AtPass p begun l) = p.steps ≡ made p.number acts
+  Counts acts (AtMeeting p k q l) = (p.steps ≡ made p.number acts) × (q.steps ≡ made q.number acts)
+  Counts acts (AtNote told) = Unit {0}
+  Counts acts (AtHearing p l told) = p.steps ≡ made p.number acts
+  Counts acts Left = Unit {0}
+
+  -- what a pass in an operation knows of the acts: those that it has seen, and since then it has done nothing but look
+  pub record Seen (acts now : Acts L) (x : ℕ) : Type 0 where
+    pub others : Acts L
+    pub is : acts ≡ others ++ now
+    pub same : (f : Doing L → ℕ) → f Looks ≡ 0 → sum_of f x acts ≡ sum_of f x now
+
+  -- passes that meet, or hear a note, are between their operations
+  abbrev pub Sees : Acts L → View T L → Type 0
+  Sees acts (AtPass p begun l) = names.is_idle l ≡ false → Seen acts begun.now p.number
+  Sees acts (AtMeeting p k q l) = IsQuiet names c k × IsQuiet names c l
+  Sees acts (AtHearing p l told) = IsQuiet names c l
+  Sees acts v = Unit {0}
+
+  -- a pass that is at a line by its steps is at this one by its seat: both are idle, or they are one
+  pub record IsSame (by_steps line : L) : Type 0 where
+    pub idle : names.is_idle by_steps ≡ names.is_idle line
+    pub busy : names.is_idle line ≡ false → by_steps ≡ line
+
+  abbrev pub IsAt : L → View T L → Type 0
+  IsAt by_steps (AtPass p begun l) = IsSame by_steps l
+  IsAt by_steps v = names.is_idle by_steps ≡ true
+
+  -- Of each number that a seat answers for, the pass is at the seat's line, and idle where the seat is not a pass's
+  pub record Follows (line : ℕ → L) (acts : Acts L) (v : View T L) : Type 0 where
+    pub lines : (x : ℕ) → Owns v x → IsAt (line x) v
+    pub counts : Counts acts v
+    pub sees : Sees acts v
+
+  -- a seat answers for this number
+  pub record IsOwned (views : List (View T L)) (x : ℕ) : Type 0 where
+    pub seat : ℕ
+    pub view : View T L
+    pub there : get_elem? views seat ≡ some view
+    pub owns : Owns view x
+
+  -- Some acts, from the memory of a new container on, led to this memory and this history, and to where the seats are
+  pub record Led (memory : c.Memory) (views : List (View T L)) (history : List (Event T)) : Type 0 where
+    pub acts : Acts L
+    pub allowed : Every (λ a. IsAllowed a.1) acts
+    pub memory_is : (played acts).memory ≡ memory
+    pub history_is : (played acts).history ≡ history
+    pub each : (j : ℕ) (v : View T L) → get_elem? views j ≡ some v → Follows (played acts).line acts v
+    pub owned : (x : ℕ) → IsOwned views x
+
+  -- The step of a pass whose seat is at l, and which makes the step of the line `at`: an operation is begun at its first step
+  abbrev pub begun_acts : ℕ → L → L → Acts L → Acts L
+  begun_acts x l at acts = if names.is_idle l then (x, Begins at) ∷ acts else acts
+
+  abbrev pub acts_after : ℕ → L → L → Acts L → Acts L
+  acts_after x l at acts = (x, Steps) ∷ begun_acts x l at acts
+
+  -- A pass x in an operation, by the acts as it was begun and as they were at its last step: it was in none, this one was begun, no other was
+  -- since, and the pass's steps have led it from the first line to l
+  pub record Course (before now : Acts L) (x : ℕ) (first l : L) : Type 0 where
+    pub since : Acts L
+    pub is : now ≡ since ++ (x, Begins first) ∷ before
+    pub once : begins_in x since ≡ 0
+    pub allowed : Every (λ a. IsAllowed a.1) now
+    pub rested : names.is_idle ((played before).line x) ≡ true
+    pub at : (played now).line x ≡ l

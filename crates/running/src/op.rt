@@ -1,0 +1,108 @@
+//! An operation that was begun, on any container: one type for all that a machine has.
+ghost use Rattle.std.specs.Prelude.{◌≡◌, ◌<◌};
+ghost use Rattle.running.specs.Ops.{IsFirst, IsUnderWay, OpStep, OpRan, underway_of};
+ghost use Rattle.bounded_model.specs.Stepping.{no_step};
+ghost use Rattle.running.specs.Passes.{IsPassOn, pass_in};
+ghost use Rattle.running.specs.Rule.{line_in};
+
+use crate::call::{Call, HasTable};
+use crate::calls::try_for;
+use crate::code::{Code, Next, OnTable};
+use crate::lists::ListMachine;
+use crate::passes::Pass;
+use crate::stepping::single_step;
+use bounded_model::Stepped;
+
+/// An operation that was begun: its pass, which operation it is, and its next step.
+#[derive(Drop)]
+pub struct Op<T, L, O, S> {
+    pub pass: Pass<T, L>,
+    pub operation: O,
+    pub at: S,
+}
+
+impl<T, L, O: Drop, S> Op<T, L, O, S> {
+    /// An operation that makes no step yet, at its first.
+    #[inline]
+    pub fn begin<C: OnTable, M: ListMachine<T, L, O, N>, A, const N: usize>(
+        on: &C,
+        by: Pass<T, L>,
+        operation: O,
+        at: S,
+    ) -> Op<T, L, O, S>
+    where
+        S: Code<C, T, L, O, M, A, N>,
+        requires pass { IsPassOn (M.machine (C.key on.now)) (C.id on.now) by }
+        requires first { IsFirst M.names (S.account (C.key on.now))
+            (line_in M.names by.seat.me.0) operation at }
+        ensures under_way { IsUnderWay (M.machine (C.key on.now)) (S.account (C.key on.now))
+            (C.id on.now) result }
+        ensures begun { underway_of (M.machine (C.key on.now)) result.pass ≡ no_step (pass_in by) }
+        ensures same { (result.operation ≡ operation) × (result.at ≡ at) }
+    {
+        let _ = on;
+        Op {
+            pass: by,
+            operation,
+            at,
+        }
+    }
+
+    /// One atomic step.
+    #[inline]
+    pub fn step<C: HasTable<T, L, O, M>, M: ListMachine<T, L, O, N>, A, const N: usize>(
+        self,
+        on: &C,
+    ) -> Stepped<Op<T, L, O, S>, Pass<T, L>, A>
+    where
+        S: Call<C, T, L, O, M, A, N>,
+        requires { IsUnderWay (M.machine (C.key on.now)) (S.account (C.key on.now)) (C.id on.now)
+            self }
+        ensures { OpStep (M.machine (C.key on.now)) (S.account (C.key on.now)) (C.id on.now)
+            (S.promises (C.key on.now)) self result }
+    {
+        let Op {
+            pass,
+            operation,
+            at,
+        } = self;
+        match single_step::<C, T, L, O, M, A, S, N>(on.table(), on, pass, at, &operation) {
+            Stepped::Again((pass, at)) => Stepped::Again(Op {
+                pass,
+                operation,
+                at,
+            }),
+            Stepped::Done(pass, answer) => Stepped::Done(pass, answer),
+        }
+    }
+
+    /// Goes on for at most so many steps, with a wait after each compare-and-swap that failed.
+    #[inline]
+    pub fn run_for<C: HasTable<T, L, O, M>, M: ListMachine<T, L, O, N>, A, const N: usize>(
+        self,
+        on: &C,
+        steps: u64,
+    ) -> Stepped<Op<T, L, O, S>, Pass<T, L>, A>
+    where
+        S: Call<C, T, L, O, M, A, N>,
+        requires { IsUnderWay (M.machine (C.key on.now)) (S.account (C.key on.now)) (C.id on.now)
+            self }
+        ensures { OpRan (M.machine (C.key on.now)) (S.account (C.key on.now)) (C.id on.now)
+            (S.promises (C.key on.now)) steps self result }
+    {
+        let Op {
+            pass,
+            operation,
+            at,
+        } = self;
+        let first = (pass, Next::On(at));
+        match try_for::<C, T, L, O, M, A, S, N>(on.table(), on, first, &operation, steps) {
+            Stepped::Again((pass, at)) => Stepped::Again(Op {
+                pass,
+                operation,
+                at,
+            }),
+            Stepped::Done(pass, answer) => Stepped::Done(pass, answer),
+        }
+    }
+}

@@ -1,0 +1,5 @@
+use Rattle.stack_runs.proofs.Stacks.{bounded}
+use Rattle.stack_runs.proofs.bounds.stack_steps_are_bounded.Goals as goal
+
+pub returns : goal.returns
+returns g c = λ n limit x before now first l some_node small k busy. bounded n limit some_node small x before now first l k busy

@@ -1,0 +1,4 @@
+pub mod Law
+pub mod Bound
+pub mod Object
+pub mod Costs

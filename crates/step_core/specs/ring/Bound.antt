@@ -1,0 +1,8 @@
+-- Where the rule of a ring holds: its passes, each with a spare cell, share so many cells with the slots.
+use Rattle.std.specs.Prelude.{ℕ, map}
+use Rattle.ring_machine.specs.Machine.{State}
+use Rattle.ring_machine.specs.Rule.{Good}
+
+-- the rule holds of the words, of the lines of all passes, and of the history
+abbrev pub MeetsRule : {T : Type 0} → ℕ → ℕ → ℕ → State T → Type 0
+MeetsRule {T} n laps cells s = Good T n laps cells s.memory (map (λ v. v.line) s.passes) s.history

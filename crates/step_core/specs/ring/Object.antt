@@ -1,0 +1,50 @@
+-- The sequential specification of the bounded queue, as the ring is one (Herlihy and Wing 1990), by calls and answers.
+use Rattle.std.specs.Prelude.{◌≡◌, ℕ, true, false, List, [], ◌∷◌, Some, Ok, Err}
+use mathlib.Core.Option.{Option, none, some}
+use Rattle.bounded_model.specs.declared.history.Event.{Event}
+use Rattle.bounded_model.specs.declared.history.Event.TheVariants.{Put, Take, Close, Shut}
+use Rattle.bounded_model.specs.declared.answers.PutRefused.TheVariants.{Full, Closed, Spent}
+use Rattle.bounded_model.specs.Justified as right
+use Rattle.ring_machine.specs.declared.lines.Call.{Call}
+use Rattle.ring_machine.specs.declared.lines.Call.TheVariants.{Put as CallPut, Take as CallTake, Close as CallClose, Shut as CallShut, Look as CallLook, Len as CallLen}
+use Rattle.ring_machine.specs.declared.lines.Answer.{Answer}
+use Rattle.ring_machine.specs.declared.lines.Answer.TheVariants.{Put as AnswerPut, Take as AnswerTake, Close as AnswerClose, Shut as AnswerShut, Look as AnswerLook, Len as AnswerLen}
+use Rattle.ring_machine.specs.declared.lines.Line.{Line}
+use Rattle.ring_machine.specs.declared.lines.Line.TheVariants.{Idle}
+use Rattle.ring_machine.specs.Answers.{shape}
+use Rattle.step_core.specs.Linearizable.{Object}
+
+module _ {T : Type 0} where
+  -- an operation that updates the ring makes this event
+  abbrev pub Makes : ℕ → Call T → Answer T → Event T → Type 0
+  Makes p (CallPut v) (AnswerPut (Ok n)) e = e ≡ Put p (v ∷ []) n
+  Makes p CallTake (AnswerTake (Ok r)) e = e ≡ Take p r.0 r.1
+  Makes p CallClose (AnswerClose true) e = e ≡ Close p
+  Makes p CallShut (AnswerShut true) e = e ≡ Shut p
+  Makes p call a e = ⊥
+
+  -- one that reads it: the answer is right in the state at the end of this history, which does not change; a
+  -- refused put hands its value back
+  abbrev pub IsSaid : ℕ → ℕ → List (Event T) → Call T → Answer T → Type 0
+  IsSaid n laps h (CallPut v) (AnswerPut (Err (Full u))) = (u ≡ v) × right.Justifies (shape n laps) h right.PutFull
+  IsSaid n laps h (CallPut v) (AnswerPut (Err (Closed u))) = (u ≡ v) × right.Justifies (shape n laps) h right.PutClosed
+  IsSaid n laps h (CallPut v) (AnswerPut (Err (Spent u word t))) = (u ≡ v) × right.Justifies (shape n laps) h (right.PutSpent word t)
+  IsSaid n laps h CallTake (AnswerTake (Err why)) = right.Justifies (shape n laps) h (right.take_answer why)
+  IsSaid n laps h CallClose (AnswerClose false) = right.Justifies (shape n laps) h right.NotClosed
+  IsSaid n laps h CallShut (AnswerShut false) = right.Justifies (shape n laps) h right.NotShut
+  IsSaid n laps h CallLook (AnswerLook empty) = right.Justifies (shape n laps) h (right.Looked empty)
+  IsSaid n laps h CallLen (AnswerLen k) = right.Justifies (shape n laps) h (right.Counted k)
+  IsSaid n laps h call a = ⊥
+
+  -- the ring of n slots
+  abbrev pub object : ℕ → ℕ → Object T (Call T) (Answer T)
+  object n laps = record {
+    shape = shape n laps;
+    updates = λ k e. Makes k.by k.call k.answer e;
+    reads = λ k h. IsSaid n laps h k.call k.answer;
+  }
+
+  -- the answer in the response of a pass at a line
+  abbrev pub answer : Line T → Option (Answer T)
+  answer (Idle c (Some a)) = some a
+  answer l = none

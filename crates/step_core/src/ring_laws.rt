@@ -1,0 +1,122 @@
+//! The laws of the ring's machine, in the words of Herlihy and Wing (1990) and Herlihy (1991, 1993).
+ghost use Rattle.std.specs.Prelude.{◌≡◌, ℕ, suc, ◌+◌, ◌*◌, ◌<◌, ◌≤◌, List, ◌++◌};
+ghost use mathlib.Core.Option.{some};
+ghost use lib.ListN.{get_elem?};
+ghost use Rattle.bounded_model.specs.Gathers.{gather, sent_of, took_of, values_of, Counts};
+ghost use Rattle.machine.specs.Schedule.{Act, Schedule, start, after, next};
+ghost use Rattle.machine.specs.Bound.{IsStretch, own_steps};
+ghost use Rattle.machine.specs.Progress.{steps_made, calls_ended, calls_cost, others_win, AtOnce, LockFree};
+ghost use Rattle.ring_machine.specs.declared.lines.Answer.{Answer};
+ghost use Rattle.ring_machine.specs.declared.lines.Call.{Call};
+ghost use Rattle.ring_machine.specs.declared.lines.Line.{Line};
+ghost use Rattle.ring_machine.specs.Machine.{State, ring, step};
+ghost use Rattle.ring_machine.specs.Answers.{shape, state};
+ghost use Rattle.ring_machine.specs.Places.{NothingTwice, WinsUnheld};
+ghost use Rattle.step_core.specs.Linearizable.{Entry, IsLinearization, KeepsRealTimeOrder, Linearizable};
+ghost use Rattle.step_core.specs.ring.Object.{object, answer};
+ghost use Rattle.step_core.specs.ring.Law.{Lawful, AllDone, NoneUnanswered, lines_of};
+ghost use Rattle.step_core.specs.ring.Bound.{MeetsRule};
+ghost use Rattle.step_core.specs.ring.Costs.{cost};
+
+/// In every schedule of puts, takes, closes, shuts, looks at and counts of a ring of `n` slots, each
+/// of which is filled at most `laps` times: the history is legal for a bounded queue of `n` values,
+/// the words and cells stand for it, each of the cells of `n` slots and of all passes is in one slot
+/// or the spare one of one pass, no hand has anything between two steps, and each refusal is
+/// justified by the history as it was at some time between its begin and its end.
+pub fn ring_core<T>()
+    ensures { (n laps passes : ℕ) (schedule : Schedule (Call T)) → 0 < n →
+        Lawful T n laps (n + passes) (after (ring (shape n laps)) passes schedule) }
+{}
+
+/// The rule of the ring's machine holds before the first act of any number of passes, and whatever a
+/// pass does keeps it: a begin of each call, and the step of each line.
+pub fn ring_rule<T>()
+    ensures at_the_start { (n laps passes : ℕ) → 0 < n →
+        MeetsRule n laps (n + passes) (start (ring {T = T} (shape n laps)) passes) }
+    ensures kept { (n laps cells p : ℕ) (act : Act (Call T)) (s : State T) →
+        MeetsRule n laps cells s → MeetsRule n laps cells (next (ring (shape n laps)) s (p, act)) }
+{}
+
+/// No cell of a ring is used by two passes. Wherever the rule holds, and so in every schedule, each
+/// cell is in one place, and once: in one slot, or the spare one of one pass. And whatever cell a
+/// step brings into its pass's hand, no pass had it: it was in a slot, and only the winning
+/// compare-and-swap of a put or a take brings any.
+pub fn ring_cells<T>()
+    ensures wherever_the_rule_holds { (n laps cells : ℕ) (s : State T) →
+        MeetsRule n laps cells s → NothingTwice n cells s.memory (lines_of s) }
+    ensures wins_unheld { (n laps cells p : ℕ) (s : State T) (l : Line T) →
+        MeetsRule n laps cells s → get_elem? (lines_of s) p ≡ some l →
+        WinsUnheld n s.memory (lines_of s) l (step (shape n laps) s.memory p l).line }
+    ensures in_every_schedule { (n laps passes : ℕ) (schedule : Schedule (Call T)) → 0 < n →
+        let s = after (ring (shape n laps)) passes schedule in
+        NothingTwice n (n + passes) s.memory (lines_of s) }
+{}
+
+/// In every schedule of a ring, a call ends with an answer, each pass answers the call that it began,
+/// and the events that it adds from the begin to the answer are exactly those that the answer speaks
+/// of: a put that succeeds takes a cell and puts the call's value in one step, a take takes one value
+/// and gives its cell back in one step, a refused put hands back the call's value, and a refusal adds
+/// nothing.
+pub fn ring_answers<T>()
+    ensures answered { (n laps passes : ℕ) (schedule : Schedule (Call T)) → 0 < n →
+        NoneUnanswered (after (ring (shape n laps)) passes schedule) }
+    ensures done { (n laps passes : ℕ) (schedule : Schedule (Call T)) → 0 < n →
+        AllDone (after (ring (shape n laps)) passes schedule) }
+{}
+
+/// A ring is linearizable (Herlihy and Wing 1990). A put, a take, a close and a shut take effect at
+/// the compare-and-swap that makes their event, a refusal and a look at the load that they answer by,
+/// and a count at the load that found the back.
+pub fn ring_linearizable<T>()
+    ensures points { (n laps passes : ℕ) (schedule : Schedule (Call T)) → 0 < n →
+        Linearizable (ring (shape n laps)) answer (object n laps) passes schedule }
+    ensures keeps_real_time_order { (n laps p : ℕ) (newer older : List (Entry T (Call T) (Answer T))) →
+        IsLinearization (object n laps) (newer ++ older) → KeepsRealTimeOrder p older }
+{}
+
+/// A ring is lock-free (Herlihy 1993, there non-blocking), by number and without any fairness. Where
+/// never more than P = 1 + `others` passes are in a call at once, they make at most 94 * P - 47 steps
+/// for each call that ends, and for each of the P: from every state that meets the rule. So among any
+/// P * (94 * P - 47) + 1 steps after any schedule of P passes, some call ends. And in all, from the
+/// start, the passes make no more steps than the calls cost that they begin: a put 94 * P - 80, a take
+/// 94 * P - 79, a close or a shut 47 * P - 34, a look 12, a count 25.
+///
+/// Of each single call: it has ended after at most 47 of its own steps, and 47 for each
+/// compare-and-swap by which another pass succeeds meanwhile. So a step that does not succeed costs
+/// nobody else, and while no other pass's compare-and-swap succeeds, 47 steps are enough, however
+/// long its pass had stopped.
+pub fn ring_lock_free<T>()
+    ensures wherever_the_rule_holds { (n laps cells others : ℕ) (s : State T) (schedule : Schedule (Call T)) →
+        MeetsRule n laps cells s → AtOnce (ring (shape n laps)) (suc others) schedule s →
+        steps_made (ring (shape n laps)) schedule s
+        ≤ (47 + 94 * others) * (calls_ended (ring (shape n laps)) schedule s + suc others) }
+    ensures in_every_schedule { (n laps others : ℕ) → 0 < n →
+        LockFree (ring {T = T} (shape n laps)) (suc others) ((47 + 94 * others) * suc others) }
+    ensures all_costs { (n laps passes others : ℕ) (schedule : Schedule (Call T)) → 0 < n →
+        let s = start (ring (shape n laps)) passes in
+        AtOnce (ring (shape n laps)) (suc others) schedule s →
+        steps_made (ring (shape n laps)) schedule s
+        ≤ calls_cost (ring (shape n laps)) (cost others) schedule s }
+    ensures overtaken { (n laps cells p : ℕ) (s : State T) (schedule : Schedule (Call T)) →
+        MeetsRule n laps cells s →
+        own_steps (ring (shape n laps)) p schedule s
+        ≤ 47 + 47 * others_win (ring (shape n laps)) p schedule s }
+    ensures unhindered { (n laps cells p : ℕ) (s : State T) (stretch : Schedule (Call T)) →
+        MeetsRule n laps cells s → IsStretch (ring (shape n laps)) p stretch s →
+        own_steps (ring (shape n laps)) p stretch s ≤ 47 }
+{}
+
+/// In every schedule of a ring, what was put is, in the order of the puts, what was taken and then
+/// what is left, which stands in the slots from the front to the back (`ring_core`). Puts and takes
+/// are numbered 0, 1, 2, .. each: so the take numbered k gives the value of the put numbered k.
+pub fn ring_order<T>()
+    ensures values { (n laps passes : ℕ) (schedule : Schedule (Call T)) → 0 < n →
+        let h = (after (ring (shape n laps)) passes schedule).history in
+        values_of (gather sent_of h) ≡ values_of (gather took_of h) ++ (state n laps h).values }
+    ensures puts { (n laps passes : ℕ) (schedule : Schedule (Call T)) → 0 < n →
+        Counts (λ m. m.number) 0
+        (gather sent_of (after (ring (shape n laps)) passes schedule).history) }
+    ensures takes { (n laps passes : ℕ) (schedule : Schedule (Call T)) → 0 < n →
+        Counts (λ m. m.number) 0
+        (gather took_of (after (ring (shape n laps)) passes schedule).history) }
+{}

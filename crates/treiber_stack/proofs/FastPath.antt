@@ -1,0 +1,27 @@
+-- Some steps of an operation after others, where the operation went on.
+use Rattle.std.proofs.Common.{◌≡◌, ℕ, [], subst}
+use Rattle.std.specs.Prelude.{Result}
+use Rattle.bounded_model.specs.declared.answers.PutRefused.{PutRefused}
+use Rattle.bounded_model.specs.declared.answers.TakeRefused.{TakeRefused}
+use Rattle.stack_machine.specs.declared.lines.Answer.TheVariants.{Take as AnswerTake}
+use Rattle.stack_machine.specs.declared.lines.Line.{Line}
+use Rattle.stack_machine.specs.Machine.{ends}
+use Rattle.stack_table.specs.declared.operation.Operation.{Operation}
+use Rattle.stack_table.specs.declared.operation.Operation.TheVariants.{Take as TakeFirst}
+use Rattle.running.specs.declared.passes.Pass.{Pass}
+use Rattle.running.specs.declared.code.Next.{Next}
+use Rattle.running.specs.declared.code.Next.TheVariants.{On}
+use Rattle.running.proofs.Leading.{ran_on}
+use Rattle.treiber_stack.specs.declared.stack.Stack.{Stack}
+use Rattle.treiber_stack.specs.declared.putting.PutAt.{PutAt}
+use Rattle.treiber_stack.specs.declared.taking.TakeAt.{TakeAt}
+use Rattle.treiber_stack.specs.Stack.{machine_of}
+use Rattle.treiber_stack.specs.Putting.{PutRan, put_account}
+use Rattle.treiber_stack.specs.Taking.{TakeRan, take_account}
+
+module _ {T : Type 0} (c : Stack T) (o : Operation T) (p q t : Pass T (Line T)) where
+  pub put_after : (s : PutAt T) (r r' : Next (PutAt T) (Result ℕ (PutRefused T))) → r ≡ On s → PutRan c o p q r → PutRan c o q t r' → PutRan c o p t r'
+  put_after s r r' is first next = ran_on (machine_of c) (put_account c.table.shared.key) c.table.shared.table_id o p q t (subst (PutRan c o p q) is first).2 r' next
+
+  pub take_after : (s : TakeAt T) (r r' : Next (TakeAt T) (Result (T × ℕ) TakeRefused)) → r ≡ On s → TakeRan c o p q r → TakeRan c o q t r' → TakeRan c o p t r'
+  take_after s r r' is first next = ran_on (machine_of c) (take_account c.table.shared.key) c.table.shared.table_id o p q t (subst (TakeRan c o p q) is first).2 r' next

@@ -1,6 +1,0 @@
-use Rattle.std.proofs.Common.{refl}
-use Rattle.treiber_stack.specs.Taking.{giving}
-use Rattle.treiber_stack.proofs.taking.TakeOp.next_step.Goals as goal
-
-pub returns-in-GiveBack : goal.returns-in-GiveBack
-returns-in-GiveBack g c = rw c.in-GiveBack.is (c.give_step.ensures (giving c.in-GiveBack.taken) refl)
