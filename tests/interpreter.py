@@ -1,7 +1,7 @@
 """A plain interpreter of scripts, by which the program is tested.
 
 It is Treiber's stack and Michael and Scott's queue, over a fixed pool of nodes, one load, store or compare-and-swap at a
-time, and it shares nothing with the program but docs/formats.md. An operation is a generator: it makes one atomic step,
+time, and it shares nothing with the program but docs/cli.md. An operation is a generator: it makes one atomic step,
 yields, makes the next, and the step that ends it also returns the answer. Each step is noted in the container's log.
 """
 

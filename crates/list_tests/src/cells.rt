@@ -128,6 +128,25 @@ pub(crate) fn take<R: Abort>(
     try_take::<(), Knows, u64, Cells, 1>(table, seat, 0, top, next, &())
 }
 
+/// Takes the first cell, where no other seat steps. Returns its index.
+pub(crate) fn take_first<R: Abort>(
+    rt: &R,
+    table: &Shared<(), Knows, u64, Cells>,
+    seat: &mut Cell,
+) -> u32
+    requires table { (seat.old.table_id ≡ table.now.table_id) × (table.now.table_id.words ≡ 4)
+        × (table.now.key ≡ TAG_LIMIT) }
+    requires nothing { seat.old.me.0 ≡ Nothing }
+    ensures seat { seat.new.table_id ≡ seat.old.table_id }
+    ensures has { seat.new.me.0 ≡ Has result }
+{
+    let top = look(table, seat);
+    let next = look_below(rt, table, seat, top);
+    let is_taken = take(rt, table, seat, top, next);
+    assert!(rt; is_taken);
+    top.index()
+}
+
 /// Gives a cell held back, where no other seat steps.
 pub(crate) fn give<R: Abort>(
     rt: &R,

@@ -1,5 +1,6 @@
 //! Takes by the list steps, successful and failed.
-use crate::cells::{another, give, look, look_below, made, take};
+use crate::cells::{another, give, look, look_below, made, take, take_first};
+use tagged_index::NULL;
 
 #[test]
 fn a_won_take_gives_the_first_of_the_list(rt: HostRuntime) {
@@ -16,6 +17,25 @@ fn a_won_take_gives_the_first_of_the_list(rt: HostRuntime) {
     assert!(rt; take(&rt, table, &mut other, top, next));
     let top = look(table, &mut other);
     assert_eq!(rt; (top.index(), top.tag()), (2, 2));
+}
+
+#[test]
+fn three_takes_empty_the_list_and_a_cell_given_back_is_taken_next(rt: HostRuntime) {
+    let (table, mut first) = made(&rt);
+    let table = &table.shared;
+    let mut second = another(table, &mut first);
+    let mut third = another(table, &mut first);
+    let mut fourth = another(table, &mut first);
+    assert_eq!(rt; take_first(&rt, table, &mut first), 0);
+    let cell = take_first(&rt, table, &mut second);
+    assert_eq!(rt; cell, 1);
+    assert_eq!(rt; take_first(&rt, table, &mut third), 2);
+    let top = look(table, &mut third);
+    assert_eq!(rt; (top.index(), top.tag()), (NULL, 3));
+    give(&rt, table, &mut second, cell);
+    assert_eq!(rt; take_first(&rt, table, &mut fourth), 1);
+    let top = look(table, &mut fourth);
+    assert_eq!(rt; (top.index(), top.tag()), (NULL, 4));
 }
 
 #[test]

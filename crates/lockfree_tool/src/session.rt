@@ -1,13 +1,14 @@
 //! A run of the program over what a process would give it.
 
-ghost use Rattle.std.specs.Prelude.{◌≡◌, ◌≢◌, IfErr, IfOk, OnErr, OnOk, map, string_bytes};
+ghost use Rattle.std.specs.Prelude.{◌≡◌, ◌≢◌, [], IfErr, IfOk, OnErr, OnOk, map, string_bytes};
+ghost use Rattle.std.specs.Io.Buffered.{writer_buffer};
 ghost use Rattle.streams.specs.declared.failure.Failure.TheVariants.{Output};
 ghost use Rattle.words.specs.Ranges.{AreInRange, AskForDetails, IsDetailed};
 
 use file_relay::{relay_main, relay_measured};
 use script_replay::{replay, replay_traced};
 use std::alloc::{AllocError, Global};
-use std::io::{self, ErrorKind, Read, Write};
+use std::io::{self, BufWriter, ErrorKind, IsTerminal, Read, Write};
 use std::sync::Wait;
 use std::thread::Threads;
 use std::time::Clock;
@@ -20,22 +21,22 @@ use words::{Chosen, WordsRefused, read_words};
 /// `input`.
 ///
 /// The output is flushed before the status is known. A failure is one line on `errors`, by one write
-/// where there is memory for it; behind it stands what is wrong with arguments that are refused.
-/// Where the arguments ask for them, the stats of a relay or the trace of a script are written on
-/// `errors`.
+/// if there is memory for it. If `errors` is a terminal, what is wrong with arguments that are
+/// refused follows their line. If the arguments ask for them, the stats of a relay or the trace of a
+/// script are written on `errors`.
 pub(crate) fn run<
     T: Threads + Wait + Clock + Sync,
     F: OpenFiles,
     I: Read + Drop,
-    O: Write,
-    E: Write,
+    O: Write + Drop,
+    E: Write + IsTerminal,
 >(
     rt: &T,
     alloc: Global,
     words: io::Result<Vec<String>>,
     files: &F,
     input: I,
-    output: &mut O,
+    output: &mut BufWriter<O>,
     errors: &mut E,
 ) -> u8
     // A run that is done writes no error, unless the arguments ask for stats or for a trace.
@@ -44,13 +45,15 @@ pub(crate) fn run<
         → errors.new ≡ errors.old }
     // Nothing is written where the arguments, a text, a file or a relay failed.
     ensures unwritten { result ≢ 0 → result ≢ 5 → output.new ≡ output.old }
+    // Of a run that is done no output is left in the buffer.
+    ensures flushed { result ≡ 0 → writer_buffer output.new ≡ [] }
 {
     let chosen = match choose(alloc, words) {
         Ok(chosen) => chosen,
         Err(refused) => return refuse(alloc, &refused, output, errors),
     };
     match attempt(rt, alloc, chosen, files, input, output, errors) {
-        Ok(()) => 0,
+        Ok(()) => finish(alloc, output, errors),
         Err(failure) => fail(alloc, failure, errors),
     }
 }
@@ -73,28 +76,43 @@ fn choose(alloc: Global, words: io::Result<Vec<String>>) -> Result<Chosen, Words
     read_words(alloc, &texts)
 }
 
-// Writes the help or the version, or what is wrong with the arguments. Returns the status.
-fn refuse<O: Write, E: Write>(
+// Writes the help or the version, or that the arguments are refused, and on a terminal what is wrong
+// with them. Returns the status.
+fn refuse<O: Write + Drop, E: Write + IsTerminal>(
     alloc: Global,
     refused: &WordsRefused,
-    output: &mut O,
+    output: &mut BufWriter<O>,
     errors: &mut E,
 ) -> u8
     ensures silent { result ≡ 0 → errors.new ≡ errors.old }
     ensures unwritten { result ≢ 0 → result ≢ 5 → output.new ≡ output.old }
+    ensures flushed { result ≡ 0 → writer_buffer output.new ≡ [] }
 {
     match refused {
-        WordsRefused::Help(text) => {
-            let Err(failure) = write_help(text, output) else {
-                return 0;
-            };
-            fail(alloc, failure, errors)
-        }
+        WordsRefused::Help(text) => match write_help(text, output) {
+            Ok(()) => finish(alloc, output, errors),
+            Err(failure) => fail(alloc, failure, errors),
+        },
         WordsRefused::Bad(reason) => {
             let status = fail(alloc, Failure::CommandLine, errors);
-            let _ = write!(errors, "{reason}");
+            if errors.is_terminal() {
+                let _ = write!(errors, "{reason}");
+            }
             status
         }
+    }
+}
+
+// Flushes the output of a run that is done, and returns the status. The calls that write have
+// flushed it too; here it is known of its buffer.
+fn finish<O: Write + Drop, E: Write>(alloc: Global, output: &mut BufWriter<O>, errors: &mut E) -> u8
+    ensures silent { result ≡ 0 → errors.new ≡ errors.old }
+    ensures flushed { result ≡ 0 → writer_buffer output.new ≡ [] }
+    ensures failed { result ≢ 0 → result ≡ 5 }
+{
+    match output.flush() {
+        Ok(()) => 0,
+        Err(_) => fail(alloc, Failure::Output, errors),
     }
 }
 
@@ -153,6 +171,5 @@ fn attempt<T: Threads + Wait + Clock + Sync, F: OpenFiles, I: Read + Drop, O: Wr
 fn write_help<O: Write>(help: &clap::Error, output: &mut O) -> Result<(), Failure>
     ensures { IfErr result (λ failure. failure ≡ Output) }
 {
-    write!(output, "{help}").map_err(|_| Failure::Output)?;
-    output.flush().map_err(|_| Failure::Output)
+    write!(output, "{help}").map_err(|_| Failure::Output)
 }

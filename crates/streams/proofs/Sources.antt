@@ -1,5 +1,6 @@
 -- The sources of the names so far.
-use Rattle.std.proofs.Common.{◌≡◌, ℕ, ◌+◌, ◌<◌, ◌≤◌, List, [], ◌∷◌, ◌++◌, length, map, take, get_or, cond, count_by, ap, sym, ◌∙◌, arith, Bool, Option, None, Some}
+use Rattle.std.proofs.Common.{◌≡◌, ℕ, zero, suc, refl, ◌+◌, ◌<◌, ◌≤◌, List, [], ◌∷◌, ◌++◌, length, map, take, get_or, cond, count_by, ap, sym, ◌∙◌, arith, Bool, Option, None, Some, Result, Ok, Err, IfNone}
+use Rattle.std.specs.Option.{ok_or}
 use Rattle.std.proofs.lemmas.List.{take_more, map-append}
 use Rattle.std.proofs.lemmas.List.Sums.{sum_by-append}
 use Rattle.std.specs.List.{AllZip}
@@ -24,8 +25,27 @@ names-more text names place name within at =
     ∙ ap (λ n. map text (take place names) ++ text n ∷ []) (sym at)
 
 -- one more source, which took the standard input or left it
-pub once-more : {X : Type 0} (p : X → Bool) (xs : List X) (x : X) (before after : ℕ) → count_by p (x ∷ []) + after ≡ before → count_by p xs + before ≤ 1
-    → count_by p (xs ++ x ∷ []) + after ≤ 1
-once-more p xs x before after used once =
+pub once-more : {X : Type 0} (p : X → Bool) (xs : List X) (x : X) (first before after : ℕ) → count_by p (x ∷ []) + after ≡ before → count_by p xs + before ≡ first
+    → count_by p (xs ++ x ∷ []) + after ≡ first
+once-more p xs x first before after used left =
     let more : count_by p (xs ++ x ∷ []) ≡ count_by p xs + count_by p (x ∷ []) = sum_by-append (λ y. cond (p y) 1 0) xs (x ∷ []) in
-    omega (arith, more, used, once)
+    omega (arith, more, used, left)
+
+-- the names around a place, and how many are before it
+pub names-around : {N : Type 0} (text : N → List ℕ) (names : List N) (place : ℕ) (name : N) → place < length names → name ≡ get_or names place name
+    → (after : List (List ℕ)) × (map text names ≡ map text (take place names) ++ text name ∷ after) × (length (map text (take place names)) ≡ place)
+names-around text [] place name within at = absurd (omega (arith, within))
+names-around text (n ∷ names) zero name within at = (map text names, ap (λ m. text m ∷ map text names) (sym at), refl)
+names-around text (n ∷ names) (suc place) name within at =
+    let rest = names-around text names place name (omega (arith, within)) at in
+    (rest.0, ap (λ (ts : List (List ℕ)). text n ∷ ts) rest.1, omega (arith, rest.2))
+
+error_of : {S E : Type 0} → E → Result S E → E
+error_of default (Ok s) = default
+error_of default (Err e) = e
+
+-- what was asked for is not there, and so this is the error
+pub none-there : {S E : Type 0} (found : Option S) (why given : E) (P : Type 0) → Err why ≡ ok_or found given → IfNone found P → (why ≡ given) × P
+unfolding error_of
+none-there None why error P is none = (ap (error_of error) is, none)
+none-there (Some s) why error P is none = absurd cc

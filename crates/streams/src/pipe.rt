@@ -3,7 +3,7 @@
 ghost use Rattle.std.specs.Prelude.{◌≡◌};
 
 use std::cell::Cell;
-use std::io::{self, ErrorKind, Write};
+use std::io::{self, ErrorKind, IsTerminal, Write};
 
 /// Standard output. It notes where a write finds that its reader has gone.
 #[derive(Drop)]
@@ -67,5 +67,11 @@ impl<W: Write + Drop> Write for Errors<'_, W> {
 
     fn flush(&mut self) -> io::Result<()> {
         self.writer.flush()
+    }
+}
+
+impl<W: Write + IsTerminal + Drop> IsTerminal for Errors<'_, W> {
+    fn is_terminal(&self) -> bool {
+        self.writer.is_terminal()
     }
 }

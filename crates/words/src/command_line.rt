@@ -14,16 +14,17 @@ pub const MAX_COUNT: u32 = 65_535;
 pub const MAX_FILES: usize = 16;
 
 /// The program's version.
-pub const VERSION: &str = "0.1.0";
+pub const VERSION: &str = "0.2.0";
 
 // The parser breaks no lines: with these texts its own stay within 80 columns.
-const ABOUT: &str = "Runs bounded lock-free containers: replays a script of calls on one,
-or relays the lines of files through one";
+const ABOUT: &str = "Replays a script of calls on a bounded lock-free container, or relays the
+lines of files through one";
 
-const EXAMPLES: &str = "A container is a queue, from which the first value in comes out first, or a
-stack, from which the last value in comes out first. Without arguments, a script
-is read from standard input. For the rest see `lockfree relay --help` and
-`lockfree replay --help`.
+const EXAMPLES: &str =
+    "A container is a queue (first in, first out) or a stack (last in, first out).
+Without arguments, a script is read from standard input. See also
+`lockfree replay --help` and `lockfree relay --help`. The formats of scripts and
+replies, and all exit statuses, are in docs/cli.md.
 
 Examples:
   lockfree < script.txt
@@ -31,11 +32,14 @@ Examples:
   lockfree relay --kind queue --capacity 1024 --consumers 4 a.txt b.txt";
 
 const ABOUT_REPLAY: &str = "Replays a script of calls, and writes a reply for each line after
-the first";
+the first. Use it to see what each atomic step of a call does";
 
 const REPLAY_EXAMPLE: &str =
-    "A queue gives its values in the order of their puts, a stack the last one
-first.
+    "The first line of a script makes the container: its kind, its capacity, and its
+tag limit. Every put and take raises a tag. At the limit the container is worn
+out: calls are refused as spent. The greatest limit is 4398046511103. A small
+one shows what happens then. Every other line is a call of a pass, which one
+letter names. docs/cli.md describes all lines and replies.
 
 Example:
   printf 'stack 2 7\\na put x\\na put y\\na take\\n' | lockfree replay -
@@ -54,7 +58,8 @@ and with --trace it writes on standard error, for the last line,
 
 const ABOUT_RELAY: &str = "Relays the lines of files through one container: a thread for each
 file puts its lines in, others take lines out. Writes how many lines
-of each file were delivered, left and unsent";
+of each file were delivered, left and unsent, so that a lost or
+doubled line would show";
 
 const RELAY_USAGE: &str = "lockfree relay [OPTIONS] --kind <KIND> --capacity <N> --consumers <C>
                       <FILE>...";
@@ -160,7 +165,7 @@ fn take<'a>(alloc: Global) -> Arg<'a> {
         .value_name("K")
         .value_parser(value_parser!(u32).range(0..=i64::from(MAX_COUNT)))
         .help(
-            "Each consumer ends after K lines, 0 to 65,535; the\nfiles then have N + C * K lines at most",
+            "Each consumer ends after K lines, 0 to 65,535. All\nfiles together may then have at most N + C * K lines",
         )
 }
 
