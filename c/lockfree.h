@@ -1,4 +1,5 @@
-/* A bounded queue and a bounded stack that many threads share without locks, proved. For C and C++.
+/* A bounded queue and a bounded stack that many threads share without locks. For C and C++. The functions are
+ * proved; the inline ones at the end are tested.
  *
  * What the library keeps in your memory is a handle: a root or a pass of one container. All zero
  * bytes are an empty handle. A root gives passes, one to each thread; a pass makes the calls. Each
@@ -15,12 +16,17 @@
  *   - no call is made in a signal handler, or in the child of a fork of a process with threads.
  *
  * Other misuse of a handle, and all else that can go wrong in a call, is answered by a code, and then
- * nothing has changed but what is said here. No call but the two _new, _split, _free and those of a range
- * takes or gives back memory. None waits for another thread: each makes a bounded number of steps, but for
- * the inline functions at the end, which go on until they have another answer than BUSY.
+ * nothing has changed but what is said here. No call but those that make a container, _split, _free, the first
+ * _finish of a container and those of a range takes or gives back memory. None waits for another thread: each ends,
+ * which is proved, and by its code after a bounded number of steps. The inline functions at the end go on until they
+ * have another answer than BUSY.
  */
 #ifndef LOCKFREE_H
 #define LOCKFREE_H
+
+/* This header's version: 10,000 times the first number, 100 times the second, and the third. A program that may
+ * meet another archive than this header's compares it with lockfree_version(). */
+#define LOCKFREE_H_VERSION 200 /* 0.2.0 */
 
 #include <stdbool.h>
 #include <stddef.h>
@@ -33,20 +39,24 @@ extern "C" {
 enum {
     LOCKFREE_OK = 0,
     LOCKFREE_FULL = 1,          /* put: each cell holds a value or is held by a call */
-    LOCKFREE_EMPTY = 2,         /* take, fold: no value, and more may come. look: it was empty. range_put: no value was added */
+    LOCKFREE_EMPTY = 2,         /* take, fold: no value, and more may come. look: it was empty. range_put: no value was added.
+                                   finish: nothing is left */
     LOCKFREE_CLOSED = 3,        /* put: closed. take, fold: no value, and none will come. close: it was closed before */
     LOCKFREE_SHUT = 4,          /* take, fold: shut. shut: it was shut before */
-    LOCKFREE_SPENT = 5,         /* put, take, fold: a tag is at its limit of 2^42 - 1; number is the tag */
+    LOCKFREE_SPENT = 5,         /* put, take, fold: a tag is at its limit of 2^42 - 1; value is the tag */
     LOCKFREE_BUSY = 6,          /* the tries are used up: go on with lockfree_go_on */
     LOCKFREE_UNDER_WAY = 7,     /* the pass has a call under way: lockfree_go_on first. Or a range's values: lockfree_range_put first */
     LOCKFREE_NO_CALL = 8,       /* go_on: the pass has no call under way */
     LOCKFREE_NO_MEMORY = 9,
     LOCKFREE_NO_PASS = 10,      /* split: the root has given as many passes as it may, 65,535 */
-    LOCKFREE_BAD_CAPACITY = 11, /* new: a capacity is 1 to 1,048,573 */
-    LOCKFREE_OTHER_HANDLE = 12, /* a root in the place of a pass, or the other way round. fold, range: or a queue's pass */
+    LOCKFREE_BAD_CAPACITY = 11, /* new: a capacity is 1 to 1,048,573. limited: and a limit of tags 2 to 2^42 - 1 */
+    LOCKFREE_OTHER_HANDLE = 12, /* a root in the place of a pass, or the other way round. fold, range: or a queue's pass.
+                                   count: or a stack's pass */
     LOCKFREE_NO_HANDLE = 13,    /* the handle is empty: never made, or freed */
     LOCKFREE_IN_USE = 14,       /* the handle to be made is not empty */
-    LOCKFREE_VALUE = 15         /* fold: value is the next one, and the fold is under way: go on with lockfree_go_on */
+    LOCKFREE_VALUE = 15,        /* fold: value is the next one, and the fold is under way: go on with lockfree_go_on.
+                                   finish: value is the next one of what is left */
+    LOCKFREE_SHARED = 16        /* finish: another handle of the container is still out */
 };
 
 typedef struct lockfree_handle {
@@ -54,18 +64,26 @@ typedef struct lockfree_handle {
     bool full;
 } lockfree_handle;
 
-/* value: of a take that is done; the next one of a fold, and of a fold that is done how many there were; of a
- * range_put that is done how many were put. number: of a put, a take or a fold that is done, counted from 0
- * (puts and takes of a queue each by themselves, those of a stack together); of one that is spent, the tag. */
+/* A code, and what it says. value is: of a put that is OK its number, of a take its value, of a fold how many
+ * there were, of a range_put how many were put, of a count how many there are; of a fold or a finish that is VALUE
+ * the next value; of what is SPENT the tag. What is not said is 0. It comes back in two registers. */
 typedef struct lockfree_answer {
     uint64_t value;
-    uint64_t number;
     uint32_t code;
 } lockfree_answer;
+
+/* The version of the archive, to be compared with LOCKFREE_H_VERSION. */
+uint32_t lockfree_version(void);
 
 /* A new container, and its root in an empty handle. OK, BAD_CAPACITY, NO_MEMORY, IN_USE. */
 uint32_t lockfree_queue_new(lockfree_handle *root, uint32_t capacity);
 uint32_t lockfree_stack_new(lockfree_handle *root, uint32_t capacity);
+
+/* The same, with a limit for its tags, 2 to 2^42 - 1: for tests of what a program does once a container is SPENT. A
+ * queue of limit n takes n or n - 1 values in its life, and a stack makes n puts and takes in all; puts that find it
+ * closed count too. */
+uint32_t lockfree_queue_limited(lockfree_handle *root, uint32_t capacity, uint64_t tag_limit);
+uint32_t lockfree_stack_limited(lockfree_handle *root, uint32_t capacity, uint64_t tag_limit);
 
 /* A new pass in an empty handle. OK, NO_PASS, NO_MEMORY, OTHER_HANDLE, NO_HANDLE, IN_USE. */
 uint32_t lockfree_split(lockfree_handle *root, lockfree_handle *pass);
@@ -74,6 +92,14 @@ uint32_t lockfree_split(lockfree_handle *root, lockfree_handle *pass);
  * value is out of reach, and its cell stays held; of a fold, all that it has not handed out are, and the
  * cells of all; of a range_put, all of its values, and the cells that it has. OK, NO_HANDLE. */
 uint32_t lockfree_free(lockfree_handle *handle);
+
+/* Ends a container whose root is its only handle, and hands out what is left in it, one value an answer: a queue's
+ * from the front, a stack's from the top. It asks for no memory, no pass and no tag, so that it empties a container
+ * that is spent, too. Where another handle of the container is out it is SHARED, and nothing has changed: free the
+ * passes first. From its first VALUE or EMPTY on the root gives no pass (OTHER_HANDLE); lockfree_free ends it, with
+ * what was not handed out. A value that a freed pass had under way is not among what is left.
+ * VALUE, EMPTY, SHARED, OTHER_HANDLE, NO_HANDLE. */
+lockfree_answer lockfree_finish(lockfree_handle *root);
 
 /* The calls of a pass. Each makes its fast path, and where that does not end it at most so many steps
  * more as a call makes where nobody interferes, and those of `tries` tries more; 0 is allowed. Then it
@@ -89,6 +115,12 @@ lockfree_answer lockfree_close(lockfree_handle *pass, uint64_t tries);
 lockfree_answer lockfree_shut(lockfree_handle *pass, uint64_t tries);
 lockfree_answer lockfree_look(lockfree_handle *pass, uint64_t tries);
 lockfree_answer lockfree_go_on(lockfree_handle *pass, uint64_t tries);
+
+/* The number of the call of this pass that ended last: of a put, a take, a fold or a range_put that was OK; of another
+ * 0, and before the first. Numbers are counted from 0 over the calls of all passes: a queue's puts and its takes each
+ * by themselves, those of a stack together. So they tell how far a container is worn: it is spent near 2^42 of them.
+ * OK, UNDER_WAY, OTHER_HANDLE, NO_HANDLE. */
+lockfree_answer lockfree_number(lockfree_handle *pass);
 
 /* A fold of all values of a stack: one compare-and-swap takes them all, so that what is put after it is
  * not among them. It hands them out one after another, from the top down, or reversed, from the bottom
@@ -108,6 +140,34 @@ lockfree_answer lockfree_fold(lockfree_handle *pass, bool reversed, uint64_t tri
  * put: OK; FULL, CLOSED, SPENT, EMPTY, and then none was put; BUSY, UNDER_WAY, OTHER_HANDLE, NO_HANDLE */
 uint32_t lockfree_range_add(lockfree_handle *pass, uint64_t value);
 lockfree_answer lockfree_range_put(lockfree_handle *pass, uint64_t tries);
+
+/* Under ThreadSanitizer, which does not see the library's atomics, each call tells it what they order: of all
+ * containers together, so that it reports no race that is none, and misses such as are hidden behind calls of another
+ * container. */
+#if defined(__SANITIZE_THREAD__)
+#define LOCKFREE_TELLS_TSAN 1
+#elif defined(__has_feature)
+#if __has_feature(thread_sanitizer)
+#define LOCKFREE_TELLS_TSAN 1
+#endif
+#endif
+#ifdef LOCKFREE_TELLS_TSAN
+void __tsan_acquire(void *);
+void __tsan_release(void *);
+#define LOCKFREE_TOLD(call) (__tsan_release(&lockfree_order), lockfree_heard(call))
+__attribute__((weak)) char lockfree_order;
+static inline lockfree_answer lockfree_heard(lockfree_answer answer)
+{
+    __tsan_acquire(&lockfree_order);
+    return answer;
+}
+#define lockfree_put(pass, value, tries) LOCKFREE_TOLD((lockfree_put)(pass, value, tries))
+#define lockfree_take(pass, tries) LOCKFREE_TOLD((lockfree_take)(pass, tries))
+#define lockfree_go_on(pass, tries) LOCKFREE_TOLD((lockfree_go_on)(pass, tries))
+#define lockfree_fold(pass, reversed, tries) LOCKFREE_TOLD((lockfree_fold)(pass, reversed, tries))
+#define lockfree_range_put(pass, tries) LOCKFREE_TOLD((lockfree_range_put)(pass, tries))
+#define lockfree_finish(root) LOCKFREE_TOLD((lockfree_finish)(root))
+#endif
 
 /* Goes on until there is another answer than BUSY. */
 static inline lockfree_answer lockfree_until(lockfree_handle *pass, lockfree_answer answer)
@@ -150,6 +210,19 @@ static inline uint64_t lockfree_consume_all(lockfree_handle *pass, void (*use)(u
     return count;
 }
 
+/* Ends a container and hands all that is left to `use`; answers how many there were. The root is then to be freed.
+ * Nothing where lockfree_finish refuses. */
+static inline uint64_t lockfree_finish_all(lockfree_handle *root, void (*use)(uint64_t value, void *with), void *with)
+{
+    uint64_t count = 0;
+    lockfree_answer answer;
+    while ((answer = lockfree_finish(root)).code == LOCKFREE_VALUE) {
+        use(answer.value, with);
+        count++;
+    }
+    return count;
+}
+
 /* Takes all values of a stack at once and hands them to `use`, which makes no call with this pass. OK, or
  * why there were none; *count is how many. */
 static inline uint32_t lockfree_consume_all_atomic(lockfree_handle *pass, bool reversed,
@@ -169,7 +242,7 @@ static inline uint32_t lockfree_consume_all_atomic(lockfree_handle *pass, bool r
  * where it refused the first value. */
 static inline lockfree_answer lockfree_push_range(lockfree_handle *pass, const uint64_t *values, size_t count)
 {
-    lockfree_answer answer = {0, 0, LOCKFREE_OK};
+    lockfree_answer answer = {0, LOCKFREE_OK};
     size_t added = 0;
     while (added < count && (answer.code = lockfree_range_add(pass, values[added])) == LOCKFREE_OK)
         added++;

@@ -1,29 +1,11 @@
 /* Plain C: each code that one thread can meet, misuse among them; refused memory; and 4 + 4 threads. */
 #include "lockfree.h"
 
+#include "check.h"
 #include <pthread.h>
 #include <sched.h>
-#include <stdio.h>
-#include <stdlib.h>
-
-#define CHECK(holds)                                                         \
-    do {                                                                     \
-        if (!(holds)) {                                                      \
-            printf("%s:%d: not so: %s\n", __FILE__, __LINE__, #holds);       \
-            exit(1);                                                         \
-        }                                                                    \
-    } while (0)
 
 typedef uint32_t make_new(lockfree_handle *root, uint32_t capacity);
-
-/* The Nth allocation from now is refused; 0: none is (linked with --wrap). */
-static long refused = 0;
-void *__real_malloc(size_t size);
-void *__real_realloc(void *at, size_t size);
-void *__wrap_malloc(size_t size);
-void *__wrap_realloc(void *at, size_t size);
-void *__wrap_malloc(size_t size) { return refused > 0 && --refused == 0 ? NULL : __real_malloc(size); }
-void *__wrap_realloc(void *at, size_t size) { return refused > 0 && --refused == 0 ? NULL : __real_realloc(at, size); }
 
 static void codes_of_handles(make_new *make)
 {
@@ -49,13 +31,14 @@ static void codes_of_calls(make_new *make, int first_out)
     CHECK(make(&root, 2) == LOCKFREE_OK && lockfree_split(&root, &a) == LOCKFREE_OK && lockfree_split(&root, &b) == LOCKFREE_OK);
     CHECK(lockfree_pop(&a, &value) == LOCKFREE_EMPTY && lockfree_look(&a, 9).code == LOCKFREE_EMPTY);
     lockfree_answer put = lockfree_put(&a, 10, 0);
-    CHECK(put.code == LOCKFREE_OK && put.number == 0);
+    CHECK(put.code == LOCKFREE_OK && put.value == 0);
     put = lockfree_put(&b, 20, 9);
-    CHECK(put.code == LOCKFREE_OK && put.number == 1 && lockfree_push(&a, 30) == LOCKFREE_FULL);
+    CHECK(put.code == LOCKFREE_OK && put.value == 1 && lockfree_push(&a, 30) == LOCKFREE_FULL);
     CHECK(lockfree_look(&a, 9).code == LOCKFREE_OK);
     CHECK(lockfree_pop(&b, &value) == LOCKFREE_OK && value == (first_out ? 10u : 20u));
     lockfree_answer taken = lockfree_take(&a, 9);
-    CHECK(taken.code == LOCKFREE_OK && taken.value == (first_out ? 20u : 10u) && taken.number == (first_out ? 1u : 3u));
+    CHECK(taken.code == LOCKFREE_OK && taken.value == (first_out ? 20u : 10u));
+    CHECK(lockfree_number(&a).value == (first_out ? 1u : 3u));
     CHECK(lockfree_push(&a, 40) == LOCKFREE_OK);
     CHECK(lockfree_close(&a, 9).code == LOCKFREE_OK && lockfree_close(&b, 9).code == LOCKFREE_CLOSED);
     CHECK(lockfree_push(&b, 1) == LOCKFREE_CLOSED && lockfree_pop(&b, &value) == LOCKFREE_OK && value == 40);
@@ -208,7 +191,7 @@ static void folding(bool reversed)
         CHECK(lockfree_split(&pass, &root) == LOCKFREE_IN_USE && lockfree_look(&other, 9).code == LOCKFREE_EMPTY);
         answer = lockfree_go_on(&pass, 9);
     }
-    CHECK(answer.code == LOCKFREE_OK && answer.number == 3 && answer.value == 3);
+    CHECK(answer.code == LOCKFREE_OK && answer.value == 3 && lockfree_number(&pass).value == 3);
     CHECK(lockfree_go_on(&pass, 9).code == LOCKFREE_NO_CALL && lockfree_fold(&pass, reversed, 9).code == LOCKFREE_EMPTY);
     for (uint64_t i = 0; i < 8; i++) /* its cells are free again */
         CHECK(lockfree_push(&other, i) == LOCKFREE_OK);
@@ -274,7 +257,7 @@ static void collecting(void)
         CHECK(lockfree_split(&pass, &root) == LOCKFREE_IN_USE && lockfree_look(&other, 9).code == LOCKFREE_EMPTY);
     }
     lockfree_answer put = lockfree_range_put(&pass, 0);
-    CHECK(put.code == LOCKFREE_OK && put.number == 2 && put.value == 3); /* after one put and one take */
+    CHECK(put.code == LOCKFREE_OK && put.value == 3 && lockfree_number(&pass).value == 2); /* after one put and one take */
     CHECK(lockfree_go_on(&pass, 9).code == LOCKFREE_NO_CALL && lockfree_range_put(&pass, 9).code == LOCKFREE_EMPTY);
     pops(&other, 3), pops(&pass, 2), pops(&other, 1);
     adds(&pass, 1, 2);
@@ -296,12 +279,12 @@ static void ranges(void)
     CHECK(lockfree_stack_new(&root, 4) == LOCKFREE_OK && lockfree_split(&root, &pass) == LOCKFREE_OK && lockfree_split(&root, &other) == LOCKFREE_OK);
     CHECK(lockfree_push_range(&pass, seven, 0).code == LOCKFREE_EMPTY);
     lockfree_answer put = lockfree_push_range(&pass, seven, 7);
-    CHECK(put.code == LOCKFREE_OK && put.number == 0 && put.value == 4);
+    CHECK(put.code == LOCKFREE_OK && put.value == 4 && lockfree_number(&pass).value == 0);
     CHECK(lockfree_push_range(&pass, seven, 2).code == LOCKFREE_FULL && lockfree_push(&pass, 8) == LOCKFREE_FULL);
     pops(&other, 4), pops(&pass, 3);
     adds(&pass, 11, 13);
     put = lockfree_range_put(&pass, 9);
-    CHECK(put.code == LOCKFREE_OK && put.number == 3 && put.value == 2);
+    CHECK(put.code == LOCKFREE_OK && put.value == 2 && lockfree_number(&pass).value == 3);
     pops(&other, 12), pops(&pass, 11), pops(&other, 2), pops(&pass, 1);
     adds(&pass, 1, 2);
     CHECK(lockfree_close(&other, 9).code == LOCKFREE_OK && lockfree_range_put(&pass, 9).code == LOCKFREE_CLOSED);

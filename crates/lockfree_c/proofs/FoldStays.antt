@@ -13,19 +13,20 @@ use Rattle.treiber_stack.specs.declared.fold_op.FoldOp.{FoldOp}
 use Rattle.treiber_stack.specs.declared.stack.Stack.{Stack}
 use Rattle.treiber_stack.specs.Stack.{IsPassOf}
 use Rattle.bounded_calls.specs.Readings.{stack_reading}
+use Rattle.lockfree_c.specs.Codes.{bare, fold_number}
 use Rattle.lockfree_c.specs.Held.{IsHeld, IsStackFold, IsStackPass, FoldLeft, StackFolded}
 use Rattle.lockfree_c.specs.Stages.{Rests}
 use Rattle.lockfree_c.specs.declared.answers.Answer.{Answer}
 use Rattle.lockfree_c.specs.declared.answers.TheConstants.{UNDER_WAY}
 use Rattle.lockfree_c.specs.declared.held.Held.{Held}
-use Rattle.lockfree_c.specs.declared.held.Held.TheVariants.{Nothing, QueueRoot as OfQueueRoot, QueuePass as OfQueuePass, StackRoot as OfStackRoot, StackPass as OfStackPass, StackFold as OfStackFold, StackRange as OfStackRange, StackRangePut as OfStackRangePut}
+use Rattle.lockfree_c.specs.declared.held.Held.TheVariants.{Nothing, QueueRoot as OfQueueRoot, QueuePass as OfQueuePass, StackRoot as OfStackRoot, StackPass as OfStackPass, StackFold as OfStackFold, StackRange as OfStackRange, StackRangePut as OfStackRangePut, QueueRest as OfQueueRest, StackRest as OfStackRest}
 use Rattle.lockfree_c.specs.declared.held.StackFold.{StackFold}
 use Rattle.lockfree_c.specs.declared.held.StackPass.{StackPass}
 use Rattle.lockfree_c.proofs.Stays.{At}
 
 -- a stack's pass that rests
-pub comes_to_rest : (c : Stack ℕ) (back : Pass ℕ (Line ℕ)) (p : StackPass) → IsPassOf c back → p.stack.value ≡ c → Rests p.stage back → IsStackPass p
-comes_to_rest c back p is same rests =
+pub comes_to_rest : (c : Stack ℕ) (back : Pass ℕ (Line ℕ)) (n : ℕ) (p : StackPass) → IsPassOf c back → p.stack.value ≡ c → Rests p.stage back n → IsStackPass p
+comes_to_rest c back n p is same rests =
     subst (λ x. At (stack_reading p.stack.value) x p.stage.under_way) (sym rests.0) (subst (λ s. IsPassOf s back) (sym same) is, rests.1)
 
 module _ (c : Stack ℕ) (front : Front) where
@@ -36,7 +37,7 @@ module _ (c : Stack ℕ) (front : Front) where
   pub fold_stays : (values : List ℕ) (begun : PassView ℕ) (made : FoldMade ℕ) (g : Held) (a : Answer) → FoldTried c front values begun made → FoldLeft c made g a → IsHeld g
   fold_stays values begun (Again op) (OfStackFold f) a tried left = goes_on values op f tried.0 left.0 left.1
   fold_stays values begun (Value x op) (OfStackFold f) a tried left = goes_on (values ++ x ∷ []) op f tried.0 left.0 left.1
-  fold_stays values begun (Done back said) (OfStackPass p) a tried left = comes_to_rest c back p tried.0 left.0 left.1
+  fold_stays values begun (Done back said) (OfStackPass p) a tried left = comes_to_rest c back (fold_number said) p tried.0 left.0 left.1
   fold_stays values begun (Again op) Nothing a tried left = absurd left
   fold_stays values begun (Again op) (OfQueueRoot r) a tried left = absurd left
   fold_stays values begun (Again op) (OfQueuePass p) a tried left = absurd left
@@ -44,6 +45,8 @@ module _ (c : Stack ℕ) (front : Front) where
   fold_stays values begun (Again op) (OfStackPass p) a tried left = absurd left
   fold_stays values begun (Again op) (OfStackRange r) a tried left = absurd left
   fold_stays values begun (Again op) (OfStackRangePut r) a tried left = absurd left
+  fold_stays values begun (Again op) (OfQueueRest r) a tried left = absurd left
+  fold_stays values begun (Again op) (OfStackRest r) a tried left = absurd left
   fold_stays values begun (Value x op) Nothing a tried left = absurd left
   fold_stays values begun (Value x op) (OfQueueRoot r) a tried left = absurd left
   fold_stays values begun (Value x op) (OfQueuePass p) a tried left = absurd left
@@ -51,6 +54,8 @@ module _ (c : Stack ℕ) (front : Front) where
   fold_stays values begun (Value x op) (OfStackPass p) a tried left = absurd left
   fold_stays values begun (Value x op) (OfStackRange r) a tried left = absurd left
   fold_stays values begun (Value x op) (OfStackRangePut r) a tried left = absurd left
+  fold_stays values begun (Value x op) (OfQueueRest r) a tried left = absurd left
+  fold_stays values begun (Value x op) (OfStackRest r) a tried left = absurd left
   fold_stays values begun (Done back said) Nothing a tried left = absurd left
   fold_stays values begun (Done back said) (OfQueueRoot r) a tried left = absurd left
   fold_stays values begun (Done back said) (OfQueuePass p) a tried left = absurd left
@@ -58,10 +63,12 @@ module _ (c : Stack ℕ) (front : Front) where
   fold_stays values begun (Done back said) (OfStackFold f) a tried left = absurd left
   fold_stays values begun (Done back said) (OfStackRange r) a tried left = absurd left
   fold_stays values begun (Done back said) (OfStackRangePut r) a tried left = absurd left
+  fold_stays values begun (Done back said) (OfQueueRest r) a tried left = absurd left
+  fold_stays values begun (Done back said) (OfStackRest r) a tried left = absurd left
 
 -- a fold that a pass at rest began
 pub folded : (p : StackPass) (by : Pass ℕ (Line ℕ)) (front : Front) (g : Held) (a : Answer) → p.stage.resting ≡ Some by
     → (made : FoldMade ℕ) → FoldTried p.stack.value front [] (pass_in by) made → FoldLeft p.stack.value made g a → StackFolded p front g a
 folded p by front g a rests made tried left =
-    subst (λ x. MatchOption x ((a.code ≡ UNDER_WAY) × (g ≡ OfStackPass p)) (λ b. (m : FoldMade ℕ) × FoldTried p.stack.value front [] (pass_in b) m × FoldLeft p.stack.value m g a))
+    subst (λ x. MatchOption x ((a ≡ bare UNDER_WAY) × (g ≡ OfStackPass p)) (λ b. (m : FoldMade ℕ) × FoldTried p.stack.value front [] (pass_in b) m × FoldLeft p.stack.value m g a))
     (sym rests) (made, tried, left)

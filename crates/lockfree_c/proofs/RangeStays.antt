@@ -7,10 +7,11 @@ use Rattle.bounded_model.specs.declared.views.PassView.{PassView}
 use Rattle.treiber_stack.specs.RangeTrying.{IsRanging, RangeTried}
 use Rattle.treiber_stack.specs.declared.range_trying.RangeOp.{RangeOp}
 use Rattle.treiber_stack.specs.declared.stack.Stack.{Stack}
+use Rattle.lockfree_c.specs.Codes.{range_number}
 use Rattle.lockfree_c.specs.Held.{IsHeld, IsStackRangePut, RangeLeft, RangeMade}
 use Rattle.lockfree_c.specs.declared.answers.Answer.{Answer}
 use Rattle.lockfree_c.specs.declared.held.Held.{Held}
-use Rattle.lockfree_c.specs.declared.held.Held.TheVariants.{Nothing, QueueRoot as OfQueueRoot, QueuePass as OfQueuePass, StackRoot as OfStackRoot, StackPass as OfStackPass, StackFold as OfStackFold, StackRange as OfStackRange, StackRangePut as OfStackRangePut}
+use Rattle.lockfree_c.specs.declared.held.Held.TheVariants.{Nothing, QueueRoot as OfQueueRoot, QueuePass as OfQueuePass, StackRoot as OfStackRoot, StackPass as OfStackPass, StackFold as OfStackFold, StackRange as OfStackRange, StackRangePut as OfStackRangePut, QueueRest as OfQueueRest, StackRest as OfStackRest}
 use Rattle.lockfree_c.specs.declared.held.StackRangePut.{StackRangePut}
 use Rattle.lockfree_c.proofs.FoldStays.{comes_to_rest}
 
@@ -29,7 +30,7 @@ module _ (c : Stack ℕ) where
 
   pub range_stays : (values : List ℕ) (begun : PassView ℕ) (places : List (Option ℕ)) (made : RangeMade) (g : Held) (a : Answer) → RangeTried c values begun places made → RangeLeft c places made g a → IsHeld g
   range_stays values begun places (Again op) (OfStackRangePut r) a tried left = goes_on values places op r tried.0 left.0 left.1 left.2
-  range_stays values begun places (Done back said) (OfStackPass p) a tried left = comes_to_rest c back p tried.0 left.0 left.1
+  range_stays values begun places (Done back said) (OfStackPass p) a tried left = comes_to_rest c back (range_number said) p tried.0 left.0 left.1
   range_stays values begun places (Again op) Nothing a tried left = absurd left
   range_stays values begun places (Again op) (OfQueueRoot r) a tried left = absurd left
   range_stays values begun places (Again op) (OfQueuePass p) a tried left = absurd left
@@ -37,6 +38,8 @@ module _ (c : Stack ℕ) where
   range_stays values begun places (Again op) (OfStackPass p) a tried left = absurd left
   range_stays values begun places (Again op) (OfStackFold f) a tried left = absurd left
   range_stays values begun places (Again op) (OfStackRange r) a tried left = absurd left
+  range_stays values begun places (Again op) (OfQueueRest r) a tried left = absurd left
+  range_stays values begun places (Again op) (OfStackRest r) a tried left = absurd left
   range_stays values begun places (Done back said) Nothing a tried left = absurd left
   range_stays values begun places (Done back said) (OfQueueRoot r) a tried left = absurd left
   range_stays values begun places (Done back said) (OfQueuePass p) a tried left = absurd left
@@ -44,3 +47,5 @@ module _ (c : Stack ℕ) where
   range_stays values begun places (Done back said) (OfStackFold f) a tried left = absurd left
   range_stays values begun places (Done back said) (OfStackRange r) a tried left = absurd left
   range_stays values begun places (Done back said) (OfStackRangePut r) a tried left = absurd left
+  range_stays values begun places (Done back said) (OfQueueRest r) a tried left = absurd left
+  range_stays values begun places (Done back said) (OfStackRest r) a tried left = absurd left

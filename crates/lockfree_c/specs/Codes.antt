@@ -1,4 +1,4 @@
--- What the answer that C gets says of what a whole call answered.
+-- What the answer that C gets says of what a whole call answered, and the call's number.
 use Rattle.std.specs.Prelude.{◌≡◌, ℕ, true, false, Result, Ok, Err}
 use Rattle.bounded_model.specs.declared.answers.PutRefused.{PutRefused}
 use Rattle.bounded_model.specs.declared.answers.PutRefused.TheVariants as put
@@ -13,38 +13,60 @@ use Rattle.bounded_model.specs.declared.commands.Reply.TheVariants.{Put, Take, C
 use Rattle.lockfree_c.specs.declared.answers.Answer.{Answer}
 use Rattle.lockfree_c.specs.declared.answers.TheConstants.{OK, FULL, EMPTY, CLOSED, SHUT, SPENT}
 
+-- a code that says nothing more
+abbrev pub bare : ℕ → Answer
+bare code = record { value = 0; code = code }
+
+-- a code with what it says
+abbrev pub saying : ℕ → ℕ → Answer
+saying code value = record { value = value; code = code }
+
 abbrev pub SaysPut : Result ℕ (PutRefused ℕ) → Answer → Type 0
-SaysPut (Ok n) a = (a.code ≡ OK) × (a.number ≡ n)
-SaysPut (Err (put.Full x)) a = a.code ≡ FULL
-SaysPut (Err (put.Closed x)) a = a.code ≡ CLOSED
-SaysPut (Err (put.Spent x word t)) a = (a.code ≡ SPENT) × (a.number ≡ t)
+SaysPut (Ok n) a = a ≡ saying OK n
+SaysPut (Err (put.Full x)) a = a ≡ bare FULL
+SaysPut (Err (put.Closed x)) a = a ≡ bare CLOSED
+SaysPut (Err (put.Spent x word t)) a = a ≡ saying SPENT t
 
 abbrev pub SaysTake : Result (ℕ × ℕ) TakeRefused → Answer → Type 0
-SaysTake (Ok r) a = (a.code ≡ OK) × (a.value ≡ r.0) × (a.number ≡ r.1)
-SaysTake (Err take.Empty) a = a.code ≡ EMPTY
-SaysTake (Err take.Closed) a = a.code ≡ CLOSED
-SaysTake (Err take.Shut) a = a.code ≡ SHUT
-SaysTake (Err (take.Spent word t)) a = (a.code ≡ SPENT) × (a.number ≡ t)
+SaysTake (Ok r) a = a ≡ saying OK r.0
+SaysTake (Err take.Empty) a = a ≡ bare EMPTY
+SaysTake (Err take.Closed) a = a ≡ bare CLOSED
+SaysTake (Err take.Shut) a = a ≡ bare SHUT
+SaysTake (Err (take.Spent word t)) a = a ≡ saying SPENT t
 
--- the number of a fold that is done, and how many values there were; a refusal as that of a take
+-- how many values there were in a fold that is done; a refusal as that of a take
 abbrev pub SaysFold : Result Folded TakeRefused → Answer → Type 0
-SaysFold (Ok f) a = (a.code ≡ OK) × (a.number ≡ f.number) × (a.value ≡ f.count)
+SaysFold (Ok f) a = a ≡ saying OK f.count
 SaysFold (Err why) a = SaysTake (Err why) a
 
--- the number of a put of a range that is done, and how many of its values went in
+-- how many values of a range went in
 abbrev pub SaysRange : Result Ranged RangeRefused → Answer → Type 0
-SaysRange (Ok r) a = (a.code ≡ OK) × (a.number ≡ r.number) × (a.value ≡ r.count)
-SaysRange (Err range.Nothing) a = a.code ≡ EMPTY
-SaysRange (Err range.Full) a = a.code ≡ FULL
-SaysRange (Err range.Closed) a = a.code ≡ CLOSED
-SaysRange (Err (range.Spent word t)) a = (a.code ≡ SPENT) × (a.number ≡ t)
+SaysRange (Ok r) a = a ≡ saying OK r.count
+SaysRange (Err range.Nothing) a = a ≡ bare EMPTY
+SaysRange (Err range.Full) a = a ≡ bare FULL
+SaysRange (Err range.Closed) a = a ≡ bare CLOSED
+SaysRange (Err (range.Spent word t)) a = a ≡ saying SPENT t
 
 abbrev pub Says : Reply ℕ → Answer → Type 0
 Says (Put said) a = SaysPut said a
 Says (Take said) a = SaysTake said a
-Says (Close true) a = a.code ≡ OK
-Says (Close false) a = a.code ≡ CLOSED
-Says (Shut true) a = a.code ≡ OK
-Says (Shut false) a = a.code ≡ SHUT
-Says (Look true) a = a.code ≡ EMPTY
-Says (Look false) a = a.code ≡ OK
+Says (Close true) a = a ≡ bare OK
+Says (Close false) a = a ≡ bare CLOSED
+Says (Shut true) a = a ≡ bare OK
+Says (Shut false) a = a ≡ bare SHUT
+Says (Look true) a = a ≡ bare EMPTY
+Says (Look false) a = a ≡ bare OK
+
+-- the number of a call that is done; 0 where it has none
+abbrev pub number_in : Reply ℕ → ℕ
+number_in (Put (Ok n)) = n
+number_in (Take (Ok r)) = r.1
+number_in said = 0
+
+abbrev pub fold_number : Result Folded TakeRefused → ℕ
+fold_number (Ok f) = f.number
+fold_number (Err why) = 0
+
+abbrev pub range_number : Result Ranged RangeRefused → ℕ
+range_number (Ok r) = r.number
+range_number (Err why) = 0

@@ -1,9 +1,10 @@
 -- What holds of what lies behind a handle, and what the calls do to it.
 use Rattle.std.specs.Prelude.{◌≡◌, ◌≤◌, ◌⊎◌, ℕ, List, [], ◌∷◌, ◌++◌, map, Bool, true, false, Option, Some, IsSome, Result, MatchOption, MatchResult, None}
 use Rattle.std.specs.List.{AllByRecursion as Every}
-use Rattle.tagged_index.specs.declared.limit.TheConstants.{MIN_CAPACITY, MAX_CAPACITY}
+use Rattle.tagged_index.specs.declared.limit.TheConstants.{MIN_CAPACITY, MAX_CAPACITY, MIN_TAG_LIMIT}
 use Rattle.tagged_index.specs.declared.word.TheConstants.{MAX_TAG}
-use Rattle.bounded_model.specs.Laws.{IsFullOfPasses, Splits, fresh}
+use Rattle.bounded_model.specs.Laws.{IsFullOfPasses, Leaves, Splits, fresh}
+use Rattle.bounded_model.specs.Machine.{Shape}
 use Rattle.bounded_model.specs.declared.answers.Stepped.{Stepped}
 use Rattle.bounded_model.specs.declared.answers.Stepped.TheVariants as stepped
 use Rattle.bounded_model.specs.declared.bulk.Ranged.{Ranged}
@@ -17,7 +18,9 @@ use Rattle.running.specs.declared.passes.Pass.{Pass}
 use Rattle.queue_machine.specs.Answers as queue_machine
 use Rattle.stack_machine.specs.Answers as stack_machine
 use Rattle.stack_machine.specs.declared.lines.Line.{Line}
+use Rattle.ms_queue.specs.Left as queue_left
 use Rattle.ms_queue.specs.Queue as queue
+use Rattle.treiber_stack.specs.Left as stack_left
 use Rattle.treiber_stack.specs.Stack as stack
 use Rattle.treiber_stack.specs.FoldOp.{IsFolding, FoldTried}
 use Rattle.treiber_stack.specs.RangeTrying.{IsRanging, RangeTried}
@@ -26,13 +29,13 @@ use Rattle.treiber_stack.specs.declared.fold_op.FoldMade.TheVariants.{Again, Val
 use Rattle.treiber_stack.specs.declared.range_trying.RangeOp.{RangeOp}
 use Rattle.treiber_stack.specs.declared.stack.Stack.{Stack}
 use Rattle.bounded_calls.specs.Readings.{queue_reading, stack_reading}
-use Rattle.lockfree_c.specs.Codes.{SaysFold, SaysRange}
-use Rattle.lockfree_c.specs.Stages.{IsStage, Called, Rests, WentOn}
+use Rattle.lockfree_c.specs.Codes.{SaysFold, SaysRange, bare, saying, fold_number, range_number}
+use Rattle.lockfree_c.specs.Stages.{IsStage, Called, Rests, SaysNumber, WentOn}
 use Rattle.lockfree_c.specs.declared.answers.Answer.{Answer}
-use Rattle.lockfree_c.specs.declared.answers.TheConstants.{OK, EMPTY, BUSY, UNDER_WAY, NO_CALL, NO_MEMORY, NO_PASS, BAD_CAPACITY, OTHER_HANDLE, VALUE}
+use Rattle.lockfree_c.specs.declared.answers.TheConstants.{OK, EMPTY, BUSY, UNDER_WAY, NO_CALL, NO_MEMORY, NO_PASS, BAD_CAPACITY, OTHER_HANDLE, VALUE, SHARED}
 use Rattle.lockfree_c.specs.declared.stage.Stage.{Stage}
 use Rattle.lockfree_c.specs.declared.held.Held.{Held}
-use Rattle.lockfree_c.specs.declared.held.Held.TheVariants.{Nothing, QueueRoot as OfQueueRoot, QueuePass as OfQueuePass, StackRoot as OfStackRoot, StackPass as OfStackPass, StackFold as OfStackFold, StackRange as OfStackRange, StackRangePut as OfStackRangePut}
+use Rattle.lockfree_c.specs.declared.held.Held.TheVariants.{Nothing, QueueRoot as OfQueueRoot, QueuePass as OfQueuePass, StackRoot as OfStackRoot, StackPass as OfStackPass, StackFold as OfStackFold, StackRange as OfStackRange, StackRangePut as OfStackRangePut, QueueRest as OfQueueRest, StackRest as OfStackRest}
 use Rattle.lockfree_c.specs.declared.held.QueuePass.{QueuePass}
 use Rattle.lockfree_c.specs.declared.held.QueueRoot.{QueueRoot}
 use Rattle.lockfree_c.specs.declared.held.StackFold.{StackFold}
@@ -76,6 +79,8 @@ IsHeld (OfStackPass p) = IsStackPass p
 IsHeld (OfStackFold f) = IsStackFold f
 IsHeld (OfStackRange r) = IsStackRange r
 IsHeld (OfStackRangePut r) = IsStackRangePut r
+IsHeld (OfQueueRest r) = Unit {0}
+IsHeld (OfStackRest r) = Unit {0}
 
 -- The calls of a pass
 
@@ -92,16 +97,19 @@ refusal_of (OfStackRange r) = UNDER_WAY
 refusal_of (OfStackRangePut r) = UNDER_WAY
 refusal_of h = OTHER_HANDLE
 
--- what is held is as it was, and C is told why
+-- what is held is as it was, and C is told why: by a code, or by an answer that says nothing more
 abbrev pub Refused : ℕ → Held → Held → ℕ → Type 0
 Refused why h g code = (code ≡ why) × (g ≡ h)
+
+abbrev pub Declined : ℕ → Held → Held → Answer → Type 0
+Declined why h g a = (a ≡ bare why) × (g ≡ h)
 
 abbrev pub HeldCalled : Held → Command ℕ → Held → Answer → Type 0
 HeldCalled (OfQueuePass p) call (OfQueuePass q) a = QueueCalled p call q a
 HeldCalled (OfQueuePass p) call h a = ⊥
 HeldCalled (OfStackPass p) call (OfStackPass q) a = StackCalled p call q a
 HeldCalled (OfStackPass p) call h a = ⊥
-HeldCalled h call g a = Refused (refusal_of h) h g a.code
+HeldCalled h call g a = Declined (refusal_of h) h g a
 
 abbrev pub QueueWentOn : QueuePass → QueuePass → Answer → Type 0
 QueueWentOn p q a = (q.queue.value ≡ p.queue.value) × WentOn (queue_reading p.queue.value) p.stage q.stage a
@@ -111,9 +119,9 @@ StackWentOn p q a = (q.stack.value ≡ p.stack.value) × WentOn (stack_reading p
 
 -- how a fold that was run left what is held, and what C was answered
 abbrev pub FoldLeft : Stack ℕ → FoldMade ℕ → Held → Answer → Type 0
-FoldLeft c (Again next) (OfStackFold f) a = (f.stack.value ≡ c) × (f.op ≡ next) × (a.code ≡ BUSY)
-FoldLeft c (Value x next) (OfStackFold f) a = (f.stack.value ≡ c) × (f.op ≡ next) × (a.code ≡ VALUE) × (a.value ≡ x)
-FoldLeft c (Done back said) (OfStackPass p) a = (p.stack.value ≡ c) × Rests p.stage back × SaysFold said a
+FoldLeft c (Again next) (OfStackFold f) a = (f.stack.value ≡ c) × (f.op ≡ next) × (a ≡ bare BUSY)
+FoldLeft c (Value x next) (OfStackFold f) a = (f.stack.value ≡ c) × (f.op ≡ next) × (a ≡ saying VALUE x)
+FoldLeft c (Done back said) (OfStackPass p) a = (p.stack.value ≡ c) × Rests p.stage back (fold_number said) × SaysFold said a
 FoldLeft c made h a = ⊥
 
 -- the fold that is under way is tried further, from whichever end and whatever it has handed out
@@ -128,8 +136,8 @@ RangeMade = Stepped (RangeOp ℕ) (Pass ℕ (Line ℕ)) (Result Ranged RangeRefu
 
 -- how a put of a range that was run left what is held, with these places, and what C was answered
 abbrev pub RangeLeft : Stack ℕ → List (Option ℕ) → RangeMade → Held → Answer → Type 0
-RangeLeft c places (stepped.Again next) (OfStackRangePut r) a = (r.stack.value ≡ c) × (r.op ≡ next) × (r.values.items ≡ places) × (a.code ≡ BUSY)
-RangeLeft c places (stepped.Done back said) (OfStackPass p) a = (p.stack.value ≡ c) × Rests p.stage back × SaysRange said a
+RangeLeft c places (stepped.Again next) (OfStackRangePut r) a = (r.stack.value ≡ c) × (r.op ≡ next) × (r.values.items ≡ places) × (a ≡ bare BUSY)
+RangeLeft c places (stepped.Done back said) (OfStackPass p) a = (p.stack.value ≡ c) × Rests p.stage back (range_number said) × SaysRange said a
 RangeLeft c places made h a = ⊥
 
 -- the put that is under way is tried further, whichever values it puts
@@ -145,9 +153,16 @@ HeldWentOn (OfQueuePass p) h a = ⊥
 HeldWentOn (OfStackPass p) (OfStackPass q) a = StackWentOn p q a
 HeldWentOn (OfStackPass p) h a = ⊥
 HeldWentOn (OfStackFold f) g a = FoldWentOn f g a
-HeldWentOn (OfStackRange r) g a = Refused NO_CALL (OfStackRange r) g a.code
+HeldWentOn (OfStackRange r) g a = Declined NO_CALL (OfStackRange r) g a
 HeldWentOn (OfStackRangePut r) g a = RangeWentOn r g a
-HeldWentOn h g a = Refused OTHER_HANDLE h g a.code
+HeldWentOn h g a = Declined OTHER_HANDLE h g a
+
+-- The number of the call that ended last
+
+abbrev pub HeldNumber : Held → Answer → Type 0
+HeldNumber (OfQueuePass p) a = SaysNumber p.stage a
+HeldNumber (OfStackPass p) a = SaysNumber p.stage a
+HeldNumber h a = a ≡ bare (refusal_of h)
 
 -- The begin of a fold
 
@@ -159,12 +174,12 @@ front_from false = First
 -- a fold of a pass that rests is tried, from what the pass had seen; of one in a call nothing is changed
 abbrev pub StackFolded : StackPass → Front → Held → Answer → Type 0
 StackFolded p front g a = MatchOption p.stage.resting
-    (Refused UNDER_WAY (OfStackPass p) g a.code)
+    (Declined UNDER_WAY (OfStackPass p) g a)
     (λ by. (made : FoldMade ℕ) × FoldTried p.stack.value front [] (pass_in by) made × FoldLeft p.stack.value made g a)
 
 abbrev pub HeldFolded : Held → Front → Held → Answer → Type 0
 HeldFolded (OfStackPass p) front g a = StackFolded p front g a
-HeldFolded h front g a = Refused (refusal_of h) h g a.code
+HeldFolded h front g a = Declined (refusal_of h) h g a
 
 -- A range, value by value, and its put
 
@@ -202,50 +217,76 @@ RangePut r g a = (values : List ℕ) × (r.values.items ≡ map Some values)
 -- no value was added, or the pass is in a call: nothing is changed
 abbrev pub NothingPut : StackPass → Held → Answer → Type 0
 NothingPut p g a = MatchOption p.stage.resting
-    (Refused UNDER_WAY (OfStackPass p) g a.code)
-    (λ by. Refused EMPTY (OfStackPass p) g a.code)
+    (Declined UNDER_WAY (OfStackPass p) g a)
+    (λ by. Declined EMPTY (OfStackPass p) g a)
 
 abbrev pub HeldRangePut : Held → Held → Answer → Type 0
 HeldRangePut (OfStackPass p) g a = NothingPut p g a
 HeldRangePut (OfStackRange r) g a = RangePut r g a
-HeldRangePut h g a = Refused (refusal_of h) h g a.code
+HeldRangePut h g a = Declined (refusal_of h) h g a
 
 -- The calls of a root
 
-abbrev pub IsCapacity : ℕ → Type 0
-IsCapacity n = (MIN_CAPACITY ≤ n) × (n ≤ MAX_CAPACITY)
+abbrev pub AreLimits : ℕ → ℕ → Type 0
+AreLimits n t = (MIN_CAPACITY ≤ n) × (n ≤ MAX_CAPACITY) × (MIN_TAG_LIMIT ≤ t) × (t ≤ MAX_TAG)
 
 -- a container is new: a root that has given no pass, of a container of this capacity
-abbrev pub IsNewQueue : ℕ → Held → Type 0
-IsNewQueue n (OfQueueRoot r) = IsQueueRoot r × (root_in r.root ≡ fresh) × (queue.shape_of r.queue.value ≡ queue_machine.shape n MAX_TAG)
-IsNewQueue n h = ⊥
+abbrev pub IsNewQueue : ℕ → ℕ → Held → Type 0
+IsNewQueue n t (OfQueueRoot r) = IsQueueRoot r × (root_in r.root ≡ fresh) × (queue.shape_of r.queue.value ≡ queue_machine.shape n t)
+IsNewQueue n t h = ⊥
 
-abbrev pub IsNewStack : ℕ → Held → Type 0
-IsNewStack n (OfStackRoot r) = IsStackRoot r × (root_in r.root ≡ fresh) × (stack.shape_of r.stack.value ≡ stack_machine.shape n MAX_TAG)
-IsNewStack n h = ⊥
+abbrev pub IsNewStack : ℕ → ℕ → Held → Type 0
+IsNewStack n t (OfStackRoot r) = IsStackRoot r × (root_in r.root ≡ fresh) × (stack.shape_of r.stack.value ≡ stack_machine.shape n t)
+IsNewStack n t h = ⊥
 
-abbrev pub NewRefused : ℕ → ℕ → Type 0
-NewRefused n code = ((code ≡ BAD_CAPACITY) × (IsCapacity n → ⊥)) ⊎ ((code ≡ NO_MEMORY) × IsCapacity n)
+abbrev pub NewRefused : ℕ → ℕ → ℕ → Type 0
+NewRefused n t code = ((code ≡ BAD_CAPACITY) × (AreLimits n t → ⊥)) ⊎ ((code ≡ NO_MEMORY) × AreLimits n t)
 
 module _ {T : Type 0} where
   -- a pass was split off: it has seen what the root has
-  abbrev pub SplitOff : {L O : Type 0} → RootView T → RootView T → Stage (Pass T L) O → Type 0
-  SplitOff r s stage = MatchOption stage.resting ⊥ (λ by. Splits r s (pass_in by) × (stage.under_way ≡ None))
+  abbrev pub SplitOff : {L O : Type 0} → Shape → RootView T → RootView T → Stage (Pass T L) O → Type 0
+  SplitOff c r s stage = MatchOption stage.resting ⊥ (λ by. Splits c r s (pass_in by) × (stage.under_way ≡ None))
 
-  abbrev pub SplitRefused : RootView T → RootView T → ℕ → Type 0
-  SplitRefused r s code = (s ≡ r) × ((code ≡ NO_MEMORY) ⊎ ((code ≡ NO_PASS) × IsFullOfPasses r))
+  abbrev pub SplitRefused : Shape → RootView T → RootView T → ℕ → Type 0
+  SplitRefused c r s code = (s ≡ r) × ((code ≡ NO_MEMORY) ⊎ ((code ≡ NO_PASS) × IsFullOfPasses c r))
 
 abbrev pub QueueSplit : QueueRoot → QueueRoot → Held → Type 0
-QueueSplit r s (OfQueuePass p) = (p.queue.value ≡ r.queue.value) × IsQueuePass p × SplitOff (root_in r.root) (root_in s.root) p.stage
+QueueSplit r s (OfQueuePass p) = (p.queue.value ≡ r.queue.value) × IsQueuePass p × SplitOff (queue.shape_of r.queue.value) (root_in r.root) (root_in s.root) p.stage
 QueueSplit r s h = ⊥
 
 abbrev pub StackSplit : StackRoot → StackRoot → Held → Type 0
-StackSplit r s (OfStackPass p) = (p.stack.value ≡ r.stack.value) × IsStackPass p × SplitOff (root_in r.root) (root_in s.root) p.stage
+StackSplit r s (OfStackPass p) = (p.stack.value ≡ r.stack.value) × IsStackPass p × SplitOff (stack.shape_of r.stack.value) (root_in r.root) (root_in s.root) p.stage
 StackSplit r s h = ⊥
 
 abbrev pub HeldSplit : Held → Held → Result Held ℕ → Type 0
-HeldSplit (OfQueueRoot r) (OfQueueRoot s) made = (s.queue.value ≡ r.queue.value) × MatchResult made (QueueSplit r s) (SplitRefused (root_in r.root) (root_in s.root))
+HeldSplit (OfQueueRoot r) (OfQueueRoot s) made = (s.queue.value ≡ r.queue.value) × MatchResult made (QueueSplit r s) (SplitRefused (queue.shape_of r.queue.value) (root_in r.root) (root_in s.root))
 HeldSplit (OfQueueRoot r) h made = ⊥
-HeldSplit (OfStackRoot r) (OfStackRoot s) made = (s.stack.value ≡ r.stack.value) × MatchResult made (StackSplit r s) (SplitRefused (root_in r.root) (root_in s.root))
+HeldSplit (OfStackRoot r) (OfStackRoot s) made = (s.stack.value ≡ r.stack.value) × MatchResult made (StackSplit r s) (SplitRefused (stack.shape_of r.stack.value) (root_in r.root) (root_in s.root))
 HeldSplit (OfStackRoot r) h made = ⊥
 HeldSplit h g made = (g ≡ h) × MatchResult made (λ _. ⊥) (λ code. (code ≡ OTHER_HANDLE) ⊎ (code ≡ NO_MEMORY))
+
+-- The end of a container
+
+-- the next of what is left is handed out, or there is none
+abbrev pub HandsOut : List ℕ → List ℕ → Answer → Type 0
+HandsOut before after a = (given : Option ℕ) × MatchOption given
+    ((a ≡ bare EMPTY) × (before ≡ []) × (after ≡ []))
+    (λ x. (a ≡ saying VALUE x) × (before ≡ x ∷ after))
+
+-- the container was ended, and the first of what its root leaves is handed out; or another handle is out
+abbrev pub QueueFinished : QueueRoot → Held → Answer → Type 0
+QueueFinished r (OfQueueRest s) a = (left : List ℕ) × Leaves (queue.shape_of r.queue.value) (root_in r.root) left × HandsOut left (queue_left.left_in s) a
+QueueFinished r g a = Declined SHARED (OfQueueRoot r) g a
+
+abbrev pub StackFinished : StackRoot → Held → Answer → Type 0
+StackFinished r (OfStackRest s) a = (left : List ℕ) × Leaves (stack.shape_of r.stack.value) (root_in r.root) left × HandsOut left (stack_left.left_in s) a
+StackFinished r g a = Declined SHARED (OfStackRoot r) g a
+
+abbrev pub HeldFinished : Held → Held → Answer → Type 0
+HeldFinished (OfQueueRoot r) g a = QueueFinished r g a
+HeldFinished (OfStackRoot r) g a = StackFinished r g a
+HeldFinished (OfQueueRest r) (OfQueueRest s) a = HandsOut (queue_left.left_in r) (queue_left.left_in s) a
+HeldFinished (OfQueueRest r) g a = ⊥
+HeldFinished (OfStackRest r) (OfStackRest s) a = HandsOut (stack_left.left_in r) (stack_left.left_in s) a
+HeldFinished (OfStackRest r) g a = ⊥
+HeldFinished h g a = Declined OTHER_HANDLE h g a

@@ -2,7 +2,8 @@
 use Rattle.std.specs.Prelude.{◌≡◌, ℕ, Bool, true, false, Result, MatchResult}
 use Rattle.bounded_model.specs.declared.commands.Command.{Command}
 use Rattle.index_list.specs.declared.front.Front.{Front}
-use Rattle.lockfree_c.specs.Held.{IsHeld, HeldAdded, HeldCalled, HeldFolded, HeldRangePut, HeldWentOn, HeldSplit, NewRefused}
+use Rattle.lockfree_c.specs.Codes.{bare}
+use Rattle.lockfree_c.specs.Held.{IsHeld, HeldAdded, HeldCalled, HeldFinished, HeldFolded, HeldNumber, HeldRangePut, HeldWentOn, HeldSplit, NewRefused}
 use Rattle.lockfree_c.specs.declared.answers.Answer.{Answer}
 use Rattle.lockfree_c.specs.declared.answers.TheConstants.{OK, NO_HANDLE, IN_USE}
 use Rattle.lockfree_c.specs.declared.held.Held.{Held}
@@ -26,17 +27,17 @@ Either false P Q = Q
 abbrev pub SlotCalled : Slot → Command ℕ → Slot → Answer → Type 0
 SlotCalled s call t a = Either s.full
     ((t.full ≡ true) × HeldCalled s.handle.held call t.handle.held a)
-    (IsEmpty t × (a.code ≡ NO_HANDLE))
+    (IsEmpty t × (a ≡ bare NO_HANDLE))
 
 abbrev pub SlotWentOn : Slot → Slot → Answer → Type 0
 SlotWentOn s t a = Either s.full
     ((t.full ≡ true) × HeldWentOn s.handle.held t.handle.held a)
-    (IsEmpty t × (a.code ≡ NO_HANDLE))
+    (IsEmpty t × (a ≡ bare NO_HANDLE))
 
 abbrev pub SlotFolded : Slot → Front → Slot → Answer → Type 0
 SlotFolded s front t a = Either s.full
     ((t.full ≡ true) × HeldFolded s.handle.held front t.handle.held a)
-    (IsEmpty t × (a.code ≡ NO_HANDLE))
+    (IsEmpty t × (a ≡ bare NO_HANDLE))
 
 abbrev pub SlotAdded : Slot → ℕ → Slot → ℕ → Type 0
 SlotAdded s x t code = Either s.full
@@ -46,15 +47,26 @@ SlotAdded s x t code = Either s.full
 abbrev pub SlotRangePut : Slot → Slot → Answer → Type 0
 SlotRangePut s t a = Either s.full
     ((t.full ≡ true) × HeldRangePut s.handle.held t.handle.held a)
-    (IsEmpty t × (a.code ≡ NO_HANDLE))
+    (IsEmpty t × (a ≡ bare NO_HANDLE))
+
+-- what is behind it is as it was
+abbrev pub SlotNumber : Slot → Slot → Answer → Type 0
+SlotNumber s t a = Either s.full
+    (Holds t s.handle.held × HeldNumber s.handle.held a)
+    (IsEmpty t × (a ≡ bare NO_HANDLE))
+
+abbrev pub SlotFinished : Slot → Slot → Answer → Type 0
+SlotFinished s t a = Either s.full
+    ((t.full ≡ true) × HeldFinished s.handle.held t.handle.held a)
+    (IsEmpty t × (a ≡ bare NO_HANDLE))
 
 -- a new root, of which `IsNew` says what it is; a slot that is full is left as it is
-abbrev pub SlotNew : (Held → Type 0) → ℕ → Slot → Slot → ℕ → Type 0
-SlotNew IsNew n s t code = Either s.full
+abbrev pub SlotNew : (Held → Type 0) → ℕ → ℕ → Slot → Slot → ℕ → Type 0
+SlotNew IsNew n l s t code = Either s.full
     ((t ≡ s) × (code ≡ IN_USE))
     ((made : Result Held ℕ) × MatchResult made
     (λ held. Holds t held × IsNew held × (code ≡ OK))
-    (λ why. IsEmpty t × NewRefused n why × (code ≡ why)))
+    (λ why. IsEmpty t × NewRefused n l why × (code ≡ why)))
 
 -- a pass that a root gives, into a slot that is empty
 abbrev pub SlotSplit : Slot → Slot → Slot → Slot → ℕ → Type 0

@@ -5,20 +5,24 @@ use Rattle.bounded_model.specs.declared.answers.Stepped.TheVariants.{Again, Done
 use Rattle.bounded_model.specs.declared.commands.Command.{Command}
 use Rattle.bounded_model.specs.declared.commands.Reply.{Reply}
 use Rattle.bounded_calls.specs.Calls.{Reading, MakesSome, TriedFrom}
-use Rattle.lockfree_c.specs.Codes.{Says}
+use Rattle.lockfree_c.specs.Codes.{Says, bare, saying, number_in}
 use Rattle.lockfree_c.specs.declared.answers.Answer.{Answer}
-use Rattle.lockfree_c.specs.declared.answers.TheConstants.{BUSY, UNDER_WAY, NO_CALL}
+use Rattle.lockfree_c.specs.declared.answers.TheConstants.{OK, BUSY, UNDER_WAY, NO_CALL}
 use Rattle.lockfree_c.specs.declared.stage.Stage.{Stage}
 
 module _ {P O : Type 0} where
-  -- the pass is between its calls
-  abbrev pub Rests : Stage P O → P → Type 0
-  Rests s by = (s.resting ≡ Some by) × (s.under_way ≡ None)
+  -- the pass is between its calls, and keeps the number of the last
+  abbrev pub Rests : Stage P O → P → ℕ → Type 0
+  Rests s by n = (s.resting ≡ Some by) × (s.under_way ≡ None) × (s.number ≡ n)
 
   -- how a tried call left its pass, and what C was answered
   abbrev pub LeftBy : Stepped O P (Reply ℕ) → Stage P O → Answer → Type 0
-  LeftBy (Again next) s a = (s.resting ≡ None) × (s.under_way ≡ Some next) × (a.code ≡ BUSY)
-  LeftBy (Done back said) s a = (s.resting ≡ Some back) × (s.under_way ≡ None) × Says said a
+  LeftBy (Again next) s a = (s.resting ≡ None) × (s.under_way ≡ Some next) × (a ≡ bare BUSY)
+  LeftBy (Done back said) s a = (s.resting ≡ Some back) × (s.under_way ≡ None) × (s.number ≡ number_in said) × Says said a
+
+  -- the number that a pass keeps; not while a call is under way
+  abbrev pub SaysNumber : Stage P O → Answer → Type 0
+  SaysNumber s a = MatchOption s.resting (a ≡ bare UNDER_WAY) (λ by. a ≡ saying OK s.number)
 
   module _ (r : Reading ℕ P O) where
     -- either a pass rests, or one call of it is under way
@@ -30,12 +34,12 @@ module _ {P O : Type 0} where
     -- a call of a pass that rests is tried, from what the pass had seen; of one in a call nothing is changed
     abbrev pub Called : Stage P O → Command ℕ → Stage P O → Answer → Type 0
     Called s call t a = MatchOption s.resting
-        ((a.code ≡ UNDER_WAY) × (t ≡ s))
+        ((a ≡ bare UNDER_WAY) × (t ≡ s))
         (λ by. (made : Stepped O P (Reply ℕ)) × TriedFrom r (r.pass by) call made × LeftBy made t a)
 
     -- the call that is under way is tried further, whichever it is
     abbrev pub WentOn : Stage P O → Stage P O → Answer → Type 0
     WentOn s t a = MatchOption s.under_way
-        ((a.code ≡ NO_CALL) × (t ≡ s))
+        ((a ≡ bare NO_CALL) × (t ≡ s))
         (λ op. (made : Stepped O P (Reply ℕ))
         × ((call : Command ℕ) → r.is_making call op → TriedFrom r (r.making op).begun call made) × LeftBy made t a)

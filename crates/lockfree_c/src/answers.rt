@@ -1,5 +1,6 @@
-//! What a call returns to C: a code, and with some of them a value and a number.
+//! What a call returns to C: a code, and with some of them a value. A call's number is kept by its pass.
 ghost use Rattle.std.specs.Prelude.{◌≡◌};
+ghost use Rattle.lockfree_c.specs.Codes.{fold_number, number_in, range_number};
 
 use bounded_model::{Folded, PutRefused, RangeRefused, Ranged, Reply, TakeRefused};
 
@@ -20,7 +21,7 @@ pub const CLOSED: u32 = 3;
 /// A take: the container is shut. A shut: it was shut before.
 pub const SHUT: u32 = 4;
 
-/// A tag is at its limit; the number is the tag.
+/// A tag is at its limit; the value is the tag.
 pub const SPENT: u32 = 5;
 
 /// The tries are used up: the call is under way.
@@ -53,37 +54,36 @@ pub const IN_USE: u32 = 14;
 /// A fold: the answer has the next value, and the fold goes on.
 pub const VALUE: u32 = 15;
 
-/// A code; of a take that is done its value, of a fold its next value, or at its end how many there
-/// were, of a put of a range how many went in; the number of a put, a take or a fold that is done, or
-/// the tag of one that is spent. What is not said is 0.
+/// A finish: another handle of the container is out.
+pub const SHARED: u32 = 16;
+
+/// A code, and what it says: of a put that is done its number, of a take its value, of a fold or a
+/// finish the next value, of a fold that is done how many there were, of a put of a range how many
+/// went in, of a count how many there are, and of what is spent the tag. What is not said is 0.
 #[repr(C)]
 #[derive(Clone, Copy)]
 pub struct Answer {
     pub value: u64,
-    pub number: u64,
     pub code: u32,
 }
 
 impl Answer {
-    ghost use Rattle.lockfree_c.specs.Codes.{SaysFold, SaysPut, SaysRange, SaysTake, Says};
+    ghost use Rattle.lockfree_c.specs.Codes.{SaysFold, SaysPut, SaysRange, SaysTake, Says, bare, saying};
 
     /// A code alone.
     #[inline(always)]
     pub fn of(code: u32) -> Answer
-        ensures { result.code ≡ code }
+        ensures { result ≡ bare code }
     {
-        Answer::numbered(code, 0)
+        Answer { value: 0, code }
     }
 
+    /// A code with what it says.
     #[inline(always)]
-    fn numbered(code: u32, number: u64) -> Answer
-        ensures { (result.code ≡ code) × (result.number ≡ number) }
+    pub fn with(code: u32, value: u64) -> Answer
+        ensures { result ≡ saying code value }
     {
-        Answer {
-            value: 0,
-            number,
-            code,
-        }
+        Answer { value, code }
     }
 
     #[inline(always)]
@@ -91,10 +91,10 @@ impl Answer {
         ensures { SaysPut said result }
     {
         match said {
-            Ok(number) => Answer::numbered(OK, number),
+            Ok(number) => Answer::with(OK, number),
             Err(PutRefused::Full(_)) => Answer::of(FULL),
             Err(PutRefused::Closed(_)) => Answer::of(CLOSED),
-            Err(PutRefused::Spent(_, _, tag)) => Answer::numbered(SPENT, tag),
+            Err(PutRefused::Spent(_, _, tag)) => Answer::with(SPENT, tag),
         }
     }
 
@@ -103,27 +103,11 @@ impl Answer {
         ensures { SaysTake said result }
     {
         match said {
-            Ok((value, number)) => Answer {
-                value,
-                number,
-                code: OK,
-            },
+            Ok((value, _)) => Answer::with(OK, value),
             Err(TakeRefused::Empty) => Answer::of(EMPTY),
             Err(TakeRefused::Closed) => Answer::of(CLOSED),
             Err(TakeRefused::Shut) => Answer::of(SHUT),
-            Err(TakeRefused::Spent(_, tag)) => Answer::numbered(SPENT, tag),
-        }
-    }
-
-    /// The next value of a fold.
-    #[inline(always)]
-    pub fn of_value(value: u64) -> Answer
-        ensures { (result.code ≡ VALUE) × (result.value ≡ value) }
-    {
-        Answer {
-            value,
-            number: 0,
-            code: VALUE,
+            Err(TakeRefused::Spent(_, tag)) => Answer::with(SPENT, tag),
         }
     }
 
@@ -133,11 +117,7 @@ impl Answer {
         ensures { SaysFold said result }
     {
         match said {
-            Ok(folded) => Answer {
-                value: u64::from(folded.count),
-                number: folded.number,
-                code: OK,
-            },
+            Ok(folded) => Answer::with(OK, u64::from(folded.count)),
             Err(why) => Answer::of_take(Err(why)),
         }
     }
@@ -148,15 +128,11 @@ impl Answer {
         ensures { SaysRange said result }
     {
         match said {
-            Ok(ranged) => Answer {
-                value: u64::from(ranged.count),
-                number: ranged.number,
-                code: OK,
-            },
+            Ok(ranged) => Answer::with(OK, u64::from(ranged.count)),
             Err(RangeRefused::Nothing) => Answer::of(EMPTY),
             Err(RangeRefused::Full) => Answer::of(FULL),
             Err(RangeRefused::Closed) => Answer::of(CLOSED),
-            Err(RangeRefused::Spent(_, tag)) => Answer::numbered(SPENT, tag),
+            Err(RangeRefused::Spent(_, tag)) => Answer::with(SPENT, tag),
         }
     }
 
@@ -172,5 +148,39 @@ impl Answer {
             Reply::Shut(shut) => Answer::of(if shut { OK } else { SHUT }),
             Reply::Look(is_empty) => Answer::of(if is_empty { EMPTY } else { OK }),
         }
+    }
+}
+
+/// The number of a whole call that returned this: of a put or a take that is done. Of another 0.
+#[inline(always)]
+pub fn number_of(said: &Reply<u64>) -> u64
+    ensures { result ≡ number_in said.now }
+{
+    match said {
+        Reply::Put(Ok(number)) => *number,
+        Reply::Take(Ok((_, number))) => *number,
+        _ => 0,
+    }
+}
+
+/// The number of a whole fold that returned this, or 0.
+#[inline(always)]
+pub fn number_of_fold(said: &Result<Folded, TakeRefused>) -> u64
+    ensures { result ≡ fold_number said.now }
+{
+    match said {
+        Ok(folded) => folded.number,
+        Err(_) => 0,
+    }
+}
+
+/// The number of a whole put of a range that returned this, or 0.
+#[inline(always)]
+pub fn number_of_range(said: &Result<Ranged, RangeRefused>) -> u64
+    ensures { result ≡ range_number said.now }
+{
+    match said {
+        Ok(ranged) => ranged.number,
+        Err(_) => 0,
     }
 }

@@ -5,7 +5,9 @@ ghost use Rattle.lockfree_c.specs.Held.{
   HeldAdded,
   HeldBegan,
   HeldCalled,
+  HeldFinished,
   HeldFolded,
+  HeldNumber,
   HeldRangePut,
   HeldSplit,
   HeldWentOn,
@@ -17,6 +19,7 @@ ghost use Rattle.lockfree_c.specs.Held.{
 };
 
 use crate::answers::{Answer, NO_CALL, NO_MEMORY, OTHER_HANDLE};
+use crate::finish::hand_out;
 use crate::held::Held;
 use crate::queue::{new_queue, split_queue};
 use crate::stack::{new_stack, split_stack};
@@ -25,11 +28,11 @@ use std::alloc::Global;
 use std::mem;
 
 /// A new queue's root in a box, or why there is none.
-pub fn boxed_queue(alloc: Global, capacity: u32) -> Result<Box<Held, Global>, u32>
+pub fn boxed_queue(alloc: Global, capacity: u32, tag_limit: u64) -> Result<Box<Held, Global>, u32>
     ensures { MatchResult result
-        (λ b. IsNewQueue capacity b.value) (λ code. NewRefused capacity code) }
+        (λ b. IsNewQueue capacity tag_limit b.value) (λ code. NewRefused capacity tag_limit code) }
 {
-    let root = new_queue(alloc, capacity)?;
+    let root = new_queue(alloc, capacity, tag_limit)?;
     match Box::new(alloc, Held::QueueRoot(root)) {
         Ok(held) => Ok(held),
         Err(_) => Err(NO_MEMORY),
@@ -37,11 +40,11 @@ pub fn boxed_queue(alloc: Global, capacity: u32) -> Result<Box<Held, Global>, u3
 }
 
 /// A new stack's root in a box, or why there is none.
-pub fn boxed_stack(alloc: Global, capacity: u32) -> Result<Box<Held, Global>, u32>
+pub fn boxed_stack(alloc: Global, capacity: u32, tag_limit: u64) -> Result<Box<Held, Global>, u32>
     ensures { MatchResult result
-        (λ b. IsNewStack capacity b.value) (λ code. NewRefused capacity code) }
+        (λ b. IsNewStack capacity tag_limit b.value) (λ code. NewRefused capacity tag_limit code) }
 {
-    let root = new_stack(alloc, capacity)?;
+    let root = new_stack(alloc, capacity, tag_limit)?;
     match Box::new(alloc, Held::StackRoot(root)) {
         Ok(held) => Ok(held),
         Err(_) => Err(NO_MEMORY),
@@ -255,6 +258,51 @@ pub fn go_on_by(held: &mut Held, tries: u64) -> Answer
     ensures gives { HeldWentOn held.old held.new result }
 {
     let (next, answer) = go_on(mem::replace(held, Held::Nothing), tries);
+    *held = next;
+    answer
+}
+
+/// The number of the call of this pass that ended last.
+pub fn number_by(held: &Held) -> Answer
+    ensures { HeldNumber held.now result }
+{
+    match held {
+        Held::QueuePass(pass) => pass.stage.number(),
+        Held::StackPass(pass) => pass.stage.number(),
+        other => Answer::of(other.refusal()),
+    }
+}
+
+// Ends the container of what is held, if that is a root, or hands out the next of what is left.
+fn finish(held: Held) -> (Held, Answer)
+    requires { IsHeld held }
+    ensures of { IsHeld result.0 }
+    ensures gives { HeldFinished held result.0 result.1 }
+{
+    match held {
+        Held::QueueRoot(root) => root.finish(),
+        Held::StackRoot(root) => root.finish(),
+        Held::QueueRest(rest) => {
+            let mut rest = rest;
+            let answer = hand_out(&mut rest);
+            (Held::QueueRest(rest), answer)
+        }
+        Held::StackRest(rest) => {
+            let mut rest = rest;
+            let answer = hand_out(&mut rest);
+            (Held::StackRest(rest), answer)
+        }
+        other => (other, Answer::of(OTHER_HANDLE)),
+    }
+}
+
+/// Ends the container of the root that lies in the box, or hands out the next of what is left.
+pub fn finish_by(held: &mut Held) -> Answer
+    requires { IsHeld held.old }
+    ensures of { IsHeld held.new }
+    ensures gives { HeldFinished held.old held.new result }
+{
+    let (next, answer) = finish(mem::replace(held, Held::Nothing));
     *held = next;
     answer
 }

@@ -69,3 +69,13 @@ pub fn stack_range_put_crosses(put: &StackRangePut) {
     crosses(&put.op);
     crosses(&put.values);
 }
+
+/// What is left of a queue.
+pub fn queue_rest_crosses(rest: &ms_queue::Rest<u64>) {
+    crosses(rest);
+}
+
+/// What is left of a stack.
+pub fn stack_rest_crosses(rest: &treiber_stack::Rest<u64>) {
+    crosses(rest);
+}

@@ -1,4 +1,5 @@
 //! The functions that C calls. A slot is written by them alone, and given to one call at a time.
+ghost use Rattle.std.specs.Prelude.{◌≡◌};
 ghost use Rattle.bounded_model.specs.declared.commands.Command.TheVariants.{
   Put,
   Take,
@@ -6,14 +7,18 @@ ghost use Rattle.bounded_model.specs.declared.commands.Command.TheVariants.{
   Shut,
   Look,
 };
+ghost use Rattle.tagged_index.specs.declared.word.TheConstants.{MAX_TAG};
+ghost use Rattle.lockfree_c.specs.declared.exports.TheConstants.{VERSION};
 ghost use Rattle.lockfree_c.specs.Held.{IsNewQueue, IsNewStack, front_from};
 ghost use Rattle.lockfree_c.specs.Slots.{
   IsSlot,
   SlotAdded,
   SlotCalled,
+  SlotFinished,
   SlotFolded,
   SlotFreed,
   SlotNew,
+  SlotNumber,
   SlotRangePut,
   SlotSplit,
   SlotWentOn,
@@ -21,24 +26,38 @@ ghost use Rattle.lockfree_c.specs.Slots.{
 
 use crate::answers::{Answer, IN_USE, NO_HANDLE, OK};
 use crate::boxed::{
-    add_by, boxed_queue, boxed_stack, call_by, fold_by, go_on_by, put_by, put_range_by, split_from,
-    take_by,
+    add_by, boxed_queue, boxed_stack, call_by, finish_by, fold_by, go_on_by, number_by, put_by,
+    put_range_by, split_from, take_by,
 };
 use crate::slot::Slot;
 use bounded_model::Command;
 use std::alloc::Global;
+use tagged_index::MAX_TAG;
+
+/// The version, 0.2.0: 10,000 times the first number, 100 times the second, and the third.
+pub const VERSION: u32 = 200;
+
+const _: () = prove!(VERSION == 200);
+
+/// The version of the library, which a program compares with its header's.
+#[unsafe(no_mangle)]
+pub extern "C" fn lockfree_version() -> u32
+    ensures { result ≡ VERSION }
+{
+    VERSION
+}
 
 /// A new queue's root: an empty queue of this capacity, open and not shut.
 #[unsafe(no_mangle)]
 pub extern "C" fn lockfree_queue_new(alloc: Global, root: &mut Slot, capacity: u32) -> u32
     requires { IsSlot root.old }
     ensures of { IsSlot root.new }
-    ensures gives { SlotNew (IsNewQueue capacity) capacity root.old root.new result }
+    ensures gives { SlotNew (IsNewQueue capacity MAX_TAG) capacity MAX_TAG root.old root.new result }
 {
     if root.full {
         return IN_USE;
     }
-    match boxed_queue(alloc, capacity) {
+    match boxed_queue(alloc, capacity, MAX_TAG) {
         Ok(held) => {
             root.put(held);
             OK
@@ -52,12 +71,60 @@ pub extern "C" fn lockfree_queue_new(alloc: Global, root: &mut Slot, capacity: u
 pub extern "C" fn lockfree_stack_new(alloc: Global, root: &mut Slot, capacity: u32) -> u32
     requires { IsSlot root.old }
     ensures of { IsSlot root.new }
-    ensures gives { SlotNew (IsNewStack capacity) capacity root.old root.new result }
+    ensures gives { SlotNew (IsNewStack capacity MAX_TAG) capacity MAX_TAG root.old root.new result }
 {
     if root.full {
         return IN_USE;
     }
-    match boxed_stack(alloc, capacity) {
+    match boxed_stack(alloc, capacity, MAX_TAG) {
+        Ok(held) => {
+            root.put(held);
+            OK
+        }
+        Err(code) => code,
+    }
+}
+
+/// A new queue's root, as by `lockfree_queue_new`, whose tags go up to this limit: 2 to 2^42 - 1.
+#[unsafe(no_mangle)]
+pub extern "C" fn lockfree_queue_limited(
+    alloc: Global,
+    root: &mut Slot,
+    capacity: u32,
+    tag_limit: u64,
+) -> u32
+    requires { IsSlot root.old }
+    ensures of { IsSlot root.new }
+    ensures gives { SlotNew (IsNewQueue capacity tag_limit) capacity tag_limit root.old root.new result }
+{
+    if root.full {
+        return IN_USE;
+    }
+    match boxed_queue(alloc, capacity, tag_limit) {
+        Ok(held) => {
+            root.put(held);
+            OK
+        }
+        Err(code) => code,
+    }
+}
+
+/// A new stack's root, as by `lockfree_stack_new`, whose tags go up to this limit: 2 to 2^42 - 1.
+#[unsafe(no_mangle)]
+pub extern "C" fn lockfree_stack_limited(
+    alloc: Global,
+    root: &mut Slot,
+    capacity: u32,
+    tag_limit: u64,
+) -> u32
+    requires { IsSlot root.old }
+    ensures of { IsSlot root.new }
+    ensures gives { SlotNew (IsNewStack capacity tag_limit) capacity tag_limit root.old root.new result }
+{
+    if root.full {
+        return IN_USE;
+    }
+    match boxed_stack(alloc, capacity, tag_limit) {
         Ok(held) => {
             root.put(held);
             OK
@@ -209,6 +276,33 @@ pub extern "C" fn lockfree_go_on(pass: &mut Slot, tries: u64) -> Answer
         return Answer::of(NO_HANDLE);
     }
     go_on_by(pass.handle.open_mut(), tries)
+}
+
+/// The number of the call of this pass that ended last, or 0.
+#[unsafe(no_mangle)]
+pub extern "C" fn lockfree_number(pass: &mut Slot) -> Answer
+    requires { IsSlot pass.old }
+    ensures of { IsSlot pass.new }
+    ensures gives { SlotNumber pass.old pass.new result }
+{
+    if !pass.full {
+        return Answer::of(NO_HANDLE);
+    }
+    number_by(pass.handle.open_mut())
+}
+
+/// Ends a container whose root is its only handle, and hands out what is left in it, one value an
+/// answer.
+#[unsafe(no_mangle)]
+pub extern "C" fn lockfree_finish(root: &mut Slot) -> Answer
+    requires { IsSlot root.old }
+    ensures of { IsSlot root.new }
+    ensures gives { SlotFinished root.old root.new result }
+{
+    if !root.full {
+        return Answer::of(NO_HANDLE);
+    }
+    finish_by(root.handle.open_mut())
 }
 
 /// Gives up a root or a pass. The last of a container's handles frees it.

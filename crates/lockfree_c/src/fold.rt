@@ -13,7 +13,7 @@ ghost use Rattle.lockfree_c.specs.Held.{
   front_from,
 };
 
-use crate::answers::{Answer, BUSY, UNDER_WAY};
+use crate::answers::{Answer, BUSY, UNDER_WAY, VALUE, number_of_fold};
 use crate::held::{Held, StackFold, StackPass};
 use crate::stage::Stage;
 use crate::steps::steps_for;
@@ -42,10 +42,10 @@ fn left(stack: Arc<Stack<u64>, Global>, made: FoldMade<u64>) -> (Held, Answer)
         FoldMade::Again(op) => (Held::StackFold(StackFold { stack, op }), Answer::of(BUSY)),
         FoldMade::Value(value, op) => {
             let fold = StackFold { stack, op };
-            (Held::StackFold(fold), Answer::of_value(value))
+            (Held::StackFold(fold), Answer::with(VALUE, value))
         }
         FoldMade::Done(by, said) => {
-            let stage = Stage::of(by);
+            let stage = Stage::of(by, number_of_fold(&said));
             let pass = StackPass { stack, stage };
             (Held::StackPass(pass), Answer::of_fold(said))
         }
@@ -60,7 +60,11 @@ impl StackPass {
         ensures gives { StackFolded self (front_from reversed) result.0 result.1 }
     {
         let StackPass { stack, stage } = self;
-        let Stage { resting, under_way } = stage;
+        let Stage {
+            resting,
+            under_way,
+            number,
+        } = stage;
         match resting {
             Some(by) => {
                 let op = begin(&stack, by, reversed);
@@ -70,6 +74,7 @@ impl StackPass {
                 let stage = Stage {
                     resting: None,
                     under_way,
+                    number,
                 };
                 let pass = StackPass { stack, stage };
                 (Held::StackPass(pass), Answer::of(UNDER_WAY))

@@ -92,6 +92,10 @@ pub enum Held {
     StackFold(StackFold),
     StackRange(StackRange),
     StackRangePut(StackRangePut),
+    /// What is left of a queue that was ended, and not handed out yet.
+    QueueRest(ms_queue::Rest<u64>),
+    /// The same of a stack.
+    StackRest(treiber_stack::Rest<u64>),
 }
 
 impl Held {

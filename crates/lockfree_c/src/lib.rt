@@ -10,6 +10,7 @@ mod answers;
 mod boxed;
 mod crossing;
 mod exports;
+mod finish;
 mod fold;
 mod handle;
 mod held;

@@ -4,12 +4,10 @@ ghost use Rattle.bounded_model.specs.Laws.{fresh};
 ghost use Rattle.bounded_model.specs.declared.commands.Command.TheVariants.{Put, Take};
 ghost use Rattle.queue_machine.specs.Answers.{shape};
 ghost use Rattle.running.specs.Passes.{root_in};
-ghost use Rattle.tagged_index.specs.declared.word.TheConstants.{MAX_TAG};
 ghost use Rattle.ms_queue.specs.Queue.{shape_of};
 ghost use Rattle.lockfree_c.specs.Held.{
   IsQueuePass,
   IsQueueRoot,
-  IsCapacity,
   QueueCalled,
   QueueWentOn,
   NewRefused,
@@ -25,16 +23,16 @@ use bounded_model::{Command, Container, Operation, Reply, Stepped};
 use ms_queue::Queue;
 use std::alloc::Global;
 use std::sync::Arc;
-use tagged_index::{Limits, MAX_TAG};
+use tagged_index::Limits;
 
 /// A new queue's root, or why there is none.
-pub fn new_queue(alloc: Global, capacity: u32) -> Result<QueueRoot, u32>
+pub fn new_queue(alloc: Global, capacity: u32, tag_limit: u64) -> Result<QueueRoot, u32>
     ensures { MatchResult result
         (λ r. IsQueueRoot r × (root_in r.root ≡ fresh)
-        × (shape_of r.queue.value ≡ shape capacity MAX_TAG))
-        (λ code. NewRefused capacity code) }
+        × (shape_of r.queue.value ≡ shape capacity tag_limit))
+        (λ code. NewRefused capacity tag_limit code) }
 {
-    let Some(limits) = Limits::of(capacity, MAX_TAG) else {
+    let Some(limits) = Limits::of(capacity, tag_limit) else {
         return Err(BAD_CAPACITY);
     };
     let Ok((queue, root)) = Queue::new(alloc, limits) else {
@@ -52,8 +50,9 @@ pub fn split_queue(root: QueueRoot) -> (QueueRoot, Result<QueuePass, u32>)
     ensures root { IsQueueRoot result.0 × (result.0.queue.value ≡ root.queue.value) }
     ensures gives { MatchResult result.1
         (λ p. (p.queue.value ≡ root.queue.value) × IsQueuePass p
-        × SplitOff (root_in root.root) (root_in result.0.root) p.stage)
-        (λ code. SplitRefused (root_in root.root) (root_in result.0.root) code) }
+        × SplitOff (shape_of root.queue.value) (root_in root.root) (root_in result.0.root) p.stage)
+        (λ code. SplitRefused (shape_of root.queue.value)
+        (root_in root.root) (root_in result.0.root) code) }
 {
     let QueueRoot { queue, root } = root;
     let mut root = root;
@@ -64,7 +63,7 @@ pub fn split_queue(root: QueueRoot) -> (QueueRoot, Result<QueuePass, u32>)
         Some(by) => {
             let pass = QueuePass {
                 queue: shared,
-                stage: Stage::of(by),
+                stage: Stage::of(by, 0),
             };
             (QueueRoot { queue, root }, Ok(pass))
         }

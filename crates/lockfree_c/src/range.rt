@@ -12,7 +12,7 @@ ghost use Rattle.lockfree_c.specs.Held.{
   RangeWentOn,
 };
 
-use crate::answers::{Answer, BUSY, EMPTY, NO_MEMORY, OK, UNDER_WAY};
+use crate::answers::{Answer, BUSY, EMPTY, NO_MEMORY, OK, UNDER_WAY, number_of_range};
 use crate::held::{Held, StackPass, StackRange, StackRangePut};
 use crate::stage::Stage;
 use crate::steps::steps_for;
@@ -35,7 +35,7 @@ fn left(
             (Held::StackRangePut(put), Answer::of(BUSY))
         }
         Stepped::Done(by, said) => {
-            let stage = Stage::of(by);
+            let stage = Stage::of(by, number_of_range(&said));
             let pass = StackPass { stack, stage };
             (Held::StackPass(pass), Answer::of_range(said))
         }
@@ -51,11 +51,16 @@ impl StackPass {
         ensures gives { RangeBegan self value result.0 result.1 }
     {
         let StackPass { stack, stage } = self;
-        let Stage { resting, under_way } = stage;
+        let Stage {
+            resting,
+            under_way,
+            number,
+        } = stage;
         let Some(by) = resting else {
             let stage = Stage {
                 resting: None,
                 under_way,
+                number,
             };
             return (Held::StackPass(StackPass { stack, stage }), UNDER_WAY);
         };
@@ -69,6 +74,7 @@ impl StackPass {
                 let stage = Stage {
                     resting: Some(by),
                     under_way,
+                    number,
                 };
                 (Held::StackPass(StackPass { stack, stage }), NO_MEMORY)
             }

@@ -4,12 +4,10 @@ ghost use Rattle.bounded_model.specs.Laws.{fresh};
 ghost use Rattle.bounded_model.specs.declared.commands.Command.TheVariants.{Put, Take};
 ghost use Rattle.stack_machine.specs.Answers.{shape};
 ghost use Rattle.running.specs.Passes.{root_in};
-ghost use Rattle.tagged_index.specs.declared.word.TheConstants.{MAX_TAG};
 ghost use Rattle.treiber_stack.specs.Stack.{shape_of};
 ghost use Rattle.lockfree_c.specs.Held.{
   IsStackPass,
   IsStackRoot,
-  IsCapacity,
   StackCalled,
   StackWentOn,
   NewRefused,
@@ -24,17 +22,17 @@ use bounded_calls::BoundedCalls;
 use bounded_model::{Command, Container, Operation, Reply, Stepped};
 use std::alloc::Global;
 use std::sync::Arc;
-use tagged_index::{Limits, MAX_TAG};
+use tagged_index::Limits;
 use treiber_stack::Stack;
 
 /// A new stack's root, or why there is none.
-pub fn new_stack(alloc: Global, capacity: u32) -> Result<StackRoot, u32>
+pub fn new_stack(alloc: Global, capacity: u32, tag_limit: u64) -> Result<StackRoot, u32>
     ensures { MatchResult result
         (λ r. IsStackRoot r × (root_in r.root ≡ fresh)
-        × (shape_of r.stack.value ≡ shape capacity MAX_TAG))
-        (λ code. NewRefused capacity code) }
+        × (shape_of r.stack.value ≡ shape capacity tag_limit))
+        (λ code. NewRefused capacity tag_limit code) }
 {
-    let Some(limits) = Limits::of(capacity, MAX_TAG) else {
+    let Some(limits) = Limits::of(capacity, tag_limit) else {
         return Err(BAD_CAPACITY);
     };
     let Ok((stack, root)) = Stack::new(alloc, limits) else {
@@ -52,8 +50,9 @@ pub fn split_stack(root: StackRoot) -> (StackRoot, Result<StackPass, u32>)
     ensures root { IsStackRoot result.0 × (result.0.stack.value ≡ root.stack.value) }
     ensures gives { MatchResult result.1
         (λ p. (p.stack.value ≡ root.stack.value) × IsStackPass p
-        × SplitOff (root_in root.root) (root_in result.0.root) p.stage)
-        (λ code. SplitRefused (root_in root.root) (root_in result.0.root) code) }
+        × SplitOff (shape_of root.stack.value) (root_in root.root) (root_in result.0.root) p.stage)
+        (λ code. SplitRefused (shape_of root.stack.value)
+        (root_in root.root) (root_in result.0.root) code) }
 {
     let StackRoot { stack, root } = root;
     let mut root = root;
@@ -64,7 +63,7 @@ pub fn split_stack(root: StackRoot) -> (StackRoot, Result<StackPass, u32>)
         Some(by) => {
             let pass = StackPass {
                 stack: shared,
-                stage: Stage::of(by),
+                stage: Stage::of(by, 0),
             };
             (StackRoot { stack, root }, Ok(pass))
         }

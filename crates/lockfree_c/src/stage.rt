@@ -1,7 +1,7 @@
 //! Where a pass is: between its calls, or in one.
 ghost use Rattle.std.specs.Prelude.{◌≡◌, None, Some};
 
-use crate::answers::{Answer, BUSY};
+use crate::answers::{Answer, BUSY, OK, UNDER_WAY, number_of};
 use bounded_model::{Reply, Stepped};
 
 /// A pass between its calls, or the call that it is in. They stand apart, so that a call that ends
@@ -10,20 +10,34 @@ use bounded_model::{Reply, Stepped};
 pub struct Stage<P, O> {
     pub resting: Option<P>,
     pub under_way: Option<O>,
+    /// The number of the call that ended last, or 0.
+    pub number: u64,
 }
 
 impl<P: Drop, O: Drop> Stage<P, O> {
     ghost use Rattle.bounded_model.specs.declared.answers.Stepped.TheVariants.{Done};
-    ghost use Rattle.lockfree_c.specs.Stages.{LeftBy};
+    ghost use Rattle.lockfree_c.specs.Stages.{LeftBy, Rests, SaysNumber};
 
-    /// A pass between its calls.
+    /// A pass between its calls, after one with this number.
     #[inline]
-    pub fn of(by: P) -> Stage<P, O>
-        ensures { (result.resting ≡ Some by) × (result.under_way ≡ None) }
+    pub fn of(by: P, number: u64) -> Stage<P, O>
+        ensures { Rests result by number }
     {
         Stage {
             resting: Some(by),
             under_way: None,
+            number,
+        }
+    }
+
+    /// The number of the call that ended last; not while one is under way.
+    #[inline]
+    pub fn number(&self) -> Answer
+        ensures { SaysNumber self.now result }
+    {
+        match self.resting {
+            Some(_) => Answer::with(OK, self.number),
+            None => Answer::of(UNDER_WAY),
         }
     }
 
@@ -34,6 +48,7 @@ impl<P: Drop, O: Drop> Stage<P, O> {
         ensures { LeftBy (Done by said) self.new result }
     {
         self.resting = Some(by);
+        self.number = number_of(&said);
         Answer::of_reply(said)
     }
 

@@ -19,7 +19,7 @@ returns-in-Done-clause-gives c =
 pub go_on-requires : goal.go_on-requires
 go_on-requires c =
     let tried = subst (λ on. PutTried on c.args.value (pass_in c.in-Some.by) (Again c.in-Again.op)) c.deref.ensures c.in-Again.ensures in
-    set_out (queue_reading c.args.self.now.queue.value) (Put c.args.value) c.take.new.self (operation.Put c.in-Again.op) c.take.ensures.after tried.0
+    set_out (queue_reading c.args.self.now.queue.value) (Put c.args.value) c.take.new.self (operation.Put c.in-Again.op) c.args.self.now.stage.number c.take.ensures.after tried.0
 
 pub returns-in-Again-clause-gives : goal.returns-in-Again-clause-gives
 returns-in-Again-clause-gives c =
