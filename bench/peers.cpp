@@ -6,8 +6,9 @@
 // KIND: stack or queue: Boost.Lockfree's, bounded, with its nodes in the container, as an array, which
 // is its fastest form; mutex-stack or mutex-queue: a std::mutex over a std::vector or a std::deque;
 // moodycamel: moodycamel::ConcurrentQueue, where its header is there. WORK: nanoseconds of work before
-// each put and after each take. CAPACITY is given when it is compiled (-DCAPACITY=4096). With -DOURS the
-// stack and the queue are those of this repository, as C++ calls them, and there are no others.
+// each put and after each take. CAPACITY is given when it is compiled (-DCAPACITY=4096), and so are the bytes of a value:
+// the item, and room beside it (-DVALUE_BYTES=64). With -DOURS the stack and the queue are those of this repository,
+// as C++ calls them, and there are no others.
 //
 // Two runs are made, as there: the first gives nanoseconds per item, the second, with the clock read
 // before and after each call, the percentiles. A refused caller gives 50 spin hints and then yields.
@@ -46,68 +47,86 @@ namespace containers = boost::lockfree;
 #ifndef CAPACITY
 #define CAPACITY 4096
 #endif
+#ifndef VALUE_BYTES
+#define VALUE_BYTES 8
+#endif
 
 namespace {
 
 using Item = std::uint64_t;
 using Clock = std::chrono::steady_clock;
-using Stack = containers::stack<Item, containers::capacity<CAPACITY>>;
-using Queue = containers::queue<Item, containers::capacity<CAPACITY>>;
+
+// What lies in a container.
+#if VALUE_BYTES == 8
+using Value = Item;
+Value value_of(Item item) { return item; }
+Item item_of(Value value) { return value; }
+#else
+struct Value {
+    Item item;
+    Item rest[VALUE_BYTES / 8 - 1];
+};
+Value value_of(Item item) { return Value{item, {}}; }
+Item item_of(const Value& value) { return value.item; }
+#endif
+
+using Stack = containers::stack<Value, containers::capacity<CAPACITY>>;
+using Queue = containers::queue<Value, containers::capacity<CAPACITY>>;
 
 class MutexStack {
 public:
-    MutexStack() { items_.reserve(CAPACITY); }
+    MutexStack() { values_.reserve(CAPACITY); }
 
-    bool push(Item item) {
+    bool push(const Value& value) {
         const std::lock_guard<std::mutex> guard(mutex_);
-        if (items_.size() >= CAPACITY) return false;
-        items_.push_back(item);
+        if (values_.size() >= CAPACITY) return false;
+        values_.push_back(value);
         return true;
     }
 
-    bool pop(Item& item) {
+    bool pop(Value& value) {
         const std::lock_guard<std::mutex> guard(mutex_);
-        if (items_.empty()) return false;
-        item = items_.back();
-        items_.pop_back();
+        if (values_.empty()) return false;
+        value = values_.back();
+        values_.pop_back();
         return true;
     }
 
 private:
     std::mutex mutex_;
-    std::vector<Item> items_;
+    std::vector<Value> values_;
 };
 
 class MutexQueue {
 public:
-    bool push(Item item) {
+    bool push(const Value& value) {
         const std::lock_guard<std::mutex> guard(mutex_);
-        if (items_.size() >= CAPACITY) return false;
-        items_.push_back(item);
+        if (values_.size() >= CAPACITY) return false;
+        values_.push_back(value);
         return true;
     }
 
-    bool pop(Item& item) {
+    bool pop(Value& value) {
         const std::lock_guard<std::mutex> guard(mutex_);
-        if (items_.empty()) return false;
-        item = items_.front();
-        items_.pop_front();
+        if (values_.empty()) return false;
+        value = values_.front();
+        values_.pop_front();
         return true;
     }
 
 private:
     std::mutex mutex_;
-    std::deque<Item> items_;
+    std::deque<Value> values_;
 };
 
 #ifdef MOODYCAMEL
 class Moodycamel {
 public:
-    bool push(Item item) { return items_.try_enqueue(item); }
-    bool pop(Item& item) { return items_.try_dequeue(item); }
+    X
+    bool pop(Value& value) { return values_.try_dequeue(item); }
 
 private:
-    moodycamel::ConcurrentQueue<Item> items_{CAPACITY};
+    moodycamel::ConcurrentQueue<Value> values_{CAPACITY};
 };
 #endif
 
@@ -180,17 +199,20 @@ struct Outcome {
 
 template <class Container, class Meter>
 bool put(Container& container, Item item, Meter& meter) {
+    const Value value = value_of(item);
     const std::uint64_t begun = Meter::begin();
-    const bool done = container.push(item);
+    const bool done = container.push(value);
     meter.end(begun);
     return done;
 }
 
 template <class Container, class Meter>
 bool take(Container& container, Item& item, Meter& meter) {
+    Value value{};
     const std::uint64_t begun = Meter::begin();
-    const bool done = container.pop(item);
+    const bool done = container.pop(value);
     meter.end(begun);
+    item = item_of(value);
     return done;
 }
 

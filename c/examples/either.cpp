@@ -2,10 +2,12 @@
 #ifdef OVER_LOCKFREE
 #include <lockfree.hpp>
 namespace containers = lockfree;
+template <class T> using shelf_of = lockfree::bounded_stack<T>;
 #else
 #include <boost/lockfree/queue.hpp>
 #include <boost/lockfree/stack.hpp>
 namespace containers = boost::lockfree;
+template <class T> using shelf_of = boost::lockfree::stack<T>;  // 1.74's of a fixed size takes no range
 #endif
 
 #include <atomic>
@@ -82,7 +84,7 @@ int main() {
     one_thread("queue", orders);
     one_thread("stack", held);
     all_at_once("stack", held);
-    containers::stack<order> shelf(5);
+    shelf_of<order> shelf(5);
     ranges("stack", shelf);
     containers::queue<int, containers::capacity<128>> numbers;
     containers::stack<int, containers::fixed_sized<true>> pile(128);

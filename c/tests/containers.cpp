@@ -122,7 +122,7 @@ template <class Container> void refusals() {
 // Each value comes out once, and is destroyed once, also where the function throws.
 void folds_of_all_values() {
     {
-        lockfree::stack<counted> stack(64);
+        lockfree::stack<counted, lockfree::fixed_sized<true>> stack(64);
         std::vector<long> seen;
         const auto note = [&](counted &value) { seen.push_back(*value.number); };
         CHECK(stack.consume_all_atomic(note) == 0);
@@ -162,7 +162,7 @@ void folds_that_call_their_stack() {
 
 void folds_of_many_threads(bool reversed) {
     {
-        lockfree::stack<counted> stack(64);
+        lockfree::stack<counted, lockfree::fixed_sized<true>> stack(64);
         std::vector<std::atomic<int>> seen(sides * each);
         std::atomic<long> taken{0};
         std::vector<std::thread> threads;
@@ -189,7 +189,7 @@ void folds_of_many_threads(bool reversed) {
 // What of a range is not put is destroyed, and what is put comes out, the last of it first.
 void ranges() {
     {
-        lockfree::stack<counted> stack(4);
+        lockfree::stack<counted, lockfree::fixed_sized<true>> stack(4);
         std::vector<counted> values;
         for (long i = 1; i <= 6; ++i) values.emplace_back(i);
         CHECK(stack.push(values.begin(), values.begin()) == values.begin() && stack.empty());
@@ -238,7 +238,7 @@ struct reads {
 void ranges_that_throw() {
     {
         std::vector<std::unique_ptr<third_throws>> values;
-        lockfree::stack<third_throws> stack(8);
+        lockfree::stack<third_throws, lockfree::fixed_sized<true>> stack(8);
         for (long i = 1; i <= 4; ++i) values.push_back(std::make_unique<third_throws>(i));
         bool thrown = false;
         try {
@@ -254,7 +254,7 @@ void ranges_that_throw() {
 
 void ranges_of_many_threads() {
     {
-        lockfree::stack<counted> stack(64);
+        lockfree::stack<counted, lockfree::fixed_sized<true>> stack(64);
         std::vector<std::atomic<int>> seen(sides * each);
         std::atomic<long> taken{0};
         std::vector<std::thread> threads;
@@ -289,14 +289,14 @@ void ranges_of_many_threads() {
 }
 
 template <template <class, class...> class Container> void all() {
-    values_with_destructors<Container<counted>>();
+    values_with_destructors<Container<counted, lockfree::fixed_sized<true>>>();
     for (const bool own_passes : {false, true}) {
-        many_threads<Container<counted>>(own_passes);
+        many_threads<Container<counted, lockfree::fixed_sized<true>>>(own_passes);
         CHECK(counted::alive == 0);
     }
-    threads_come_and_go<Container<int>>();
-    containers_end<Container<int>>();
-    refusals<Container<int>>();
+    threads_come_and_go<Container<int, lockfree::fixed_sized<true>>>();
+    containers_end<Container<int, lockfree::fixed_sized<true>>>();
+    refusals<Container<int, lockfree::fixed_sized<true>>>();
     Container<std::string, lockfree::capacity<2>> texts;
     std::string out;
     CHECK(texts.push("a") && texts.bounded_push(std::string(100, 'b')) && !texts.push("c") && texts.pop(out));

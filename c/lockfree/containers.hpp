@@ -1,0 +1,203 @@
+// The containers and their passes: who has a share of a core, and by which seat it is called.
+#pragma once
+
+#include "bulk.hpp"
+#include "calls.hpp"
+#include "threads.hpp"
+
+#include <cstddef>
+#include <memory>
+#include <new>
+#include <type_traits>
+#include <utility>
+
+namespace lockfree {
+inline namespace v0_2 {
+namespace detail {
+
+/// One thread's own way to a container: of `split`. It moves, and has no copy. When it ends it goes back to its container,
+/// under a lock. It may outlive the container, and goes on then; values that it still pushes end with the last pass.
+template <class T, kind K> class pass_of : public all_calls<pass_of<T, K>, T, K> {
+public:
+    /// An empty pass: each of its calls says no_pass.
+    pass_of() noexcept = default;
+    pass_of(pass_of &&other) noexcept : of(std::exchange(other.of, nullptr)), by(std::exchange(other.by, nullptr)) {}
+    pass_of &operator=(pass_of &&other) noexcept {
+        pass_of(std::move(other)).swap(*this);
+        return *this;
+    }
+    ~pass_of() {
+        if (!of) return;
+        if (by) of->give_back(by);
+        drop_user<T>(*of);
+    }
+    void swap(pass_of &other) noexcept {
+        std::swap(of, other.of);
+        std::swap(by, other.by);
+    }
+    /// Whether it is not empty.
+    explicit operator bool() const noexcept { return of != nullptr; }
+
+private:
+    template <class, kind, class...> friend class container;
+    template <class, class, kind> friend class calls;
+    template <class, class> friend class bulk;
+    core *of = nullptr;
+    seat *by = nullptr;  // null also if a fold has it
+
+    /// A seat of the core, and a share in it.
+    pass_of(core &from, seat &with) noexcept : of(&from), by(&with) { from.add_user(); }
+
+    core *shared() const noexcept { return of; }
+    std::uint32_t ready() noexcept { return !of ? std::uint32_t{LOCKFREE_NO_PASS} : by ? std::uint32_t{LOCKFREE_OK} : of->take_seat(by); }
+
+    template <class F> status with(F &&call) {
+        const std::uint32_t code = ready();
+        return code == LOCKFREE_OK ? call(*of, *by) : status_of(code);
+    }
+    template <class F> status with_lent(F &&call) {
+        const std::uint32_t code = ready();
+        if (code != LOCKFREE_OK) return status_of(code);
+        const lent out(*of, by);
+        return call(*of, *out.by);
+    }
+};
+
+/// A core that is a container's from now on.
+struct adopted {
+    core *from;
+};
+
+template <class T, kind K, class... Options> class container : public all_calls<container<T, K, Options...>, T, K> {
+    using given = options<Options...>;
+    static_assert(given::sound());
+    static_assert(std::is_object_v<T> && !std::is_const_v<T> && !std::is_volatile_v<T> && !std::is_array_v<T>,
+                  "lockfree: values are of an object type, with no const or volatile, and no array");
+    static_assert(std::is_nothrow_destructible_v<T>, "lockfree: the destructor of a value throws nothing");
+    using base = all_calls<container, T, K>;
+    static constexpr bool sized = given::size != 0;
+
+public:
+    using value_type = T;
+    using size_type = std::size_t;
+    using pass = pass_of<T, K>;
+
+    /// With capacity<N>. Takes all memory that pushes and pops need, whatever T is. std::bad_alloc.
+    template <bool Sized = sized, class = std::enable_if_t<Sized>>
+    explicit container(tag_limit limit) : container(adopted{made(given::size, limit)}) {}
+    template <bool Sized = sized, class = std::enable_if_t<Sized>> container() : container(adopted{made(given::size, {greatest_tag})}) {}
+    /// With fixed_sized<true>. Room for 1 to 1,048,573 values. std::bad_alloc, std::invalid_argument.
+    template <bool Sized = sized, class = std::enable_if_t<!Sized>>
+    explicit container(size_type room, tag_limit limit = {greatest_tag}) : container(adopted{made(room, limit)}) {
+        static_assert(given::fixed || Sized,
+                      "lockfree: Boost's container of a size without fixed_sized<true> grows, and none here does: "
+                      "say fixed_sized<true>, or bounded_queue<T> or bounded_stack<T>");
+    }
+    explicit container(adopted by_make) noexcept : of(by_make.from), place(of->place % recent_calls) {}
+    container(const container &) = delete;
+    container &operator=(const container &) = delete;
+    /// No thread calls any more but by passes of `split`. All values that are left end, whoever pushed them; if it is spent
+    /// or shut and passes are out, with the last of these.
+    ~container() {
+        if (!of->has_one_user()) end_left<T>(*of);
+        if (state_of_thread == thread_state::calls) mine().forget(*of);
+        drop_user<T>(*of);
+    }
+
+    /// A pass that a thread keeps itself, which spares each call the look for it. Made under a lock; takes memory if more
+    /// are out than ever before. At most 65,534 are out at a time, with those of the threads that have called. try_split's
+    /// is empty if there is no memory or no pass; split throws std::bad_alloc or std::length_error.
+    pass split() {
+        seat *by = nullptr;
+        throw_for(of->take_seat(by));
+        return pass(*of, *by);
+    }
+    pass try_split() noexcept {
+        seat *by = nullptr;
+        return of->take_seat(by) == LOCKFREE_OK ? pass(*of, *by) : pass();
+    }
+
+    /// Ends the container, and hands each value that is left to `use`, as consume_one does: a queue's from the front, a
+    /// stack's from the top; also of a container that is spent or shut. No other thread calls. `ok`, and from then on each
+    /// call says closed; or `shared` if a pass of `split` is out, and nothing has changed. If `use` throws, the values
+    /// that it has not got stay, for `finish` again.
+    template <class F> status finish(F &&use) {
+        if (!of->has_one_user()) return status::shared;
+        of->finish([&](seat &by, std::uint64_t word) {
+            use_word<T>(*of, by, word, [&](T &value) { hand_over(use, value); });
+        });
+        return status::ok;
+    }
+
+    /// For a thread that calls alone, as Boost's: the same calls here.
+    bool unsynchronized_push(const T &value) { return base::push(value); }
+    bool unsynchronized_push(T &&value) { return base::push(std::move(value)); }
+    template <class It, kind Of = K, class = std::enable_if_t<Of == kind::stack>> It unsynchronized_push(It begin, It end) {
+        return base::push(begin, end);
+    }
+    template <class U> bool unsynchronized_pop(U &to) { return base::pop(to); }
+
+    /// Boost's, and refused when compiled.
+    template <class N> void reserve(N) {
+        static_assert(never_compiled<N>, "lockfree: no container here grows, so there is nothing to reserve: its constructor takes all memory");
+    }
+    template <class N> void reserve_unsafe(N) {
+        static_assert(never_compiled<N>, "lockfree: no container here grows, so there is nothing to reserve: its constructor takes all memory");
+    }
+
+private:
+    template <class, class, kind> friend class calls;
+    template <class, class> friend class bulk;
+    template <class Container, class... Room> friend std::unique_ptr<Container> make(Room... room) noexcept;
+    core *const of;
+    const std::size_t place;
+
+    static std::uint32_t make_core(core *&to, size_type room, tag_limit limit) noexcept {
+        return core::make(K, room, layout_of<T>(), limit.most, to);
+    }
+    static std::uint32_t make_core(core *&to, tag_limit limit) noexcept { return make_core(to, given::size, limit); }
+    static core *made(size_type room, tag_limit limit) {
+        core *to = nullptr;
+        throw_for(make_core(to, room, limit));
+        return to;
+    }
+
+    core *shared() const noexcept { return of; }
+
+    /// By the seat that the thread has at hand, mostly.
+    template <class F> status with(F &&call) {
+        const recent_call &known = recent[place];
+        if (__builtin_expect(known.of == of, 1)) return call(*of, *known.by);
+        return with_place(call);
+    }
+    template <class F> [[gnu::cold, gnu::noinline]] status with_place(F &call) {
+        const seat_place here(*of);
+        if (here.code != LOCKFREE_OK) return status_of(here.code);
+        if (here.is_the_threads()) recent[place] = {of, *here.at};
+        return call(*of, **here.at);
+    }
+    template <class F> status with_lent(F &&call) {
+        const seat_place here(*of);
+        if (here.code != LOCKFREE_OK) return status_of(here.code);
+        struct forgets {
+            recent_call &known;
+            explicit forgets(recent_call &at) noexcept : known(at) { known = {}; }
+            ~forgets() { known = {}; }
+        } const others(recent[place]);
+        const lent out(*of, *here.at);
+        return call(*of, *out.by);
+    }
+};
+
+/// A container of a core that is made for it, or null.
+template <class Container, class... Room> std::unique_ptr<Container> make(Room... room) noexcept {
+    core *of = nullptr;
+    if (Container::make_core(of, room...) != LOCKFREE_OK) return nullptr;
+    std::unique_ptr<Container> made(new (std::nothrow) Container(adopted{of}));
+    if (!made) drop_user<typename Container::value_type>(*of);
+    return made;
+}
+
+}  // namespace detail
+}  // namespace v0_2
+}  // namespace lockfree

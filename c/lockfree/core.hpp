@@ -1,0 +1,182 @@
+// What the containers and passes of one container share: the root, the seats, the cells.
+#pragma once
+
+#include "cells.hpp"
+#include "options.hpp"
+#include "status.hpp"
+
+#include <atomic>
+#include <cstddef>
+#include <mutex>
+#include <new>
+#include <utility>
+
+namespace lockfree {
+inline namespace v0_2 {
+namespace detail {
+
+/// A pass, and what its thread has at hand. On cache lines of its own: its thread writes it at each call.
+struct alignas(64) seat {
+    handle pass;
+    cells_at_hand cells;
+    std::atomic<std::uint64_t> pushed{0};  // the number of its last push, and 1
+    seat *next_resting = nullptr;
+    seat *next_made = nullptr;
+};
+
+/// The shared part of a container. Its seats and values live as long as it has a user: the container, or a pass of
+/// `split`. The core itself lives as long as it has a holder: a thread that has called it also is one.
+///
+/// A seat that is given back is the next caller's, so that only those count that are out at a time. One is always kept
+/// back: by this what is left is taken when the container ends, with no memory and no pass.
+class core {
+public:
+    /// A new core with one user, or null and why. OK, NO_MEMORY, BAD_CAPACITY; OTHER_HANDLE if archive and headers differ.
+    static std::uint32_t make(kind which, std::size_t room, cell_layout layout, std::uint64_t most, core *&to) noexcept {
+        if (lockfree_version() / 100 != LOCKFREE_H_VERSION / 100) return LOCKFREE_OTHER_HANDLE;
+        core *const made = new (std::nothrow) core(which, room, layout, most);
+        if (!made) return LOCKFREE_NO_MEMORY;
+        const std::uint32_t code = made->open();
+        if (code == LOCKFREE_OK) to = made;
+        else delete made;
+        return code;
+    }
+    core(const core &) = delete;
+    core &operator=(const core &) = delete;
+
+    const kind which;
+    const std::size_t room;
+    const std::uint64_t most;  // the tag limit
+    /// Which of a thread's places at hand is this container's.
+    const std::size_t place = next_place();
+    /// What some call has heard. They change once.
+    std::atomic<bool> closed{false}, spent{false};
+
+    /// A seat that nobody has, or why there is none. It stays where it is. OK, NO_MEMORY, NO_PASS.
+    std::uint32_t take_seat(seat *&to) noexcept {
+        const std::lock_guard<std::mutex> guard(lock);
+        if (!resting) return make_seat(to);
+        to = std::exchange(resting, resting->next_resting);
+        return LOCKFREE_OK;
+    }
+    /// Nothing, if the container has ended meanwhile: its seats have, too.
+    void give_back(seat *of) noexcept {
+        const std::lock_guard<std::mutex> guard(lock);
+        if (!has_ended) of->next_resting = std::exchange(resting, of);
+    }
+
+    void *take_cell(seat &by) noexcept { return cells.take(by.cells, lock); }
+    void give_cell(seat &by, void *cell) noexcept { cells.give(by.cells, cell, lock); }
+
+    /// How many values were pushed before now, of those whose push has returned. (Of a stack: calls, of which the last was
+    /// a push.)
+    std::uint64_t pushed() const noexcept {
+        std::uint64_t most_pushed = 0;
+        for (const seat *at = made.load(std::memory_order_acquire); at; at = at->next_made) {
+            const std::uint64_t of_seat = at->pushed.load(std::memory_order_relaxed);
+            if (of_seat > most_pushed) most_pushed = of_seat;
+        }
+        return most_pushed;
+    }
+
+    void add_user() noexcept { users.fetch_add(1, std::memory_order_relaxed); }
+    /// Whether it was the last one, who then calls `end`.
+    bool drop_user() noexcept { return users.fetch_sub(1, std::memory_order_acq_rel) == 1; }
+    bool has_one_user() const noexcept { return users.load(std::memory_order_acquire) == 1; }
+    void add_holder() noexcept { holders.fetch_add(1, std::memory_order_relaxed); }
+    void drop_holder() noexcept {
+        if (holders.fetch_sub(1, std::memory_order_acq_rel) == 1) delete this;
+    }
+    bool ended() noexcept {
+        const std::lock_guard<std::mutex> guard(lock);
+        return has_ended;
+    }
+
+    /// Hands the word of each value that is left to `use`, with a seat, while others may still call: as many as fit.
+    template <class F> void take_left(F &&use) noexcept {
+        for (std::size_t count = 0; count < room; ++count) {
+            const lockfree_answer answer = detail::take(kept->pass);
+            if (answer.code != LOCKFREE_OK) break;
+            gets(this);
+            use(*kept, answer.value);
+        }
+    }
+
+    /// The same, when nobody calls any more, of all that is left, also if it is spent or shut. Then no pass is left, and
+    /// each call says closed. `use` may throw: then the others stay for the next call.
+    template <class F> void finish(F &&use) {
+        for (seat *at = made.load(std::memory_order_acquire); at; at = at->next_made) at->pass.free();
+        gets(this);
+        for (;;) {
+            const lockfree_answer answer = lockfree_finish(&root);
+            if (answer.code != LOCKFREE_VALUE) break;
+            use(*kept, answer.value);
+        }
+        closed.store(true);
+    }
+
+    /// Frees all, when no value is left and nobody calls any more. The holder that the last user is goes, too.
+    void end() noexcept {
+        {
+            const std::lock_guard<std::mutex> guard(lock);
+            has_ended = true;
+            free_all();
+        }
+        drop_holder();
+    }
+
+private:
+    core(kind of, std::size_t capacity, cell_layout layout, std::uint64_t tags) noexcept
+        : which(of), room(capacity), most(tags), cells(layout) {}
+    ~core() { free_all(); }
+
+    std::mutex lock;
+    handle root;
+    cell_store cells;
+    seat *kept = nullptr;     // the seat that no thread gets
+    seat *resting = nullptr;  // those that nobody has
+    std::atomic<seat *> made{nullptr};
+    bool has_ended = false;
+    std::atomic<std::uint32_t> users{1}, holders{1};
+
+    static std::size_t next_place() noexcept {
+        static std::atomic<std::size_t> places{0};
+        return places.fetch_add(1, std::memory_order_relaxed);
+    }
+
+    std::uint32_t open() noexcept {
+        if (room > UINT32_MAX) return LOCKFREE_BAD_CAPACITY;
+        const auto capacity = static_cast<std::uint32_t>(room);
+        std::uint32_t code = which == kind::queue ? lockfree_queue_limited(&root, capacity, most)
+                                                  : lockfree_stack_limited(&root, capacity, most);
+        if (code == LOCKFREE_OK) code = cells.open(room);
+        if (code == LOCKFREE_OK) code = make_seat(kept);
+        return code == LOCKFREE_OK ? cells.add_for(room, kept->cells) : code;
+    }
+
+    std::uint32_t make_seat(seat *&to) noexcept {
+        seat *const last = new (std::nothrow) seat;
+        if (!last) return LOCKFREE_NO_MEMORY;
+        std::uint32_t code = lockfree_split(&root, &last->pass);
+        if (code == LOCKFREE_OK) code = cells.join(last->cells);
+        if (code != LOCKFREE_OK) {
+            delete last;
+            return code;
+        }
+        last->next_made = made.load(std::memory_order_relaxed);
+        made.store(last, std::memory_order_release);
+        to = last;
+        return LOCKFREE_OK;
+    }
+
+    void free_all() noexcept {
+        for (seat *at = made.exchange(nullptr); at;) delete std::exchange(at, at->next_made);
+        resting = nullptr;
+        cells.clear();
+        root.free();
+    }
+};
+
+}  // namespace detail
+}  // namespace v0_2
+}  // namespace lockfree

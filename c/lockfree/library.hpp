@@ -1,0 +1,66 @@
+// The C library as the C++ headers call it: handles that free themselves, whole calls, and what ThreadSanitizer is told.
+#pragma once
+
+#include "../lockfree.h"
+
+#include <cstdint>
+
+#if defined(__SANITIZE_THREAD__)
+#define LOCKFREE_UNDER_TSAN 1
+#elif defined(__has_feature)
+#if __has_feature(thread_sanitizer)
+#define LOCKFREE_UNDER_TSAN 1
+#endif
+#endif
+#ifdef LOCKFREE_UNDER_TSAN
+extern "C" void __tsan_acquire(void *);
+extern "C" void __tsan_release(void *);
+#endif
+
+namespace lockfree {
+inline namespace v0_2 {
+namespace detail {
+
+enum class kind { queue, stack };
+
+/// What a push orders before the pop of its value. The library's atomics do it; ThreadSanitizer, which does not see
+/// them, is told, of each container by itself.
+inline void gives([[maybe_unused]] const void *to) noexcept {
+#ifdef LOCKFREE_UNDER_TSAN
+    __tsan_release(const_cast<void *>(to));
+#endif
+}
+inline void gets([[maybe_unused]] const void *from) noexcept {
+#ifdef LOCKFREE_UNDER_TSAN
+    __tsan_acquire(const_cast<void *>(from));
+#endif
+}
+
+/// A root or a pass, freed when it ends. An empty one is all zero.
+struct handle : lockfree_handle {
+    handle() noexcept : lockfree_handle{} {}
+    handle(const handle &) = delete;
+    handle &operator=(const handle &) = delete;
+    ~handle() { free(); }
+    void free() noexcept { lockfree_free(this); }
+};
+
+/// Goes on with a call until it has another answer than BUSY. The names in parentheses go around lockfree.h's own
+/// messages to ThreadSanitizer, which order all containers with one another.
+inline lockfree_answer whole(handle &pass, lockfree_answer answer) noexcept {
+    while (__builtin_expect(answer.code == LOCKFREE_BUSY, 0)) answer = (lockfree_go_on)(&pass, UINT64_MAX);
+    return answer;
+}
+inline lockfree_answer put(handle &pass, std::uint64_t word) noexcept {
+    return whole(pass, (lockfree_put)(&pass, word, UINT64_MAX));
+}
+inline lockfree_answer take(handle &pass) noexcept { return whole(pass, (lockfree_take)(&pass, UINT64_MAX)); }
+
+inline std::uint64_t word_of(const void *place) noexcept { return reinterpret_cast<std::uintptr_t>(place); }
+template <class Place> Place *place_of(std::uint64_t word) noexcept {
+    return reinterpret_cast<Place *>(static_cast<std::uintptr_t>(word));
+}
+
+}  // namespace detail
+}  // namespace v0_2
+}  // namespace lockfree

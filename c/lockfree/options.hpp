@@ -1,0 +1,80 @@
+// The options of a container, Boost's names. What they cannot mean here is refused when it is compiled, with the reason.
+#pragma once
+
+#include <cstddef>
+#include <cstdint>
+
+namespace lockfree {
+inline namespace v0_2 {
+
+/// The capacity, 1 to 1,048,573, known when it is compiled. Implies fixed_sized<true>.
+template <std::size_t N> struct capacity {};
+/// fixed_sized<true>: the capacity is given to the constructor. fixed_sized<false> is refused: no container here grows.
+template <bool Fixed> struct fixed_sized {};
+/// Is refused: the memory of a container is the library's. (Boost's name, so that the reason can be said.)
+template <class Alloc> struct allocator {};
+
+struct uses_optional_t {};
+/// For `pop(uses_optional)`, as Boost's.
+inline constexpr uses_optional_t uses_optional{};
+
+/// For a constructor: how far a container wears before it is spent, 2 to 2^42 - 1, so that a program can be tried with a
+/// spent container. A queue takes `most - 1` values in its life; a stack makes `most` pushes and pops in all.
+struct tag_limit {
+    std::uint64_t most;
+};
+
+namespace detail {
+
+/// The greatest tag, and so the limit of a container that is given none.
+inline constexpr std::uint64_t greatest_tag = (std::uint64_t{1} << 42) - 1;
+
+struct plain_option {
+    static constexpr bool known = true, sizes = false, fixes = false, grows = false, allocates = false;
+    static constexpr std::size_t size = 0;
+};
+template <class Option> struct option : plain_option {
+    static constexpr bool known = false;
+};
+template <std::size_t N> struct option<capacity<N>> : plain_option {
+    static_assert(N >= 1 && N <= 1048573, "lockfree: a capacity is 1 to 1,048,573");
+    static constexpr bool sizes = true;
+    static constexpr std::size_t size = N;
+};
+template <> struct option<fixed_sized<true>> : plain_option {
+    static constexpr bool fixes = true;
+};
+template <> struct option<fixed_sized<false>> : plain_option {
+    static constexpr bool grows = true;
+};
+template <class Alloc> struct option<allocator<Alloc>> : plain_option {
+    static constexpr bool allocates = true;
+};
+
+constexpr int count_of(bool holds) { return holds ? 1 : 0; }
+
+/// What the options of a container say together.
+template <class... Options> struct options {
+    static constexpr std::size_t size = (std::size_t{0} + ... + option<Options>::size);
+    static constexpr bool fixed = (false || ... || (option<Options>::fixes || option<Options>::sizes));
+
+    static constexpr bool sound() {
+        static_assert((true && ... && option<Options>::known),
+                      "lockfree: an option is not known: there are capacity<N> and fixed_sized<true>");
+        static_assert((0 + ... + count_of(option<Options>::sizes)) <= 1, "lockfree: capacity<N> is given twice");
+        static_assert((0 + ... + count_of(option<Options>::fixes || option<Options>::grows)) <= 1,
+                      "lockfree: fixed_sized is given twice");
+        static_assert(!(false || ... || option<Options>::grows),
+                      "lockfree: no container here grows, so fixed_sized<false> cannot be had");
+        static_assert(!(false || ... || option<Options>::allocates),
+                      "lockfree: no container here takes an allocator: its constructor takes all memory");
+        return true;
+    }
+};
+
+/// False, once a template that must not be used is.
+template <class...> inline constexpr bool never_compiled = false;
+
+}  // namespace detail
+}  // namespace v0_2
+}  // namespace lockfree

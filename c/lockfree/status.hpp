@@ -1,0 +1,76 @@
+// What a call says of itself, and what is thrown where a call says bool.
+#pragma once
+
+#include "../lockfree.h"
+
+#include <cstdint>
+#include <cstdlib>
+#include <new>
+#include <stdexcept>
+
+#if defined(__cpp_exceptions)
+#define LOCKFREE_THROW(what) throw what
+#else
+#define LOCKFREE_THROW(what) std::abort()
+#endif
+
+namespace lockfree {
+inline namespace v0_2 {
+
+/// What became of a call. The numbers are lockfree.h's codes, but for `stopped`.
+enum class status : std::uint32_t {
+    ok = LOCKFREE_OK,
+    full = LOCKFREE_FULL,            ///< A push: no room now.
+    empty = LOCKFREE_EMPTY,          ///< A pop: no value now; more may come.
+    closed = LOCKFREE_CLOSED,        ///< A push: closed. A pop: closed, and no value is left.
+    shut = LOCKFREE_SHUT,            ///< A pop: shut. Nothing comes out any more.
+    spent = LOCKFREE_SPENT,          ///< The container is worn out: see `wear()`.
+    no_memory = LOCKFREE_NO_MEMORY,  ///< The thread's first call found no memory for its pass.
+    no_pass = LOCKFREE_NO_PASS,      ///< 65,534 passes are out; or the pass is an empty one.
+    shared = LOCKFREE_SHARED,        ///< finish: a pass of `split()` is still out.
+    stopped = 100                    ///< A waiting call: its stop said so.
+};
+
+/// The name of a status, as in the list above. Never null.
+constexpr const char *to_string(status what) noexcept {
+    switch (what) {
+    case status::ok: return "ok";
+    case status::full: return "full";
+    case status::empty: return "empty";
+    case status::closed: return "closed";
+    case status::shut: return "shut";
+    case status::spent: return "spent";
+    case status::no_memory: return "no_memory";
+    case status::no_pass: return "no_pass";
+    case status::shared: return "shared";
+    case status::stopped: return "stopped";
+    }
+    return "unknown";
+}
+
+namespace detail {
+
+/// The status of a code. After `finish` the handles are empty: then a container is as a closed one.
+constexpr status status_of(std::uint32_t code) noexcept {
+    return code == LOCKFREE_NO_HANDLE || code == LOCKFREE_OTHER_HANDLE ? status::closed : static_cast<status>(code);
+}
+
+/// Throws what a constructor, `split` or a call that says bool throws for a code. OK throws nothing.
+inline void throw_for(std::uint32_t code) {
+    switch (code) {
+    case LOCKFREE_OK: return;
+    case LOCKFREE_NO_MEMORY: LOCKFREE_THROW(std::bad_alloc());
+    case LOCKFREE_BAD_CAPACITY: LOCKFREE_THROW(std::invalid_argument("lockfree: a capacity is 1 to 1,048,573, a tag limit 2 to 2^42 - 1"));
+    case LOCKFREE_NO_PASS: LOCKFREE_THROW(std::length_error("lockfree: 65,534 passes are out, or this one is empty"));
+    default: LOCKFREE_THROW(std::logic_error("lockfree: the archive is of another version than the headers"));
+    }
+}
+
+/// Throws where a call could not be made at all: a thread's first one, for want of memory or of a pass.
+inline void throw_if_not_made(status what) {
+    if (__builtin_expect(what == status::no_memory || what == status::no_pass, 0)) throw_for(static_cast<std::uint32_t>(what));
+}
+
+}  // namespace detail
+}  // namespace v0_2
+}  // namespace lockfree

@@ -1,0 +1,81 @@
+// What must not compile, and with which reason: each case by itself, with -DCASE=n. Without one it compiles.
+// c/tests/cpp reads the reasons here.
+//
+// reason 1: an option is not known
+// reason 2: capacity<N> is given twice
+// reason 3: fixed_sized is given twice
+// reason 4: fixed_sized<false> cannot be had
+// reason 5: no container here takes an allocator
+// reason 6: without fixed_sized<true> grows
+// reason 7: without fixed_sized<true> grows
+// reason 8: a capacity is 1 to 1,048,573
+// reason 9: a capacity is 1 to 1,048,573
+// reason 10: there is nothing to reserve
+// reason 11: values are of an object type
+// reason 12: the destructor of a value throws nothing
+// reason 13: a stop is a std::stop_token
+// reason 14: without fixed_sized<true> grows
+// reason 15: no container here takes an allocator
+// reason 16: fixed_sized<false> cannot be had
+// reason 17: spsc_queue is not here
+// reason 18: own headers are included already
+// reason 19: there is nothing to reserve
+#ifndef CASE
+#define CASE 0
+#endif
+#if CASE == 18
+#define BOOST_LOCKFREE_POLICIES_HPP_INCLUDED  // as Boost's header does
+#endif
+#include "lockfree_boost.hpp"
+
+#include <memory>
+#include <string>
+
+using namespace lockfree;
+
+struct throws_at_its_end {
+    ~throws_at_its_end() noexcept(false) {}
+};
+
+int main() {
+    queue<int, capacity<8>> sound;
+    boost::lockfree::stack<int, boost::lockfree::fixed_sized<true>> also_sound(8);
+#if CASE == 1
+    queue<int, int, capacity<8>> refused;
+#elif CASE == 2
+    queue<int, capacity<8>, capacity<16>> refused;
+#elif CASE == 3
+    stack<int, fixed_sized<true>, fixed_sized<true>> refused(8);
+#elif CASE == 4
+    stack<int, fixed_sized<false>> refused(8);
+#elif CASE == 5
+    queue<int, capacity<8>, allocator<std::allocator<int>>> refused;
+#elif CASE == 6
+    queue<int> refused(128);
+#elif CASE == 7
+    stack<std::string> refused(128);
+#elif CASE == 8
+    queue<int, capacity<0>> refused;
+#elif CASE == 9
+    queue<int, capacity<1048574>> refused;
+#elif CASE == 10
+    sound.reserve(8);
+#elif CASE == 11
+    stack<const int, capacity<8>> refused;
+#elif CASE == 12
+    stack<throws_at_its_end, capacity<8>> refused;
+#elif CASE == 13
+    sound.push_wait(1, 5);
+#elif CASE == 14
+    boost::lockfree::queue<int> refused(128);
+#elif CASE == 15
+    boost::lockfree::stack<int, boost::lockfree::allocator<std::allocator<int>>> refused(8);
+#elif CASE == 16
+    boost::lockfree::queue<int, boost::lockfree::fixed_sized<false>> refused(8);
+#elif CASE == 17
+    boost::lockfree::spsc_queue<int, boost::lockfree::capacity<8>> refused;
+#elif CASE == 19
+    also_sound.reserve_unsafe(8);
+#endif
+    return sound.push(1) && also_sound.push(2) ? 0 : 1;
+}

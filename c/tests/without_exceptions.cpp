@@ -1,0 +1,30 @@
+// With -fno-exceptions and -fno-rtti: what a program needs that throws nothing.
+#include "lockfree.hpp"
+#include "check.hpp"
+
+#include <string>
+#include <utility>
+
+namespace {
+
+using lockfree::status;
+
+template <class Container> void all() {
+    CHECK(!lockfree::make<Container>(0) && !lockfree::make<Container>(2000000));
+    const auto container = lockfree::make<Container>(2);
+    CHECK(container);
+    auto pass = container->try_split();
+    std::string out, kept(40, 'k');
+    CHECK(pass && pass.try_push("a") == status::ok && container->try_emplace(std::size_t{2}, 'b') == status::ok);
+    CHECK(container->try_push(std::move(kept)) == status::full && kept.size() == 40);
+    CHECK(pass.try_pop(out) == status::ok && container->pop_wait(out) == status::ok && container->try_pop(out) == status::empty);
+    CHECK(container->close() && container->push_wait(kept) == status::closed);
+}
+
+}  // namespace
+
+int main() {
+    all<lockfree::bounded_queue<std::string>>();
+    all<lockfree::bounded_stack<std::string>>();
+    std::puts("passed");
+}
