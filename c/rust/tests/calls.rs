@@ -76,13 +76,6 @@ fn a_fold_that_panics_drops_the_rest() {
 }
 
 #[test]
-#[should_panic(expected = "only a stack's")]
-fn a_queue_is_not_folded() {
-    let queue = Queue::<u8>::new(2).unwrap();
-    let _ = queue.pass().unwrap().consume_all_atomic(|_| ());
-}
-
-#[test]
 fn a_range_at_once() {
     let texts = |range: std::ops::RangeInclusive<u8>| range.map(|value| value.to_string());
     let stack = Stack::new(4).unwrap();
@@ -109,27 +102,22 @@ fn values_of_a_range_are_dropped_once() {
     assert_eq!(Arc::strong_count(&value), 1);
 }
 
-#[test]
-#[should_panic(expected = "only a stack's")]
-fn a_queue_takes_no_range() {
-    let queue = Queue::<u8>::new(2).unwrap();
-    let _ = queue.pass().unwrap().push_range([1]);
-}
-
-fn many_threads(pass: impl Fn() -> Pass<Box<u64>> + Sync) {
+fn many_threads<K>(pass: impl Fn() -> Pass<Box<u64>, K> + Sync) {
     const EACH: u64 = 50_000;
     let (sum, count, pass) = (&AtomicU64::new(0), &AtomicU64::new(0), &pass);
     std::thread::scope(|scope| {
-        let putting = (0..4u64).map(|side| scope.spawn(move || {
-            let mut pass = pass();
-            for i in 0..EACH {
-                let mut value = Box::new(side * EACH + i);
-                while let Err(PushError::Full(back)) = pass.push(value) {
-                    value = back;
-                    std::thread::yield_now();
+        let putting = (0..4u64).map(|side| {
+            scope.spawn(move || {
+                let mut pass = pass();
+                for i in 0..EACH {
+                    let mut value = Box::new(side * EACH + i);
+                    while let Err(PushError::Full(back)) = pass.push(value) {
+                        value = back;
+                        std::thread::yield_now();
+                    }
                 }
-            }
-        }));
+            })
+        });
         let putting: Vec<_> = putting.collect();
         for _ in 0..4 {
             scope.spawn(move || {

@@ -1,0 +1,177 @@
+//! Why a call was refused.
+use crate::raw::Code;
+use std::error::Error;
+use std::fmt;
+
+/// Why a push was refused. The value comes back in it.
+///
+/// ```
+/// use lockfree::{PushError, Queue};
+/// let queue = Queue::new(1).unwrap();
+/// let mut pass = queue.pass().unwrap();
+/// assert!(pass.push("a").is_ok());
+/// assert_eq!(pass.push("b"), Err(PushError::Full("b")));
+/// ```
+#[derive(Clone, Copy, PartialEq, Eq)]
+#[non_exhaustive]
+pub enum PushError<T> {
+    /// Each place holds a value, or is held by a call under way; there may be room later.
+    Full(T),
+    /// The container was closed: it takes no value any more.
+    Closed(T),
+    /// A tag is at its limit: the container takes no value any more. See [`Pass::wear`](crate::Pass::wear).
+    Spent(T),
+    /// There is no memory for a range. No other push asks for memory.
+    NoMemory(T),
+}
+
+impl<T> PushError<T> {
+    /// The value that was refused.
+    ///
+    /// ```
+    /// let queue = lockfree::Queue::new(1).unwrap();
+    /// let mut pass = queue.pass().unwrap();
+    /// assert!(pass.push(1).is_ok());
+    /// assert_eq!(pass.push(2).unwrap_err().into_inner(), 2);
+    /// ```
+    pub fn into_inner(self) -> T {
+        match self {
+            PushError::Full(value)
+            | PushError::Closed(value)
+            | PushError::Spent(value)
+            | PushError::NoMemory(value) => value,
+        }
+    }
+
+    /// Whether there was no room, so that the same push may be taken later.
+    ///
+    /// ```
+    /// let queue = lockfree::Queue::new(1).unwrap();
+    /// let mut pass = queue.pass().unwrap();
+    /// assert!(pass.push(1).is_ok());
+    /// assert!(pass.push(2).unwrap_err().is_full());
+    /// pass.close();
+    /// assert!(!pass.push(2).unwrap_err().is_full());
+    /// ```
+    pub fn is_full(&self) -> bool {
+        matches!(self, PushError::Full(_))
+    }
+
+    pub(crate) fn of(code: Code, value: T) -> PushError<T> {
+        match code {
+            Code::FULL => PushError::Full(value),
+            Code::CLOSED => PushError::Closed(value),
+            Code::NO_MEMORY => PushError::NoMemory(value),
+            _ => PushError::Spent(value),
+        }
+    }
+}
+
+// Of every type, so that `unwrap` and `?` ask nothing of a value.
+impl<T> fmt::Debug for PushError<T> {
+    fn fmt(&self, to: &mut fmt::Formatter<'_>) -> fmt::Result {
+        to.write_str(match self {
+            PushError::Full(_) => "Full(..)",
+            PushError::Closed(_) => "Closed(..)",
+            PushError::Spent(_) => "Spent(..)",
+            PushError::NoMemory(_) => "NoMemory(..)",
+        })
+    }
+}
+
+impl<T> fmt::Display for PushError<T> {
+    fn fmt(&self, to: &mut fmt::Formatter<'_>) -> fmt::Result {
+        to.write_str(match self {
+            PushError::Full(_) => "the container is full",
+            PushError::Closed(_) => "the container was closed",
+            PushError::Spent(_) => "a tag of the container is at its limit",
+            PushError::NoMemory(_) => "there is no memory for the range",
+        })
+    }
+}
+
+impl<T> Error for PushError<T> {}
+
+/// Why there was no value.
+///
+/// ```
+/// use lockfree::{PopError, Queue};
+/// let queue = Queue::<u8>::new(1).unwrap();
+/// let mut pass = queue.pass().unwrap();
+/// assert_eq!(pass.pop(), Err(PopError::Empty));
+/// assert_eq!(PopError::Empty.to_string(), "the container is empty");
+/// ```
+#[derive(Clone, Copy, Debug, PartialEq, Eq, Hash)]
+#[non_exhaustive]
+pub enum PopError {
+    /// There is none; one may come.
+    Empty,
+    /// There is none, and none will come: the container was closed.
+    Closed,
+    /// The container was shut: it gives no value any more.
+    Shut,
+    /// A tag is at its limit: the container gives no value any more. See [`Pass::wear`](crate::Pass::wear).
+    Spent,
+    /// There was none until the deadline of a call that waits.
+    Late,
+}
+
+impl PopError {
+    pub(crate) fn of(code: Code) -> PopError {
+        match code {
+            Code::EMPTY => PopError::Empty,
+            Code::CLOSED => PopError::Closed,
+            Code::SHUT => PopError::Shut,
+            _ => PopError::Spent,
+        }
+    }
+}
+
+impl fmt::Display for PopError {
+    fn fmt(&self, to: &mut fmt::Formatter<'_>) -> fmt::Result {
+        to.write_str(match self {
+            PopError::Empty => "the container is empty",
+            PopError::Closed => "the container is empty and was closed",
+            PopError::Shut => "the container was shut",
+            PopError::Spent => "a tag of the container is at its limit",
+            PopError::Late => "no value came until the deadline",
+        })
+    }
+}
+
+impl Error for PopError {}
+
+/// Why there is no container, or no pass.
+///
+/// ```
+/// use lockfree::{MakeError, Queue};
+/// assert_eq!(Queue::<u8>::new(0).unwrap_err(), MakeError::BadCapacity);
+/// ```
+#[derive(Clone, Copy, Debug, PartialEq, Eq, Hash)]
+#[non_exhaustive]
+pub enum MakeError {
+    /// There is no memory.
+    NoMemory,
+    /// The container's 65,534 passes are out.
+    NoPass,
+    /// A capacity is 1 to 1,048,573.
+    BadCapacity,
+    /// A tag limit is 2 to 2^42 - 1.
+    BadLimit,
+    /// The library that was linked is not of this crate's version.
+    OtherVersion,
+}
+
+impl fmt::Display for MakeError {
+    fn fmt(&self, to: &mut fmt::Formatter<'_>) -> fmt::Result {
+        to.write_str(match self {
+            MakeError::NoMemory => "there is no memory",
+            MakeError::NoPass => "all 65,534 passes of the container are out",
+            MakeError::BadCapacity => "a capacity is 1 to 1,048,573",
+            MakeError::BadLimit => "a tag limit is 2 to 2^42 - 1",
+            MakeError::OtherVersion => "liblockfree.a is of another version than this crate",
+        })
+    }
+}
+
+impl Error for MakeError {}

@@ -1,0 +1,322 @@
+//! The calls that passes of both containers make.
+use crate::container::{Core, Seat};
+use crate::raw::Code;
+use crate::waiting::Waiting;
+use crate::{MakeError, PopError, PushError};
+use std::fmt;
+use std::marker::PhantomData;
+use std::mem;
+use std::sync::Arc;
+use std::time::Instant;
+
+/// The kinds of containers, as types: what [`QueuePass`] and [`StackPass`] differ in.
+pub mod kind {
+    /// First in, first out.
+    #[derive(Debug)]
+    pub enum Queue {}
+    /// Last in, first out.
+    #[derive(Debug)]
+    pub enum Stack {}
+}
+
+/// A pass of a queue.
+pub type QueuePass<T> = Pass<T, kind::Queue>;
+
+/// A pass of a stack. It has the calls of many values at once, and those of [`Pass`].
+pub type StackPass<T> = Pass<T, kind::Stack>;
+
+/// One thread's way to a container: a [`QueuePass`] or a [`StackPass`].
+///
+/// Its calls take it by `&mut`, so that one thread uses it at a time; it may be sent to another one. No call waits for
+/// another thread, but those whose names say `wait`; none asks for memory, but a stack's `push_range`; and none takes a lock,
+/// as long as no more than 64 passes were out at one time. A pass keeps what it needs if its container is dropped, and goes
+/// back to it, under a lock, when it is dropped itself.
+///
+/// Where a call says that something is so, it was so at one moment of the call: other threads may have changed it since.
+pub struct Pass<T, K> {
+    pub(crate) core: Arc<Core<T>>,
+    pub(crate) seat: Seat<T>,
+    kind: PhantomData<fn() -> K>,
+}
+
+impl<T, K> Pass<T, K> {
+    pub(crate) fn new(core: &Arc<Core<T>>) -> Result<Self, MakeError> {
+        Ok(Pass { core: core.clone(), seat: core.seat()?, kind: PhantomData })
+    }
+
+    /// Pushes a value. Gives the push's number, counted from 0 over all threads: of a queue the pushes alone, of a stack the
+    /// pushes and pops together.
+    ///
+    /// # Errors
+    ///
+    /// With the value: [`PushError::Full`], [`PushError::Closed`], [`PushError::Spent`].
+    ///
+    /// ```
+    /// use lockfree::{PushError, Queue};
+    /// let queue = Queue::new(2).unwrap();
+    /// let mut pass = queue.pass().unwrap();
+    /// assert_eq!(pass.push("a".to_string()), Ok(0));
+    /// assert_eq!(pass.push("b".to_string()), Ok(1));
+    /// assert_eq!(pass.push("c".to_string()), Err(PushError::Full("c".to_string())));
+    /// ```
+    pub fn push(&mut self, value: T) -> Result<u64, PushError<T>> {
+        let Seat { pass, hand } = &mut self.seat;
+        let word = hand.word(&self.core.cells, value).map_err(PushError::Full)?;
+        match pass.put(word) {
+            Ok(number) => {
+                self.core.note(number);
+                Ok(number)
+            }
+            Err(code) => {
+                // SAFETY: the word was not put.
+                let value = unsafe { hand.value(&self.core.cells, word) };
+                self.note_refusal(code);
+                Err(PushError::of(code, value))
+            }
+        }
+    }
+
+    /// Pops a value.
+    ///
+    /// # Errors
+    ///
+    /// [`PopError::Empty`], [`PopError::Closed`], [`PopError::Shut`], [`PopError::Spent`].
+    ///
+    /// ```
+    /// use lockfree::{PopError, Queue};
+    /// let queue = Queue::new(2).unwrap();
+    /// let mut pass = queue.pass().unwrap();
+    /// assert_eq!(pass.pop(), Err(PopError::Empty));
+    /// pass.push(5).unwrap();
+    /// pass.close();
+    /// assert_eq!(pass.pop(), Ok(5));
+    /// assert_eq!(pass.pop(), Err(PopError::Closed));
+    /// ```
+    pub fn pop(&mut self) -> Result<T, PopError> {
+        let Seat { pass, hand } = &mut self.seat;
+        match pass.take() {
+            // SAFETY: the word comes out. (That none comes out twice is proved.)
+            Ok(word) => Ok(unsafe { hand.value(&self.core.cells, word) }),
+            Err(code) => {
+                self.note_refusal(code);
+                Err(PopError::of(code))
+            }
+        }
+    }
+
+    /// Pops a value, and gives the pop's number too: of a queue the number that the value's push had; of a stack pushes and
+    /// pops are counted together.
+    ///
+    /// # Errors
+    ///
+    /// Those of [`pop`](Pass::pop).
+    ///
+    /// ```
+    /// let queue = lockfree::Queue::new(2).unwrap();
+    /// let mut pass = queue.pass().unwrap();
+    /// let number = pass.push("a").unwrap();
+    /// assert_eq!(pass.pop_numbered(), Ok(("a", number)));
+    /// ```
+    pub fn pop_numbered(&mut self) -> Result<(T, u64), PopError> {
+        let value = self.pop()?;
+        Ok((value, self.seat.pass.number()))
+    }
+
+    /// Pushes a value, and waits as long as there is no room, until the deadline if there is one. It tries once at least.
+    /// It waits by trying again: at first at once, then after other threads had their turn, and at last ten thousand times
+    /// a second at most.
+    ///
+    /// # Errors
+    ///
+    /// With the value: [`PushError::Full`] at the deadline, [`PushError::Closed`], [`PushError::Spent`].
+    ///
+    /// ```
+    /// use std::time::{Duration, Instant};
+    /// let queue = lockfree::Queue::new(1).unwrap();
+    /// let mut pass = queue.pass().unwrap();
+    /// assert_eq!(pass.push_wait('a', None), Ok(0));
+    /// let soon = Instant::now() + Duration::from_millis(2);
+    /// assert!(pass.push_wait('b', Some(soon)).unwrap_err().is_full());
+    /// ```
+    pub fn push_wait(&mut self, value: T, deadline: Option<Instant>) -> Result<u64, PushError<T>> {
+        let mut waiting = Waiting::until(deadline);
+        let mut value = value;
+        loop {
+            match self.push(value) {
+                Err(PushError::Full(back)) if waiting.go_on() => value = back,
+                answer => return answer,
+            }
+        }
+    }
+
+    /// Pops a value, and waits as long as there is none and one may come, until the deadline if there is one. It tries once
+    /// at least, and waits as [`push_wait`](Pass::push_wait) does.
+    ///
+    /// # Errors
+    ///
+    /// [`PopError::Late`] at the deadline, [`PopError::Closed`], [`PopError::Shut`], [`PopError::Spent`].
+    ///
+    /// ```
+    /// use lockfree::PopError;
+    /// use std::time::{Duration, Instant};
+    /// let queue = lockfree::Queue::<u8>::new(1).unwrap();
+    /// let mut pass = queue.pass().unwrap();
+    /// let soon = Instant::now() + Duration::from_millis(2);
+    /// assert_eq!(pass.pop_wait(Some(soon)), Err(PopError::Late));
+    /// ```
+    pub fn pop_wait(&mut self, deadline: Option<Instant>) -> Result<T, PopError> {
+        let mut waiting = Waiting::until(deadline);
+        loop {
+            match self.pop() {
+                Err(PopError::Empty) if waiting.go_on() => continue,
+                Err(PopError::Empty) => return Err(PopError::Late),
+                answer => return answer,
+            }
+        }
+    }
+
+    /// Pops values one after another, until there is none: then it gives `None`, and may give values again later. What was
+    /// not asked for stays in the container.
+    ///
+    /// ```
+    /// let queue = lockfree::Queue::new(4).unwrap();
+    /// let mut pass = queue.pass().unwrap();
+    /// (1..=3).for_each(|value| drop(pass.push(value)));
+    /// assert_eq!(pass.drain().collect::<Vec<_>>(), [1, 2, 3]);
+    /// ```
+    pub fn drain(&mut self) -> Drain<'_, T, K> {
+        Drain { pass: self }
+    }
+
+    /// Closes the container, so that no push follows; what it holds can be popped. Whether this call closed it.
+    ///
+    /// ```
+    /// let queue = lockfree::Queue::new(4).unwrap();
+    /// let mut pass = queue.pass().unwrap();
+    /// assert!(pass.close());
+    /// assert!(!pass.close());
+    /// assert_eq!(pass.push(1), Err(lockfree::PushError::Closed(1)));
+    /// ```
+    pub fn close(&mut self) -> bool {
+        let closed = self.seat.pass.close();
+        self.core.note_closed();
+        closed
+    }
+
+    /// Shuts the container, so that no pop follows; pushes may. What it holds is dropped at the end. Whether this call
+    /// shut it.
+    ///
+    /// ```
+    /// let queue = lockfree::Queue::new(4).unwrap();
+    /// let mut pass = queue.pass().unwrap();
+    /// pass.push(1).unwrap();
+    /// assert!(pass.shut());
+    /// assert_eq!(pass.pop(), Err(lockfree::PopError::Shut));
+    /// ```
+    pub fn shut(&mut self) -> bool {
+        self.seat.pass.shut()
+    }
+
+    /// Whether the container was closed: after a `close` has returned, and after any call said that it is closed.
+    ///
+    /// ```
+    /// let queue = lockfree::Queue::<u8>::new(4).unwrap();
+    /// let mut pass = queue.pass().unwrap();
+    /// assert!(!pass.is_closed());
+    /// pass.close();
+    /// assert!(pass.is_closed());
+    /// ```
+    pub fn is_closed(&self) -> bool {
+        self.core.is_closed()
+    }
+
+    /// Whether the container was empty.
+    ///
+    /// ```
+    /// let stack = lockfree::Stack::new(4).unwrap();
+    /// let mut pass = stack.pass().unwrap();
+    /// assert!(pass.is_empty());
+    /// pass.push(1).unwrap();
+    /// assert!(!pass.is_empty());
+    /// ```
+    pub fn is_empty(&mut self) -> bool {
+        self.seat.pass.is_empty()
+    }
+
+    /// How many values the container holds at most.
+    ///
+    /// ```
+    /// let stack = lockfree::Stack::<u8>::new(4).unwrap();
+    /// assert_eq!(stack.pass().unwrap().capacity(), 4);
+    /// ```
+    pub fn capacity(&self) -> u32 {
+        self.core.capacity
+    }
+
+    /// Which part of the container's life has gone, 0 to 1. A container has numbers for 2^42 - 2 pushes of a queue, or
+    /// 2^42 - 1 pushes and pops of a stack; then each push is `Spent`. That takes more than a day of calls without a pause, so
+    /// a program that makes so many replaces its container in time. The part is known from the pushes' numbers: it is behind
+    /// by 256 pushes at most, and by a stack's pops since its last push.
+    ///
+    /// ```
+    /// let queue = lockfree::Queue::with_tag_limit(1, 1001).unwrap();
+    /// let mut pass = queue.pass().unwrap();
+    /// for value in 0..500 {
+    ///     pass.push(value).unwrap();
+    ///     pass.pop().unwrap();
+    /// }
+    /// assert!(0.2 < pass.wear() && pass.wear() < 0.5);
+    /// ```
+    pub fn wear(&self) -> f64 {
+        self.core.wear()
+    }
+
+    /// Keeps what a refusal says of the container.
+    #[cold]
+    pub(crate) fn note_refusal(&self, code: Code) {
+        match code {
+            Code::CLOSED => self.core.note_closed(),
+            Code::SPENT => self.core.note_spent(),
+            _ => (),
+        }
+    }
+}
+
+impl<T, K> Drop for Pass<T, K> {
+    fn drop(&mut self) {
+        self.core.rest(mem::replace(&mut self.seat, Seat::none()));
+    }
+}
+
+impl<T, K> fmt::Debug for Pass<T, K> {
+    fn fmt(&self, to: &mut fmt::Formatter<'_>) -> fmt::Result {
+        to.debug_struct("Pass").field("capacity", &self.core.capacity).finish_non_exhaustive()
+    }
+}
+
+/// The values that [`Pass::drain`] pops.
+///
+/// ```
+/// let queue = lockfree::Queue::new(4).unwrap();
+/// let mut pass = queue.pass().unwrap();
+/// (1..=3).for_each(|value| drop(pass.push(value)));
+/// assert_eq!(pass.drain().next(), Some(1));
+/// assert_eq!(pass.pop(), Ok(2));
+/// ```
+pub struct Drain<'a, T, K> {
+    pass: &'a mut Pass<T, K>,
+}
+
+impl<T, K> fmt::Debug for Drain<'_, T, K> {
+    fn fmt(&self, to: &mut fmt::Formatter<'_>) -> fmt::Result {
+        to.debug_struct("Drain").finish_non_exhaustive()
+    }
+}
+
+impl<T, K> Iterator for Drain<'_, T, K> {
+    type Item = T;
+
+    fn next(&mut self) -> Option<T> {
+        self.pass.pop().ok()
+    }
+}
