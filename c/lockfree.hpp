@@ -1,6 +1,6 @@
-// A bounded queue and a bounded stack for C++17, over the proved functions of lockfree.h. These headers are tested, not
-// proved. Names and meanings are Boost.Lockfree's where both
-// have a call; a program over Boost's containers switches by lockfree_boost.hpp.
+// A bounded queue and a bounded stack for C++17. They call the functions of lockfree.h, which are proved; these headers
+// are tested. A call that Boost.Lockfree has too has its name and meaning. A program for Boost's containers switches by
+// including lockfree_boost.hpp.
 //
 //     lockfree::queue<T, lockfree::capacity<128>> queue;            // or with the capacity when it is made:
 //     lockfree::queue<T, lockfree::fixed_sized<true>> queue(128);   // = lockfree::bounded_queue<T>
@@ -9,9 +9,10 @@
 // first call of a container, under a lock and with memory; it goes back to the container when the thread ends. `split`
 // makes a pass that a thread keeps itself. At most 65,534 passes are out at a time.
 //
-// Values. One of a trivially copyable type of up to 8 bytes goes by value. Any other lies in a cell of the container,
-// whose constructor makes them all; so push and pop take no memory, whatever T is. What is not pushed stays where it
-// was: a push(std::move(v)) that is false has moved v back. What is left ends with the container.
+// Values. A value of a trivially copyable type of up to 8 bytes is itself the word that the library stores. Any other
+// value lies in a cell of the container. The constructor makes the cells, and a thread's first call some more. After that
+// push and pop take no memory, whatever T is; lockfree/cells.hpp names the one exception. A push(std::move(v)) that is
+// refused moves v back. The container destroys the values that are left in it.
 //
 // Answers. push and pop say bool, as Boost's. try_push and try_pop say why not: lockfree::status. push_wait and pop_wait
 // wait for room or a value, until the container is closed or a stop says so.
@@ -58,8 +59,8 @@ public:
 template <class T> using bounded_queue = queue<T, fixed_sized<true>>;
 template <class T> using bounded_stack = stack<T, fixed_sized<true>>;
 
-/// A container of room for so many values, or null for want of memory or for a capacity that there is not: for programs
-/// without exceptions.
+/// A container with room for so many values, for programs without exceptions. Null if there is no memory, or if the
+/// capacity is not 1 to 1,048,573.
 template <class Container> std::unique_ptr<Container> make(std::size_t room, tag_limit limit = {detail::greatest_tag}) noexcept {
     return detail::make<Container>(room, limit);
 }

@@ -1,4 +1,4 @@
-// The calls of containers and of passes. `Me::with` finds the seat that a call goes by.
+// The calls of containers and of passes. `Me::with` finds the seat for a call.
 #pragma once
 
 #include "status.hpp"
@@ -31,9 +31,10 @@ template <class T, class F> void hand_over(F &use, T &value) {
 template <class T, class... Args> inline constexpr bool is_one_rvalue = false;
 template <class T, class Arg> inline constexpr bool is_one_rvalue<T, Arg> = std::is_same_v<Arg, T>;
 
-/// What both containers and their passes have. All calls are linearizable, and may be made by any number of threads at a
-/// time, of a pass by one. Where nothing else is said a call takes no lock and no memory, but for the first one of a
-/// thread, of each container. Each ends unless other threads' calls end again and again.
+/// The calls that both containers and their passes have. Any number of threads may call a container at a time, and one
+/// thread a pass. A thread's first call of a container takes a lock and memory. The others take neither, unless their
+/// comment says so. Each call takes effect at one moment, and fails to end only while other threads' calls succeed: both
+/// are proved of the algorithms, and docs/proof.md says what is proved of the code.
 ///
 /// Calls that say bool throw std::bad_alloc or std::length_error if a thread's first call finds no memory or no pass;
 /// those that say `status` say it. What the value's own functions throw goes on to the caller, and nothing is pushed.
@@ -132,9 +133,9 @@ public:
     bool is_lock_free() const noexcept { return true; }
     static constexpr bool is_always_lock_free = true;
 
-    /// Which part of its life the container has used, 0 to 1: a queue takes 2^42 - 2 values in its life, a stack makes
-    /// 2^42 - 1 pushes and pops; then it is spent, and each push and pop says so. Of a stack the pops since the last push
-    /// are not counted. Looks at each seat that was ever made.
+    /// The part of its life that the container has used, from 0 to 1. A queue takes 2^42 - 2 values in its life, a stack
+    /// makes 2^42 - 1 pushes and pops. Then it is spent, and each push and pop says so. A stack's pops since its last push
+    /// are not counted. The call reads each seat that was ever made.
     double wear() const noexcept {
         const core *const of = me().shared();
         if (!of) return 0;

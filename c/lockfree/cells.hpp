@@ -1,13 +1,13 @@
-// Where values lie that do not go by value: in cells of their container, which its constructor makes.
+// The cells of a container: they hold the values that are no word themselves.
 //
-// Free cells hang in chains of the same length, 2 to 16. Whole chains lie in a second stack of the library, one word
-// each. Who calls has fewer than two chains at hand, so that a push takes a cell from there and a pop puts one there;
-// one call in a chain's length moves a chain, and none does if pushes and pops take turns.
+// Free cells hang in chains of one length, 2 to 16. Whole chains lie in a second stack of the library, one word each. A
+// caller keeps fewer than two chains at hand: a push takes a cell from them, a pop puts one there. So one call in a
+// chain's length moves a chain, and none does while pushes and pops take turns.
 //
-// Why no push lacks a cell: there are as many cells as values fit, and three chains more for each who calls. He has two
-// at most, with the cell that he is at. So if he has none, some chain is free. Only functions that are called by
-// consume_one and call again, deeper than a chain is long, or some large ranges at a time, can use up all cells: then a
-// chain more is made, which takes memory, and stays.
+// Why no push lacks a cell: there are as many cells as values fit, and three chains more for each caller. A caller has at
+// most two of them, with the cell in hand. So if one has none, some chain is free. Two uses can still empty all chains:
+// functions of consume_one that call again, deeper than a chain is long, and several large ranges at once. Then one more
+// chain is made. That takes memory, and the chain stays.
 #pragma once
 
 #include "library.hpp"

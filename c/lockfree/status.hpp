@@ -1,4 +1,4 @@
-// What a call says of itself, and what is thrown where a call says bool.
+// The statuses of calls, and the exceptions of calls that say bool.
 #pragma once
 
 #include "../lockfree.h"
@@ -66,7 +66,7 @@ inline void throw_for(std::uint32_t code) {
     }
 }
 
-/// Throws where a call could not be made at all: a thread's first one, for want of memory or of a pass.
+/// Throws if a thread's first call could not be made, since there was no memory or no pass.
 inline void throw_if_not_made(status what) {
     if (__builtin_expect(what == status::no_memory || what == status::no_pass, 0)) throw_for(static_cast<std::uint32_t>(what));
 }

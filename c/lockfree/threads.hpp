@@ -38,7 +38,7 @@ public:
             while (first) drop(first);
     }
 
-    /// Where the thread has its seat of a container, or null for want of memory. It may be that no seat is there.
+    /// The place of the thread's seat of a container. Null if there is no memory. The place may still be empty.
     seat **place_of(core &of) noexcept {
         for (entry *at = bucket(of); at; at = at->next)
             if (at->of == &of) return &at->by;
