@@ -94,21 +94,22 @@ uint32_t lockfree_split(lockfree_handle *root, lockfree_handle *pass);
 uint32_t lockfree_free(lockfree_handle *handle);
 
 /* Ends a container whose root is its only handle, and hands out what is left in it, one value an answer: a queue's
- * from the front, a stack's from the top. It asks for no memory, no pass and no tag, so that it empties a container
- * that is spent, too. Where another handle of the container is out it is SHARED, and nothing has changed: free the
- * passes first. From its first VALUE or EMPTY on the root gives no pass (OTHER_HANDLE); lockfree_free ends it, with
- * what was not handed out. A value that a freed pass had under way is not among what is left.
+ * from the front, a stack's from the top. It asks for no memory, no pass and no tag, so it also empties a spent
+ * container. If another handle of the container is out, it answers SHARED and nothing has changed: free the passes
+ * first. After its first VALUE or EMPTY the root gives no pass (OTHER_HANDLE). lockfree_free then ends the root, with
+ * the values that were not handed out. A value that a freed pass had under way is not among those that are left.
  * VALUE, EMPTY, SHARED, OTHER_HANDLE, NO_HANDLE. */
 lockfree_answer lockfree_finish(lockfree_handle *root);
 
-/* The calls of a pass. Each makes its fast path, and where that does not end it at most so many steps
- * more as a call makes where nobody interferes, and those of `tries` tries more; 0 is allowed. Then it
- * returns BUSY, and is under way: lockfree_go_on continues it, and returns what it would have returned. All: BUSY, UNDER_WAY, OTHER_HANDLE, NO_HANDLE.
+/* The calls of a pass. Each first tries its fast path. If that does not end the call, it makes at most as many
+ * steps more as an undisturbed call makes, and those of `tries` tries more; 0 is allowed. If it has not ended then, it
+ * returns BUSY and is under way: lockfree_go_on continues it, and returns what the call would have returned.
+ * All: BUSY, UNDER_WAY, OTHER_HANDLE, NO_HANDLE.
  * put:   OK, FULL, CLOSED, SPENT
  * take:  OK, EMPTY, CLOSED, SHUT, SPENT
  * close: OK, CLOSED. No put follows
  * shut:  OK, SHUT. No take follows
- * look:  OK where it was not empty, EMPTY where it was */
+ * look:  OK if it was not empty, EMPTY if it was */
 lockfree_answer lockfree_put(lockfree_handle *pass, uint64_t value, uint64_t tries);
 lockfree_answer lockfree_take(lockfree_handle *pass, uint64_t tries);
 lockfree_answer lockfree_close(lockfree_handle *pass, uint64_t tries);
@@ -116,9 +117,9 @@ lockfree_answer lockfree_shut(lockfree_handle *pass, uint64_t tries);
 lockfree_answer lockfree_look(lockfree_handle *pass, uint64_t tries);
 lockfree_answer lockfree_go_on(lockfree_handle *pass, uint64_t tries);
 
-/* The number of the call of this pass that ended last: of a put, a take, a fold or a range_put that was OK; of another
- * 0, and before the first. Numbers are counted from 0 over the calls of all passes: a queue's puts and its takes each
- * by themselves, those of a stack together. So they tell how far a container is worn: it is spent near 2^42 of them.
+/* The number of this pass's last call, if that was a put, a take, a fold or a range_put that was OK; else 0. Numbers
+ * count the calls of all passes, from 0: a queue's puts and its takes apart, those of a stack together. So a number
+ * tells how far a container is worn: it is spent near number 2^42.
  * OK, UNDER_WAY, OTHER_HANDLE, NO_HANDLE. */
 lockfree_answer lockfree_number(lockfree_handle *pass);
 
@@ -211,7 +212,7 @@ static inline uint64_t lockfree_consume_all(lockfree_handle *pass, void (*use)(u
 }
 
 /* Ends a container and hands all that is left to `use`; answers how many there were. The root is then to be freed.
- * Nothing where lockfree_finish refuses. */
+ * Hands out nothing if lockfree_finish refuses. */
 static inline uint64_t lockfree_finish_all(lockfree_handle *root, void (*use)(uint64_t value, void *with), void *with)
 {
     uint64_t count = 0;
@@ -239,7 +240,7 @@ static inline uint32_t lockfree_consume_all_atomic(lockfree_handle *pass, bool r
 
 /* Puts values onto a stack at once, from the first: as many as there is memory for and cells can be had. More
  * than the capacity cannot be put, and take memory all the same. The answer is range_put's, or range_add's
- * where it refused the first value. */
+ * if that refused the first value. */
 static inline lockfree_answer lockfree_push_range(lockfree_handle *pass, const uint64_t *values, size_t count)
 {
     lockfree_answer answer = {0, LOCKFREE_OK};
