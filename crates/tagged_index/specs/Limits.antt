@@ -7,3 +7,6 @@ capacity_of l = l.capacity
 
 abbrev pub tag_limit_of : Limits → ℕ
 tag_limit_of l = l.tag_limit
+
+abbrev pub passes_of : Limits → ℕ
+passes_of l = l.passes

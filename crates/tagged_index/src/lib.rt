@@ -11,7 +11,7 @@
 mod limit;
 mod word;
 
-pub use limit::{Limits, MAX_CAPACITY, MIN_CAPACITY, MIN_TAG_LIMIT};
+pub use limit::{Limits, MAX_CAPACITY, MIN_CAPACITY, MIN_TAG_LIMIT, USUAL_PASSES};
 pub use word::{
     Fields, INDEX_BITS, MARK_SHIFT, MARK_UNIT, MAX_TAG, NULL, SECOND_SHIFT, SECOND_UNIT, TAG_BITS,
     TAG_SHIFT, TAG_UNIT, Tagged,

@@ -1,4 +1,4 @@
-//! What a container is made with: its capacity and the limit of its tags.
+//! What a container is made with: its capacity, the limit of its tags, and how many passes it has.
 ghost use Rattle.std.specs.Prelude.{◌≡◌, ◌≤◌, ◌↔◌, IsSome, IfSome};
 ghost use Rattle.tagged_index.specs.declared.limit.TheConstants.{MAX_CAPACITY, MIN_CAPACITY, MIN_TAG_LIMIT};
 ghost use Rattle.tagged_index.specs.declared.word.TheConstants.{MAX_TAG};
@@ -15,15 +15,22 @@ pub const MAX_CAPACITY: u32 = NULL - 2;
 /// The least tag limit. The greatest is `MAX_TAG`.
 pub const MIN_TAG_LIMIT: u64 = 2;
 
+/// How many passes may be out at one time, if nothing else is said.
+pub const USUAL_PASSES: u32 = 65_535;
+
 // Clauses say the names; this says the numbers.
 const _: () = prove!(MIN_CAPACITY == 1 && MAX_CAPACITY == 1_048_573 && MIN_TAG_LIMIT == 2);
 
+const _: () = prove!(USUAL_PASSES == 65_535);
+
 /// How large a container is and how far its tags may rise: a capacity from `MIN_CAPACITY` to
-/// `MAX_CAPACITY`, and a tag limit from `MIN_TAG_LIMIT` to `MAX_TAG`.
+/// `MAX_CAPACITY`, and a tag limit from `MIN_TAG_LIMIT` to `MAX_TAG`. And for how many passes it is
+/// made: a ring has a cell for each. A queue and a stack are always made for `USUAL_PASSES`.
 #[derive(Clone, Copy, PartialEq, Eq, Debug)]
 pub struct Limits {
     capacity: u32,
     tag_limit: u64,
+    passes: u32,
     pub ghost some_capacity: { MIN_CAPACITY ≤ capacity },
     pub ghost capacity_in_range: { capacity ≤ MAX_CAPACITY },
     pub ghost some_tag_limit: { MIN_TAG_LIMIT ≤ tag_limit },
@@ -31,7 +38,7 @@ pub struct Limits {
 }
 
 impl Limits {
-    ghost use Rattle.tagged_index.specs.Limits.{capacity_of, tag_limit_of};
+    ghost use Rattle.tagged_index.specs.Limits.{capacity_of, tag_limit_of, passes_of};
 
     /// `None` exactly where the capacity or the tag limit is out of range.
     #[inline]
@@ -41,6 +48,7 @@ impl Limits {
             × (MIN_TAG_LIMIT ≤ tag_limit) × (tag_limit ≤ MAX_TAG)) }
         ensures values { IfSome result (λ l.
             (capacity_of l ≡ capacity) × (tag_limit_of l ≡ tag_limit)) }
+        ensures passes { IfSome result (λ l. passes_of l ≡ USUAL_PASSES) }
     {
         if capacity < MIN_CAPACITY || capacity > MAX_CAPACITY {
             return None;
@@ -51,7 +59,27 @@ impl Limits {
         Some(Limits {
             capacity,
             tag_limit,
+            passes: USUAL_PASSES,
         })
+    }
+
+    /// The same for so many passes.
+    #[inline]
+    pub fn for_passes(self, passes: u32) -> Limits
+        ensures kept { (capacity_of result ≡ capacity_of self)
+            × (tag_limit_of result ≡ tag_limit_of self) }
+        ensures passes { passes_of result ≡ passes }
+    {
+        let Limits {
+            capacity,
+            tag_limit,
+            ..
+        } = self;
+        Limits {
+            capacity,
+            tag_limit,
+            passes,
+        }
     }
 
     /// How many values the container holds at most.
@@ -68,5 +96,13 @@ impl Limits {
         ensures { result ≡ tag_limit_of self }
     {
         self.tag_limit
+    }
+
+    /// How many passes may be out at one time.
+    #[inline]
+    pub fn passes(self) -> u32
+        ensures { result ≡ passes_of self }
+    {
+        self.passes
     }
 }
