@@ -6,6 +6,7 @@ pub mod Hands
 pub mod Balance
 pub mod Newest
 pub mod Alone
+pub mod Passes
 pub mod Numbers
 pub mod Joining
 pub mod Whole

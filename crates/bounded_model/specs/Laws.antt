@@ -1,23 +1,33 @@
 -- What each call of a container promises, by what its pass or root has seen before and afterwards.
 -- "Has seen" is a history; a later one is the same with more on top.
-use Rattle.std.specs.Prelude.{◌≡◌, ◌≢◌, ℕ, suc, zero, ◌+◌, ◌<◌, ◌≤◌, Bool, true, false, List, [], ◌∷◌, ◌++◌, length, Result, Ok, Err}
+use Rattle.std.specs.Prelude.{◌≡◌, ◌≢◌, ℕ, suc, zero, ◌+◌, ◌<◌, ◌≤◌, Bool, true, false, List, [], ◌∷◌, ◌++◌, length, map, Result, Ok, Err}
 use Rattle.std.specs.List.{AllByRecursion as Every}
+use Rattle.bounded_model.specs.declared.container.TheConstants.{MIN_PASSES, MAX_PASSES}
 use Rattle.bounded_model.specs.declared.history.Event.{Event}
 use Rattle.bounded_model.specs.declared.history.Event.TheVariants.{Hold, Put, Take, TakeAll, Free, Close, Shut}
 use Rattle.bounded_model.specs.declared.answers.PutRefused.{PutRefused}
 use Rattle.bounded_model.specs.declared.answers.PutRefused.TheVariants.{Full, Closed, Spent}
 use Rattle.bounded_model.specs.declared.answers.TakeRefused.{TakeRefused}
+use Rattle.bounded_model.specs.declared.views.Answered.{Answered}
+use Rattle.bounded_model.specs.declared.views.Answered.TheVariants.{Put as PutAnswered, Heard}
 use Rattle.bounded_model.specs.declared.views.PassView.{PassView}
 use Rattle.bounded_model.specs.declared.views.RootView.{RootView}
 use Rattle.bounded_model.specs.Machine.{Shape, state, Legal}
 use Rattle.bounded_model.specs.Histories.{own, pass_of, Later}
 use Rattle.bounded_model.specs.Justified.{Justified, take_answer, PutFull, PutClosed, PutSpent, NotClosed, NotShut, Looked, Counted}
 
+-- How many passes may be out
+
+-- of no container fewer or more than these
+pub record PassesInRange (c : Shape) : Type 0 where
+  pub some : MIN_PASSES ≤ c.passes
+  pub few : c.passes ≤ MAX_PASSES
+
 -- Passes and roots at rest
 
 -- a root that has given no pass yet
 abbrev pub fresh : {T : Type 0} → RootView T
-fresh = record { seen = []; given = 0; account = [] }
+fresh = record { seen = []; given = 0; account = []; works = [] }
 
 -- every pass that was given has been joined
 abbrev pub NoneOut : {T : Type 0} → RootView T → Type 0
@@ -41,15 +51,30 @@ Apart [] = Unit {0}
 Apart (a ∷ rest) = Every (λ b. b.0 ≢ a.0) rest × Apart rest
 
 -- a root: of each joined pass it has seen exactly the events of the account, and none of a pass
--- that it has not given
+-- that it has not given; and it keeps what each joined pass has done
 pub record IsSound {T : Type 0} (c : Shape) (r : RootView T) : Type 0 where
   pub legal : Legal c r.seen
   pub joined : Every (λ a. own a.0 r.seen ≡ a.1) r.account
   pub apart : Apart r.account
   pub given : Every (λ a. a.0 < r.given) r.account
   pub known : Every (λ e. pass_of e < r.given) r.seen
+  pub works : map (λ w. w.number) r.works ≡ map (λ a. a.0) r.account
 
 -- What a call of a pass adds
+
+-- one call more has answered, with this
+abbrev pub Answers : {T : Type 0} → PassView T → PassView T → Answered T → Type 0
+Answers v w a = w.answers ≡ a ∷ v.answers
+
+-- a refused value, as those of a put of several are told
+abbrev pub in_list : {T : Type 0} → PutRefused T → PutRefused (List T)
+in_list (Full v) = Full (v ∷ [])
+in_list (Closed v) = Closed (v ∷ [])
+in_list (Spent v word t) = Spent (v ∷ []) word t
+
+abbrev pub put_answered : {T : Type 0} → Result ℕ (PutRefused T) → Answered T
+put_answered (Ok n) = PutAnswered (Ok n)
+put_answered (Err why) = PutAnswered (Err (in_list why))
 
 -- it has made steps and seen more, and in the new part its own events are exactly these, the
 -- newest first
@@ -131,12 +156,13 @@ FoldGives v w xs n = Adds v w (Free v.number (length xs) ∷ TakeAll v.number xs
 pub record Splits {T : Type 0} (c : Shape) (r s : RootView T) (v : PassView T) : Type 0 where
   pub room : HasRoomForPass c r
   pub root : s ≡ record r { given = r.given + 1 }
-  pub pass : v ≡ record { number = r.given; seen = r.seen; steps = 0 }
+  pub pass : v ≡ record { number = r.given; seen = r.seen; steps = 0; answers = [] }
 
--- join: the pass's own events go into the account
+-- join: the pass's own events go into the account, with the steps that it has made and what its calls have answered
 pub record Joins {T : Type 0} (r : RootView T) (v : PassView T) (s : RootView T) : Type 0 where
   pub given : s.given ≡ r.given
   pub account : s.account ≡ (v.number, own v.number v.seen) ∷ r.account
+  pub works : s.works ≡ record { number = v.number; steps = v.steps; answers = v.answers } ∷ r.works
   pub root_seen : Later r.seen s.seen
   pub seen : Later v.seen s.seen
 
@@ -149,6 +175,7 @@ pub record Meets {T : Type 0} (v u w : PassView T) : Type 0 where
   pub second : Later u.seen w.seen
   pub own_events : own v.number w.seen ≡ own v.number v.seen
   pub others : own u.number w.seen ≡ own u.number u.seen
+  pub answers : Answers v w Heard
 
 -- where there is no seat for it, nothing has changed
 abbrev pub MeetGives : {T : Type 0} → PassView T → PassView T → PassView T → Bool → Type 0
@@ -159,6 +186,7 @@ MeetGives v u w false = w ≡ v
 pub record Heeds {T : Type 0} (v : PassView T) (told : List (Event T)) (w : PassView T) : Type 0 where
   pub adds : Adds v w []
   pub heard : Later told w.seen
+  pub answers : Answers v w Heard
 
 -- finish: the list of a legal history that begins with what the root has seen. It adds no event of
 -- a joined pass and none of a pass that was not given, and so, where no pass is out, none at all

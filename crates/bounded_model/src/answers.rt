@@ -70,7 +70,7 @@ impl From<AllocError> for MakeRefused {
     }
 }
 
-/// What one atomic step of an operation answers.
+/// What one step of an operation answers.
 #[derive(Drop)]
 pub enum Stepped<O, P, A> {
     /// The operation goes on.

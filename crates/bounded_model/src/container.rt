@@ -4,9 +4,17 @@ ghost use Rattle.std.specs.Prelude.{◌≡◌, ◌∷◌, [], List, MatchOption,
 ghost use Rattle.bounded_model.specs.declared.history.Event.{Event};
 ghost use Rattle.bounded_model.specs.declared.history.Order.{Order};
 ghost use Rattle.bounded_model.specs.declared.views.PassView.{PassView};
+ghost use Rattle.bounded_model.specs.declared.views.Answered.TheVariants.{
+  Take as TakeAnswered,
+  Close as CloseAnswered,
+  Shut as ShutAnswered,
+};
 ghost use Rattle.bounded_model.specs.declared.views.RootView.{RootView};
 ghost use Rattle.bounded_model.specs.Machine.{Shape, Legal};
 ghost use Rattle.bounded_model.specs.Laws.{
+  Answers,
+  put_answered,
+  PassesInRange,
   IsAtRest,
   IsSound,
   IsFullOfPasses,
@@ -24,12 +32,15 @@ ghost use Rattle.bounded_model.specs.Laws.{
 use crate::{Order, PutRefused, TakeRefused};
 use std::sync::Wait;
 
-/// The most passes of a queue or of a stack that may be out at one time. A container says in its
-/// `shape` how many of its own may be.
+/// The fewest passes that may be out at one time of any container.
+pub const MIN_PASSES: u32 = 2;
+
+/// The most passes that may be out at one time of any container; of a queue and of a stack as many
+/// may be. A container says in its `shape` how many of its own may be.
 pub const MAX_PASSES: u32 = 65_535;
 
-// Laws and clauses say the name; this says the number.
-const _: () = prove!(MAX_PASSES == 65_535);
+// Laws and clauses say the names; this says the numbers.
+const _: () = prove!(MIN_PASSES == 2 && MAX_PASSES == 65_535);
 
 /// The values that are left in a container at its end: a queue's in the order of their puts, a
 /// stack's from the top down.
@@ -116,28 +127,32 @@ pub trait Container<T>: Drop {
     ) -> (Self::Pass, Result<u64, PutRefused<T>>)
         requires { is_pass self.now by }
         ensures of { is_pass self.now result.0 }
-        ensures gives { PutGives (shape self.now) (pass by) value (pass result.0) result.1 };
+        ensures gives { PutGives (shape self.now) (pass by) value (pass result.0) result.1 }
+        ensures answered { Answers (pass by) (pass result.0) (put_answered result.1) };
 
     /// Takes one value; answers it with the take's number. Called in `example_calls`, and until the
     /// container is closed in `example_jobs`.
     fn take<R: Wait>(&self, rt: &R, by: Self::Pass) -> (Self::Pass, Result<(T, u64), TakeRefused>)
         requires { is_pass self.now by }
         ensures of { is_pass self.now result.0 }
-        ensures gives { TakeGives (shape self.now) (pass by) (pass result.0) result.1 };
+        ensures gives { TakeGives (shape self.now) (pass by) (pass result.0) result.1 }
+        ensures answered { Answers (pass by) (pass result.0) (TakeAnswered result.1) };
 
     /// Closes the container: no put follows. Returns whether this call closed it. Called in
     /// `example_closing`.
     fn close<R: Wait>(&self, rt: &R, by: Self::Pass) -> (Self::Pass, bool)
         requires { is_pass self.now by }
         ensures of { is_pass self.now result.0 }
-        ensures gives { CloseGives (shape self.now) (pass by) (pass result.0) result.1 };
+        ensures gives { CloseGives (shape self.now) (pass by) (pass result.0) result.1 }
+        ensures answered { Answers (pass by) (pass result.0) (CloseAnswered result.1) };
 
     /// Shuts the container: no take follows, and puts go on until it is closed. Returns whether
     /// this call shut it. Called in `example_stack`.
     fn shut<R: Wait>(&self, rt: &R, by: Self::Pass) -> (Self::Pass, bool)
         requires { is_pass self.now by }
         ensures of { is_pass self.now result.0 }
-        ensures gives { ShutGives (shape self.now) (pass by) (pass result.0) result.1 };
+        ensures gives { ShutGives (shape self.now) (pass by) (pass result.0) result.1 }
+        ensures answered { Answers (pass by) (pass result.0) (ShutAnswered result.1) };
 
     /// True: the first pass has now seen what either had. False, where there is no seat for that:
     /// it is as it was. The second pass comes back as it was. Called in `example_stack`.
@@ -178,6 +193,9 @@ pub trait Container<T>: Drop {
 
     /// Its order is the constant's.
     ghost order_law: { (c : Self) → (shape c).order ≡ ORDER };
+
+    /// At least [`MIN_PASSES`] and at most [`MAX_PASSES`] passes may be out at one time.
+    ghost passes_law: { (c : Self) → PassesInRange (shape c) };
 
     /// What a pass has seen is legal, and between its calls its hand is empty.
     ghost pass_law: { (c : Self) (p : Self.Pass) → is_pass c p → IsAtRest (shape c) (pass p) };

@@ -18,7 +18,7 @@ pub use answers::{MakeRefused, PutRefused, Stepped, TakeRefused, Word};
 pub use bulk::{Bulk, Folded, RangeRefused, Ranged};
 pub use commands::{Command, Operation, Reply};
 pub use consume::{consume_all, consume_one};
-pub use container::{Container, Leaving, MAX_PASSES};
+pub use container::{Container, Leaving, MAX_PASSES, MIN_PASSES};
 pub use history::{Event, Order};
 pub use plain_list::{COUNT_LIMIT, MAX_LIST_CAPACITY, PlainList};
 pub use stepwise::Stepwise;
@@ -26,4 +26,4 @@ pub use theorems::{
     calls_alone_are_a_list, capacity_is_kept, closing_is_final, nothing_is_lost, queue_keeps_order,
     stack_keeps_order,
 };
-pub use views::{PassView, RootView};
+pub use views::{Answered, PassView, RootView, Work};

@@ -1,6 +1,6 @@
 //! The whole way.
 
-ghost use Rattle.std.specs.Prelude.{◌≡◌, ◌<◌, IfOk, IsPermutation, length};
+ghost use Rattle.std.specs.Prelude.{◌≡◌, IfOk, IsPermutation, length};
 ghost use Rattle.bounded_model.specs.declared.history.Order.{Order};
 ghost use Rattle.bounded_model.specs.declared.history.Order.TheVariants.{Fifo};
 ghost use Rattle.bounded_model.specs.Laws.{fresh};
@@ -25,8 +25,7 @@ pub struct Carried<T> {
     pub unsent: VecDeque<T>,
 }
 
-/// Carries the items through a fresh container, of which two passes may be out at one time. `Err`
-/// only if there is no memory for the answer.
+/// Carries the items through a fresh container. `Err` only if there is no memory for the answer.
 pub fn carry_all<T: Drop, C: Container<T>, W: Wait>(
     rt: &W,
     alloc: Global,
@@ -36,7 +35,6 @@ pub fn carry_all<T: Drop, C: Container<T>, W: Wait>(
 ) -> Result<Carried<T>, AllocError>
     requires root { C.is_root c root }
     requires fresh { C.root root ≡ fresh }
-    requires passes { 1 < (C.shape c).passes }
 
     // Each item is taken, left or unsent, once.
     ensures each_once { IfOk result

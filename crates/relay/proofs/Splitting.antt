@@ -1,5 +1,5 @@
 -- A new pass of a root that has seen nothing.
-use Rattle.std.proofs.Common.{◌≡◌, ℕ, ◌+◌, ap, sym, ◌∙◌, arith}
+use Rattle.std.proofs.Common.{[], ◌≡◌, ℕ, ◌+◌, ap, sym, ◌∙◌, arith}
 use Rattle.bounded_model.specs.declared.views.PassView.{PassView}
 use Rattle.bounded_model.specs.declared.views.RootView.{RootView}
 use Rattle.bounded_model.specs.Laws.{Splits}
@@ -17,4 +17,4 @@ module _ {c : Shape} {r s : RootView Message} {v : PassView Message} where
   gave_more {n} {m} e len split = split.root ∙ (ap (λ (t : RootView Message). record t { given = t.given + 1 }) e ∙ ap gave (sym len))
 
   pub pass_of_split : {n : ℕ} → r ≡ gave n → Splits c r s v → v ≡ new_pass n
-  pass_of_split {n} e split = split.pass ∙ ap (λ (t : RootView Message). record { number = t.given; seen = t.seen; steps = 0 }) e
+  pass_of_split {n} e split = split.pass ∙ ap (λ (t : RootView Message). record { number = t.given; seen = t.seen; steps = 0; answers = [] }) e

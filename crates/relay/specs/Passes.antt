@@ -8,11 +8,11 @@ use Rattle.relay.specs.declared.workers.Job.{Job}
 
 -- a root that has given n passes and has seen nothing
 abbrev pub gave : ℕ → RootView Message
-gave n = record { seen = []; given = n; account = [] }
+gave n = record { seen = []; given = n; account = []; works = [] }
 
 -- the pass of this number, which has done and seen nothing
 abbrev pub new_pass : ℕ → PassView Message
-new_pass n = record { number = n; seen = []; steps = 0 }
+new_pass n = record { number = n; seen = []; steps = 0; answers = [] }
 
 -- a job of this place among those of its kind, whose passes begin at this number
 pub record IsNewJob {P T : Type 0} (is_pass : P → Type 0) (view : P → PassView Message) (first place : ℕ) (job : Job P T) : Type 0 where

@@ -11,7 +11,6 @@ ghost use Rattle.relay.specs.Pools.{pool_of};
 ghost use Rattle.relay.specs.Worked.{TookAs, ClosedAs, EachSent};
 ghost use Rattle.relay.specs.Promises.{total, IsTooSmall, Relays, LosesNothing, KeepsOrder, SendsAll, SendsFirst, LeavesNothing, NumbersRise, NumbersCount, NamesConsumers, TakesNoMore, FirstTakesNoMore, TakesShares, FirstTakesShare};
 ghost use Rattle.relay.specs.declared.faults.RelayFault.TheVariants.{TooSmall, NoPass, NoThread};
-ghost use Rattle.bounded_model.specs.declared.container.TheConstants.{MAX_PASSES};
 ghost use Rattle.std.specs.List.{AllZip};
 
 use crate::memory::{WorkRoom, make_room};
@@ -36,7 +35,6 @@ fn work<C: Container<Message> + Sync, G: Gate + Sync, R: Threads + Wait + Sync>(
 ) -> Result<Ended<C::Pass>, RelayFault>
     requires root { C.is_root site.now.container root.old }
     requires fresh { C.root root.old ≡ fresh }
-    requires few { (C.shape site.now.container).passes ≤ MAX_PASSES }
     requires numbered { AreInputsFrom 0 inputs.items }
     requires producers { site.now.orders.producers ≡ vec_len inputs }
     requires room { let most = most_taken site.now.orders.take site.now.orders.messages in
@@ -101,7 +99,7 @@ fn work<C: Container<Message> + Sync, G: Gate + Sync, R: Threads + Wait + Sync>(
 /// needed than may be out at one time, of a queue or a stack
 /// [`MAX_PASSES`](bounded_model::MAX_PASSES): one for each worker and one to close; `NoThread`,
 /// where a worker's thread could not be started. A fault consumes the container and the
-/// inputs, and no worker runs on. No container may have more passes than `MAX_PASSES`. Called in `file_relay`, with a gate that counts the tries.
+/// inputs, and no worker runs on. Called in `file_relay`, with a gate that counts the tries.
 pub fn run<C: Container<Message> + Sync, G: Gate + Sync, R: Threads + Wait + Sync>(
     rt: &R,
     alloc: Global,
@@ -114,7 +112,6 @@ pub fn run<C: Container<Message> + Sync, G: Gate + Sync, R: Threads + Wait + Syn
     requires root { C.is_root container root }
     requires fresh { C.root root ≡ fresh }
     requires consumers { 1 ≤ plan.consumers }
-    requires few { (C.shape container).passes ≤ MAX_PASSES }
     requires numbered { AreInputsFrom 0 inputs.items }
     ensures lists { IfOk result (λ r. length r.unsent.items ≡ length inputs.items) }
     ensures all_there { IfOk result (LosesNothing inputs.items) }
@@ -186,7 +183,6 @@ pub fn run_freely<C: Container<Message> + Sync, R: Threads + Wait + Sync>(
     requires root { C.is_root container root }
     requires fresh { C.root root ≡ fresh }
     requires consumers { 1 ≤ plan.consumers }
-    requires few { (C.shape container).passes ≤ MAX_PASSES }
     requires numbered { AreInputsFrom 0 inputs.items }
     ensures all { IfOk result (Relays (C.shape container) plan inputs.items) }
     ensures too_small { (result ≡ Err TooSmall)
@@ -212,7 +208,6 @@ pub(crate) fn split_jobs<C: Container<Message>, T: Drop>(
     requires root { C.is_root container.now root.old }
     requires fresh { C.root root.old ≡ gave (C.root root.old).given }
     requires room { IsRoomFor (vec_len lists) room }
-    requires few { (C.shape container.now).passes ≤ MAX_PASSES }
     ensures root { C.is_root container.now root.new }
     ensures given { IfSome result (λ v.
         C.root root.new ≡ gave ((C.root root.old).given + vec_len lists)) }
