@@ -2,6 +2,8 @@
 use Rattle.std.proofs.Common.{◌≡◌, ℕ, ◌+◌, ◌<◌, List, [], ◌∷◌, ◌++◌, length, refl, sym, ap, ◌∙◌, subst, arith}
 use Rattle.std.specs.List.{AllByRecursion as Every}
 use Rattle.bounded_model.specs.declared.history.Event.{Event}
+use Rattle.bounded_model.specs.declared.views.Answered.{Answered}
+use Rattle.bounded_model.specs.declared.views.Answered.TheVariants.{Heard}
 use Rattle.bounded_model.specs.declared.views.PassView.{PassView}
 use Rattle.bounded_model.specs.declared.views.RootView.{RootView}
 use Rattle.bounded_model.specs.Machine.{Shape, state, Legal}
@@ -10,21 +12,21 @@ use Rattle.bounded_model.specs.Laws.{IsSound, IsAtRest, HasRoomForPass, Splits, 
 use Rattle.bounded_model.proofs.Histories.{Later-refl, Later-start, own-append, own-between, own-unknown, known_from_own}
 use Rattle.machine.specs.declared.seats.View.{View}
 use Rattle.machine.specs.declared.seats.View.TheVariants.{AtRoot, AtPass, AtMeeting, AtNote, AtHearing, Left}
-use Rattle.machine.specs.Seats.{Owns, Saw, Rooted, Knows, Fine, Looks, Shares, held_at, line_of, at_rest, new_pass, gives_one, takes_back, stepped, looked, left_of, right_of, both_of, pass_of, root_of, told_of}
+use Rattle.machine.specs.Seats.{Owns, Saw, Rooted, Knows, Fine, Looks, Shares, held_at, line_of, at_rest, new_pass, gives_one, takes_back, stepped, hearing, looked, left_of, right_of, both_of, pass_of, root_of, told_of}
 use Rattle.machine.proofs.Hands.{same_hand}
 use Rattle.machine.proofs.Seating.{below_more}
 use Rattle.bounded_model.proofs.Whole.{few}
 
 module _ {T : Type 0} where
   -- a step that adds no event of the pass
-  pub adds_none : (h : List (Event T)) (p : PassView T) → Saw h p → Adds p (stepped h p) []
-  adds_none h p f = record { number = refl; steps = omega arith; between = f.seen.more; seen = f.seen.is; own_events = own-between p.number f.seen.more p.seen (sym (ap (own p.number) f.seen.is) ∙ f.own_events) }
+  pub adds_none : (h : List (Event T)) (answers : List (Answered T)) (p : PassView T) → Saw h p → Adds p (stepped h answers p) []
+  adds_none h answers p f = record { number = refl; steps = omega arith; between = f.seen.more; seen = f.seen.is; own_events = own-between p.number f.seen.more p.seen (sym (ap (own p.number) f.seen.is) ∙ f.own_events) }
 
   heeds_own : (p : PassView T) (told : List (Event T)) (q : PassView T) → Heeds p told q → own p.number q.seen ≡ own p.number p.seen
   heeds_own p told q f = ap (own p.number) f.adds.seen ∙ own-append p.number f.adds.between p.seen ∙ ap (λ (es : List (Event T)). es ++ own p.number p.seen) f.adds.own_events
 
-  saw_stepped : (h : List (Event T)) (p : PassView T) → Saw h p → Saw h (stepped h p)
-  saw_stepped h p f = record { seen = Later-refl h; own_events = refl }
+  saw_stepped : (h : List (Event T)) (answers : List (Answered T)) (p : PassView T) → Saw h p → Saw h (stepped h answers p)
+  saw_stepped h answers p f = record { seen = Later-refl h; own_events = refl }
 
   known_more : (n : ℕ) (h : List (Event T)) → Every (λ e. event_pass e < n) h → Every (λ e. event_pass e < n + 1) h
   known_more n [] known = tt
@@ -32,7 +34,7 @@ module _ {T : Type 0} where
 
   -- what the whole root knows, at the end of a legal history
   rooted_sound : (c : Shape) (h : List (Event T)) (r : RootView T) (heard : List (Event T)) → Legal c h → Rooted h r heard → IsSound c (record r { seen = h })
-  rooted_sound c h r heard legal f = record { legal = legal; joined = f.joined; apart = f.apart; given = f.given; known = known_from_own r.given h f.unknown }
+  rooted_sound c h r heard legal f = record { legal = legal; joined = f.joined; apart = f.apart; given = f.given; known = known_from_own r.given h f.unknown; works = f.works }
 
 module _ {T L : Type 0} where
   -- a load makes a seat answer for no more, and keeps what it knows; with `seated_step` it keeps what all know
@@ -41,11 +43,11 @@ module _ {T L : Type 0} where
   looked_owns h v x o = o
 
   looked_knows : (h : List (Event T)) (v : View T L) → Knows h v → Knows h (looked h v)
-  looked_knows h (AtRoot r heard l) f = record { seen = Later-refl h; heard_seen = Later-start h; joined = f.joined; apart = f.apart; given = f.given; unknown = f.unknown }
-  looked_knows h (AtPass p begun l) f = saw_stepped h p f
-  looked_knows h (AtMeeting p k q l) f = (saw_stepped h p f.0, f.1, f.2)
+  looked_knows h (AtRoot r heard l) f = record { seen = Later-refl h; heard_seen = Later-start h; joined = f.joined; apart = f.apart; given = f.given; unknown = f.unknown; works = f.works }
+  looked_knows h (AtPass p begun l) f = saw_stepped h p.answers p f
+  looked_knows h (AtMeeting p k q l) f = (saw_stepped h (Heard ∷ p.answers) p f.0, f.1, f.2)
   looked_knows h (AtNote told) f = f
-  looked_knows h (AtHearing p l told) f = (saw_stepped h p f.0, f.1)
+  looked_knows h (AtHearing p l told) f = (saw_stepped h (Heard ∷ p.answers) p f.0, f.1)
   looked_knows h Left f = tt
 
   looked_holds : (held : L → ℕ) (h : List (Event T)) (v : View T L) → held_at held v ≡ held_at held (looked h v)
@@ -57,11 +59,11 @@ module _ {T L : Type 0} where
 
   -- and tells this
   pub looks : (c : Shape) (h : List (Event T)) (v : View T L) → Legal c h → Knows h v → Looks c v (looked h v)
-  looks c h (AtRoot r heard l) legal f = (record r { seen = h }, refl, refl, refl, f.seen, f.heard_seen, rooted_sound c h r heard legal f)
-  looks c h (AtPass p begun l) legal f = (stepped h p, refl, adds_none h p f, legal)
-  looks c h (AtMeeting p k q l) legal f = (stepped h p, refl, record { number = refl; steps = omega arith; first = f.0.seen; second = f.1.seen; own_events = f.0.own_events; others = f.1.own_events }, legal)
+  looks c h (AtRoot r heard l) legal f = (record r { seen = h }, refl, refl, refl, refl, f.seen, f.heard_seen, rooted_sound c h r heard legal f)
+  looks c h (AtPass p begun l) legal f = (stepped h p.answers p, refl, refl, adds_none h p.answers p f, legal)
+  looks c h (AtMeeting p k q l) legal f = (hearing h p, refl, record { number = refl; steps = omega arith; first = f.0.seen; second = f.1.seen; own_events = f.0.own_events; others = f.1.own_events; answers = refl }, legal)
   looks c h (AtNote told) legal f = tt
-  looks c h (AtHearing p l told) legal f = (stepped h p, refl, record { adds = adds_none h p f.0; heard = f.1 }, legal)
+  looks c h (AtHearing p l told) legal f = (hearing h p, refl, record { adds = adds_none h (Heard ∷ p.answers) p f.0; heard = f.1; answers = refl }, legal)
   looks c h Left legal f = tt
 
   -- a view that is known to be a root's or a pass's, in terms of what is read off it
@@ -90,7 +92,7 @@ module _ {T L : Type 0} where
       let s : gives_one root ≡ root_of left = sym (ap root_of l') in
       let p : new_pass root ≡ pass_of right = sym (ap pass_of r') in
       let none : own root.given root.seen ≡ [] = own-unknown root.given root.seen sound.known root.given (omega arith) in
-      let whole : IsSound c (gives_one root) = record { legal = sound.legal; joined = sound.joined; apart = sound.apart; given = below_more root.given root.account sound.given; known = known_more root.given root.seen sound.known } in
+      let whole : IsSound c (gives_one root) = record { legal = sound.legal; joined = sound.joined; apart = sound.apart; given = below_more root.given root.account sound.given; known = known_more root.given root.seen sound.known; works = sound.works } in
       let new : IsAtRest c (new_pass root) = record { legal = sound.legal; hand = same_hand c root.given root.seen [] none } in
       record {
         root = at_root sh left (gives_one root) (sh.gives l).0 l';
@@ -116,8 +118,8 @@ module _ {T L : Type 0} where
       let t = subst (λ (x : View T L). Looks c x after) is tells in
       let s : RootView T = t.0 in
       let same : s ≡ root_of after = sym (ap root_of t.1) in
-      let gives : Joins r p s = record { given = t.2; account = t.3; root_seen = t.4; seen = t.5 } in
-      record { root = at_root sh after s (sh.takes l k) t.1; line = ap (line_of sh) t.1; sound = subst (IsSound c) same t.6; gives = subst (Joins r p) same gives }
+      let gives : Joins r p s = record { given = t.2; account = t.3; works = t.4; root_seen = t.5; seen = t.6 } in
+      record { root = at_root sh after s (sh.takes l k) t.1; line = ap (line_of sh) t.1; sound = subst (IsSound c) same t.7; gives = subst (Joins r p) same gives }
 
   -- a pass at line k meets one at line l
   pub record MeetView (c : Shape) (k l : L) (v w left right : View T L) : Type 0 where

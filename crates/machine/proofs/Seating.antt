@@ -47,6 +47,7 @@ module _ {T : Type 0} where
     apart = (unjoined_apart p.number r.account (λ j. out (inr j)), f.apart);
     given = (lt_of_not-le (λ le. out (inl le)), f.given);
     unknown = f.unknown;
+    works = ap (λ (numbers : List ℕ). p.number ∷ numbers) f.works;
   }
 
 module _ {T L : Type 0} where
@@ -58,6 +59,7 @@ module _ {T L : Type 0} where
     apart = f.apart;
     given = f.given;
     unknown = λ x le. same x (inl le) ∙ f.unknown x le;
+    works = f.works;
   }
   knows_later h k (AtPass p begun l) f later same = saw_later h k p f later (same p.number refl)
   knows_later h k (AtMeeting p a q b) f later same = (saw_later h k p f.0 later (same p.number (inl refl)), saw_later h k q f.1 later (same q.number (inr refl)), f.2)
@@ -86,7 +88,7 @@ module _ {T L : Type 0} where
   halves_apart sh h v f x o e = e
 
   left_knows : (sh : Shares L) (h : List (Event T)) (v : View T L) → Knows h v → Knows h (left_of sh v)
-  left_knows sh h (AtRoot r heard l) f = record { seen = f.seen; heard_seen = f.heard_seen; joined = f.joined; apart = f.apart; given = below_more r.given r.account f.given; unknown = λ x le. f.unknown x (omega arith) }
+  left_knows sh h (AtRoot r heard l) f = record { seen = f.seen; heard_seen = f.heard_seen; joined = f.joined; apart = f.apart; given = below_more r.given r.account f.given; unknown = λ x le. f.unknown x (omega arith); works = f.works }
   left_knows sh h (AtPass p begun l) f = f
   left_knows sh h (AtMeeting p k q l) f = f.0
   left_knows sh h (AtNote told) f = f
@@ -233,7 +235,7 @@ module _ {T L : Type 0} (c : Shape) (held : L → ℕ) where
   pub seated_first : (l : L) → Seated {T = T} c held [] (first_view l ∷ [])
   seated_first l =
       let fine : Fine {T = T} c held [] (first_view l) = record {
-        knows = record { seen = Later-refl []; heard_seen = Later-refl []; joined = tt; apart = tt; given = tt; unknown = λ x le. refl };
+        knows = record { seen = Later-refl []; heard_seen = Later-refl []; joined = tt; apart = tt; given = tt; unknown = λ x le. refl; works = refl };
         hands = λ x o. refl;
       } in record {
         each = λ j v e. subst (Fine c held []) (only_first j (first_view l) v e).1 fine;

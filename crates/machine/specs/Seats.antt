@@ -5,6 +5,8 @@ use Rattle.std.specs.List.{AllByRecursion as Every}
 use mathlib.Core.Option.{some}
 use lib.ListN.{get_elem?}
 use Rattle.bounded_model.specs.declared.history.Event.{Event}
+use Rattle.bounded_model.specs.declared.views.Answered.{Answered}
+use Rattle.bounded_model.specs.declared.views.Answered.TheVariants.{Heard}
 use Rattle.bounded_model.specs.declared.views.PassView.{PassView}
 use Rattle.bounded_model.specs.declared.views.RootView.{RootView}
 use Rattle.bounded_model.specs.Machine.{Shape, state, Legal}
@@ -42,6 +44,7 @@ pub record Rooted {T : Type 0} (h : List (Event T)) (r : RootView T) (heard : Li
   pub apart : Apart r.account
   pub given : Every (λ a. a.0 < r.given) r.account
   pub unknown : (x : ℕ) → r.given ≤ x → own x h ≡ []
+  pub works : map (λ w. w.number) r.works ≡ map (λ a. a.0) r.account
 
 abbrev pub Knows : {T L : Type 0} → List (Event T) → View T L → Type 0
 Knows h (AtRoot r heard l) = Rooted h r heard
@@ -74,13 +77,13 @@ abbrev pub first_view : {T L : Type 0} → L → View T L
 first_view l = AtRoot fresh [] l
 
 abbrev pub new_pass : {T : Type 0} → RootView T → PassView T
-new_pass r = record { number = r.given; seen = r.seen; steps = 0 }
+new_pass r = record { number = r.given; seen = r.seen; steps = 0; answers = [] }
 
 abbrev pub gives_one : {T : Type 0} → RootView T → RootView T
 gives_one r = record r { given = r.given + 1 }
 
 abbrev pub takes_back : {T : Type 0} → RootView T → PassView T → RootView T
-takes_back r p = record r { account = (p.number, own p.number p.seen) ∷ r.account }
+takes_back r p = record r { account = (p.number, own p.number p.seen) ∷ r.account; works = record { number = p.number; steps = p.steps; answers = p.answers } ∷ r.works }
 
 -- which pass did what, the newest first
 abbrev pub Acts : Type 0 → Type 0
@@ -132,23 +135,27 @@ both_of x (AtPass p begun k) (AtPass q begun' l) = AtMeeting p k q l
 both_of x (AtPass p begun l) (AtNote told) = AtHearing p l told
 both_of x v w = v
 
--- a pass that has made a step and has now seen all of this history
-abbrev pub stepped : {T : Type 0} → List (Event T) → PassView T → PassView T
-stepped h p = record { number = p.number; seen = h; steps = p.steps + 1 }
+-- a pass that has made a step, has now seen all of this history, and whose calls have answered so
+abbrev pub stepped : {T : Type 0} → List (Event T) → List (Answered T) → PassView T → PassView T
+stepped h answers p = record { number = p.number; seen = h; steps = p.steps + 1; answers = answers }
+
+-- one that has heard what others did
+abbrev pub hearing : {T : Type 0} → List (Event T) → PassView T → PassView T
+hearing h p = stepped h (Heard ∷ p.answers) p
 
 -- a seat that has made a load which belongs to no line
 abbrev pub looked : {T L : Type 0} → List (Event T) → View T L → View T L
 looked h (AtRoot r heard l) = AtRoot (record r { seen = h }) [] l
-looked h (AtPass p begun l) = AtPass (stepped h p) begun l
-looked h (AtMeeting p k q l) = AtMeeting (stepped h p) k q l
+looked h (AtPass p begun l) = AtPass (stepped h p.answers p) begun l
+looked h (AtMeeting p k q l) = AtMeeting (hearing h p) k q l
 looked h (AtNote told) = AtNote told
-looked h (AtHearing p l told) = AtHearing (stepped h p) l told
+looked h (AtHearing p l told) = AtHearing (hearing h p) l told
 looked h Left = Left
 
 -- what such a load tells
 abbrev pub Looks : {T L : Type 0} → Shape → View T L → View T L → Type 0
-Looks {T} c (AtRoot r heard l) w = (s : RootView T) × (w ≡ AtRoot s [] l) × (s.given ≡ r.given) × (s.account ≡ r.account) × Later r.seen s.seen × Later heard s.seen × IsSound c s
-Looks {T} c (AtPass p begun l) w = (q : PassView T) × (w ≡ AtPass q begun l) × Adds p q [] × Legal c q.seen
+Looks {T} c (AtRoot r heard l) w = (s : RootView T) × (w ≡ AtRoot s [] l) × (s.given ≡ r.given) × (s.account ≡ r.account) × (s.works ≡ r.works) × Later r.seen s.seen × Later heard s.seen × IsSound c s
+Looks {T} c (AtPass p begun l) w = (q : PassView T) × (w ≡ AtPass q begun l) × (q.answers ≡ p.answers) × Adds p q [] × Legal c q.seen
 Looks {T} c (AtMeeting p k q l) w = (p' : PassView T) × (w ≡ AtMeeting p' k q l) × Meets p q p' × Legal c p'.seen
 Looks c (AtNote told) w = Unit {0}
 Looks {T} c (AtHearing p l told) w = (q : PassView T) × (w ≡ AtHearing q l told) × Heeds p told q × Legal c q.seen
@@ -165,11 +172,11 @@ acts_now v = []
 
 abbrev pub pass_of : {T L : Type 0} → View T L → PassView T
 pass_of (AtPass p begun l) = p
-pass_of v = record { number = 0; seen = []; steps = 0 }
+pass_of v = record { number = 0; seen = []; steps = 0; answers = [] }
 
 abbrev pub begun_of : {T L : Type 0} → View T L → PassView T
 begun_of (AtPass p begun l) = begun.view
-begun_of v = record { number = 0; seen = []; steps = 0 }
+begun_of v = record { number = 0; seen = []; steps = 0; answers = [] }
 
 abbrev pub line_of : {T L : Type 0} → Shares L → View T L → L
 line_of x (AtRoot r heard l) = l

@@ -11,8 +11,10 @@ pub enum Doing<L> {
     Begins(L),
     /// It makes the step of its line.
     Steps,
-    /// It loads a word, and that belongs to no line.
+    /// It loads a word in an operation, and that belongs to no line.
     Looks,
+    /// It loads a word between its operations, to see what others have done.
+    Hears,
 }
 
 /// What a pass knew as its operation was begun: itself as it was, and what all passes had done by then.

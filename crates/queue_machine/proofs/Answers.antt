@@ -19,15 +19,17 @@ use Rattle.bounded_model.proofs.Staying.{closed_stays}
 use Rattle.machine.specs.Words.{Tagged, times, Stands}
 use Rattle.machine.proofs.Sums.{total_one}
 use Rattle.machine.proofs.OneList.{none_there}
+use Rattle.machine.proofs.Tests.{is_false}
 use Rattle.queue_machine.specs.declared.lines.Placing.{Placing}
 use Rattle.queue_machine.specs.declared.lines.Line.{Line}
 use Rattle.queue_machine.specs.declared.lines.Line.TheVariants.{LoadNodes}
 use Rattle.queue_machine.specs.Machine.{Memory, next_of}
-use Rattle.queue_machine.specs.Answers.{shape, state}
-use Rattle.queue_machine.specs.Rule.{Lists, Past, Spans, HasRoom, bare, wanting, EndTells, FrontTells, Good}
+use Rattle.queue_machine.specs.Answers.{shape, state, IsGauged}
+use Rattle.queue_machine.specs.Rule.{Lists, Past, Ends, Spans, HasRoom, bare, wanting, EndTells, FrontTells, Good}
 use Rattle.queue_machine.proofs.Chain.{chain_length, head_in, at_end, at_front, behind}
 use Rattle.queue_machine.proofs.Linked.{no_null}
 use Rattle.queue_machine.proofs.Told.{queued_length, puts_now}
+use Rattle.queue_machine.proofs.Raises.{puts_within}
 
 -- in a queue's history each value was put, and is there or was taken
 module _ {T : Type 0} (n limit : ℕ) where
@@ -133,6 +135,21 @@ module _ {T : Type 0} {n limit : ℕ} {m : Memory T} {g : Lists} {who : ℕ → 
   -- once closed, the tail is at the last node for good
   pub closed_tail : IsClosed (shape n limit) history → m.tail.tag ≡ (state n limit history).puts
   closed_tail h = puts_now x.linked.chained x.told (at_end x.linked.chained (omega (arith, no_null x.linked)) (x.linked.chained.tidy m.tail.index (x.told.closed_marked h)))
+
+  -- a queue is gauged at its last node
+  pub closed_gauged : (w : Tagged) → m.tail ≡ w → IsClosed (shape n limit) history → IsGauged n limit true w.tag history
+  closed_gauged w won h = let tag : w.tag ≡ m.tail.tag = ap (λ (u : Tagged). u.tag) (sym won) in (h, sym (closed_tail h) ∙ sym tag, omega (arith, tag, closed_tail h, puts_within x))
+
+  -- the tail's node, whose link is null, is the last
+  pub open_gauged : (w y : Tagged) → Ends m.tail m.next w y → m.next w.index ≡ y → IsGauged n limit false w.tag history
+  open_gauged w y f won =
+      let at = f.last (ap (λ (u : Tagged). u.tag) (sym won)) in
+      let here : m.next m.tail.index ≡ y = ap m.next (sym at.1) ∙ won in
+      let all : (state n limit history).puts ≡ w.tag = sym (puts_now x.linked.chained x.told (at_end x.linked.chained (omega (arith, no_null x.linked)) (ap (λ (u : Tagged). u.index) here ∙ f.null))) ∙ sym at.0 in (
+        is_false (state n limit history).closed (λ h. false≢true (sym f.unmarked ∙ ap (λ (u : Tagged). u.mark) (sym here) ∙ x.told.closed_marked h)),
+        all,
+        omega (arith, all, puts_within x),
+      )
 
   -- what the link of a node tells of the end, where the tail was that node
   pub end_tells : (w : Tagged) → Past m.tail w → EndTells n limit history w (m.next w.index)

@@ -16,13 +16,13 @@ use Rattle.machine.proofs.Ahead.{Ahead}
 use Rattle.machine.proofs.Tests.{cases}
 use Rattle.machine.proofs.Program.{Cases, by_cases}
 use Rattle.queue_machine.specs.declared.lines.Seeking.{Seeking}
-use Rattle.queue_machine.specs.declared.lines.Seeking.TheVariants.{ToLink, ToRefuse, ToClose}
+use Rattle.queue_machine.specs.declared.lines.Seeking.TheVariants.{ToLink, ToRefuse, ToClose, ToGauge}
 use Rattle.queue_machine.specs.declared.lines.Call.{Call}
-use Rattle.queue_machine.specs.declared.lines.Call.TheVariants.{Put as CallPut, Take as CallTake, Close as CallClose, Shut as CallShut, Look as CallLook, Len as CallLen}
+use Rattle.queue_machine.specs.declared.lines.Call.TheVariants.{Put as CallPut, Take as CallTake, Close as CallClose, Shut as CallShut, Look as CallLook, Len as CallLen, Gauge as CallGauge}
 use Rattle.queue_machine.specs.declared.lines.Answer.{Answer}
-use Rattle.queue_machine.specs.declared.lines.Answer.TheVariants.{Put as AnswerPut, Take as AnswerTake, Close as AnswerClose, Shut as AnswerShut, Look as AnswerLook, Len as AnswerLen}
+use Rattle.queue_machine.specs.declared.lines.Answer.TheVariants.{Put as AnswerPut, Take as AnswerTake, Close as AnswerClose, Shut as AnswerShut, Look as AnswerLook, Len as AnswerLen, Gauge as AnswerGauge}
 use Rattle.queue_machine.specs.declared.lines.Line.{Line}
-use Rattle.queue_machine.specs.declared.lines.Line.TheVariants.{Idle, LoadCells, LoadCellLink, TakeCell, LoadNodes, LoadNodeLink, TakeNode, LoadNext, PrepareNext, LoadTail, CheckTail, SwingTail, LinkNext, SwingToLinked, MarkNext, LoadHead, LoadTailToTake, CheckHead, SwingTailToTake, LoadCell, TakeHead, GiveNode, GiveCell, CheckHeadToLook, CheckHeadToCount, LoadHeadToShut, ShutHead}
+use Rattle.queue_machine.specs.declared.lines.Line.TheVariants.{Idle, LoadCells, LoadCellLink, TakeCell, LoadNodes, LoadNodeLink, TakeNode, LoadNext, PrepareNext, LoadTail, CheckTail, SwingTail, LinkNext, SwingToLinked, MarkNext, LoadHead, LoadTailToTake, CheckHead, SwingTailToTake, LoadCell, TakeHead, GiveNode, GiveCell, CheckHeadToLook, CheckHeadToCount, CheckNextToGauge, LoadHeadToShut, ShutHead}
 use Rattle.queue_machine.specs.Machine.{Memory, memories, Outcome, table, wins_value, step, starts, ends, gives, frees, back_closed, back_null, found_back, found_front, counted}
 use Rattle.queue_machine.specs.Answers.{shape}
 use Rattle.queue_machine.specs.Rule.{Lists, IsFine, Good}
@@ -75,18 +75,20 @@ module _ {T : Type 0} {n limit : ℕ} {m : Memory T} {g : Lists} {who : ℕ → 
   freed : (events : List (Event T)) → events ≡ Hold p ∷ [] → Free p 1 ∷ events ≡ Free p 1 ∷ Hold p ∷ []
   freed events is = on_top (Free p 1) events (Hold p ∷ []) is
 
-  closed_does : (s : Seeking T) (w y : Tagged) → At (CheckTail s w y) → At (back_closed s)
+  closed_does : (s : Seeking T) (w y : Tagged) → At (CheckTail s w y) → At (back_closed s w)
   closed_does (ToLink link) w y d = stays d (of (CallPut link.value) (AnswerPut (Err (PutClosed link.value))) (Free p 1 ∷ own p d.between) d.made.0 (refl, inr (freed (own p d.between) d.made.1)))
   closed_does (ToRefuse v) w y d = stays d (of (CallPut v) (AnswerPut (Err (PutClosed v))) (own p d.between) d.made.0 (refl, inl d.made.1))
   closed_does ToClose w y d = stays d (of CallClose (AnswerClose false) (own p d.between) d.made.0 d.made.1)
+  closed_does ToGauge w y d = stays d (of CallGauge (AnswerGauge true w.tag) (own p d.between) d.made.0 d.made.1)
 
   end_does : (s : Seeking T) (w y : Tagged) → At (CheckTail s w y) → At (back_null s w y)
   end_does (ToLink link) w y d = stays d d.made
   end_does (ToRefuse v) w y d = stays d (of (CallPut v) (AnswerPut (Err (PutFull v))) (own p d.between) d.made.0 (refl, d.made.1))
   end_does ToClose w y d = stays d d.made
+  end_does ToGauge w y d = stays d d.made
 
   check_tail_does : (s : Seeking T) (w y : Tagged) → At (CheckTail s w y) → At (found_back s w y)
-  check_tail_does s w y d = cases At y.mark (back_closed s) (cond (eqb y.index NULL) (back_null s w y) (SwingTail s w y))
+  check_tail_does s w y d = cases At y.mark (back_closed s w) (cond (eqb y.index NULL) (back_null s w y) (SwingTail s w y))
       (λ b. closed_does s w y d)
       (λ b. cases At (eqb y.index NULL) (back_null s w y) (SwingTail s w y) (λ b'. end_does s w y d) (λ b'. stays d d.made))
 
@@ -155,6 +157,7 @@ module _ {T : Type 0} {n limit : ℕ} {m : Memory T} {g : Lists} {who : ℕ → 
   does (GiveCell give w) at d = (λ won. adds (Free p 1) d refl d.made, stays d d.made)
   does (CheckHeadToLook u y) at d = (λ won. stays d (of CallLook (AnswerLook (eqb y.index NULL)) (own p d.between) d.made.0 d.made.1), stays d d.made)
   does (CheckHeadToCount u w y) at d = (λ won. stays d (of CallLen (AnswerLen (counted u w y)) (own p d.between) d.made.0 d.made.1), stays d d.made)
+  does (CheckNextToGauge w y) at d = (λ won. stays d (of CallGauge (AnswerGauge false w.tag) (own p d.between) d.made.0 d.made.1), stays d d.made)
   does LoadHeadToShut at d = cases At m.head.second (ends (AnswerShut false)) (ShutHead m.head)
       (λ b. stays d (of CallShut (AnswerShut false) (own p d.between) d.made.0 d.made.1))
       (λ b. stays d d.made)

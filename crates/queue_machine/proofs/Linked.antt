@@ -11,9 +11,9 @@ use Rattle.machine.proofs.Lists.{times_here}
 use Rattle.machine.proofs.OneList.{read_top_later, read_link_later}
 use Rattle.queue_machine.specs.declared.lines.Linking.{Linking}
 use Rattle.queue_machine.specs.declared.lines.Seeking.{Seeking}
-use Rattle.queue_machine.specs.declared.lines.Seeking.TheVariants.{ToLink, ToRefuse, ToClose}
+use Rattle.queue_machine.specs.declared.lines.Seeking.TheVariants.{ToLink, ToRefuse, ToClose, ToGauge}
 use Rattle.queue_machine.specs.declared.lines.Line.{Line}
-use Rattle.queue_machine.specs.declared.lines.Line.TheVariants.{LoadCellLink, TakeCell, LoadNodeLink, TakeNode, StoreCell, LoadNext, PrepareNext, LoadTail, LoadTailNext, CheckTail, SwingTail, LinkNext, SwingToLinked, MarkNext, LoadTailToTake, LoadHeadNext, CheckHead, SwingTailToTake, LoadCell, TakeHead, GiveNode, GiveCell, LoadNextToLook, LoadTailToCount, LoadNextToCount, ShutHead}
+use Rattle.queue_machine.specs.declared.lines.Line.TheVariants.{LoadCellLink, TakeCell, LoadNodeLink, TakeNode, StoreCell, LoadNext, PrepareNext, LoadTail, LoadTailNext, CheckTail, SwingTail, LinkNext, SwingToLinked, MarkNext, LoadTailToTake, LoadHeadNext, CheckHead, SwingTailToTake, LoadCell, TakeHead, GiveNode, GiveCell, LoadNextToLook, LoadTailToCount, LoadNextToCount, CheckNextToGauge, ShutHead}
 use Rattle.queue_machine.specs.Machine.{Memory, held_cells, held_nodes, seeking_nodes, next_of}
 use Rattle.queue_machine.specs.Rule.{Lists, IsFresh, IsPrepared, Seeks, HasRoom, IsFine, IsChained, Linked}
 use Rattle.queue_machine.proofs.Chain.{past_later, was_later, PoolMoves, pool_later, ChainMoves, ChainLater, chain_later, lags_later, follows_head, follows_tail, spans_later, ends_later, head_in, tail_in}
@@ -43,6 +43,7 @@ module _ {T : Type 0} where
     seeks_later g g' (ToLink link) links cells f = prepared_later link (links link.node (omega (arith, times_here link.node []))) (cells link.node (omega (arith, times_here link.node []))) f
     seeks_later g g' (ToRefuse v) links cells f = tt
     seeks_later g g' ToClose links cells f = tt
+    seeks_later g g' ToGauge links cells f = tt
 
     room_later : (g g' : Lists) (j : ℕ) → m'.next j ≡ m.next j → HasRoom limit m g j → HasRoom limit m' g' j
     room_later g g' j same f = omega (arith, ap (λ (x : Tagged). x.tag) same, f)
@@ -101,6 +102,7 @@ module _ {T : Type 0} where
   fine_later limit m g m' g' (LoadNextToLook h) o f = past_later h o.chain.heads f
   fine_later limit m g m' g' (LoadTailToCount h) o f = omega (arith, f, o.chain.heads.tag)
   fine_later limit m g m' g' (LoadNextToCount h w) o f = (omega (arith, f.0, o.chain.heads.tag), spans_later o.chain g'.chain o.stays f.0 f.1)
+  fine_later limit m g m' g' (CheckNextToGauge w n) o f = ends_later o.chain f
   fine_later limit m g m' g' (ShutHead h) o f = f
   fine_later limit m g m' g' l o f = tt
 

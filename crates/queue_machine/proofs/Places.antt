@@ -14,9 +14,9 @@ use Rattle.machine.proofs.Lists.{times_here}
 use Rattle.machine.proofs.OneList.{ready, front, front_of}
 use Rattle.machine.proofs.Places.{in_one_place, is_free, is_inside}
 use Rattle.queue_machine.specs.declared.lines.Seeking.{Seeking}
-use Rattle.queue_machine.specs.declared.lines.Seeking.TheVariants.{ToLink, ToRefuse, ToClose}
+use Rattle.queue_machine.specs.declared.lines.Seeking.TheVariants.{ToLink, ToRefuse, ToClose, ToGauge}
 use Rattle.queue_machine.specs.declared.lines.Line.{Line}
-use Rattle.queue_machine.specs.declared.lines.Line.TheVariants.{Idle, LoadCells, TakeCell, LoadNodes, TakeNode, LoadNext, CheckTail, SwingTail, LinkNext, SwingToLinked, MarkNext, LoadHead, CheckHead, SwingTailToTake, TakeHead, GiveNode, GiveCell, CheckHeadToLook, CheckHeadToCount, LoadHeadToShut, ShutHead}
+use Rattle.queue_machine.specs.declared.lines.Line.TheVariants.{Idle, LoadCells, TakeCell, LoadNodes, TakeNode, LoadNext, CheckTail, SwingTail, LinkNext, SwingToLinked, MarkNext, LoadHead, CheckHead, SwingTailToTake, TakeHead, GiveNode, GiveCell, CheckHeadToLook, CheckHeadToCount, CheckNextToGauge, LoadHeadToShut, ShutHead}
 use Rattle.queue_machine.specs.Machine.{Memory, memories, Outcome, table, next_of, held_cells, held_nodes, step, wins_value, back_closed, back_null}
 use Rattle.queue_machine.specs.Answers.{shape}
 use Rattle.queue_machine.specs.Rule.{Lists, IsFine, Good}
@@ -65,15 +65,17 @@ module _ {T : Type 0} {n limit : ℕ} {m : Memory T} {g : Lists} {who : ℕ → 
   of l false y z h h' = h'
 
   -- a cell or a node in hand stays there, or goes
-  closed : (s : Seeking T) (w y : Tagged) → Brings (CheckTail s w y) (back_closed s)
+  closed : (s : Seeking T) (w y : Tagged) → Brings (CheckTail s w y) (back_closed s w)
   closed (ToLink link) w y = same refl refl
   closed (ToRefuse v) w y = same refl refl
   closed ToClose w y = same refl refl
+  closed ToGauge w y = same refl refl
 
   ended : (s : Seeking T) (w y : Tagged) → Brings (CheckTail s w y) (back_null s w y)
   ended (ToLink link) w y = same refl refl
   ended (ToRefuse v) w y = same refl refl
   ended ToClose w y = same refl refl
+  ended ToGauge w y = same refl refl
 
   module _ (q p : ℕ) where
     abbrev After : Line T → Outcome T → Type 0
@@ -138,6 +140,7 @@ module _ {T : Type 0} {n limit : ℕ} {m : Memory T} {g : Lists} {who : ℕ → 
     brings (GiveCell give w) e = (λ won. empty refl refl, same refl refl)
     brings (CheckHeadToLook h y) e = (λ won. empty refl refl, empty refl refl)
     brings (CheckHeadToCount h w y) e = (λ won. empty refl refl, empty refl refl)
+    brings (CheckNextToGauge w y) e = (λ won. empty refl refl, empty refl refl)
     brings LoadHeadToShut e = of LoadHeadToShut m.head.second _ _ (empty refl refl) (empty refl refl)
     brings (ShutHead h) e = (λ won. empty refl refl, empty refl refl)
     brings l e = same refl refl

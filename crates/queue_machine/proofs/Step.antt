@@ -17,10 +17,10 @@ use Rattle.machine.proofs.OneList.{read_top}
 use Rattle.queue_machine.specs.declared.lines.Placing.{Placing}
 use Rattle.queue_machine.specs.declared.lines.Linking.{Linking}
 use Rattle.queue_machine.specs.declared.lines.Seeking.{Seeking}
-use Rattle.queue_machine.specs.declared.lines.Seeking.TheVariants.{ToLink, ToRefuse, ToClose}
-use Rattle.queue_machine.specs.declared.lines.Answer.TheVariants.{Put as AnswerPut, Take as AnswerTake, Close as AnswerClose, Shut as AnswerShut, Look as AnswerLook, Len as AnswerLen}
+use Rattle.queue_machine.specs.declared.lines.Seeking.TheVariants.{ToLink, ToRefuse, ToClose, ToGauge}
+use Rattle.queue_machine.specs.declared.lines.Answer.TheVariants.{Put as AnswerPut, Take as AnswerTake, Close as AnswerClose, Shut as AnswerShut, Look as AnswerLook, Len as AnswerLen, Gauge as AnswerGauge}
 use Rattle.queue_machine.specs.declared.lines.Line.{Line}
-use Rattle.queue_machine.specs.declared.lines.Line.TheVariants.{Idle, LoadCells, LoadCellLink, TakeCell, LoadNodes, LoadNodeLink, TakeNode, StoreCell, LoadNext, PrepareNext, LoadTail, LoadTailNext, CheckTail, SwingTail, LinkNext, SwingToLinked, MarkNext, LoadHead, LoadTailToTake, LoadHeadNext, CheckHead, SwingTailToTake, LoadCell, TakeHead, LoadNodesToGive, LinkToNodes, GiveNode, LoadCellsToGive, LinkToCells, GiveCell, LoadHeadToLook, LoadNextToLook, CheckHeadToLook, LoadHeadToCount, LoadTailToCount, LoadNextToCount, CheckHeadToCount, LoadHeadToShut, ShutHead}
+use Rattle.queue_machine.specs.declared.lines.Line.TheVariants.{Idle, LoadCells, LoadCellLink, TakeCell, LoadNodes, LoadNodeLink, TakeNode, StoreCell, LoadNext, PrepareNext, LoadTail, LoadTailNext, CheckTail, SwingTail, LinkNext, SwingToLinked, MarkNext, LoadHead, LoadTailToTake, LoadHeadNext, CheckHead, SwingTailToTake, LoadCell, TakeHead, LoadNodesToGive, LinkToNodes, GiveNode, LoadCellsToGive, LinkToCells, GiveCell, LoadHeadToLook, LoadNextToLook, CheckHeadToLook, LoadHeadToCount, LoadTailToCount, LoadNextToCount, CheckHeadToCount, CheckNextToGauge, LoadHeadToShut, ShutHead}
 use Rattle.queue_machine.specs.Machine.{Memory, memories, Outcome, table, null_word, goes_on, wins, wins_value, step, ends, gives, frees, with_cell, with_node, found_cells, found_nodes, back_closed, back_null, found_back, found_front, counted, after_next, after_link, after_swing}
 use Rattle.queue_machine.specs.Answers.{shape}
 use Rattle.queue_machine.specs.Rule.{Lists, Lags, Ends, IsFresh, Seeks, IsFine, Kept}
@@ -78,20 +78,22 @@ module _ {T : Type 0} (n limit : ℕ) (m : Memory T) (who : ℕ → Option ℕ) 
               (record { fresh = subst (IsFresh limit m.nodes.tag) (sym (word_here m.next link.node (null_word (w.tag + 1)))) fresh; cell = f.1 });
         }
 
-    closed : (s : Seeking T) (w y : Tagged) → get_elem? lines q ≡ some (CheckTail s w y) → After q (goes_on m (back_closed s))
-    closed (ToLink link) w y e = to (back_closed (ToLink link)) e (record { cells = refl; nodes = refl; bare_same = refl; wanting_less = omega arith; putting_less = omega arith }) tt
-    closed (ToRefuse v) w y e = to (back_closed (ToRefuse v)) e (steady refl) tt
-    closed ToClose w y e = to (back_closed ToClose) e (steady refl) tt
+    closed : (s : Seeking T) (w y : Tagged) → get_elem? lines q ≡ some (CheckTail s w y) → After q (goes_on m (back_closed s w))
+    closed (ToLink link) w y e = to (back_closed (ToLink link) w) e (record { cells = refl; nodes = refl; bare_same = refl; wanting_less = omega arith; putting_less = omega arith }) tt
+    closed (ToRefuse v) w y e = to (back_closed (ToRefuse v) w) e (steady refl) tt
+    closed ToClose w y e = to (back_closed ToClose w) e (steady refl) tt
+    closed ToGauge w y e = to (back_closed ToGauge w) e (steady refl) tt
 
     ended : (s : Seeking T) (w y : Tagged) → get_elem? lines q ≡ some (CheckTail s w y) → Seeks limit m x.lists s → Ends m.tail m.next w y → After q (goes_on m (back_null s w y))
     ended (ToLink link) w y e f ends_here = to (LinkNext link w y) e (steady refl) (f, ends_here)
     ended (ToRefuse v) w y e f ends_here = to (back_null (ToRefuse v) w y) e (steady refl) tt
     ended ToClose w y e f ends_here = to (MarkNext w y) e (steady refl) ends_here
+    ended ToGauge w y e f ends_here = to (CheckNextToGauge w y) e (steady refl) ends_here
 
     check_tail : (s : Seeking T) (w y : Tagged) → get_elem? lines q ≡ some (CheckTail s w y) → m.tail ≡ w → After q (goes_on m (found_back s w y))
     check_tail s w y e won =
         let f : IsFine limit m x.lists (CheckTail s w y) = x.good.linked.fine q (CheckTail s w y) e in
-        cases (λ l. After q (goes_on m l)) y.mark (back_closed s) (cond (eqb y.index NULL) (back_null s w y) (SwingTail s w y))
+        cases (λ l. After q (goes_on m l)) y.mark (back_closed s w) (cond (eqb y.index NULL) (back_null s w y) (SwingTail s w y))
         (λ b. closed s w y e)
         (λ b. cases (λ l. After q (goes_on m l)) (eqb y.index NULL) (back_null s w y) (SwingTail s w y)
         (λ b'. ended s w y e f.0 (record { null = eqb-true y.index NULL b'; unmarked = b; was = f.2; last = λ z. (ap (λ (u : Tagged). u.tag) (sym won), ap (λ (u : Tagged). u.index) (sym won)) }))
@@ -249,6 +251,7 @@ module _ {T : Type 0} (n limit : ℕ) (m : Memory T) (who : ℕ → Option ℕ) 
         to (LoadNextToCount h m.tail) e (steady refl) (f, record { past = past_refl m.tail; there = λ t. tail_in x.good.linked.chained; last = λ t null. refl })
     kept (LoadNextToCount h w) e = to (CheckHeadToCount h w (m.next w.index)) e (steady refl) tt
     kept (CheckHeadToCount h w y) e = (λ won. to (ends (AnswerLen (counted h w y))) e (steady refl) tt, to LoadHeadToCount e (steady refl) tt)
+    kept (CheckNextToGauge w y) e = (λ won. to (ends (AnswerGauge false w.tag)) e (steady refl) tt, to (LoadTail ToGauge) e (steady refl) tt)
     kept LoadHeadToShut e =
         let refused : Line T = ends (AnswerShut false) in
         cases (λ l. After q (goes_on m l)) m.head.second refused (ShutHead m.head) (λ h. to refused e (steady refl) tt) (λ h. to (ShutHead m.head) e (steady refl) h)

@@ -22,15 +22,15 @@ use Rattle.machine.proofs.Program.{Cases, by_cases, Apart, adds_own}
 use Rattle.queue_machine.specs.declared.lines.Placing.{Placing}
 use Rattle.queue_machine.specs.declared.lines.Linking.{Linking}
 use Rattle.queue_machine.specs.declared.lines.Seeking.{Seeking}
-use Rattle.queue_machine.specs.declared.lines.Seeking.TheVariants.{ToLink, ToRefuse, ToClose}
+use Rattle.queue_machine.specs.declared.lines.Seeking.TheVariants.{ToLink, ToRefuse, ToClose, ToGauge}
 use Rattle.queue_machine.specs.declared.lines.Answer.{Answer}
 use Rattle.queue_machine.specs.declared.lines.Answer.TheVariants.{Put as AnswerPut, Take as AnswerTake, Close as AnswerClose, Shut as AnswerShut}
 use Rattle.queue_machine.specs.declared.lines.Line.{Line}
-use Rattle.queue_machine.specs.declared.lines.Line.TheVariants.{Idle, LoadCells, LoadCellLink, TakeCell, LoadNodes, LoadNodeLink, TakeNode, LoadNext, PrepareNext, LoadTail, LoadTailNext, CheckTail, SwingTail, LinkNext, SwingToLinked, MarkNext, LoadHead, LoadTailToTake, LoadHeadNext, CheckHead, SwingTailToTake, LoadCell, TakeHead, LoadNodesToGive, LinkToNodes, GiveNode, LoadCellsToGive, LinkToCells, GiveCell, LoadHeadToLook, LoadNextToLook, CheckHeadToLook, LoadHeadToCount, LoadTailToCount, LoadNextToCount, CheckHeadToCount, LoadHeadToShut, ShutHead}
+use Rattle.queue_machine.specs.declared.lines.Line.TheVariants.{Idle, LoadCells, LoadCellLink, TakeCell, LoadNodes, LoadNodeLink, TakeNode, LoadNext, PrepareNext, LoadTail, LoadTailNext, CheckTail, SwingTail, LinkNext, SwingToLinked, MarkNext, LoadHead, LoadTailToTake, LoadHeadNext, CheckHead, SwingTailToTake, LoadCell, TakeHead, LoadNodesToGive, LinkToNodes, GiveNode, LoadCellsToGive, LinkToCells, GiveCell, LoadHeadToLook, LoadNextToLook, CheckHeadToLook, LoadHeadToCount, LoadTailToCount, LoadNextToCount, CheckHeadToCount, CheckNextToGauge, LoadHeadToShut, ShutHead}
 use Rattle.queue_machine.specs.Machine.{Memory, memories, Outcome, table, wins_value, step, ends, gives, frees, back_closed, back_null, found_cells, found_nodes, found_next, found_back, found_front}
 use Rattle.queue_machine.specs.Answers.{shape, state, IsRight}
 use Rattle.queue_machine.specs.Rule.{Lists, IsFine, Spans, SeeksFor, EndTells, FrontTells, Tells, Good}
-use Rattle.queue_machine.proofs.Answers.{takes_grow, puts_stay, balanced, some_moment, puts_near, puts_to_end, puts_past, full_now, cells_spent_now, next_spent_now, node_there, node_below, shut_now, unshut_now, closed_tail, end_tells, front_tells}
+use Rattle.queue_machine.proofs.Answers.{takes_grow, puts_stay, balanced, some_moment, puts_near, puts_to_end, puts_past, full_now, cells_spent_now, next_spent_now, node_there, node_below, shut_now, unshut_now, closed_gauged, open_gauged, closed_tail, end_tells, front_tells}
 
 module _ {T : Type 0} where
   -- an answer that was right stays so when its pass has seen more
@@ -46,6 +46,7 @@ module _ {T : Type 0} where
   seeks_wider n limit begun seen newer (ToLink link) l t = tt
   seeks_wider n limit begun seen newer (ToRefuse v) l t = Sometime-wider (Later-refl begun) l t
   seeks_wider n limit begun seen newer ToClose l t = tt
+  seeks_wider n limit begun seen newer ToGauge l t = tt
 
   module _ {n limit : ℕ} {m : Memory T} {g : Lists} {who : ℕ → Option ℕ} {lines : List (Line T)} {history : List (Event T)} (x : Good T n limit m g who lines history) (q p : ℕ)
       (begun seen : List (Event T)) (before : Later begun seen) (now : Later seen history) where
@@ -85,10 +86,11 @@ module _ {T : Type 0} where
         (λ h. tt)
 
     -- the end of the chain had the mark
-    closed_tells : (s : Seeking T) (w y : Tagged) → EndTells n limit seen w y → y.mark ≡ true → Tells n limit begun history (back_closed s)
-    closed_tells (ToLink link) w y t b = then_right (t.marked b)
-    closed_tells (ToRefuse v) w y t b = then_right (t.marked b)
-    closed_tells ToClose w y t b = then_right (t.marked b)
+    closed_tells : (s : Seeking T) (w y : Tagged) → m.tail ≡ w → EndTells n limit seen w y → y.mark ≡ true → Tells n limit begun history (back_closed s w)
+    closed_tells (ToLink link) w y won t b = then_right (t.marked b)
+    closed_tells (ToRefuse v) w y won t b = then_right (t.marked b)
+    closed_tells ToClose w y won t b = then_right (t.marked b)
+    closed_tells ToGauge w y won t b = Sometime-now since (closed_gauged x w won (closed_stays (shape n limit) now (t.marked b)))
 
     -- the end of the chain was null while the tail was what it is now, so the history was open then
     open_then : (w y : Tagged) → m.tail ≡ w → EndTells n limit seen w y → y.mark ≡ false → y.index ≡ NULL → IsOpen (shape n limit) seen
@@ -100,11 +102,12 @@ module _ {T : Type 0} where
     end_tells_kept (ToRefuse v) w y won f t b null =
         record { at = f.at; since = f.since; until = Later-trans f.until now; holds = (f.holds, open_before (shape n limit) f.until (open_then w y won t b null)) }
     end_tells_kept ToClose w y won f t b null = tt
+    end_tells_kept ToGauge w y won f t b null = tt
 
     check_tail_tells : (s : Seeking T) (w y : Tagged) → m.tail ≡ w → Tells n limit begun seen (CheckTail s w y) → Tells n limit begun history (found_back s w y)
     check_tail_tells s w y won t =
-        cases (Tells n limit begun history) y.mark (back_closed s) (cond (eqb y.index NULL) (back_null s w y) (SwingTail s w y))
-        (λ b. closed_tells s w y t.1 b)
+        cases (Tells n limit begun history) y.mark (back_closed s w) (cond (eqb y.index NULL) (back_null s w y) (SwingTail s w y))
+        (λ b. closed_tells s w y won t.1 b)
         (λ b. cases (Tells n limit begun history) (eqb y.index NULL) (back_null s w y) (SwingTail s w y)
         (λ b'. end_tells_kept s w y won t.0 t.1 b (eqb-true y.index NULL b'))
         (λ b'. seeks_wider n limit begun seen history s now t.0))
@@ -198,6 +201,7 @@ module _ {T : Type 0} where
           held = λ number. count_right h w (eqb (m.next w.index).index NULL) f.1 refl number t.0 t.1;
         }
     told (CheckHeadToCount h w y) e t = (λ won. Sometime-wider (Later-refl begun) now (t.held (takes_then h won t.since)), tt)
+    told (CheckNextToGauge w y) e t = let f : IsFine limit m g (CheckNextToGauge w y) = x.linked.fine q (CheckNextToGauge w y) e in (λ won. Sometime-now since (open_gauged x w y f won), tt)
     told LoadHeadToShut e t = cases (Tells n limit begun history) m.head.second (ends (AnswerShut false)) (ShutHead m.head) (λ h. Sometime-now since (shut_now x h)) (λ h. tt)
     told (ShutHead h) e t = (λ won. tt, tt)
     told l e t = tt

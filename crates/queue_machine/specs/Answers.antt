@@ -1,5 +1,5 @@
 -- The bounded queue that the machine's history is one of, and which answers of its passes are right.
-use Rattle.std.specs.Prelude.{ℕ, true, false, List, Ok, Err}
+use Rattle.std.specs.Prelude.{◌≡◌, ℕ, ◌≤◌, Bool, true, false, List, Ok, Err}
 use Rattle.bounded_model.specs.declared.history.Order.TheVariants.{Fifo}
 use Rattle.bounded_model.specs.declared.history.Event.{Event}
 use Rattle.bounded_model.specs.declared.container.TheConstants.{MAX_PASSES}
@@ -7,7 +7,7 @@ use Rattle.bounded_model.specs.Machine as bounded
 use Rattle.bounded_model.specs.Justified as right
 use Rattle.bounded_model.specs.declared.answers.PutRefused.TheVariants.{Full, Closed, Spent}
 use Rattle.queue_machine.specs.declared.lines.Answer.{Answer}
-use Rattle.queue_machine.specs.declared.lines.Answer.TheVariants.{Put as AnswerPut, Take as AnswerTake, Close as AnswerClose, Shut as AnswerShut, Look as AnswerLook, Len as AnswerLen}
+use Rattle.queue_machine.specs.declared.lines.Answer.TheVariants.{Put as AnswerPut, Take as AnswerTake, Close as AnswerClose, Shut as AnswerShut, Look as AnswerLook, Len as AnswerLen, Gauge as AnswerGauge}
 
 -- a queue of n cells
 abbrev pub shape : ℕ → ℕ → bounded.Shape
@@ -16,6 +16,11 @@ shape n limit = record { order = Fifo; capacity = n; limit = limit; passes = MAX
 -- the bounded machine at the end of a history
 abbrev pub state : {T : Type 0} → ℕ → ℕ → List (Event T) → bounded.State T
 state n limit history = bounded.state (shape n limit) history
+
+-- whether the queue is closed at the end of a history, and how many values were put: so many tags of the tail
+-- are used, of those that the limit allows
+abbrev pub IsGauged : {T : Type 0} → ℕ → ℕ → Bool → ℕ → List (Event T) → Type 0
+IsGauged n limit closed used h = ((state n limit h).closed ≡ closed) × ((state n limit h).puts ≡ used) × (used ≤ limit)
 
 -- some history between those seen at the begin and at the end of an operation justifies its answer,
 -- where that is one that changes nothing
@@ -32,3 +37,4 @@ IsRight n limit begun seen (AnswerShut true) = Unit {0}
 IsRight n limit begun seen (AnswerShut false) = right.Sometime begun seen (λ h. right.Justifies (shape n limit) h right.NotShut)
 IsRight n limit begun seen (AnswerLook empty) = right.Sometime begun seen (λ h. right.Justifies (shape n limit) h (right.Looked empty))
 IsRight n limit begun seen (AnswerLen k) = right.Sometime begun seen (λ h. right.Justifies (shape n limit) h (right.Counted k))
+IsRight n limit begun seen (AnswerGauge closed used) = right.Sometime begun seen (IsGauged n limit closed used)

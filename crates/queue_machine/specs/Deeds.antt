@@ -10,13 +10,13 @@ use Rattle.bounded_model.specs.declared.history.Event.{Event}
 use Rattle.bounded_model.specs.declared.history.Event.TheVariants.{Hold, Put, Take, Free, Close, Shut}
 use Rattle.bounded_model.specs.Histories.{own}
 use Rattle.queue_machine.specs.declared.lines.Seeking.{Seeking}
-use Rattle.queue_machine.specs.declared.lines.Seeking.TheVariants.{ToLink, ToRefuse, ToClose}
+use Rattle.queue_machine.specs.declared.lines.Seeking.TheVariants.{ToLink, ToRefuse, ToClose, ToGauge}
 use Rattle.queue_machine.specs.declared.lines.Call.{Call}
-use Rattle.queue_machine.specs.declared.lines.Call.TheVariants.{Put as CallPut, Take as CallTake, Close as CallClose, Shut as CallShut, Look as CallLook, Len as CallLen}
+use Rattle.queue_machine.specs.declared.lines.Call.TheVariants.{Put as CallPut, Take as CallTake, Close as CallClose, Shut as CallShut, Look as CallLook, Len as CallLen, Gauge as CallGauge}
 use Rattle.queue_machine.specs.declared.lines.Answer.{Answer}
-use Rattle.queue_machine.specs.declared.lines.Answer.TheVariants.{Put as AnswerPut, Take as AnswerTake, Close as AnswerClose, Shut as AnswerShut, Look as AnswerLook, Len as AnswerLen}
+use Rattle.queue_machine.specs.declared.lines.Answer.TheVariants.{Put as AnswerPut, Take as AnswerTake, Close as AnswerClose, Shut as AnswerShut, Look as AnswerLook, Len as AnswerLen, Gauge as AnswerGauge}
 use Rattle.queue_machine.specs.declared.lines.Line.{Line}
-use Rattle.queue_machine.specs.declared.lines.Line.TheVariants.{Idle, LoadCells, LoadCellLink, TakeCell, LoadNodes, LoadNodeLink, TakeNode, StoreCell, LoadNext, PrepareNext, LoadTail, LoadTailNext, CheckTail, SwingTail, LinkNext, SwingToLinked, MarkNext, LoadHead, LoadTailToTake, LoadHeadNext, CheckHead, SwingTailToTake, LoadCell, TakeHead, LoadNodesToGive, LinkToNodes, GiveNode, LoadCellsToGive, LinkToCells, GiveCell, LoadHeadToLook, LoadNextToLook, CheckHeadToLook, LoadHeadToCount, LoadTailToCount, LoadNextToCount, CheckHeadToCount, LoadHeadToShut, ShutHead}
+use Rattle.queue_machine.specs.declared.lines.Line.TheVariants.{Idle, LoadCells, LoadCellLink, TakeCell, LoadNodes, LoadNodeLink, TakeNode, StoreCell, LoadNext, PrepareNext, LoadTail, LoadTailNext, CheckTail, SwingTail, LinkNext, SwingToLinked, MarkNext, LoadHead, LoadTailToTake, LoadHeadNext, CheckHead, SwingTailToTake, LoadCell, TakeHead, LoadNodesToGive, LinkToNodes, GiveNode, LoadCellsToGive, LinkToCells, GiveCell, LoadHeadToLook, LoadNextToLook, CheckHeadToLook, LoadHeadToCount, LoadTailToCount, LoadNextToCount, CheckHeadToCount, CheckNextToGauge, LoadHeadToShut, ShutHead}
 
 module _ {T : Type 0} (p : ℕ) where
   -- All the events of pass p from begin to answer, the newest first, are these
@@ -44,6 +44,7 @@ module _ {T : Type 0} (p : ℕ) where
   Makes CallShut (AnswerShut done) events = events ≡ (if done then Shut p ∷ [] else [])
   Makes CallLook (AnswerLook empty) events = events ≡ []
   Makes CallLen (AnswerLen k) events = events ≡ []
+  Makes CallGauge (AnswerGauge closed used) events = events ≡ []
   Makes call a events = ⊥
 
   -- So far the call and the events are these
@@ -52,6 +53,7 @@ module _ {T : Type 0} (p : ℕ) where
   HasSought call (ToLink link) events = (call ≡ CallPut link.value) × (events ≡ Hold p ∷ [])
   HasSought call (ToRefuse v) events = (call ≡ CallPut v) × (events ≡ [])
   HasSought call ToClose events = (call ≡ CallClose) × (events ≡ [])
+  HasSought call ToGauge events = (call ≡ CallGauge) × (events ≡ [])
 
   -- the cell is still to be given back
   abbrev pub HasToFree : Call T → Answer T → List (Event T) → Type 0
@@ -100,6 +102,7 @@ module _ {T : Type 0} (p : ℕ) where
   HasMade call (LoadTailToCount h) events = (call ≡ CallLen) × (events ≡ [])
   HasMade call (LoadNextToCount h w) events = (call ≡ CallLen) × (events ≡ [])
   HasMade call (CheckHeadToCount h w n) events = (call ≡ CallLen) × (events ≡ [])
+  HasMade call (CheckNextToGauge w n) events = (call ≡ CallGauge) × (events ≡ [])
   HasMade call LoadHeadToShut events = (call ≡ CallShut) × (events ≡ [])
   HasMade call (ShutHead h) events = (call ≡ CallShut) × (events ≡ [])
 

@@ -1,5 +1,5 @@
--- The queue of Michael and Scott as a machine: any number of passes put, take, close, shut, look and count,
--- one atomic step at a time. `table` has its lines.
+-- The queue of Michael and Scott as a machine: any number of passes put, take, close, shut, look, count and
+-- gauge, one atomic step at a time. `table` has its lines.
 use Rattle.std.specs.Prelude.{ℕ, ◌+◌, ◌-◌, ◌==◌, leb, ltb, if◌then◌else◌, Bool, true, false, List, [], ◌∷◌, Option as Slot, Some, None, Ok, Err}
 use mathlib.Core.Option.{Option, none, some}
 use Rattle.tagged_index.specs.declared.word.TheConstants.{NULL}
@@ -17,17 +17,17 @@ use Rattle.machine.specs.IndexList.{IndexList, load_top, follow_link, take_top, 
 use Rattle.queue_machine.specs.declared.lines.Placing.{Placing}
 use Rattle.queue_machine.specs.declared.lines.Linking.{Linking}
 use Rattle.queue_machine.specs.declared.lines.Seeking.{Seeking}
-use Rattle.queue_machine.specs.declared.lines.Seeking.TheVariants.{ToLink, ToRefuse, ToClose}
+use Rattle.queue_machine.specs.declared.lines.Seeking.TheVariants.{ToLink, ToRefuse, ToClose, ToGauge}
 use Rattle.queue_machine.specs.declared.lines.Answer.{Answer}
-use Rattle.queue_machine.specs.declared.lines.Answer.TheVariants.{Put as AnswerPut, Take as AnswerTake, Close as AnswerClose, Shut as AnswerShut, Look as AnswerLook, Len as AnswerLen}
+use Rattle.queue_machine.specs.declared.lines.Answer.TheVariants.{Put as AnswerPut, Take as AnswerTake, Close as AnswerClose, Shut as AnswerShut, Look as AnswerLook, Len as AnswerLen, Gauge as AnswerGauge}
 use Rattle.queue_machine.specs.declared.lines.Place.{Place}
 use Rattle.queue_machine.specs.declared.lines.Place.TheVariants.{Cells as AtCells, Nodes as AtNodes, Head as AtHead, Tail as AtTail, Next as AtNext}
 use Rattle.queue_machine.specs.declared.lines.Number.{Number}
 use Rattle.queue_machine.specs.declared.lines.Number.TheVariants.{CellLink, NodeLink, Cell as CellOf}
 use Rattle.queue_machine.specs.declared.lines.Line.{Line}
-use Rattle.queue_machine.specs.declared.lines.Line.TheVariants.{Idle, LoadCells, LoadCellLink, TakeCell, LoadNodes, LoadNodeLink, TakeNode, StoreCell, LoadNext, PrepareNext, LoadTail, LoadTailNext, CheckTail, SwingTail, LinkNext, SwingToLinked, MarkNext, LoadHead, LoadTailToTake, LoadHeadNext, CheckHead, SwingTailToTake, LoadCell, TakeHead, LoadNodesToGive, LinkToNodes, GiveNode, LoadCellsToGive, LinkToCells, GiveCell, LoadHeadToLook, LoadNextToLook, CheckHeadToLook, LoadHeadToCount, LoadTailToCount, LoadNextToCount, CheckHeadToCount, LoadHeadToShut, ShutHead}
+use Rattle.queue_machine.specs.declared.lines.Line.TheVariants.{Idle, LoadCells, LoadCellLink, TakeCell, LoadNodes, LoadNodeLink, TakeNode, StoreCell, LoadNext, PrepareNext, LoadTail, LoadTailNext, CheckTail, SwingTail, LinkNext, SwingToLinked, MarkNext, LoadHead, LoadTailToTake, LoadHeadNext, CheckHead, SwingTailToTake, LoadCell, TakeHead, LoadNodesToGive, LinkToNodes, GiveNode, LoadCellsToGive, LinkToCells, GiveCell, LoadHeadToLook, LoadNextToLook, CheckHeadToLook, LoadHeadToCount, LoadTailToCount, LoadNextToCount, CheckHeadToCount, CheckNextToGauge, LoadHeadToShut, ShutHead}
 use Rattle.queue_machine.specs.declared.lines.Call.{Call}
-use Rattle.queue_machine.specs.declared.lines.Call.TheVariants.{Put as CallPut, Take as CallTake, Close as CallClose, Shut as CallShut, Look as CallLook, Len as CallLen}
+use Rattle.queue_machine.specs.declared.lines.Call.TheVariants.{Put as CallPut, Take as CallTake, Close as CallClose, Shut as CallShut, Look as CallLook, Len as CallLen, Gauge as CallGauge}
 
 -- The words, and what each value cell has: none while a pass holds it, some None where it is empty at
 -- home. `clink` and `nlink` link the free cells and the free nodes, `next` the nodes of the chain;
@@ -144,19 +144,21 @@ module _ {T : Type 0} where
       else PrepareNext link n
 
   -- the end of the chain has the mark
-  abbrev pub back_closed : Seeking T → Line T
-  back_closed (ToLink link) = gives link (AnswerPut (Err (PutClosed link.value)))
-  back_closed (ToRefuse v) = ends (AnswerPut (Err (PutClosed v)))
-  back_closed ToClose = ends (AnswerClose false)
+  abbrev pub back_closed : Seeking T → Tagged → Line T
+  back_closed (ToLink link) w = gives link (AnswerPut (Err (PutClosed link.value)))
+  back_closed (ToRefuse v) w = ends (AnswerPut (Err (PutClosed v)))
+  back_closed ToClose w = ends (AnswerClose false)
+  back_closed ToGauge w = ends (AnswerGauge true w.tag)
 
   -- the end of the chain is null
   abbrev pub back_null : Seeking T → Tagged → Tagged → Line T
   back_null (ToLink link) w n = LinkNext link w n
   back_null (ToRefuse v) w n = ends (AnswerPut (Err (PutFull v)))
   back_null ToClose w n = MarkNext w n
+  back_null ToGauge w n = CheckNextToGauge w n
 
   abbrev pub found_back : Seeking T → Tagged → Tagged → Line T
-  found_back s w n = if n.mark then back_closed s else if n.index == NULL then back_null s w n else SwingTail s w n
+  found_back s w n = if n.mark then back_closed s w else if n.index == NULL then back_null s w n else SwingTail s w n
 
   abbrev pub found_head : Tagged → Line T
   found_head h = if h.second then ends (AnswerTake (Err TakeShut)) else LoadTailToTake h
@@ -299,7 +301,7 @@ module _ {T : Type 0} where
   table limit (LoadCellsToGive give) = load_top free_cells (LinkToCells give)
   table limit (LinkToCells give w) = link_to_top free_cells give.cell w (GiveCell give w)
   table limit (GiveCell give w) = give_top free_cells w give.cell (returns ((give.cell, None) ∷ []) (by (ends give.answer) (λ p. Free p 1))) (LoadCellsToGive give)
-  -- look, len, shut
+  -- look, len, gauge, shut
   table limit LoadHeadToLook = loads AtHead LoadNextToLook
   table limit (LoadNextToLook h) = loads (AtNext h.index) (CheckHeadToLook h)
   table limit (CheckHeadToLook h n) = checks AtHead h (ends (AnswerLook (n.index == NULL))) LoadHeadToLook
@@ -307,6 +309,7 @@ module _ {T : Type 0} where
   table limit (LoadTailToCount h) = loads AtTail (LoadNextToCount h)
   table limit (LoadNextToCount h w) = loads (AtNext w.index) (CheckHeadToCount h w)
   table limit (CheckHeadToCount h w n) = checks AtHead h (ends (AnswerLen (counted h w n))) LoadHeadToCount
+  table limit (CheckNextToGauge w n) = checks (AtNext w.index) n (ends (AnswerGauge false w.tag)) (LoadTail ToGauge)
   table limit LoadHeadToShut = loads AtHead found_head_to_shut
   table limit (ShutHead h) = swaps AtHead h shuts (stays (by (ends (AnswerShut true)) Shut)) LoadHeadToShut
 
@@ -377,6 +380,7 @@ module _ {T : Type 0} where
   starts CallShut = LoadHeadToShut
   starts CallLook = LoadHeadToLook
   starts CallLen = LoadHeadToCount
+  starts CallGauge = LoadTail ToGauge
 
 -- The words and slots of a new queue: as many of each kind as it has nodes. A number that is no index
 -- has 0 for a word, and no slot

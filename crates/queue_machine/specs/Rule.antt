@@ -12,9 +12,9 @@ use Rattle.machine.specs.OneList.{ReadTop, ReadLink}
 use Rattle.machine.specs.Chains.{last, HasValues}
 use Rattle.queue_machine.specs.declared.lines.Linking.{Linking}
 use Rattle.queue_machine.specs.declared.lines.Seeking.{Seeking}
-use Rattle.queue_machine.specs.declared.lines.Seeking.TheVariants.{ToLink, ToRefuse, ToClose}
+use Rattle.queue_machine.specs.declared.lines.Seeking.TheVariants.{ToLink, ToRefuse, ToClose, ToGauge}
 use Rattle.queue_machine.specs.declared.lines.Line.{Line}
-use Rattle.queue_machine.specs.declared.lines.Line.TheVariants.{Idle, LoadCells, LoadCellLink, TakeCell, LoadNodes, LoadNodeLink, TakeNode, StoreCell, LoadNext, PrepareNext, LoadTail, LoadTailNext, CheckTail, SwingTail, LinkNext, SwingToLinked, MarkNext, LoadHead, LoadTailToTake, LoadHeadNext, CheckHead, SwingTailToTake, LoadCell, TakeHead, LoadNodesToGive, LinkToNodes, GiveNode, LoadCellsToGive, LinkToCells, GiveCell, LoadHeadToLook, LoadNextToLook, CheckHeadToLook, LoadHeadToCount, LoadTailToCount, LoadNextToCount, CheckHeadToCount, LoadHeadToShut, ShutHead}
+use Rattle.queue_machine.specs.declared.lines.Line.TheVariants.{Idle, LoadCells, LoadCellLink, TakeCell, LoadNodes, LoadNodeLink, TakeNode, StoreCell, LoadNext, PrepareNext, LoadTail, LoadTailNext, CheckTail, SwingTail, LinkNext, SwingToLinked, MarkNext, LoadHead, LoadTailToTake, LoadHeadNext, CheckHead, SwingTailToTake, LoadCell, TakeHead, LoadNodesToGive, LinkToNodes, GiveNode, LoadCellsToGive, LinkToCells, GiveCell, LoadHeadToLook, LoadNextToLook, CheckHeadToLook, LoadHeadToCount, LoadTailToCount, LoadNextToCount, CheckHeadToCount, CheckNextToGauge, LoadHeadToShut, ShutHead}
 use Rattle.queue_machine.specs.Machine.{Memory, held_cells, held_nodes, counted}
 use Rattle.queue_machine.specs.Answers.{IsRight, shape, state}
 
@@ -86,6 +86,7 @@ module _ {T : Type 0} (limit : ℕ) (m : Memory T) (g : Lists) where
   Seeks (ToLink link) = IsPrepared limit m link
   Seeks (ToRefuse v) = Unit {0}
   Seeks ToClose = Unit {0}
+  Seeks ToGauge = Unit {0}
 
   -- the node's link was written less than twice as often as nodes were taken
   abbrev pub HasRoom : ℕ → Type 0
@@ -128,7 +129,7 @@ module _ {T : Type 0} (limit : ℕ) (m : Memory T) (g : Lists) where
   IsFine (LoadCellsToGive give) = Unit {0}
   IsFine (LinkToCells give w) = Unit {0}
   IsFine (GiveCell give w) = m.clink give.cell ≡ w.index
-  -- look, len, shut
+  -- look, len, gauge, shut
   IsFine LoadHeadToLook = Unit {0}
   IsFine (LoadNextToLook h) = Past m.head h
   IsFine (CheckHeadToLook h n) = Unit {0}
@@ -136,6 +137,7 @@ module _ {T : Type 0} (limit : ℕ) (m : Memory T) (g : Lists) where
   IsFine (LoadTailToCount h) = h.tag ≤ m.head.tag
   IsFine (LoadNextToCount h w) = (h.tag ≤ m.head.tag) × Spans m.head m.tail m.next g.chain h w
   IsFine (CheckHeadToCount h w n) = Unit {0}
+  IsFine (CheckNextToGauge w n) = Ends m.tail m.next w n
   IsFine LoadHeadToShut = Unit {0}
   IsFine (ShutHead h) = h.second ≡ false
 
@@ -267,6 +269,7 @@ module _ {T : Type 0} (n limit : ℕ) (begun seen : List (Event T)) where
   SeeksFor (ToLink link) = Unit {0}
   SeeksFor (ToRefuse v) = Sometime begun seen (IsFull (shape n limit))
   SeeksFor ToClose = Unit {0}
+  SeeksFor ToGauge = Unit {0}
 
   -- what the link x of the node of w told of the values, w having been the tail after h had been the head
   pub record CountTells (h w x : Tagged) : Type 0 where

@@ -52,6 +52,8 @@ pub enum Seeking<T> {
     ToRefuse(T),
     /// To close the queue.
     ToClose,
+    /// To say whether the queue is closed and how many values were put.
+    ToGauge,
 }
 
 /// What an operation answers.
@@ -68,6 +70,8 @@ pub enum Answer<T> {
     Look(bool),
     /// How many values it held.
     Len(u64),
+    /// Whether it was closed, and how many of its tail's tags were used: as many values were put.
+    Gauge(bool, u64),
 }
 
 /// A node and a cell whose value has been moved out are to be given back, the node first; then the
@@ -162,6 +166,9 @@ pub enum Line<T> {
     LoadNextToCount(Fields, Fields),
     /// Load `HEAD` again.
     CheckHeadToCount(Fields, Fields, Fields),
+    /// Load the last node's `next` again: while it is the same, nothing was put since, and the queue
+    /// is open.
+    CheckNextToGauge(Fields, Fields),
     /// Load `HEAD`.
     LoadHeadToShut,
     /// Set its second mark.
@@ -176,4 +183,5 @@ pub enum Call<T> {
     Shut,
     Look,
     Len,
+    Gauge,
 }

@@ -11,7 +11,7 @@ use Rattle.bounded_model.specs.Justified.{IsEmpty, IsOpen, IsClosed, IsUnshut, I
 use Rattle.machine.specs.Words.{times}
 use Rattle.stack_machine.specs.declared.lines.Line.{Line}
 use Rattle.stack_machine.specs.Machine.{Memory}
-use Rattle.stack_machine.specs.Answers.{shape, state}
+use Rattle.stack_machine.specs.Answers.{shape, state, IsGauged}
 use Rattle.machine.specs.Chains.{HasValues}
 use Rattle.stack_machine.specs.Rule.{Lists, values_put, Good}
 use Rattle.machine.proofs.OneList.{front_of, none_there}
@@ -62,6 +62,9 @@ module _ {T : Type 0} {n limit : ℕ} {m : Memory T} {g : Lists} {who : ℕ → 
 
   pub open_now : m.top.mark ≡ false → IsOpen (shape n limit) history
   open_now e = sym x.told.closed ∙ e
+
+  pub gauged_now : IsGauged n limit m.top.mark m.top.tag history
+  gauged_now = (sym x.told.closed, sym x.told.top_tag, x.told.top_limit)
 
   pub shut_now : m.top.second ≡ true → IsShut (shape n limit) history
   shut_now e = sym x.told.shut ∙ e

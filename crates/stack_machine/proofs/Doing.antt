@@ -26,14 +26,14 @@ use Rattle.stack_machine.specs.declared.lines.Direction.TheVariants.{Down, Up}
 use Rattle.stack_machine.specs.declared.lines.Taking.{Taking}
 use Rattle.stack_machine.specs.declared.lines.Taking.TheVariants.{One, Whole}
 use Rattle.stack_machine.specs.declared.lines.Answer.{Answer}
-use Rattle.stack_machine.specs.declared.lines.Answer.TheVariants.{Put as AnswerPut, Take as AnswerTake, Fold as AnswerFold, Close as AnswerClose, Shut as AnswerShut, Look as AnswerLook}
+use Rattle.stack_machine.specs.declared.lines.Answer.TheVariants.{Put as AnswerPut, Take as AnswerTake, Fold as AnswerFold, Close as AnswerClose, Shut as AnswerShut, Look as AnswerLook, Gauge as AnswerGauge}
 use Rattle.stack_machine.specs.declared.lines.Line.{Line}
-use Rattle.stack_machine.specs.declared.lines.Line.TheVariants.{Idle, LoadFree, LoadFreeLink, TakeFree, LinkTaken, LoadTop, LinkToTop, SwapTop, LoadTopToRefuse, LoadTopToTake, LoadTopLink, TakeTop, TakeChain, LoadLinkToTurn, TurnLink, LoadLinkToFold, LoadFreeToGive, LinkToFree, GiveBack, LoadTopToClose, MarkTop, LoadTopToShut, ShutTop, LoadTopToLook}
+use Rattle.stack_machine.specs.declared.lines.Line.TheVariants.{Idle, LoadFree, LoadFreeLink, TakeFree, LinkTaken, LoadTop, LinkToTop, SwapTop, LoadTopToRefuse, LoadTopToTake, LoadTopLink, TakeTop, TakeChain, LoadLinkToTurn, TurnLink, LoadLinkToFold, LoadFreeToGive, LinkToFree, GiveBack, LoadTopToClose, MarkTop, LoadTopToShut, ShutTop, LoadTopToLook, LoadTopToGauge}
 use Rattle.stack_machine.specs.Machine.{Memory, memories, table, Outcome, starts, step, at_load_top, at_load_top_to_refuse, at_load_top_to_take, wins_value, wins_chain, at_load_free, at_take_free, refuses, takes, ends, gives, no_node, next_node, with_node, placed, unplaced}
 use Rattle.machine.specs.Chains.{values_in, chain_from}
 use Rattle.stack_machine.specs.Rule.{Lists, IsFine}
 use Rattle.stack_machine.specs.declared.lines.Call.{Call}
-use Rattle.stack_machine.specs.declared.lines.Call.TheVariants.{Put as CallPut, Take as CallTake, Close as CallClose, Shut as CallShut, Look as CallLook}
+use Rattle.stack_machine.specs.declared.lines.Call.TheVariants.{Put as CallPut, Take as CallTake, Close as CallClose, Shut as CallShut, Look as CallLook, Gauge as CallGauge}
 use Rattle.stack_machine.specs.Deeds.{BackedOut, MakesPut, MakesNothing, Makes, IsPut, HasHeld, HasMade, HasAll, PutsAll, IsAll, Deeds}
 use Rattle.stack_machine.specs.Answers.{shape}
 use Rattle.machine.proofs.Ahead.{Ahead}
@@ -292,6 +292,7 @@ module _ {T : Type 0} (n limit : ℕ) (p : ℕ) (call : Call T) (begun h : List 
     does g (MarkTop w) r f s = (λ won. adds (Close p) s refl (of CallClose (AnswerClose true) (Close p ∷ own p s.between) s.made.0 (ap (λ (x : List (Event T)). Close p ∷ x) s.made.1)) tt, stays s s.made tt)
     does g LoadTopToShut r f s = cases At m.top.second (ends (AnswerShut false)) (ShutTop m.top) (λ e. stays s (of CallShut (AnswerShut false) (own p s.between) s.made.0 s.made.1) tt) (λ e. stays s s.made tt)
     does g (ShutTop w) r f s = (λ won. adds (Shut p) s refl (of CallShut (AnswerShut true) (Shut p ∷ own p s.between) s.made.0 (ap (λ (x : List (Event T)). Shut p ∷ x) s.made.1)) tt, stays s s.made tt)
+    does g LoadTopToGauge r f s = stays s (of CallGauge (AnswerGauge m.top.mark m.top.tag) (own p s.between) s.made.0 s.made.1) tt
     does g LoadTopToLook r f s = stays s (of CallLook (AnswerLook (eqb m.top.index NULL)) (own p s.between) s.made.0 s.made.1) tt
     does g l r f s = stays s s.made s.all
 

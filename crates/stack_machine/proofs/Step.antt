@@ -19,9 +19,9 @@ use Rattle.stack_machine.specs.declared.lines.Direction.{Direction}
 use Rattle.stack_machine.specs.declared.lines.Direction.TheVariants.{Down, Up}
 use Rattle.stack_machine.specs.declared.lines.Taking.{Taking}
 use Rattle.stack_machine.specs.declared.lines.Taking.TheVariants.{One, Whole}
-use Rattle.stack_machine.specs.declared.lines.Answer.TheVariants.{Put as AnswerPut, Take as AnswerTake, Close as AnswerClose, Shut as AnswerShut, Look as AnswerLook}
+use Rattle.stack_machine.specs.declared.lines.Answer.TheVariants.{Put as AnswerPut, Take as AnswerTake, Close as AnswerClose, Shut as AnswerShut, Look as AnswerLook, Gauge as AnswerGauge}
 use Rattle.stack_machine.specs.declared.lines.Line.{Line}
-use Rattle.stack_machine.specs.declared.lines.Line.TheVariants.{Idle, LoadFree, LoadFreeLink, TakeFree, LinkTaken, LoadTop, LinkToTop, SwapTop, LoadTopToRefuse, LoadTopToTake, LoadTopLink, TakeTop, TakeChain, LoadLinkToTurn, TurnLink, LoadLinkToFold, LoadFreeToGive, LinkToFree, GiveBack, LoadTopToClose, MarkTop, LoadTopToShut, ShutTop, LoadTopToLook}
+use Rattle.stack_machine.specs.declared.lines.Line.TheVariants.{Idle, LoadFree, LoadFreeLink, TakeFree, LinkTaken, LoadTop, LinkToTop, SwapTop, LoadTopToRefuse, LoadTopToTake, LoadTopLink, TakeTop, TakeChain, LoadLinkToTurn, TurnLink, LoadLinkToFold, LoadFreeToGive, LinkToFree, GiveBack, LoadTopToClose, MarkTop, LoadTopToShut, ShutTop, LoadTopToLook, LoadTopToGauge}
 use Rattle.stack_machine.specs.Machine.{after_put_of, Memory, memories, table, Outcome, placed, unplaced, with_node, held, ends, gives, next_node, no_node, refuses, takes, at_load_free, at_load_top_to_take, at_take_free, at_take_chain, at_turn_link, goes_on, wins, wins_value, wins_chain, step, after_hold, after_take_all, after_store}
 use Rattle.machine.specs.Chains.{first, last, second, values_in}
 use Rattle.stack_machine.specs.Answers.{shape}
@@ -303,6 +303,7 @@ module _ {T : Type 0} (n limit : ℕ) (m : Memory T) (who : ℕ → Option ℕ) 
       to LoadTopToShut e refl (omega arith) tt,
     )
     kept LoadTopToLook e = to (ends (AnswerLook (eqb m.top.index NULL))) e refl (omega arith) tt
+    kept LoadTopToGauge e = to (ends (AnswerGauge m.top.mark m.top.tag)) e refl (omega arith) tt
 
     -- a step of any pass, from any state where the rule holds
     pub step_kept : (l : Line T) → get_elem? lines q ≡ some l → After q (step (shape n limit) m p l)

@@ -25,14 +25,14 @@ use Rattle.stack_machine.specs.declared.lines.Taking.TheVariants.{One, Whole}
 use Rattle.stack_machine.specs.declared.lines.Answer.{Answer}
 use Rattle.stack_machine.specs.declared.lines.Answer.TheVariants.{Put as AnswerPut, Take as AnswerTake, Fold as AnswerFold, Close as AnswerClose, Shut as AnswerShut}
 use Rattle.stack_machine.specs.declared.lines.Line.{Line}
-use Rattle.stack_machine.specs.declared.lines.Line.TheVariants.{Idle, LoadFree, LoadFreeLink, TakeFree, LinkTaken, LoadTop, LinkToTop, SwapTop, LoadTopToRefuse, LoadTopToTake, TakeTop, TakeChain, LoadLinkToTurn, TurnLink, LoadLinkToFold, LoadFreeToGive, LinkToFree, GiveBack, LoadTopToClose, MarkTop, LoadTopToShut, ShutTop, LoadTopToLook}
+use Rattle.stack_machine.specs.declared.lines.Line.TheVariants.{Idle, LoadFree, LoadFreeLink, TakeFree, LinkTaken, LoadTop, LinkToTop, SwapTop, LoadTopToRefuse, LoadTopToTake, TakeTop, TakeChain, LoadLinkToTurn, TurnLink, LoadLinkToFold, LoadFreeToGive, LinkToFree, GiveBack, LoadTopToClose, MarkTop, LoadTopToShut, ShutTop, LoadTopToLook, LoadTopToGauge}
 use Rattle.stack_machine.specs.Machine.{Memory, memories, table, Outcome, placed, with_node, ends, gives, next_node, no_node, at_load_free, at_load_top, at_load_top_to_refuse, at_load_top_to_take, refuses, takes, at_take_free, at_take_chain, wins_value, step}
 use Rattle.machine.specs.Chains.{chain_from, values_in}
 use Rattle.stack_machine.specs.Answers.{shape, IsRight}
 use Rattle.stack_machine.specs.Rule.{Lists, Tells, Good}
 use Rattle.machine.proofs.Tests.{cases}
 use Rattle.machine.proofs.Program.{Cases, by_cases, Apart, adds_own}
-use Rattle.stack_machine.proofs.Answers.{full_now, empty_now, some_now, closed_now, open_now, shut_now, unshut_now, free_spent_now, top_spent_now}
+use Rattle.stack_machine.proofs.Answers.{full_now, empty_now, some_now, closed_now, open_now, gauged_now, shut_now, unshut_now, free_spent_now, top_spent_now}
 
 module _ {T : Type 0} where
   -- an answer that was right stays so when its pass has seen more
@@ -164,6 +164,7 @@ module _ {T : Type 0} where
     told LoadTopToShut t = cases (Tells n limit begun history) m.top.second (ends (AnswerShut false)) (ShutTop m.top) (λ h. Sometime-now since (shut_now x h)) (λ h. tt)
     told (ShutTop w) t = (λ won. tt, tt)
     told LoadTopToLook t = look_tells (eqb m.top.index NULL) refl
+    told LoadTopToGauge t = Sometime-now since (gauged_now x)
     told l t = tt
 
     pub tells_kept : (l : Line T) → Tells n limit begun seen l → let o = step (shape n limit) m p l in Tells n limit begun (o.events ++ history) o.line

@@ -19,12 +19,12 @@ use Rattle.stack_machine.specs.declared.lines.Giving.{Giving}
 use Rattle.stack_machine.specs.declared.lines.Direction.{Direction}
 use Rattle.stack_machine.specs.declared.lines.Taking.TheVariants.{One, Whole}
 use Rattle.stack_machine.specs.declared.lines.Call.{Call}
-use Rattle.stack_machine.specs.declared.lines.Call.TheVariants.{Put as CallPut, Take as CallTake, Close as CallClose, Shut as CallShut, Look as CallLook}
+use Rattle.stack_machine.specs.declared.lines.Call.TheVariants.{Put as CallPut, Take as CallTake, Close as CallClose, Shut as CallShut, Look as CallLook, Gauge as CallGauge}
 use Rattle.stack_machine.specs.declared.lines.Answer.{Answer}
-use Rattle.stack_machine.specs.declared.lines.Answer.TheVariants.{Put as AnswerPut, Take as AnswerTake, Fold as AnswerFold, Close as AnswerClose, Shut as AnswerShut, Look as AnswerLook}
+use Rattle.stack_machine.specs.declared.lines.Answer.TheVariants.{Put as AnswerPut, Take as AnswerTake, Fold as AnswerFold, Close as AnswerClose, Shut as AnswerShut, Look as AnswerLook, Gauge as AnswerGauge}
 use Rattle.stack_machine.specs.declared.lines.Line.{Line}
 use Rattle.stack_machine.specs.Machine.{is_up}
-use Rattle.stack_machine.specs.declared.lines.Line.TheVariants.{Idle, LoadFree, LoadFreeLink, TakeFree, LinkTaken, LoadTop, LinkToTop, SwapTop, LoadTopToRefuse, LoadTopToTake, LoadTopLink, TakeTop, TakeChain, LoadLinkToTurn, TurnLink, LoadLinkToFold, LoadFreeToGive, LinkToFree, GiveBack, LoadTopToClose, MarkTop, LoadTopToShut, ShutTop, LoadTopToLook}
+use Rattle.stack_machine.specs.declared.lines.Line.TheVariants.{Idle, LoadFree, LoadFreeLink, TakeFree, LinkTaken, LoadTop, LinkToTop, SwapTop, LoadTopToRefuse, LoadTopToTake, LoadTopLink, TakeTop, TakeChain, LoadLinkToTurn, TurnLink, LoadLinkToFold, LoadFreeToGive, LinkToFree, GiveBack, LoadTopToClose, MarkTop, LoadTopToShut, ShutTop, LoadTopToLook, LoadTopToGauge}
 
 -- All the events of pass p from the begin of a call to its answer are these, the newest first
 
@@ -94,6 +94,7 @@ module _ {T : Type 0} (p : ℕ) where
   Makes CallClose (AnswerClose done) events = events ≡ (if done then Close p ∷ [] else [])
   Makes CallShut (AnswerShut done) events = events ≡ (if done then Shut p ∷ [] else [])
   Makes CallLook (AnswerLook empty) events = events ≡ []
+  Makes CallGauge (AnswerGauge closed used) events = events ≡ []
   Makes call a events = ⊥
 
   -- So far the call and the events are these
@@ -136,6 +137,7 @@ module _ {T : Type 0} (p : ℕ) where
   HasMade call LoadTopToShut events = (call ≡ CallShut) × (events ≡ [])
   HasMade call (ShutTop w) events = (call ≡ CallShut) × (events ≡ [])
   HasMade call LoadTopToLook events = (call ≡ CallLook) × (events ≡ [])
+  HasMade call LoadTopToGauge events = (call ≡ CallGauge) × (events ≡ [])
 
 -- A range leaves values out only where no node could be had. The histories are those that the pass
 -- had seen as its operation was begun, and has seen by now

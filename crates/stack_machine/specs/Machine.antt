@@ -1,4 +1,4 @@
--- Treiber's stack as a machine: any number of passes put, take, fold, close, shut and look, one
+-- Treiber's stack as a machine: any number of passes put, take, fold, close, shut, look and gauge, one
 -- atomic step at a time. `table` has its lines.
 use Rattle.std.specs.Prelude.{ℕ, ◌==◌, ltb, leb, if◌then◌else◌, Bool, true, false, List, [], ◌∷◌, length, reverse, take, drop, Option as Slot, Some, None, Ok, Err}
 use mathlib.Core.Option.{Option, none, some}
@@ -18,7 +18,7 @@ use Rattle.stack_machine.specs.declared.lines.Direction.TheVariants.{Down, Up}
 use Rattle.stack_machine.specs.declared.lines.Taking.{Taking}
 use Rattle.stack_machine.specs.declared.lines.Taking.TheVariants.{One, Whole}
 use Rattle.stack_machine.specs.declared.lines.Answer.{Answer}
-use Rattle.stack_machine.specs.declared.lines.Answer.TheVariants.{Put as AnswerPut, Take as AnswerTake, Fold as AnswerFold, Close as AnswerClose, Shut as AnswerShut, Look as AnswerLook}
+use Rattle.stack_machine.specs.declared.lines.Answer.TheVariants.{Put as AnswerPut, Take as AnswerTake, Fold as AnswerFold, Close as AnswerClose, Shut as AnswerShut, Look as AnswerLook, Gauge as AnswerGauge}
 use Rattle.machine.specs.Schedule as schedule
 use Rattle.machine.specs.Chains.{first, last, second, chain_from, with_home, away, full, vacant, filled, emptied, values_of, values_in}
 use Rattle.machine.specs.Program.{Memories, marks, shuts, Then, stays, returns, Deed, rests, follows, links, swaps, answered, does, wins as won_by}
@@ -28,9 +28,9 @@ use Rattle.stack_machine.specs.declared.lines.Top.{Top}
 use Rattle.stack_machine.specs.declared.lines.Top.TheVariants.{Free as FreeTop, Stack as StackTop}
 use Rattle.stack_machine.specs.declared.lines.Link.{Link}
 use Rattle.stack_machine.specs.declared.lines.Line.{Line}
-use Rattle.stack_machine.specs.declared.lines.Line.TheVariants.{Idle, LoadFree, LoadFreeLink, TakeFree, LinkTaken, LoadTop, LinkToTop, SwapTop, LoadTopToRefuse, LoadTopToTake, LoadTopLink, TakeTop, TakeChain, LoadLinkToTurn, TurnLink, LoadLinkToFold, LoadFreeToGive, LinkToFree, GiveBack, LoadTopToClose, MarkTop, LoadTopToShut, ShutTop, LoadTopToLook}
+use Rattle.stack_machine.specs.declared.lines.Line.TheVariants.{Idle, LoadFree, LoadFreeLink, TakeFree, LinkTaken, LoadTop, LinkToTop, SwapTop, LoadTopToRefuse, LoadTopToTake, LoadTopLink, TakeTop, TakeChain, LoadLinkToTurn, TurnLink, LoadLinkToFold, LoadFreeToGive, LinkToFree, GiveBack, LoadTopToClose, MarkTop, LoadTopToShut, ShutTop, LoadTopToLook, LoadTopToGauge}
 use Rattle.stack_machine.specs.declared.lines.Call.{Call}
-use Rattle.stack_machine.specs.declared.lines.Call.TheVariants.{Put as CallPut, Take as CallTake, Close as CallClose, Shut as CallShut, Look as CallLook}
+use Rattle.stack_machine.specs.declared.lines.Call.TheVariants.{Put as CallPut, Take as CallTake, Close as CallClose, Shut as CallShut, Look as CallLook, Gauge as CallGauge}
 
 -- The words, and what each node's slot has: none while a pass holds it, some None where it is empty
 -- at home
@@ -246,12 +246,13 @@ module _ {T : Type 0} where
   table c (LoadFreeToGive give) = load_top free_nodes (LinkToFree give)
   table c (LinkToFree give w) = link_to_top free_nodes (last give.chain) w (GiveBack give w)
   table c (GiveBack give w) = give_chain free_nodes w (first give.chain) (returns (vacant give.chain) (by (ends give.answer) (λ p. Free p (length give.chain)))) (LoadFreeToGive give)
-  -- close, shut, look
+  -- close, shut, look, gauge
   table c LoadTopToClose = load_top stacked at_load_top_to_close
   table c (MarkTop w) = swaps StackTop w marks (stays (by (ends (AnswerClose true)) Close)) LoadTopToClose
   table c LoadTopToShut = load_top stacked at_load_top_to_shut
   table c (ShutTop w) = swaps StackTop w shuts (stays (by (ends (AnswerShut true)) Shut)) LoadTopToShut
   table c LoadTopToLook = load_top stacked (λ w. ends (AnswerLook (w.index == NULL)))
+  table c LoadTopToGauge = load_top stacked (λ w. ends (AnswerGauge w.mark w.tag))
 
   -- the step of pass p at a line, and whether it is an exchange that wins
   abbrev pub step : Shape → Memory T → ℕ → Line T → Outcome T
@@ -295,6 +296,7 @@ module _ {T : Type 0} where
   starts CallClose = LoadTopToClose
   starts CallShut = LoadTopToShut
   starts CallLook = LoadTopToLook
+  starts CallGauge = LoadTopToGauge
 
 -- the words and slots of a new stack; a number that is no node has 0 for a link, and no slot
 abbrev pub start : {T : Type 0} → Shape → Memory T

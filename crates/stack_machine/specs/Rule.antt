@@ -11,7 +11,7 @@ use Rattle.machine.specs.Words.{Tagged, times, total, Stands, IsChain}
 use Rattle.machine.specs.OneList.{ReadTop, ReadLink}
 use Rattle.stack_machine.specs.declared.lines.Putting.{Putting}
 use Rattle.stack_machine.specs.declared.lines.Line.{Line}
-use Rattle.stack_machine.specs.declared.lines.Line.TheVariants.{Idle, LoadFree, LoadFreeLink, TakeFree, LinkTaken, LoadTop, LinkToTop, SwapTop, LoadTopToRefuse, LoadTopToTake, LoadTopLink, TakeTop, TakeChain, LoadLinkToTurn, TurnLink, LoadLinkToFold, LoadFreeToGive, LinkToFree, GiveBack, LoadTopToClose, MarkTop, LoadTopToShut, ShutTop, LoadTopToLook}
+use Rattle.stack_machine.specs.declared.lines.Line.TheVariants.{Idle, LoadFree, LoadFreeLink, TakeFree, LinkTaken, LoadTop, LinkToTop, SwapTop, LoadTopToRefuse, LoadTopToTake, LoadTopLink, TakeTop, TakeChain, LoadLinkToTurn, TurnLink, LoadLinkToFold, LoadFreeToGive, LinkToFree, GiveBack, LoadTopToClose, MarkTop, LoadTopToShut, ShutTop, LoadTopToLook, LoadTopToGauge}
 use Rattle.stack_machine.specs.Machine.{Memory, held}
 use Rattle.machine.specs.Chains.{last, HasValues}
 use Rattle.bounded_model.specs.Justified.{Sometime, IsFull}
@@ -90,6 +90,7 @@ module _ {T : Type 0} (limit : ℕ) (m : Memory T) (g : Lists) where
   IsFine LoadTopToShut = Unit {0}
   IsFine (ShutTop w) = w.second ≡ false
   IsFine LoadTopToLook = Unit {0}
+  IsFine LoadTopToGauge = Unit {0}
 
 module _ (T : Type 0) where
   -- The words and the links: both lists stand, and each node below n is once on one of them or in

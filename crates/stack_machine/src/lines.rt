@@ -60,6 +60,9 @@ pub enum Answer<T> {
     Shut(bool),
     /// Whether the stack was empty.
     Look(bool),
+    /// Whether it was closed, and how many of its top's tags were used: one for each put and each
+    /// take.
+    Gauge(bool, u64),
 }
 
 /// What is to be done with a chain of nodes whose values have been moved out: it is given to the
@@ -121,6 +124,8 @@ pub enum Line<T> {
     ShutTop(Fields),
     /// Load `TOP`, to see whether it is null.
     LoadTopToLook,
+    /// Load `TOP`, to see its mark and its tag.
+    LoadTopToGauge,
 }
 
 /// An operation to be begun.
@@ -131,4 +136,5 @@ pub enum Call<T> {
     Close,
     Shut,
     Look,
+    Gauge,
 }

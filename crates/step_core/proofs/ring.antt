@@ -4,3 +4,6 @@ pub mod Weight
 pub mod Pays
 pub mod Ends
 pub mod InOrder
+pub mod Mistakes
+pub mod WrongAnswers
+pub mod WrongRuns

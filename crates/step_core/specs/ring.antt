@@ -2,3 +2,9 @@ pub mod Law
 pub mod Bound
 pub mod Object
 pub mod Costs
+pub mod Cast
+pub mod Mistakes
+pub mod WrongAnswers
+pub mod WrongRuns
+pub mod Rows
+pub mod Orders

@@ -10,6 +10,7 @@ mod list_shown;
 mod queue_laws;
 mod queue_shown;
 mod ring_laws;
+mod ring_shown;
 mod stack_laws;
 mod stack_shown;
 
@@ -23,6 +24,7 @@ pub use queue_shown::{queue_exhibits, queue_near_misses};
 pub use ring_laws::{
     ring_answers, ring_cells, ring_core, ring_linearizable, ring_lock_free, ring_order, ring_rule,
 };
+pub use ring_shown::{ring_exhibits, ring_near_misses};
 pub use stack_laws::{
     stack_answers, stack_bound, stack_core, stack_linearizable, stack_lock_free, stack_nodes,
     stack_rule,

@@ -20,10 +20,10 @@ ghost use Rattle.step_core.specs.queue.Law.{Lawful, AllDone, NoneUnanswered, lin
 ghost use Rattle.step_core.specs.queue.Bound.{MeetsRule};
 ghost use Rattle.step_core.specs.queue.Costs.{cost};
 
-/// In every schedule of puts, takes, closes, shuts, looks at and counts of a queue of `n` value cells, whose
-/// nodes are used again: the history is legal for a bounded queue, the words and cells stand for
-/// it, each cell and each node is in one place, a put that has a cell finds a node, and each
-/// refusal is justified by the history as it was at some time between its begin and its end.
+/// In every schedule of puts, takes, closes, shuts, looks at, counts and gauges of a queue of `n`
+/// value cells, whose nodes are used again: the history is legal for a bounded queue, the words and
+/// cells stand for it, each cell and each node is in one place, a put that has a cell finds a node,
+/// and each refusal is justified by the history as it was at some time between its begin and its end.
 pub fn queue_core<T>()
     ensures { (n limit passes : ℕ) (schedule : Schedule (Call T)) → 0 < n → n < NULL → 0 < limit →
         Lawful T n limit (after (queue (shape n limit)) passes schedule) }

@@ -7,15 +7,15 @@ ghost use Rattle.machine.specs.Schedule.{after};
 ghost use Rattle.queue_machine.specs.Answers.{shape};
 ghost use Rattle.queue_machine.specs.Machine.{queue};
 ghost use Rattle.queue_machine.specs.Places.{NothingTwice};
-ghost use Rattle.queue_machine.specs.declared.lines.Answer.TheVariants.{Close, Shut, Look, Len};
+ghost use Rattle.queue_machine.specs.declared.lines.Answer.TheVariants.{Close, Shut, Look, Len, Gauge};
 ghost use Rattle.step_core.specs.Letters.{x, y, z};
 ghost use Rattle.step_core.specs.Linearizable.{Linearizable};
 ghost use Rattle.step_core.specs.Scripts.{answers, ended};
 ghost use Rattle.step_core.specs.queue.Cast.{Plays, Fails, queue_with, cells_spent, full, no_take, put_closed, take_is};
 ghost use Rattle.step_core.specs.queue.Law.{Lawful, AllDone, NoneUnanswered, lines_of};
 ghost use Rattle.step_core.specs.queue.Rows.{smallest, alone, alone_refused, full_and_empty, helped, taker_holds, closed_before_full, close_overtakes_put, cells_worn, next_worn, left_over, stopped_after_link, same_head_other_tag, stale_link, same_node_other_tag, shut_queue, longest, PutStoppedEarly, PutStopped, PutStoppedLate, TakeStoppedEarly, TakeStoppedLate};
-ghost use Rattle.step_core.specs.queue.Overtaking.{look_and_shut, put_overtakes_close, close_overtakes_close, close_overtakes_full, full_helps, close_helps, put_left, put_dropped, looks, largest, spent_before_closed, next_spent_before_closed, null_before_limit, shut_before_empty, tail_before_link, tail_before_null_link, tail_before_node, head_before_tail, head_before_link, head_before_mark, head_before_answer, counts, PutsEnd, TakesEnd};
-ghost use Rattle.step_core.specs.queue.Orders.{limit_first, closed_first, next_limit_last, null_before_mark, link_before_tail, null_before_tail, node_before_tail, shut_last, empty_before_closed, link_before_head, mark_before_head, tail_before_null, tail_before_head, link_before_answer, count_before_head, count_to_tail, mark_overlooked, marks_anyway, second_overlooked};
+ghost use Rattle.step_core.specs.queue.Overtaking.{look_and_shut, put_overtakes_close, close_overtakes_close, close_overtakes_full, full_helps, close_helps, put_left, put_dropped, looks, largest, spent_before_closed, next_spent_before_closed, null_before_limit, shut_before_empty, tail_before_link, tail_before_null_link, tail_before_node, head_before_tail, head_before_link, head_before_mark, head_before_answer, counts, gauges, PutsEnd, TakesEnd};
+ghost use Rattle.step_core.specs.queue.Orders.{limit_first, closed_first, next_limit_last, null_before_mark, link_before_tail, null_before_tail, node_before_tail, shut_last, empty_before_closed, link_before_head, mark_before_head, tail_before_null, tail_before_head, link_before_answer, count_before_head, count_to_tail, gauge_to_tail, gauge_before_next, mark_overlooked, marks_anyway, second_overlooked};
 ghost use Rattle.step_core.specs.queue.Mistakes.{hands_with_cell, hands_with_node, WinsHeld, cell_held, cell_held_twice, node_held, node_held_twice, number_again, linked_late, dummy_free, left_there, overtaken, put_after_close, take_after_shut, wrong_cell, no_node, linked_aside};
 ghost use Rattle.step_core.specs.queue.Object.{object, answer};
 ghost use Rattle.step_core.specs.queue.WrongAnswers.{put_another, handed_back, kept_cell, closed_instead};
@@ -71,6 +71,7 @@ pub fn queue_exhibits()
     ensures head_before_mark { Plays head_before_mark }
     ensures head_before_answer { Plays head_before_answer }
     ensures counts { Plays counts }
+    ensures gauges { Plays gauges }
     ensures puts_end { PutsEnd }
     ensures takes_end { TakesEnd }
     // With another order of tests, or without a comparison, a scene is answered otherwise.
@@ -90,6 +91,8 @@ pub fn queue_exhibits()
     ensures link_before_answer_fails { Fails link_before_answer head_before_answer 3 (ended (Look false) 3) }
     ensures count_before_head_fails { Fails count_before_head counts 7 (ended (Len 2) 4) }
     ensures count_to_tail_fails { Fails count_to_tail counts 2 (ended (Len 0) 4) }
+    ensures gauge_to_tail_fails { Fails gauge_to_tail gauges 2 (ended (Gauge false 0) 3) }
+    ensures gauge_before_next_fails { Fails gauge_before_next gauges 6 (ended (Gauge false 1) 4) }
     ensures mark_overlooked_fails { Fails mark_overlooked shut_queue 5 (ended (take_is 0 x) 12) }
     ensures marks_anyway_closes { Fails marks_anyway put_overtakes_close 2 (ended (Close true) 4) }
     ensures marks_anyway_shuts { Fails marks_anyway look_and_shut 5 (ended (Shut true) 2) }

@@ -20,10 +20,10 @@ ghost use Rattle.step_core.specs.stack.Bound.{IsSingle};
 ghost use Rattle.step_core.specs.stack.Costs.{cost, IsSingleCall};
 ghost use Rattle.step_core.specs.stack.Law.{Lawful, AllDone, NoneUnanswered, MeetsRule, lines_of};
 
-/// In every schedule of puts of one or more values, takes, folds, closes, shuts and looks at a
-/// stack of `n` nodes: the history is legal for a bounded stack, the words and slots stand for it,
-/// each node is in one place, and each refusal is justified by the history as it was at some time
-/// between its begin and its end.
+/// In every schedule of puts of one or more values, takes, folds, closes, shuts, looks at and gauges
+/// of a stack of `n` nodes: the history is legal for a bounded stack, the words and slots stand for
+/// it, each node is in one place, and each refusal is justified by the history as it was at some
+/// time between its begin and its end.
 pub fn stack_core<T>()
     ensures { (n limit passes : ℕ) (schedule : Schedule (Call T)) → 0 < n → n ≤ NULL →
         Lawful T n limit (after (stack (shape n limit)) passes schedule) }

@@ -2,7 +2,7 @@
 use Rattle.std.specs.Prelude.{ℕ, List, [], ◌++◌, codes}
 use Rattle.std.specs.Fmt.{decimal}
 use Rattle.step_names.specs.declared.location.Location.{Location}
-use Rattle.step_names.specs.declared.location.Location.TheVariants.{Cells, Nodes, Head, Tail, Next, Cell, CellLink, NodeLink, Free, Top, Link}
+use Rattle.step_names.specs.declared.location.Location.TheVariants.{Cells, Nodes, Head, Tail, Next, Cell, CellLink, NodeLink, Free, Top, Link, Slot}
 use Rattle.step_names.specs.declared.step_name.StepName.{StepName}
 use Rattle.step_names.specs.declared.step_name.StepName.TheVariants.{Load, Store, CompareAndSwap, Attempt}
 use Rattle.step_names.specs.declared.step_name.Outcome.{Outcome}
@@ -20,6 +20,7 @@ location_text (NodeLink node) = codes "node link " ++ decimal node
 location_text Free = codes "FREE"
 location_text Top = codes "TOP"
 location_text (Link node) = codes "link " ++ decimal node
+location_text (Slot index) = codes "slot " ++ decimal index
 
 abbrev pub name_text : StepName → List ℕ
 name_text (Load location) = codes "load " ++ location_text location

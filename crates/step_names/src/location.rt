@@ -9,9 +9,9 @@ pub enum Location {
     Cells,
     /// The top of a queue's free nodes.
     Nodes,
-    /// Which node of a queue's chain is the first, the dummy.
+    /// Which node of a queue's chain is the first, the dummy; a position near a ring's front.
     Head,
-    /// Which node of a queue's chain is the last, or the last but one.
+    /// Which node of a queue's chain is the last, or the last but one; a position near a ring's back.
     Tail,
     /// Which node of a queue stands behind this one.
     Next(u32),
@@ -27,6 +27,8 @@ pub enum Location {
     Top,
     /// The link of this node of a stack.
     Link(u32),
+    /// This slot of a ring.
+    Slot(u32),
 }
 
 impl fmt::Display for Location {
@@ -48,6 +50,7 @@ impl fmt::Display for Location {
             Location::Free => write!(f, "FREE"),
             Location::Top => write!(f, "TOP"),
             Location::Link(node) => write!(f, "link {node}"),
+            Location::Slot(index) => write!(f, "slot {index}"),
         }
     }
 }

@@ -15,10 +15,10 @@ use Rattle.machine.proofs.Tests.{cases, same-is, same-self, fresh, lost, lost_sm
 use Rattle.machine.proofs.Lists.{times_here}
 use Rattle.queue_machine.specs.declared.lines.Linking.{Linking}
 use Rattle.queue_machine.specs.declared.lines.Seeking.{Seeking}
-use Rattle.queue_machine.specs.declared.lines.Seeking.TheVariants.{ToLink, ToRefuse, ToClose}
-use Rattle.queue_machine.specs.declared.lines.Answer.TheVariants.{Put as AnswerPut, Take as AnswerTake, Shut as AnswerShut, Look as AnswerLook, Len as AnswerLen}
+use Rattle.queue_machine.specs.declared.lines.Seeking.TheVariants.{ToLink, ToRefuse, ToClose, ToGauge}
+use Rattle.queue_machine.specs.declared.lines.Answer.TheVariants.{Put as AnswerPut, Take as AnswerTake, Shut as AnswerShut, Look as AnswerLook, Len as AnswerLen, Gauge as AnswerGauge}
 use Rattle.queue_machine.specs.declared.lines.Line.{Line}
-use Rattle.queue_machine.specs.declared.lines.Line.TheVariants.{Idle, LoadCells, LoadCellLink, TakeCell, LoadNodes, LoadNodeLink, TakeNode, LoadNext, PrepareNext, LoadTail, LoadTailNext, CheckTail, SwingTail, LinkNext, SwingToLinked, MarkNext, LoadHead, LoadTailToTake, CheckHead, SwingTailToTake, LoadCell, TakeHead, LoadNodesToGive, GiveNode, LoadCellsToGive, GiveCell, LoadHeadToLook, CheckHeadToLook, LoadHeadToCount, CheckHeadToCount, LoadHeadToShut, ShutHead}
+use Rattle.queue_machine.specs.declared.lines.Line.TheVariants.{Idle, LoadCells, LoadCellLink, TakeCell, LoadNodes, LoadNodeLink, TakeNode, LoadNext, PrepareNext, LoadTail, LoadTailNext, CheckTail, SwingTail, LinkNext, SwingToLinked, MarkNext, LoadHead, LoadTailToTake, CheckHead, SwingTailToTake, LoadCell, TakeHead, LoadNodesToGive, GiveNode, LoadCellsToGive, GiveCell, LoadHeadToLook, CheckHeadToLook, LoadHeadToCount, CheckHeadToCount, CheckNextToGauge, LoadHeadToShut, ShutHead}
 use Rattle.queue_machine.specs.Machine.{Memory, null_word, goes_on, wins_value, wins_exchange, step, is_idle, ends, gives, frees, back_closed, back_null, found_back, counted, after_next, after_link, after_swing, after_close, next_of}
 use Rattle.queue_machine.specs.Answers.{shape}
 use Rattle.queue_machine.specs.Rule.{Lists, Lags, Ends, IsFine, Good}
@@ -113,6 +113,7 @@ module _ {T : Type 0} where
           )
       next_weight p (LinkNext link' w z) at' = let f : IsFine limit m g (LinkNext link' w z) = x.linked.fine p (LinkNext link' w z) at' in omega (arith, end_weight w z (4 + lag m) f.1)
       next_weight p (MarkNext w z) at' = omega (arith, end_weight w z (4 + lag m) (x.linked.fine p (MarkNext w z) at'))
+      next_weight p (CheckNextToGauge w z) at' = omega (arith, end_weight w z (4 + lag m) (x.linked.fine p (CheckNextToGauge w z) at'))
       next_weight p u at' = omega arith
 
       prepare_lag : lag prepared ≡ lag m
@@ -155,6 +156,7 @@ module _ {T : Type 0} where
     step_raises q p r (GiveCell give w) u at at' = raised_by weight m u (LoadCellsToGive give) (same m.cells w) _ 3 (λ b. cells_raise m.cells m.nodes m.head m.tail (kept w give.cell) m.next (lag m) (late m) u)
     step_raises q p r (CheckHeadToLook h y) u at at' = compared u _ LoadHeadToLook (same m.head h)
     step_raises q p r (CheckHeadToCount h w y) u at at' = compared u _ LoadHeadToCount (same m.head h)
+    step_raises q p r (CheckNextToGauge w y) u at at' = compared u _ (LoadTail ToGauge) (same (m.next w.index) y)
     step_raises q p r (ShutHead h) u at at' = raised_by weight m u LoadHeadToShut (same m.head h) _ 6 (λ b. head_raise m.cells m.nodes m.head m.tail (with_second h) m.next (lag m) (late m) u)
     step_raises q p r l u at at' = omega arith
 
@@ -171,8 +173,9 @@ module _ {T : Type 0} where
       end_low (ToLink link) w y = (omega (arith, lost_more (same (m.next w.index) y) 4 (lag m)), omega arith)
       end_low (ToRefuse v) w y = (omega arith, omega arith)
       end_low ToClose w y = (omega (arith, lost_more (same (m.next w.index) y) 4 (lag m)), omega arith)
+      end_low ToGauge w y = (omega (arith, lost_more (same (m.next w.index) y) 4 (lag m)), omega arith)
 
-      closed_low : (s : Seeking T) (w y : Tagged) → m.tail ≡ w → y.mark ≡ true → Lower weight harm m 0 (turn s + lag m + lost (same (m.next w.index) y) 4) (seeking_harm s) (back_closed s)
+      closed_low : (s : Seeking T) (w y : Tagged) → m.tail ≡ w → y.mark ≡ true → Lower weight harm m 0 (turn s + lag m + lost (same (m.next w.index) y) 4) (seeking_harm s) (back_closed s w)
       closed_low (ToLink link) w y won marked = (omega (arith, four (same (m.next w.index) y) refl), omega arith)
         where
           four : (b : Bool) → same (m.next w.index) y ≡ b → 4 ≤ lag m + lost (same (m.next w.index) y) 4
@@ -182,12 +185,13 @@ module _ {T : Type 0} where
           four false e = omega (arith, lost_all (same (m.next w.index) y) 4 e)
       closed_low (ToRefuse v) w y won marked = (omega arith, omega arith)
       closed_low ToClose w y won marked = (omega arith, omega arith)
+      closed_low ToGauge w y won marked = (omega arith, omega arith)
 
       check_tail_low : (s : Seeking T) (w y : Tagged) → get_elem? lines q ≡ some (CheckTail s w y) → m.tail ≡ w → Lower weight harm m 0 (turn s + lag m + lost (same (m.next w.index) y) 4) (seeking_harm s) (found_back s w y)
       check_tail_low s w y at won =
           let f : IsFine limit m g (CheckTail s w y) = x.linked.fine q (CheckTail s w y) at in
           let low : Line T → Type 0 = Lower weight harm m 0 (turn s + lag m + lost (same (m.next w.index) y) 4) (seeking_harm s) in
-          cases low y.mark (back_closed s) (cond (eqb y.index NULL) (back_null s w y) (SwingTail s w y))
+          cases low y.mark (back_closed s w) (cond (eqb y.index NULL) (back_null s w y) (SwingTail s w y))
           (λ b. closed_low s w y won b)
           (λ b. cases low (eqb y.index NULL) (back_null s w y) (SwingTail s w y)
           (λ b'. end_low s w y)
@@ -287,6 +291,11 @@ module _ {T : Type 0} where
           seen : (b : Bool) → Low weight harm (cond b (goes_on m (ends (AnswerLen (counted h w y)))) (goes_on m LoadHeadToCount)) 0 (1 + lost b 4) 0
           seen true = (omega arith, omega arith)
           seen false = (omega (arith, lost_all false 4 refl), omega arith)
+      step_falls (CheckNextToGauge w y) at busy = seen (same (m.next w.index) y)
+        where
+          seen : (b : Bool) → Low weight harm (cond b (goes_on m (ends (AnswerGauge false w.tag))) (goes_on m (LoadTail ToGauge))) 0 (1 + lost b (4 + lag m)) 0
+          seen true = (omega arith, omega arith)
+          seen false = (omega (arith, lost_all false (4 + lag m) refl), omega arith)
       step_falls LoadHeadToShut at busy =
           either weight harm m 2 6 m.head.second (ends (AnswerShut false)) (ShutHead m.head) (omega arith, omega arith) (omega (arith, fresh m.head 2), omega arith)
       step_falls (ShutHead h) at busy = swaps weight harm m (same m.head h) _ _ 6 1 2 6 (λ b. (omega arith, omega arith)) (omega arith, omega arith)

@@ -13,9 +13,9 @@ use Rattle.machine.specs.Schedule.{Act}
 use Rattle.queue_machine.specs.declared.lines.Seeking.{Seeking}
 use Rattle.queue_machine.specs.declared.lines.Seeking.TheVariants.{ToLink}
 use Rattle.queue_machine.specs.declared.lines.Call.{Call}
-use Rattle.queue_machine.specs.declared.lines.Call.TheVariants.{Put as CallPut, Take as CallTake, Close as CallClose, Shut as CallShut, Look as CallLook, Len as CallLen}
+use Rattle.queue_machine.specs.declared.lines.Call.TheVariants.{Put as CallPut, Take as CallTake, Close as CallClose, Shut as CallShut, Look as CallLook, Len as CallLen, Gauge as CallGauge}
 use Rattle.queue_machine.specs.declared.lines.Answer.{Answer}
-use Rattle.queue_machine.specs.declared.lines.Answer.TheVariants.{Put as AnswerPut, Take as AnswerTake, Close as AnswerClose, Shut as AnswerShut, Look as AnswerLook, Len as AnswerLen}
+use Rattle.queue_machine.specs.declared.lines.Answer.TheVariants.{Put as AnswerPut, Take as AnswerTake, Close as AnswerClose, Shut as AnswerShut, Look as AnswerLook, Len as AnswerLen, Gauge as AnswerGauge}
 use Rattle.queue_machine.specs.declared.lines.Line.{Line}
 use Rattle.queue_machine.specs.declared.lines.Line.TheVariants.{Idle, LoadTail, LoadTailNext, CheckTail, SwingTail, SwingToLinked, LoadNodesToGive, LinkToNodes, GiveNode, LoadCellsToGive, LinkToCells, GiveCell}
 use Rattle.queue_machine.specs.Machine.{is_idle, queue}
@@ -46,6 +46,7 @@ module _ {T : Type 0} (n limit : ℕ) where
     given p CallShut (AnswerShut false) mine made = inl (ap visible made, λ r. r)
     given p CallLook (AnswerLook empty) mine made = inl (ap visible made, λ r. r)
     given p CallLen (AnswerLen k) mine made = inl (ap visible made, λ r. r)
+    given p CallGauge (AnswerGauge closed used) mine made = inl (ap visible made, λ r. r)
     given p c a mine made = absurd made
 
   -- what a line has done

@@ -5,9 +5,9 @@ use Rattle.tagged_index.specs.declared.word.TheConstants.{NULL}
 use Rattle.machine.specs.Words.{Tagged, same}
 use Rattle.machine.proofs.Tests.{one_of, lost, lost_small, lost_grows, lost_two, lost_two_small}
 use Rattle.queue_machine.specs.declared.lines.Seeking.{Seeking}
-use Rattle.queue_machine.specs.declared.lines.Seeking.TheVariants.{ToLink, ToRefuse, ToClose}
+use Rattle.queue_machine.specs.declared.lines.Seeking.TheVariants.{ToLink, ToRefuse, ToClose, ToGauge}
 use Rattle.queue_machine.specs.declared.lines.Line.{Line}
-use Rattle.queue_machine.specs.declared.lines.Line.TheVariants.{Idle, LoadCells, LoadCellLink, TakeCell, LoadNodes, LoadNodeLink, TakeNode, StoreCell, LoadNext, PrepareNext, LoadTail, LoadTailNext, CheckTail, SwingTail, LinkNext, SwingToLinked, MarkNext, LoadHead, LoadTailToTake, LoadHeadNext, CheckHead, SwingTailToTake, LoadCell, TakeHead, LoadNodesToGive, LinkToNodes, GiveNode, LoadCellsToGive, LinkToCells, GiveCell, LoadHeadToLook, LoadNextToLook, CheckHeadToLook, LoadHeadToCount, LoadTailToCount, LoadNextToCount, CheckHeadToCount, LoadHeadToShut, ShutHead}
+use Rattle.queue_machine.specs.declared.lines.Line.TheVariants.{Idle, LoadCells, LoadCellLink, TakeCell, LoadNodes, LoadNodeLink, TakeNode, StoreCell, LoadNext, PrepareNext, LoadTail, LoadTailNext, CheckTail, SwingTail, LinkNext, SwingToLinked, MarkNext, LoadHead, LoadTailToTake, LoadHeadNext, CheckHead, SwingTailToTake, LoadCell, TakeHead, LoadNodesToGive, LinkToNodes, GiveNode, LoadCellsToGive, LinkToCells, GiveCell, LoadHeadToLook, LoadNextToLook, CheckHeadToLook, LoadHeadToCount, LoadTailToCount, LoadNextToCount, CheckHeadToCount, CheckNextToGauge, LoadHeadToShut, ShutHead}
 use Rattle.queue_machine.specs.Machine.{Memory, next_of}
 
 -- how many steps are left where the end of the chain was found, and no other pass is in the way
@@ -15,11 +15,13 @@ abbrev pub turn : {T : Type 0} → Seeking T → ℕ
 turn (ToLink link) = 3
 turn (ToRefuse v) = 1
 turn ToClose = 2
+turn ToGauge = 2
 
 abbrev pub seeking_harm : {T : Type 0} → Seeking T → ℕ
 seeking_harm (ToLink link) = 8
 seeking_harm (ToRefuse v) = 0
 seeking_harm ToClose = 8
+seeking_harm ToGauge = 0
 
 -- the tail was not at the dummy, or has not moved since
 abbrev pub passed : Tagged → Tagged → Tagged → Bool
@@ -76,6 +78,7 @@ module _ {T : Type 0} where
   weight_of cells nodes head tail next g e (LoadTailToCount h) = 3 + lost (same head h) 4
   weight_of cells nodes head tail next g e (LoadNextToCount h w) = 2 + lost (same head h) 4
   weight_of cells nodes head tail next g e (CheckHeadToCount h w y) = 1 + lost (same head h) 4
+  weight_of cells nodes head tail next g e (CheckNextToGauge w y) = 1 + lost (same (next w.index) y) (4 + g)
   weight_of cells nodes head tail next g e LoadHeadToShut = 2
   weight_of cells nodes head tail next g e (ShutHead h) = 1 + lost (same head h) 2
 
@@ -167,6 +170,7 @@ module _ {T : Type 0} where
   swing_raise cells nodes head tail tail' next (Idle a) = omega arith
   swing_raise cells nodes head tail tail' next (LinkNext link w y) = omega (arith, lost_grows (same (next w.index) y) 4 8 (omega arith))
   swing_raise cells nodes head tail tail' next (MarkNext w y) = omega (arith, lost_grows (same (next w.index) y) 4 8 (omega arith))
+  swing_raise cells nodes head tail tail' next (CheckNextToGauge w y) = omega (arith, lost_grows (same (next w.index) y) 4 8 (omega arith))
   swing_raise cells nodes head tail tail' next l = omega (arith, lost_small, lost_two_small)
 
   pub weight_small : (m : Memory T) (l : Line T) → weight m l ≤ 20

@@ -18,9 +18,9 @@ use Rattle.stack_machine.specs.declared.lines.Putting.{Putting}
 use Rattle.stack_machine.specs.declared.lines.Giving.{Giving}
 use Rattle.stack_machine.specs.declared.lines.Taking.TheVariants.{One, Whole}
 use Rattle.stack_machine.specs.declared.lines.Call.{Call}
-use Rattle.stack_machine.specs.declared.lines.Call.TheVariants.{Put as CallPut, Take as CallTake, Close as CallClose, Shut as CallShut, Look as CallLook}
+use Rattle.stack_machine.specs.declared.lines.Call.TheVariants.{Put as CallPut, Take as CallTake, Close as CallClose, Shut as CallShut, Look as CallLook, Gauge as CallGauge}
 use Rattle.stack_machine.specs.declared.lines.Answer.{Answer}
-use Rattle.stack_machine.specs.declared.lines.Answer.TheVariants.{Put as AnswerPut, Take as AnswerTake, Fold as AnswerFold, Close as AnswerClose, Shut as AnswerShut, Look as AnswerLook}
+use Rattle.stack_machine.specs.declared.lines.Answer.TheVariants.{Put as AnswerPut, Take as AnswerTake, Fold as AnswerFold, Close as AnswerClose, Shut as AnswerShut, Look as AnswerLook, Gauge as AnswerGauge}
 use Rattle.stack_machine.specs.declared.lines.Line.{Line}
 use Rattle.stack_machine.specs.declared.lines.Line.TheVariants.{Idle, LoadFree, LoadFreeLink, TakeFree, LinkTaken, LoadTop, LinkToTop, SwapTop, LoadLinkToTurn, TurnLink, LoadLinkToFold, LoadFreeToGive, LinkToFree, GiveBack}
 use Rattle.stack_machine.specs.Machine.{is_idle, stack}
@@ -77,6 +77,7 @@ module _ {T : Type 0} (n limit : ℕ) where
     given p CallShut (AnswerShut true) mine made = inr (Shut p, ap visible made, refl)
     given p CallShut (AnswerShut false) mine made = inl (ap visible made, λ r. r)
     given p CallLook (AnswerLook empty) mine made = inl (ap visible made, λ r. r)
+    given p CallGauge (AnswerGauge closed used) mine made = inl (ap visible made, λ r. r)
     given p c a mine made = absurd made
 
   -- what a line has done

@@ -1,12 +1,12 @@
 -- The order of the tests at each line matters, and so does each comparison: with another one, a script
 -- gets another reply.
-use Rattle.std.specs.Prelude.{◌-◌, ◌==◌, ◌&&◌, leb, if◌then◌else◌, true}
+use Rattle.std.specs.Prelude.{◌-◌, ◌==◌, ◌&&◌, leb, if◌then◌else◌, true, false}
 use Rattle.bounded_model.specs.declared.answers.TakeRefused.TheVariants.{Empty, Shut}
-use Rattle.queue_machine.specs.declared.lines.Answer.TheVariants.{Close, Shut as ShutAnswer, Look, Len}
+use Rattle.queue_machine.specs.declared.lines.Answer.TheVariants.{Close, Shut as ShutAnswer, Look, Len, Gauge}
 use Rattle.tagged_index.specs.declared.word.TheConstants.{NULL}
 use Rattle.machine.specs.Words.{same}
-use Rattle.queue_machine.specs.declared.lines.Seeking.TheVariants.{ToRefuse}
-use Rattle.queue_machine.specs.declared.lines.Line.TheVariants.{LoadCells, LoadNext, PrepareNext, LoadTail, CheckTail, SwingTail, LoadHead, LoadTailToTake, CheckHead, SwingTailToTake, TakeHead, CheckHeadToLook, LoadHeadToCount, CheckHeadToCount, MarkNext, LoadHeadToShut, ShutHead}
+use Rattle.queue_machine.specs.declared.lines.Seeking.TheVariants.{ToRefuse, ToGauge}
+use Rattle.queue_machine.specs.declared.lines.Line.TheVariants.{LoadCells, LoadNext, PrepareNext, LoadTail, CheckTail, SwingTail, LoadHead, LoadTailToTake, CheckHead, SwingTailToTake, TakeHead, CheckHeadToLook, LoadHeadToCount, CheckHeadToCount, CheckNextToGauge, MarkNext, LoadHeadToShut, ShutHead}
 use Rattle.queue_machine.specs.Machine.{step, goes_on, wins_value, ends, found_cells, found_back, back_null, back_closed, found_front, counted}
 use Rattle.step_core.specs.queue.Cast.{Moves, cells_spent, no_take}
 
@@ -32,13 +32,13 @@ null_before_mark s m p l = step s m p l
 
 -- and looks at the mark before comparing with the tail
 abbrev pub link_before_tail : Moves
-link_before_tail s m p (CheckTail seek w n) = goes_on m (if n.mark then back_closed seek else if same m.tail w then found_back seek w n else LoadTail seek)
+link_before_tail s m p (CheckTail seek w n) = goes_on m (if n.mark then back_closed seek w else if same m.tail w then found_back seek w n else LoadTail seek)
 link_before_tail s m p l = step s m p l
 
 -- and takes null for the end before comparing with the tail: a close marks a node that another put has
 -- in hand
 abbrev pub null_before_tail : Moves
-null_before_tail s m p (CheckTail seek w n) = goes_on m (if n.mark then back_closed seek else if n.index == NULL then back_null seek w n else if same m.tail w then found_back seek w n else LoadTail seek)
+null_before_tail s m p (CheckTail seek w n) = goes_on m (if n.mark then back_closed seek w else if n.index == NULL then back_null seek w n else if same m.tail w then found_back seek w n else LoadTail seek)
 null_before_tail s m p l = step s m p l
 
 -- and moves the tail on before comparing with it: it makes an exchange that can only lose
@@ -93,6 +93,16 @@ count_before_head s m p l = step s m p l
 abbrev pub count_to_tail : Moves
 count_to_tail s m p (CheckHeadToCount h w n) = goes_on m (if same m.head h then ends (Len (w.tag - h.tag)) else LoadHeadToCount)
 count_to_tail s m p l = step s m p l
+
+-- a gauge that leaves a lagging tail where it is: it misses a put
+abbrev pub gauge_to_tail : Moves
+gauge_to_tail s m p (CheckTail ToGauge w n) = goes_on m (if same m.tail w then (if n.index == NULL then found_back ToGauge w n else ends (Gauge false w.tag)) else LoadTail ToGauge)
+gauge_to_tail s m p l = step s m p l
+
+-- and one that does not look at the end again: it answers what was so before
+abbrev pub gauge_before_next : Moves
+gauge_before_next s m p (CheckNextToGauge w n) = goes_on m (ends (Gauge false w.tag))
+gauge_before_next s m p l = step s m p l
 
 -- an exchange of the head that compares the index and the tag and no mark: a take wins against a shut
 abbrev pub mark_overlooked : Moves

@@ -3,8 +3,8 @@
 use Rattle.std.specs.Prelude.{◌≡◌, ℕ, Bool, List, drop, map, replicate, true, false, [], ◌∷◌}
 use Rattle.bounded_model.specs.declared.answers.TakeRefused.TheVariants.{Empty, Closed, Shut}
 use Rattle.queue_machine.specs.declared.lines.Answer.{Answer}
-use Rattle.queue_machine.specs.declared.lines.Answer.TheVariants.{Close, Shut as ShutAnswer, Look, Len}
-use Rattle.queue_machine.specs.declared.lines.Call.TheVariants.{Close as CloseCall, Shut as ShutCall, Look as LookCall, Len as LenCall}
+use Rattle.queue_machine.specs.declared.lines.Answer.TheVariants.{Close, Shut as ShutAnswer, Look, Len, Gauge}
+use Rattle.queue_machine.specs.declared.lines.Call.TheVariants.{Close as CloseCall, Shut as ShutCall, Look as LookCall, Len as LenCall, Gauge as GaugeCall}
 use Rattle.step_core.specs.Scripts.{Reply, curtain, replies, calls, begins, steps, finish, answers, again, ended, rest}
 use Rattle.queue_machine.specs.Answers.{shape}
 use Rattle.step_core.specs.Letters.{a, b, c, u, v, w, x, y, z}
@@ -247,6 +247,22 @@ counts = scene 2 9
     ∷ (calls b (put y), answers (put_is 1))
     ∷ (steps a 3, again 4)
     ∷ (steps a 20, ended (Len 1) 8)
+    ∷ [])
+
+-- a gauge alone, with a tail that a put left behind, and one that begins again since another has put or closed
+abbrev pub gauges : Scene
+gauges = scene 2 9
+    ((begins a GaugeCall 40, ended (Gauge false 0) 4)
+    ∷ (begins b (put x) 13, again 13)
+    ∷ (begins a GaugeCall 40, ended (Gauge false 1) 8)
+    ∷ (steps b 20, ended (put_is 0) 14)
+    ∷ (begins a GaugeCall 3, again 3)
+    ∷ (calls b (put y), answers (put_is 1))
+    ∷ (steps a 20, ended (Gauge false 2) 8)
+    ∷ (calls b take, answers (take_is 0 x))
+    ∷ (begins a GaugeCall 3, again 3)
+    ∷ (calls b CloseCall, answers (Close true))
+    ∷ (steps a 20, ended (Gauge true 2) 7)
     ∷ [])
 
 -- A put stops after k of its steps while others put, take and close, and a take while others take and

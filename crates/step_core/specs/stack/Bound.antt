@@ -6,7 +6,7 @@ use Rattle.stack_machine.specs.declared.lines.Line.{Line}
 use Rattle.stack_machine.specs.declared.lines.Line.TheVariants.{LoadFree, LoadFreeLink, TakeFree, LinkTaken, LoadTopToTake, TakeChain, LoadLinkToTurn, TurnLink, LoadLinkToFold}
 
 module _ {T : Type 0} where
-  -- a put of one value, a take of one value, a close, a shut or a look, wherever it is
+  -- a put of one value, a take of one value, a close, a shut, a look or a gauge, wherever it is
   abbrev pub IsSingle : Line T → Type 0
   IsSingle (LoadFree put) = length put.values ≡ 1
   IsSingle (LoadFreeLink put w) = length put.values ≡ 1

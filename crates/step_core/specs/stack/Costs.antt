@@ -3,7 +3,7 @@ use Rattle.std.specs.Prelude.{◌≡◌, ℕ, ◌+◌, ◌*◌, ltb, if◌then�
 use Rattle.stack_machine.specs.declared.lines.Direction.TheVariants.{Down, Up}
 use Rattle.stack_machine.specs.declared.lines.Taking.TheVariants.{One, Whole}
 use Rattle.stack_machine.specs.declared.lines.Call.{Call}
-use Rattle.stack_machine.specs.declared.lines.Call.TheVariants.{Put as CallPut, Take as CallTake, Close as CallClose, Shut as CallShut, Look as CallLook}
+use Rattle.stack_machine.specs.declared.lines.Call.TheVariants.{Put as CallPut, Take as CallTake, Close as CallClose, Shut as CallShut, Look as CallLook, Gauge as CallGauge}
 
 -- how many nodes of n a put of r values can take, and whether it looks in vain for one more
 abbrev pub fit : ℕ → ℕ → ℕ
@@ -22,6 +22,7 @@ module _ {T : Type 0} where
   alone n CallClose = 2
   alone n CallShut = 2
   alone n CallLook = 1
+  alone n CallGauge = 1
 
   -- how many steps of another pass its exchanges can make vain
   abbrev pub harms : ℕ → Call T → ℕ
@@ -30,12 +31,13 @@ module _ {T : Type 0} where
   harms n CallClose = 4
   harms n CallShut = 4
   harms n CallLook = 0
+  harms n CallGauge = 0
 
   -- together, where k other passes are in a call
   abbrev pub cost : ℕ → ℕ → Call T → ℕ
   cost n k call = alone n call + harms n call * k
 
-  -- a put or a take of one value, a close, a shut or a look
+  -- a put or a take of one value, a close, a shut, a look or a gauge
   abbrev pub IsSingleCall : Call T → Type 0
   IsSingleCall (CallPut v vs) = vs ≡ []
   IsSingleCall (CallTake (Whole d)) = ⊥

@@ -7,12 +7,12 @@ use Rattle.bounded_model.specs.Justified as right
 use Rattle.stack_machine.specs.declared.lines.Direction.{Direction}
 use Rattle.stack_machine.specs.declared.lines.Taking.TheVariants.{One, Whole}
 use Rattle.stack_machine.specs.declared.lines.Call.{Call}
-use Rattle.stack_machine.specs.declared.lines.Call.TheVariants.{Put as CallPut, Take as CallTake, Close as CallClose, Shut as CallShut, Look as CallLook}
+use Rattle.stack_machine.specs.declared.lines.Call.TheVariants.{Put as CallPut, Take as CallTake, Close as CallClose, Shut as CallShut, Look as CallLook, Gauge as CallGauge}
 use Rattle.stack_machine.specs.declared.lines.Answer.{Answer}
-use Rattle.stack_machine.specs.declared.lines.Answer.TheVariants.{Put as AnswerPut, Take as AnswerTake, Fold as AnswerFold, Close as AnswerClose, Shut as AnswerShut, Look as AnswerLook}
+use Rattle.stack_machine.specs.declared.lines.Answer.TheVariants.{Put as AnswerPut, Take as AnswerTake, Fold as AnswerFold, Close as AnswerClose, Shut as AnswerShut, Look as AnswerLook, Gauge as AnswerGauge}
 use Rattle.stack_machine.specs.declared.lines.Line.{Line}
 use Rattle.stack_machine.specs.declared.lines.Line.TheVariants.{Idle}
-use Rattle.stack_machine.specs.Answers.{shape, refusal}
+use Rattle.stack_machine.specs.Answers.{shape, refusal, IsGauged}
 use Rattle.stack_machine.specs.Deeds.{in_order, handed_back}
 use Rattle.step_core.specs.Linearizable.{Object}
 
@@ -47,6 +47,7 @@ module _ {T : Type 0} where
   IsSaid n limit h CallClose (AnswerClose false) = right.Justifies (shape n limit) h right.NotClosed
   IsSaid n limit h CallShut (AnswerShut false) = right.Justifies (shape n limit) h right.NotShut
   IsSaid n limit h CallLook (AnswerLook empty) = right.Justifies (shape n limit) h (right.Looked empty)
+  IsSaid n limit h CallGauge (AnswerGauge closed used) = IsGauged n limit closed used h
   IsSaid n limit h call a = ⊥
 
   -- the stack of n nodes

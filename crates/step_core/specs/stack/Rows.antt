@@ -2,8 +2,8 @@
 use Rattle.std.specs.Prelude.{true, false, [], ◌∷◌}
 use Rattle.bounded_model.specs.declared.answers.Word.TheVariants.{Top as TopWord}
 use Rattle.bounded_model.specs.declared.answers.TakeRefused.TheVariants.{Empty, Closed, Spent, Shut}
-use Rattle.stack_machine.specs.declared.lines.Answer.TheVariants.{Close, Shut as ShutAnswer, Look}
-use Rattle.stack_machine.specs.declared.lines.Call.TheVariants.{Close as CloseCall, Shut as ShutCall, Look as LookCall}
+use Rattle.stack_machine.specs.declared.lines.Answer.TheVariants.{Close, Shut as ShutAnswer, Look, Gauge}
+use Rattle.stack_machine.specs.declared.lines.Call.TheVariants.{Close as CloseCall, Shut as ShutCall, Look as LookCall, Gauge as GaugeCall}
 use Rattle.step_core.specs.Scripts.{calls, begins, steps, finish, answers, again, ended, rest}
 use Rattle.step_core.specs.Letters.{a, b, c, t, u, v, w, x, y, z}
 use Rattle.step_core.specs.stack.Cast.{Scene, scene, put, range, take, fold, reversed_fold, put_is, range_is, full, put_closed, top_spent, free_spent, take_is, no_take, fold_is, no_fold}
@@ -70,6 +70,18 @@ folds = scene 3 15
     ∷ (calls a (put t), answers (put_is 8))
     ∷ (calls a fold, answers (fold_is 9 (t ∷ [])))
     ∷ (calls a fold, answers (no_fold Empty))
+    ∷ [])
+
+-- gauges: each put and each take uses a tag, of one value or of many
+abbrev pub gauges : Scene
+gauges = scene 3 9
+    ((begins a GaugeCall 40, ended (Gauge false 0) 1)
+    ∷ (calls a (range x (y ∷ z ∷ [])), answers (range_is 0 []))
+    ∷ (calls b take, answers (take_is 1 z))
+    ∷ (calls a GaugeCall, answers (Gauge false 2))
+    ∷ (calls b CloseCall, answers (Close true))
+    ∷ (calls b fold, answers (fold_is 2 (y ∷ x ∷ [])))
+    ∷ (begins a GaugeCall 40, ended (Gauge true 3) 1)
     ∷ [])
 
 -- what is left, from the top down
