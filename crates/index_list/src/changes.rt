@@ -1,5 +1,5 @@
-//! Exchanges of a list's top: takes, gives and marks. Each is one atomic step, and returns whether
-//! it succeeded: where the top was not the one seen, nothing is changed. A list is numbered below
+//! Exchanges of a list's top: takes, gives and marks. Each makes one step of the table, and returns
+//! whether it succeeded: where the top was not the one seen, nothing is changed. A list is numbered below
 //! `L`.
 ghost use Rattle.std.specs.Prelude.{◌≡◌, ◌<◌, ◌≤◌, true, false, IsTrue, IsFalse};
 ghost use Rattle.tagged_index.specs.Fields.{index_of, tag_of, fields_of, raised};

@@ -14,7 +14,7 @@ use Rattle.running.specs.Machine.{Core}
 use Rattle.running.specs.Tables.{Board, Rules, core_of}
 use Rattle.queue_table.specs.declared.operation.Operation.{Operation}
 use Rattle.queue_table.specs.Layout.{next_at, layout}
-use Rattle.queue_table.specs.Lines.{call_of, Brings, Says}
+use Rattle.queue_table.specs.Lines.{call_of, reply, Brings, Says}
 
 -- what is stored in a word that is no link of the chain is an index or null
 abbrev pub Plain : ℕ → ℕ → Type 0
@@ -37,6 +37,8 @@ module _ (T : Type 0) (n limit : ℕ) where
     first = start (shape n limit);
     shape = shape n limit;
     holding = λ l. length (held_cells l);
+    reply = reply;
+    Reads = ⊥;
     rest = λ p. Idle None;
     stock = Idle None;
     IsStock = λ out l. Unit {0};

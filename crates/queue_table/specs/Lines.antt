@@ -2,8 +2,13 @@
 use Rattle.std.specs.Prelude.{◌≡◌, ◌≢◌, ℕ, ◌+◌, ◌<◌, ◌≤◌, List, [], ◌∷◌, Option as Slot, Some, None}
 use Rattle.tagged_index.specs.Fields.{fields_of, index_of}
 use Rattle.tagged_index.specs.declared.word.TheConstants.{NULL}
+use Rattle.bounded_model.specs.declared.views.Answered.{Answered}
+use Rattle.bounded_model.specs.declared.views.Answered.TheVariants.{Take as TakeAnswered, Close as CloseAnswered, Shut as ShutAnswered, Look as LookAnswered, Len as LenAnswered, Gauge as GaugeAnswered, Heard}
+use Rattle.bounded_model.specs.Laws.{put_answered}
+use Rattle.queue_machine.specs.declared.lines.Answer.{Answer}
+use Rattle.queue_machine.specs.declared.lines.Answer.TheVariants.{Put as AnswerPut, Take as AnswerTake, Close as AnswerClose, Shut as AnswerShut, Look as AnswerLook, Len as AnswerLen, Gauge as AnswerGauge}
 use Rattle.queue_machine.specs.declared.lines.Call.{Call}
-use Rattle.queue_machine.specs.declared.lines.Call.TheVariants.{Put as CallPut, Take as CallTake, Close as CallClose, Shut as CallShut, Look as CallLook, Len as CallLen}
+use Rattle.queue_machine.specs.declared.lines.Call.TheVariants.{Put as CallPut, Take as CallTake, Close as CallClose, Shut as CallShut, Look as CallLook, Len as CallLen, Gauge as CallGauge}
 use Rattle.queue_machine.specs.declared.lines.Line.{Line}
 use Rattle.queue_machine.specs.declared.lines.Line.TheVariants.{Idle, LoadCells, LoadCellLink, TakeCell, LoadNodes, LoadNodeLink, LoadTail, LoadTailNext, CheckTail, SwingTail, LinkNext, SwingToLinked, MarkNext, LoadHead, LoadHeadNext, CheckHead, SwingTailToTake, LoadCell, TakeHead, LoadHeadToLook, LoadTailToCount}
 use Rattle.queue_machine.specs.Machine.{is_idle, starts, table}
@@ -11,7 +16,7 @@ use Rattle.machine.specs.Seats.{all_alike}
 use Rattle.running.specs.Machine.{Names}
 use Rattle.running.specs.Tables.{next_of}
 use Rattle.queue_table.specs.declared.operation.Operation.{Operation}
-use Rattle.queue_table.specs.declared.operation.Operation.TheVariants.{Put as PutFirst, Take as TakeFirst, Close as CloseFirst, Shut as ShutFirst, Look as LookFirst, Len as LenFirst}
+use Rattle.queue_table.specs.declared.operation.Operation.TheVariants.{Put as PutFirst, Take as TakeFirst, Close as CloseFirst, Shut as ShutFirst, Look as LookFirst, Len as LenFirst, Gauge as GaugeFirst}
 
 module _ {T : Type 0} where
   -- the machine's call of an operation, whose first line is the machine's
@@ -22,6 +27,21 @@ module _ {T : Type 0} where
   call_of ShutFirst = CallShut
   call_of LookFirst = CallLook
   call_of LenFirst = CallLen
+  call_of GaugeFirst = CallGauge
+
+  -- what its call has answered, of a pass that is idle at this line
+  abbrev pub answered : Answer T → Answered T
+  answered (AnswerPut r) = put_answered r
+  answered (AnswerTake r) = TakeAnswered r
+  answered (AnswerClose b) = CloseAnswered b
+  answered (AnswerShut b) = ShutAnswered b
+  answered (AnswerLook b) = LookAnswered b
+  answered (AnswerLen k) = LenAnswered k
+  answered (AnswerGauge closed used) = GaugeAnswered closed used
+
+  abbrev pub reply : Line T → Answered T
+  reply (Idle (Some a)) = answered a
+  reply l = Heard
 
   abbrev pub first_line : Operation T → Line T
   first_line o = starts (call_of o)

@@ -5,3 +5,5 @@ pub mod Lifted
 pub mod Does
 pub mod Laws
 pub mod Opening
+pub mod Hosts
+pub mod Gives

@@ -2,6 +2,8 @@
 use Rattle.std.specs.Prelude.{ℕ, ◌+◌, ◌*◌, ltb, if◌then◌else◌, List, None, Option as Slot}
 use mathlib.Core.Option.{none, some}
 use Rattle.bounded_model.specs.declared.history.Event.{Event}
+use Rattle.bounded_model.specs.declared.views.Answered.{Answered}
+use Rattle.bounded_model.specs.declared.views.Answered.TheVariants.{Heard}
 use Rattle.bounded_model.specs.Machine.{Shape}
 use Rattle.machine.specs.Words.{start_word}
 use Rattle.machine.specs.Program.{Deed, rests}
@@ -17,7 +19,7 @@ use Rattle.ring_table.specs.declared.line.SeatLine.{SeatLine}
 use Rattle.ring_table.specs.declared.line.SeatLine.TheVariants.{At, Stock}
 use Rattle.ring_table.specs.declared.operation.Operation.{Operation}
 use Rattle.ring_table.specs.Layout.{layout}
-use Rattle.ring_table.specs.Lines.{call_of, Brings, Says}
+use Rattle.ring_table.specs.Lines.{call_of, reply, Brings, Says}
 use Rattle.ring_table.specs.Seats.{passes_of, cells_from, IsStock, deed_at}
 
 -- What is said of a line of the machine, said of a line of a seat. Of one that is none of a pass nothing is said, and it makes no step
@@ -45,6 +47,10 @@ module _ {T : Type 0} where
   abbrev pub TellsAt : ℕ → ℕ → List (Event T) → List (Event T) → SeatLine T → Type 0
   TellsAt n laps b seen (At l) = Tells n laps b seen l
   TellsAt n laps b seen (Stock cs) = Unit {0}
+
+  abbrev pub reply_at : SeatLine T → Answered T
+  reply_at (At l) = reply l
+  reply_at (Stock cs) = Heard
 
   abbrev pub WinsUnheldAt : ℕ → Memory T → List (SeatLine T) → SeatLine T → SeatLine T → Type 0
   WinsUnheldAt n m seats (At l) (At l') = WinsUnheld n m (passes_of seats) l l'
@@ -84,6 +90,8 @@ module _ (T : Type 0) (n laps passes : ℕ) where
     first = first_memory;
     shape = shape_for;
     holding = λ l. 0;
+    reply = reply_at;
+    Reads = ⊥;
     rest = λ p. At (resting (n + p));
     stock = Stock (cells_from n passes);
     IsStock = IsStock passes;

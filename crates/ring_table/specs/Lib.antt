@@ -1,5 +1,6 @@
 pub mod Layout
 pub mod Memories
 pub mod Lines
+pub mod Lists
 pub mod Seats
 pub mod Core

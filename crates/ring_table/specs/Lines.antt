@@ -1,10 +1,15 @@
 -- What the code is told at a line of the ring.
 use Rattle.std.specs.Prelude.{◌≡◌, ℕ, ◌*◌, ◌<◌, ◌≤◌, List, [], ◌∷◌, Option as Slot, Some, None}
 use Rattle.tagged_index.specs.Fields.{index_of, tag_of}
+use Rattle.bounded_model.specs.declared.views.Answered.{Answered}
+use Rattle.bounded_model.specs.declared.views.Answered.TheVariants.{Take as TakeAnswered, Close as CloseAnswered, Shut as ShutAnswered, Look as LookAnswered, Len as LenAnswered, Heard}
+use Rattle.bounded_model.specs.Laws.{put_answered}
+use Rattle.ring_machine.specs.declared.lines.Answer.{Answer}
+use Rattle.ring_machine.specs.declared.lines.Answer.TheVariants.{Put as AnswerPut, Take as AnswerTake, Close as AnswerClose, Shut as AnswerShut, Look as AnswerLook, Len as AnswerLen}
 use Rattle.ring_machine.specs.declared.lines.Call.{Call}
 use Rattle.ring_machine.specs.declared.lines.Call.TheVariants.{Put as CallPut, Take as CallTake, Close as CallClose, Shut as CallShut, Look as CallLook, Len as CallLen}
 use Rattle.ring_machine.specs.declared.lines.Line.{Line}
-use Rattle.ring_machine.specs.declared.lines.Line.TheVariants.{FetchTail, LoadTail, LoadBack, LoadHead, LoadFront, TakeCell}
+use Rattle.ring_machine.specs.declared.lines.Line.TheVariants.{Idle, FetchTail, LoadTail, LoadBack, LoadHead, LoadFront, TakeCell}
 use Rattle.ring_table.specs.declared.operation.Operation.{Operation}
 use Rattle.ring_table.specs.declared.operation.Operation.TheVariants.{Put as PutFirst, Take as TakeFirst, Close as CloseFirst, Shut as ShutFirst, Look as LookFirst, Len as LenFirst}
 
@@ -17,6 +22,19 @@ module _ {T : Type 0} where
   call_of ShutFirst = CallShut
   call_of LookFirst = CallLook
   call_of LenFirst = CallLen
+
+  -- what its call has answered, of a pass that is idle at this line
+  abbrev pub answered : Answer T → Answered T
+  answered (AnswerPut r) = put_answered r
+  answered (AnswerTake r) = TakeAnswered r
+  answered (AnswerClose b) = CloseAnswered b
+  answered (AnswerShut b) = ShutAnswered b
+  answered (AnswerLook b) = LookAnswered b
+  answered (AnswerLen k) = LenAnswered k
+
+  abbrev pub reply : Line T → Answered T
+  reply (Idle c (Some a)) = answered a
+  reply l = Heard
 
   -- which slot a step brings: the spare cell, or the one that is taken
   abbrev pub Brings : Line T → List (ℕ × Slot T) → Type 0

@@ -3,6 +3,7 @@
 //! With the spare cells of the root and of passes that meet, and all that running code relies on.
 #![tactic(auto)]
 
+pub mod layout;
 mod line;
 mod operation;
 

@@ -1,12 +1,12 @@
 -- What a container at its end stands for: a run of its machine.
-use Rattle.std.specs.Prelude.{◌≡◌, ◌⊎◌, ℕ, ◌≤◌, true, List}
+use Rattle.std.specs.Prelude.{◌≡◌, ◌⊎◌, ℕ, ◌≤◌, true, List, []}
 use Rattle.std.specs.List.{AllByRecursion as Every}
 use Rattle.bounded_model.specs.declared.views.RootView.{RootView}
 use Rattle.bounded_model.specs.Machine.{state}
 use Rattle.bounded_model.specs.Histories.{Later}
 use Rattle.bounded_model.specs.Laws.{NoneOut}
 use Rattle.machine.specs.Seats.{Acts, IsJoined}
-use Rattle.running.specs.Acts.{Now, IsAllowed, made, played}
+use Rattle.running.specs.Acts.{Now, IsAllowed, AllProper, HasDone, played}
 use Rattle.running.specs.Machine.{Names, Machine}
 
 module _ {T L O : Type 0} {names : Names L O} (m : Machine T L O names) where
@@ -15,7 +15,7 @@ module _ {T L O : Type 0} {names : Names L O} (m : Machine T L O names) where
 
   -- Some acts of the passes, from a new container on, make the machine's history one that begins with what the root has seen, and is that where no pass
   -- is out; what is left in the container is what that history leaves. The passes that were joined are in no operation, and those that were not given
-  -- have made no step
+  -- have made no step. Each joined pass has made as many steps as it counted, and its calls have answered what they answered
   pub record IsRun (r : RootView T) (left : List T) : Type 0 where
     pub acts : Acts L
     pub allowed : Every (λ a. IsAllowed names m.core a.1) acts
@@ -23,4 +23,6 @@ module _ {T L O : Type 0} {names : Names L O} (m : Machine T L O names) where
     pub whole : NoneOut r → (state_at acts).history ≡ r.seen
     pub values : left ≡ (state m.core.shape (state_at acts).history).values
     pub rests : (x : ℕ) → (r.given ≤ x) ⊎ IsJoined x r.account → names.is_idle ((state_at acts).line x) ≡ true
-    pub unmade : (x : ℕ) → r.given ≤ x → made x acts ≡ 0
+    pub proper : AllProper names m.core acts
+    pub unmade : (x : ℕ) → r.given ≤ x → HasDone names m.core acts x 0 []
+    pub worked : Every (λ w. HasDone names m.core acts w.number w.steps w.answers) r.works

@@ -5,19 +5,23 @@ use Rattle.std.specs.List.{AllByRecursion as Every}
 use mathlib.Core.Option.{some, some-injective, some-ne-none}
 use lib.ListN.{get_elem?}
 use Rattle.bounded_model.specs.declared.history.Event.{Event}
+use Rattle.bounded_model.specs.declared.views.Answered.{Answered}
+use Rattle.bounded_model.specs.declared.views.Answered.TheVariants.{Heard}
 use Rattle.bounded_model.specs.declared.views.PassView.{PassView}
 use Rattle.bounded_model.specs.declared.views.RootView.{RootView}
+use Rattle.bounded_model.specs.declared.views.Work.{Work}
+use Rattle.bounded_model.specs.Histories.{own as own_events}
 use Rattle.machine.specs.declared.seats.Begun.{Begun}
 use Rattle.machine.specs.declared.seats.View.{View}
 use Rattle.machine.specs.declared.seats.View.TheVariants.{AtRoot, AtPass, AtMeeting, AtNote, AtHearing, Left}
-use Rattle.machine.specs.Seats.{Acts, Owns, Knows, Seated, at_rest, new_pass, rested, stepped, looked, left_of, right_of, both_of, first_view}
+use Rattle.machine.specs.Seats.{Acts, Owns, IsJoined, Knows, Seated, at_rest, new_pass, rested, stepped, hearing, looked, left_of, right_of, both_of, first_view}
 use Rattle.machine.proofs.Sums.{at_set}
 use Rattle.machine.proofs.Scheduled.{set_other, set_same}
 use Rattle.machine.proofs.Tests.{same_or_not}
 use Rattle.machine.proofs.Seating.{at_end, left_owns, both_owns, only_first}
 use Rattle.running.specs.Machine.{Names, Machine, IsQuiet}
-use Rattle.running.specs.Rule.{line_now, going_now, quiet, view_after, MayCut, MayUnite}
-use Rattle.running.specs.Acts.{Doing, Begins, Steps, Looks, placed, counted, sum_of, made, Now, having_stepped, after_act, played, IsAllowed, Counts, Seen, Sees, IsSame, IsAt, Follows, IsOwned, Led, begun_acts, acts_after}
+use Rattle.running.specs.Rule.{line_now, going_now, quiet, view_after, MayCut, MayLook, MayUnite}
+use Rattle.running.specs.Acts.{Doing, Begins, Steps, Looks, Hears, placed, counted, sum_of, made, Now, having_stepped, after_act, played, IsAllowed, AllProper, answers_at, answers_after, answers_in, HasDone, Worked, Counts, Seen, Sees, IsSame, IsAt, Follows, IsOwned, Led, begun_acts, acts_after}
 
 -- a seat that is changed, and another
 set_there : {A : Type 0} (xs : List A) (i : ℕ) (x y : A) → get_elem? xs i ≡ some x → get_elem? (set xs i y) i ≡ some y
@@ -56,6 +60,9 @@ module _ {T L O : Type 0} {names : Names L O} (m : Machine T L O names) where
 
   abbrev Allowed : Acts L → Type 0
   Allowed acts = Every (λ a. IsAllowed names m.core a.1) acts
+
+  abbrev Proper : Acts L → Type 0
+  Proper acts = AllProper names m.core acts
 
   -- a line is at rest as it is once its operation has ended
   pub idle_quiet : (l : L) → IsQuiet names m.core l → names.is_idle l ≡ true
@@ -125,12 +132,34 @@ module _ {T L O : Type 0} {names : Names L O} (m : Machine T L O names) where
   pub note_takes : (v w : View T L) (told : List (Event T)) → w ≡ AtNote told → (x : ℕ) → Owns w x → Owns (both_of names.shares v w) x
   note_takes v w told ew x o = absurd (subst (λ (u : View T L). Owns u x → ⊥) (sym ew) (λ o. o) o)
 
+  abbrev Replies : ℕ → Acts L → List (Answered T)
+  Replies x acts = answers_in names m.core x acts
+
+  replies_same : (x : ℕ) (d : Doing L) (acts : Acts L) → Replies x ((x, d) ∷ acts) ≡ answers_after names m.core (state acts) x d (Replies x acts)
+  replies_same x d acts = ap (λ (b : Bool). cond b (answers_after names m.core (state acts) x d (Replies x acts)) (Replies x acts)) (eq-eqb x x refl)
+
+  replies_other : (x p : ℕ) (d : Doing L) (acts : Acts L) → x ≢ p → Replies x ((p, d) ∷ acts) ≡ Replies x acts
+  replies_other x p d acts ne = ap (λ (b : Bool). cond b (answers_after names m.core (state acts) p d (Replies x acts)) (Replies x acts)) (ne_eqb x p ne)
+
   -- acts of pass p change nothing of others
   pub record Spares (p : ℕ) (acts acts' : Acts L) : Type 0 where
     newer : Acts L
     is : acts' ≡ newer ++ acts
     lines : (x : ℕ) → x ≢ p → (state acts').line x ≡ (state acts).line x
     counts : (f : Doing L → ℕ) (x : ℕ) → x ≢ p → sum_of f x acts' ≡ sum_of f x acts
+    replies : (x : ℕ) → x ≢ p → Replies x acts' ≡ Replies x acts
+
+  still_done : (p : ℕ) (acts acts' : Acts L) → Spares p acts acts' → (x steps : ℕ) (answers : List (Answered T)) → x ≢ p → HasDone names m.core acts x steps answers → HasDone names m.core acts' x steps answers
+  still_done p acts acts' sp x steps answers ne d = record { steps_are = d.steps_are ∙ sym (sp.counts counted x ne); answers_are = d.answers_are ∙ sym (sp.replies x ne) }
+
+  still_worked : (p : ℕ) (acts acts' : Acts L) → Spares p acts acts' → (account : List (ℕ × List (Event T))) → ((x : ℕ) → IsJoined x account → x ≢ p) → (works : List (Work T))
+      → Every (Worked names m.core acts account) works → Every (Worked names m.core acts' account) works
+  still_worked p acts acts' sp account off [] d = tt
+  still_worked p acts acts' sp account off (w ∷ works) d = ((d.0.0, still_done p acts acts' sp w.number w.steps w.answers (off w.number d.0.0) d.0.1), still_worked p acts acts' sp account off works d.1)
+
+  worked_more : (acts : Acts L) (account : List (ℕ × List (Event T))) (a : ℕ × List (Event T)) (works : List (Work T)) → Every (Worked names m.core acts account) works → Every (Worked names m.core acts (a ∷ account)) works
+  worked_more acts account a [] d = tt
+  worked_more acts account a (w ∷ works) d = ((inr d.0.0, d.0.1), worked_more acts account a works d.1)
 
   still_seen : (p : ℕ) (acts acts' : Acts L) → Spares p acts acts' → (now : Acts L) (x : ℕ) → x ≢ p → Seen names m.core acts now x → Seen names m.core acts' now x
   still_seen p acts acts' sp now x ne s = record {
@@ -143,11 +172,11 @@ module _ {T L O : Type 0} {names : Names L O} (m : Machine T L O names) where
   spared p acts acts' sp v off f = record { lines = λ x o. subst (λ (k : L). IsAt names m.core k v) (sym (sp.lines x (off x o))) (f.lines x o); counts = same v off f.counts; sees = seen v off f.sees }
     where
       same : (v : View T L) → ((x : ℕ) → Owns v x → x ≢ p) → Counts names m.core acts v → Counts names m.core acts' v
-      same (AtRoot r heard l) off c = λ x le. sp.counts counted x (off x (inl le)) ∙ c x le
-      same (AtPass q begun l) off c = c ∙ sym (sp.counts counted q.number (off q.number refl))
-      same (AtMeeting q k q' l) off c = (c.0 ∙ sym (sp.counts counted q.number (off q.number (inl refl))), c.1 ∙ sym (sp.counts counted q'.number (off q'.number (inr refl))))
+      same (AtRoot r heard l) off c = (λ x le. still_done p acts acts' sp x 0 [] (off x (inl le)) (c.0 x le), still_worked p acts acts' sp r.account (λ x j. off x (inr j)) r.works c.1)
+      same (AtPass q begun l) off c = still_done p acts acts' sp q.number q.steps q.answers (off q.number refl) c
+      same (AtMeeting q k q' l) off c = (still_done p acts acts' sp q.number q.steps q.answers (off q.number (inl refl)) c.0, still_done p acts acts' sp q'.number q'.steps q'.answers (off q'.number (inr refl)) c.1)
       same (AtNote told) off c = tt
-      same (AtHearing q l told) off c = c ∙ sym (sp.counts counted q.number (off q.number refl))
+      same (AtHearing q l told) off c = still_done p acts acts' sp q.number q.steps q.answers (off q.number refl) c
       same Left off c = tt
 
       seen : (v : View T L) → ((x : ℕ) → Owns v x → x ≢ p) → Sees names m.core acts v → Sees names m.core acts' v
@@ -188,9 +217,11 @@ module _ {T L O : Type 0} {names : Names L O} (m : Machine T L O names) where
       line : (state k).line x ≡ now
       spares : Spares x acts k
       allowed : Allowed k
+      proper : Proper k
       counts : (f : Doing L → ℕ) → f (Begins now) ≡ 0 → sum_of f x k ≡ sum_of f x acts
+      replies : Replies x k ≡ Replies x acts
 
-    module _ (at : IsSame names m.core (s.line x) l) (allowed : Allowed acts) where
+    module _ (at : IsSame names m.core (s.line x) l) (allowed : Allowed acts) (proper : Proper acts) where
       same_idle : names.is_idle (s.line x) ≡ names.is_idle l
       same_idle = at.idle
 
@@ -207,17 +238,21 @@ module _ {T L O : Type 0} {names : Names L O} (m : Machine T L O names) where
                 memory = ap (λ (k : N). k.memory) is;
                 history = ap (λ (k : N). k.history) is;
                 line = ap (λ (k : N). k.line x) is ∙ placed_same s.line x now;
-                spares = record { newer = (x, Begins now) ∷ []; is = refl; lines = λ y ne. ap (λ (k : N). k.line y) is ∙ placed_other s.line x now y ne; counts = λ f y ne. sum_other f y x (Begins now) acts ne };
+                spares = record { newer = (x, Begins now) ∷ []; is = refl; lines = λ y ne. ap (λ (k : N). k.line y) is ∙ placed_other s.line x now y ne; counts = λ f y ne. sum_other f y x (Begins now) acts ne; replies = λ y ne. replies_other y x (Begins now) acts ne };
                 allowed = ((o, l, ap (λ (b : Bool). cond b (names.first o l) l) e), allowed);
+                proper = (same_idle ∙ e, proper);
                 counts = λ f none. sum_same f x (Begins now) acts ∙ ap (λ (k : ℕ). k + sum_of f x acts) none ∙ nothing_more (sum_of f x acts);
+                replies = replies_same x (Begins now) acts;
               }
           by_test false e = record {
             memory = refl;
             history = refl;
             line = at.busy e ∙ sym (ap (λ (b : Bool). cond b (names.first o l) l) e);
-            spares = record { newer = []; is = refl; lines = λ y ne. refl; counts = λ f y ne. refl };
+            spares = record { newer = []; is = refl; lines = λ y ne. refl; counts = λ f y ne. refl; replies = λ y ne. refl };
             allowed = allowed;
+            proper = proper;
             counts = λ f none. refl;
+            replies = refl;
           }
 
       stepped_so : after_act names m.core t x Steps ≡ having_stepped names m.core t x (t.line x)
@@ -230,7 +265,9 @@ module _ {T L O : Type 0} {names : Names L O} (m : Machine T L O names) where
         line_after : (state acts').line x ≡ m.core.lands memory x now
         spares : Spares x acts acts'
         allowed_after : Allowed acts'
+        proper_after : Proper acts'
         counts : made x acts' ≡ 1 + made x acts
+        replies : Replies x acts' ≡ answers_at names m.core (Replies x acts) (m.core.lands memory x now)
 
       step_after : (memory : m.core.Memory) → s.memory ≡ memory → s.history ≡ h → After memory
       step_after memory is story =
@@ -244,9 +281,14 @@ module _ {T L O : Type 0} {names : Names L O} (m : Machine T L O names) where
               is = ap (λ (k : Acts L). (x, Steps) ∷ k) began.spares.is;
               lines = λ y ne. ap (λ (k : N). k.line y) stepped_so ∙ placed_other t.line x (m.core.lands t.memory x (t.line x)) y ne ∙ began.spares.lines y ne;
               counts = λ f y ne. sum_other f y x Steps began_by ne ∙ began.spares.counts f y ne;
+              replies = λ y ne. replies_other y x Steps began_by ne ∙ began.spares.replies y ne;
             };
             allowed_after = (tt, began.allowed);
+            proper_after = (ap names.is_idle began.line ∙ busy_now, began.proper);
             counts = sum_same counted x Steps began_by ∙ ap (λ (k : ℕ). 1 + k) (began.counts counted refl);
+            replies = replies_same x Steps began_by
+                ∙ ap (λ (b : Bool). cond b (Replies x began_by) (answers_at names m.core (Replies x began_by) (m.core.lands t.memory x (t.line x)))) (ap names.is_idle began.line ∙ busy_now)
+                ∙ (λ i. answers_at names m.core (began.replies i) (m.core.lands (to i) x (began.line i)));
           }
 
   -- a step of the seat id, made on the table
@@ -267,7 +309,7 @@ module _ {T L O : Type 0} {names : Names L O} (m : Machine T L O names) where
     going = going_now names p from l led.acts after_acts
 
     abbrev view_now : View T L
-    view_now = view_after names (stepped newer p) going out
+    view_now = view_after names (stepped newer (answers_at names m.core p.answers out) p) going out
 
     pub my : Fits led.acts (AtPass p from l)
     my = led.each id (AtPass p from l) mine
@@ -276,16 +318,16 @@ module _ {T L O : Type 0} {names : Names L O} (m : Machine T L O names) where
     sees_now = my.sees
 
     pub rested_now : names.is_idle l ≡ true → names.is_idle ((state led.acts).line p.number) ≡ true
-    rested_now e = same_idle p.number l o led.acts h (my.lines p.number refl) led.allowed ∙ e
+    rested_now e = same_idle p.number l o led.acts h (my.lines p.number refl) led.allowed led.proper ∙ e
 
-    pub a : After p.number l o led.acts h (my.lines p.number refl) led.allowed memory
-    a = step_after p.number l o led.acts h (my.lines p.number refl) led.allowed memory led.memory_is led.history_is
+    pub a : After p.number l o led.acts h (my.lines p.number refl) led.allowed led.proper memory
+    a = step_after p.number l o led.acts h (my.lines p.number refl) led.allowed led.proper memory led.memory_is led.history_is
 
     pub ran_now : (state after_acts).line p.number ≡ out
     ran_now = a.line_after
 
     pub counted_now : p.steps ≡ made p.number led.acts
-    counted_now = my.counts
+    counted_now = my.counts.steps_are
 
     pub counts_now : made p.number after_acts ≡ 1 + made p.number led.acts
     counts_now = a.counts
@@ -293,14 +335,18 @@ module _ {T L O : Type 0} {names : Names L O} (m : Machine T L O names) where
     pub own : Fits after_acts view_now
     own = record {
       lines = λ y same. subst (λ (k : L). IsSame names m.core k (quiet names out)) (sym (ap (state after_acts).line same ∙ a.line_after)) (quiet_same out);
-      counts = let c : p.steps ≡ made p.number led.acts = my.counts in let d = a.counts in omega arith;
-      sees = λ busy. subst (λ (b : Bool). Seen names m.core after_acts (cond b (rested {L = L} (stepped newer p)) going).now p.number) (sym (sym (quiet_idle out) ∙ busy)) (record { others = []; is = refl; same = λ f none. refl });
+      counts = record {
+        steps_are = let c : p.steps ≡ made p.number led.acts = my.counts.steps_are in let d = a.counts in omega arith;
+        answers_are = ap (λ (told : List (Answered T)). answers_at names m.core told out) my.counts.answers_are ∙ sym a.replies;
+      };
+      sees = λ busy. subst (λ (b : Bool). Seen names m.core after_acts (cond b (rested {L = L} (stepped newer (answers_at names m.core p.answers out) p)) going).now p.number) (sym (sym (quiet_idle out) ∙ busy)) (record { others = []; is = refl; same = λ f none. refl });
     }
 
     abbrev pub led_step : (memory' : m.core.Memory) → m.core.after memory p.number now_at ≡ memory' → Led names m.core memory' (set views id view_now) newer
     led_step memory' is = record {
       acts = after_acts;
       allowed = a.allowed_after;
+      proper = a.proper_after;
       memory_is = a.memory_after ∙ is;
       history_is = a.history_after;
       each = λ j v e. ⊎_elim
@@ -313,8 +359,8 @@ module _ {T L O : Type 0} {names : Names L O} (m : Machine T L O names) where
   -- a load that belongs to no line counts as a step of the seat's first pass
   abbrev looking : Acts L → View T L → Acts L
   looking acts (AtPass p begun l) = (p.number, Looks) ∷ acts
-  looking acts (AtMeeting p k q l) = (p.number, Looks) ∷ acts
-  looking acts (AtHearing p l told) = (p.number, Looks) ∷ acts
+  looking acts (AtMeeting p k q l) = (p.number, Hears) ∷ acts
+  looking acts (AtHearing p l told) = (p.number, Hears) ∷ acts
   looking acts v = acts
 
   module _ (acts : Acts L) where
@@ -328,17 +374,37 @@ module _ {T L O : Type 0} {names : Names L O} (m : Machine T L O names) where
     looking_allowed (AtHearing p l told) a = (tt, a)
     looking_allowed v a = a
 
+    looking_proper : (v : View T L) → MayLook m v → Proper acts → Proper (looking acts v)
+    looking_proper (AtPass p begun l) may a = (may, a)
+    looking_proper (AtMeeting p k q l) may a = (tt, a)
+    looking_proper (AtHearing p l told) may a = (tt, a)
+    looking_proper v may a = a
+
     one_more : (k n : ℕ) (d : ℕ) → k ≡ n → d ≡ 1 + n → k + 1 ≡ d
     one_more k n d e f = omega arith
 
     look_spares : (p : ℕ) → Spares p acts ((p, Looks) ∷ acts)
-    look_spares p = record { newer = (p, Looks) ∷ []; is = refl; lines = λ y ne. refl; counts = λ f y ne. sum_other f y p Looks acts ne }
+    look_spares p = record { newer = (p, Looks) ∷ []; is = refl; lines = λ y ne. refl; counts = λ f y ne. sum_other f y p Looks acts ne; replies = λ y ne. replies_other y p Looks acts ne }
+
+    hear_spares : (p : ℕ) → Spares p acts ((p, Hears) ∷ acts)
+    hear_spares p = record { newer = (p, Hears) ∷ []; is = refl; lines = λ y ne. refl; counts = λ f y ne. sum_other f y p Hears acts ne; replies = λ y ne. replies_other y p Hears acts ne }
+
+    -- a pass that hears what others have done has made one step more
+    hearing_done : (h : List (Event T)) (p : PassView T) → HasDone names m.core acts p.number p.steps p.answers
+        → HasDone names m.core ((p.number, Hears) ∷ acts) p.number (hearing h p).steps (hearing h p).answers
+    hearing_done h p d = record {
+      steps_are = one_more p.steps (made p.number acts) _ d.steps_are (sum_same counted p.number Hears acts);
+      answers_are = ap (λ (told : List (Answered T)). Heard ∷ told) d.answers_are ∙ sym (replies_same p.number Hears acts);
+    }
 
     looking_own : (h : List (Event T)) (v : View T L) → Knows h v → Fits acts v → Fits (looking acts v) (looked h v)
-    looking_own h (AtRoot r heard l) knows f = record { lines = f.lines; counts = f.counts; sees = tt }
+    looking_own h (AtRoot r heard l) knows f = record { lines = f.lines; counts = (f.counts.0, f.counts.1); sees = tt }
     looking_own h (AtPass p begun l) knows f = record {
       lines = f.lines;
-      counts = one_more p.steps (made p.number acts) _ f.counts (sum_same counted p.number Looks acts);
+      counts = record {
+        steps_are = one_more p.steps (made p.number acts) _ f.counts.steps_are (sum_same counted p.number Looks acts);
+        answers_are = f.counts.answers_are ∙ sym (replies_same p.number Looks acts);
+      };
       sees = λ busy. let s = f.sees busy in record {
         others = (p.number, Looks) ∷ s.others;
         is = ap (λ (k : Acts L). (p.number, Looks) ∷ k) s.is;
@@ -348,25 +414,25 @@ module _ {T L O : Type 0} {names : Names L O} (m : Machine T L O names) where
     looking_own h (AtMeeting p k q l) knows f = record {
       lines = f.lines;
       counts = (
-        one_more p.steps (made p.number acts) _ f.counts.0 (sum_same counted p.number Looks acts),
-        f.counts.1 ∙ sym (sum_other counted q.number p.number Looks acts (λ e. knows.2 (sym e))),
+        hearing_done h p f.counts.0,
+        still_done p.number acts ((p.number, Hears) ∷ acts) (hear_spares p.number) q.number q.steps q.answers (λ e. knows.2 (sym e)) f.counts.1,
       );
       sees = f.sees;
     }
     looking_own h (AtNote told) knows f = record { lines = f.lines; counts = tt; sees = tt }
-    looking_own h (AtHearing p l told) knows f = record { lines = f.lines; counts = one_more p.steps (made p.number acts) _ f.counts (sum_same counted p.number Looks acts); sees = f.sees }
+    looking_own h (AtHearing p l told) knows f = record { lines = f.lines; counts = hearing_done h p f.counts; sees = f.sees }
     looking_own h Left knows f = record { lines = f.lines; counts = tt; sees = tt }
 
     looking_other : (v w : View T L) → ((x : ℕ) → Owns w x → Owns v x → ⊥) → Fits acts w → Fits (looking acts v) w
     looking_other (AtPass p begun l) w off f = spared p.number acts ((p.number, Looks) ∷ acts) (look_spares p.number) w (λ y o same. off y o same) f
-    looking_other (AtMeeting p k q l) w off f = spared p.number acts ((p.number, Looks) ∷ acts) (look_spares p.number) w (λ y o same. off y o (inl same)) f
-    looking_other (AtHearing p l told) w off f = spared p.number acts ((p.number, Looks) ∷ acts) (look_spares p.number) w (λ y o same. off y o same) f
+    looking_other (AtMeeting p k q l) w off f = spared p.number acts ((p.number, Hears) ∷ acts) (hear_spares p.number) w (λ y o same. off y o (inl same)) f
+    looking_other (AtHearing p l told) w off f = spared p.number acts ((p.number, Hears) ∷ acts) (hear_spares p.number) w (λ y o same. off y o same) f
     looking_other (AtRoot r heard l) w off f = f
     looking_other (AtNote told) w off f = f
     looking_other Left w off f = f
 
     -- a pass between its operations
-    rest_follows : (p : PassView T) (l : L) → IsQuiet names m.core l → names.is_idle ((state acts).line p.number) ≡ true → p.steps ≡ made p.number acts → Fits acts (at_rest l p)
+    rest_follows : (p : PassView T) (l : L) → IsQuiet names m.core l → names.is_idle ((state acts).line p.number) ≡ true → HasDone names m.core acts p.number p.steps p.answers → Fits acts (at_rest l p)
     rest_follows p l q idle counts = record {
       lines = λ y same. subst (λ (x : ℕ). IsSame names m.core ((state acts).line x) l) (sym same) (idle_same ((state acts).line p.number) l idle (idle_quiet l q));
       counts = counts;
@@ -374,7 +440,7 @@ module _ {T L O : Type 0} {names : Names L O} (m : Machine T L O names) where
     }
 
     left_follows : (v : View T L) → Fits acts v → Fits acts (left_of names.shares v)
-    left_follows (AtRoot r heard l) f = record { lines = λ y o. f.lines y (left_owns names.shares (AtRoot r heard l) y o); counts = λ y le. f.counts y (omega arith); sees = tt }
+    left_follows (AtRoot r heard l) f = record { lines = λ y o. f.lines y (left_owns names.shares (AtRoot r heard l) y o); counts = (λ y le. f.counts.0 y (omega arith), f.counts.1); sees = tt }
     left_follows (AtPass p begun l) f = f
     left_follows (AtMeeting p k q l) f = rest_follows p k f.sees.0 (f.lines p.number (inl refl)) f.counts.0
     left_follows (AtNote told) f = f
@@ -382,7 +448,7 @@ module _ {T L O : Type 0} {names : Names L O} (m : Machine T L O names) where
     left_follows Left f = f
 
     right_follows : (v : View T L) → MayCut m v → Fits acts v → Fits acts (right_of names.shares v)
-    right_follows (AtRoot r heard l) may f = rest_follows (new_pass r) (names.shares.gives l).1 (m.laws.gives_quiet may.0 l may.1 may.2) (f.lines r.given (inl (omega arith))) (sym (f.counts r.given (omega arith)))
+    right_follows (AtRoot r heard l) may f = rest_follows (new_pass r) (names.shares.gives l).1 (m.laws.gives_quiet may.0 l may.1 may.2) (f.lines r.given (inl (omega arith))) (f.counts.0 r.given (omega arith))
     right_follows (AtPass p begun l) may f = record { lines = λ y o. absurd o; counts = tt; sees = tt }
     right_follows (AtMeeting p k q l) may f = rest_follows q l f.sees.1 (f.lines q.number (inr refl)) f.counts.1
     right_follows (AtNote told) may f = f
@@ -392,7 +458,7 @@ module _ {T L O : Type 0} {names : Names L O} (m : Machine T L O names) where
     both_follows : (v w : View T L) → MayUnite m v w → Fits acts v → Fits acts w → Fits acts (both_of names.shares v w)
     both_follows (AtRoot r heard l) (AtPass p begun k) may f g = record {
       lines = λ y o. ⊎_elim (λ a. f.lines y a) (λ b. (g.lines y b).idle ∙ idle_quiet k may.1) (both_owns names.shares (AtRoot r heard l) (AtPass p begun k) y o);
-      counts = f.counts;
+      counts = (f.counts.0, ((inl refl, g.counts), worked_more acts r.account (p.number, own_events p.number p.seen) r.works f.counts.1));
       sees = tt;
     }
     both_follows (AtPass p begun k) (AtPass q begun' l) may f g = record {
@@ -404,10 +470,11 @@ module _ {T L O : Type 0} {names : Names L O} (m : Machine T L O names) where
     both_follows v w may f g = absurd may
 
   module _ (memory : m.core.Memory) (views : List (View T L)) (h : List (Event T)) (led : Led names m.core memory views h) (seated : Seated m.core.shape m.core.holding h views) where
-    pub led_look : (id : ℕ) (v : View T L) → get_elem? views id ≡ some v → Led names m.core memory (set views id (looked h v)) h
-    led_look id v mine = record {
+    pub led_look : (id : ℕ) (v : View T L) → MayLook m v → get_elem? views id ≡ some v → Led names m.core memory (set views id (looked h v)) h
+    led_look id v may mine = record {
       acts = looking led.acts v;
       allowed = looking_allowed led.acts v led.allowed;
+      proper = looking_proper led.acts v may led.proper;
       memory_is = ap (λ (k : N). k.memory) (looking_state led.acts v) ∙ led.memory_is;
       history_is = ap (λ (k : N). k.history) (looking_state led.acts v) ∙ led.history_is;
       each = λ j w e. ⊎_elim
@@ -421,6 +488,7 @@ module _ {T L O : Type 0} {names : Names L O} (m : Machine T L O names) where
     led_split id v may mine = record {
       acts = led.acts;
       allowed = led.allowed;
+      proper = led.proper;
       memory_is = led.memory_is;
       history_is = led.history_is;
       each = λ j w e. ⊎_elim
@@ -448,6 +516,7 @@ module _ {T L O : Type 0} {names : Names L O} (m : Machine T L O names) where
     led_join id other v w mine theirs may ne takes = record {
       acts = led.acts;
       allowed = led.allowed;
+      proper = led.proper;
       memory_is = led.memory_is;
       history_is = led.history_is;
       each = λ j u e. ⊎_elim
@@ -475,8 +544,9 @@ module _ {T L O : Type 0} {names : Names L O} (m : Machine T L O names) where
   led_first memory is = record {
     acts = [];
     allowed = tt;
+    proper = tt;
     memory_is = is;
     history_is = refl;
-    each = λ j v e. subst (Fits []) (only_first m.core.shape m.core.holding j (first_view m.core.stock) v e).1 (record { lines = λ y o. m.laws.fresh y; counts = λ y le. refl; sees = tt });
+    each = λ j v e. subst (Fits []) (only_first m.core.shape m.core.holding j (first_view m.core.stock) v e).1 (record { lines = λ y o. m.laws.fresh y; counts = (λ y le. record { steps_are = refl; answers_are = refl }, tt); sees = tt });
     owned = λ x. record { seat = 0; view = first_view m.core.stock; there = refl; owns = inl (omega arith) };
   }

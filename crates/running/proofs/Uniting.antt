@@ -9,7 +9,7 @@ use Rattle.machine.specs.declared.seats.View.{View}
 use Rattle.machine.specs.declared.seats.View.TheVariants.{AtRoot, AtMeeting, AtNote, AtHearing}
 use Rattle.machine.specs.Seats.{Looks, all_alike, at_rest, both_of, pass_of, told_of}
 use Rattle.running.specs.Machine.{Names, Machine, Core, Cuts, Unites, Shared}
-use Rattle.running.specs.Rule.{line_in, MayCut, MayUnite}
+use Rattle.running.specs.Rule.{line_in, MayCut, MayLook, MayUnite}
 
 module _ {T L O : Type 0} {names : Names L O} (m : Machine T L O names) where
   abbrev R : L → L
@@ -24,6 +24,16 @@ module _ {T L O : Type 0} {names : Names L O} (m : Machine T L O names) where
 
     pub unites_note : v ≡ at_rest (R (line_in names v)) (pass_of v) → w ≡ AtNote (told_of w) → MayUnite m v w
     unites_note ev ew = subst (λ (u : View T L). MayUnite m u w) (sym ev) (subst (MayUnite m (at_rest (R (line_in names v)) (pass_of v))) (sym ew) (m.laws.calm (line_in names v)))
+
+    -- what was made one may look what others have done
+    pub looks_root : (between : View T L) (r : RootView T) → v ≡ AtRoot r [] (line_in names v) → w ≡ at_rest (R (line_in names w)) (pass_of w) → between ≡ both_of names.shares v w → MayLook m between
+    looks_root between r ev ew e = subst (MayLook m) (sym (e ∙ (λ i. both_of names.shares (ev i) (ew i)))) tt
+
+    pub looks_passes : (between : View T L) → v ≡ at_rest (R (line_in names v)) (pass_of v) → w ≡ at_rest (R (line_in names w)) (pass_of w) → between ≡ both_of names.shares v w → MayLook m between
+    looks_passes between ev ew e = subst (MayLook m) (sym (e ∙ (λ i. both_of names.shares (ev i) (ew i)))) tt
+
+    pub looks_note : (between : View T L) → v ≡ at_rest (R (line_in names v)) (pass_of v) → w ≡ AtNote (told_of w) → between ≡ both_of names.shares v w → MayLook m between
+    looks_note between ev ew e = subst (MayLook m) (sym (e ∙ (λ i. both_of names.shares (ev i) (ew i)))) tt
 
     -- what was made one may be cut again, after a load
     pub cuts_passes : (between after : View T L) → v ≡ at_rest (R (line_in names v)) (pass_of v) → w ≡ at_rest (R (line_in names w)) (pass_of w) → between ≡ both_of names.shares v w → Looks m.core.shape between after → MayCut m after

@@ -5,11 +5,14 @@ use Rattle.std.specs.List.{AllByRecursion as Every}
 use mathlib.Core.Option.{some}
 use lib.ListN.{get_elem?}
 use Rattle.bounded_model.specs.declared.history.Event.{Event}
+use Rattle.bounded_model.specs.declared.views.Answered.{Answered}
+use Rattle.bounded_model.specs.declared.views.Answered.TheVariants.{Heard}
+use Rattle.bounded_model.specs.declared.views.Work.{Work}
 pub use Rattle.machine.specs.declared.seats.Doing.{Doing}
-pub use Rattle.machine.specs.declared.seats.Doing.TheVariants.{Begins, Steps, Looks}
+pub use Rattle.machine.specs.declared.seats.Doing.TheVariants.{Begins, Steps, Looks, Hears}
 use Rattle.machine.specs.declared.seats.View.{View}
 use Rattle.machine.specs.declared.seats.View.TheVariants.{AtRoot, AtPass, AtMeeting, AtNote, AtHearing, Left}
-use Rattle.machine.specs.Seats.{Acts, Owns}
+use Rattle.machine.specs.Seats.{Acts, Owns, IsJoined}
 use Rattle.running.specs.Machine.{Names, Core, IsQuiet}
 
 -- the memory, the line of each pass, and the history
@@ -26,16 +29,19 @@ abbrev pub counted : {L : Type 0} → Doing L → ℕ
 counted (Begins l) = 0
 counted Steps = 1
 counted Looks = 1
+counted Hears = 1
 
 abbrev pub is_step : {L : Type 0} → Doing L → ℕ
 is_step (Begins l) = 0
 is_step Steps = 1
 is_step Looks = 0
+is_step Hears = 0
 
 abbrev pub is_begin : {L : Type 0} → Doing L → ℕ
 is_begin (Begins l) = 1
 is_begin Steps = 0
 is_begin Looks = 0
+is_begin Hears = 0
 
 abbrev pub sum_of : {L : Type 0} → (Doing L → ℕ) → ℕ → Acts L → ℕ
 sum_of f x [] = 0
@@ -62,6 +68,7 @@ module _ {T L O : Type 0} (names : Names L O) (c : Core T L O) where
   after_act s p (Begins first) = if names.is_idle (s.line p) then record { memory = s.memory; line = placed s.line p first; history = s.history } else s
   after_act s p Steps = if names.is_idle (s.line p) then s else having_stepped s p (s.line p)
   after_act s p Looks = s
+  after_act s p Hears = s
 
   -- before the first act
   abbrev pub at_first : Now
@@ -74,19 +81,56 @@ module _ {T L O : Type 0} (names : Names L O) (c : Core T L O) where
   abbrev pub IsFirst : L → Type 0
   IsFirst l = (o : O) × (rest : L) × (l ≡ names.first o rest)
 
+  -- An act that does something: a pass between its operations begins one, one in an operation makes its step, and loads besides only if the
+  -- machine has such loads
+  abbrev pub IsProper : Now → ℕ → Doing L → Type 0
+  IsProper s p (Begins first) = names.is_idle (s.line p) ≡ true
+  IsProper s p Steps = names.is_idle (s.line p) ≡ false
+  IsProper s p Looks = c.Reads
+  IsProper s p Hears = Unit {0}
+
+  abbrev pub AllProper : Acts L → Type 0
+  AllProper [] = Unit {0}
+  AllProper (a ∷ older) = IsProper (played older) a.0 a.1 × AllProper older
+
   -- only operations of the container are begun
   abbrev pub IsAllowed : Doing L → Type 0
   IsAllowed (Begins first) = IsFirst first
   IsAllowed Steps = Unit {0}
   IsAllowed Looks = Unit {0}
+  IsAllowed Hears = Unit {0}
 
-  -- a seat's pass has made as many steps as its view counts, and a pass that is not given yet none
+  -- the answers of a pass, the newest first, once its step has led to this line
+  abbrev pub answers_at : List (Answered T) → L → List (Answered T)
+  answers_at answers l = if names.is_idle l then c.reply l ∷ answers else answers
+
+  abbrev pub answers_after : Now → ℕ → Doing L → List (Answered T) → List (Answered T)
+  answers_after s p (Begins first) answers = answers
+  answers_after s p Steps answers = if names.is_idle (s.line p) then answers else answers_at answers (c.lands s.memory p (s.line p))
+  answers_after s p Looks answers = answers
+  answers_after s p Hears answers = Heard ∷ answers
+
+  -- what the calls of pass x have answered in these acts
+  abbrev pub answers_in : ℕ → Acts L → List (Answered T)
+  answers_in x [] = []
+  answers_in x (a ∷ older) = if x == a.0 then answers_after (played older) a.0 a.1 (answers_in x older) else answers_in x older
+
+  -- pass x has made so many steps in these acts, and its calls have answered this
+  pub record HasDone (acts : Acts L) (x steps : ℕ) (answers : List (Answered T)) : Type 0 where
+    pub steps_are : steps ≡ made x acts
+    pub answers_are : answers ≡ answers_in x acts
+
+  -- a pass that was joined had done by then what the root keeps of it
+  abbrev pub Worked : Acts L → List (ℕ × List (Event T)) → Work T → Type 0
+  Worked acts account w = IsJoined w.number account × HasDone acts w.number w.steps w.answers
+
+  -- a seat's pass has done what its view says, a pass that is not given yet nothing, and a joined one what the root keeps of it
   abbrev pub Counts : Acts L → View T L → Type 0
-  Counts acts (AtRoot r heard l) = (x : ℕ) → r.given ≤ x → made x acts ≡ 0
-  Counts acts (AtPass p begun l) = p.steps ≡ made p.number acts
-  Counts acts (AtMeeting p k q l) = (p.steps ≡ made p.number acts) × (q.steps ≡ made q.number acts)
+  Counts acts (AtRoot r heard l) = ((x : ℕ) → r.given ≤ x → HasDone acts x 0 []) × Every (Worked acts r.account) r.works
+  Counts acts (AtPass p begun l) = HasDone acts p.number p.steps p.answers
+  Counts acts (AtMeeting p k q l) = HasDone acts p.number p.steps p.answers × HasDone acts q.number q.steps q.answers
   Counts acts (AtNote told) = Unit {0}
-  Counts acts (AtHearing p l told) = p.steps ≡ made p.number acts
+  Counts acts (AtHearing p l told) = HasDone acts p.number p.steps p.answers
   Counts acts Left = Unit {0}
 
   -- what a pass in an operation knows of the acts: those that it has seen, and since then it has done nothing but look
@@ -128,6 +172,7 @@ module _ {T L O : Type 0} (names : Names L O) (c : Core T L O) where
   pub record Led (memory : c.Memory) (views : List (View T L)) (history : List (Event T)) : Type 0 where
     pub acts : Acts L
     pub allowed : Every (λ a. IsAllowed a.1) acts
+    pub proper : AllProper acts
     pub memory_is : (played acts).memory ≡ memory
     pub history_is : (played acts).history ≡ history
     pub each : (j : ℕ) (v : View T L) → get_elem? views j ≡ some v → Follows (played acts).line acts v

@@ -26,6 +26,19 @@ module _ {T L : Type 0} where
   abbrev pub told_in : Note T L → List (Event T)
   told_in n = told_of n.seat.me.0
 
+-- The lines of passes and of the root, which tell what they have between their calls
+module _ {T L O : Type 0} (names : Names L O) where
+  abbrev pub pass_line : Pass T L → L
+  pass_line p = line_in names p.seat.me.0
+
+  abbrev pub root_line : Root T L → L
+  root_line r = line_in names r.seat.me.0
+
+  -- the root, r and then s, has shared its line with a new pass
+  pub record GivesLine (r s : Root T L) (p : Pass T L) : Type 0 where
+    pub root : root_line s ≡ (names.shares.gives (root_line r)).0
+    pub pass : pass_line p ≡ (names.shares.gives (root_line r)).1
+
 module _ {T L O : Type 0} {names : Names L O} (m : Machine T L O names) where
   -- a pass between its operations
   pub record IsPassOn (id : TableId) (p : Pass T L) : Type 0 where

@@ -5,6 +5,7 @@ use lib.ListN.{get_elem?}
 use Rattle.tagged_index.specs.Fields.{fields_of, number}
 use Rattle.tagged_index.specs.declared.word.TheConstants.{NULL}
 use Rattle.bounded_model.specs.declared.history.Event.{Event}
+use Rattle.bounded_model.specs.declared.views.Answered.{Answered}
 use Rattle.bounded_model.specs.Machine.{Shape}
 use Rattle.index_list.specs.Lists.{Holds, Distinct}
 use Rattle.index_list.specs.Steps.{Each, IsHome, numbers}
@@ -180,6 +181,8 @@ pub record Rules (T M L O : Type 0) : Type 1 where
   pub first : M
   pub shape : Shape
   pub holding : L → ℕ
+  pub reply : L → Answered T
+  pub Reads : Type 0
   pub rest : ℕ → L
   pub stock : L
   pub IsStock : ℕ → L → Type 0
@@ -198,6 +201,8 @@ module _ {T M P Q L O : Type 0} (b : Board T M P Q L) (r : Rules T M L O) where
     lands = λ m p l. (does b.memories (b.idle l) m p l (b.table l)).line;
     adds = λ m p l. (does b.memories (b.idle l) m p l (b.table l)).events;
     holding = r.holding;
+    reply = r.reply;
+    Reads = r.Reads;
     rest = r.rest;
     stock = r.stock;
     IsStock = r.IsStock;

@@ -48,7 +48,7 @@ impl<T, L, O: Drop, S> Op<T, L, O, S> {
         }
     }
 
-    /// One atomic step.
+    /// One step of the machine, which is one act of its pass.
     #[inline]
     pub fn step<C: HasTable<T, L, O, M>, M: ListMachine<T, L, O, N>, A, const N: usize>(
         self,

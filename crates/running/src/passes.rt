@@ -1,7 +1,17 @@
 //! The passes and the root of a container, for all machines.
 ghost use Rattle.std.specs.Prelude.{◌≡◌, ◌<◌, IfSome, MatchOption};
 ghost use Rattle.bounded_model.specs.Laws.{IsFullOfPasses, Splits, Joins, Heeds, MeetGives};
-ghost use Rattle.running.specs.Passes.{IsPassOn, IsRootOn, IsNoteOn, pass_in, root_in, told_in};
+ghost use Rattle.running.specs.Passes.{
+  IsPassOn,
+  IsRootOn,
+  IsNoteOn,
+  GivesLine,
+  pass_in,
+  root_in,
+  told_in,
+  pass_line,
+  root_line,
+};
 
 use crate::pause::Density;
 use crate::rule::{Machine, Running};
@@ -48,6 +58,9 @@ pub fn split<T, L, O, M: Machine<T, L, O>>(
         (λ p. IsPassOn (M.machine table.now.key) table.now.table_id p
         × Splits (M.machine table.now.key).core.shape
         (root_in parent.old) (root_in parent.new) (pass_in p)) }
+    ensures lines { MatchOption result
+        (root_line M.names parent.new ≡ root_line M.names parent.old)
+        (GivesLine M.names parent.old parent.new) }
 {
     if parent.out >= most {
         return None;
@@ -74,6 +87,8 @@ pub fn meet<T, L, O, M: Machine<T, L, O>>(
     ensures second { IsPassOn (M.machine table.now.key) table.now.table_id result.0
         × (pass_in result.0 ≡ pass_in second) }
     ensures gives { MeetGives (pass_in first.old) (pass_in second) (pass_in first.new) result.1 }
+    ensures lines { (pass_line M.names first.new ≡ pass_line M.names first.old)
+        × (pass_line M.names result.0 ≡ pass_line M.names second) }
 {
     let Pass { seat, density } = second;
     join_seats::<T, L, O, M>(table, &mut first.seat, seat);
@@ -94,6 +109,7 @@ pub fn make_note<T, L, O, M: Machine<T, L, O>>(
         × (pass_in by.new ≡ pass_in by.old) }
     ensures gives { IfSome result (λ n. IsNoteOn (M.machine table.now.key) table.now.table_id n
         × (told_in n ≡ (pass_in by.old).seen)) }
+    ensures lines { pass_line M.names by.new ≡ pass_line M.names by.old }
 {
     let seat = split_seat::<T, L, O, M>(table, &mut by.seat);
     Some(Note { seat })
@@ -110,6 +126,7 @@ pub fn heed<T, L, O, M: Machine<T, L, O>>(
     requires note { IsNoteOn (M.machine table.now.key) table.now.table_id note }
     ensures of { IsPassOn (M.machine table.now.key) table.now.table_id by.new }
     ensures gives { Heeds (pass_in by.old) (told_in note) (pass_in by.new) }
+    ensures lines { pass_line M.names by.new ≡ pass_line M.names by.old }
 {
     let Note { seat } = note;
     join_seats::<T, L, O, M>(table, &mut by.seat, seat);
@@ -129,6 +146,8 @@ pub fn join<T, L, O, M: Machine<T, L, O>>(
     requires pass { IsPassOn (M.machine table.now.key) table.now.table_id by }
     ensures root { IsRootOn (M.machine table.now.key) table.now.table_id parent.new }
     ensures gives { Joins (root_in parent.old) (pass_in by) (root_in parent.new) }
+    ensures lines { root_line M.names parent.new
+        ≡ M.names.shares.takes (root_line M.names parent.old) (pass_line M.names by) }
 {
     let Pass { seat, .. } = by;
     join_seats::<T, L, O, M>(table, &mut parent.seat, seat);

@@ -1,5 +1,5 @@
 -- What the code is told at a line of the stack.
-use Rattle.std.specs.Prelude.{◌≡◌, ◌≢◌, ℕ, ◌<◌, ◌≤◌, List, [], ◌∷◌, Option as Slot, Some, None, map}
+use Rattle.std.specs.Prelude.{◌≡◌, ◌≢◌, ℕ, ◌<◌, ◌≤◌, List, [], ◌∷◌, Option as Slot, Some, None, Ok, Err, map}
 use Rattle.tagged_index.specs.Fields.{index_of}
 use Rattle.tagged_index.specs.declared.word.TheConstants.{NULL}
 use Rattle.index_list.specs.declared.front.Front.{Front}
@@ -7,15 +7,19 @@ use Rattle.index_list.specs.declared.front.Front.TheVariants.{First, Last}
 use Rattle.stack_machine.specs.declared.lines.Direction.{Direction}
 use Rattle.stack_machine.specs.declared.lines.Direction.TheVariants.{Down, Up}
 use Rattle.stack_machine.specs.declared.lines.Taking.TheVariants.{One, Whole}
+use Rattle.bounded_model.specs.declared.views.Answered.{Answered}
+use Rattle.bounded_model.specs.declared.views.Answered.TheVariants.{Put as PutAnswered, Take as TakeAnswered, Fold as FoldAnswered, Close as CloseAnswered, Shut as ShutAnswered, Look as LookAnswered, Gauge as GaugeAnswered, Heard}
+use Rattle.stack_machine.specs.declared.lines.Answer.{Answer}
+use Rattle.stack_machine.specs.declared.lines.Answer.TheVariants.{Put as AnswerPut, Take as AnswerTake, Fold as AnswerFold, Close as AnswerClose, Shut as AnswerShut, Look as AnswerLook, Gauge as AnswerGauge}
 use Rattle.stack_machine.specs.declared.lines.Call.{Call}
-use Rattle.stack_machine.specs.declared.lines.Call.TheVariants.{Put as CallPut, Take as CallTake, Close as CallClose, Shut as CallShut, Look as CallLook}
+use Rattle.stack_machine.specs.declared.lines.Call.TheVariants.{Put as CallPut, Take as CallTake, Close as CallClose, Shut as CallShut, Look as CallLook, Gauge as CallGauge}
 use Rattle.stack_machine.specs.declared.lines.Line.{Line}
 use Rattle.stack_machine.specs.declared.lines.Line.TheVariants.{Idle, LoadFree, LoadFreeLink, TakeFree, LoadTopToTake, LoadTopLink, TakeTop, TakeChain, LoadLinkToTurn, LoadLinkToFold}
 use Rattle.stack_machine.specs.Machine.{is_idle, starts, is_up, took, took_all, table}
 use Rattle.machine.specs.Seats.{all_alike}
 use Rattle.running.specs.Machine.{Names}
 use Rattle.stack_table.specs.declared.operation.Operation.{Operation}
-use Rattle.stack_table.specs.declared.operation.Operation.TheVariants.{Put as PutFirst, Take as TakeFirst, Close as CloseFirst, Shut as ShutFirst, Look as LookFirst, Fold as FoldFirst}
+use Rattle.stack_table.specs.declared.operation.Operation.TheVariants.{Put as PutFirst, Take as TakeFirst, Close as CloseFirst, Shut as ShutFirst, Look as LookFirst, Fold as FoldFirst, Gauge as GaugeFirst}
 use Rattle.stack_table.specs.declared.operation.Listed.{Listed}
 use Rattle.stack_table.specs.declared.operation.Listed.TheVariants.{End, More'}
 use mathlib.Core.Option.{some}
@@ -45,6 +49,22 @@ module _ {T : Type 0} where
   call_of ShutFirst = CallShut
   call_of LookFirst = CallLook
   call_of (FoldFirst front) = CallTake (Whole (direction front))
+  call_of GaugeFirst = CallGauge
+
+  -- what its call has answered, of a pass that is idle at this line
+  abbrev pub answered : Answer T → Answered T
+  answered (AnswerPut (Ok r)) = PutAnswered (Ok r.0)
+  answered (AnswerPut (Err why)) = PutAnswered (Err why)
+  answered (AnswerTake r) = TakeAnswered r
+  answered (AnswerFold r) = FoldAnswered r
+  answered (AnswerClose b) = CloseAnswered b
+  answered (AnswerShut b) = ShutAnswered b
+  answered (AnswerLook b) = LookAnswered b
+  answered (AnswerGauge closed used) = GaugeAnswered closed used
+
+  abbrev pub reply : Line T → Answered T
+  reply (Idle (Some a)) = answered a
+  reply l = Heard
 
   abbrev pub first_line : Operation T → Line T
   first_line o = starts (call_of o)

@@ -17,6 +17,7 @@ pub enum Operation<T> {
     Look,
     /// A fold of all values, from the first on top down or from the last up.
     Fold(Front),
+    Gauge,
 }
 
 /// Which values stand in some places. It has none of them, and is for proofs alone: a put that is

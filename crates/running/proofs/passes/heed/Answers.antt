@@ -2,8 +2,8 @@ use Rattle.std.proofs.Common.{ap, ◌∙◌}
 use Rattle.running.specs.Rule.{line_in}
 use Rattle.machine.proofs.SeatedCalls.{heed_view}
 use Rattle.running.proofs.Acts.{note_takes}
-use Rattle.running.proofs.Going.{rests_view}
-use Rattle.running.proofs.Uniting.{unites_note, cuts_note}
+use Rattle.running.proofs.Going.{rests_view, rests_still}
+use Rattle.running.proofs.Uniting.{unites_note, looks_note, cuts_note}
 use Rattle.running.proofs.passes.heed.Goals as goal
 
 pub join_seats-requires-clause-empty : goal.join_seats-requires-clause-empty
@@ -11,6 +11,10 @@ join_seats-requires-clause-empty g c = c.requires.note.slots
 
 pub join_seats-requires-clause-may : goal.join_seats-requires-clause-may
 join_seats-requires-clause-may g c = unites_note (g.M.Machine.machine c.args.table.now.key) c.args.by.now.seat.me.0 c.args.note.seat.me.0 c.requires.pass.rests.view c.requires.note.view
+
+pub look_round-requires-clause-may : goal.look_round-requires-clause-may
+look_round-requires-clause-may g c =
+    looks_note (g.M.Machine.machine c.args.table.now.key) c.args.by.now.seat.me.0 c.args.note.seat.me.0 c.join_seats.new.seat.me.0 c.requires.pass.rests.view c.requires.note.view (ap (λ m. m.0) c.join_seats.ensures.both)
 
 pub split_seat-requires-clause-may : goal.split_seat-requires-clause-may
 split_seat-requires-clause-may g c =
@@ -41,3 +45,10 @@ returns-clause-gives g c =
 
 pub join_seats-requires-clause-owns : goal.join_seats-requires-clause-owns
 join_seats-requires-clause-owns g c = note_takes (g.M.Machine.machine c.args.table.now.key) c.args.by.now.seat.me.0 c.args.note.seat.me.0 _ c.requires.note.view
+
+pub returns-clause-lines : goal.returns-clause-lines
+returns-clause-lines g c =
+    let m = g.M.Machine.machine c.args.table.now.key in
+    let v = heed_view m.core.shape g.M.Machine.names.shares (g.M.Machine.names.quiet (line_in g.M.Machine.names c.args.by.now.seat.me.0)) c.args.by.now.seat.me.0 c.args.note.seat.me.0 c.join_seats.new.seat.me.0 c.look_round.new.seat.me.0 c.split_seat.new.seat.me.0
+    c.requires.pass.rests.view c.requires.note.view (ap (λ m. m.0) c.join_seats.ensures.both) c.look_round.ensures.looks (ap (λ m. m.0) c.split_seat.ensures.left) in
+    rests_still m c.args.by.now.seat.me.0 c.split_seat.new.seat.me.0 c.requires.pass.rests.view v.pass

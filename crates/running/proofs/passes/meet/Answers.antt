@@ -3,8 +3,8 @@ use Rattle.bounded_model.specs.Laws.{IsAtRest}
 use Rattle.running.specs.Rule.{line_in}
 use Rattle.machine.proofs.SeatedCalls.{meet_view}
 use Rattle.running.proofs.Acts.{pass_takes}
-use Rattle.running.proofs.Going.{rests_view}
-use Rattle.running.proofs.Uniting.{unites_passes, cuts_passes}
+use Rattle.running.proofs.Going.{rests_view, rests_still}
+use Rattle.running.proofs.Uniting.{unites_passes, looks_passes, cuts_passes}
 use Rattle.running.proofs.passes.meet.Goals as goal
 
 pub join_seats-requires-clause-empty : goal.join_seats-requires-clause-empty
@@ -14,6 +14,10 @@ pub join_seats-requires-clause-may : goal.join_seats-requires-clause-may
 join_seats-requires-clause-may g c =
     let m = g.M.Machine.machine c.args.table.now.key in
     unites_passes m c.args.first.now.seat.me.0 c.args.second.seat.me.0 c.requires.first.rests.view c.requires.second.rests.view
+
+pub look_round-requires-clause-may : goal.look_round-requires-clause-may
+look_round-requires-clause-may g c =
+    looks_passes (g.M.Machine.machine c.args.table.now.key) c.args.first.now.seat.me.0 c.args.second.seat.me.0 c.join_seats.new.seat.me.0 c.requires.first.rests.view c.requires.second.rests.view (ap (λ m. m.0) c.join_seats.ensures.both)
 
 pub split_seat-seat-requires-clause-may : goal.split_seat-seat-requires-clause-may
 split_seat-seat-requires-clause-may g c =
@@ -58,3 +62,13 @@ returns-clause-gives g c =
 
 pub join_seats-requires-clause-owns : goal.join_seats-requires-clause-owns
 join_seats-requires-clause-owns g c = pass_takes (g.M.Machine.machine c.args.table.now.key) c.args.first.now.seat.me.0 c.args.second.seat.me.0 _ _ _ _ _ _ c.requires.first.rests.view c.requires.second.rests.view
+
+pub returns-clause-lines : goal.returns-clause-lines
+returns-clause-lines g c =
+    let m = g.M.Machine.machine c.args.table.now.key in
+    let e = c.split_seat-seat.ensures in
+    let v = meet_view m.core.shape g.M.Machine.names.shares (g.M.Machine.names.quiet (line_in g.M.Machine.names c.args.first.now.seat.me.0)) (g.M.Machine.names.quiet (line_in g.M.Machine.names c.args.second.seat.me.0)) c.args.first.now.seat.me.0 c.args.second.seat.me.0 c.join_seats.new.seat.me.0 c.look_round.new.seat.me.0 c.split_seat-seat.new.seat.me.0 c.split_seat-seat.result.me.0
+    c.requires.first.rests.view c.requires.second.rests.view (ap (λ m. m.0) c.join_seats.ensures.both) c.look_round.ensures.looks (ap (λ m. m.0) e.left) (ap (λ m. m.0) e.right) in (
+      rests_still m c.args.first.now.seat.me.0 c.split_seat-seat.new.seat.me.0 c.requires.first.rests.view v.first,
+      rests_still m c.args.second.seat.me.0 c.split_seat-seat.result.me.0 c.requires.second.rests.view v.second,
+    )
