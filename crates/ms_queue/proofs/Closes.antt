@@ -67,7 +67,7 @@ module _ {T : Type 0} (c : Queue T) where
 abbrev pub marking : Next Seek End → Next CloseAt Bool
 marking (On at) = On (Seeking at)
 marking (Lost at) = Lost (Seeking at)
-marking (Done EndClosed) = Done false
+marking (Done (EndClosed w)) = Done false
 marking (Done (Open w x)) = On (Mark w x)
 
 module _ {T : Type 0} (c : Queue T) where
@@ -80,7 +80,7 @@ module _ {T : Type 0} (c : Queue T) where
   follows : (s : CloseAt) (has : List (ℕ × Slot T)) (to : Next Seek End) (l : Line T) → Seeks c l ToClose [] has to → ClosesTo s has (marking to) l
   follows s has (On at) l e = record { same = refl; is = e.0; busy = busy {T = T} ToClose at; hand = e.1; knows = e.2 }
   follows s has (Lost at) l e = record { same = refl; is = e.0; busy = busy {T = T} ToClose at; hand = e.1; knows = e.2 }
-  follows s has (Done EndClosed) l e = record { is = e.0; hand = e.1 }
+  follows s has (Done (EndClosed w)) l e = record { is = e.0; hand = e.1 }
   follows s has (Done (Open w x)) l e = record { same = refl; is = e.0; busy = refl; hand = e.1; knows = e.2 }
 
   pub sought_close : {s : CloseAt} {at : Seek} → s ≡ Seeking at → (r : Outcome) (has : List (ℕ × Slot T)) → Came (machine_of c).core (close_line s) r [] has → (to : Next Seek End) → ((aim : Aim T) (had has : List (ℕ × Slot T)) → SoughtTo c aim at r had has to) → Closing s r has (marking to)

@@ -7,3 +7,4 @@ pub mod Takes
 pub mod Puts
 pub mod Stepping
 pub mod FastPath
+pub mod Gauges

@@ -137,13 +137,13 @@ module _ {T : Type 0} (c : Queue T) where
     abbrev pub barred : Onward Seek End → Onward (PutAt T) (Result ℕ (PutRefused T))
     barred (On at) = On (Refusing x at)
     barred (Lost at) = Lost (Refusing x at)
-    barred (Answered AtMark) = Answered (Err (Closed x))
+    barred (Answered (AtMark w)) = Answered (Err (Closed x))
     barred (Answered (AtNull w n)) = Answered (Err (Full x))
 
     barred_so : (at : Seek) (has : List (ℕ × Slot T)) (to : Onward Seek End) (l : Line T) → Seeks c l (ToRefuse x) [] has to → PutsTo (Refusing x at) has (barred to) l
     barred_so at has (On to) l e = record { same = refl; is = e.0; busy = busy (ToRefuse x) to; hand = e.1; knows = e.2 }
     barred_so at has (Lost to) l e = record { same = refl; is = e.0; busy = busy (ToRefuse x) to; hand = e.1; knows = e.2 }
-    barred_so at has (Answered AtMark) l e = record { is = e.0; hand = e.1 }
+    barred_so at has (Answered (AtMark w)) l e = record { is = e.0; hand = e.1 }
     barred_so at has (Answered (AtNull w n)) l e = record { is = e.0; hand = e.1 }
 
     pub sought_refusal : {s : PutAt T} {at : Seek} → s ≡ Refusing x at → (r : Outcome) (has : List (ℕ × Slot T)) → Came (machine_of c).core (put_line s) r (put_slots s) has → (to : Onward Seek End) → ((aim : Aim T) (had has : List (ℕ × Slot T)) → SoughtTo c aim at r had has to) → Putting s r has has (barred to)
@@ -173,7 +173,7 @@ module _ {T : Type 0} (c : Queue T) where
     sought_end w n is_end kept = sought_so (On (LinkNext shown held w n)) (λ l low f. let e = subst (Seeks c l aim hand had) is_end f in record { same = refl; is = e.0; busy = refl; hand = kept ∙ e.1; knows = (low, e.2.0, e.2.1) })
 
     -- the end has the mark, and the value moves out of the slot
-    pub sought_mark : (v : T) → to ≡ Answered AtMark → had ≡ (held.cell, Some v) ∷ rest had → has ≡ (held.cell, None) ∷ rest had → Putting s r had has (On (GiveBack (Closed v) held LoadNodes))
+    pub sought_mark : {w : ℕ} (v : T) → to ≡ Answered (AtMark w) → had ≡ (held.cell, Some v) ∷ rest had → has ≡ (held.cell, None) ∷ rest had → Putting s r had has (On (GiveBack (Closed v) held LoadNodes))
     sought_mark v is_mark value out = sought_so (On (GiveBack (Closed v) held LoadNodes)) (λ l low f.
         let e = subst (Seeks c l aim hand had) is_mark f in
         let same_one : shown.value ≡ v = one_value had [] (rest had) held.cell held.cell shown.value v e.1 value in

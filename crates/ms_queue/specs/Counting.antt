@@ -1,31 +1,32 @@
 -- Counts made by steps.
 use Rattle.std.specs.Prelude.{ℕ, ◌+◌, ◌<◌, []}
 use Rattle.tagged_index.specs.Fields.{fields_of, index_of}
-use Rattle.tagged_index.specs.Limits.{capacity_of, tag_limit_of}
+use Rattle.tagged_index.specs.Limits.{capacity_of}
 use Rattle.tagged_index.specs.declared.limit.Limits.{Limits}
 use Rattle.running.specs.Code.{Account, to_answer}
-use Rattle.running.specs.Steps.{Stands}
+use Rattle.running.specs.Ops.{IsUnderWay}
+use Rattle.running.specs.Steps.{Stands, Ran}
 use Rattle.queue_table.specs.declared.operation.Operation.{Operation}
-use Rattle.bounded_model.specs.declared.answers.Stepped.{Stepped}
-use Rattle.bounded_model.specs.declared.answers.Stepped.TheVariants.{Again, Done}
-use Rattle.bounded_model.specs.Laws.{LenGives}
 use Rattle.queue_machine.specs.declared.lines.Answer.TheVariants.{Len as AnswerLen}
 use Rattle.queue_machine.specs.declared.lines.Line.{Line}
 use Rattle.queue_machine.specs.declared.lines.Line.TheVariants.{LoadHeadToCount, LoadTailToCount, LoadNextToCount, CheckHeadToCount}
 use Rattle.queue_machine.specs.Machine.{ends}
 use Rattle.queue_table.specs.declared.operation.Operation.TheVariants.{Len as LenFirst}
-use Rattle.running.specs.Passes.{pass_in}
+use Rattle.running.specs.declared.code.Next.{Next}
 use Rattle.running.specs.declared.passes.Pass.{Pass}
-use Rattle.ms_queue.specs.declared.counting.LenOp.{LenOp}
+use Rattle.running.specs.declared.op.Op.{Op}
 use Rattle.ms_queue.specs.declared.counting.LenAt.{LenAt}
 use Rattle.ms_queue.specs.declared.counting.LenAt.TheVariants.{LoadHead, LoadTail, LoadNext, CheckHead}
 use Rattle.ms_queue.specs.declared.queue.Queue.{Queue}
-use Rattle.ms_queue.specs.Queue.{machine_of, room_of, shape_of, begun_of, IsPassOf, IsAt, OneLine, WentOn}
+use Rattle.ms_queue.specs.Queue.{machine_of}
 
 -- what was read names a node
 abbrev pub HasReadToCount : ℕ → LenAt → Type 0
 HasReadToCount n (LoadNext h w) = index_of w < n + 1
 HasReadToCount n at = Unit {0}
+
+abbrev pub LenOp : Type 0 → Type 0
+LenOp T = Op T (Line T) (Operation T) LenAt
 
 module _ {T : Type 0} where
   -- the machine's line
@@ -43,10 +44,9 @@ module _ {T : Type 0} where
   abbrev pub LenStands : Queue T → Pass T (Line T) → LenAt → Type 0
   LenStands c p at = Stands (machine_of c) (len_account c.table.shared.key) c.table.shared.table_id p at
 
-  abbrev pub IsCounting : Queue T → LenOp T → Type 0
-  IsCounting c op = LenStands c op.pass op.at
+  -- what some steps of it give
+  abbrev pub LenRan : Queue T → Operation T → Pass T (Line T) → Pass T (Line T) → Next LenAt ℕ → Type 0
+  LenRan c o p q r = Ran (machine_of c) (len_account c.table.shared.key) c.table.shared.table_id o p q r
 
-  -- what a step gives
-  abbrev pub LenStep : Queue T → Pass T (Line T) → LenAt → Stepped (LenOp T) (Pass T (Line T)) ℕ → Type 0
-  LenStep c p at (Again next) = IsCounting c next × WentOn c p next.pass (len_line at) (len_line next.at)
-  LenStep c p at (Done q k) = IsPassOf c q × LenGives (shape_of c) (begun_of c p) (pass_in q) k × OneLine c p q (len_line at) (ends (AnswerLen k))
+  abbrev pub IsCounting : Queue T → LenOp T → Type 0
+  IsCounting c op = IsUnderWay (machine_of c) (len_account c.table.shared.key) c.table.shared.table_id op

@@ -1,4 +1,4 @@
--- What the answers of a take, a close, a shut and a look tell: the laws of their operations.
+-- What the answers of a take, a close, a shut, a look and a count tell: the laws of their operations.
 use Rattle.std.specs.Prelude.{◌≡◌, ℕ, Bool, true, false, List, [], ◌∷◌, Result, Ok, Err}
 use Rattle.std.proofs.Common.{sym, ap, ◌∙◌}
 use Rattle.tagged_index.specs.Limits.{capacity_of, tag_limit_of}
@@ -9,17 +9,17 @@ use Rattle.bounded_model.specs.declared.history.Event.{Event}
 use Rattle.bounded_model.specs.declared.history.Event.TheVariants.{Take, Free, Close, Shut}
 use Rattle.bounded_model.specs.declared.views.PassView.{PassView}
 use Rattle.bounded_model.specs.Histories.{own}
-use Rattle.bounded_model.specs.Laws.{Adds, TakeGives, CloseGives, ShutGives, LookGives}
+use Rattle.bounded_model.specs.Laws.{Adds, TakeGives, CloseGives, ShutGives, LookGives, LenGives}
 use Rattle.bounded_model.specs.Machine.{Shape}
 use Rattle.machine.specs.Seats.{pass_of}
 use Rattle.machine.specs.declared.seats.View.{View}
-use Rattle.queue_machine.specs.declared.lines.Answer.TheVariants.{Take as AnswerTake, Close as AnswerClose, Shut as AnswerShut, Look as AnswerLook}
+use Rattle.queue_machine.specs.declared.lines.Answer.TheVariants.{Take as AnswerTake, Close as AnswerClose, Shut as AnswerShut, Look as AnswerLook, Len as AnswerLen}
 use Rattle.queue_machine.specs.declared.lines.Line.{Line}
 use Rattle.queue_machine.specs.Answers.{shape}
 use Rattle.queue_machine.specs.Machine.{ends}
 use Rattle.queue_table.proofs.Laws.{queue}
 use Rattle.queue_table.specs.declared.operation.Operation.{Operation}
-use Rattle.queue_table.specs.declared.operation.Operation.TheVariants.{Take as TakeFirst, Close as CloseFirst, Shut as ShutFirst, Look as LookFirst}
+use Rattle.queue_table.specs.declared.operation.Operation.TheVariants.{Take as TakeFirst, Close as CloseFirst, Shut as ShutFirst, Look as LookFirst, Len as LenFirst}
 use Rattle.queue_table.specs.Lines.{names}
 use Rattle.running.specs.Going.{Ended}
 use Rattle.running.specs.Machine as running
@@ -27,6 +27,7 @@ use Rattle.ms_queue.specs.declared.taking.TakeAt.{TakeAt}
 use Rattle.ms_queue.specs.declared.closing.CloseAt.{CloseAt}
 use Rattle.ms_queue.specs.declared.shutting.ShutAt.{ShutAt}
 use Rattle.ms_queue.specs.declared.looking.LookAt.{LookAt}
+use Rattle.ms_queue.specs.declared.counting.LenAt.{LenAt}
 
 abbrev pub shape_at : Limits → Shape
 shape_at k = shape (capacity_of k) (tag_limit_of k)
@@ -47,6 +48,9 @@ module _ {T : Type 0} (k : Limits) where
 
   abbrev pub look_promises : Operation T → PassView T → PassView T → Bool → Type 0
   look_promises o begun now b = LookGives (shape_at k) begun now b
+
+  abbrev pub len_promises : Operation T → PassView T → PassView T → ℕ → Type 0
+  len_promises o begun now n = LenGives (shape_at k) begun now n
 
   -- an operation of any kind has added its own events
   adds_of : {o : Operation T} {v : View T (Line T)} {begun : PassView T} {l : Line T} (e : Ended machine_at o v begun l) (events : List (Event T)) → own (pass_of v).number e.deeds.between ≡ events → Adds begun (pass_of v) events
@@ -75,3 +79,6 @@ module _ {T : Type 0} (k : Limits) where
 
   pub look_keeps : (at : LookAt) (v : View T (Line T)) (begun : PassView T) (b : Bool) → Ended machine_at LookFirst v begun (ends (AnswerLook b)) → LookGives (shape_at k) begun (pass_of v) b
   look_keeps at v begun b e = (adds_of e [] e.deeds.made, e.tells)
+
+  pub len_keeps : (at : LenAt) (v : View T (Line T)) (begun : PassView T) (n : ℕ) → Ended machine_at LenFirst v begun (ends (AnswerLen n)) → LenGives (shape_at k) begun (pass_of v) n
+  len_keeps at v begun n e = (adds_of e [] e.deeds.made, e.tells)

@@ -13,3 +13,5 @@ pub mod Putting
 pub mod Stepwise
 pub mod Trying
 pub mod KeepsAnswers
+pub mod Gauging
+pub mod KeepsGauge

@@ -1,27 +1,24 @@
 -- Looks made by steps.
 use Rattle.std.specs.Prelude.{ℕ, ◌+◌, ◌<◌, Bool, []}
 use Rattle.tagged_index.specs.Fields.{fields_of, index_of}
-use Rattle.tagged_index.specs.Limits.{capacity_of, tag_limit_of}
+use Rattle.tagged_index.specs.Limits.{capacity_of}
 use Rattle.tagged_index.specs.declared.limit.Limits.{Limits}
 use Rattle.running.specs.Code.{Account, to_answer}
 use Rattle.running.specs.Ops.{IsUnderWay}
-use Rattle.running.specs.Steps.{Stands}
+use Rattle.running.specs.Steps.{Stands, Ran}
 use Rattle.queue_table.specs.declared.operation.Operation.{Operation}
-use Rattle.bounded_model.specs.declared.answers.Stepped.{Stepped}
-use Rattle.bounded_model.specs.declared.answers.Stepped.TheVariants.{Again, Done}
-use Rattle.bounded_model.specs.Laws.{LookGives}
 use Rattle.queue_machine.specs.declared.lines.Answer.TheVariants.{Look as AnswerLook}
 use Rattle.queue_machine.specs.declared.lines.Line.{Line}
 use Rattle.queue_machine.specs.declared.lines.Line.TheVariants.{LoadHeadToLook, LoadNextToLook, CheckHeadToLook}
 use Rattle.queue_machine.specs.Machine.{ends}
 use Rattle.queue_table.specs.declared.operation.Operation.TheVariants.{Look as LookFirst}
-use Rattle.running.specs.Passes.{pass_in}
+use Rattle.running.specs.declared.code.Next.{Next}
 use Rattle.running.specs.declared.passes.Pass.{Pass}
 use Rattle.running.specs.declared.op.Op.{Op}
 use Rattle.ms_queue.specs.declared.looking.LookAt.{LookAt}
 use Rattle.ms_queue.specs.declared.looking.LookAt.TheVariants.{LoadHead, LoadNext, CheckHead}
 use Rattle.ms_queue.specs.declared.queue.Queue.{Queue}
-use Rattle.ms_queue.specs.Queue.{machine_of, room_of, shape_of, begun_of, IsPassOf, IsAt, OneLine, WentOn}
+use Rattle.ms_queue.specs.Queue.{machine_of}
 
 -- what was read names a node
 abbrev pub HasReadToLook : ℕ → LookAt → Type 0
@@ -46,6 +43,10 @@ module _ {T : Type 0} where
   -- a whole call is at this
   abbrev pub LookStands : Queue T → Pass T (Line T) → LookAt → Type 0
   LookStands c p at = Stands (machine_of c) (look_account c.table.shared.key) c.table.shared.table_id p at
+
+  -- what some steps of it give
+  abbrev pub LookRan : Queue T → Operation T → Pass T (Line T) → Pass T (Line T) → Next LookAt Bool → Type 0
+  LookRan c o p q r = Ran (machine_of c) (look_account c.table.shared.key) c.table.shared.table_id o p q r
 
   abbrev pub IsLooking : Queue T → LookOp T → Type 0
   IsLooking c op = IsUnderWay (machine_of c) (look_account c.table.shared.key) c.table.shared.table_id op

@@ -34,11 +34,11 @@ module _ {T : Type 0} where
 
   -- the line that the end of the chain leads to
   abbrev pub end_line : Seeking T → End → Line T
-  end_line s EndClosed = back_closed s
+  end_line s (EndClosed w) = back_closed s (fields_of w)
   end_line s (Open w x) = back_null s (fields_of w) (fields_of x)
 
   abbrev pub HasReadEnd : ℕ → ℕ → Seeking T → End → Type 0
-  HasReadEnd n limit s EndClosed = Unit {0}
+  HasReadEnd n limit s (EndClosed w) = Unit {0}
   HasReadEnd n limit s (Open w x) = (index_of w < n + 1) × HasRoom limit (back_null s (fields_of w) (fields_of x))
 
   -- what a step leads to, with these slots in hand before it and after it

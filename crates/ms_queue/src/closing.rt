@@ -1,6 +1,7 @@
 //! Closing a queue: the link of its last node gets the mark. By steps, and by a whole call.
+ghost use Rattle.bounded_model.specs.declared.views.Answered.TheVariants.{Close as CloseAnswered};
 ghost use Rattle.std.specs.Prelude.{◌≡◌};
-ghost use Rattle.bounded_model.specs.Laws.{CloseGives};
+ghost use Rattle.bounded_model.specs.Laws.{Answers, CloseGives};
 ghost use Rattle.running.specs.Passes.{pass_in};
 ghost use Rattle.ms_queue.specs.Closing.{IsClosing};
 ghost use Rattle.ms_queue.specs.Queue.{IsPassOf, begun_of, shape_of};
@@ -50,6 +51,7 @@ impl<T> Queue<T> {
         requires { IsPassOf self.now by }
         ensures gives { IsPassOf self.now result.0
             × CloseGives (shape_of self.now) (pass_in by) (pass_in result.0) result.1 }
+        ensures answered { Answers (pass_in by) (pass_in result.0) (CloseAnswered result.1) }
         ensures ran { WasRun self.now CloseFirst (pass_in by) result.0 (AnswerClose result.1) }
     {
         let table = &self.table.shared;
@@ -87,7 +89,7 @@ impl<T> Code<Queue<T>, T, Line<T>, Operation<T>, Queued, bool, 2> for CloseAt {
                 Next::On(at) => Next::On(CloseAt::Seeking(at)),
                 Next::Lost(at) => Next::Lost(CloseAt::Seeking(at)),
                 Next::Done(end) => match end {
-                    End::Closed => Next::Done(false),
+                    End::Closed(_) => Next::Done(false),
                     End::Open(tail, link) => Next::On(CloseAt::Mark(tail, link)),
                 },
             },

@@ -6,6 +6,7 @@ use std::sync::Wait;
 
 impl<T: Drop + Send> Container<T> for Queue<T> {
     ghost use Rattle.std.proofs.Common.{refl};
+    ghost use Rattle.bounded_model.proofs.Passes.{most_passes};
     ghost use Rattle.bounded_model.specs.declared.history.Order.TheVariants.{Fifo};
     ghost use Rattle.running.specs.Passes.{pass_in, root_in, told_in};
     ghost use Rattle.ms_queue.specs.Queue.{shape_of, IsPassOf, IsRootOf, IsNoteOf};
@@ -37,6 +38,8 @@ impl<T: Drop + Send> Container<T> for Queue<T> {
     ghost told = { told_in };
 
     ghost order_law = { λ c. refl };
+
+    ghost passes_law = { λ c. most_passes (shape_of c) refl };
 
     ghost pass_law = { λ c p is. is.rests.rests };
 

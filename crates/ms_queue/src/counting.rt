@@ -1,32 +1,32 @@
 //! How many values a queue holds: by steps, and by a whole call.
 ghost use Rattle.std.specs.Prelude.{◌≡◌};
 ghost use Rattle.bounded_model.specs.Laws.{LenGives};
+ghost use Rattle.queue_machine.specs.declared.lines.Answer.TheVariants.{Len as AnswerLen};
+ghost use Rattle.queue_table.specs.declared.operation.Operation.TheVariants.{Len as LenFirst};
 ghost use Rattle.running.specs.Passes.{pass_in};
-ghost use Rattle.ms_queue.specs.Counting.{IsCounting, LenStep};
+ghost use Rattle.ms_queue.specs.Counting.{IsCounting, LenRan};
 ghost use Rattle.ms_queue.specs.Queue.{IsPassOf, begun_of, shape_of};
+ghost use Rattle.ms_queue.specs.Ran.{WasRun};
 
 use crate::queue::{Pass, Queue};
 use crate::rule::Queued;
 use atomic_table::Seat;
-use bounded_model::Stepped;
 use machine::View;
 use queue_machine::Line;
 use queue_table::Operation;
 use queue_table::layout::{HEAD, TAIL, next};
-use running::{Access, Code, Next, Outcome, first_step, single_step, to_the_end};
+use running::{
+    Access, Call, Code, Next, Op, Outcome, any, aside, fast_step, first_step, to_the_end,
+};
 use std::sync::Wait;
 use tagged_index::{NULL, Tagged};
 
 /// A count that was begun.
-#[derive(Drop)]
-pub struct LenOp<T> {
-    pub(crate) pass: Pass<T>,
-    pub(crate) at: LenAt,
-}
+pub type LenOp<T> = Op<T, Line<T>, Operation<T>, LenAt>;
 
 /// The next step of a count, with what it has read.
-#[derive(Clone, Copy)]
-pub(crate) enum LenAt {
+#[derive(Drop)]
+pub enum LenAt {
     /// Load `HEAD`.
     LoadHead,
     /// Load `TAIL`.
@@ -39,11 +39,13 @@ pub(crate) enum LenAt {
 
 impl<T> Queue<T> {
     /// How many values the queue held at some time since its pass's last step before the call, from
-    /// 0 to the capacity. It retries while takes change the head.
+    /// 0 to the capacity. It retries while takes change the head. The call was a run of the machine's
+    /// steps.
     pub fn len<R: Wait>(&self, rt: &R, by: Pass<T>) -> (Pass<T>, u32)
         requires { IsPassOf self.now by }
         ensures of { IsPassOf self.now result.0 }
         ensures gives { LenGives (shape_of self.now) (pass_in by) (pass_in result.0) result.1 }
+        ensures ran { WasRun self.now LenFirst (pass_in by) result.0 (AnswerLen result.1) }
     {
         let table = &self.table.shared;
         let len = Operation::Len;
@@ -59,10 +61,30 @@ impl<T> Queue<T> {
         ensures { IsCounting self.now result
             × (begun_of self.now result.pass ≡ pass_in by) × (pass_in result.pass ≡ pass_in by) }
     {
-        LenOp {
-            pass: by,
-            at: LenAt::LoadHead,
-        }
+        Op::begin(self, by, Operation::Len, LenAt::LoadHead)
+    }
+
+    /// A count's four loads, as long as nobody changes the head.
+    #[inline]
+    pub(crate) fn len_fast(&self, by: Pass<T>, len: &Operation<T>) -> (Pass<T>, Next<LenAt, u64>)
+        requires named { len.now ≡ LenFirst }
+        requires pass { IsPassOf self.now by }
+        ensures { LenRan self.now len.now by result.0 result.1 }
+    {
+        let table = &self.table.shared;
+        let (pass, head) = fast_step!(
+            first_step(table, self, by, LenAt::LoadHead, len),
+            LenAt::LoadTail(head) => head
+        );
+        let (pass, head, tail) = fast_step!(
+            any(table, self, pass, LenAt::LoadTail(head), len),
+            LenAt::LoadNext(head, tail) => head, tail
+        );
+        let (pass, head, tail, link) = fast_step!(
+            any(table, self, pass, LenAt::LoadNext(head, tail), len),
+            LenAt::CheckHead(head, tail, link) => head, tail, link
+        );
+        any(table, self, pass, LenAt::CheckHead(head, tail, link), len)
     }
 }
 
@@ -109,18 +131,13 @@ impl<T> Code<Queue<T>, T, Line<T>, Operation<T>, Queued, u64, 2> for LenAt {
     }
 }
 
-impl<T> LenOp<T> {
-    /// One atomic step: a load. Returns how many values the queue held.
-    #[inline]
-    pub fn step(self, queue: &Queue<T>) -> Stepped<LenOp<T>, Pass<T>, u64>
-        requires { IsCounting queue.now self }
-        ensures { LenStep queue.now self.pass self.at result }
-    {
-        let table = &queue.table.shared;
-        let made = single_step(table, queue, self.pass, self.at, &Operation::Len);
-        match made {
-            Stepped::Again((pass, at)) => Stepped::Again(LenOp { pass, at }),
-            Stepped::Done(pass, count) => Stepped::Done(pass, count),
-        }
-    }
+impl<T> Call<Queue<T>, T, Line<T>, Operation<T>, Queued, u64, 2> for LenAt {
+    ghost use Rattle.std.specs.Prelude.{refl};
+    ghost use Rattle.ms_queue.specs.KeepsAnswers.{len_promises, len_keeps};
+
+    ghost promises = { len_promises };
+
+    ghost idle = { λ key o answer. refl };
+
+    ghost keeps = { len_keeps };
 }

@@ -1,9 +1,12 @@
 //! Looking whether a queue is empty: by steps, and by a whole call.
 ghost use Rattle.std.specs.Prelude.{◌≡◌};
 ghost use Rattle.bounded_model.specs.Laws.{LookGives};
+ghost use Rattle.queue_machine.specs.declared.lines.Answer.TheVariants.{Look as AnswerLook};
+ghost use Rattle.queue_table.specs.declared.operation.Operation.TheVariants.{Look as LookFirst};
 ghost use Rattle.running.specs.Passes.{pass_in};
 ghost use Rattle.ms_queue.specs.Queue.{IsPassOf, begun_of, shape_of};
-ghost use Rattle.ms_queue.specs.Looking.{IsLooking};
+ghost use Rattle.ms_queue.specs.Looking.{IsLooking, LookRan};
+ghost use Rattle.ms_queue.specs.Ran.{WasRun};
 
 use crate::queue::{Pass, Queue};
 use crate::rule::Queued;
@@ -12,7 +15,9 @@ use machine::seats::View;
 use queue_machine::Line;
 use queue_table::Operation;
 use queue_table::layout::{HEAD, next};
-use running::{Access, Call, Code, Next, Op, Outcome, first_step, to_the_end};
+use running::{
+    Access, Call, Code, Next, Op, Outcome, any, aside, fast_step, first_step, to_the_end,
+};
 use std::sync::Wait;
 use tagged_index::{NULL, Tagged};
 
@@ -32,11 +37,13 @@ pub enum LookAt {
 
 impl<T> Queue<T> {
     /// Whether the queue was empty at some time since its pass's last step before the call. It
-    /// retries while takes change the head. Called in `queue_tests`.
+    /// retries while takes change the head. The call was a run of the machine's steps. Called in
+    /// `queue_tests`.
     pub fn look<R: Wait>(&self, rt: &R, by: Pass<T>) -> (Pass<T>, bool)
         requires { IsPassOf self.now by }
         ensures of { IsPassOf self.now result.0 }
         ensures gives { LookGives (shape_of self.now) (pass_in by) (pass_in result.0) result.1 }
+        ensures ran { WasRun self.now LookFirst (pass_in by) result.0 (AnswerLook result.1) }
     {
         let table = &self.table.shared;
         let look = Operation::Look;
@@ -52,6 +59,29 @@ impl<T> Queue<T> {
             × (begun_of self.now result.pass ≡ pass_in by) × (pass_in result.pass ≡ pass_in by) }
     {
         Op::begin(self, by, Operation::Look, LookAt::LoadHead)
+    }
+
+    /// A look's three loads, as long as nobody changes the head.
+    #[inline(always)]
+    pub(crate) fn look_fast(
+        &self,
+        by: Pass<T>,
+        look: &Operation<T>,
+    ) -> (Pass<T>, Next<LookAt, bool>)
+        requires named { look.now ≡ LookFirst }
+        requires pass { IsPassOf self.now by }
+        ensures { LookRan self.now look.now by result.0 result.1 }
+    {
+        let table = &self.table.shared;
+        let (pass, head) = fast_step!(
+            first_step(table, self, by, LookAt::LoadHead, look),
+            LookAt::LoadNext(head) => head
+        );
+        let (pass, head, link) = fast_step!(
+            any(table, self, pass, LookAt::LoadNext(head), look),
+            LookAt::CheckHead(head, link) => head, link
+        );
+        any(table, self, pass, LookAt::CheckHead(head, link), look)
     }
 }
 

@@ -2,6 +2,8 @@
 ghost use Rattle.std.specs.Prelude.{◌≡◌};
 ghost use Rattle.ms_queue.specs.Putting.{PutStands, PutRan, put_of};
 ghost use Rattle.ms_queue.specs.Queue.{IsPassOf};
+ghost use Rattle.ms_queue.specs.declared.putting.PutAt.TheVariants.{Refusing};
+ghost use Rattle.ms_queue.specs.declared.seeking.Seek.TheVariants.{LoadTail as SeekTail};
 
 use crate::putting::{Answer, PutAt};
 use crate::queue::{Pass, Queue};
@@ -79,6 +81,24 @@ impl<T> Queue<T> {
             PutAt::LoadNodeLink(shown, cell, nodes),
             put,
         ));
+        any(table, self, pass, at, put)
+    }
+
+    /// Those that say why nothing can be put, where no cell is free.
+    #[inline(always)]
+    pub(crate) fn put_fast_refuse(
+        &self,
+        by: Pass<T>,
+        value: T,
+        put: &Operation<T>,
+    ) -> (Pass<T>, Next<PutAt<T>, Answer<T>>)
+        requires stands { PutStands self.now put.now by (Refusing value SeekTail) }
+        ensures { PutRan self.now put.now by result.0 result.1 }
+    {
+        let table = &self.table.shared;
+        let begun = PutAt::Refusing(value, Seek::LoadTail);
+        let (pass, at) = fast_step!(any(table, self, by, begun, put));
+        let (pass, at) = fast_step!(any(table, self, pass, at, put));
         any(table, self, pass, at, put)
     }
 

@@ -3,7 +3,7 @@
 ghost use Rattle.std.specs.Prelude.{◌≡◌, ◌≤◌};
 ghost use Rattle.tagged_index.specs.Fields.{number};
 ghost use Rattle.tagged_index.specs.declared.word.TheConstants.{MAX_TAG};
-ghost use Rattle.bounded_model.specs.Laws.{PutGives};
+ghost use Rattle.bounded_model.specs.Laws.{Answers, put_answered, PutGives};
 ghost use Rattle.queue_machine.specs.Machine.{null_word};
 ghost use Rattle.queue_machine.specs.declared.lines.Call.TheVariants.{Put as CallPut};
 ghost use Rattle.queue_table.specs.Lines.{call_of};
@@ -107,6 +107,7 @@ impl<T> Queue<T> {
         requires { IsPassOf self.now by }
         ensures gives { IsPassOf self.now result.0
             × PutGives (shape_of self.now) (pass_in by) value (pass_in result.0) result.1 }
+        ensures answered { Answers (pass_in by) (pass_in result.0) (put_answered result.1) }
         ensures ran { WasRun self.now (put_of value) (pass_in by) result.0 (AnswerPut result.1) }
     {
         let put = put_operation(&value);
@@ -186,7 +187,7 @@ impl<T> Code<Queue<T>, T, Line<T>, Operation<T>, Queued, Answer<T>, 2> for PutAt
                 Next::On(at) => Next::On(PutAt::Refusing(value, at)),
                 Next::Lost(at) => Next::Lost(PutAt::Refusing(value, at)),
                 Next::Done(end) => match end {
-                    End::Closed => Next::Done(Err(PutRefused::Closed(value))),
+                    End::Closed(_) => Next::Done(Err(PutRefused::Closed(value))),
                     End::Open(_, _) => Next::Done(Err(PutRefused::Full(value))),
                 },
             },
@@ -237,7 +238,7 @@ impl<T> Code<Queue<T>, T, Line<T>, Operation<T>, Queued, Answer<T>, 2> for PutAt
                 Next::On(at) => Next::On(PutAt::Seeking(shown, held, at)),
                 Next::Lost(at) => Next::Lost(PutAt::Seeking(shown, held, at)),
                 Next::Done(end) => match end {
-                    End::Closed => {
+                    End::Closed(_) => {
                         let value = move_out(&on.table.shared, seat, held.cell);
                         let why = PutRefused::Closed(value);
                         Next::On(PutAt::GiveBack(why, held, Give::LoadNodes))

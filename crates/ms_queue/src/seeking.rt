@@ -1,5 +1,5 @@
-//! Going to the end of the chain, to link a node there, to mark it, or to see why nothing can be
-//! put: the same steps for all three.
+//! Going to the end of the chain, to link a node there, to mark it, to see why nothing can be put, or
+//! to gauge the queue: the same steps for all four.
 ghost use Rattle.std.specs.Prelude.{ℕ, List, Option as Slot};
 ghost use Rattle.queue_machine.specs.declared.lines.Seeking.{Seeking};
 ghost use Rattle.queue_table.specs.Lists.{lists};
@@ -28,8 +28,8 @@ pub enum Seek {
 /// The end of the chain.
 #[derive(Clone, Copy)]
 pub enum End {
-    /// It has the mark.
-    Closed,
+    /// It has the mark: the tail.
+    Closed(Tagged),
     /// The tail, and the null link of its node.
     Open(Tagged, Tagged),
 }
@@ -69,7 +69,7 @@ impl<T> Queue<T> {
                     return Next::Lost(Seek::LoadTail);
                 }
                 if link.is_marked() {
-                    return Next::Done(End::Closed);
+                    return Next::Done(End::Closed(tail));
                 }
                 if link.index() == NULL {
                     return Next::Done(End::Open(tail, link));

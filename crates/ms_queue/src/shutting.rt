@@ -1,6 +1,7 @@
 //! Shutting a queue: its head gets the second mark. By steps, and by a whole call.
+ghost use Rattle.bounded_model.specs.declared.views.Answered.TheVariants.{Shut as ShutAnswered};
 ghost use Rattle.std.specs.Prelude.{◌≡◌};
-ghost use Rattle.bounded_model.specs.Laws.{ShutGives};
+ghost use Rattle.bounded_model.specs.Laws.{Answers, ShutGives};
 ghost use Rattle.running.specs.Passes.{pass_in};
 ghost use Rattle.ms_queue.specs.Queue.{IsPassOf, begun_of, shape_of};
 ghost use Rattle.ms_queue.specs.Shutting.{IsShutting};
@@ -49,6 +50,7 @@ impl<T> Queue<T> {
         requires { IsPassOf self.now by }
         ensures gives { IsPassOf self.now result.0
             × ShutGives (shape_of self.now) (pass_in by) (pass_in result.0) result.1 }
+        ensures answered { Answers (pass_in by) (pass_in result.0) (ShutAnswered result.1) }
         ensures ran { WasRun self.now ShutFirst (pass_in by) result.0 (AnswerShut result.1) }
     {
         let table = &self.table.shared;

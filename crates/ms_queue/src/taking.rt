@@ -1,6 +1,7 @@
 //! Taking one value: by steps, and by a whole call.
+ghost use Rattle.bounded_model.specs.declared.views.Answered.TheVariants.{Take as TakeAnswered};
 ghost use Rattle.std.specs.Prelude.{◌≡◌};
-ghost use Rattle.bounded_model.specs.Laws.{TakeGives};
+ghost use Rattle.bounded_model.specs.Laws.{Answers, TakeGives};
 ghost use Rattle.queue_table.specs.declared.operation.Operation.TheVariants.{Take as TakeFirst};
 ghost use Rattle.running.specs.Passes.{pass_in};
 ghost use Rattle.ms_queue.specs.Queue.{IsPassOf, begun_of, shape_of};
@@ -76,6 +77,7 @@ impl<T> Queue<T> {
         requires { IsPassOf self.now by }
         ensures gives { IsPassOf self.now result.0
             × TakeGives (shape_of self.now) (pass_in by) (pass_in result.0) result.1 }
+        ensures answered { Answers (pass_in by) (pass_in result.0) (TakeAnswered result.1) }
         ensures ran { WasRun self.now TakeFirst (pass_in by) result.0 (AnswerTake result.1) }
     {
         let take = Operation::Take;

@@ -1,28 +1,29 @@
--- What a close, a shut and a look give.
+-- What a close, a shut, a look and a gauge give.
 use Rattle.std.proofs.Common.{◌≡◌, ℕ, Bool, true, false, List, [], ◌∷◌, refl, sym, ap, ◌∙◌, subst}
 use Rattle.std.specs.Prelude.{Option as Slot}
 use Rattle.bounded_model.specs.declared.history.Event.{Event}
 use Rattle.bounded_model.specs.declared.history.Event.TheVariants.{Close, Shut as ShutEvent}
 use Rattle.bounded_model.specs.declared.views.PassView.{PassView}
 use Rattle.bounded_model.specs.Histories.{own}
-use Rattle.bounded_model.specs.Laws.{Adds, LookGives}
+use Rattle.bounded_model.specs.Laws.{Adds, LookGives, Answers}
 use Rattle.machine.specs.Seats.{pass_of}
 use Rattle.machine.specs.declared.seats.View.{View}
-use Rattle.stack_machine.specs.declared.lines.Answer.TheVariants.{Look as AnswerLook}
+use Rattle.stack_machine.specs.declared.lines.Answer.TheVariants.{Look as AnswerLook, Gauge as AnswerGauge}
 use Rattle.stack_machine.specs.declared.lines.Line.{Line}
 use Rattle.stack_machine.specs.Machine.{ends}
 use Rattle.stack_table.specs.declared.operation.Operation.{Operation}
-use Rattle.stack_table.specs.declared.operation.Operation.TheVariants.{Look as LookFirst}
+use Rattle.stack_table.specs.declared.operation.Operation.TheVariants.{Look as LookFirst, Gauge as GaugeFirst}
 use Rattle.running.specs.Going.{Ended}
 use Rattle.treiber_stack.specs.declared.stack.Stack.{Stack}
 use Rattle.treiber_stack.specs.declared.closing.Mark.{Mark}
 use Rattle.treiber_stack.specs.declared.closing.Mark.TheVariants.{Closed, Shut}
 use Rattle.treiber_stack.specs.declared.closing.MarkAt.{MarkAt}
 use Rattle.running.specs.Steps.{Stops}
-use Rattle.treiber_stack.specs.Closing.{mark_account, mark_name, mark_answer, mark_line, mark_ends, MarkGives, IsMarking, MarkGoes}
+use Rattle.treiber_stack.specs.Closing.{mark_account, mark_name, mark_answer, mark_line, MarkGives, IsMarking, MarkGoes, mark_answered}
 use Rattle.running.specs.declared.passes.Pass.{Pass}
 use Rattle.treiber_stack.specs.Ran.{WasRun}
-use Rattle.treiber_stack.specs.Stack.{machine_of, shape_of, pass_in, IsPassOf, WentOn}
+use Rattle.treiber_stack.specs.Gauging.{GaugeGives}
+use Rattle.treiber_stack.specs.Stack.{machine_of, room_of, limit_of, shape_of, pass_in, IsPassOf, WentOn}
 
 module _ {T : Type 0} (c : Stack T) where
   -- an operation of any kind has added its own events
@@ -45,6 +46,9 @@ module _ {T : Type 0} (c : Stack T) where
     pub look_gives : (b : Bool) → Ended (machine_of c) LookFirst v begun (ends (AnswerLook b)) → LookGives (shape_of c) begun (pass_of v) b
     look_gives b e = (adds_of e [] e.deeds.made, e.tells)
 
+    pub gauge_gives : (closed : Bool) (used : ℕ) → Ended (machine_of c) GaugeFirst v begun (ends (AnswerGauge closed used)) → GaugeGives (room_of c) (limit_of c) begun (pass_of v) (record { closed = closed; used = used })
+    gauge_gives closed used e = (adds_of e [] e.deeds.made, e.tells)
+
 -- a whole call that sets a mark has answered
 pub mark_stops : {T : Type 0} (c : Stack T) (mark : Mark) (done : Bool) (begun : PassView T) (q : Pass T (Line T)) → Stops (machine_of c) (mark_account c.table.shared.key) c.table.shared.table_id (mark_name mark) begun q done
     → IsPassOf c q × MarkGives mark (shape_of c) begun (pass_in q) done
@@ -56,6 +60,11 @@ pub mark_ran : {T : Type 0} (c : Stack T) (mark : Mark) (done : Bool) (begun : P
     → WasRun c (mark_name mark) begun q (mark_answer mark done)
 mark_ran c Closed done begun q e = e.1.ran refl
 mark_ran c Shut done begun q e = e.1.ran refl
+
+pub mark_has_answered : {T : Type 0} (c : Stack T) (mark : Mark) (done : Bool) (begun : PassView T) (q : Pass T (Line T)) → Stops (machine_of c) (mark_account c.table.shared.key) c.table.shared.table_id (mark_name mark) begun q done
+    → Answers begun (pass_in q) (mark_answered mark done)
+mark_has_answered c Closed done begun q e = e.1.answered
+mark_has_answered c Shut done begun q e = e.1.answered
 
 -- the name of the operation says the mark
 same_mark : {T : Type 0} (j k : Mark) → mark_name {T = T} j ≡ mark_name k → j ≡ k

@@ -4,6 +4,8 @@ use Rattle.std.proofs.Common.{◌≡◌, ◌≢◌, ℕ, zero, suc, ◌+◌, ◌
 use Rattle.std.specs.Prelude.{Option as Slot, Some, None}
 use Rattle.atomic_table.specs.Table.{rest}
 use Rattle.tagged_index.specs.declared.word.TheConstants.{NULL}
+use Rattle.machine.specs.Seats.{pass_of}
+use Rattle.machine.specs.declared.seats.View.{View}
 use Rattle.machine.specs.Words.{times}
 use Rattle.machine.specs.Chains.{first, last}
 use Rattle.machine.proofs.Chains.{first_in}
@@ -27,8 +29,9 @@ use Rattle.treiber_stack.specs.declared.stack.Stack.{Stack}
 use Rattle.treiber_stack.specs.declared.giving.Chain.{Chain}
 use Rattle.treiber_stack.specs.declared.range_steps.Held.{Held}
 use Rattle.treiber_stack.specs.declared.range_steps.RangeAt.TheVariants.{LoadFree as AtFree, Load as AtTop}
-use Rattle.treiber_stack.specs.Ranging.{putting, loaded, linking, HasTaken, IsFilling, IsRange, IsRangeAt}
-use Rattle.treiber_stack.specs.Stack.{room_of, machine_of, begun_of, IsAt, IsPassOf}
+use Rattle.treiber_stack.specs.Ran.{IsRange}
+use Rattle.treiber_stack.specs.Ranging.{putting, loaded, linking, HasTaken, IsFilling, IsRangeAt}
+use Rattle.treiber_stack.specs.Stack.{room_of, machine_of, pass_in, begun_of, IsAt, IsPassOf}
 use Rattle.treiber_stack.proofs.Gives.{moved, ready_step}
 use Rattle.treiber_stack.proofs.Loading.{next_value, loaded_more}
 use Rattle.treiber_stack.proofs.RangeSteps.{linking_busy, are_nodes}
@@ -102,6 +105,9 @@ module _ {T : Type 0} (c : Stack T) (o : Operation T) (vs : List T) where
         filled : IsAt c o r (linking h.chain after) (loaded after) × (begun_of c r ≡ begun_of c p)
         filled = moved c o p r (linking h.chain after) ((i, None) ∷ loaded (putting vs h.chain)) (loaded after) h.takes.at table (me ∙ ap (λ (zs : List (ℕ × Slot T)). (p.seat.me.0, zs)) slots)
 
+        same_steps : (pass_in r).steps ≡ (pass_in p).steps
+        same_steps = ap (λ (m : View T (Line T) × List (ℕ × Slot T)). (pass_of m.0).steps) me
+
         low_there : (j : ℕ) → 0 < times j (i ∷ h.chain) → j < room_of c
         low_there j there = two (same_or_not j i)
           where
@@ -110,7 +116,7 @@ module _ {T : Type 0} (c : Stack T) (o : Operation T) (vs : List T) where
             two (inr ne) = h.has.low j (let s = times_else j i h.chain ne in omega arith)
 
         -- the first node needs no link
-        pub fills_first : held'.count ≡ 0 → (nodes : Chain) → nodes ≡ record { first = i; last = i } → IsFilling c o r vs (record { chain = nodes; count = 1 }) × (begun_of c r ≡ begun_of c p)
+        pub fills_first : held'.count ≡ 0 → (nodes : Chain) → nodes ≡ record { first = i; last = i } → IsFilling c o r vs (record { chain = nodes; count = 1 }) × (begun_of c r ≡ begun_of c p) × ((pass_in r).steps ≤ (pass_in p).steps + 1)
         fills_first z nodes e =
             let none : h.chain ≡ [] = none_of h.chain (h.has.counted ∙ z) in (
               record {
@@ -125,6 +131,7 @@ module _ {T : Type 0} (c : Stack T) (o : Operation T) (vs : List T) where
                 at = subst (λ (xs : List ℕ). IsAt c o r (linking xs (putting vs (i ∷ xs))) (loaded (putting vs (i ∷ xs)))) none filled.0;
               },
               filled.1,
+              (let s = same_steps in omega (arith, s)),
             )
 
         -- a later one is linked to the one before it
@@ -162,7 +169,7 @@ module _ {T : Type 0} (c : Stack T) (o : Operation T) (vs : List T) where
                 omega (arith, one, out, room, counted)
 
             pub fills_more : s.seat.table_id ≡ r.seat.table_id → s.seat.me.1 ≡ r.seat.me.1
-                → IsFilling c o s vs (record { chain = record { first = i; last = held'.chain.last }; count = held'.count + 1 }) × (begun_of c s ≡ begun_of c p)
+                → IsFilling c o s vs (record { chain = record { first = i; last = held'.chain.last }; count = held'.count + 1 }) × (begun_of c s ≡ begun_of c p) × ((pass_in s).steps ≤ (pass_in p).steps + 1)
             fills_more table' same =
                 let on = goes_on (machine_of c) links s x [] steps table' (loaded after) (next_node after) (same ∙ links.at.has) refl (linking_busy [] after) in (
                   record {
@@ -177,4 +184,5 @@ module _ {T : Type 0} (c : Stack T) (o : Operation T) (vs : List T) where
                     at = on.0;
                   },
                   on.1.0 ∙ filled.1,
+                  (let same_as = same_steps in let one = on.1.1.1.steps in omega (arith, same_as, one)),
                 )

@@ -4,10 +4,11 @@ use Rattle.std.specs.Prelude.{take, Option as Slot, Ok, Err}
 use Rattle.bounded_model.specs.declared.answers.TakeRefused.{TakeRefused}
 use Rattle.bounded_model.specs.declared.answers.TakeRefused.TheVariants.{Shut}
 use Rattle.bounded_model.specs.declared.history.Event.TheVariants.{TakeAll as TakeAllEvent, Free}
+use Rattle.bounded_model.specs.declared.views.Answered.TheVariants.{Fold as FoldAnswered}
 use Rattle.bounded_model.specs.declared.views.PassView.{PassView}
 use Rattle.bounded_model.specs.Histories.{own}
 use Rattle.bounded_model.specs.Consumes.{Folds}
-use Rattle.bounded_model.specs.Laws.{TakesNothing, FoldGives}
+use Rattle.bounded_model.specs.Laws.{Answers, TakesNothing, FoldGives}
 use Rattle.index_list.specs.declared.front.Front.{Front}
 use Rattle.machine.specs.Seats.{pass_of}
 use Rattle.machine.specs.declared.seats.View.{View}
@@ -39,12 +40,12 @@ use Rattle.treiber_stack.specs.declared.folding.FoldStop.{FoldStop}
 use Rattle.treiber_stack.specs.declared.folding.FoldStop.TheVariants.{Yields, Ended as AllGone, Refused}
 use Rattle.treiber_stack.specs.declared.giving.Chain.{Chain}
 use Rattle.treiber_stack.specs.declared.giving.Give.{Give}
-use Rattle.treiber_stack.specs.Folding.{fold_account, nodes_of, folded_of, folding, front_of, gone, fold_operation, fold_line, fold_slots, fold_answer, fold_rest, HasReadToFold, FoldTold}
+use Rattle.treiber_stack.specs.Folding.{fold_account, nodes_of, folded_of, folding, front_of, gone, fold_line, fold_slots, HasReadToFold, FoldTold}
 use Rattle.treiber_stack.specs.FoldOp.{IsFolding, FoldTried}
 use Rattle.treiber_stack.specs.Giving.{GaveTo}
-use Rattle.treiber_stack.specs.Ran.{WasRun}
+use Rattle.treiber_stack.specs.Ran.{FoldAnswers, WasRun}
 use Rattle.treiber_stack.specs.Refusing.{RefusesTake}
-use Rattle.treiber_stack.specs.Stack.{room_of, limit_of, machine_of, shape_of, begun_of, IsAt}
+use Rattle.treiber_stack.specs.Stack.{room_of, limit_of, machine_of, shape_of, pass_in, begun_of, IsAt}
 use Rattle.treiber_stack.proofs.Closes.{adds_of}
 use Rattle.treiber_stack.proofs.Gives.{busy_giving, within, gave_within}
 
@@ -138,6 +139,15 @@ module _ {T : Type 0} (c : Stack T) where
     -- it was run, as one call
     pub all_ran : (b : Batch T) → stop ≡ AllGone b → WasRun c (FoldFirst front) (begun_of c op.pass) q (AnswerFold (Ok (folded_of b, b.number)))
     all_ran b e = (subst (FoldStops front (begun_of c op.pass) q) e stops).1.ran refl
+
+    pub all_answered : (b : Batch T) → stop ≡ AllGone b → FoldAnswers front (Ok (record { number = b.number; count = op.count })) (begun_of c op.pass) (pass_in q)
+    all_answered b e =
+        let r = (subst (FoldStops front (begun_of c op.pass) q) e stops).1 in
+        let made = r.deeds.made in
+        (made.values, fold_gives c front (folded_of b) b.number r, subst (λ (vs : List T). Answers (begun_of c op.pass) (pass_in q) (FoldAnswered (Ok (vs, b.number)))) made.order r.answered)
+
+    pub none_answered : (why : TakeRefused) → stop ≡ Refused why → FoldAnswers front (Err why) (begun_of c op.pass) (pass_in q)
+    none_answered why e = (subst (FoldStops front (begun_of c op.pass) q) e stops).1.answered
 
     pub none_ran : (why : TakeRefused) → stop ≡ Refused why → WasRun c (FoldFirst front) (begun_of c op.pass) q (AnswerFold (Err why))
     none_ran why e = (subst (FoldStops front (begun_of c op.pass) q) e stops).1.ran refl

@@ -2,6 +2,7 @@ pub mod Leftover
 pub mod Crossing
 pub mod Refusals
 pub mod Closes
+pub mod Answered
 pub mod Gives
 pub mod Takes
 pub mod RangeSteps
@@ -13,6 +14,8 @@ pub mod Turning
 pub mod Loading
 pub mod RangeGives
 pub mod RangeTrying
+pub mod CopySteps
+pub mod RangeTook
 pub mod Filling
 pub mod Restoring
 pub mod FastPath

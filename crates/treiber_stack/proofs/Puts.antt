@@ -1,30 +1,14 @@
 -- What a put gives, and where its steps lead.
-use Rattle.std.proofs.Common.{◌≡◌, ℕ, ◌<◌, List, [], ◌∷◌, length, refl, sym, ap, ◌∙◌, subst, append-nil, arith}
-use Rattle.std.specs.Prelude.{Option as Slot, Result, Ok, Err}
+use Rattle.std.proofs.Common.{ℕ, ◌<◌, List, refl}
+use Rattle.std.specs.Prelude.{Option as Slot, Result, Err}
 use Rattle.bounded_model.specs.declared.answers.PutRefused.{PutRefused}
-use Rattle.bounded_model.specs.declared.answers.PutRefused.TheVariants.{Full, Closed, Spent}
-use Rattle.bounded_model.specs.declared.history.Event.{Event}
-use Rattle.bounded_model.specs.declared.history.Event.TheVariants.{Put, Hold}
-use Rattle.bounded_model.specs.declared.views.PassView.{PassView}
-use Rattle.bounded_model.specs.Histories.{own}
-use Rattle.bounded_model.specs.Laws.{Adds, BacksOut, PutGives, holds_of, gave_back}
-use Rattle.machine.specs.Seats.{pass_of}
-use Rattle.machine.specs.declared.seats.View.{View}
-use Rattle.stack_machine.specs.declared.lines.Call.{Call}
-use Rattle.stack_machine.specs.declared.lines.Call.TheVariants.{Put as CallPut}
-use Rattle.stack_machine.specs.declared.lines.Line.{Line}
-use Rattle.stack_machine.specs.Machine.{ends}
-use Rattle.stack_machine.specs.Deeds.{Deeds, handed_back}
-use Rattle.stack_machine.proofs.Made.{made_refusal}
-use Rattle.stack_table.specs.declared.operation.Operation.{Operation}
-use Rattle.stack_table.specs.Lines.{call_of, names, next}
+use Rattle.stack_table.specs.Lines.{names, next}
 use Rattle.running.specs.Code.{Finding, Leads}
 use Rattle.running.specs.declared.access.Outcome.{Outcome}
 use Rattle.running.specs.declared.code.Next.{Next}
-use Rattle.running.specs.Going.{Ended}
 use Rattle.treiber_stack.specs.declared.stack.Stack.{Stack}
-use Rattle.treiber_stack.specs.Putting.{put_account, of_several, put_answer, put_of, put_value, put_line, put_slots, refusing, HasReadToPut}
-use Rattle.treiber_stack.specs.Stack.{room_of, limit_of, machine_of, shape_of}
+use Rattle.treiber_stack.specs.Putting.{put_account, put_line, put_slots, refusing}
+use Rattle.treiber_stack.specs.Stack.{room_of, limit_of, machine_of}
 use Rattle.treiber_stack.specs.declared.giving.Give.{Give}
 use Rattle.treiber_stack.specs.declared.putting.PutAt.{PutAt}
 use Rattle.treiber_stack.specs.declared.putting.PutAt.TheVariants.{GiveBack}

@@ -1,10 +1,11 @@
 -- What a range put gives, by its answer.
 use Rattle.std.proofs.Common.{◌≡◌, ℕ, zero, suc, ◌<◌, ◌≤◌, inl, inr, ⊎_elim, List, [], ◌∷◌, ◌++◌, map, length, take, drop, replicate, refl, sym, ap, ◌∙◌, subst, length-append, arith}
 use Rattle.std.proofs.lemmas.List.{length-drop}
-use Rattle.std.specs.Prelude.{Option as Slot, Some, None, Ok, Err}
+use Rattle.std.specs.Prelude.{Option as Slot, Some, None, Result, Ok, Err}
 use Rattle.bounded_model.specs.declared.answers.PutRefused.{PutRefused}
 use Rattle.bounded_model.specs.declared.answers.PutRefused.TheVariants.{Full as PutFull, Closed as PutClosed, Spent as PutSpent}
 use Rattle.bounded_model.specs.declared.answers.Word.TheVariants.{Free as FreeWord, Top as TopWord}
+use Rattle.bounded_model.specs.declared.bulk.Ranged.{Ranged}
 use Rattle.bounded_model.specs.declared.bulk.RangeRefused.{RangeRefused}
 use Rattle.bounded_model.specs.declared.bulk.RangeRefused.TheVariants.{Nothing, Full, Closed, Spent}
 use Rattle.bounded_model.specs.declared.history.Event.TheVariants.{Put}
@@ -30,9 +31,10 @@ use Rattle.treiber_stack.specs.declared.range_steps.Held.{Held}
 use Rattle.treiber_stack.specs.declared.range_steps.RangeEnd.TheVariants.{Barred as IsBarred}
 use Rattle.treiber_stack.specs.declared.refusing.Barred.{Barred}
 use Rattle.treiber_stack.specs.declared.refusing.Barred.TheVariants.{Closed as BarredClosed, Spent as BarredSpent}
-use Rattle.treiber_stack.specs.Ranging.{NotPut, IsOver, IsRange, IsRefused, places_from, putting}
+use Rattle.treiber_stack.specs.Ran.{IsRange, RangeAnswers, WasRange, WasRun}
+use Rattle.treiber_stack.specs.Ranging.{NotPut, IsOver, IsRefused, places_from, putting}
 use Rattle.treiber_stack.specs.Refusing.{barring, barring_range}
-use Rattle.treiber_stack.specs.Stack.{machine_of, shape_of}
+use Rattle.treiber_stack.specs.Stack.{machine_of, shape_of, pass_in}
 use Rattle.treiber_stack.proofs.Closes.{adds_of}
 use Rattle.treiber_stack.proofs.Loading.{length_some, somes_taken, drop_some}
 
@@ -117,6 +119,24 @@ module _ {T : Type 0} (c : Stack T) (o : Operation T) {v : View T (Line T)} {beg
             (λ full. inr full)
             deeds.all;
       }
+
+-- a put of a range has answered, and was run as one call
+module _ {T : Type 0} (c : Stack T) (o : Operation T) (begun : PassView T) (p : Pass T (Line T)) (vs : List T) (is : IsRange o vs) where
+  abbrev RanTo : Result Ranged RangeRefused → Type 0
+  RanTo r = RangeAnswers vs r begun (pass_in p) × WasRange c begun vs r p
+
+  pub was_put : (chain : List ℕ) (k number : ℕ) → length chain ≡ k → Ended (machine_of c) o p.seat.me.0 begun (ends (AnswerPut (Ok (number, unplaced (putting vs chain))))) → RanTo (Ok (record { number = number; count = k }))
+  was_put chain k number counted e = (e.answered, (o, is, subst (λ (j : ℕ). WasRun c o begun p (AnswerPut (Ok (number, drop j vs)))) counted (e.ran refl)))
+
+  pub was_full : Ended (machine_of c) o p.seat.me.0 begun (ends (AnswerPut (Err (PutFull vs)))) → RanTo (Err Full)
+  was_full e = (e.answered, (o, is, e.ran refl))
+
+  pub was_spent : (t : ℕ) → Ended (machine_of c) o p.seat.me.0 begun (ends (AnswerPut (Err (PutSpent vs FreeWord t)))) → RanTo (Err (Spent FreeWord t))
+  was_spent t e = (e.answered, (o, is, e.ran refl))
+
+  pub was_barred : (why : Barred) → Ended (machine_of c) o p.seat.me.0 begun (ends (AnswerPut (Err (barring why vs)))) → RanTo (Err (barring_range why))
+  was_barred BarredClosed e = (e.answered, (o, is, e.ran refl))
+  was_barred (BarredSpent t) e = (e.answered, (o, is, e.ran refl))
 
 -- a range whose values go back
 pub is_refused : {T : Type 0} (c : Stack T) (o : Operation T) (v : PassView T) (p : Pass T (Line T)) (vs : List T) (held : Held) (why : Barred) → IsOver c o v p vs held (IsBarred why) → IsRefused c o p vs held why

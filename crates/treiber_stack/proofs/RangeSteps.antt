@@ -38,7 +38,7 @@ use Rattle.treiber_stack.specs.declared.refusing.NoNode.{NoNode}
 use Rattle.treiber_stack.specs.declared.refusing.NoNode.TheVariants.{NoneFree, Spent}
 use Rattle.treiber_stack.specs.Begun.{line_begun, put_begun}
 use Rattle.treiber_stack.specs.Giving.{AreNodes, GaveTo}
-use Rattle.treiber_stack.specs.Ranging.{range_account, loaded, linking, refused, range_stop, range_hand, at_operation, at_line, at_slots, AtKnows, stop_line, stop_hand, HasNodes, Stopped, TakesNode}
+use Rattle.treiber_stack.specs.Ranging.{range_account, loaded, linking, refused, range_stop, range_hand, at_line, at_slots, stop_line, stop_hand, HasNodes, Stopped, TakesNode}
 use Rattle.treiber_stack.specs.Refusing.{RefusesNode}
 use Rattle.treiber_stack.specs.Stack.{room_of, limit_of, machine_of, IsAt}
 use Rattle.treiber_stack.proofs.Gives.{within, gave_within}

@@ -32,7 +32,8 @@ use Rattle.treiber_stack.specs.declared.refusing.Barred.{Barred}
 use Rattle.treiber_stack.specs.declared.refusing.Barred.TheVariants as barred
 use Rattle.treiber_stack.specs.Begun.{put_at, put_begun}
 use Rattle.treiber_stack.specs.Giving.{AreNodes, give_line}
-use Rattle.treiber_stack.specs.Ranging.{range_account, at_operation, at_line, at_slots, AtKnows, stop_line, stop_hand, StopTold, HasNodes, HasRead, HasTaken, IsFilling, IsOver, IsRange, IsRangeAt, StopsSo, Told, ToldStop, putting, places_from, range_line, range_slots, refused, takes}
+use Rattle.treiber_stack.specs.Ran.{IsRange}
+use Rattle.treiber_stack.specs.Ranging.{range_account, at_operation, stop_line, StopTold, HasNodes, HasRead, HasTaken, IsFilling, IsOver, IsRangeAt, StopsSo, Told, ToldStop, putting, places_from, range_line, range_slots, refused, takes}
 use Rattle.treiber_stack.specs.RangeTrying.{HasStopped, IsRangeOf, IsRanging, RanOn, gives_back, places_at}
 use Rattle.treiber_stack.specs.Refusing.{barring}
 use Rattle.treiber_stack.specs.Stack.{room_of, machine_of, begun_of, IsAt, IsPassOf}
@@ -179,6 +180,13 @@ module _ {T : Type 0} (c : Stack T) (o : Operation T) (p : Pass T (Line T)) (vs 
           ran.2,
           on.2,
         )
+
+  -- one that has stopped with another end than with its nodes given back was not on its way back
+  pub not_back : (v : PassView T) (end : RangeEnd) → gave (Over end) ≡ false → HasStopped c o v p vs nodes at (Over end) → gives_back at ≡ false
+  not_back v end e h = (told_on (room_of c) nodes.count at (Over end) h.stops.0 e).0
+
+  pub took_not_back : (v : PassView T) (i : ℕ) → HasStopped c o v p vs nodes at (Took i) → gives_back at ≡ false
+  took_not_back v i h = (told_on (room_of c) nodes.count at (Took i) h.stops.0 refl).0
 
   -- what it has stopped with
   module _ (v : PassView T) (places : List (Slot T)) (are : places ≡ places_at (gives_back at) nodes.count vs) where

@@ -16,7 +16,7 @@ use Rattle.machine.specs.Seats.{Looks}
 use Rattle.machine.specs.declared.seats.Begun.{Begun}
 use Rattle.machine.specs.declared.seats.View.{View}
 use Rattle.running.specs.Acts.{Course, made}
-use Rattle.machine.specs.declared.seats.View.TheVariants.{AtPass}
+use Rattle.machine.specs.declared.seats.View.TheVariants.{AtRoot, AtPass, AtMeeting, AtNote, AtHearing, Left}
 use Rattle.machine.proofs.Lists.{times_here, times_append}
 use Rattle.stack_machine.specs.Deeds.{Deeds}
 use Rattle.stack_machine.specs.Machine.{starts, stacked}
@@ -35,7 +35,7 @@ use Rattle.stack_table.specs.Slots.{full, vacant}
 use Rattle.stack_table.specs.declared.operation.Operation.{Operation}
 use Rattle.stack_table.proofs.Slots.{vacant_append}
 use Rattle.running.specs.Going.{Going, Peeked, begun_in}
-use Rattle.running.specs.Rule.{line_in, line_now, begun_now}
+use Rattle.running.specs.Rule.{line_in, line_now, begun_now, MayLook}
 use Rattle.running.specs.declared.passes.Pass.{Pass}
 use Rattle.treiber_stack.specs.declared.giving.Give.TheVariants.{Load}
 use Rattle.treiber_stack.specs.declared.range_steps.Held.{Held}
@@ -82,6 +82,15 @@ module _ {T : Type 0} (c : Stack T) where
       let is : m.link i ≡ found = ap (λ (k : ℕ). slice_index peeked.words k) (sym e) ∙ peeked.is in
       ap index_of (sym is) ∙ plain_index (m.link i) (peeked.sane.plain (stacked.link i)) ∙ chain_link m.link before i next others (subst (λ (xs : List ℕ). IsChain m.link xs) parts gives.chained)
 
+  -- a stack's passes make such loads
+  pub may_look : (v : View T (Line T)) → MayLook (machine_of c) v
+  may_look (AtPass p begun l) = tt
+  may_look (AtRoot r heard l) = tt
+  may_look (AtMeeting p k q l) = tt
+  may_look (AtNote told) = tt
+  may_look (AtHearing p l told) = tt
+  may_look Left = tt
+
   module _ (o : Operation T) where
     no_start : (call : Call T) (giving : Giving T) → starts call ≡ LoadFreeToGive giving → ⊥
     no_start (CallPut v vs) giving e = cc
@@ -105,7 +114,7 @@ module _ {T : Type 0} (c : Stack T) where
         let l : Line T = LoadFreeToGive (record { chain = chain; answer = AnswerPut (Err why) }) in
         let looked : Looks (shape_of c) (AtPass g.pass g.from g.at) v' = subst (λ (u : View T (Line T)). Looks (shape_of c) u v') g.is looks in
         let q : PassView T = looked.0 in
-        let adds = looked.2 in
+        let adds = looked.3 in
         let fewer = g.steps in
         let more = adds.steps in
         record {
@@ -123,6 +132,7 @@ module _ {T : Type 0} (c : Stack T) where
           tells = Sometime-wider (Later-refl begun.seen) (record { more = adds.between; is = adds.seen }) g.tells;
           course = λ busy. let was = g.course busy in (was.0, subst (λ (k : ℕ). Course names (machine_of c).core g.from.before g.from.now k (names.first o was.0) g.at) (sym adds.number) was.1);
           counted = λ busy. subst (λ (k : ℕ). begun.steps ≡ made k g.from.before) (sym adds.number) (g.counted busy);
+          answers = looked.2 ∙ g.answers;
         }
 
 module _ {T : Type 0} (c : Stack T) (o : Operation T) (vs : List T) (nodes : Held) (why : Barred) where

@@ -1,23 +1,9 @@
 -- What a take gives, and where its steps lead.
-use Rattle.std.proofs.Common.{◌≡◌, ℕ, ◌<◌, List, [], ◌∷◌, refl, sym, ap, ◌∙◌}
-use Rattle.std.specs.Prelude.{Option as Slot, Some, Result, Ok, Err}
+use Rattle.std.proofs.Common.{◌≡◌, ℕ, ◌<◌, List, ◌∷◌, refl, sym, ap, ◌∙◌}
+use Rattle.std.specs.Prelude.{Option as Slot, Some, Result, Ok}
 use Rattle.bounded_model.specs.declared.answers.TakeRefused.{TakeRefused}
-use Rattle.bounded_model.specs.declared.history.Event.TheVariants.{Take, Free}
-use Rattle.bounded_model.specs.declared.views.PassView.{PassView}
-use Rattle.bounded_model.specs.Histories.{own}
-use Rattle.bounded_model.specs.Laws.{TakeGives}
-use Rattle.machine.specs.Seats.{pass_of}
-use Rattle.machine.specs.declared.seats.View.{View}
-use Rattle.stack_machine.specs.declared.lines.Answer.TheVariants.{Take as AnswerTake}
-use Rattle.stack_machine.specs.declared.lines.Call.TheVariants.{Take as CallTake}
-use Rattle.stack_machine.specs.declared.lines.Taking.TheVariants.{One}
-use Rattle.stack_machine.specs.declared.lines.Line.{Line}
-use Rattle.stack_machine.specs.Machine.{ends}
-use Rattle.stack_machine.proofs.Made.{made_no_take}
-use Rattle.stack_table.specs.declared.operation.Operation.TheVariants.{Take as First}
 use Rattle.stack_table.specs.Lines.{names, next}
 use Rattle.running.specs.Code.{Finding, Leads}
-use Rattle.running.specs.Going.{Ended}
 use Rattle.running.specs.declared.access.Outcome.{Outcome}
 use Rattle.running.specs.declared.code.Next.{Next}
 use Rattle.treiber_stack.specs.declared.stack.Stack.{Stack}
@@ -26,9 +12,8 @@ use Rattle.treiber_stack.specs.declared.taking.TakeAt.{TakeAt}
 use Rattle.treiber_stack.specs.declared.taking.TakeAt.TheVariants.{GiveBack}
 use Rattle.treiber_stack.specs.declared.taking.Taken.{Taken}
 use Rattle.treiber_stack.specs.Giving.{GaveTo}
-use Rattle.treiber_stack.specs.Stack.{room_of, limit_of, machine_of, shape_of}
-use Rattle.treiber_stack.specs.Taking.{take_account, giving, take_line, take_slots, HasReadToTake}
-use Rattle.treiber_stack.proofs.Closes.{adds_of}
+use Rattle.treiber_stack.specs.Stack.{room_of, limit_of, machine_of}
+use Rattle.treiber_stack.specs.Taking.{take_account, giving, take_line, take_slots}
 use Rattle.treiber_stack.proofs.Gives.{within, gave_within}
 
 module _ {T : Type 0} where

@@ -10,7 +10,7 @@ use Rattle.bounded_model.specs.declared.history.Event.{Event}
 use Rattle.bounded_model.specs.declared.history.Event.TheVariants.{Put, Hold, Take, Free}
 use Rattle.bounded_model.specs.declared.views.PassView.{PassView}
 use Rattle.bounded_model.specs.Histories.{own}
-use Rattle.bounded_model.specs.Laws.{Adds, BacksOut, PutGives, TakeGives, holds_of, gave_back}
+use Rattle.bounded_model.specs.Laws.{Adds, BacksOut, PutGives, TakeGives, holds_of, gave_back, in_list}
 use Rattle.bounded_model.specs.Machine.{Shape}
 use Rattle.machine.specs.Seats.{pass_of}
 use Rattle.machine.specs.declared.seats.View.{View}
@@ -29,7 +29,7 @@ use Rattle.stack_table.specs.declared.operation.Operation.TheVariants.{Take as T
 use Rattle.stack_table.specs.Lines.{call_of, names}
 use Rattle.running.specs.Going.{Ended}
 use Rattle.running.specs.Machine as running
-use Rattle.treiber_stack.specs.Putting.{of_several, put_answer, put_of, put_value}
+use Rattle.treiber_stack.specs.Putting.{put_answer, put_of, put_value}
 use Rattle.treiber_stack.specs.declared.putting.PutAt.{PutAt}
 use Rattle.treiber_stack.specs.declared.taking.TakeAt.{TakeAt}
 
@@ -86,9 +86,9 @@ module _ {T : Type 0} (k : Limits) (o : Operation T) (v : View T (Line T)) (begu
     own_events = ap (λ (n : ℕ). own n d.between) (sym e.number) ∙ made;
   }
 
-  backs : (why : PutRefused T) (e : EndsSo (Err why)) (d : Done (Err why)) → length (handed_back (of_several why)) ≡ 1 → BacksOut begun (pass_of v) 1
+  backs : (why : PutRefused T) (e : EndsSo (Err why)) (d : Done (Err why)) → length (handed_back (in_list why)) ≡ 1 → BacksOut begun (pass_of v) 1
   backs why e d one =
-      let made = made_refusal (pass_of v).number (own (pass_of v).number d.between) (CallPut x []) (of_several why) d.made in
+      let made = made_refusal (pass_of v).number (own (pass_of v).number d.between) (CallPut x []) (in_list why) d.made in
       record { held = made.nodes; at_most = subst (λ (n : ℕ). made.nodes ≤ n) one made.at_most; adds = adds (Err why) e d (gave_back begun.number made.nodes) (made.is ∙ ap (λ (n : ℕ). gave_back n made.nodes) e.number) }
 
   gives_so : (r : Result ℕ (PutRefused T)) → EndsSo r → Done r → PutGives (shape_at k) begun x (pass_of v) r

@@ -3,6 +3,7 @@ pub mod Begun
 pub mod Refusing
 pub mod Giving
 pub mod Closing
+pub mod Marks
 pub mod Left
 pub mod Stepwise
 pub mod Taking
@@ -11,7 +12,9 @@ pub mod Naming
 pub mod Putting
 pub mod Folding
 pub mod FoldOp
+pub mod Ran
 pub mod Ranging
 pub mod RangeTrying
+pub mod Copying
 pub mod KeepsAnswers
-pub mod Ran
+pub mod Gauging

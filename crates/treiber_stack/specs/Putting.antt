@@ -5,11 +5,9 @@ use Rattle.tagged_index.specs.declared.limit.Limits.{Limits}
 use Rattle.running.specs.Code.{Account, to_answer}
 use Rattle.tagged_index.specs.Fields.{fields_of, index_of, tag_of}
 use Rattle.tagged_index.specs.declared.word.TheConstants.{NULL}
-use Rattle.bounded_model.specs.declared.answers.Stepped.{Stepped}
-use Rattle.bounded_model.specs.declared.answers.Stepped.TheVariants.{Again, Done}
 use Rattle.bounded_model.specs.declared.answers.PutRefused.{PutRefused}
 use Rattle.bounded_model.specs.declared.answers.PutRefused.TheVariants.{Full, Closed, Spent}
-use Rattle.bounded_model.specs.Laws.{PutGives}
+use Rattle.bounded_model.specs.Laws.{in_list}
 use Rattle.stack_machine.specs.declared.lines.Answer.{Answer}
 use Rattle.stack_machine.specs.declared.lines.Answer.TheVariants.{Put as AnswerPut}
 use Rattle.stack_machine.specs.declared.lines.Giving.{Giving}
@@ -30,7 +28,7 @@ use Rattle.running.specs.Ops.{IsUnderWay}
 use Rattle.treiber_stack.specs.declared.putting.PutAt.{PutAt}
 use Rattle.treiber_stack.specs.declared.putting.PutAt.TheVariants.{LoadFree, Link, Hold, Load, LinkTo, Exchange, Refuse, GiveBack}
 use Rattle.treiber_stack.specs.Giving.{give_line}
-use Rattle.treiber_stack.specs.Stack.{room_of, limit_of, shape_of, pass_in, begun_of, IsPassOf, IsAt, OneLine, WentOn, machine_of}
+use Rattle.treiber_stack.specs.Stack.{machine_of}
 
 abbrev pub PutOp : Type 0 → Type 0
 PutOp T = Op T (Line T) (Operation T) (PutAt T)
@@ -44,14 +42,9 @@ module _ {T : Type 0} where
   bearing x i = record { values = x ∷ []; chain = i ∷ [] }
 
   -- the refusal and the answer of a put of one value, as the machine has those of several
-  abbrev pub of_several : PutRefused T → PutRefused (List T)
-  of_several (Full x) = Full (x ∷ [])
-  of_several (Closed x) = Closed (x ∷ [])
-  of_several (Spent x word t) = Spent (x ∷ []) word t
-
   abbrev pub put_answer : Result ℕ (PutRefused T) → Answer T
   put_answer (Ok k) = AnswerPut (Ok (k, []))
-  put_answer (Err why) = AnswerPut (Err (of_several why))
+  put_answer (Err why) = AnswerPut (Err (in_list why))
 
   -- the node that is given back, and then the answer
   abbrev pub refusing : PutRefused T → ℕ → Giving T

@@ -1,20 +1,30 @@
 -- What a stack's whole calls and its end are: runs of its machine.
-use Rattle.std.specs.Prelude.{◌≡◌, ℕ, List, Result, Ok, Err}
+use Rattle.std.specs.Prelude.{◌≡◌, ℕ, List, [], ◌∷◌, drop, Result, Ok, Err}
+use Rattle.bounded_model.specs.declared.answers.PutRefused.TheVariants.{Full as PutFull, Closed as PutClosed, Spent as PutSpent}
 use Rattle.bounded_model.specs.declared.answers.TakeRefused.{TakeRefused}
 use Rattle.bounded_model.specs.declared.bulk.Folded.{Folded}
+use Rattle.bounded_model.specs.declared.bulk.Ranged.{Ranged}
+use Rattle.bounded_model.specs.declared.bulk.RangeRefused.{RangeRefused}
+use Rattle.bounded_model.specs.declared.bulk.RangeRefused.TheVariants.{Nothing, Full, Closed, Spent}
 use Rattle.bounded_model.specs.declared.views.PassView.{PassView}
 use Rattle.bounded_model.specs.declared.views.RootView.{RootView}
+use Rattle.bounded_model.specs.declared.views.Answered.TheVariants.{Fold as FoldAnswered}
+use Rattle.bounded_model.specs.Laws.{Answers, FoldGives}
+use Rattle.index_list.specs.declared.front.Front.{Front}
 use Rattle.stack_machine.specs.declared.lines.Answer.{Answer}
-use Rattle.stack_machine.specs.declared.lines.Answer.TheVariants.{Fold}
+use Rattle.stack_machine.specs.declared.lines.Answer.TheVariants.{Fold, Put}
+use Rattle.stack_machine.specs.declared.lines.Call.TheVariants.{Put as CallPut}
 use Rattle.stack_machine.specs.declared.lines.Line.{Line}
 use Rattle.stack_machine.specs.Machine.{ends}
+use Rattle.stack_machine.specs.Deeds.{in_order}
 use Rattle.stack_table.specs.declared.operation.Operation.{Operation}
+use Rattle.stack_table.specs.Lines.{answered, call_of, direction}
 use Rattle.stack_table.proofs.Laws.{stack}
 use Rattle.running.specs.Going.{HasRun}
 use Rattle.running.specs.declared.passes.Pass.{Pass}
 use Rattle.run_ends.specs.Ends as at_end
 use Rattle.treiber_stack.specs.declared.stack.Stack.{Stack}
-use Rattle.treiber_stack.specs.Stack.{machine_of}
+use Rattle.treiber_stack.specs.Stack.{machine_of, pass_in}
 
 -- what is left stands for a run of the machine
 abbrev pub IsRun : {T : Type 0} → ℕ → ℕ → RootView T → List T → Type 0
@@ -30,3 +40,30 @@ module _ {T : Type 0} (c : Stack T) (o : Operation T) (begun : PassView T) (back
   abbrev pub WasFolded : Result Folded TakeRefused → Type 0
   WasFolded (Ok folded) = (values : List T) × WasRun (Fold (Ok (values, folded.number)))
   WasFolded (Err why) = WasRun (Fold (Err why))
+
+-- A fold's pass, which was v and is w, keeps one answer more: the values of its take, in the order in which they were folded, or its refusal
+abbrev pub FoldAnswers : {T : Type 0} → Front → Result Folded TakeRefused → PassView T → PassView T → Type 0
+FoldAnswers {T} front (Ok folded) v w = (values : List T) × FoldGives v w values folded.number × Answers v w (FoldAnswered (Ok (in_order (direction front) values, folded.number)))
+FoldAnswers front (Err why) v w = Answers v w (FoldAnswered (Err why))
+
+-- the operation is a put of these values, of which there is one
+abbrev pub IsRange : {T : Type 0} → Operation T → List T → Type 0
+IsRange o [] = ⊥
+IsRange o (v ∷ vs) = call_of o ≡ CallPut v vs
+
+-- Whether a put of these values, in the order of a range, was a call of the machine, by what it came to. That of an empty range is none; any other has
+-- answered with its number and the values that stayed, or with why none went in and all values
+abbrev pub MatchCall : {T : Type 0} → List T → Result Ranged RangeRefused → Type 0 → (Answer T → Type 0) → Type 0
+MatchCall vs (Ok r) none Call = Call (Put (Ok (r.number, drop r.count vs)))
+MatchCall vs (Err Nothing) none Call = none
+MatchCall vs (Err Full) none Call = Call (Put (Err (PutFull vs)))
+MatchCall vs (Err Closed) none Call = Call (Put (Err (PutClosed vs)))
+MatchCall vs (Err (Spent word t)) none Call = Call (Put (Err (PutSpent vs word t)))
+
+-- its pass, which was v and is w, keeps one answer more
+abbrev pub RangeAnswers : {T : Type 0} → List T → Result Ranged RangeRefused → PassView T → PassView T → Type 0
+RangeAnswers vs r v w = MatchCall vs r (w ≡ v) (λ a. Answers v w (answered a))
+
+-- and the machine has run, as one call
+abbrev pub WasRange : {T : Type 0} → Stack T → PassView T → List T → Result Ranged RangeRefused → Pass T (Line T) → Type 0
+WasRange {T} c begun vs r back = MatchCall vs r (pass_in back ≡ begun) (λ a. (o : Operation T) × IsRange o vs × WasRun c o begun back a)

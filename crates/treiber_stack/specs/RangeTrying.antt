@@ -1,5 +1,5 @@
 -- A range that is put in parts: where it stands between them, and what a part of it has come to.
-use Rattle.std.specs.Prelude.{◌≡◌, ℕ, ◌<◌, Bool, true, false, List, map, length, Option as Slot, Some, Result}
+use Rattle.std.specs.Prelude.{◌≡◌, ℕ, ◌+◌, ◌*◌, ◌<◌, ◌≤◌, Bool, true, false, List, map, length, Option as Slot, Some, Result, Ok, Err}
 use Rattle.bounded_model.specs.declared.answers.Stepped.{Stepped}
 use Rattle.bounded_model.specs.declared.bulk.Ranged.{Ranged}
 use Rattle.bounded_model.specs.declared.bulk.RangeRefused.{RangeRefused}
@@ -14,7 +14,8 @@ use Rattle.treiber_stack.specs.declared.range_steps.RangeAt.{RangeAt}
 use Rattle.treiber_stack.specs.declared.range_steps.RangeAt.TheVariants.{GiveBack}
 use Rattle.treiber_stack.specs.declared.range_steps.RangeStop.{RangeStop}
 use Rattle.treiber_stack.specs.declared.range_trying.RangeOp.{RangeOp}
-use Rattle.treiber_stack.specs.Ranging.{HasNodes, IsRange, IsRangeAt, PutsOf, StopsSo, places_from, putting, takes}
+use Rattle.treiber_stack.specs.Ran.{IsRange}
+use Rattle.treiber_stack.specs.Ranging.{HasNodes, IsRangeAt, PutsOf, StopsSo, places_from, putting, takes}
 use Rattle.treiber_stack.specs.Stack.{pass_in, begun_of}
 
 -- its values are back in their places
@@ -22,11 +23,39 @@ abbrev pub gives_back : RangeAt → Bool
 gives_back (GiveBack why at) = true
 gives_back at = false
 
+-- a range that has ended at this has put the values of these nodes, if it was put
+abbrev pub PutSoMany : RangeAt → ℕ → Result Ranged RangeRefused → Type 0
+PutSoMany at count (Ok r) = (gives_back at ≡ false) × (r.count ≡ count)
+PutSoMany at count (Err why) = Unit {0}
+
 module _ {T : Type 0} where
   -- the places while k values are in nodes, and once all are back
   abbrev pub places_at : Bool → ℕ → List T → List (Slot T)
   places_at false k vs = places_from k vs
   places_at true k vs = map Some vs
+
+  -- What a stop came to, of a range that was at this with these nodes: it goes on to put the values back, or after one step at most with a node more;
+  -- or it has ended
+  abbrev pub StoppedAt : RangeAt → ℕ → Pass T (Line T) → Stepped (RangeOp T) (Pass T (Line T)) (Result Ranged RangeRefused) → Type 0
+  StoppedAt at count p made = MatchStepped made
+      (λ next. (gives_back at ≡ false) × (gives_back next.at ≡ false → (next.held.count ≡ count + 1) × ((pass_in next.pass).steps ≤ (pass_in p).steps + 1)))
+      (λ back answer. (back ≡ p) × PutSoMany at count answer)
+
+  -- With so many nodes more: so many steps to take each and one to link it, and so many after the last
+  abbrev pub MadeWith : ℕ → ℕ → PassView T → PassView T → Type 0
+  MadeWith n more v w = w.steps ≤ v.steps + (more * (n + 1) + n)
+
+  -- So many steps were allowed for each node, for the top and for the way back. A range that goes on and is not newly on its way back has made exactly
+  -- so many if it has no node more, and not too many for those that it has; the same bound holds if it was put, or was on its way back before
+  abbrev pub RangeEnds : ℕ → RangeOp T → Pass T (Line T) → Result Ranged RangeRefused → Type 0
+  RangeEnds n op back (Ok r) = (more : ℕ) × (more + op.held.count ≡ r.count) × MadeWith n more (pass_in op.pass) (pass_in back)
+  RangeEnds n op back (Err why) = gives_back op.at ≡ true → MadeWith n 0 (pass_in op.pass) (pass_in back)
+
+  abbrev pub RangeSteps : ℕ → RangeOp T → Stepped (RangeOp T) (Pass T (Line T)) (Result Ranged RangeRefused) → Type 0
+  RangeSteps n op made = MatchStepped made
+      (λ next. gives_back next.at ≡ gives_back op.at → (more : ℕ) × (more + op.held.count ≡ next.held.count) × MadeWith n more (pass_in op.pass) (pass_in next.pass)
+      × (more ≡ 0 → (pass_in next.pass).steps ≡ (pass_in op.pass).steps + n))
+      (λ back answer. RangeEnds n op back answer)
 
 module _ {T : Type 0} (c : Stack T) (o : Operation T) where
   -- a range of these values is at this; where it takes a node, there is a value for it

@@ -20,7 +20,6 @@ use Rattle.machine.specs.Words.{times}
 use Rattle.machine.specs.Chains.{first, last}
 use Rattle.machine.specs.declared.seats.View.{View}
 use Rattle.stack_machine.specs.declared.lines.Answer.TheVariants.{Put as AnswerPut}
-use Rattle.stack_machine.specs.declared.lines.Call.TheVariants.{Put as CallPut}
 use Rattle.stack_machine.specs.declared.lines.Giving.{Giving}
 use Rattle.stack_machine.specs.declared.lines.Putting.{Putting}
 use Rattle.stack_machine.specs.declared.lines.Line.{Line}
@@ -30,7 +29,7 @@ use Rattle.running.specs.Going.{Ended}
 use Rattle.running.specs.Rule.{line_in}
 use Rattle.running.specs.declared.passes.Pass.{Pass}
 use Rattle.stack_table.specs.declared.operation.Operation.{Operation}
-use Rattle.stack_table.specs.Lines.{call_of, names}
+use Rattle.stack_table.specs.Lines.{names}
 use Rattle.stack_table.specs.Slots.{full, vacant}
 use Rattle.treiber_stack.specs.declared.stack.Stack.{Stack}
 use Rattle.treiber_stack.specs.declared.giving.Give.TheVariants.{Load as LoadToGive}
@@ -46,6 +45,7 @@ use Rattle.treiber_stack.specs.declared.range_steps.RangeStopped.{RangeStopped}
 use Rattle.treiber_stack.specs.declared.refusing.Barred.{Barred}
 use Rattle.treiber_stack.specs.Begun.{put_begun}
 use Rattle.treiber_stack.specs.Giving.{AreNodes, IsGiving, give_line}
+use Rattle.treiber_stack.specs.Ran.{RangeAnswers, WasRange}
 use Rattle.treiber_stack.specs.Refusing.{barring}
 use Rattle.treiber_stack.specs.Stack.{room_of, limit_of, machine_of, shape_of, pass_in, begun_of, IsPassOf, IsAt}
 
@@ -204,11 +204,6 @@ module _ {T : Type 0} where
   abbrev pub EndsSo : Stack T → Operation T → PassView T → Pass T (Line T) → Putting T → Held → RangeEnd → Type 0
   EndsSo c o begun q put held end = ToldEnd held.count end × Stopped c o begun q (end_line put end) (loaded put) (is_idle (end_line put end))
 
-  -- the operation is a put of these values, of which there is one
-  abbrev pub IsRange : Operation T → List T → Type 0
-  IsRange o [] = ⊥
-  IsRange o (v ∷ vs) = call_of o ≡ CallPut v vs
-
   -- the places once the first k values have left
   abbrev pub places_from : ℕ → List T → List (Slot T)
   places_from k vs = replicate k None ++ map Some (drop k vs)
@@ -238,9 +233,9 @@ module _ {T : Type 0} where
     pub has : HasNodes c vs chain held
     pub takes : TakesNode c o (begun_of c p) (putting vs chain) p i
 
-  -- it has the value, whose place is empty
+  -- it has the value, whose place is empty; the link to the node before it is a step
   abbrev pub FillsOne : Stack T → Operation T → Pass T (Line T) → List T → Held → Slot T → Pass T (Line T) → Held → Type 0
-  FillsOne c o p vs held place q more = IsFilling c o q vs more × (more.count ≡ held.count + 1) × (begun_of c q ≡ begun_of c p) × (place ≡ None)
+  FillsOne c o p vs held place q more = IsFilling c o q vs more × (more.count ≡ held.count + 1) × (begun_of c q ≡ begun_of c p) × (place ≡ None) × ((pass_in q).steps ≤ (pass_in p).steps + 1)
 
   -- a range is over, with nodes for the first values
   pub record IsOver (c : Stack T) (o : Operation T) (v : PassView T) (p : Pass T (Line T)) (vs : List T) (held : Held) (end : RangeEnd) : Type 0 where
@@ -250,7 +245,7 @@ module _ {T : Type 0} where
 
   -- a range of these values, begun as the pass was v, has ended
   abbrev pub PutsOf : Stack T → PassView T → List T → List (Slot T) → Pass T (Line T) → Result Ranged RangeRefused → Type 0
-  PutsOf c v vs places q r = IsPassOf c q × PutsRange (record { shape = shape_of c; from = v; to = pass_in q }) (map Some vs) places r
+  PutsOf c v vs places q r = IsPassOf c q × PutsRange (record { shape = shape_of c; from = v; to = pass_in q }) (map Some vs) places r × RangeAnswers vs r v (pass_in q) × WasRange c v vs r q
 
   -- a refused range whose values are still in the slots
   pub record IsRefused (c : Stack T) (o : Operation T) (p : Pass T (Line T)) (vs : List T) (held : Held) (why : Barred) : Type 0 where

@@ -5,10 +5,7 @@ use Rattle.tagged_index.specs.declared.limit.Limits.{Limits}
 use Rattle.running.specs.Code.{Account, to_answer}
 use Rattle.tagged_index.specs.Fields.{fields_of, index_of, tag_of}
 use Rattle.tagged_index.specs.declared.word.TheConstants.{NULL}
-use Rattle.bounded_model.specs.declared.answers.Stepped.{Stepped}
-use Rattle.bounded_model.specs.declared.answers.Stepped.TheVariants.{Again, Done}
 use Rattle.bounded_model.specs.declared.answers.TakeRefused.{TakeRefused}
-use Rattle.bounded_model.specs.Laws.{TakeGives}
 use Rattle.stack_machine.specs.declared.lines.Answer.TheVariants.{Take as AnswerTake}
 use Rattle.stack_machine.specs.declared.lines.Giving.{Giving}
 use Rattle.stack_machine.specs.declared.lines.Taking.TheVariants.{One}
@@ -28,7 +25,7 @@ use Rattle.running.specs.Ops.{IsUnderWay}
 use Rattle.treiber_stack.specs.declared.taking.TakeAt.{TakeAt}
 use Rattle.treiber_stack.specs.declared.taking.TakeAt.TheVariants.{Load, Link, Exchange, GiveBack}
 use Rattle.treiber_stack.specs.Giving.{give_line}
-use Rattle.treiber_stack.specs.Stack.{room_of, limit_of, shape_of, pass_in, begun_of, IsPassOf, IsAt, OneLine, WentOn, machine_of}
+use Rattle.treiber_stack.specs.Stack.{machine_of}
 
 abbrev pub TakeOp : Type 0 → Type 0
 TakeOp T = Op T (Line T) (Operation T) (TakeAt T)

@@ -7,6 +7,7 @@ use std::sync::Wait;
 
 impl<T: Drop + Send> Container<T> for Stack<T> {
     ghost use Rattle.std.proofs.Common.{refl};
+    ghost use Rattle.bounded_model.proofs.Passes.{most_passes};
     ghost use Rattle.bounded_model.specs.declared.history.Order.TheVariants.{Lifo};
     ghost use Rattle.treiber_stack.specs.Stack.{
       shape_of,
@@ -45,6 +46,8 @@ impl<T: Drop + Send> Container<T> for Stack<T> {
     ghost told = { told_in };
 
     ghost order_law = { λ c. refl };
+
+    ghost passes_law = { λ c. most_passes (shape_of c) refl };
 
     ghost pass_law = { λ c p is. is.rests.rests };
 

@@ -8,7 +8,7 @@ ghost use Rattle.stack_machine.specs.Deeds.{in_order};
 ghost use Rattle.stack_table.specs.Lines.{direction};
 ghost use Rattle.index_list.specs.declared.front.Front.TheVariants.{First, Last};
 ghost use Rattle.stack_table.specs.declared.operation.Operation.TheVariants.{Fold as FoldFirst};
-ghost use Rattle.treiber_stack.specs.Ran.{WasFolded};
+ghost use Rattle.treiber_stack.specs.Ran.{FoldAnswers, WasFolded};
 ghost use Rattle.treiber_stack.specs.Stack.{call_of, pass_in, IsPassOf};
 
 use crate::giving::{Chain, Give};
@@ -94,6 +94,7 @@ impl<T> Stack<T> {
         ensures gives { FoldsAll (call_of self.now by result.0)
             (λ values. Folds (λ s x t. F.post f s x t) state values result.1)
             (result.1 ≡ state) result.2 }
+        ensures answered { FoldAnswers First result.2 (pass_in by) (pass_in result.0) }
         ensures ran { WasFolded self.now (FoldFirst First) (pass_in by) result.0 result.2 }
     {
         self.fold(rt, by, Front::First, state, f)
@@ -113,6 +114,7 @@ impl<T> Stack<T> {
         ensures gives { FoldsAll (call_of self.now by result.0)
             (λ values. Folds (λ s x t. F.post f s x t) state (reverse values) result.1)
             (result.1 ≡ state) result.2 }
+        ensures answered { FoldAnswers Last result.2 (pass_in by) (pass_in result.0) }
         ensures ran { WasFolded self.now (FoldFirst Last) (pass_in by) result.0 result.2 }
     {
         self.fold(rt, by, Front::Last, state, f)
@@ -133,6 +135,7 @@ impl<T> Stack<T> {
             (λ values. Folds (λ s x t. F.post f s x t) state (in_order (direction front) values)
             result.1)
             (result.1 ≡ state) result.2 }
+        ensures answered { FoldAnswers front result.2 (pass_in by) (pass_in result.0) }
         ensures ran { WasFolded self.now (FoldFirst front) (pass_in by) result.0 result.2 }
     {
         let table = &self.table.shared;

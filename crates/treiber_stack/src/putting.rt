@@ -1,7 +1,7 @@
 //! Putting one value: by steps, and by a whole call. While the put has a node, the value is in the
 //! node's slot, and a snapshot shows it to proofs.
 ghost use Rattle.std.specs.Prelude.{◌≡◌};
-ghost use Rattle.bounded_model.specs.Laws.{PutGives};
+ghost use Rattle.bounded_model.specs.Laws.{Answers, put_answered, PutGives};
 ghost use Rattle.treiber_stack.specs.Stack.{IsPassOf, shape_of, pass_in, begun_of};
 ghost use Rattle.treiber_stack.specs.Putting.{IsPutting, PutStands, PutRan, put_answer, put_of};
 ghost use Rattle.treiber_stack.specs.Ran.{WasRun};
@@ -79,6 +79,7 @@ impl<T> Stack<T> {
         requires { IsPassOf self.now by }
         ensures gives { IsPassOf self.now result.0
             × PutGives (shape_of self.now) (pass_in by) value (pass_in result.0) result.1 }
+        ensures answered { Answers (pass_in by) (pass_in result.0) (put_answered result.1) }
         ensures ran { WasRun self.now (put_of value) (pass_in by) result.0 (put_answer result.1) }
     {
         let put = put_operation(&value);

@@ -2,6 +2,7 @@
 //! where it has put all values that have nodes; and where nothing can be put.
 ghost use Rattle.std.specs.Prelude.{List};
 ghost use Rattle.bounded_model.specs.Stepping.{MatchStepped};
+ghost use Rattle.running.specs.Steps.{TookFor};
 ghost use Rattle.treiber_stack.specs.RangeTrying.{HasStopped, IsRangeOf, RanOn};
 ghost use Rattle.treiber_stack.specs.Stack.{begun_of};
 
@@ -121,11 +122,12 @@ impl<T> Stack<T> {
         steps: u64,
     ) -> Stepped<(Pass<T>, RangeAt), Pass<T>, RangeStop>
         requires { (vs : List T) × IsRangeOf self.now operation.now by vs held at }
-        ensures { (vs : List T) → IsRangeOf self.now operation.now by vs held at
+        ensures ran { (vs : List T) → IsRangeOf self.now operation.now by vs held at
             → MatchStepped result
             (λ next. RanOn self.now operation.now by vs held at next.0 next.1)
             (λ back stop. HasStopped self.now operation.now (begun_of self.now by) back vs held at
             stop) }
+        ensures took { TookFor steps by result }
     {
         let begun = Begun::of(operation, &by);
         let first = (by, Next::On(Range { begun, held, at }));

@@ -2,7 +2,7 @@
 //! the steps are used up, the range comes back as it is, begun as before.
 ghost use Rattle.std.specs.Prelude.{List, IsSome};
 ghost use Rattle.std.specs.List.{AllByRecursion as Every};
-ghost use Rattle.treiber_stack.specs.RangeTrying.{IsRanging, RangeBegun, RangeTried};
+ghost use Rattle.treiber_stack.specs.RangeTrying.{IsRanging, RangeBegun, RangeSteps, RangeTried};
 ghost use Rattle.treiber_stack.specs.Stack.{IsPassOf, pass_in, begun_of};
 
 use crate::giving::Chain;
@@ -63,12 +63,13 @@ impl<T> RangeOp<T> {
         steps: u64,
     ) -> Stepped<RangeOp<T>, Pass<T>, Result<Ranged, RangeRefused>>
         requires { (vs : List T) × IsRanging stack.now vs values.old self }
-        ensures { (vs : List T) → IsRanging stack.now vs values.old self
+        ensures tried { (vs : List T) → IsRanging stack.now vs values.old self
             → RangeTried stack.now vs (begun_of stack.now self.pass) values.new result }
+        ensures took { RangeSteps steps self result }
     {
         let mut range = self;
         // It stops with each node, where the values go back to their places, and at its end.
-        for _ in 0..values.len().saturating_add(2) {
+        for round in 0..values.len().saturating_add(2) {
             let RangeOp {
                 pass,
                 operation,

@@ -4,11 +4,12 @@ ghost use Rattle.std.specs.Prelude.{◌≡◌, ◌<◌, List, [], ◌∷◌, map
 ghost use Rattle.std.specs.List.{AllByRecursion as Every};
 ghost use Rattle.atomic_table.specs.Table.{rest};
 ghost use Rattle.bounded_model.specs.declared.views.PassView.{PassView};
-ghost use Rattle.bounded_model.specs.Bulk.{PutsRange};
+ghost use Rattle.bounded_model.specs.Bulk.{PutsRange, somes};
 ghost use Rattle.machine.specs.Seats.{Looks};
-ghost use Rattle.treiber_stack.specs.RangeTrying.{HasStopped, IsRanging, RangeTried, gives_back, places_at};
-ghost use Rattle.treiber_stack.specs.Ranging.{IsRange, IsNext, HasTaken, FillsOne, IsRefused, Restores, ReadsAgain, PutsOf, places_from};
-ghost use Rattle.treiber_stack.specs.Stack.{room_of, shape_of, call_of, begun_of, IsPassOf};
+ghost use Rattle.treiber_stack.specs.Ran.{IsRange, RangeAnswers, WasRange};
+ghost use Rattle.treiber_stack.specs.RangeTrying.{HasStopped, IsRanging, RangeTried, StoppedAt, gives_back, places_at};
+ghost use Rattle.treiber_stack.specs.Ranging.{IsNext, HasTaken, FillsOne, IsRefused, Restores, ReadsAgain, PutsOf, places_from};
+ghost use Rattle.treiber_stack.specs.Stack.{room_of, shape_of, call_of, pass_in, begun_of, IsPassOf};
 ghost use Rattle.treiber_stack.specs.declared.range_steps.RangeStop.TheVariants.{Over};
 ghost use Rattle.treiber_stack.specs.declared.refusing.Barred.{Barred};
 
@@ -41,7 +42,8 @@ pub(crate) fn name_of<T>(values: &[Option<T>]) -> Option<Operation<T>>
 impl<T> Stack<T> {
     /// Puts as many values as nodes can be had, from the front, by one compare-and-swap; the last
     /// of them is the new top, and their places are then `None`. A refusal leaves every place as it
-    /// was: `Nothing` for an empty range, else as that of a put. Called in `example_stack`.
+    /// was: `Nothing` for an empty range, else as that of a put. The call, if the range is not empty,
+    /// was one run of the machine's steps. Called in `example_stack`.
     pub fn put_range<R: Wait>(
         &self,
         rt: &R,
@@ -52,6 +54,8 @@ impl<T> Stack<T> {
         requires values { Every (λ place. IsSome place) values.old }
         ensures of { IsPassOf self.now result.0 }
         ensures gives { PutsRange (call_of self.now by result.0) values.old values.new result.1 }
+        ensures answered { RangeAnswers (somes values.old) result.1 (pass_in by) (pass_in result.0) }
+        ensures ran { WasRange self.now (pass_in by) (somes values.old) result.1 result.0 }
     {
         match self.begin_range(by, values) {
             Stepped::Again(begun) => self.put_values(rt, begun, values),
@@ -100,10 +104,14 @@ impl<T> Stack<T> {
         requires { (v : PassView T) × (vs : List T) × (at : RangeAt)
             × HasStopped self.now operation v by vs held at stop × IsRange operation vs
             × (values.old ≡ places_at (gives_back at) held.count vs) }
-        ensures { (v : PassView T) (vs : List T) (at : RangeAt)
+        ensures tried { (v : PassView T) (vs : List T) (at : RangeAt)
             → HasStopped self.now operation v by vs held at stop → IsRange operation vs
             → values.old ≡ places_at (gives_back at) held.count vs
             → RangeTried self.now vs v values.new result }
+        ensures stopped { (v : PassView T) (vs : List T) (at : RangeAt)
+            → HasStopped self.now operation v by vs held at stop → IsRange operation vs
+            → values.old ≡ places_at (gives_back at) held.count vs
+            → StoppedAt at held.count by result }
     {
         let index = match stop {
             RangeStop::Took(index) => index,
@@ -142,10 +150,13 @@ impl<T> Stack<T> {
         requires { (v : PassView T) × (vs : List T) × (at : RangeAt)
             × HasStopped self.now operation v by vs held at (Over end) × IsRange operation vs
             × (values.old ≡ places_at (gives_back at) held.count vs) }
-        ensures { (v : PassView T) (vs : List T) (at : RangeAt)
+        ensures tried { (v : PassView T) (vs : List T) (at : RangeAt)
             → HasStopped self.now operation v by vs held at (Over end) → IsRange operation vs
             → values.old ≡ places_at (gives_back at) held.count vs
             → RangeTried self.now vs v values.new result }
+        ensures stopped { (v : PassView T) (vs : List T) (at : RangeAt)
+            → HasStopped self.now operation v by vs held at (Over end)
+            → StoppedAt at held.count by result }
     {
         match end {
             RangeEnd::Put(number) => {
@@ -171,7 +182,7 @@ impl<T> Stack<T> {
 
     // Moves the value of a place into the slot of the node taken last, and links the node to the
     // one before it.
-    fn load_node(
+    pub(crate) fn load_node(
         &self,
         by: Pass<T>,
         held: Held,
@@ -244,7 +255,7 @@ impl<T> Stack<T> {
 
     // Reads a link of the chain that is given back next, by a load that belongs to no line.
     #[inline]
-    fn read_again(&self, by: &mut Pass<T>, index: u32) -> u32
+    pub(crate) fn read_again(&self, by: &mut Pass<T>, index: u32) -> u32
         requires { (by.old.seat.table_id ≡ self.now.table.shared.table_id)
             × (index < room_of self.now) }
         ensures seat { (by.new.seat.table_id ≡ by.old.seat.table_id)

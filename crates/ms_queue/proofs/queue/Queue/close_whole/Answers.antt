@@ -1,6 +1,7 @@
 use Rattle.std.proofs.Common.{refl, subst}
+use Rattle.bounded_model.specs.declared.views.Answered.TheVariants.{Close as CloseAnswered}
 use Rattle.bounded_model.specs.declared.views.PassView.{PassView}
-use Rattle.bounded_model.specs.Laws.{CloseGives}
+use Rattle.bounded_model.specs.Laws.{Answers, CloseGives}
 use Rattle.running.specs.Passes.{pass_in}
 use Rattle.running.proofs.Ways.{begun_is}
 use Rattle.queue_machine.specs.declared.lines.Answer.TheVariants.{Close as AnswerClose}
@@ -26,3 +27,10 @@ returns-clause-ran g c =
     let e = c.to_the_end.ensures.stops c.args.by c.first_step-first.ensures.ran in
     let begun = begun_is (machine_of q) q.table.shared.table_id c.args.by c.requires in
     subst (λ (v : PassView _). WasRun q CloseFirst v c.to_the_end.result.0 (AnswerClose c.to_the_end.result.1)) begun (e.1.ran refl)
+
+pub returns-clause-answered : goal.returns-clause-answered
+returns-clause-answered g c =
+    let q = c.args.self.now in
+    let e = c.to_the_end.ensures.stops c.args.by c.first_step-first.ensures.ran in
+    let begun = begun_is (machine_of q) q.table.shared.table_id c.args.by c.requires in
+    subst (λ (v : PassView _). Answers v (pass_in c.to_the_end.result.0) (CloseAnswered c.to_the_end.result.1)) begun e.1.answered

@@ -1,8 +1,11 @@
-use Rattle.std.proofs.Common.{subst}
+use Rattle.std.proofs.Common.{refl, subst}
 use Rattle.bounded_model.specs.declared.views.PassView.{PassView}
 use Rattle.bounded_model.specs.Laws.{LookGives}
 use Rattle.running.specs.Passes.{pass_in}
 use Rattle.running.proofs.Ways.{begun_is}
+use Rattle.queue_machine.specs.declared.lines.Answer.TheVariants.{Look as AnswerLook}
+use Rattle.queue_table.specs.declared.operation.Operation.TheVariants.{Look as LookFirst}
+use Rattle.ms_queue.specs.Ran.{WasRun}
 use Rattle.ms_queue.specs.Queue.{machine_of, shape_of}
 use Rattle.ms_queue.proofs.Closes.{look_gives}
 use Rattle.ms_queue.proofs.queue.Queue.look.Goals as goal
@@ -19,3 +22,10 @@ returns-clause-gives g c =
     let e = c.to_the_end.ensures.stops c.args.by c.first_step-first.ensures.ran in
     let begun = begun_is (machine_of q) q.table.shared.table_id c.args.by c.requires in
     subst (λ (v : PassView _). LookGives (shape_of q) v (pass_in c.to_the_end.result.0) c.to_the_end.result.1) begun (look_gives q c.to_the_end.result.1 e.1)
+
+pub returns-clause-ran : goal.returns-clause-ran
+returns-clause-ran g c =
+    let q = c.args.self.now in
+    let e = c.to_the_end.ensures.stops c.args.by c.first_step-first.ensures.ran in
+    let begun = begun_is (machine_of q) q.table.shared.table_id c.args.by c.requires in
+    subst (λ (v : PassView _). WasRun q LookFirst v c.to_the_end.result.0 (AnswerLook c.to_the_end.result.1)) begun (e.1.ran refl)

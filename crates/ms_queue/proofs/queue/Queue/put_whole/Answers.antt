@@ -1,6 +1,6 @@
 use Rattle.std.proofs.Common.{refl, subst}
 use Rattle.bounded_model.specs.declared.views.PassView.{PassView}
-use Rattle.bounded_model.specs.Laws.{PutGives}
+use Rattle.bounded_model.specs.Laws.{Answers, PutGives, put_answered}
 use Rattle.running.specs.Passes.{pass_in}
 use Rattle.running.proofs.Ways.{begun_is}
 use Rattle.queue_machine.specs.declared.lines.Answer.TheVariants.{Put as AnswerPut}
@@ -28,3 +28,10 @@ returns-clause-ran g c =
     let begun = begun_is (machine_of q) q.table.shared.table_id c.args.by c.requires in
     subst (λ (o : Operation _). WasRun q o (pass_in c.args.by) back (AnswerPut c.to_the_end.result.1)) c.put_operation-put.ensures.0
     (subst (λ (v : PassView _). WasRun q c.put_operation-put.result v back (AnswerPut c.to_the_end.result.1)) begun (e.1.ran refl))
+
+pub returns-clause-answered : goal.returns-clause-answered
+returns-clause-answered g c =
+    let q = c.args.self.now in
+    let e = c.to_the_end.ensures.stops c.args.by c.put_fast-first.ensures in
+    let begun = begun_is (machine_of q) q.table.shared.table_id c.args.by c.requires in
+    subst (λ (v : PassView _). Answers v (pass_in c.to_the_end.result.0) (put_answered c.to_the_end.result.1)) begun e.1.answered

@@ -7,9 +7,9 @@ use Rattle.stack_table.specs.declared.operation.Operation.TheVariants.{Fold as F
 use Rattle.std.specs.Prelude.{Ok, Err}
 use Rattle.stack_machine.specs.declared.lines.Answer.TheVariants.{Fold as AnswerFold}
 use Rattle.treiber_stack.specs.Folding.{folded_of}
-use Rattle.treiber_stack.specs.Ran.{WasRun}
+use Rattle.treiber_stack.specs.Ran.{FoldAnswers, WasRun}
 use Rattle.treiber_stack.specs.Stack.{machine_of, shape_of, pass_in}
-use Rattle.treiber_stack.proofs.Folds.{Folds_more, folds_same, hands_on, all_gone, all_ran, none_ran, none_taken, gone_few}
+use Rattle.treiber_stack.proofs.Folds.{Folds_more, folds_same, hands_on, all_gone, all_answered, none_answered, all_ran, none_ran, none_taken, gone_few}
 use Rattle.treiber_stack.proofs.stack.Stack.fold.Goals as goal
 
 pub loop-count-init : goal.loop-count-init
@@ -88,6 +88,27 @@ returns-in-Refused-clause-gives g c =
     let back = c.to_the_end-back.result.0 in
     let none = (none_taken stack c.args.front i.0 (record { pass = l.pass; at = l.at; count = l.count }) i.1 back c.to_the_end-back.result.1 (e.stops l.pass c.any-first.ensures.ran) (e.told l.at c.any-first.ensures.told) c.in-Refused.why c.in-Refused.is).1 in
     (subst (λ (v : PassView _). TakesNothing (shape_of stack) v (pass_in back) c.in-Refused.why) i.2 none.0, sym (folds_same _ _ _ [] _ none.1 i.3))
+
+pub returns-in-Ended-clause-answered : goal.returns-in-Ended-clause-answered
+returns-in-Ended-clause-answered g c =
+    let stack = c.args.self.now in
+    let l = c.loop-count in
+    let i = l.invariant in
+    let e = c.to_the_end-back.ensures in
+    let back = c.to_the_end-back.result.0 in
+    let b = c.in-Ended.batch in
+    let answers = all_answered stack c.args.front i.0 (record { pass = l.pass; at = l.at; count = l.count }) i.1 back c.to_the_end-back.result.1 (e.stops l.pass c.any-first.ensures.ran) (e.told l.at c.any-first.ensures.told) b c.in-Ended.is in
+    subst (λ (v : PassView _). FoldAnswers c.args.front (Ok (record { number = b.number; count = l.count })) v (pass_in back)) i.2 answers
+
+pub returns-in-Refused-clause-answered : goal.returns-in-Refused-clause-answered
+returns-in-Refused-clause-answered g c =
+    let stack = c.args.self.now in
+    let l = c.loop-count in
+    let i = l.invariant in
+    let e = c.to_the_end-back.ensures in
+    let back = c.to_the_end-back.result.0 in
+    let answers = none_answered stack c.args.front i.0 (record { pass = l.pass; at = l.at; count = l.count }) i.1 back c.to_the_end-back.result.1 (e.stops l.pass c.any-first.ensures.ran) (e.told l.at c.any-first.ensures.told) c.in-Refused.why c.in-Refused.is in
+    subst (λ (v : PassView _). FoldAnswers c.args.front (Err c.in-Refused.why) v (pass_in back)) i.2 answers
 
 pub returns-in-Refused-clause-ran : goal.returns-in-Refused-clause-ran
 returns-in-Refused-clause-ran g c =

@@ -44,7 +44,7 @@ returns-then-held-eq0 g c vs h next =
     let e = fills_first c.args.self.now c.args.operation.now vs c.args.by c.args.held c.args.index h next.0 r c.fill.ensures.table (c.fill.ensures.filled v.0 (next.1 ∙ v.3)) c.if-held-eq0.true c.of-chain.result c.of-chain.ensures in
     let none = c.if-held-eq0.true in
     let one : 1 ≡ c.args.held.count + 1 = omega arith in
-    (e.0, one, e.1, c.fill.ensures.place)
+    (e.0, one, e.1, c.fill.ensures.place, e.2)
 
 pub returns : goal.returns
 returns g c vs h next =
@@ -52,4 +52,4 @@ returns g c vs h next =
     let r = c.fill.new.by in
     let s = c.store_link_step in
     let e = fills_more c.args.self.now c.args.operation.now vs c.args.by c.args.held c.args.index h next.0 r c.fill.ensures.table (c.fill.ensures.filled v.0 (next.1 ∙ v.3)) c.if-held-eq0.false (record r { seat = s.new.seat }) _ s.ensures.steps s.ensures.seat.0 s.ensures.seat.1 in
-    (e.0, refl, e.1, c.fill.ensures.place)
+    (e.0, refl, e.1, c.fill.ensures.place, e.2)

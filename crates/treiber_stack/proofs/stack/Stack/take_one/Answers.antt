@@ -1,6 +1,7 @@
 use Rattle.std.proofs.Common.{refl, subst}
+use Rattle.bounded_model.specs.declared.views.Answered.TheVariants.{Take as TakeAnswered}
 use Rattle.bounded_model.specs.declared.views.PassView.{PassView}
-use Rattle.bounded_model.specs.Laws.{TakeGives}
+use Rattle.bounded_model.specs.Laws.{Answers, TakeGives}
 use Rattle.running.proofs.Ways.{begun_is}
 use Rattle.stack_machine.specs.declared.lines.Answer.TheVariants.{Take as AnswerTake}
 use Rattle.stack_table.specs.declared.operation.Operation.TheVariants.{Take as TakeFirst}
@@ -26,3 +27,10 @@ returns-clause-ran g c =
     let e = c.to_the_end.ensures.stops c.args.by c.take_on_fast_path-first.ensures in
     let begun = begun_is (machine_of stack) stack.table.shared.table_id c.args.by c.requires in
     subst (λ (v : PassView _). WasRun stack TakeFirst v c.to_the_end.result.0 (AnswerTake c.to_the_end.result.1)) begun (e.1.ran refl)
+
+pub returns-clause-answered : goal.returns-clause-answered
+returns-clause-answered g c =
+    let stack = c.args.self.now in
+    let e = c.to_the_end.ensures.stops c.args.by c.take_on_fast_path-first.ensures in
+    let begun = begun_is (machine_of stack) stack.table.shared.table_id c.args.by c.requires in
+    subst (λ (v : PassView _). Answers v (pass_in c.to_the_end.result.0) (TakeAnswered c.to_the_end.result.1)) begun e.1.answered

@@ -1,0 +1,130 @@
+//! Gauging a queue: whether it is closed, and how many of its tags are used. By steps, and by a whole
+//! call.
+ghost use Rattle.std.specs.Prelude.{◌≡◌};
+ghost use Rattle.queue_machine.specs.declared.lines.Answer.TheVariants.{Gauge as AnswerGauge};
+ghost use Rattle.queue_table.specs.declared.operation.Operation.TheVariants.{Gauge as GaugeFirst};
+ghost use Rattle.running.specs.Passes.{pass_in};
+ghost use Rattle.ms_queue.specs.Gauging.{GaugeGives, IsGauging};
+ghost use Rattle.ms_queue.specs.Queue.{IsPassOf, begun_of, room_of, limit_of};
+ghost use Rattle.ms_queue.specs.Ran.{WasRun};
+
+use crate::queue::{Pass, Queue};
+use crate::rule::Queued;
+use crate::seeking::{End, Seek};
+use atomic_table::Seat;
+use machine::seats::View;
+use queue_machine::Line;
+use queue_table::Operation;
+use queue_table::layout::next;
+use running::{Access, Call, Code, Next, Op, Outcome, first_step, to_the_end};
+use std::sync::Wait;
+use tagged_index::Tagged;
+
+/// A gauge that was begun.
+pub type GaugeOp<T> = Op<T, Line<T>, Operation<T>, GaugeAt>;
+
+/// What a gauge shows.
+#[derive(Clone, Copy, Debug, PartialEq, Eq)]
+pub struct Gauge {
+    /// Whether the queue was closed.
+    pub closed: bool,
+    /// How many tags were used, of those that the queue's limit allows: as many values were put.
+    pub used: u64,
+}
+
+/// The next step of a gauge.
+#[derive(Drop)]
+pub enum GaugeAt {
+    /// On the way to the end of the chain.
+    Seeking(Seek),
+    /// Load the last node's `next` again.
+    CheckNext(Tagged, Tagged),
+}
+
+impl<T> Queue<T> {
+    /// Whether the queue was closed, and how many tags were used, both at one time since its pass's
+    /// last step before the call. It retries while values are put. The call was a run of the
+    /// machine's steps. Called in `queue_tests`.
+    pub fn gauge<R: Wait>(&self, rt: &R, by: Pass<T>) -> (Pass<T>, Gauge)
+        requires { IsPassOf self.now by }
+        ensures of { IsPassOf self.now result.0 }
+        ensures gives { GaugeGives (room_of self.now) (limit_of self.now)
+            (pass_in by) (pass_in result.0) result.1 }
+        ensures ran { WasRun self.now GaugeFirst (pass_in by) result.0
+            (AnswerGauge result.1.closed result.1.used) }
+    {
+        let table = &self.table.shared;
+        let gauge = Operation::Gauge;
+        let first = first_step(table, self, by, GaugeAt::Seeking(Seek::LoadTail), &gauge);
+        to_the_end(rt, table, self, first, &gauge)
+    }
+
+    /// A gauge that makes no step yet.
+    #[inline]
+    pub fn begin_gauge(&self, by: Pass<T>) -> GaugeOp<T>
+        requires { IsPassOf self.now by }
+        ensures { IsGauging self.now result
+            × (begun_of self.now result.pass ≡ pass_in by) × (pass_in result.pass ≡ pass_in by) }
+    {
+        Op::begin(self, by, Operation::Gauge, GaugeAt::Seeking(Seek::LoadTail))
+    }
+}
+
+impl<T> Code<Queue<T>, T, Line<T>, Operation<T>, Queued, Gauge, 2> for GaugeAt {
+    ghost use Rattle.ms_queue.specs.Gauging.{gauge_account};
+
+    ghost account = { gauge_account };
+
+    #[inline(always)]
+    fn access(&self, on: &Queue<T>) -> Access {
+        match self {
+            GaugeAt::Seeking(at) => on.seek_access(at),
+            GaugeAt::CheckNext(tail, _) => Access::Load(next(tail.index())),
+        }
+    }
+
+    #[inline(always)]
+    fn next(
+        self,
+        on: &Queue<T>,
+        _seat: &mut Seat<Option<T>, View<T, Line<T>>>,
+        outcome: Outcome,
+    ) -> Next<GaugeAt, Gauge> {
+        match self {
+            GaugeAt::Seeking(at) => match on.seek_on(at, outcome) {
+                Next::On(at) => Next::On(GaugeAt::Seeking(at)),
+                Next::Lost(at) => Next::Lost(GaugeAt::Seeking(at)),
+                Next::Done(end) => match end {
+                    // Nothing is put any more: the tail's tag stays.
+                    End::Closed(tail) => Next::Done(Gauge {
+                        closed: true,
+                        used: tail.tag(),
+                    }),
+                    End::Open(tail, link) => Next::On(GaugeAt::CheckNext(tail, link)),
+                },
+            },
+            GaugeAt::CheckNext(tail, link) => {
+                // Where the link is still the same, the tail's node is the last one now.
+                if outcome.word != link.word() {
+                    return Next::Lost(GaugeAt::Seeking(Seek::LoadTail));
+                }
+                let used = tail.tag();
+                Next::Done(Gauge {
+                    closed: false,
+                    used,
+                })
+            }
+        }
+    }
+}
+
+impl<T> Call<Queue<T>, T, Line<T>, Operation<T>, Queued, Gauge, 2> for GaugeAt {
+    ghost use Rattle.std.specs.Prelude.{refl};
+    ghost use Rattle.ms_queue.specs.KeepsGauge.{gauge_promises, gauge_keeps};
+
+    ghost promises = { gauge_promises };
+
+    ghost idle = { λ key o answer. refl };
+
+    ghost keeps = { gauge_keeps };
+}

@@ -1,0 +1,29 @@
+-- A range of values that are copied from a slice: where it stands between its parts, and what a part of it has come to.
+use Rattle.std.specs.Prelude.{◌≡◌, ℕ, List, Option as Slot, Result}
+use Rattle.bounded_model.specs.declared.answers.Stepped.{Stepped}
+use Rattle.bounded_model.specs.declared.bulk.Ranged.{Ranged}
+use Rattle.bounded_model.specs.declared.bulk.RangeRefused.{RangeRefused}
+use Rattle.bounded_model.specs.declared.views.PassView.{PassView}
+use Rattle.bounded_model.specs.Stepping.{MatchStepped}
+use Rattle.stack_machine.specs.declared.lines.Line.{Line}
+use Rattle.running.specs.declared.passes.Pass.{Pass}
+use Rattle.treiber_stack.specs.declared.stack.Stack.{Stack}
+use Rattle.treiber_stack.specs.declared.range_trying.RangeOp.{RangeOp}
+use Rattle.treiber_stack.specs.Ranging.{PutsOf}
+use Rattle.treiber_stack.specs.RangeTrying.{IsRanging, gives_back, places_at}
+use Rattle.treiber_stack.specs.Stack.{pass_in, begun_of}
+
+module _ {T : Type 0} (c : Stack T) (vs : List T) where
+  -- a put of these values is under way; the places that it would have are those of the values without a node
+  abbrev pub IsCopying : RangeOp T → Type 0
+  IsCopying op = IsRanging c vs (places_at (gives_back op.at) op.held.count vs) op
+
+  -- begun as the pass was v, it is under way, or gave what the whole put of a range gives; the places are those of the values that were not put
+  abbrev pub CopyTried : PassView T → Stepped (RangeOp T) (Pass T (Line T)) (Result Ranged RangeRefused) → Type 0
+  CopyTried v made = MatchStepped made
+      (λ next. IsCopying next × (begun_of c next.pass ≡ v))
+      (λ back answer. (places : List (Slot T)) × PutsOf c v vs places back answer)
+
+  -- it was begun, and has made no step
+  abbrev pub CopyBegun : PassView T → Stepped (RangeOp T) (Pass T (Line T)) (Result Ranged RangeRefused) → Type 0
+  CopyBegun v made = CopyTried v made × MatchStepped made (λ next. pass_in next.pass ≡ v) (λ back answer. pass_in back ≡ v)

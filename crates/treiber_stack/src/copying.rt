@@ -1,0 +1,211 @@
+//! Ranges of values that are copied from a slice, so that they take no place for each value. They are
+//! put in parts of a bounded number of steps, for callers that may not wait.
+ghost use Rattle.std.specs.Prelude.{◌≡◌, List, [], map, Some, MatchOption};
+ghost use Rattle.bounded_model.specs.declared.views.PassView.{PassView};
+ghost use Rattle.stack_table.specs.Lines.{listed};
+ghost use Rattle.treiber_stack.specs.Copying.{CopyBegun, CopyTried, IsCopying};
+ghost use Rattle.treiber_stack.specs.RangeTrying.{HasStopped};
+ghost use Rattle.treiber_stack.specs.Ran.{IsRange};
+ghost use Rattle.treiber_stack.specs.Ranging.{IsRefused, Restores};
+ghost use Rattle.treiber_stack.specs.Stack.{IsPassOf, begun_of, pass_in};
+ghost use Rattle.treiber_stack.specs.declared.range_steps.RangeAt.{RangeAt};
+ghost use Rattle.treiber_stack.specs.declared.range_steps.RangeStop.TheVariants.{Over};
+ghost use Rattle.treiber_stack.specs.declared.refusing.Barred.{Barred};
+
+use crate::giving::{Chain, Give};
+use crate::range_steps::{Held, RangeAt, RangeEnd, RangeStop};
+use crate::range_trying::RangeOp;
+use crate::stack::{Pass, Stack};
+use bounded_model::{RangeRefused, Ranged, Stepped, Word};
+use stack_table::{Listed, Operation};
+use std::snapshot::Snapshot;
+use tagged_index::NULL;
+
+// Which values these are, for proofs alone.
+fn listing<T>(values: &[T]) -> Listed<T>
+    ensures { listed result ≡ values.now }
+{
+    let mut list = Listed::End;
+    for back in 0..values.len() {
+        let at = values.len() - 1 - back;
+        let others = Snapshot::of(&list);
+        list = Listed::More(Snapshot::of(&values[at]), others);
+    }
+    list
+}
+
+// The put of these values, if there is one.
+fn name_of<T>(values: &[T]) -> Option<Operation<T>>
+    ensures { MatchOption result (values.now ≡ []) (λ o. IsRange o values.now) }
+{
+    let (first, others) = values.split_first()?;
+    Some(Operation::Put(Snapshot::of(first), listing(others)))
+}
+
+impl<T: Copy> Stack<T> {
+    /// A put of these values that makes no step yet. An empty range is refused at once, as `Nothing`.
+    pub fn begin_copies(
+        &self,
+        by: Pass<T>,
+        values: &[T],
+    ) -> Stepped<RangeOp<T>, Pass<T>, Result<Ranged, RangeRefused>>
+        requires { IsPassOf self.now by }
+        ensures { CopyBegun self.now values.now (pass_in by) result }
+    {
+        let Some(operation) = name_of(values) else {
+            return Stepped::Done(by, Err(RangeRefused::Nothing));
+        };
+        let held = Held {
+            chain: Chain::of(NULL),
+            count: 0,
+        };
+        Stepped::Again(RangeOp {
+            pass: by,
+            operation,
+            held,
+            at: RangeAt::LoadFree,
+        })
+    }
+
+    // What a range does that has stopped. With a node it copies the next value into its slot, and goes
+    // on with a node for the one after it, or with all of them to the top.
+    fn copy_on(
+        &self,
+        by: Pass<T>,
+        held: Held,
+        stop: RangeStop,
+        values: &[T],
+        operation: Operation<T>,
+    ) -> Stepped<RangeOp<T>, Pass<T>, Result<Ranged, RangeRefused>>
+        requires { (v : PassView T) × (at : RangeAt)
+            × HasStopped self.now operation v by values.now held at stop
+            × IsRange operation values.now }
+        ensures { (v : PassView T) (at : RangeAt)
+            → HasStopped self.now operation v by values.now held at stop
+            → IsRange operation values.now → CopyTried self.now values.now v result }
+    {
+        let index = match stop {
+            RangeStop::Took(index) => index,
+            RangeStop::Over(end) => return self.end_copies(by, held, end, operation),
+        };
+        let mut place = Some(values[held.count as usize]);
+        let (pass, held) = self.load_node(by, held, index, &mut place, &operation);
+        if (held.count as usize) < values.len() {
+            let at = RangeAt::LoadFree;
+            return Stepped::Again(RangeOp {
+                pass,
+                operation,
+                held,
+                at,
+            });
+        }
+        let at = RangeAt::Load;
+        Stepped::Again(RangeOp {
+            pass,
+            operation,
+            held,
+            at,
+        })
+    }
+
+    // Says what a range that is over has put. Where nothing can be put onto the top, the nodes are
+    // emptied, and go back to the free list.
+    fn end_copies(
+        &self,
+        by: Pass<T>,
+        held: Held,
+        end: RangeEnd,
+        operation: Operation<T>,
+    ) -> Stepped<RangeOp<T>, Pass<T>, Result<Ranged, RangeRefused>>
+        requires { (v : PassView T) × (vs : List T) × (at : RangeAt)
+            × HasStopped self.now operation v by vs held at (Over end) × IsRange operation vs }
+        ensures { (v : PassView T) (vs : List T) (at : RangeAt)
+            → HasStopped self.now operation v by vs held at (Over end) → IsRange operation vs
+            → CopyTried self.now vs v result }
+    {
+        match end {
+            RangeEnd::Put(number) => {
+                let count = held.count;
+                Stepped::Done(by, Ok(Ranged { number, count }))
+            }
+            RangeEnd::Full => Stepped::Done(by, Err(RangeRefused::Full)),
+            RangeEnd::Refused(why) => Stepped::Done(by, Err(why.of_range())),
+            RangeEnd::Spent(tag) => Stepped::Done(by, Err(RangeRefused::Spent(Word::Free, tag))),
+            RangeEnd::Barred(why) => {
+                let pass = self.empty_nodes(by, held);
+                let at = RangeAt::GiveBack(why, Give::Load);
+                Stepped::Again(RangeOp {
+                    pass,
+                    operation,
+                    held,
+                    at,
+                })
+            }
+            RangeEnd::GaveBack(why) => Stepped::Done(by, Err(why.of_range())),
+        }
+    }
+
+    // Takes the copies of a refused range out of its nodes, the last first. The links of the nodes are
+    // read by loads that belong to no line.
+    fn empty_nodes(&self, by: Pass<T>, held: Held) -> Pass<T>
+        requires { (o : Operation T) × (vs : List T) × (why : Barred)
+            × IsRefused self.now o by vs held why }
+        ensures { (o : Operation T) (vs : List T) (why : Barred)
+            → IsRefused self.now o by vs held why
+            → Restores self.now o by vs held why (map Some vs) result }
+    {
+        let mut pass = by;
+        let mut index = held.chain.first;
+        for moved in 0..held.count {
+            let place = held.count - 1 - moved;
+            let _copy = self.take_out(&mut pass, index);
+            if place > 0 {
+                index = self.read_again(&mut pass, index);
+            }
+        }
+        pass
+    }
+}
+
+impl<T: Copy> RangeOp<T> {
+    /// Goes on, with the values that it was begun with: for at most so many steps to take each node,
+    /// as many to put them onto the top, and as many to give them back, with a wait after each
+    /// compare-and-swap that failed. A node that is linked, or emptied, is a step more.
+    pub fn copy_for(
+        self,
+        stack: &Stack<T>,
+        values: &[T],
+        steps: u64,
+    ) -> Stepped<RangeOp<T>, Pass<T>, Result<Ranged, RangeRefused>>
+        requires { IsCopying stack.now values.now self }
+        ensures { CopyTried stack.now values.now (begun_of stack.now self.pass) result }
+    {
+        let mut range = self;
+        // It stops with each node, where the nodes are emptied, and at its end.
+        for _ in 0..values.len().saturating_add(2) {
+            let RangeOp {
+                pass,
+                operation,
+                held,
+                at,
+            } = range;
+            match stack.run_range_for(pass, held, at, &operation, steps) {
+                Stepped::Again((pass, at)) => {
+                    return Stepped::Again(RangeOp {
+                        pass,
+                        operation,
+                        held,
+                        at,
+                    });
+                }
+                Stepped::Done(back, stop) => {
+                    match stack.copy_on(back, held, stop, values, operation) {
+                        Stepped::Again(next) => range = next,
+                        Stepped::Done(pass, answer) => return Stepped::Done(pass, answer),
+                    }
+                }
+            }
+        }
+        Stepped::Again(range)
+    }
+}

@@ -1,0 +1,48 @@
+//! Gauging a stack: whether it is closed, and how many of its tags are used, by one load of its top.
+ghost use Rattle.stack_machine.specs.Machine.{ends};
+ghost use Rattle.stack_machine.specs.declared.lines.Answer.TheVariants.{Gauge as Gauged};
+ghost use Rattle.stack_machine.specs.declared.lines.Line.TheVariants.{LoadTopToGauge};
+ghost use Rattle.treiber_stack.specs.Gauging.{GaugeGives};
+ghost use Rattle.treiber_stack.specs.Stack.{IsPassOf, OneLine, limit_of, pass_in, room_of};
+
+use crate::stack::{Pass, Stack};
+use running::load_top_step;
+use stack_table::Operation;
+use stack_table::layout::STACK_LIST;
+
+/// What a gauge shows.
+#[derive(Clone, Copy, Debug, PartialEq, Eq)]
+pub struct Gauge {
+    /// Whether the stack was closed.
+    pub closed: bool,
+    /// How many tags were used, of those that the stack's limit allows: one for each put and each
+    /// take, of one value or of many.
+    pub used: u64,
+}
+
+impl<T> Stack<T> {
+    /// Whether the stack is closed, and how many tags are used: one load of its top. Called in
+    /// `example_stack`.
+    #[inline]
+    pub fn gauge(&self, by: Pass<T>) -> (Pass<T>, Gauge)
+        requires { IsPassOf self.now by }
+        ensures of { IsPassOf self.now result.0 }
+        ensures gives { GaugeGives (room_of self.now) (limit_of self.now)
+            (pass_in by) (pass_in result.0) result.1 }
+        ensures line { OneLine self.now by result.0 LoadTopToGauge
+            (ends (Gauged result.1.closed result.1.used)) }
+    {
+        let mut pass = by;
+        let top = load_top_step(
+            &self.table.shared,
+            &mut pass.seat,
+            STACK_LIST,
+            &Operation::Gauge,
+        );
+        let gauge = Gauge {
+            closed: top.is_marked(),
+            used: top.tag(),
+        };
+        (pass, gauge)
+    }
+}
