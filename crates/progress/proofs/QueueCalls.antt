@@ -9,17 +9,17 @@ use Rattle.bounded_model.specs.declared.views.PassView.{PassView}
 use Rattle.bounded_model.specs.Laws.{PutGives, TakeGives}
 use Rattle.queue_machine.specs.declared.lines.Line.{Line}
 use Rattle.queue_table.specs.declared.operation.Operation.{Operation}
-use Rattle.queue_table.specs.Lines.{call_of, names}
+use Rattle.queue_table.specs.Lines.{call_of}
 use Rattle.running.specs.Code.{Account}
 use Rattle.running.specs.Passes.{pass_in}
 use Rattle.running.specs.declared.op.Op.{Op}
 use Rattle.running.specs.declared.passes.Pass.{Pass}
-use Rattle.runs.specs.Made.{HasMade, IsAfter, MadeFor}
+use Rattle.runs.specs.Made.{MadeFor}
 use Rattle.runs.proofs.Made.{going}
 use Rattle.ms_queue.specs.declared.queue.Queue.{Queue}
 use Rattle.ms_queue.specs.Putting.{IsPutting, PutOp, put_account, put_promises}
 use Rattle.ms_queue.specs.Queue.{machine_of, shape_of, begun_of}
-use Rattle.ms_queue.specs.Taking.{IsTaking, TakeOp, take_account}
+use Rattle.ms_queue.specs.Taking.{TakeOp, take_account}
 use Rattle.ms_queue.specs.Trying.{PutTried, TakeTried}
 use Rattle.ms_queue.specs.KeepsAnswers.{take_promises}
 use Rattle.progress.specs.Queues.{EndsOrOvertaken}

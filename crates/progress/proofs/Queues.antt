@@ -1,12 +1,11 @@
 -- What an operation of a queue under way knows bounds its steps.
-use Rattle.std.proofs.Common.{◌≡◌, ℕ, ◌∷◌, ◌+◌, ◌*◌, ◌<◌, ◌≤◌, Bool, true, false, refl, sym, ap, ◌∙◌, arith}
+use Rattle.std.proofs.Common.{◌≡◌, ℕ, ◌∷◌, ◌+◌, ◌*◌, ◌<◌, Bool, true, false, refl, sym, ap, ◌∙◌, arith}
 use Rattle.tagged_index.specs.declared.limit.Limits.{Limits}
 use Rattle.bounded_model.specs.declared.views.PassView.{PassView}
 use Rattle.machine.specs.Seats.{Acts, acts_before, acts_now, pass_of}
 use Rattle.queue_machine.specs.declared.lines.Line.{Line}
 use Rattle.queue_table.specs.declared.operation.Operation.{Operation}
 use Rattle.queue_table.specs.Lines.{first_line, names}
-use Rattle.queue_table.specs.Core.{core}
 use Rattle.running.specs.Rule.{line_in}
 use Rattle.running.specs.Going.{Going}
 use Rattle.running.specs.Acts.{Begins, steps_in}

@@ -15,12 +15,12 @@ use Rattle.running.specs.Passes.{pass_in}
 use Rattle.running.specs.declared.op.Op.{Op}
 use Rattle.running.specs.declared.passes.Pass.{Pass}
 use Rattle.step_core.specs.stack.Bound.{IsSingle}
-use Rattle.runs.specs.Made.{HasMade, IsAfter, MadeFor}
+use Rattle.runs.specs.Made.{MadeFor}
 use Rattle.runs.proofs.Made.{going}
 use Rattle.treiber_stack.specs.declared.stack.Stack.{Stack}
-use Rattle.treiber_stack.specs.Putting.{IsPutting, PutOp, put_account, put_of}
+use Rattle.treiber_stack.specs.Putting.{IsPutting, PutOp, put_account}
 use Rattle.treiber_stack.specs.Stack.{machine_of, shape_of, begun_of}
-use Rattle.treiber_stack.specs.Taking.{IsTaking, TakeOp, take_account}
+use Rattle.treiber_stack.specs.Taking.{TakeOp, take_account}
 use Rattle.treiber_stack.specs.Trying.{PutTried, TakeTried}
 use Rattle.treiber_stack.specs.KeepsAnswers.{put_promises, take_promises}
 use Rattle.progress.specs.Stacks.{EndsOrOvertaken}

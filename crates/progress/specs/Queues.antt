@@ -1,6 +1,7 @@
 -- How many steps an operation of a queue has made, as its caller sees it.
 use Rattle.std.specs.Prelude.{◌≡◌, ℕ, ◌<◌, List, false, ◌∷◌, ◌++◌}
 use Rattle.bounded_model.specs.declared.answers.Stepped.{Stepped}
+use Rattle.bounded_model.specs.Laws.{NoneOut}
 use Rattle.bounded_model.specs.Stepping.{MatchStepped}
 use Rattle.bounded_model.specs.declared.views.RootView.{RootView}
 use Rattle.machine.specs.Progress.{others_win}
@@ -9,6 +10,7 @@ use Rattle.queue_machine.specs.Answers.{shape}
 use Rattle.queue_machine.specs.Machine.{queue}
 use Rattle.queue_machine.specs.declared.lines.Line.{Line}
 use Rattle.queue_runs.specs.Bounded.{IsBounded, call_at, state_after}
+use Rattle.queue_runs.specs.Work.{TotalWork}
 use Rattle.queue_table.specs.Core.{core}
 use Rattle.queue_table.specs.Lines.{first_line, names}
 use Rattle.queue_table.specs.declared.operation.Operation.{Operation}
@@ -52,7 +54,9 @@ module _ {T : Type 0} (c : Queue T) (o : Operation T) (p : Pass T (Line T)) wher
 abbrev pub EndsOrOvertaken : {T S A : Type 0} → Queue T → Stepped (Op T (Line T) (Operation T) S) (Pass T (Line T)) A → Type 0
 EndsOrOvertaken c made = MatchStepped made (λ next. IsOvertaken c next.operation next.pass 0) (λ back answer. Unit {0})
 
--- what is left stands for a run of the passes whose calls are linearizable
-pub record IsLinearizableRun {T : Type 0} (c : Queue T) (r : RootView T) (left : List T) : Type 0 where
+-- What is left stands for a run of the passes. Their calls are linearizable, and if no pass is out, they have made no more steps together than their
+-- calls cost
+pub record IsPaidRun {T : Type 0} (c : Queue T) (r : RootView T) (left : List T) : Type 0 where
   pub run : IsRun (room_of c) (limit_of c) r left
   pub linearizable : IsLinearizable names (core T (room_of c) (limit_of c)) call_at answer (object (room_of c) (limit_of c)) run.acts
+  pub work : NoneOut r → TotalWork r run.acts

@@ -1,5 +1,6 @@
 //! The bound on the steps of a queue's operations.
-ghost use Rattle.bounded_model.specs.Laws.{Leaves};
+ghost use Rattle.std.specs.Prelude.{◌≤◌};
+ghost use Rattle.bounded_model.specs.Laws.{Leaves, NoneOut};
 ghost use Rattle.running.specs.Passes.{pass_in, root_in};
 ghost use Rattle.ms_queue.specs.Closing.{IsClosing};
 ghost use Rattle.ms_queue.specs.Left.{left_in};
@@ -9,7 +10,9 @@ ghost use Rattle.ms_queue.specs.Queue.{IsPassOf, IsRootOf, shape_of};
 ghost use Rattle.ms_queue.specs.Shutting.{IsShutting};
 ghost use Rattle.ms_queue.specs.Taking.{IsTaking};
 ghost use Rattle.ms_queue.specs.Trying.{PutTried, TakeTried};
-ghost use Rattle.progress.specs.Queues.{StepsAreBounded, EndsOrOvertaken, IsLinearizableRun};
+ghost use Rattle.queue_runs.specs.Work.{fee, others_of};
+ghost use Rattle.runs.specs.Work.{total_steps, total_fees};
+ghost use Rattle.progress.specs.Queues.{StepsAreBounded, EndsOrOvertaken, IsPaidRun};
 
 use bounded_model::{PutRefused, Stepped, TakeRefused};
 use ms_queue::{CloseOp, LookOp, Pass, PutOp, Queue, Rest, Root, ShutOp, TakeOp};
@@ -47,11 +50,16 @@ pub fn take_or_overtaken<T>(
 }
 
 /// Ends a queue, as `finish` does, and returns what is left. That stands for a run of the passes whose
-/// calls are linearizable.
+/// calls are linearizable. If no pass is out, all passes together have made at most as many steps as
+/// their calls cost, each by what it has answered: where P passes were given, a put `14 * P + 4`, a
+/// take `12 * P + 5`, a close `8 * P`, a shut `6 * P - 4`, a look 3, a count 4, a gauge 8, and a meeting
+/// or a note heard 1.
 pub fn end<T>(queue: Queue<T>, parent: Root<T>) -> Rest<T>
     requires { IsRootOf queue parent }
     ensures leaves { Leaves (shape_of queue) (root_in parent) (left_in result) }
-    ensures run { IsLinearizableRun queue (root_in parent) (left_in result) }
+    ensures run { IsPaidRun queue (root_in parent) (left_in result) }
+    ensures work { NoneOut (root_in parent) → let r = root_in parent in
+        total_steps r.works ≤ total_fees (fee (others_of r)) r.works }
 {
     queue.end(parent)
 }

@@ -12,7 +12,7 @@ ghost use Rattle.treiber_stack.specs.RangeTrying.{IsRanging};
 ghost use Rattle.treiber_stack.specs.Stack.{IsPassOf, IsRootOf, pass_in, root_in, shape_of};
 ghost use Rattle.treiber_stack.specs.Taking.{IsTaking};
 ghost use Rattle.treiber_stack.specs.Trying.{PutTried, TakeTried};
-ghost use Rattle.progress.specs.Stacks.{StepsAreBounded, EndsOrOvertaken, IsLinearizableRun};
+ghost use Rattle.progress.specs.Stacks.{StepsAreBounded, EndsOrOvertaken, IsPaidRun};
 
 use bounded_model::{PutRefused, Stepped, TakeRefused};
 use runs::step_for;
@@ -50,11 +50,12 @@ pub fn take_or_overtaken<T>(
 }
 
 /// Ends a stack, as `finish` does, and returns what is left. That stands for a run of the passes whose
-/// calls are linearizable.
+/// calls are linearizable. If no pass is out, all passes together have made at most as many steps as
+/// their calls cost, besides the loads by which refused ranges are read back (`stack_total_work`).
 pub fn end<T>(stack: Stack<T>, parent: Root<T>) -> Rest<T>
     requires { IsRootOf stack parent }
     ensures leaves { Leaves (shape_of stack) (root_in parent) (left_in result) }
-    ensures run { IsLinearizableRun stack (root_in parent) (left_in result) }
+    ensures run { IsPaidRun stack (root_in parent) (left_in result) }
 {
     stack.end(parent)
 }

@@ -1,7 +1,14 @@
-//! With nobody else at work no call is overtaken.
+//! With nobody else at work no call is overtaken. And what two passes have done together.
+ghost use Rattle.std.specs.Prelude.{◌≡◌, ℕ, ◌+◌, ◌≤◌, List, [], ◌∷◌, Result};
+ghost use Rattle.bounded_model.specs.declared.answers.PutRefused.{PutRefused};
+ghost use Rattle.bounded_model.specs.declared.answers.TakeRefused.{TakeRefused};
+ghost use Rattle.bounded_model.specs.declared.views.Answered.TheVariants.{Put, Take};
+ghost use Rattle.ms_queue.specs.Queue.{IsPassOf, IsRootOf};
+ghost use Rattle.running.specs.Passes.{pass_in, root_in};
+
 use crate::{queue, stack};
 use bounded_model::{Container, Stepped};
-use ms_queue::Queue;
+use ms_queue::{Pass, Queue, Root};
 use tagged_index::{Limits, MAX_TAG};
 use treiber_stack::Stack;
 
@@ -33,4 +40,34 @@ fn alone_the_calls_of_a_stack_end(rt: HostRuntime) {
         panic!(rt; "the take was overtaken")
     };
     assert!(rt; matches!(took, Ok((7, 1))));
+}
+
+/// The end of a queue that has given two passes, of which one has made a put and the other a take.
+/// Together they have made at most 61 steps, whatever the other did meanwhile: with two passes a put
+/// costs at most 32, and a take 29.
+fn ends_within(queue: Queue<u32>, root: Root<u32>, first: Pass<u32>, second: Pass<u32>)
+    requires of { IsRootOf queue root × IsPassOf queue first × IsPassOf queue second }
+    requires two { ((root_in root).given ≡ 2) × ((root_in root).account ≡ [])
+        × ((root_in root).works ≡ []) }
+    requires put { (r : Result ℕ (PutRefused (List ℕ))) × ((pass_in first).answers ≡ Put r ∷ []) }
+    requires take { (r : Result (ℕ × ℕ) TakeRefused) × ((pass_in second).answers ≡ Take r ∷ []) }
+    ensures { (pass_in first).steps + (pass_in second).steps ≤ 61 }
+{
+    let mut root = root;
+    queue.join(&mut root, first);
+    queue.join(&mut root, second);
+    let _ = queue::end(queue, root);
+}
+
+#[test]
+fn two_passes_make_no_more_steps_than_their_calls_cost(rt: HostRuntime) {
+    let limits = Limits::of(1, MAX_TAG).expect(&rt, "limits");
+    let (queue, mut root) = Queue::<u32>::new(rt.alloc(), limits).expect(&rt, "memory");
+    let first = queue.split(&mut root).expect(&rt, "a pass");
+    let second = queue.split(&mut root).expect(&rt, "a pass");
+    let (first, put) = queue.put(&rt, first, 7);
+    assert!(rt; put.is_ok());
+    let (second, took) = queue.take(&rt, second);
+    assert!(rt; matches!(took, Ok((7, 0))));
+    ends_within(queue, root, first, second);
 }

@@ -7,7 +7,7 @@ use Rattle.queue_machine.specs.declared.lines.Line.{Line}
 use Rattle.queue_machine.specs.Machine.{State, is_idle, queue}
 use Rattle.queue_machine.specs.Answers.{shape}
 use Rattle.queue_table.specs.declared.operation.Operation.{Operation}
-use Rattle.queue_table.specs.declared.operation.Operation.TheVariants.{Put as PutFirst, Take as TakeFirst, Close as CloseFirst, Shut as ShutFirst, Look as LookFirst, Len as LenFirst}
+use Rattle.queue_table.specs.declared.operation.Operation.TheVariants.{Put as PutFirst, Take as TakeFirst, Close as CloseFirst, Shut as ShutFirst, Look as LookFirst, Len as LenFirst, Gauge as GaugeFirst}
 use Rattle.queue_table.specs.Lines.{names}
 use Rattle.queue_table.specs.Core.{core}
 use Rattle.queue_table.proofs.Laws.{queue as on_table}
@@ -34,6 +34,7 @@ module _ {T : Type 0} where
       starts ShutFirst rest l = refl
       starts LookFirst rest l = refl
       starts LenFirst rest l = refl
+      starts GaugeFirst rest l = refl
 
   module _ (n limit : ℕ) (some_cell : 0 < n) (small : n < NULL) (some_tag : 0 < limit) where
     pub meets : (passes : ℕ) (acts : Acts (Line T)) → MeetsRule n limit (state_after n limit passes acts)

@@ -4,7 +4,8 @@ use Rattle.machine.specs.Seats.{Acts}
 use Rattle.machine.specs.Schedule.{after}
 use Rattle.machine.specs.Progress.{others_win}
 use Rattle.queue_machine.specs.declared.lines.Call.{Call}
-use Rattle.queue_machine.specs.declared.lines.Call.TheVariants.{Put as CallPut, Take as CallTake, Close as CallClose, Shut as CallShut, Look as CallLook, Len as CallLen}
+use Rattle.queue_machine.specs.declared.lines.Call.TheVariants.{Put as CallPut, Take as CallTake, Close as CallClose, Shut as CallShut, Look as CallLook, Len as CallLen, Gauge as CallGauge}
+use Rattle.queue_machine.specs.declared.lines.Seeking.TheVariants.{ToGauge}
 use Rattle.queue_machine.specs.declared.lines.Line.{Line}
 use Rattle.queue_machine.specs.declared.lines.Line.TheVariants.{LoadCells, LoadTail, LoadHeadToShut, LoadHeadToLook, LoadHeadToCount}
 use Rattle.queue_machine.specs.Machine.{State, queue}
@@ -16,6 +17,7 @@ module _ {T : Type 0} where
   -- the call that begins at a line
   abbrev pub call_at : Line T → Call T
   call_at (LoadCells v) = CallPut v
+  call_at (LoadTail ToGauge) = CallGauge
   call_at (LoadTail s) = CallClose
   call_at LoadHeadToShut = CallShut
   call_at LoadHeadToLook = CallLook

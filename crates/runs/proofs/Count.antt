@@ -9,7 +9,7 @@ use Rattle.machine.specs.Schedule.{Machine, Pass, State, Act, Begin, Step, Sched
 use Rattle.machine.specs.Bound.{is_busy, counted, own_steps}
 use Rattle.machine.proofs.Tests.{cases}
 use Rattle.machine.proofs.Scheduled.{set_other}
-use Rattle.running.specs.Acts.{Doing, Begins, Steps, Looks, sum_of}
+use Rattle.running.specs.Acts.{Doing, Begins, Steps, Looks, Hears, sum_of}
 use Rattle.runs.specs.Runs.{one, schedule_of}
 
 abbrev pub begun_by : {C : Type 0} → Act C → ℕ
@@ -24,7 +24,7 @@ module _ {M L C E : Type 0} (x : Machine M L C E) (p : ℕ) where
   abbrev busy : State M L C E → Bool
   busy s = is_busy x (get_elem? s.passes p)
 
-  same_there : (s : State M L C E) (q : ℕ) (a : Act C) → q ≢ p → (o : Option (Pass L C E)) → get_elem? (acts_at x s q a o).passes p ≡ get_elem? s.passes p
+  pub same_there : (s : State M L C E) (q : ℕ) (a : Act C) → q ≢ p → (o : Option (Pass L C E)) → get_elem? (acts_at x s q a o).passes p ≡ get_elem? s.passes p
   same_there s q a ne none = refl
   same_there s q (Begin call) ne (some v) = cases (λ (z : State M L C E). get_elem? z.passes p ≡ get_elem? s.passes p) (x.is_idle v.line) (begun x s q v call) s (λ _. set_other s.passes q p (having_begun x s v call) ne) (λ _. refl)
   same_there s q Step ne (some v) = cases (λ (z : State M L C E). get_elem? z.passes p ≡ get_elem? s.passes p) (x.is_idle v.line) s (stepped x s q v (x.step s.memory q v.line)) (λ _. refl) (λ _. set_other s.passes q p (having_stepped x s v (x.step s.memory q v.line)) ne)
@@ -67,7 +67,7 @@ module _ {M L C E : Type 0} (x : Machine M L C E) (p : ℕ) where
   sum_append f (a ∷ xs) ys = let r = sum_append f xs ys in omega arith
 
   -- and they are the steps among the acts
-  module _ (call_at : L → C) (f : Act C → ℕ) (g : Doing L → ℕ) (begins : (first : L) → f (Begin (call_at first)) ≡ g (Begins first)) (steps : f Step ≡ g Steps) (looks : g Looks ≡ 0) where
+  module _ (call_at : L → C) (f : Act C → ℕ) (g : Doing L → ℕ) (begins : (first : L) → f (Begin (call_at first)) ≡ g (Begins first)) (steps : f Step ≡ g Steps) (looks : g Looks ≡ 0) (hears : g Hears ≡ 0) where
     same_test : (q : ℕ) (k : ℕ) → cond (q == p) k 0 ≡ cond (p == q) k 0
     same_test q k = ⊎_elim
         (λ t. ap (λ (b : Bool). cond b k 0) (t.0 ∙ sym (eq-eqb p q (sym t.1))))
@@ -82,6 +82,7 @@ module _ {M L C E : Type 0} (x : Machine M L C E) (p : ℕ) where
     one_same q (Begins first) = let e = same_test q (f (Begin (call_at first))) in let e' = ap (λ (k : ℕ). cond (p == q) k 0) (begins first) in omega (arith, e, e')
     one_same q Steps = let e = same_test q (f Step) in let e' = ap (λ (k : ℕ). cond (p == q) k 0) steps in omega (arith, e, e')
     one_same q Looks = nothing (p == q) (g Looks) looks
+    one_same q Hears = nothing (p == q) (g Hears) hears
 
     pub sums_same : (done : Acts L) → sum_by f (schedule_of call_at done) ≡ sum_of g p done
     sums_same [] = refl

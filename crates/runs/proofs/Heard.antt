@@ -6,7 +6,7 @@ use Rattle.bounded_model.specs.declared.history.Event.{Event}
 use Rattle.machine.specs.Seats.{Acts}
 use Rattle.machine.specs.Schedule.{Machine as Pure, State, Begin, Step, Schedule, next, run, start}
 use Rattle.running.specs.Machine.{Names, Machine}
-use Rattle.running.specs.Acts.{Doing, Begins, Steps, Looks, Now, played, IsAllowed}
+use Rattle.running.specs.Acts.{Doing, Begins, Steps, Looks, Hears, Now, played, IsAllowed}
 use Rattle.step_core.specs.Linearizable.{Object, Entry, Invokes, Responds, history_at, concurrent_history, Linearizable}
 use Rattle.runs.specs.Runs.{Below, one, schedule_of, IsRunning, Shows}
 use Rattle.runs.specs.Heard.{heard_at, heard, IsLinearizable}
@@ -59,6 +59,7 @@ module _ {T L O C A : Type 0} {names : Names L O} (m : Machine T L O names) (x :
       ap (history_at x answer s p Step) there.1
       ∙ (λ t. cond (idle t) [] (cond (ended t) (Responds p (answer (line t)) ∷ []) []))
   heard_one n s k sh p low Looks allowed = refl
+  heard_one n s k sh p low Hears allowed = refl
 
   pub heard_all : (n : ℕ) (acts : Acts L) → Below n acts → Every (λ a. IsAllowed names m.core a.1) acts → concurrent_history x answer (schedule_of call_at acts) (start x n) ≡ told acts
   heard_all n [] low allowed = refl

@@ -10,7 +10,7 @@ use Rattle.machine.specs.Schedule.{Machine as Pure, Pass, State, Act, Begin, Ste
 use Rattle.machine.proofs.Scheduled.{passes_after, start_at}
 use Rattle.machine.proofs.Sums.{at_set}
 use Rattle.running.specs.Machine.{Names, Machine}
-use Rattle.running.specs.Acts.{Doing, Begins, Steps, Looks, Now, placed, after_act, played, IsAllowed}
+use Rattle.running.specs.Acts.{Doing, Begins, Steps, Looks, Hears, Now, placed, after_act, played, IsAllowed}
 use Rattle.running.specs.Acts as running
 use Rattle.runs.specs.Runs.{Below, one, schedule_of, IsRunning, Shows}
 
@@ -89,6 +89,7 @@ module _ {T L O C : Type 0} {names : Names L O} (m : Machine T L O names) (x : P
       let there = at_some s.passes p (omega (arith, sh.many, low)) in
       subst (λ (z : S). Shows m x call_at n z (after_act names m.core k p Steps)) (sym (acts_so n s k sh p there.0 there.1 Step)) (steps_so n s k sh p there.0 there.1)
   shows_one n s k sh p low Looks allowed = sh
+  shows_one n s k sh p low Hears allowed = sh
 
   pub shows_all : (n : ℕ) (done : Acts L) → Below n done → Every (λ a. IsAllowed names m.core a.1) done → Shows m x call_at n (run x (schedule_of call_at done) (start x n)) (played names m.core done)
   shows_all n [] low allowed = record {

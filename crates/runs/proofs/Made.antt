@@ -11,7 +11,7 @@ use Rattle.running.specs.Acts.{Doing, Begins, Steps, is_begin, is_step, sum_of, 
 use Rattle.running.specs.Code.{Account}
 use Rattle.running.specs.Going.{Going, IsLine, begun_in}
 use Rattle.running.specs.Ops.{IsUnderWay, underway_of}
-use Rattle.running.specs.Rule.{line_in, line_now}
+use Rattle.running.specs.Rule.{line_in}
 use Rattle.running.specs.declared.op.Op.{Op}
 use Rattle.running.proofs.Acts.{sum_append, sum_same}
 use Rattle.running.proofs.Going.{begun_going}

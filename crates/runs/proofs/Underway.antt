@@ -54,8 +54,8 @@ module _ {T L O C : Type 0} {names : Names L O} (m : Machine T L O names) (x : P
       ∙ ap not (is.idle there.0.line ∙ ap names.is_idle (shows.lines p there.0 there.1 ∙ k.at) ∙ busy)
 
   pub steps_are_own : names.is_idle l ≡ false → own_steps x p run_on s ≡ steps_in p k.since
-  steps_are_own busy = all_own x p run_on s (still_busy busy) (sums_same x p call_at begun_by is_begin (λ first. refl) refl refl k.since ∙ k.once)
-      ∙ sums_same x p call_at (counted x) is_step (λ first. refl) refl refl k.since
+  steps_are_own busy = all_own x p run_on s (still_busy busy) (sums_same x p call_at begun_by is_begin (λ first. refl) refl refl refl k.since ∙ k.once)
+      ∙ sums_same x p call_at (counted x) is_step (λ first. refl) refl refl refl k.since
 
   abbrev begun_now : Now names m.core → Now names m.core
   begun_now y = record { memory = y.memory; line = placed y.line p first; history = y.history }

@@ -4,7 +4,7 @@ use Rattle.std.specs.Prelude.{◌≡◌, ℕ, if◌then◌else◌, List, [], ◌
 use mathlib.Core.Option.{Option}
 use Rattle.machine.specs.Seats.{Acts}
 use Rattle.running.specs.Machine.{Names, Core}
-use Rattle.running.specs.Acts.{Doing, Begins, Steps, Looks, Now, played}
+use Rattle.running.specs.Acts.{Doing, Begins, Steps, Looks, Hears, Now, played}
 use Rattle.step_core.specs.Linearizable.{Object, Entry, Invokes, Responds, IsLinearization, without_points, events}
 
 -- `call_at` says which call begins at a line, and `answer` what a pass has answered at one, if anything
@@ -17,6 +17,7 @@ module _ {T L O C A : Type 0} (names : Names L O) (c : Core T L O) (call_at : L 
       else if names.is_idle (c.lands s.memory p (s.line p)) then Responds p (answer (c.lands s.memory p (s.line p))) ∷ []
       else []
   heard_at s p Looks = []
+  heard_at s p Hears = []
 
   -- all of them, the newest first
   abbrev pub heard : Acts L → List (Entry T C A)

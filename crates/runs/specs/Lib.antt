@@ -1,3 +1,4 @@
 pub mod Runs
 pub mod Heard
 pub mod Made
+pub mod Work

@@ -7,18 +7,19 @@ use Rattle.bounded_model.specs.declared.history.Event.{Event}
 use Rattle.machine.specs.Seats.{Acts}
 use Rattle.machine.specs.Schedule.{Machine as Pure, Pass, State, Begin, Step, Schedule}
 use Rattle.running.specs.Machine.{Names, Machine}
-use Rattle.running.specs.Acts.{Doing, Begins, Steps, Looks, Now}
+use Rattle.running.specs.Acts.{Doing, Begins, Steps, Looks, Hears, Now}
 
 -- these acts are of passes with a number below n
 abbrev pub Below : {L : Type 0} → ℕ → Acts L → Type 0
 Below n acts = Every (λ a. a.0 < n) acts
 
 module _ {L C : Type 0} (call_at : L → C) where
-  -- one act: a load that belongs to no line is none of the machine's
+  -- one act: a load that belongs to no line is none of the machine's, nor is a meeting or a note heard
   abbrev pub one : ℕ → Doing L → Schedule C
   one p (Begins first) = (p, Begin (call_at first)) ∷ []
   one p Steps = (p, Step) ∷ []
   one p Looks = []
+  one p Hears = []
 
   -- the oldest first
   abbrev pub schedule_of : Acts L → Schedule C

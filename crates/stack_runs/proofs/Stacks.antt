@@ -10,7 +10,7 @@ use Rattle.stack_machine.specs.declared.lines.Line.{Line}
 use Rattle.stack_machine.specs.Machine.{Pass, is_idle, stack}
 use Rattle.stack_machine.specs.Answers.{shape}
 use Rattle.stack_table.specs.declared.operation.Operation.{Operation}
-use Rattle.stack_table.specs.declared.operation.Operation.TheVariants.{Put as PutFirst, Take as TakeFirst, Close as CloseFirst, Shut as ShutFirst, Look as LookFirst, Fold as FoldFirst}
+use Rattle.stack_table.specs.declared.operation.Operation.TheVariants.{Put as PutFirst, Take as TakeFirst, Close as CloseFirst, Shut as ShutFirst, Look as LookFirst, Fold as FoldFirst, Gauge as GaugeFirst}
 use Rattle.stack_table.specs.Lines.{names}
 use Rattle.stack_table.specs.Core.{core}
 use Rattle.stack_table.proofs.Laws.{stack as on_table}
@@ -38,6 +38,7 @@ module _ {T : Type 0} where
       starts ShutFirst rest l = refl
       starts LookFirst rest l = refl
       starts (FoldFirst front) rest l = refl
+      starts GaugeFirst rest l = refl
 
   module _ (n limit : ℕ) (some_node : 0 < n) (small : n ≤ NULL) where
     pub meets : (passes : ℕ) (acts : Acts (Line T)) → MeetsRule n limit (state_after n limit passes acts)

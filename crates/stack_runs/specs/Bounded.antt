@@ -4,9 +4,9 @@ use Rattle.machine.specs.Seats.{Acts}
 use Rattle.machine.specs.Schedule.{after}
 use Rattle.machine.specs.Progress.{others_win}
 use Rattle.stack_machine.specs.declared.lines.Call.{Call}
-use Rattle.stack_machine.specs.declared.lines.Call.TheVariants.{Put as CallPut, Take as CallTake, Close as CallClose, Shut as CallShut, Look as CallLook}
+use Rattle.stack_machine.specs.declared.lines.Call.TheVariants.{Put as CallPut, Take as CallTake, Close as CallClose, Shut as CallShut, Look as CallLook, Gauge as CallGauge}
 use Rattle.stack_machine.specs.declared.lines.Line.{Line}
-use Rattle.stack_machine.specs.declared.lines.Line.TheVariants.{LoadFree, LoadTopToTake, LoadTopToClose, LoadTopToShut}
+use Rattle.stack_machine.specs.declared.lines.Line.TheVariants.{LoadFree, LoadTopToTake, LoadTopToClose, LoadTopToShut, LoadTopToGauge}
 use Rattle.stack_machine.specs.Machine.{State, stack}
 use Rattle.stack_machine.specs.Answers.{shape}
 use Rattle.step_core.specs.stack.Bound.{IsSingle}
@@ -24,6 +24,7 @@ module _ {T : Type 0} where
   call_at (LoadTopToTake taking) = CallTake taking
   call_at LoadTopToClose = CallClose
   call_at LoadTopToShut = CallShut
+  call_at LoadTopToGauge = CallGauge
   call_at l = CallLook
 
   module _ (n limit : ℕ) where

@@ -1,6 +1,7 @@
-use Rattle.std.proofs.Common.{ℕ, arith}
+use Rattle.std.proofs.Common.{arith}
 use Rattle.ms_queue.specs.Queue.{room_of, limit_of}
 use Rattle.queue_runs.proofs.Queues.{linearizable}
+use Rattle.queue_runs.proofs.Total.{total_work}
 use Rattle.progress.proofs.queue.end.Goals as goal
 
 pub returns-clause-run : goal.returns-clause-run
@@ -8,4 +9,14 @@ returns-clause-run g c =
     let queue = c.args.queue in
     let limits = queue.table.shared.key in
     let run = c.end.ensures.run in
-    record { run = run; linearizable = linearizable (room_of queue) (limit_of queue) (let e = limits.some_capacity in omega arith) (let e = limits.capacity_in_range in omega arith) (let e = limits.some_tag_limit in omega arith) run.acts run.allowed }
+    record {
+      run = run;
+      linearizable = linearizable (room_of queue) (limit_of queue) (let e = limits.some_capacity in omega arith) (let e = limits.capacity_in_range in omega arith) (let e = limits.some_tag_limit in omega arith) run.acts run.allowed;
+      work = λ nobody. total_work (room_of queue) (limit_of queue) (let e = limits.some_capacity in omega arith) (let e = limits.capacity_in_range in omega arith) (let e = limits.some_tag_limit in omega arith) _ _ run c.requires.sound nobody;
+    }
+
+pub returns-clause-work : goal.returns-clause-work
+returns-clause-work g c = λ nobody.
+    let queue = c.args.queue in
+    let limits = queue.table.shared.key in
+    (total_work (room_of queue) (limit_of queue) (let e = limits.some_capacity in omega arith) (let e = limits.capacity_in_range in omega arith) (let e = limits.some_tag_limit in omega arith) _ _ c.end.ensures.run c.requires.sound nobody).fees

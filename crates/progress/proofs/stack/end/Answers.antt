@@ -1,6 +1,7 @@
-use Rattle.std.proofs.Common.{ℕ, arith}
+use Rattle.std.proofs.Common.{arith}
 use Rattle.treiber_stack.specs.Stack.{room_of, limit_of}
 use Rattle.stack_runs.proofs.Stacks.{linearizable}
+use Rattle.stack_runs.proofs.Total.{total_work}
 use Rattle.progress.proofs.stack.end.Goals as goal
 
 pub returns-clause-run : goal.returns-clause-run
@@ -8,4 +9,8 @@ returns-clause-run g c =
     let stack = c.args.stack in
     let limits = stack.table.shared.key in
     let run = c.end.ensures.run in
-    record { run = run; linearizable = linearizable (room_of stack) (limit_of stack) (let e = limits.some_capacity in omega arith) (let e = limits.capacity_in_range in omega arith) run.acts run.allowed }
+    record {
+      run = run;
+      linearizable = linearizable (room_of stack) (limit_of stack) (let e = limits.some_capacity in omega arith) (let e = limits.capacity_in_range in omega arith) run.acts run.allowed;
+      work = λ nobody. total_work (room_of stack) (limit_of stack) (let e = limits.some_capacity in omega arith) (let e = limits.capacity_in_range in omega arith) _ _ run c.requires.sound nobody;
+    }

@@ -1,6 +1,4 @@
-use Rattle.std.proofs.Common.{◌≡◌, ◌+◌, ℕ, sym, ap, ◌∙◌, subst, arith}
-use Rattle.bounded_model.specs.declared.views.PassView.{PassView}
-use Rattle.running.specs.Passes.{begun_of}
+use Rattle.std.proofs.Common.{◌+◌, ℕ, ◌∙◌, subst, arith}
 use Rattle.runs.specs.Made.{HasMade}
 use Rattle.runs.proofs.Made.{made_after}
 use Rattle.runs.proofs.counting.step_for.Goals as goal
