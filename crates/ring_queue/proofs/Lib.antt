@@ -1,0 +1,13 @@
+pub mod Spares
+pub mod Front
+pub mod Crossing
+pub mod PutSteps
+pub mod Leftover
+pub mod Walks
+pub mod Passes
+pub mod Looks
+pub mod Closes
+pub mod Counts
+pub mod Takes
+pub mod Puts
+pub mod FastPath

@@ -1,0 +1,26 @@
+use Rattle.ring_table.proofs.Gives.{take_gives}
+use Rattle.ring_machine.specs.declared.lines.Answer.TheVariants.{Take as AnswerTake}
+use Rattle.ring_queue.specs.Ring.{room_of, laps_of, passes_of, pass_in}
+use Rattle.ring_queue.proofs.Passes.{back}
+use Rattle.ring_queue.proofs.queue.RingQueue.take_whole.Goals as goal
+
+pub returns-clause-gives : goal.returns-clause-gives
+returns-clause-gives g c =
+    let q = c.args.self.now in
+    let r = c.to_the_end-pass.result in
+    let b = back q c.args.by r.0 r.1.spare (AnswerTake r.1.answer) c.requires (c.to_the_end-pass.ensures.stops c.args.by.pass c.take_fast-first.ensures) in
+    (b.of, take_gives (room_of q) (laps_of q) (passes_of q) r.0.seat.me.0 (pass_in c.args.by) r.1.spare.index r.1.answer b.ended)
+
+pub returns-clause-ran : goal.returns-clause-ran
+returns-clause-ran g c =
+    let q = c.args.self.now in
+    let r = c.to_the_end-pass.result in
+    let b = back q c.args.by r.0 r.1.spare (AnswerTake r.1.answer) c.requires (c.to_the_end-pass.ensures.stops c.args.by.pass c.take_fast-first.ensures) in
+    b.ran
+
+pub returns-clause-answered : goal.returns-clause-answered
+returns-clause-answered g c =
+    let q = c.args.self.now in
+    let r = c.to_the_end-pass.result in
+    let b = back q c.args.by r.0 r.1.spare (AnswerTake r.1.answer) c.requires (c.to_the_end-pass.ensures.stops c.args.by.pass c.take_fast-first.ensures) in
+    b.answered

@@ -1,0 +1,17 @@
+pub mod Limits
+pub mod Ring
+pub mod Roots
+pub mod Left
+pub mod Leaving
+pub mod Walking
+pub mod Ran
+pub mod Stepwise
+pub mod Putting
+pub mod Taking
+pub mod Closing
+pub mod Shutting
+pub mod Looking
+pub mod Counting
+pub mod KeepsAnswers
+pub mod Trying
+pub mod Naming

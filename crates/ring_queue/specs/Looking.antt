@@ -1,0 +1,40 @@
+-- Looks made by steps.
+use Rattle.std.specs.Prelude.{Bool, []}
+use Rattle.tagged_index.specs.Limits.{capacity_of}
+use Rattle.tagged_index.specs.declared.limit.Limits.{Limits}
+use Rattle.ring_machine.specs.declared.lines.Answer.TheVariants.{Look as AnswerLook}
+use Rattle.ring_machine.specs.declared.lines.Front.TheVariants.{ToLook}
+use Rattle.ring_machine.specs.Machine.{ends}
+use Rattle.running.specs.Code.{Account, to_answer}
+use Rattle.running.specs.Ops.{IsUnderWay}
+use Rattle.running.specs.Steps.{Stands}
+use Rattle.running.specs.declared.op.Op.{Op}
+use Rattle.running.specs.declared.passes.Pass.{Pass}
+use Rattle.ring_table.specs.declared.line.SeatLine.{SeatLine}
+use Rattle.ring_table.specs.declared.line.SeatLine.TheVariants.{At}
+use Rattle.ring_table.specs.declared.operation.Operation.{Operation}
+use Rattle.ring_table.specs.declared.operation.Operation.TheVariants.{Look as LookFirst}
+use Rattle.ring_queue.specs.declared.looking.LookAt.{LookAt}
+use Rattle.ring_queue.specs.declared.queue.Answered.{Answered}
+use Rattle.ring_queue.specs.declared.queue.RingQueue.{RingQueue}
+use Rattle.ring_queue.specs.Ring.{machine_of}
+use Rattle.ring_queue.specs.Walking.{to_front, walk_line, IsRead}
+
+abbrev pub LookOp : Type 0 → Type 0
+LookOp T = Op T (SeatLine T) (Operation T) LookAt
+
+module _ {T : Type 0} where
+  -- the machine's line
+  abbrev pub look_line : LookAt → SeatLine T
+  look_line s = At (walk_line (to_front ToLook) s.at)
+
+  -- how it is read
+  abbrev pub look_account : Limits → Account T (SeatLine T) (Operation T) LookAt (Answered Bool)
+  look_account k = to_answer (λ s. LookFirst) look_line (λ s. []) (λ s. IsRead (capacity_of k) s.at) (λ o a. At (ends a.spare.index (AnswerLook a.answer)))
+
+  -- an operation is at this
+  abbrev pub LookStands : RingQueue T → Pass T (SeatLine T) → LookAt → Type 0
+  LookStands c p s = Stands (machine_of c) (look_account c.table.shared.key) c.table.shared.table_id p s
+
+  abbrev pub IsLooking : RingQueue T → LookOp T → Type 0
+  IsLooking c op = IsUnderWay (machine_of c) (look_account c.table.shared.key) c.table.shared.table_id op

@@ -1,0 +1,30 @@
+-- The names of a ring's steps, from its machine's table.
+use Rattle.std.specs.Prelude.{ℕ}
+use Rattle.bounded_model.specs.declared.history.Event.{Event}
+use Rattle.ring_machine.specs.declared.lines.Line.{Line}
+use Rattle.ring_machine.specs.declared.lines.Place.{Place}
+use Rattle.ring_machine.specs.declared.lines.Place.TheVariants.{Head, Tail, Slot}
+use Rattle.ring_machine.specs.Machine.{Memory, table}
+use Rattle.step_names.specs.declared.location.Location.{Location}
+use Rattle.step_names.specs.declared.location.Location.TheVariants as location
+use Rattle.step_names.specs.declared.step_name.StepName.{StepName}
+use Rattle.step_names.specs.Names.{IsNamed, Naming}
+use Rattle.ring_queue.specs.Walking.{Aim, to_back, to_front}
+
+abbrev pub word_at : Place → Location
+word_at Head = location.Head
+word_at Tail = location.Tail
+word_at (Slot index) = location.Slot index
+
+-- the hint of a walk
+abbrev pub hint_at : {T : Type 0} → Aim T → Location
+hint_at (to_back s) = location.Tail
+hint_at (to_front s) = location.Head
+
+module _ {T : Type 0} where
+  abbrev pub naming : ℕ → ℕ → Naming T (Memory T) Place ⊥ (Line T) (Event T)
+  naming n limit = record { table = table n limit; word = word_at; number = λ q. absurd q }
+
+  -- the next step of an operation at this line has this name, however many slots there are, and whatever the limit of the tags
+  abbrev pub IsNextStep : Line T → StepName → Type 0
+  IsNextStep line name = (n limit : ℕ) → IsNamed (naming n limit) line name

@@ -1,0 +1,110 @@
+-- A put made by steps.
+use Rattle.std.specs.Prelude.{◌≡◌, ℕ, ◌+◌, ◌*◌, ◌<◌, ◌==◌, ltb, if◌then◌else◌, Bool, false, List, [], ◌∷◌, Option as Slot, Some, None, Result, Err}
+use Rattle.tagged_index.specs.Fields.{fields_of, index_of, mark_of, tag_of}
+use Rattle.tagged_index.specs.Limits.{capacity_of}
+use Rattle.tagged_index.specs.declared.limit.Limits.{Limits}
+use Rattle.bounded_model.specs.declared.answers.PutRefused.{PutRefused}
+use Rattle.bounded_model.specs.declared.answers.PutRefused.TheVariants.{Full, Closed, Spent}
+use Rattle.bounded_model.specs.declared.answers.Word.TheVariants.{Next as NextWord}
+use Rattle.ring_machine.specs.declared.lines.Answer.TheVariants.{Put as AnswerPut}
+use Rattle.ring_machine.specs.declared.lines.Back.TheVariants.{ToPut}
+use Rattle.ring_machine.specs.declared.lines.Call.TheVariants.{Put as CallPut}
+use Rattle.ring_machine.specs.declared.lines.Line.{Line}
+use Rattle.ring_machine.specs.declared.lines.Line.TheVariants.{FetchTail as FetchLine, PutCell, PassTail as PassLine, Stow as StowLine}
+use Rattle.ring_machine.specs.Machine.{ends}
+use Rattle.running.specs.Code.{Account, to_answer}
+use Rattle.running.specs.Ops.{IsUnderWay}
+use Rattle.running.specs.Steps.{Stands, Ran}
+use Rattle.running.specs.declared.code.Next.{Next}
+use Rattle.running.specs.declared.op.Op.{Op}
+use Rattle.running.specs.declared.passes.Pass.{Pass}
+use Rattle.ring_table.specs.Lines.{call_of}
+use Rattle.ring_table.specs.declared.line.SeatLine.{SeatLine}
+use Rattle.ring_table.specs.declared.line.SeatLine.TheVariants.{At}
+use Rattle.ring_table.specs.declared.operation.Operation.{Operation}
+use Rattle.ring_table.specs.declared.operation.Operation.TheVariants.{Put as PutFirst}
+use Rattle.ring_queue.specs.declared.putting.PutAt.{PutAt}
+use Rattle.ring_queue.specs.declared.putting.PutAt.TheVariants.{FetchTail, Walking, Exchange, PassTail, Stow}
+use Rattle.ring_queue.specs.declared.queue.Answered.{Answered}
+use Rattle.ring_queue.specs.declared.queue.RingQueue.{RingQueue}
+use Rattle.ring_queue.specs.Limits.{laps_at}
+use Rattle.ring_queue.specs.Ring.{machine_of}
+use Rattle.ring_queue.specs.Walking.{to_back, walk_line, line_of, spare_at, IsRead, IsEnd, MayPass}
+
+abbrev pub PutOp : Type 0 → Type 0
+PutOp T = Op T (SeatLine T) (Operation T) (PutAt T)
+
+abbrev pub Answer : Type 0 → Type 0
+Answer T = Answered (Result ℕ (PutRefused T))
+
+-- the ring is open at this slot, which is empty at the position's lap and may be filled once more
+abbrev pub has_room : ℕ → ℕ → ℕ → Bool
+has_room laps at slot =
+    if mark_of slot then false
+    else if tag_of slot == 2 * tag_of at then ltb (tag_of slot + 1) (2 * laps)
+    else false
+
+module _ {T : Type 0} where
+  -- why a value is not put there
+  abbrev pub refused_at : ℕ → ℕ → T → PutRefused T
+  refused_at at slot v =
+      if mark_of slot then Closed v
+      else if tag_of slot == 2 * tag_of at then Spent v (NextWord (index_of at)) (tag_of slot)
+      else Full v
+
+  -- the operation of a put of x
+  abbrev pub put_of : T → Operation T
+  put_of x = PutFirst (record { marker = record {}; value = x })
+
+  -- the value that is put
+  abbrev pub refused_value : PutRefused T → T
+  refused_value (Full x) = x
+  refused_value (Closed x) = x
+  refused_value (Spent x word t) = x
+
+  abbrev pub put_value : PutAt T → T
+  put_value (FetchTail c x) = x
+  put_value (Walking shown at) = shown.value
+  put_value (Exchange shown end) = shown.value
+  put_value (PassTail shown w) = shown.value
+  put_value (Stow w why) = refused_value why
+
+  -- the machine's line
+  abbrev pub put_line : PutAt T → Line T
+  put_line (FetchTail c x) = FetchLine c.index x
+  put_line (Walking shown at) = walk_line (to_back (ToPut shown.value)) at
+  put_line (Exchange shown end) = PutCell (line_of end.walk) shown.value (fields_of end.slot)
+  put_line (PassTail shown w) = PassLine (line_of w)
+  put_line (Stow w why) = StowLine (line_of w) (AnswerPut (Err why))
+
+  -- the slots in hand: that of the spare cell, with the value until it is refused
+  abbrev pub put_slots : PutAt T → List (ℕ × Slot T)
+  put_slots (Walking shown at) = ((spare_at at).index, Some shown.value) ∷ []
+  put_slots (Exchange shown end) = (end.walk.spare.index, Some shown.value) ∷ []
+  put_slots (Stow w why) = (w.spare.index, None) ∷ []
+  put_slots at = []
+
+  -- what was read is of a slot, and the tag of the word to be exchanged has room to rise
+  abbrev pub HasReadToPut : ℕ → ℕ → PutAt T → Type 0
+  HasReadToPut n laps (FetchTail c x) = Unit {0}
+  HasReadToPut n laps (Walking shown at) = IsRead n at
+  HasReadToPut n laps (Exchange shown end) = IsEnd n laps 0 end × (tag_of end.slot ≡ 2 * tag_of end.walk.at) × (tag_of end.slot + 1 < 2 * laps)
+  HasReadToPut n laps (PassTail shown w) = MayPass n w
+  HasReadToPut n laps (Stow w why) = index_of w.at < n
+
+  -- how it is read
+  abbrev pub put_account : Limits → Account T (SeatLine T) (Operation T) (PutAt T) (Answer T)
+  put_account k = to_answer (λ s. put_of (put_value s)) (λ s. At (put_line s)) put_slots (λ s. HasReadToPut (capacity_of k) (laps_at k) s) (λ o a. At (ends a.spare.index (AnswerPut a.answer)))
+
+  -- a put of x, by its operation, which is also the put of the value that it has
+  pub record IsPutting (c : RingQueue T) (x : T) (op : PutOp T) : Type 0 where
+    pub of : call_of op.operation ≡ CallPut x
+    pub under_way : IsUnderWay (machine_of c) (put_account c.table.shared.key) c.table.shared.table_id op
+
+  -- a whole call of this operation is at this
+  abbrev pub PutStands : RingQueue T → Operation T → Pass T (SeatLine T) → PutAt T → Type 0
+  PutStands c o p s = (o ≡ put_of (put_value s)) × Stands (machine_of c) (put_account c.table.shared.key) c.table.shared.table_id p s
+
+  -- what some steps of it give
+  abbrev pub PutRan : RingQueue T → Operation T → Pass T (SeatLine T) → Pass T (SeatLine T) → Next (PutAt T) (Answer T) → Type 0
+  PutRan c o p q r = Ran (machine_of c) (put_account c.table.shared.key) c.table.shared.table_id o p q r

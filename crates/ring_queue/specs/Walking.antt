@@ -1,0 +1,89 @@
+-- The way to the back or to the front of a ring, by steps.
+use Rattle.std.specs.Prelude.{◌≡◌, ℕ, ◌+◌, ◌*◌, ◌<◌, ◌≤◌, List, Option as Slot}
+use Rattle.tagged_index.specs.Fields.{fields_of, index_of, tag_of}
+use Rattle.tagged_index.specs.declared.word.TheConstants.{MAX_TAG}
+use Rattle.ring_machine.specs.declared.lines.Back.{Back}
+use Rattle.ring_machine.specs.declared.lines.Front.{Front}
+use Rattle.ring_machine.specs.declared.lines.Line.{Line}
+use Rattle.ring_machine.specs.declared.lines.Line.TheVariants.{LoadTail, LoadBack, MoveTail, LoadHead, LoadFront, MoveHead}
+use Rattle.ring_machine.specs.declared.lines.Walk.{Walk as WalkLine}
+use Rattle.ring_machine.specs.Machine.{stride, at_back, at_front}
+use Rattle.running.specs.Code.{Came, Finding, MatchNext}
+use Rattle.running.specs.declared.access.Outcome.{Outcome}
+use Rattle.running.specs.declared.code.Next.{Next}
+use Rattle.ring_table.specs.Layout.{head_at, tail_at}
+use Rattle.ring_table.specs.declared.line.SeatLine.{SeatLine}
+use Rattle.ring_table.specs.declared.line.SeatLine.TheVariants.{At}
+use Rattle.ring_queue.specs.declared.queue.RingQueue.{RingQueue}
+use Rattle.ring_queue.specs.declared.spare.Spare.{Spare}
+use Rattle.ring_queue.specs.declared.walking.Walk.{Walk}
+use Rattle.ring_queue.specs.declared.walking.WalkAt.{WalkAt}
+use Rattle.ring_queue.specs.declared.walking.WalkAt.TheVariants.{LoadHint, LoadSlot, MoveHint}
+use Rattle.ring_queue.specs.declared.walking.Found.{Found}
+use Rattle.ring_queue.specs.Ring.{room_of, laps_of, machine_of}
+
+-- where a pass goes, and why
+pub data Aim (T : Type 0) : Type 0 where
+  to_back : Back T → Aim T
+  to_front : Front → Aim T
+
+-- a walk of the machine
+abbrev pub line_of : Walk → WalkLine
+line_of w = record { cell = w.spare.index; from = fields_of w.from; at = fields_of w.at; gone = w.gone }
+
+-- the spare cell of the pass
+abbrev pub spare_at : WalkAt → Spare
+spare_at (LoadHint c) = c
+spare_at (LoadSlot w) = w.spare
+spare_at (MoveHint w) = w.spare
+
+-- a position is one of a slot
+abbrev pub IsRead : ℕ → WalkAt → Type 0
+IsRead n (LoadSlot w) = (index_of w.at < n) × (w.gone < stride)
+IsRead n at = Unit {0}
+
+-- at the end the slot has not been passed
+pub record IsEnd (n laps full : ℕ) (f : Found) : Type 0 where
+  pub slot : index_of f.walk.at < n
+  pub short : f.walk.gone < stride
+  pub within : tag_of f.slot ≤ 2 * laps
+  pub here : tag_of f.slot ≤ 2 * tag_of f.walk.at + full
+
+-- a position of a slot, behind which there is another
+abbrev pub MayPass : ℕ → Walk → Type 0
+MayPass n w = (index_of w.at < n) × (tag_of w.at < MAX_TAG)
+
+module _ {T : Type 0} where
+  -- the word that says where the walk begins, and the least tag of a slot at an empty lap 0 that the walk goes beyond, less one
+  abbrev pub hint_of : Aim T → ℕ
+  hint_of (to_back s) = tail_at
+  hint_of (to_front s) = head_at
+
+  abbrev pub full_of : Aim T → ℕ
+  full_of (to_back s) = 0
+  full_of (to_front s) = 1
+
+  -- the machine's line
+  abbrev pub walk_line : Aim T → WalkAt → Line T
+  walk_line (to_back s) (LoadHint c) = LoadTail c.index s
+  walk_line (to_back s) (LoadSlot w) = LoadBack (line_of w) s
+  walk_line (to_back s) (MoveHint w) = MoveTail (line_of w) s
+  walk_line (to_front s) (LoadHint c) = LoadHead c.index s
+  walk_line (to_front s) (LoadSlot w) = LoadFront (line_of w) s
+  walk_line (to_front s) (MoveHint w) = MoveHead (line_of w) s
+
+  -- the line that the slot leads to that it has come to
+  abbrev pub end_line : ℕ → Aim T → Found → Line T
+  end_line limit (to_back s) f = at_back limit (line_of f.walk) s (fields_of f.slot)
+  end_line limit (to_front s) f = at_front (line_of f.walk) s (fields_of f.slot)
+
+  -- what a step leads to, with this spare cell, and with these slots in hand before it and after it
+  abbrev pub Walks : RingQueue T → SeatLine T → Aim T → Spare → List (ℕ × Slot T) → List (ℕ × Slot T) → Next WalkAt Found → Type 0
+  Walks c l aim spare had has to = MatchNext to
+      (λ at. (l ≡ At (walk_line aim at)) × (has ≡ had) × IsRead (room_of c) at × (spare_at at ≡ spare))
+      (λ end. (l ≡ At (end_line (2 * laps_of c) aim end)) × (has ≡ had) × IsEnd (room_of c) (laps_of c) (full_of aim) end × (end.walk.spare ≡ spare))
+
+  -- where a step leads that came to r
+  abbrev pub WalkedTo : RingQueue T → Aim T → WalkAt → Outcome → List (ℕ × Slot T) → List (ℕ × Slot T) → Next WalkAt Found → Type 0
+  WalkedTo c aim at r had has to = Came (machine_of c).core (At (walk_line aim at)) r had has
+      → Finding (machine_of c).core (At (walk_line aim at)) r had has (λ found came. Walks c ((machine_of c).core.next (At (walk_line aim at)) found came) aim (spare_at at) had has to)

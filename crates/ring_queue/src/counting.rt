@@ -1,0 +1,126 @@
+//! How many values a ring holds: by steps, and by a whole call.
+ghost use Rattle.std.specs.Prelude.{◌≡◌};
+ghost use Rattle.bounded_model.specs.Laws.{LenGives};
+ghost use Rattle.bounded_model.specs.Stepping.{no_step};
+ghost use Rattle.running.specs.Ops.{underway_of};
+ghost use Rattle.ring_queue.specs.Counting.{IsCounting};
+ghost use Rattle.ring_queue.specs.Ring.{IsPassOf, machine_of, pass_in, shape_of};
+
+use crate::queue::{Answered, Pass, RingQueue};
+use crate::rule::Ringed;
+use crate::spare::Spare;
+use crate::walking::WalkAt;
+use atomic_table::Seat;
+use machine::seats::View;
+use ring_table::layout::{HEAD, TAIL};
+use ring_table::{Operation, SeatLine};
+use running::{Access, Call, Code, Next, Op, Outcome, first_step, to_the_end};
+use std::sync::Wait;
+use tagged_index::Tagged;
+
+/// A count that was begun.
+pub type LenOp<T> = Op<T, SeatLine<T>, Operation<T>, LenAt>;
+
+/// The next step of a count, with what it has read.
+#[derive(Clone, Copy)]
+pub enum LenAt {
+    /// On the way to the front.
+    ToFront(WalkAt),
+    /// The front was this. On the way to the back.
+    ToBack(Tagged, WalkAt),
+    /// The back was the second position: load the slot of the first again.
+    CheckFront(Spare, Tagged, Tagged),
+}
+
+impl<T> RingQueue<T> {
+    /// How many values the ring held at some time since its pass's last step before the call, from
+    /// 0 to the capacity. It retries while values are taken.
+    pub fn len<R: Wait>(&self, rt: &R, by: Pass<T>) -> (Pass<T>, u32)
+        requires { IsPassOf self.now by }
+        ensures of { IsPassOf self.now result.0 }
+        ensures gives { LenGives (shape_of self.now) (pass_in by) (pass_in result.0) result.1 }
+    {
+        let Pass { pass, spare } = by;
+        let table = &self.table.shared;
+        let len = Operation::Len;
+        let begun = LenAt::ToFront(WalkAt::LoadHint(spare));
+        let first = first_step(table, self, pass, begun, &len);
+        let (pass, Answered { spare, answer }) = to_the_end(rt, table, self, first, &len);
+        (Pass { pass, spare }, answer as u32)
+    }
+
+    /// A count that makes no step yet.
+    #[inline]
+    pub fn begin_len(&self, by: Pass<T>) -> LenOp<T>
+        requires { IsPassOf self.now by }
+        ensures { IsCounting self.now result
+            × (underway_of (machine_of self.now) result.pass ≡ no_step (pass_in by)) }
+    {
+        let Pass { pass, spare } = by;
+        let begun = LenAt::ToFront(WalkAt::LoadHint(spare));
+        Op::begin(self, pass, Operation::Len, begun)
+    }
+}
+
+impl<T> Code<RingQueue<T>, T, SeatLine<T>, Operation<T>, Ringed, Answered<u64>, 0> for LenAt {
+    ghost use Rattle.ring_queue.specs.Counting.{len_account};
+
+    ghost account = { len_account };
+
+    #[inline(always)]
+    fn access(&self, on: &RingQueue<T>) -> Access {
+        match self {
+            LenAt::ToFront(at) => on.walk_access(HEAD, at),
+            LenAt::ToBack(_, at) => on.walk_access(TAIL, at),
+            LenAt::CheckFront(_, front, _) => Access::Load(on.slot_of(*front)),
+        }
+    }
+
+    #[inline(always)]
+    fn next(
+        self,
+        on: &RingQueue<T>,
+        _seat: &mut Seat<Option<T>, View<T, SeatLine<T>>>,
+        outcome: Outcome,
+    ) -> Next<LenAt, Answered<u64>> {
+        match self {
+            LenAt::ToFront(at) => match on.walk_on(1, at, outcome) {
+                Next::On(at) => Next::On(LenAt::ToFront(at)),
+                Next::Lost(at) => Next::Lost(LenAt::ToFront(at)),
+                Next::Done(end) => {
+                    let back = WalkAt::LoadHint(end.walk.spare);
+                    Next::On(LenAt::ToBack(end.walk.at, back))
+                }
+            },
+            LenAt::ToBack(front, at) => match on.walk_on(0, at, outcome) {
+                Next::On(at) => Next::On(LenAt::ToBack(front, at)),
+                Next::Lost(at) => Next::Lost(LenAt::ToBack(front, at)),
+                Next::Done(end) => {
+                    Next::On(LenAt::CheckFront(end.walk.spare, front, end.walk.at))
+                }
+            },
+            LenAt::CheckFront(spare, front, back) => {
+                // Where the front has not been taken, it was the front when the back was seen.
+                let slot = Tagged::from_word(outcome.word);
+                if slot.tag() > 2 * front.tag() + 1 {
+                    return Next::Lost(LenAt::ToFront(WalkAt::LoadHint(spare)));
+                }
+                Next::Done(Answered {
+                    spare,
+                    answer: on.place_of(back).saturating_sub(on.place_of(front)),
+                })
+            }
+        }
+    }
+}
+
+impl<T> Call<RingQueue<T>, T, SeatLine<T>, Operation<T>, Ringed, Answered<u64>, 0> for LenAt {
+    ghost use Rattle.std.specs.Prelude.{refl};
+    ghost use Rattle.ring_queue.specs.KeepsAnswers.{len_promises, len_keeps};
+
+    ghost promises = { len_promises };
+
+    ghost idle = { λ key o answer. refl };
+
+    ghost keeps = { len_keeps };
+}

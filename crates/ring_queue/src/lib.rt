@@ -1,0 +1,53 @@
+//! A ring as a bounded queue: a circle of slots, each of which names a cell, and for each pass one
+//! cell more. A put exchanges the cell of its pass, with the value in it, for that of the first empty
+//! slot; a take exchanges it for that of the first full one. There are no free lists and no links, and
+//! no call takes memory but `RingQueue::new`.
+//!
+//! Promised: between any two atomic steps the words, the slots and what the passes know meet the
+//! rule of `ring_machine`. Each step of an operation is one line of that machine, from a memory
+//! and a history that meet the rule; the events that it adds and its answer are that line's. So
+//! what a pass has seen is always a legal history of one sequential queue, which only grows, and a
+//! refusal was right at some time between the pass's last step before the call and the answer.
+//!
+//! An operation is begun and then made step by step, or by a whole call, which is a fast path over
+//! the same steps and retries, with a wait, while others interfere, or for a bounded number of
+//! steps, and can then be gone on with.
+#![tactic(auto)]
+
+mod closing;
+mod container;
+mod counting;
+mod ending;
+mod limits;
+mod looking;
+mod making;
+mod naming;
+mod places;
+mod put_fast;
+mod putting;
+mod queue;
+mod rest;
+mod roots;
+mod rule;
+mod shutting;
+mod spare;
+mod stepping;
+mod stepwise;
+mod take_fast;
+mod taking;
+mod trying;
+mod walking;
+
+pub use closing::CloseOp;
+pub use counting::LenOp;
+pub use limits::{MAX_LAPS, MIN_LAPS, RingLimits};
+pub use looking::LookOp;
+pub use places::ring_places;
+pub use putting::PutOp;
+pub use queue::{Answered, Note, Pass, RingQueue};
+pub use rest::Rest;
+pub use roots::Root;
+pub use rule::Ringed;
+pub use shutting::ShutOp;
+pub use spare::Spare;
+pub use taking::TakeOp;

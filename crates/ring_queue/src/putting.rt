@@ -1,0 +1,224 @@
+//! Putting one value: by steps, and by a whole call. From the first step on the value is in the slot
+//! of the spare cell, and a snapshot shows it to proofs.
+ghost use Rattle.std.specs.Prelude.{◌≡◌, ◌*◌};
+ghost use Rattle.bounded_model.specs.Laws.{Answers, PutGives, put_answered};
+ghost use Rattle.bounded_model.specs.Stepping.{no_step};
+ghost use Rattle.running.specs.Ops.{underway_of};
+ghost use Rattle.ring_machine.specs.declared.lines.Answer.TheVariants.{Put as AnswerPut};
+ghost use Rattle.ring_machine.specs.declared.lines.Call.TheVariants.{Put as CallPut};
+ghost use Rattle.ring_table.specs.Lines.{call_of};
+ghost use Rattle.ring_queue.specs.Putting.{IsPutting, has_room, put_of, refused_at};
+ghost use Rattle.ring_queue.specs.Ran.{WasRun};
+ghost use Rattle.ring_queue.specs.Ring.{IsPassOf, laps_of, machine_of, pass_in, shape_of};
+
+use crate::queue::{Answered, Pass, RingQueue};
+use crate::rule::Ringed;
+use crate::spare::Spare;
+use crate::walking::{Found, STRIDE, Walk, WalkAt};
+use atomic_table::Seat;
+use bounded_model::{PutRefused, Word};
+use index_list::{move_out, put_in};
+use machine::seats::View;
+use ring_table::layout::TAIL;
+use ring_table::{Operation, SeatLine};
+use running::{Access, Call, Code, Next, Op, Outcome, raised, to_the_end};
+use std::snapshot::Snapshot;
+use std::sync::Wait;
+use tagged_index::Tagged;
+
+/// A put that was begun.
+pub type PutOp<T> = Op<T, SeatLine<T>, Operation<T>, PutAt<T>>;
+
+/// The next step of a put, with what it has read and holds.
+#[derive(Drop)]
+pub enum PutAt<T> {
+    /// Load `TAIL`, and take the spare cell in hand.
+    FetchTail(Spare, T),
+    /// On the way to the back.
+    Walking(Snapshot<T>, WalkAt),
+    /// Exchange the spare cell, with the value in it, for the cell of the empty slot.
+    Exchange(Snapshot<T>, Found),
+    /// The value is put where the walk has come to. Compare-and-swap `TAIL` for the position behind.
+    PassTail(Snapshot<T>, Walk),
+    /// Load the slot that the walk has come to once more, and lay the spare cell back home.
+    Stow(Walk, PutRefused<T>),
+}
+
+/// What a put answers.
+pub(crate) type Answer<T> = Result<u64, PutRefused<T>>;
+
+/// The put of this value.
+#[inline(always)]
+pub(crate) fn put_operation<T>(value: &T) -> Operation<T>
+    ensures { (result ≡ put_of value.now) × (call_of result ≡ CallPut value.now) }
+{
+    Operation::Put(Snapshot::of(value))
+}
+
+// Why a value is not put at the back, where there is no room for it.
+#[inline]
+fn refused<T>(walk: &Walk, slot: Tagged, value: T) -> PutRefused<T>
+    ensures { result ≡ refused_at walk.now.at slot value }
+{
+    if slot.is_marked() {
+        return PutRefused::Closed(value);
+    }
+    if slot.tag() == 2 * walk.at.tag() {
+        return PutRefused::Spent(value, Word::Next(walk.at.index()), slot.tag());
+    }
+    PutRefused::Full(value)
+}
+
+impl<T> RingQueue<T> {
+    // The greatest tag of a slot: each lap raises it by two.
+    #[inline(always)]
+    fn tag_limit(&self) -> u64
+        ensures { result ≡ 2 * laps_of self.now }
+    {
+        self.limits.tag_limit() / 2 * 2
+    }
+
+    // Whether a value may be put at the back: the ring is open, and the slot is empty and not worn.
+    #[inline(always)]
+    fn has_room(&self, end: &Found) -> bool
+        ensures { result ≡ has_room (laps_of self.now) end.now.walk.at end.now.slot }
+    {
+        !end.slot.is_marked()
+            && end.slot.tag() == 2 * end.walk.at.tag()
+            && end.slot.tag() + 1 < self.tag_limit()
+    }
+
+    /// A put that makes no step yet.
+    #[inline]
+    pub fn begin_put(&self, by: Pass<T>, value: T) -> PutOp<T>
+        requires { IsPassOf self.now by }
+        ensures { IsPutting self.now value result
+            × (underway_of (machine_of self.now) result.pass ≡ no_step (pass_in by)) }
+    {
+        let Pass { pass, spare } = by;
+        let operation = put_operation(&value);
+        Op::begin(self, pass, operation, PutAt::FetchTail(spare, value))
+    }
+
+    /// Puts a value by a whole call, as `put` of `Container`. The call was a run of the machine's steps.
+    #[inline(always)]
+    pub fn put_whole<R: Wait>(&self, rt: &R, by: Pass<T>, value: T) -> (Pass<T>, Answer<T>)
+        requires { IsPassOf self.now by }
+        ensures gives { IsPassOf self.now result.0
+            × PutGives (shape_of self.now) (pass_in by) value (pass_in result.0) result.1 }
+        ensures ran { WasRun self.now (put_of value) (pass_in by) result.0 (AnswerPut result.1) }
+        ensures answered { Answers (pass_in by) (pass_in result.0) (put_answered result.1) }
+    {
+        let put = put_operation(&value);
+        let first = self.put_fast(by, value, &put);
+        let (pass, Answered { spare, answer }) = to_the_end(
+            rt,
+            &self.table.shared,
+            self,
+            first,
+            &put,
+        );
+        (Pass { pass, spare }, answer)
+    }
+}
+
+impl<T> Code<RingQueue<T>, T, SeatLine<T>, Operation<T>, Ringed, Answered<Answer<T>>, 0>
+    for PutAt<T> {
+    ghost use Rattle.ring_queue.specs.Putting.{put_account};
+
+    ghost account = { put_account };
+
+    #[inline]
+    fn is_refusal(answer: &Answered<Answer<T>>) -> bool {
+        answer.answer.is_err()
+    }
+
+    #[inline(always)]
+    fn access(&self, on: &RingQueue<T>) -> Access {
+        match self {
+            PutAt::FetchTail(_, _) => Access::Fetch(TAIL),
+            PutAt::Walking(_, at) => on.walk_access(TAIL, at),
+            PutAt::Exchange(_, end) => {
+                let new = raised(end.slot, end.walk.spare.index);
+                Access::Return(on.slot_of(end.walk.at), end.slot, new)
+            }
+            PutAt::PassTail(_, walk) => Access::Swap(TAIL, walk.from, on.behind(walk.at)),
+            PutAt::Stow(walk, _) => Access::Stow(on.slot_of(walk.at)),
+        }
+    }
+
+    #[inline(always)]
+    fn next(
+        self,
+        on: &RingQueue<T>,
+        seat: &mut Seat<Option<T>, View<T, SeatLine<T>>>,
+        outcome: Outcome,
+    ) -> Next<PutAt<T>, Answered<Answer<T>>> {
+        match self {
+            PutAt::FetchTail(spare, value) => {
+                // With the cell comes its slot, and the value moves in.
+                let shown = Snapshot::of(&value);
+                put_in(&on.table.shared, seat, spare.index, value);
+                let walk = Walk::from(spare, Tagged::from_word(outcome.word));
+                Next::On(PutAt::Walking(shown, WalkAt::LoadSlot(walk)))
+            }
+            PutAt::Walking(shown, at) => match on.walk_on(0, at, outcome) {
+                Next::On(at) => Next::On(PutAt::Walking(shown, at)),
+                Next::Lost(at) => Next::Lost(PutAt::Walking(shown, at)),
+                Next::Done(end) => {
+                    if on.has_room(&end) {
+                        return Next::On(PutAt::Exchange(shown, end));
+                    }
+                    let Found { walk, slot } = end;
+                    let value = move_out(&on.table.shared, seat, walk.spare.index);
+                    let why = refused(&walk, slot, value);
+                    Next::On(PutAt::Stow(walk, why))
+                }
+            },
+            PutAt::Exchange(shown, end) => {
+                if !outcome.won {
+                    let again = WalkAt::LoadSlot(end.walk);
+                    return Next::Lost(PutAt::Walking(shown, again));
+                }
+                // The put has its effect here; the cell that lay in the slot is the spare one now.
+                let walk = Walk {
+                    spare: Spare {
+                        index: end.slot.index(),
+                    },
+                    ..end.walk
+                };
+                if walk.gone + 1 == STRIDE {
+                    return Next::On(PutAt::PassTail(shown, walk));
+                }
+                Next::Done(Answered {
+                    spare: walk.spare,
+                    answer: Ok(on.place_of(walk.at)),
+                })
+            }
+            // Whoever succeeds, the tail is then no longer behind this put.
+            PutAt::PassTail(shown, walk) => {
+                let _ = shown;
+                Next::Done(Answered {
+                    spare: walk.spare,
+                    answer: Ok(on.place_of(walk.at)),
+                })
+            }
+            PutAt::Stow(walk, why) => Next::Done(Answered {
+                spare: walk.spare,
+                answer: Err(why),
+            }),
+        }
+    }
+}
+
+impl<T> Call<RingQueue<T>, T, SeatLine<T>, Operation<T>, Ringed, Answered<Answer<T>>, 0>
+    for PutAt<T> {
+    ghost use Rattle.std.specs.Prelude.{refl};
+    ghost use Rattle.ring_queue.specs.KeepsAnswers.{put_promises, put_keeps};
+
+    ghost promises = { put_promises };
+
+    ghost idle = { λ key o answer. refl };
+
+    ghost keeps = { put_keeps };
+}

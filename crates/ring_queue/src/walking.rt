@@ -1,0 +1,153 @@
+//! Going to the back or to the front, along the positions from one that a hint names: the same steps
+//! for all operations.
+ghost use Rattle.std.specs.Prelude.{◌≡◌, ℕ, ◌<◌, ◌≤◌, List, Option as Slot};
+ghost use Rattle.tagged_index.specs.Fields.{fields_of, index_of, tag_of};
+ghost use Rattle.tagged_index.specs.declared.word.TheConstants.{MAX_TAG};
+ghost use Rattle.ring_machine.specs.Machine.{behind, place};
+ghost use Rattle.ring_table.specs.Layout.{slot_at};
+ghost use Rattle.ring_table.specs.Lists.{lists};
+ghost use Rattle.ring_table.specs.declared.line.SeatLine.TheVariants.{At};
+ghost use Rattle.running.specs.Code.{IsAccess};
+ghost use Rattle.ring_queue.specs.Ring.{room_of, machine_of};
+ghost use Rattle.ring_queue.specs.Walking.{Aim, hint_of, full_of, walk_line, IsRead, WalkedTo};
+
+use crate::queue::RingQueue;
+use crate::spare::Spare;
+use ring_table::layout;
+use running::{Access, Next, Outcome, raised};
+use tagged_index::Tagged;
+
+/// A walk goes on for fewer positions than these, and then moves the hint.
+pub(crate) const STRIDE: u32 = 8;
+
+/// A walk along the positions: a position's index says which slot, and its tag in which lap.
+#[derive(Clone, Copy)]
+pub struct Walk {
+    /// The spare cell of the pass.
+    pub(crate) spare: Spare,
+    /// The hint that was read.
+    pub(crate) from: Tagged,
+    /// The position that the walk has come to.
+    pub(crate) at: Tagged,
+    /// How many positions it has gone on.
+    pub(crate) gone: u32,
+}
+
+impl Walk {
+    /// A walk from this hint.
+    #[inline(always)]
+    pub(crate) fn from(spare: Spare, hint: Tagged) -> Walk
+        ensures { result ≡ record { spare = spare; from = hint; at = hint; gone = 0 } }
+    {
+        Walk {
+            spare,
+            from: hint,
+            at: hint,
+            gone: 0,
+        }
+    }
+}
+
+/// The next step of a walk.
+#[derive(Clone, Copy)]
+pub enum WalkAt {
+    /// Load the hint.
+    LoadHint(Spare),
+    /// Load the slot that the walk has come to.
+    LoadSlot(Walk),
+    /// The walk has gone far: compare-and-swap the hint for the position that it has come to.
+    MoveHint(Walk),
+}
+
+/// The end of a walk, and the word of the slot there.
+#[derive(Clone, Copy)]
+pub struct Found {
+    pub(crate) walk: Walk,
+    pub(crate) slot: Tagged,
+}
+
+impl<T> RingQueue<T> {
+    /// The word of the slot at a position.
+    #[inline(always)]
+    pub(crate) fn slot_of(&self, at: Tagged) -> usize
+        ensures { result ≡ slot_at (room_of self.now) (index_of at) }
+    {
+        layout::slot(self.limits.capacity(), at.index())
+    }
+
+    /// The number of a position.
+    #[inline(always)]
+    pub(crate) fn place_of(&self, at: Tagged) -> u64
+        ensures { result ≡ place (room_of self.now) (fields_of at) }
+    {
+        at.tag() * self.limits.capacity() as u64 + at.index() as u64
+    }
+
+    /// The position behind.
+    #[inline(always)]
+    pub(crate) fn behind(&self, at: Tagged) -> Tagged
+        requires { (index_of at < room_of self.now) × (tag_of at < MAX_TAG) }
+        ensures { fields_of result ≡ behind (room_of self.now) (fields_of at) }
+    {
+        if at.index() + 1 == self.limits.capacity() {
+            raised(at, 0)
+        } else {
+            at.kept(at.index() + 1)
+        }
+    }
+
+    /// What the next step of a walk does.
+    #[inline(always)]
+    pub(crate) fn walk_access(&self, hint: usize, at: &WalkAt) -> Access
+        requires { IsRead (room_of self.now) at.now }
+        ensures { (aim : Aim T) (slots : List (ℕ × Slot T)) → hint ≡ hint_of aim
+            → IsAccess (machine_of self.now).core lists 0 self.now.table.shared.table_id.words
+            (At (walk_line aim at.now)) slots result }
+    {
+        match at {
+            WalkAt::LoadHint(_) => Access::Load(hint),
+            WalkAt::LoadSlot(walk) => Access::Load(self.slot_of(walk.at)),
+            WalkAt::MoveHint(walk) => Access::Swap(hint, walk.from, walk.at),
+        }
+    }
+
+    /// Where it goes on from a step that came to this. It goes beyond a slot whose tag is above that
+    /// of the empty slot at this lap and what `full` adds.
+    #[inline(always)]
+    pub(crate) fn walk_on(&self, full: u64, at: WalkAt, outcome: Outcome) -> Next<WalkAt, Found>
+        requires full { full ≤ 1 }
+        requires read { IsRead (room_of self.now) at }
+        ensures { (aim : Aim T) (had has : List (ℕ × Slot T)) → full ≡ full_of aim
+            → WalkedTo self.now aim at outcome had has result }
+    {
+        match at {
+            WalkAt::LoadHint(spare) => {
+                let walk = Walk::from(spare, Tagged::from_word(outcome.word));
+                Next::On(WalkAt::LoadSlot(walk))
+            }
+            WalkAt::LoadSlot(walk) => {
+                let slot = Tagged::from_word(outcome.word);
+                if slot.tag() <= 2 * walk.at.tag() + full {
+                    return Next::Done(Found { walk, slot });
+                }
+                let further = Walk {
+                    at: self.behind(walk.at),
+                    gone: walk.gone + 1,
+                    ..walk
+                };
+                if further.gone == STRIDE {
+                    return Next::On(WalkAt::MoveHint(further));
+                }
+                Next::On(WalkAt::LoadSlot(further))
+            }
+            // Whoever succeeds, the hint has moved.
+            WalkAt::MoveHint(walk) => {
+                if outcome.won {
+                    Next::On(WalkAt::LoadHint(walk.spare))
+                } else {
+                    Next::Lost(WalkAt::LoadHint(walk.spare))
+                }
+            }
+        }
+    }
+}

@@ -1,0 +1,4 @@
+use Rattle.ring_tests.proofs.calls.close_to_the_end.Given as goal
+
+abbrev pub invariant-loop : goal.invariant-loop
+invariant-loop g l = g.C.Stepwise.is_closing l.fn.container l.op

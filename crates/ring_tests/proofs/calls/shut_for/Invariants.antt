@@ -1,0 +1,4 @@
+use Rattle.ring_tests.proofs.calls.shut_for.Given as goal
+
+abbrev pub invariant-loop : goal.invariant-loop
+invariant-loop g l = g.C.Stepwise.is_shutting l.fn.container l.op

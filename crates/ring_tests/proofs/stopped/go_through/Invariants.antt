@@ -1,0 +1,5 @@
+use Rattle.ring_queue.specs.Ring.{IsPassOf}
+use Rattle.ring_tests.proofs.stopped.go_through.Given as goal
+
+abbrev pub invariant-loop-value : goal.invariant-loop-value
+invariant-loop-value g l = IsPassOf l.fn.ring l.pass

@@ -1,0 +1,138 @@
+//! A ring goes round, closes where it is full or empty, and wears out.
+
+ghost use Rattle.ring_queue.specs.Ring.{IsPassOf};
+
+use bounded_model::{Container, PutRefused, TakeRefused, Word};
+use ring_queue::{Pass, RingLimits, RingQueue};
+use std::alloc::Global;
+use std::process::Abort;
+use std::sync::Wait;
+
+/// A ring and one pass.
+pub(crate) fn ring_of<R: Abort>(
+    rt: &R,
+    alloc: Global,
+    capacity: u32,
+    laps: u64,
+) -> (RingQueue<u64>, Pass<u64>)
+    ensures { IsPassOf result.0 result.1 }
+{
+    let limits = RingLimits::of(capacity, laps, 2).expect(rt, "limits");
+    let (ring, mut root) = RingQueue::<u64>::new(alloc, limits).expect(rt, "memory");
+    let pass = ring.split(&mut root).expect(rt, "a pass");
+    (ring, pass)
+}
+
+/// Puts the values from one number up to another, each of which is the put's number too.
+pub(crate) fn put_all<R: Abort + Wait>(
+    rt: &R,
+    ring: &RingQueue<u64>,
+    by: Pass<u64>,
+    from: u64,
+    to: u64,
+) -> Pass<u64>
+    requires { IsPassOf ring.now by }
+    ensures { IsPassOf ring.now result }
+{
+    let mut pass = by;
+    for value in from..to {
+        let (back, put) = ring.put(rt, pass, value);
+        assert!(rt; put == Ok(value));
+        pass = back;
+    }
+    pass
+}
+
+/// Takes them.
+pub(crate) fn take_all<R: Abort + Wait>(
+    rt: &R,
+    ring: &RingQueue<u64>,
+    by: Pass<u64>,
+    from: u64,
+    to: u64,
+) -> Pass<u64>
+    requires { IsPassOf ring.now by }
+    ensures { IsPassOf ring.now result }
+{
+    let mut pass = by;
+    for value in from..to {
+        let (back, taken) = ring.take(rt, pass);
+        assert!(rt; taken == Ok((value, value)));
+        pass = back;
+    }
+    pass
+}
+
+// Puts and takes one value after another.
+fn pass_through<R: Abort + Wait>(
+    rt: &R,
+    ring: &RingQueue<u64>,
+    by: Pass<u64>,
+    count: u64,
+) -> Pass<u64>
+    requires { IsPassOf ring.now by }
+    ensures { IsPassOf ring.now result }
+{
+    let mut pass = by;
+    for value in 0..count {
+        let put = put_all(rt, ring, pass, value, value.saturating_add(1));
+        pass = take_all(rt, ring, put, value, value.saturating_add(1));
+    }
+    pass
+}
+
+#[test]
+fn a_ring_is_spent_after_its_laps(rt: HostRuntime) {
+    for capacity in 1..=3 {
+        for laps in 1..=12 {
+            let (ring, pass) = ring_of(&rt, rt.alloc(), capacity, laps);
+            let count = laps.saturating_mul(u64::from(capacity));
+            let pass = pass_through(&rt, &ring, pass, count);
+            let (pass, put) = ring.put(&rt, pass, 7);
+            let tag = laps.saturating_mul(2);
+            assert!(rt; put == Err(PutRefused::Spent(7, Word::Next(0), tag)));
+            let (_, taken) = ring.take(&rt, pass);
+            assert!(rt; taken == Err(TakeRefused::Empty));
+        }
+    }
+}
+
+#[test]
+fn a_ring_is_closed_where_it_is_full_or_empty(rt: HostRuntime) {
+    for (through, there) in [(0, 0), (0, 3), (2, 1), (2, 3), (9, 0), (9, 3)] {
+        let (ring, pass) = ring_of(&rt, rt.alloc(), 3, 100);
+        let pass = pass_through(&rt, &ring, pass, through);
+        let last = through.saturating_add(there);
+        let pass = put_all(&rt, &ring, pass, through, last);
+        let (pass, count) = ring.len(&rt, pass);
+        assert!(rt; u64::from(count) == there);
+        let (pass, closed) = ring.close(&rt, pass);
+        assert!(rt; closed);
+        let (pass, again) = ring.close(&rt, pass);
+        assert!(rt; !again);
+        let (pass, put) = ring.put(&rt, pass, 7);
+        assert!(rt; put == Err(PutRefused::Closed(7)));
+        let pass = take_all(&rt, &ring, pass, through, last);
+        let (_, taken) = ring.take(&rt, pass);
+        assert!(rt; taken == Err(TakeRefused::Closed));
+    }
+}
+
+#[test]
+fn a_shut_ring_is_filled(rt: HostRuntime) {
+    let (ring, pass) = ring_of(&rt, rt.alloc(), 3, 100);
+    let pass = pass_through(&rt, &ring, pass, 2);
+    let (pass, shut) = ring.shut(&rt, pass);
+    assert!(rt; shut);
+    let (pass, again) = ring.shut(&rt, pass);
+    assert!(rt; !again);
+    let (pass, is_empty) = ring.look(&rt, pass);
+    assert!(rt; is_empty);
+    let pass = put_all(&rt, &ring, pass, 2, 5);
+    let (pass, full) = ring.put(&rt, pass, 7);
+    assert!(rt; full == Err(PutRefused::Full(7)));
+    let (pass, taken) = ring.take(&rt, pass);
+    assert!(rt; taken == Err(TakeRefused::Shut));
+    let (_, is_empty) = ring.look(&rt, pass);
+    assert!(rt; !is_empty);
+}

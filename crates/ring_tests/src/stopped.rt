@@ -1,0 +1,207 @@
+//! A call that stopped at each of its lines, and goes on after others went three laps round.
+
+ghost use Rattle.ring_queue.specs.Ring.{IsPassOf};
+
+use crate::calls::{
+    close_for, close_to_the_end, put_for, put_to_the_end, shut_for, shut_to_the_end, take_for,
+    take_to_the_end,
+};
+use bounded_model::{Container, PutRefused, Stepwise, TakeRefused};
+use ring_queue::{Pass, RingLimits, RingQueue};
+use std::alloc::Global;
+use std::process::Abort;
+use std::sync::Wait;
+
+/// How many positions lie between a hint and the end that it names. A walk that has gone on by
+/// eight moves the hint.
+const LAGS: u64 = 8;
+
+// A ring, the pass that stops, and one more, after so many values went through.
+fn ring_after<R: Abort + Wait>(
+    rt: &R,
+    alloc: Global,
+    capacity: u32,
+    through: u64,
+) -> (RingQueue<u64>, Pass<u64>, Pass<u64>)
+    ensures { IsPassOf result.0 result.1 × IsPassOf result.0 result.2 }
+{
+    let limits = RingLimits::of(capacity, 100, 2).expect(rt, "limits");
+    let (ring, mut root) = RingQueue::<u64>::new(alloc, limits).expect(rt, "memory");
+    let stopped = ring.split(&mut root).expect(rt, "a pass");
+    let other = ring.split(&mut root).expect(rt, "a pass");
+    let other = go_through(rt, &ring, other, 0, through);
+    (ring, stopped, other)
+}
+
+// Puts and takes values one after another, the numbers of their calls.
+fn go_through<R: Abort + Wait>(
+    rt: &R,
+    ring: &RingQueue<u64>,
+    by: Pass<u64>,
+    from: u64,
+    count: u64,
+) -> Pass<u64>
+    requires { IsPassOf ring.now by }
+    ensures { IsPassOf ring.now result }
+{
+    let mut pass = by;
+    for value in from..from.saturating_add(count) {
+        let (back, put) = ring.put(rt, pass, value);
+        assert!(rt; put == Ok(value));
+        let (back, taken) = ring.take(rt, back);
+        assert!(rt; taken == Ok((value, value)));
+        pass = back;
+    }
+    pass
+}
+
+// How many values are three laps.
+fn three_laps(capacity: u32) -> u64 {
+    u64::from(capacity).saturating_mul(3)
+}
+
+// A put stops before its exchange, which then fails or meets another slot: it has its effect last.
+fn put_stops<R: Abort + Wait>(rt: &R, alloc: Global, capacity: u32, lag: u64, made: u64) {
+    let (ring, pass, other) = ring_after(rt, alloc, capacity, lag);
+    let put = put_for(rt, &ring, Stepwise::begin_put(&ring, pass, 1_000), made);
+    let other = go_through(rt, &ring, other, lag, three_laps(capacity));
+    let number = lag.saturating_add(three_laps(capacity));
+    let (_, answer) = put_to_the_end(rt, &ring, put);
+    assert!(rt; answer == Ok(number));
+    let (_, taken) = ring.take(rt, other);
+    assert!(rt; taken == Ok((1_000, number)));
+}
+
+#[test]
+fn a_put_that_stops_before_its_exchange_is_the_last(rt: HostRuntime) {
+    for capacity in 1..=3 {
+        for lag in 0..LAGS {
+            for made in 0..lag.saturating_add(3) {
+                put_stops(&rt, rt.alloc(), capacity, lag, made);
+            }
+        }
+    }
+}
+
+// The eighth put moves the hint behind its exchange. It stops between them: its value is taken, and
+// its number stays.
+#[test]
+fn a_put_that_stops_behind_its_exchange_is_the_first(rt: HostRuntime) {
+    for capacity in 1..=3 {
+        let (ring, pass, other) = ring_after(&rt, rt.alloc(), capacity, 7);
+        let put = put_for(&rt, &ring, Stepwise::begin_put(&ring, pass, 1_000), 10);
+        let (other, taken) = ring.take(&rt, other);
+        assert!(rt; taken == Ok((1_000, 7)));
+        let other = go_through(&rt, &ring, other, 8, three_laps(capacity));
+        let (_, answer) = put_to_the_end(&rt, &ring, put);
+        assert!(rt; answer == Ok(7));
+        let (_, taken) = ring.take(&rt, other);
+        assert!(rt; taken == Err(TakeRefused::Empty));
+    }
+}
+
+// A take stops before its exchange: another takes the value that it has seen, and it takes the last.
+fn take_stops_before<R: Abort + Wait>(rt: &R, alloc: Global, capacity: u32, lag: u64, made: u64) {
+    let (ring, pass, other) = ring_after(rt, alloc, capacity, lag);
+    let (other, put) = ring.put(rt, other, 1_000);
+    assert!(rt; put == Ok(lag));
+    let take = take_for(rt, &ring, Stepwise::begin_take(&ring, pass), made);
+    let (other, taken) = ring.take(rt, other);
+    assert!(rt; taken == Ok((1_000, lag)));
+    let other = go_through(
+        rt,
+        &ring,
+        other,
+        lag.saturating_add(1),
+        three_laps(capacity),
+    );
+    let last = lag.saturating_add(1).saturating_add(three_laps(capacity));
+    let (_, put) = ring.put(rt, other, 2_000);
+    assert!(rt; put == Ok(last));
+    let (_, answer) = take_to_the_end(rt, &ring, take);
+    assert!(rt; answer == Ok((2_000, last)));
+}
+
+// A take stops behind its exchange: the value is its own, and nobody else finds one.
+fn take_stops_behind<R: Abort + Wait>(rt: &R, alloc: Global, capacity: u32, lag: u64, made: u64) {
+    let (ring, pass, other) = ring_after(rt, alloc, capacity, lag);
+    let (other, put) = ring.put(rt, other, 1_000);
+    assert!(rt; put == Ok(lag));
+    let take = take_for(rt, &ring, Stepwise::begin_take(&ring, pass), made);
+    let (other, taken) = ring.take(rt, other);
+    assert!(rt; taken == Err(TakeRefused::Empty));
+    let _ = go_through(
+        rt,
+        &ring,
+        other,
+        lag.saturating_add(1),
+        three_laps(capacity),
+    );
+    let (_, answer) = take_to_the_end(rt, &ring, take);
+    assert!(rt; answer == Ok((1_000, lag)));
+}
+
+#[test]
+fn a_take_that_stops_before_its_exchange_is_the_last(rt: HostRuntime) {
+    for capacity in 1..=3 {
+        for lag in 0..LAGS {
+            for made in 0..lag.saturating_add(3) {
+                take_stops_before(&rt, rt.alloc(), capacity, lag, made);
+            }
+        }
+    }
+}
+
+#[test]
+fn a_take_that_stops_behind_its_exchange_has_its_value(rt: HostRuntime) {
+    for capacity in 1..=3 {
+        for lag in 0..LAGS {
+            take_stops_behind(&rt, rt.alloc(), capacity, lag, lag.saturating_add(3));
+        }
+        take_stops_behind(&rt, rt.alloc(), capacity, 7, 11);
+    }
+}
+
+// A close stops at each line, and closes where the ring is then.
+fn close_stops<R: Abort + Wait>(rt: &R, alloc: Global, capacity: u32, lag: u64, made: u64) {
+    let (ring, pass, other) = ring_after(rt, alloc, capacity, lag);
+    let close = close_for(rt, &ring, Stepwise::begin_close(&ring, pass), made);
+    let other = go_through(rt, &ring, other, lag, three_laps(capacity));
+    let number = lag.saturating_add(three_laps(capacity));
+    let (other, put) = ring.put(rt, other, 1_000);
+    assert!(rt; put == Ok(number));
+    let (_, closed) = close_to_the_end(rt, &ring, close);
+    assert!(rt; closed);
+    let (other, put) = ring.put(rt, other, 2_000);
+    assert!(rt; put == Err(PutRefused::Closed(2_000)));
+    let (other, taken) = ring.take(rt, other);
+    assert!(rt; taken == Ok((1_000, number)));
+    let (_, taken) = ring.take(rt, other);
+    assert!(rt; taken == Err(TakeRefused::Closed));
+}
+
+// The same of a shut.
+fn shut_stops<R: Abort + Wait>(rt: &R, alloc: Global, capacity: u32, lag: u64, made: u64) {
+    let (ring, pass, other) = ring_after(rt, alloc, capacity, lag);
+    let shut = shut_for(rt, &ring, Stepwise::begin_shut(&ring, pass), made);
+    let other = go_through(rt, &ring, other, lag, three_laps(capacity));
+    let (_, is_shut) = shut_to_the_end(rt, &ring, shut);
+    assert!(rt; is_shut);
+    let number = lag.saturating_add(three_laps(capacity));
+    let (other, put) = ring.put(rt, other, 1_000);
+    assert!(rt; put == Ok(number));
+    let (_, taken) = ring.take(rt, other);
+    assert!(rt; taken == Err(TakeRefused::Shut));
+}
+
+#[test]
+fn a_close_and_a_shut_that_stop_mark_where_the_ring_is_then(rt: HostRuntime) {
+    for capacity in 1..=3 {
+        for lag in 0..LAGS {
+            for made in 0..lag.saturating_add(3) {
+                close_stops(&rt, rt.alloc(), capacity, lag, made);
+                shut_stops(&rt, rt.alloc(), capacity, lag, made);
+            }
+        }
+    }
+}
