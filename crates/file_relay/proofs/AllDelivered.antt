@@ -1,5 +1,5 @@
 -- What readers gave is within the limits of a relay, and all of it is delivered where no worker is to stop early.
-use Rattle.std.proofs.Common.{◌≡◌, ℕ, zero, suc, ◌+◌, ◌*◌, ◌≤◌, ◌==◌, Bool, true, false, cond, List, [], ◌∷◌, ◌++◌, length, count_by, refl, sym, ap, subst, ◌∙◌, append-nil, arith, Option, Result, Ok, Err, OnOk, IfErr}
+use Rattle.std.proofs.Common.{◌≡◌, ℕ, zero, suc, ◌+◌, ◌*◌, ◌<◌, ◌≤◌, ◌==◌, Bool, true, false, cond, List, [], ◌∷◌, ◌++◌, length, count_by, refl, sym, ap, subst, ◌∙◌, append-nil, arith, Option, Result, Ok, Err, OnOk, IfErr}
 use Rattle.std.specs.Prelude.{filter}
 use Rattle.std.specs.List.{AllByRecursion as Every}
 use Rattle.std.proofs.lemmas.List.Sorted.{length_permutation}
@@ -16,7 +16,10 @@ use Rattle.words.specs.declared.chosen.RelayArgs.{RelayArgs}
 use Rattle.words.specs.declared.command_line.TheConstants.{MAX_FILES}
 use Rattle.streams.specs.Inputs.{AreRead}
 use Rattle.streams.specs.Writing.{GrowsByFront, Written, outcome_text}
-use Rattle.file_relay.specs.Relaying.{AreReady, FromReaders, IsRelayed, RelaysInputs, plan_of, shape_for}
+use Rattle.words.specs.declared.chosen.Kind.{Kind}
+use Rattle.words.specs.declared.chosen.Kind.TheVariants.{Queue, Stack, Ring}
+use Rattle.words.specs.declared.command_line.TheConstants.{MAX_CONSUMERS}
+use Rattle.file_relay.specs.Relaying.{AreReady, FromReaders, IsRelayed, RelaysInputs, limit_of, passes_for, plan_of, shape_for}
 use Rattle.file_relay.specs.Measuring.{MeasuresInputs, Streams}
 use Rattle.streams.specs.declared.tool_fault.ToolFault.{ToolFault}
 use Rattle.streams.specs.declared.tool_fault.ToolFault.TheVariants.{Output}
@@ -55,11 +58,25 @@ module _ {R : Type 0} (remaining : R → Option (List ℕ)) where
   }
 
   -- what was done with the inputs, where no reader was at fault
-  pub from-readers : (readers : List R) (inputs : Lists) (Comes : Lists → Result (Unit {0}) ToolFault → Type 0) (result : Result (Unit {0}) ToolFault)
+  pub from-readers : {A : Type 0} (readers : List R) (inputs : Lists) (Comes : Lists → Result A ToolFault → Type 0) (result : Result A ToolFault)
       → AreRead remaining 0 readers inputs → IfErr result (λ fault. fault ≡ Output) → Comes inputs result → FromReaders remaining readers Comes result
   from-readers readers inputs Comes (Ok done) read fault comes = (inputs, read, comes)
   from-readers readers inputs Comes (Err cause) read fault comes =
       subst (λ f. FromReaders remaining readers Comes (Err f)) (sym fault) (inputs, read, subst (λ f. Comes inputs (Err f)) fault comes)
+
+-- ---- containers suffice for a relay
+
+-- no tag can meet the limit
+ample-for : (kind : Kind) (n : ℕ) → n ≤ MAX_FILES * MAX_LINES → 2 * n < limit_of kind
+ample-for Queue n few = omega (arith, few)
+ample-for Stack n few = omega (arith, few)
+ample-for Ring n few = omega (arith, few)
+
+-- there is a pass for each worker, and one more
+pub passes-for : (kind : Kind) (files consumers : ℕ) → files ≤ MAX_FILES → consumers ≤ MAX_CONSUMERS → files + consumers < passes_for kind
+passes-for Queue files consumers few some = omega (arith, few, some)
+passes-for Stack files consumers few some = omega (arith, few, some)
+passes-for Ring files consumers few some = omega (arith, few, some)
 
 -- ---- all is delivered
 
@@ -97,7 +114,7 @@ module _ (r : Relayed) where
   pub is-relayed : (args : RelayArgs) (inputs : Lists) → Relays (shape_for args) (plan_of args) inputs r → ¬ (IsTooSmall (plan_of args) args.capacity (total inputs))
       → total inputs ≤ MAX_FILES * MAX_LINES → IsRelayed args inputs r
   is-relayed args inputs relays fits few =
-      let ample : IsAmple (shape_for args) inputs = omega arith in
+      let ample : IsAmple (shape_for args) inputs = ample-for args.kind (total inputs) few in
       record {
         relays = relays;
         fits = fits;

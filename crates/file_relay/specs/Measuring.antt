@@ -6,17 +6,18 @@ use Rattle.relay.specs.Promises.{Lists}
 use Rattle.file_relay.specs.declared.stats.Stats.{Stats}
 use Rattle.streams.specs.declared.tool_fault.ToolFault.{ToolFault}
 use Rattle.words.specs.declared.chosen.RelayArgs.{RelayArgs}
-use Rattle.streams.specs.Writing.{AppendsFront, Written, outcome_text}
+use Rattle.streams.specs.Writing.{WentOut, Written, outcome_text}
+use Rattle.streams.specs.declared.told.Told.{Told}
 use Rattle.file_relay.specs.Relaying.{IsRelayed, RelaysInputs}
 use Rattle.file_relay.specs.Stats.{IsStatsOf, stats_text}
 
--- the stats of this outcome, or a front of them, were told to a writer
-pub record Tells (args : RelayArgs) (relayed : Relayed) (errors : Written) : Type 0 where
+-- the stats of this outcome were told to a writer, whole or up to a write that failed; of how many tries is not said
+pub record Tells (args : RelayArgs) (relayed : Relayed) (said : Told) (errors : Written) : Type 0 where
   pub puts : ℕ
   pub takes : ℕ
   pub stats : Stats
   pub of : IsStatsOf args relayed puts takes stats
-  pub went_out : AppendsFront errors.old errors.new (stats_text stats)
+  pub went_out : WentOut said errors.old errors.new (stats_text stats)
 
 -- what is known of the bytes of a run's output and of its errors
 pub record Streams : Type 0 where
@@ -24,9 +25,9 @@ pub record Streams : Type 0 where
   pub errors : Written
 
 -- what a measured relay of inputs does to these streams
-abbrev pub MeasuresInputs : RelayArgs → Streams → Lists → Result (Unit {0}) ToolFault → Type 0
-MeasuresInputs args streams inputs (Ok _) =
+abbrev pub MeasuresInputs : RelayArgs → Streams → Lists → Result Told ToolFault → Type 0
+MeasuresInputs args streams inputs (Ok said) =
     (relayed : Relayed) × IsRelayed args inputs relayed
     × Appends streams.output.old streams.output.new (outcome_text args.list relayed)
-    × Tells args relayed streams.errors
+    × Tells args relayed said streams.errors
 MeasuresInputs args streams inputs (Err fault) = RelaysInputs args streams.output inputs (Err fault)

@@ -16,22 +16,36 @@ use Rattle.audit.specs.declared.message_file.TheConstants.{MAX_LINES}
 use Rattle.audit.specs.Delivered.{full_audit}
 use Rattle.audit.specs.Texts.{audit_text}
 use Rattle.words.specs.declared.chosen.Kind.{Kind}
-use Rattle.words.specs.declared.chosen.Kind.TheVariants.{Queue, Stack}
+use Rattle.words.specs.declared.chosen.Kind.TheVariants.{Queue, Stack, Ring}
 use Rattle.words.specs.declared.chosen.RelayArgs.{RelayArgs}
 use Rattle.streams.specs.declared.tool_fault.ToolFault.{ToolFault}
 use Rattle.streams.specs.declared.tool_fault.ToolFault.TheVariants.{File, Relay, Output}
 use Rattle.streams.specs.Inputs.{AreRead, IsFileFault}
 use Rattle.streams.specs.Writing.{GrowsByFront, Written, outcome_text}
-use Rattle.words.specs.declared.command_line.TheConstants.{MAX_FILES}
+use Rattle.words.specs.declared.command_line.TheConstants.{MAX_FILES, MAX_RELAY_PASSES}
+use Rattle.ring_queue.specs.declared.limits.TheConstants.{MAX_LAPS}
 
 -- in which order a container of this kind gives values back
 abbrev pub order_of : Kind → Order
 order_of Queue = Fifo
 order_of Stack = Lifo
+order_of Ring = Fifo
 
--- a container of the kind and the capacity that were asked for, with the largest limit of tags and the most passes
+-- its largest limit of tags: a ring's slot has two for each lap
+abbrev pub limit_of : Kind → ℕ
+limit_of Queue = MAX_TAG
+limit_of Stack = MAX_TAG
+limit_of Ring = 2 * MAX_LAPS
+
+-- how many passes it is made for: a ring for those of the largest relay
+abbrev pub passes_for : Kind → ℕ
+passes_for Queue = MAX_PASSES
+passes_for Stack = MAX_PASSES
+passes_for Ring = MAX_RELAY_PASSES
+
+-- a container of the kind and the capacity that were asked for, with its largest limit of tags
 abbrev pub shape_for : RelayArgs → Shape
-shape_for args = record { order = order_of args.kind; capacity = args.capacity; limit = MAX_TAG; passes = MAX_PASSES }
+shape_for args = record { order = order_of args.kind; capacity = args.capacity; limit = limit_of args.kind; passes = passes_for args.kind }
 
 -- what a relay's workers are told
 abbrev pub plan_of : RelayArgs → Plan
@@ -76,8 +90,8 @@ RelaysInputs args writer inputs (Err (Relay cause)) = IsCause args inputs cause
 RelaysInputs args writer inputs (Err (File number cause)) = ⊥
 
 -- what comes of readers: that of the inputs that they gave, or one of them is at fault
-abbrev pub FromReaders : {R : Type 0} → (R → Option (List ℕ)) → List R
-    → (Lists → Result (Unit {0}) ToolFault → Type 0) → Result (Unit {0}) ToolFault → Type 0
+abbrev pub FromReaders : {R A : Type 0} → (R → Option (List ℕ)) → List R
+    → (Lists → Result A ToolFault → Type 0) → Result A ToolFault → Type 0
 FromReaders remaining readers Comes (Ok done) =
     (inputs : Lists) × AreRead remaining 0 readers inputs × Comes inputs (Ok done)
 FromReaders remaining readers Comes (Err Output) =

@@ -1,4 +1,4 @@
-//! Files relayed through a queue or a stack.
+//! Files relayed through a queue, a stack or a ring.
 //!
 //! Promised: what is written is the outcome of a relay of the messages that were read (`relay_main`),
 //! also where stats of that very relay are then written on standard error (`relay_measured`, `Stats`).

@@ -17,16 +17,17 @@ use std::mem;
 use std::sync::Wait;
 use std::thread::Threads;
 use std::time::{Clock, Instant};
-use streams::{ToolFault, read_inputs, write_all, write_outcome};
+use streams::{Told, ToolFault, read_inputs, tell, write_outcome};
 use words::RelayArgs;
 
 /// Relays as [`relay_main`](crate::relay_main) does, and then writes stats of the relay on `errors`:
 /// its time and messages a second, how many messages each consumer took, and the refusals that were
-/// met.
+/// met. Returns how much of the stats went out.
 ///
 /// The faults are those of `relay_main`; after a fault no stats are written. They are made before
-/// the outcome is written, so that `Relay(NoMemory)` also comes where there is no memory for them.
-/// That they cannot be written is no fault.
+/// the outcome is written, so that `Relay(NoMemory)` also comes if there is no memory for them.
+/// That they cannot be written is no fault. How many tries there were is counted by words that
+/// threads share: no clause says it, and so none says how many were refused.
 pub fn relay_measured<T: Threads + Wait + Clock + Sync, R: Read + Drop, W: Write, E: Write>(
     rt: &T,
     alloc: Global,
@@ -34,7 +35,7 @@ pub fn relay_measured<T: Threads + Wait + Clock + Sync, R: Read + Drop, W: Write
     readers: Vec<R>,
     writer: &mut W,
     errors: &mut E,
-) -> Result<(), ToolFault>
+) -> Result<Told, ToolFault>
     requires args { IsInRange args.now }
     requires some { 1 ≤ length readers.items }
     requires few { length readers.items ≤ MAX_FILES }
@@ -55,10 +56,9 @@ pub fn relay_measured<T: Threads + Wait + Clock + Sync, R: Read + Drop, W: Write
     let stats = Stats::of(alloc, args, &relayed, tries.puts(), tries.takes(), time)?;
     let told = stats.text(alloc)?;
     write_outcome(&relayed, args.list, writer)?;
-    // Nothing is left to do where standard error fails.
-    let _ = write_all(errors, told.as_bytes());
+    let said = tell(errors, told.as_bytes());
     mem::forget(relayed);
-    Ok(())
+    Ok(said)
 }
 
 // How long ago that was, where the clock could be read then and now.

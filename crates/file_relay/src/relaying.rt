@@ -2,9 +2,12 @@
 
 ghost use Rattle.std.specs.Prelude.{◌≡◌, ◌≢◌, ◌≤◌, ◌*◌, IfErr, IfOk, List, ℕ, length};
 ghost use Rattle.bounded_model.specs.Laws.{fresh};
-ghost use Rattle.tagged_index.specs.Limits.{capacity_of, tag_limit_of};
+ghost use Rattle.tagged_index.specs.Limits.{capacity_of, passes_of, tag_limit_of};
 ghost use Rattle.tagged_index.specs.declared.word.TheConstants.{MAX_TAG};
-ghost use Rattle.words.specs.declared.command_line.TheConstants.{MAX_FILES};
+ghost use Rattle.words.specs.declared.command_line.TheConstants.{MAX_FILES, MAX_RELAY_PASSES};
+ghost use Rattle.words.specs.declared.chosen.Kind.TheVariants.{Ring};
+ghost use Rattle.ring_queue.specs.Limits.{laps_at};
+ghost use Rattle.ring_queue.specs.declared.limits.TheConstants.{MAX_LAPS};
 ghost use Rattle.streams.specs.declared.tool_fault.ToolFault.TheVariants.{Output, Relay};
 ghost use Rattle.relay.specs.declared.faults.RelayFault.{RelayFault};
 ghost use Rattle.relay.specs.declared.faults.RelayFault.TheVariants.{NoMemory};
@@ -15,6 +18,7 @@ ghost use Rattle.streams.specs.Writing.{written};
 use bounded_model::Container;
 use ms_queue::Queue;
 use relay::{FreeGate, Gate, Message, Plan, Relayed, run};
+use ring_queue::{MAX_LAPS, RingLimits, RingQueue};
 use std::alloc::Global;
 use std::io::{Read, Write};
 use std::mem;
@@ -23,7 +27,7 @@ use std::thread::Threads;
 use streams::{ToolFault, read_inputs, write_outcome};
 use tagged_index::{Limits, MAX_TAG};
 use treiber_stack::Stack;
-use words::{Kind, RelayArgs};
+use words::{Kind, MAX_RELAY_PASSES, RelayArgs};
 
 /// Relays what the readers give, reader `k`, counted from 0, as sender `k`, and writes the outcome:
 /// the audit, and then the list where that is wanted.
@@ -80,6 +84,10 @@ pub(crate) fn relay_inputs<T: Threads + Wait + Sync, G: Gate + Sync>(
             let (stack, root) = Stack::new(alloc, limits_for(args))?;
             relay_through(rt, alloc, stack, root, args, inputs, gate)
         }
+        Kind::Ring => {
+            let (ring, root) = RingQueue::new(alloc, ring_limits_for(args))?;
+            relay_through(rt, alloc, ring, root, args, inputs, gate)
+        }
     }
 }
 
@@ -89,6 +97,19 @@ fn limits_for(args: &RelayArgs) -> Limits
     ensures { (capacity_of result ≡ args.now.capacity) × (tag_limit_of result ≡ MAX_TAG) }
 {
     match Limits::of(args.capacity, MAX_TAG) {
+        Some(limits) => limits,
+        None => unreachable!(),
+    }
+}
+
+// The same of a ring, which has as many laps as may be, and a cell for each pass that a relay needs.
+fn ring_limits_for(args: &RelayArgs) -> RingLimits
+    requires range { IsInRange args.now }
+    requires ring { args.now.kind ≡ Ring }
+    ensures { (capacity_of result.limits ≡ args.now.capacity)
+        × (laps_at result.limits ≡ MAX_LAPS) × (passes_of result.limits ≡ MAX_RELAY_PASSES) }
+{
+    match RingLimits::of(args.capacity, MAX_LAPS, MAX_RELAY_PASSES) {
         Some(limits) => limits,
         None => unreachable!(),
     }

@@ -154,7 +154,9 @@ fn attempt<T: Threads + Wait + Clock + Sync, F: OpenFiles, I: Read + Drop, O: Wr
         Chosen::Traced(name) => {
             let source = open_source(files, name.as_str(), &mut input);
             let mut source = source.ok_or(Failure::ScriptUnopened)?;
-            Ok(replay_traced(rt, alloc, &mut source, output, errors)?)
+            // That the trace or the stats cannot be written is no failure.
+            let _ = replay_traced(rt, alloc, &mut source, output, errors)?;
+            Ok(())
         }
         Chosen::Relay(args, names) => {
             let sources = open_sources(alloc, files, &names, input)?;
@@ -162,7 +164,8 @@ fn attempt<T: Threads + Wait + Clock + Sync, F: OpenFiles, I: Read + Drop, O: Wr
         }
         Chosen::Measured(args, names) => {
             let sources = open_sources(alloc, files, &names, input)?;
-            Ok(relay_measured(rt, alloc, &args, sources, output, errors)?)
+            let _ = relay_measured(rt, alloc, &args, sources, output, errors)?;
+            Ok(())
         }
     }
 }

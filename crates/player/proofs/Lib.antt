@@ -1,2 +1,5 @@
+pub mod Going
+pub mod Lines
 pub mod Showing
 pub mod Telling
+pub mod Tracing

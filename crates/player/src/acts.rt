@@ -1,12 +1,13 @@
 //! What a line does at the place of its letter.
 
-ghost use Rattle.std.specs.Prelude.{◌≡◌, ℕ, IfOk, List};
+ghost use Rattle.std.specs.Prelude.{◌≡◌, ℕ, IfOk, List, [], ◌∷◌};
 ghost use Rattle.bounded_model.specs.declared.commands.Command.{Command};
 ghost use Rattle.bounded_model.specs.Stepping.{Underway};
 ghost use Rattle.player.specs.Plays.{Acting, ActingTold, IsFor, Named, RestingTold, StepsTold, Told};
 ghost use Rattle.player.specs.Shows.{CallBy, Shows, StepOf};
 ghost use Rattle.player.specs.declared.place.Place.TheVariants.{Acting as AtWork};
-ghost use Rattle.script.specs.declared.line.Act.TheVariants.{Meet};
+ghost use Rattle.player.specs.Traces.{ActingLines, CallLines, IsCounted, PlaceLines, RestingLines, StepLine, Traces};
+ghost use Rattle.script.specs.declared.line.Act.TheVariants.{Meet, Step};
 ghost use Rattle.script.specs.declared.line.PassName.{PassName};
 
 use crate::place::{Begun, Place};
@@ -29,9 +30,12 @@ pub fn act_at<'a, C: Played<'a>, R: Wait>(
     requires place { (found : Named) × Shows (C.reading container.now) place found }
     requires alone { (other : PassName) → ¬ (act ≡ Meet other) }
     requires fits { IsFor (C.reading container.now).shape.order act }
-    ensures { (found : Named) → Shows (C.reading container.now) place found
+    ensures told { (found : Named) → Shows (C.reading container.now) place found
         → IfOk result (λ done. (after : Named) × Shows (C.reading container.now) done.0 after
         × Told (C.reading container.now).shape found act.entry done.1 after) }
+    ensures traced { IfOk result (λ done. Traces trace.old trace.new
+        (λ lines. PlaceLines (C.reading container.now) C.is_step trace.old.pass place
+        act.entry done.1 lines done.0)) }
 {
     match place {
         Place::Nobody => Ok((Place::Nobody, Answer::NoPass)),
@@ -52,9 +56,12 @@ fn act_resting<'a, C: Played<'a>, R: Wait>(
     requires pass { (C.reading container.now).is_pass pass }
     requires alone { (other : PassName) → ¬ (act ≡ Meet other) }
     requires fits { IsFor (C.reading container.now).shape.order act }
-    ensures { IfOk result (λ done. (after : Named) × Shows (C.reading container.now) done.0 after
+    ensures told { IfOk result (λ done. (after : Named) × Shows (C.reading container.now) done.0 after
         × RestingTold (C.reading container.now).shape ((C.reading container.now).pass pass)
         act.entry done.1 after) }
+    ensures traced { IfOk result (λ done. Traces trace.old trace.new
+        (λ lines. RestingLines (C.reading container.now) C.is_step trace.old.pass pass
+        act.entry done.1 lines done.0)) }
 {
     match act {
         Act::Call(command) => {
@@ -90,7 +97,7 @@ fn act_resting<'a, C: Played<'a>, R: Wait>(
     }
 }
 
-/// Makes a whole call. Where a trace is kept it is made by steps, so that each has its line.
+/// Makes a whole call. If a trace is kept, it makes the call by steps, so that each has its line.
 fn make_call<'a, C: Played<'a>, R: Wait>(
     container: &C,
     rt: &R,
@@ -101,6 +108,9 @@ fn make_call<'a, C: Played<'a>, R: Wait>(
     requires { (C.reading container.now).is_pass by }
     ensures of { IfOk result (λ done. (C.reading container.now).is_pass done.0) }
     ensures gives { IfOk result (CallBy (C.reading container.now) by command.entry) }
+    ensures traced { IfOk result (λ done. Traces trace.old trace.new
+        (CallLines (C.reading container.now) C.is_step trace.old.pass command.entry by
+        done.0 done.1)) }
 {
     if !trace.is_kept() {
         return Ok(container.call(rt, by, command));
@@ -125,8 +135,11 @@ fn make_step<'a, C: Played<'a>>(
     trace: &mut Trace,
 ) -> Result<Stepped<C::Operation, C::Pass, Reply<Value<'a>>>, AllocError>
     requires { (call : Command (List ℕ)) × (C.reading container.now).is_making call operation }
-    ensures { (call : Command (List ℕ)) → (C.reading container.now).is_making call operation
+    ensures gives { (call : Command (List ℕ)) → (C.reading container.now).is_making call operation
         → IfOk result (StepOf (C.reading container.now) call operation) }
+    ensures traced { IfOk result (λ stepped. Traces trace.old trace.new
+        (λ lines. (line : List ℕ) × (lines ≡ line ∷ []) × StepLine (C.reading container.now)
+        C.is_step trace.old.pass number operation stepped line)) }
 {
     if !trace.is_kept() {
         return Ok(container.step(operation));
@@ -155,10 +168,15 @@ fn act_begun<'a, C: Played<'a>>(
 ) -> Result<(Place<C::Pass, C::Operation>, Answer<'a>), AllocError>
     requires { (call : Command (List ℕ))
         × (C.reading container.now).is_making call begun.operation }
-    ensures { (call : Command (List ℕ)) (u : Underway (List ℕ))
+    ensures told { (call : Command (List ℕ)) (u : Underway (List ℕ))
         → Shows (C.reading container.now) (AtWork begun) (Acting call u)
         → IfOk result (λ done. (after : Named) × Shows (C.reading container.now) done.0 after
         × ActingTold (C.reading container.now).shape call u act.entry done.1 after) }
+    ensures traced { IsCounted (C.reading container.now) begun
+        → IfOk result (λ done. Traces trace.old trace.new (λ lines. (call : Command (List ℕ))
+        → (C.reading container.now).is_making call begun.operation
+        → ActingLines (C.reading container.now) C.is_step trace.old.pass call begun
+        act.entry done.1 lines done.0)) }
 {
     match act {
         Act::Step(count) => make_steps(container, begun, count, trace),
@@ -176,10 +194,15 @@ fn make_steps<'a, C: Played<'a>>(
 ) -> Result<(Place<C::Pass, C::Operation>, Answer<'a>), AllocError>
     requires { (call : Command (List ℕ))
         × (C.reading container.now).is_making call begun.operation }
-    ensures { (call : Command (List ℕ)) (u : Underway (List ℕ))
+    ensures told { (call : Command (List ℕ)) (u : Underway (List ℕ))
         → Shows (C.reading container.now) (AtWork begun) (Acting call u)
         → IfOk result (λ done. (after : Named) × Shows (C.reading container.now) done.0 after
         × StepsTold (C.reading container.now).shape call u count done.1 after) }
+    ensures traced { IsCounted (C.reading container.now) begun
+        → IfOk result (λ done. Traces trace.old trace.new (λ lines. (call : Command (List ℕ))
+        → (C.reading container.now).is_making call begun.operation
+        → ActingLines (C.reading container.now) C.is_step trace.old.pass call begun
+        (Step count) done.1 lines done.0)) }
 {
     let Begun {
         mut operation,

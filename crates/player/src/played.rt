@@ -57,7 +57,8 @@ pub trait Played<'a>: Drop {
         ensures making { (reading self.now).is_making command.entry result }
         ensures begun { (reading self.now).made result ≡ no_step ((reading self.now).pass by) };
 
-    /// One atomic step of a call.
+    /// One step of a call. Its pass has made exactly one step more afterwards, and the call goes on or
+    /// has ended.
     fn step(
         &self,
         operation: Self::Operation,

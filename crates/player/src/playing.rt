@@ -4,6 +4,7 @@ ghost use Rattle.std.specs.Prelude.{◌≡◌, ◌++◌, ℕ, IfOk, OnOk, IsTrue
 ghost use Rattle.std.specs.List.{AllByRecursion};
 ghost use Rattle.player.specs.Plays.{Ends, Plays, World, start};
 ghost use Rattle.player.specs.Shows.{IsOn};
+ghost use Rattle.player.specs.Traces.{Adds, PlaysTraced, lines_in, nothing_held};
 ghost use Rattle.script.specs.AnswerTexts.{answer_text};
 ghost use Rattle.script.specs.Script.{FinishesLast, IsLine, is_allowed, text_of};
 ghost use Rattle.script.specs.declared.answer.Answer.{Answer};
@@ -21,8 +22,10 @@ use std::sync::Wait;
 /// are made to the trace. Returns the text of the replies, a line for each line of the script, or
 /// that memory ran out for it, for the values of a range or a fold, or for the trace.
 ///
-/// Where a trace is kept, whole calls are made by steps, but for ranges and folds: a line says that
-/// they were made whole. That each step has its line is tested.
+/// If a trace is kept, whole calls are made by steps, but for ranges and folds, which are made whole.
+/// The trace gains a line for each step, in their order, with the step's name and its number in the
+/// call, and a line for each range and fold, and no other line. What a line says of a
+/// compare-and-swap's outcome is told by the names of this step and the next (`StepName::outcome`).
 pub fn play<'a, C: Played<'a>, R: Wait>(
     rt: &R,
     alloc: Global,
@@ -36,10 +39,15 @@ pub fn play<'a, C: Played<'a>, R: Wait>(
     requires allowed { AllByRecursion
         (λ line. IsTrue (is_allowed (C.reading container).shape.order line)) lines.items }
     requires finish_last { FinishesLast lines.items }
-    ensures { IfOk result (λ output. (answers : List Answer)
+    ensures plays { IfOk result (λ output. (answers : List Answer)
         × Plays (C.reading container).shape (start ((C.reading container).root root))
         lines.entry.items answers
         × (string_bytes output ≡ text_of (map answer_text answers))) }
+    ensures traced { IfOk result (λ output. Adds (lines_in trace.old) (lines_in trace.new)
+        (λ traced. (answers : List Answer)
+        × PlaysTraced (C.reading container) C.is_step (start ((C.reading container).root root))
+        nothing_held lines.entry.items answers traced
+        × (string_bytes output ≡ text_of (map answer_text answers)))) }
 {
     let mut lines = lines;
     let mut stage = Stage::new(alloc, root)?;

@@ -4,6 +4,8 @@ ghost use Rattle.std.specs.Prelude.{◌≡◌, ◌≢◌, ◌-◌, if◌then◌e
 ghost use Rattle.std.specs.Char.{is_ascii_lowercase};
 ghost use Rattle.player.specs.Plays.{Acts, Does, DoesMeet, Ends, IsFor, JoinsAll, JoinsOne, MeetTold, Named, World, start};
 ghost use Rattle.player.specs.Shows.{Found, IsOn, Shows, ShowsAll};
+ghost use Rattle.player.specs.Traces.{ActsTraced, AreKept, DoesTraced, IsFound, IsKept, Traces, held_by};
+ghost use Rattle.player.specs.declared.place.Place.TheVariants.{Nobody};
 ghost use Rattle.script.specs.declared.answer.Answer.TheVariants.{Met, NoPass};
 ghost use Rattle.script.specs.declared.line.Act.TheVariants.{Meet};
 ghost use Rattle.script.specs.declared.line.PassName.{PassName};
@@ -47,8 +49,11 @@ fn find<'a, C: Played<'a>>(
 ) -> Place<C::Pass, C::Operation>
     requires on { (world : World) × IsOn (C.reading container.now) stage.old world }
     requires name { IsTrue (is_ascii_lowercase name.0) }
-    ensures { (world : World) → IsOn (C.reading container.now) stage.old world
+    ensures found { (world : World) → IsOn (C.reading container.now) stage.old world
         → Found (C.reading container.now) world name.0 stage.new result }
+    ensures same { IsFound (held_by stage.old.places.of.items name.0) result }
+    ensures places { stage.new.places.of.items
+        ≡ slice_set stage.old.places.of.items (name.0 - 97) Nobody }
 {
     match stage.places.exchange(name, Place::Nobody) {
         Place::Nobody => match container.split(&mut stage.root) {
@@ -84,9 +89,14 @@ pub fn act<'a, C: Played<'a>, R: Wait>(
     requires other { (other : PassName) → act ≡ Meet other
         → IsTrue (is_ascii_lowercase other.0) × (name.0 ≢ other.0) }
     requires fits { IsFor (C.reading container.now).shape.order act }
-    ensures { (world : World) → IsOn (C.reading container.now) stage.old world
+    ensures acts { (world : World) → IsOn (C.reading container.now) stage.old world
         → IfOk result (λ answer. (next : World) × IsOn (C.reading container.now) stage.new next
         × Acts (C.reading container.now).shape world name.0 act.entry answer next) }
+    ensures traced { (world : World) → IsOn (C.reading container.now) stage.old world
+        → trace.old.pass ≡ name → IfOk result (λ answer. Traces trace.old trace.new
+        (λ lines. (next : World) × IsOn (C.reading container.now) stage.new next
+        × ActsTraced (C.reading container.now) C.is_step world stage.old.places.of.items name
+        act.entry answer lines next stage.new.places.of.items)) }
 {
     match act {
         Act::Meet(other) => Ok(meet(container, stage, name, other)),
@@ -108,9 +118,14 @@ fn act_alone<'a, C: Played<'a>, R: Wait>(
     requires name { IsTrue (is_ascii_lowercase name.0) }
     requires alone { (other : PassName) → ¬ (act ≡ Meet other) }
     requires fits { IsFor (C.reading container.now).shape.order act }
-    ensures { (world : World) → IsOn (C.reading container.now) stage.old world
+    ensures acts { (world : World) → IsOn (C.reading container.now) stage.old world
         → IfOk result (λ answer. (next : World) × IsOn (C.reading container.now) stage.new next
         × Does (C.reading container.now).shape world name.0 act.entry answer next) }
+    ensures traced { (world : World) → IsOn (C.reading container.now) stage.old world
+        → trace.old.pass ≡ name → IfOk result (λ answer. Traces trace.old trace.new
+        (λ lines. (next : World) × IsOn (C.reading container.now) stage.new next
+        × DoesTraced (C.reading container.now) C.is_step world stage.old.places.of.items name
+        act.entry answer lines next stage.new.places.of.items)) }
 {
     let place = find(container, stage, name);
     let (place, answer) = act_at(container, rt, alloc, place, act, trace)?;
@@ -128,9 +143,10 @@ fn meet<'a, C: Played<'a>>(
     requires on { (world : World) × IsOn (C.reading container.now) stage.old world }
     requires name { IsTrue (is_ascii_lowercase name.0) }
     requires other { IsTrue (is_ascii_lowercase other.0) × (name.0 ≢ other.0) }
-    ensures { (world : World) → IsOn (C.reading container.now) stage.old world
+    ensures meets { (world : World) → IsOn (C.reading container.now) stage.old world
         → (next : World) × IsOn (C.reading container.now) stage.new next
         × DoesMeet (C.reading container.now).shape world name.0 other.0 result next }
+    ensures kept { AreKept stage.old.places.of.items stage.new.places.of.items }
 {
     let first = find(container, stage, name);
     if let Place::Nobody = first {
@@ -155,10 +171,12 @@ fn meet_at<'a, C: Played<'a>>(
 )
     requires first { (found : Named) × Shows (C.reading container.now) first found }
     requires second { (found : Named) × Shows (C.reading container.now) second found }
-    ensures { (one two : Named) → Shows (C.reading container.now) first one
+    ensures meets { (one two : Named) → Shows (C.reading container.now) first one
         → Shows (C.reading container.now) second two
         → (after : Named) × Shows (C.reading container.now) result.0 after
         × Shows (C.reading container.now) result.1 two × MeetTold one two result.2 after }
+    ensures first_kept { IsKept first result.0 }
+    ensures second_kept { IsKept second result.1 }
 {
     match (first, second) {
         (Place::Nobody, second) => (Place::Nobody, second, Answer::NoPass),

@@ -1,4 +1,4 @@
-//! The trace of a script that is played: a line for each atomic step.
+//! The trace of a script that is played: a line for each step of its calls.
 
 ghost use Rattle.std.specs.Prelude.{◌≡◌, ◌++◌, ◌↔◌, [], IsSome, IsTrue, OnOk, string_bytes};
 ghost use Rattle.player.specs.Traces.{lines_in, step_line, text_in, whole_line, with_line};
@@ -8,13 +8,13 @@ use std::alloc::{AllocError, Global};
 use std::fmt::Write;
 use step_names::{Outcome, StepName};
 
-/// The trace of a script that is played, where one is asked for: a line for each atomic step of its
-/// calls, in the order in which they are made.
+/// The trace of a script that is played, if one is asked for. `play` adds a line for each step of the
+/// script's calls, in the order in which they are made.
 #[derive(Drop)]
 pub struct Trace {
     /// The pass whose steps are made.
     pass: PassName,
-    /// The lines so far. `None` where no trace is asked for.
+    /// The lines so far. `None` if no trace is asked for.
     lines: Option<String>,
 }
 
@@ -55,7 +55,7 @@ impl Trace {
         self.lines.is_some()
     }
 
-    /// The lines so far, and none where no trace is kept.
+    /// The lines so far, and none if no trace is kept.
     pub fn text(&self) -> &str
         ensures { result.now ≡ text_in self.now }
     {
@@ -73,10 +73,11 @@ impl Trace {
         self.pass = pass;
     }
 
-    /// Adds the line of a step, where a trace is kept.
+    /// Adds the line of a step, if a trace is kept.
     pub fn add_step(&mut self, made: MadeStep) -> Result<(), AllocError>
-        ensures { OnOk result (lines_in self.new
+        ensures lines { OnOk result (lines_in self.new
             ≡ with_line (lines_in self.old) (step_line self.old.pass made)) }
+        ensures pass { self.new.pass ≡ self.old.pass }
     {
         let pass = self.pass;
         match &mut self.lines {
@@ -85,10 +86,11 @@ impl Trace {
         }
     }
 
-    /// Adds the line of a call that is made whole, where a trace is kept.
+    /// Adds the line of a call that is made whole, if a trace is kept.
     pub fn add_whole(&mut self, call: &str) -> Result<(), AllocError>
-        ensures { OnOk result (lines_in self.new
+        ensures lines { OnOk result (lines_in self.new
             ≡ with_line (lines_in self.old) (whole_line self.old.pass call.now)) }
+        ensures pass { self.new.pass ≡ self.old.pass }
     {
         let pass = self.pass;
         match &mut self.lines {

@@ -15,7 +15,7 @@ use Rattle.streams.specs.Writing.{AppendsFront}
 use Rattle.script_replay.specs.Outcome.{IsFaultOf, IsOutputFor, IsOutputOf, IsOutside, Wrote, WroteFront}
 
 -- the text that was read is all of the known bytes
-known_text : (known : Option (List ℕ)) (read text : List ℕ) (P : List ℕ → Type 0) → IfSome known (λ bytes. read ≡ bytes) → text ≡ read → P text → IfSome known P
+pub known_text : (known : Option (List ℕ)) (read text : List ℕ) (P : List ℕ → Type 0) → IfSome known (λ bytes. read ≡ bytes) → text ≡ read → P text → IfSome known P
 known_text None read text P all same holds = tt
 known_text (Some bytes) read text P all same holds = subst P (same ∙ all) holds
 

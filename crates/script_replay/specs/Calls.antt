@@ -1,19 +1,10 @@
 -- What a script's lines see of a container.
-use Rattle.std.specs.Prelude.{◌≡◌, ℕ, List, [], ◌∷◌, ◌++◌, map, Result, Ok, Err}
+use Rattle.std.specs.Prelude.{◌≡◌, ℕ, List, [], ◌∷◌, ◌++◌, Result, Ok, Err}
 use Rattle.bounded_model.specs.declared.answers.TakeRefused.{TakeRefused}
 use Rattle.bounded_model.specs.declared.bulk.Folded.{Folded}
-use Rattle.bounded_model.specs.declared.history.Order.{Order}
 use Rattle.bounded_model.specs.declared.commands.Operation.{Operation}
 use Rattle.bounded_model.specs.declared.commands.Operation.TheVariants.{Put, Take, Close, Shut, Look}
-use Rattle.bounded_model.specs.Laws.{fresh}
-use Rattle.player.specs.Plays.{Plays, start}
-use Rattle.script.specs.AnswerTexts.{answer_text}
-use Rattle.script.specs.Script.{text_of}
-use Rattle.script.specs.declared.answer.Answer.{Answer}
-use Rattle.script.specs.declared.line.Line.{Line}
 use Rattle.step_names.specs.declared.step_name.StepName.{StepName}
-use Rattle.tagged_index.specs.Limits.{capacity_of, tag_limit_of}
-use Rattle.tagged_index.specs.declared.limit.Limits.{Limits}
 
 -- the name of an operation's next step, by what its kind of call says
 abbrev pub IsNextStep : {A B C S L : Type 0} → (A → StepName → Type 0) → (B → StepName → Type 0) → (C → StepName → Type 0) → (S → StepName → Type 0) → (L → StepName → Type 0) → Operation A B C S L → StepName → Type 0

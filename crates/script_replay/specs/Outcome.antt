@@ -54,7 +54,7 @@ pub record WroteFront (text : List ℕ) (old new : Option (List ℕ)) : Type 0 w
 
 -- what a replay does to a writer, of the text that its reader gave: a script's replies go out, whole
 -- unless a write fails, and a fault of the text is in the text
-pub record Replays (text : Option (List ℕ)) (writer : Written) (result : Result (Unit {0}) ReplayFault) : Type 0 where
+pub record Replays {A : Type 0} (text : Option (List ℕ)) (writer : Written) (result : Result A ReplayFault) : Type 0 where
   pub accepted : OnOk result (IfSome text IsAccepted)
   pub replies : OnOk result (IfSome text (λ text. Wrote text writer.old writer.new))
   pub fault : IfErr result (λ fault. IfSome text (IsFaultOf fault))

@@ -2,7 +2,9 @@
 
 ghost use Rattle.std.specs.Prelude.{IfOk, IsTrue, string_bytes};
 ghost use Rattle.std.specs.List.{AllByRecursion};
+ghost use Rattle.player.specs.Traces.{Adds, lines_in};
 ghost use Rattle.script_replay.specs.Outcome.{IsOutputOf};
+ghost use Rattle.script_replay.specs.Traced.{IsTracedOf};
 ghost use Rattle.script.specs.Script.{FinishesLast, IsLine, is_allowed};
 ghost use Rattle.script.specs.View.{head_view};
 
@@ -26,8 +28,11 @@ pub(crate) fn answer<S: Wait>(
     requires allowed { AllByRecursion
         (λ line. IsTrue (is_allowed script.header.order line)) script.lines.items }
     requires finish_last { FinishesLast script.lines.items }
-    ensures { IfOk result (λ output. IsOutputOf
+    ensures output { IfOk result (λ output. IsOutputOf
         (head_view script.entry.header) script.entry.lines.items (string_bytes output)) }
+    ensures traced { IfOk result (λ output. Adds (lines_in trace.old) (lines_in trace.new)
+        (IsTracedOf (head_view script.entry.header) script.entry.lines.items
+        (string_bytes output))) }
 {
     match script.header.order {
         Order::Fifo => play_queue(rt, alloc, script, trace),

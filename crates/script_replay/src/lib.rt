@@ -3,8 +3,8 @@
 //! Promised: what is accepted as a script is exactly a text of the grammar; a refused text's fault is
 //! its first bad line or its missing last newline, and what is written is a reply to each line, after
 //! the script was read and checked whole (`replay`): what the calls of a new queue or stack return,
-//! each under the container's own laws, also where the steps are then written on standard error
-//! (`replay_traced`). After a fault of a text or of memory nothing was written.
+//! each under the container's own laws. `replay_traced` then writes a line for each step that was made,
+//! with the name that its operation gave it. After a fault of a text or of memory nothing was written.
 #![tactic(auto)]
 
 mod answer;

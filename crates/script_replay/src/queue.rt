@@ -5,7 +5,9 @@ ghost use Rattle.std.specs.List.{AllByRecursion};
 ghost use Rattle.bounded_model.specs.declared.history.Order.TheVariants.{Fifo};
 ghost use Rattle.script.specs.Script.{FinishesLast, IsLine, is_allowed};
 ghost use Rattle.script.specs.View.{head_view};
+ghost use Rattle.player.specs.Traces.{Adds, lines_in};
 ghost use Rattle.script_replay.specs.Outcome.{IsOutputIn};
+ghost use Rattle.script_replay.specs.Traced.{IsTracedIn};
 
 use crate::ranges::Ranges;
 use crate::scripted::Scripted;
@@ -52,8 +54,11 @@ pub(crate) fn play_queue<R: Wait>(
     requires each { AllByRecursion IsLine script.lines.items }
     requires allowed { AllByRecursion (λ line. IsTrue (is_allowed Fifo line)) script.lines.items }
     requires finish_last { FinishesLast script.lines.items }
-    ensures { IfOk result (λ output. IsOutputIn Fifo (head_view script.entry.header)
+    ensures output { IfOk result (λ output. IsOutputIn Fifo (head_view script.entry.header)
         script.entry.lines.items (string_bytes output)) }
+    ensures traced { IfOk result (λ output. Adds (lines_in trace.old) (lines_in trace.new)
+        (IsTracedIn Fifo (head_view script.entry.header) script.entry.lines.items
+        (string_bytes output))) }
 {
     let Script { header, lines } = script;
     let (queue, root) = Queue::new(alloc, header.limits)?;

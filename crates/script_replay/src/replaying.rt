@@ -1,8 +1,10 @@
 //! Scripts replayed.
 
 ghost use Rattle.std.specs.Prelude.{◌≡◌, ◌≢◌, ◌≤◌, length, IfErr, IfOk, OnOk, IfSome, string_bytes};
+ghost use Rattle.player.specs.Traces.{Adds, lines_in};
 ghost use Rattle.streams.specs.declared.fault.ReplayFault.TheVariants.{Output};
 ghost use Rattle.script_replay.specs.Outcome.{IsFaultOf, IsOutputFor, IsOutside, Replays, Wrote, WroteFront};
+ghost use Rattle.script_replay.specs.Traced.{IsTraceFor, WroteTraced};
 ghost use Rattle.streams.specs.Writing.{written};
 ghost use Rattle.script.specs.Faults.{IsAccepted};
 
@@ -12,7 +14,7 @@ use script::{MAX_SCRIPT_LEN, parse};
 use std::alloc::Global;
 use std::io::{Read, Write};
 use std::sync::Wait;
-use streams::{ReplayFault, read_text, write_all};
+use streams::{ReplayFault, Told, read_text, tell, write_all};
 
 /// What is to be written for the script that the reader gives, all of it, and its steps in the trace.
 fn output_for<S: Wait, R: Read>(
@@ -30,6 +32,9 @@ fn output_for<S: Wait, R: Read>(
     ensures short { OnOk result
         (IfSome (R.remaining reader.old) (λ text. length text ≤ MAX_SCRIPT_LEN)) }
     ensures unwritten { IfErr result (λ fault. fault ≢ Output) }
+    ensures traced { IfOk result (λ output. IfSome (R.remaining reader.old)
+        (λ text. Adds (lines_in trace.old) (lines_in trace.new)
+        (IsTraceFor text (string_bytes output)))) }
 {
     let text = read_text(alloc, reader)?;
     let script = parse(alloc, &text)?;
@@ -72,29 +77,33 @@ pub fn replay<S: Wait, R: Read, W: Write>(
 }
 
 /// Replays as [`replay`] does, with whole calls made by steps, but for ranges and folds, and then
-/// writes the trace on `errors`: a line for each atomic step.
+/// writes the trace on `errors`: a line for each step that was made, in their order, with the name
+/// that the operation gave the step before it was made, and its number in the call. A range and a
+/// fold have one line each. Returns how much of the trace went out.
 ///
-/// The faults are those of `replay`; after a fault no trace is written. `NoMemory` also comes where
-/// there is no memory for the trace. That it cannot be written is no fault. The name of each step is
-/// proved (`step_names`); that each step has its line, and that no compare-and-swap that succeeded is
-/// said to have failed, is tested.
+/// The faults are those of `replay`; after a fault no trace is written. `NoMemory` also comes if
+/// there is no memory for the trace. That it cannot be written is no fault. The names of a step and of
+/// the next one give what its line says of a compare-and-swap's outcome (`StepName::outcome`). Tests
+/// show that it is what happened.
 pub fn replay_traced<S: Wait, R: Read, W: Write, E: Write>(
     rt: &S,
     alloc: Global,
     reader: &mut R,
     writer: &mut W,
     errors: &mut E,
-) -> Result<(), ReplayFault>
+) -> Result<Told, ReplayFault>
     // What is written is what `replay` writes.
     ensures replays { Replays (R.remaining reader.old)
         (written W.contents writer.old writer.new) result }
     ensures untouched { IfErr result (λ fault. fault ≢ Output → writer.new ≡ writer.old) }
+    // The trace is that of the play whose replies are written.
+    ensures traced { IfOk result (λ said. IfSome (R.remaining reader.old)
+        (λ text. WroteTraced text said (W.contents writer.old) (W.contents writer.new)
+        (E.contents errors.old) (E.contents errors.new))) }
     ensures untold { IfErr result (λ fault. errors.new ≡ errors.old) }
 {
     let mut trace = Trace::new(alloc);
     let output = output_for(rt, alloc, reader, &mut trace)?;
     write_all(writer, output.as_bytes())?;
-    // Nothing is left to do where standard error fails.
-    let _ = write_all(errors, trace.text().as_bytes());
-    Ok(())
+    Ok(tell(errors, trace.text().as_bytes()))
 }

@@ -4,7 +4,9 @@ ghost use Rattle.std.specs.Prelude.{◌≡◌, IfOk, IsTrue, string_bytes, true,
 ghost use Rattle.std.specs.List.{AllByRecursion};
 ghost use Rattle.bounded_model.specs.declared.history.Order.TheVariants.{Lifo};
 ghost use Rattle.script_replay.specs.Calls.{AddsOne, numbered};
+ghost use Rattle.player.specs.Traces.{Adds, lines_in};
 ghost use Rattle.script_replay.specs.Outcome.{IsOutputIn};
+ghost use Rattle.script_replay.specs.Traced.{IsTracedIn};
 ghost use Rattle.player.specs.Plays.{FoldTold, RangeTold, range_reply};
 ghost use Rattle.script.specs.Script.{FinishesLast, IsLine, is_allowed};
 ghost use Rattle.script.specs.View.{head_view};
@@ -150,8 +152,11 @@ pub(crate) fn play_stack<R: Wait>(
     requires each { AllByRecursion IsLine script.lines.items }
     requires allowed { AllByRecursion (λ line. IsTrue (is_allowed Lifo line)) script.lines.items }
     requires finish_last { FinishesLast script.lines.items }
-    ensures { IfOk result (λ output. IsOutputIn Lifo (head_view script.entry.header)
+    ensures output { IfOk result (λ output. IsOutputIn Lifo (head_view script.entry.header)
         script.entry.lines.items (string_bytes output)) }
+    ensures traced { IfOk result (λ output. Adds (lines_in trace.old) (lines_in trace.new)
+        (IsTracedIn Lifo (head_view script.entry.header) script.entry.lines.items
+        (string_bytes output))) }
 {
     let Script { header, lines } = script;
     let (stack, root) = Stack::new(alloc, header.limits)?;

@@ -3,6 +3,8 @@ use Rattle.std.specs.Prelude.{◌≡◌, ℕ, Bool, true, false, List, ◌++◌,
 use Rattle.std.specs.Io.KnownBytes.{Appends}
 use Rattle.relay.specs.declared.outcome.Relayed.{Relayed}
 use Rattle.audit.specs.Texts.{audit_text, list_text}
+use Rattle.streams.specs.declared.told.Told.{Told}
+use Rattle.streams.specs.declared.told.Told.TheVariants.{Whole, InPart}
 
 -- what is known of a writer's bytes, before and after
 pub record Written : Type 0 where
@@ -15,6 +17,11 @@ written contents before after = record { old = contents before; new = contents a
 -- known bytes grow by a front of these
 abbrev pub AppendsFront : Option (List ℕ) → Option (List ℕ) → List ℕ → Type 0
 AppendsFront old new bytes = (n : ℕ) × Appends old new (take n bytes)
+
+-- known bytes grow by these, whole or up to a write that failed
+abbrev pub WentOut : Told → Option (List ℕ) → Option (List ℕ) → List ℕ → Type 0
+WentOut Whole old new bytes = Appends old new bytes
+WentOut InPart old new bytes = AppendsFront old new bytes
 
 -- known bytes grow by a front of this text
 pub record GrowsByFront (text : List ℕ) (old new : Option (List ℕ)) : Type 0 where

@@ -3,8 +3,8 @@
 //! The name `-` stands for the standard input, once (`Source`, `open_sources`). A script's text is
 //! all that its reader gives (`read_text`), and each reader of a relay gives the messages of one
 //! sender (`read_inputs`). A text goes out whole, or a front of it did (`write_all`,
-//! `write_outcome`); where nobody reads the output any more, nothing goes to the errors either
-//! (`Output`, `Errors`). The status and the line on standard error follow from the fault (`Failure`).
+//! `write_outcome`), and a text beside the output says which (`tell`). If nobody reads the output any
+//! more, nothing goes to the errors either (`Output`, `Errors`). The status and the line on standard error follow from the fault (`Failure`).
 #![tactic(auto)]
 
 mod failure;
@@ -16,6 +16,7 @@ mod outcome;
 mod output;
 mod pipe;
 mod source;
+mod told;
 mod tool_fault;
 
 pub use failure::Failure;
@@ -27,4 +28,5 @@ pub use outcome::write_outcome;
 pub use output::write_all;
 pub use pipe::{Errors, Output};
 pub use source::{STANDARD_INPUT, Source};
+pub use told::{Told, tell};
 pub use tool_fault::ToolFault;

@@ -1,9 +1,9 @@
 //! What the arguments of the command line ask for.
 
 ghost use Rattle.std.specs.Prelude.{◌≡◌, ◌↔◌, ◌≤◌, Contains, IsTrue, IfOk, IfSome, map};
-ghost use Rattle.words.specs.Ranges.{AreInRange, IsAskedFor, IsInRange, IsRelay};
+ghost use Rattle.words.specs.Ranges.{AreInRange, IsAskedFor, IsInRange, IsRelay, most_of};
 
-use crate::command_line::{MAX_CONSUMERS, MAX_COUNT, MAX_FILES, command_line};
+use crate::command_line::{MAX_CONSUMERS, MAX_COUNT, MAX_FILES, MAX_RING_CAPACITY, command_line};
 use clap::ArgMatches;
 use clap::error::ErrorKind;
 use std::alloc::{AllocError, AllocFailed, Global};
@@ -17,13 +17,15 @@ pub enum Kind {
     Queue,
     /// The last message in is the first out.
     Stack,
+    /// As of a queue, from a circle of slots.
+    Ring,
 }
 
 /// How a relay is run.
 #[derive(Clone, Copy, Debug, PartialEq, Eq)]
 pub struct RelayArgs {
     pub kind: Kind,
-    /// The most messages that the container holds: 1 to 1,048,573.
+    /// The most messages that the container holds: 1 to 1,048,573, of a ring to 1,048,542.
     pub capacity: u32,
     /// How many threads take messages out: 1 to 16.
     pub consumers: u32,
@@ -183,6 +185,7 @@ fn args_of(found: &ArgMatches<'_>) -> Option<RelayArgs>
 {
     let kind = match found.get_str("kind")? {
         "queue" => Kind::Queue,
+        "ring" => Kind::Ring,
         _ => Kind::Stack,
     };
     let args = RelayArgs {
@@ -197,12 +200,24 @@ fn args_of(found: &ArgMatches<'_>) -> Option<RelayArgs>
     args.is_in_range().then_some(args)
 }
 
+impl Kind {
+    // The greatest capacity.
+    fn most(self) -> u32
+        ensures { result ≡ most_of self }
+    {
+        match self {
+            Kind::Queue | Kind::Stack => MAX_CAPACITY,
+            Kind::Ring => MAX_RING_CAPACITY,
+        }
+    }
+}
+
 impl RelayArgs {
     // Whether each value lies in its range.
     fn is_in_range(&self) -> bool
         ensures { IsTrue result ↔ IsInRange self.now }
     {
-        (1..=MAX_CAPACITY).contains(&self.capacity)
+        (1..=self.kind.most()).contains(&self.capacity)
             && (1..=MAX_CONSUMERS).contains(&self.consumers)
             && is_count(self.take)
             && is_count(self.close_after)

@@ -2,7 +2,7 @@
 
 use clap::{Arg, ArgAction, Command, value_parser};
 use std::alloc::{AllocError, Global};
-use tagged_index::MAX_CAPACITY;
+use tagged_index::{MAX_CAPACITY, NULL};
 
 /// The most consumers of a relay.
 pub const MAX_CONSUMERS: u32 = 16;
@@ -13,6 +13,16 @@ pub const MAX_COUNT: u32 = 65_535;
 /// The most files of a relay.
 pub const MAX_FILES: usize = 16;
 
+/// The most passes of a relay: one for each file, one for each consumer, and one that closes.
+pub const MAX_RELAY_PASSES: u32 = MAX_FILES as u32 + MAX_CONSUMERS + 1;
+
+/// The greatest capacity of a ring that a relay runs over. A ring has a cell for each pass, and the
+/// cells of its slots and its passes are together at most `NULL`.
+pub const MAX_RING_CAPACITY: u32 = NULL - MAX_RELAY_PASSES;
+
+// Clauses and the help say these numbers.
+const _: () = prove!(MAX_RELAY_PASSES == 33 && MAX_RING_CAPACITY == 1_048_542);
+
 /// The program's version.
 pub const VERSION: &str = "0.2.0";
 
@@ -21,7 +31,8 @@ const ABOUT: &str = "Replays a script of calls on a bounded lock-free container,
 lines of files through one";
 
 const EXAMPLES: &str =
-    "A container is a queue (first in, first out) or a stack (last in, first out).
+    "A container is a queue (first in, first out), a stack (last in, first out), or a
+ring, which is a queue in a circle of slots. Scripts have queues and stacks.
 Without arguments, a script is read from standard input. See also
 `lockfree replay --help` and `lockfree relay --help`. The formats of scripts and
 replies, and all exit statuses, are in docs/cli.md.
@@ -65,10 +76,10 @@ const RELAY_USAGE: &str = "lockfree relay [OPTIONS] --kind <KIND> --capacity <N>
                       <FILE>...";
 
 const RELAY_EXAMPLE: &str =
-    "A queue delivers the lines of each file in their order. A stack delivers the
-last line in first, so only the lines' numbers tell in which order they went in.
-A line has at most 1,024 bytes and ends in a line feed; a file has at most
-65,535 lines.
+    "A queue and a ring deliver the lines of each file in their order. A stack
+delivers the last line in first, so only the lines' numbers tell in which order
+they went in. A line has at most 1,024 bytes and ends in a line feed; a file has
+at most 65,535 lines.
 
 Examples:
   lockfree relay --kind queue --capacity 1024 --consumers 4 --list a.txt b.txt
@@ -134,10 +145,10 @@ fn kind<'a>(alloc: Global) -> Arg<'a> {
         .long("kind")
         .value_name("KIND")
         .required(true)
-        .value_parser(["queue", "stack"].as_slice())
+        .value_parser(["queue", "stack", "ring"].as_slice())
         .hide_possible_values(true)
         .help(
-            "Which container: queue, from which the first line in\ncomes out first, or stack, from which the last one does",
+            "Which container: queue or ring, from which the first\nline in comes out first, or stack, from which the last\none does",
         )
 }
 
@@ -147,7 +158,7 @@ fn capacity<'a>(alloc: Global) -> Arg<'a> {
         .value_name("N")
         .required(true)
         .value_parser(value_parser!(u32).range(1..=i64::from(MAX_CAPACITY)))
-        .help("The most lines that the container holds, 1 to 1,048,573")
+        .help("The most lines that the container holds, 1 to\n1,048,573; of a ring 1 to 1,048,542")
 }
 
 fn consumers<'a>(alloc: Global) -> Arg<'a> {

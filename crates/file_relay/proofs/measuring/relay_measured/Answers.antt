@@ -22,7 +22,7 @@ returns-in_err-write_outcome-clause-measures g c =
 
 pub returns-clause-measures : goal.returns-clause-measures
 returns-clause-measures g c =
-    let told = rw (c.as_bytes.ensures.value, c.in_ok-told.ensures) at c.write_all.ensures.front in (
+    let told = rw (c.as_bytes.ensures.value, c.in_ok-told.ensures) at c.tell-said.ensures in (
       c.in_ok-inputs.inputs.items,
       c.in_ok-inputs.ensures.read,
       (

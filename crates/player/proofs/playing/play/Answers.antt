@@ -7,7 +7,9 @@ use Rattle.script.specs.Script.{FinishesLast, IsLine, is_allowed}
 use Rattle.player.specs.Plays.{start}
 use Rattle.player.specs.Shows.{IsOn}
 use Rattle.player.proofs.Showing.{shows_none}
-use Rattle.player.proofs.Telling.{Told, told_start, told_more, told_finish, told_end}
+use Rattle.player.proofs.Telling.{Told, TracedTold, told_start, told_more, told_finish, told_end, traced_start, traced_finish, traced_end}
+use Rattle.player.proofs.Tracing.{adds_as, adds_nothing}
+use Rattle.player.proofs.Going.{lines_same, play_on}
 use Rattle.player.proofs.playing.play.Goals as goal
 
 empty : (lines : List Line) → length lines ≡ 0 → lines ≡ []
@@ -28,6 +30,7 @@ loop-line-init g c =
       allowed = c.requires.allowed;
       finish_last = c.requires.finish_last;
       playing = (first, on, told_start r.shape first c.args.lines.items (string_bytes c.new-output.result) c.new-output.ensures.bytes);
+      traced = adds_nothing _ _ (first, on, traced_start r g.C.Played.is_step first c.args.lines.items _ (string_bytes c.new-output.result) c.in_ok-stage.ensures.places c.new-output.ensures.bytes);
     }
 
 pub loop-line-preserved : goal.loop-line-preserved
@@ -37,17 +40,19 @@ loop-line-preserved g c =
     let line = By c.in-By.name c.in-By.what in
     let rest = c.pop_front.new.self.items in
     let left : c.loop-line.lines.items ≡ line ∷ rest = c.in-Some.ensures.items ∙ ap (λ (l : Line). l ∷ rest) c.in-By.is in
-    let next = c.in_ok-answer-in-By.ensures i.playing.0 i.playing.1 in
+    let next = c.in_ok-answer-in-By.ensures.acts i.playing.0 i.playing.1 in
     let told = subst (λ (ls : List Line). Told r.shape (start (r.root c.args.root)) c.args.lines.items i.playing.0 ls (string_bytes c.loop-line.output)) left i.playing.2 in
     record {
       each = (subst (λ (ls : List Line). AllByRecursion IsLine ls) left i.each).1;
       allowed = (subst (λ (ls : List Line). AllByRecursion (λ line. IsTrue (is_allowed r.shape.order line)) ls) left i.allowed).1;
       finish_last = (subst FinishesLast left i.finish_last).1;
       playing = (next.0, next.1, told_more r.shape _ c.args.lines.items i.playing.0 next.0 c.in-By.name c.in-By.what rest _ _ c.in_ok-answer-in-By.answer told next.2 c.in_ok-write_reply-in-By.ensures);
+      traced = play_on r g.C.Played.is_step (start (r.root c.args.root)) c.args.lines.items c.loop-line.lines.items c.in-By.name c.in-By.what rest _ _ c.in_ok-answer-in-By.answer c.loop-line.stage _ _ c.loop-line.trace c.turn_to.new.self _ left (lines_same c.turn_to.new.self c.loop-line.trace c.turn_to.ensures.lines) i.traced
+          (λ world on. c.in_ok-answer-in-By.ensures.traced world on c.turn_to.ensures.pass) c.in_ok-write_reply-in-By.ensures;
     }
 
-pub returns-in-Finish : goal.returns-in-Finish
-returns-in-Finish g c =
+pub returns-in-Finish-clause-plays : goal.returns-in-Finish-clause-plays
+returns-in-Finish-clause-plays g c =
     let r = g.C.Played.reading c.args.container in
     let i = c.loop-line.invariant in
     let rest = c.pop_front.new.self.items in
@@ -57,10 +62,33 @@ returns-in-Finish g c =
     let told = subst (λ (ls : List Line). Told r.shape (start (r.root c.args.root)) c.args.lines.items i.playing.0 ls (string_bytes c.loop-line.output)) left i.playing.2 in
     told_finish r.shape _ c.args.lines.items i.playing.0 rest _ _ end.0 told last end.1 end.2
 
-pub returns : goal.returns
-returns g c =
+pub returns-clause-plays : goal.returns-clause-plays
+returns-clause-plays g c =
     let r = g.C.Played.reading c.args.container in
     let i = c.loop-line.invariant in
     let none : c.loop-line.lines.items ≡ [] = empty c.loop-line.lines.items (omega (arith, c.in_default.ensures.cases.0)) in
     let told = subst (λ (ls : List Line). Told r.shape (start (r.root c.args.root)) c.args.lines.items i.playing.0 ls (string_bytes c.loop-line.output)) none i.playing.2 in
     told_end r.shape _ c.args.lines.items i.playing.0 _ told
+
+pub returns-in-Finish-clause-traced : goal.returns-in-Finish-clause-traced
+returns-in-Finish-clause-traced g c =
+    let r = g.C.Played.reading c.args.container in
+    let is_step = g.C.Played.is_step in
+    let i = c.loop-line.invariant in
+    let rest = c.pop_front.new.self.items in
+    let left : c.loop-line.lines.items ≡ Finish ∷ rest = c.in-Some.ensures.items ∙ ap (λ (l : Line). l ∷ rest) c.in-Finish.is in
+    let last : rest ≡ [] = (subst FinishesLast left i.finish_last).0 refl in
+    adds_as _ _ _ _ i.traced (λ lines t.
+    let end = c.in_ok-play_end-in-Finish.ensures t.0 t.1 in
+    let told = subst (λ (ls : List Line). TracedTold r is_step (start (r.root c.args.root)) c.args.lines.items t.0 c.loop-line.stage.places.of.items ls (string_bytes c.loop-line.output) lines) left t.2 in
+    traced_finish r is_step _ c.args.lines.items t.0 _ rest _ _ lines end.0 told last end.1 end.2)
+
+pub returns-clause-traced : goal.returns-clause-traced
+returns-clause-traced g c =
+    let r = g.C.Played.reading c.args.container in
+    let is_step = g.C.Played.is_step in
+    let i = c.loop-line.invariant in
+    let none : c.loop-line.lines.items ≡ [] = empty c.loop-line.lines.items (omega (arith, c.in_default.ensures.cases.0)) in
+    adds_as _ _ _ _ i.traced (λ lines t.
+    let told = subst (λ (ls : List Line). TracedTold r is_step (start (r.root c.args.root)) c.args.lines.items t.0 c.loop-line.stage.places.of.items ls (string_bytes c.loop-line.output) lines) none t.2 in
+    traced_end r is_step _ c.args.lines.items t.0 _ _ lines told)

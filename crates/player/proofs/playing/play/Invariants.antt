@@ -5,7 +5,8 @@ use Rattle.std.specs.VecDeque.{deque_len}
 use Rattle.script.specs.Script.{FinishesLast, IsLine, is_allowed}
 use Rattle.player.specs.Plays.{World, start}
 use Rattle.player.specs.Shows.{IsOn}
-use Rattle.player.proofs.Telling.{Told}
+use Rattle.player.specs.Traces.{Adds, lines_in}
+use Rattle.player.proofs.Telling.{Told, TracedTold}
 use Rattle.player.proofs.playing.play.Given as goal
 
 -- the lines that are left, and what was written for those before them
@@ -18,6 +19,8 @@ invariant-loop-line g l =
       finish_last : FinishesLast l.lines.items;
       playing : (world : World) × IsOn r l.stage world
           × Told r.shape (start (r.root l.fn.root)) l.initial.lines.items world l.lines.items (string_bytes l.output);
+      traced : Adds (lines_in l.fn.trace) (lines_in l.trace) (λ lines. (world : World) × IsOn r l.stage world
+          × TracedTold r g.C.Played.is_step (start (r.root l.fn.root)) l.initial.lines.items world l.stage.places.of.items l.lines.items (string_bytes l.output) lines);
     }
 
 abbrev pub decreases-loop-line : goal.decreases-loop-line

@@ -6,8 +6,8 @@ use Rattle.bounded_model.specs.Laws.{Splits, IsFullOfPasses}
 use Rattle.player.proofs.Showing.{is_nobody, finds_new, finds_none, finds_same, shows_at, shows_set}
 use Rattle.player.proofs.stage.find.Goals as goal
 
-pub returns-in-Some : goal.returns-in-Some
-returns-in-Some g c world on =
+pub returns-in-Some-clause-found : goal.returns-in-Some-clause-found
+returns-in-Some-clause-found g c world on =
     let r = g.C.Played.reading c.args.container.now in
     let i = c.args.name.0 - 97 in
     let e = c.exchange.ensures in
@@ -24,8 +24,8 @@ returns-in-Some g c world on =
       on = record { is = c.in-Some.ensures.root; root = refl; names = names };
     }
 
-pub returns-in-None : goal.returns-in-None
-returns-in-None g c world on =
+pub returns-in-None-clause-found : goal.returns-in-None-clause-found
+returns-in-None-clause-found g c world on =
     let r = g.C.Played.reading c.args.container.now in
     let i = c.args.name.0 - 97 in
     let e = c.exchange.ensures in
@@ -42,8 +42,8 @@ returns-in-None g c world on =
       on = record { is = c.in-None.ensures.root; root = refl; names = names };
     }
 
-pub returns-in_default : goal.returns-in_default
-returns-in_default g c world on =
+pub returns-in_default-clause-found : goal.returns-in_default-clause-found
+returns-in_default-clause-found g c world on =
     let r = g.C.Played.reading c.args.container.now in
     let i = c.args.name.0 - 97 in
     let e = c.exchange.ensures in

@@ -2,18 +2,22 @@ use Rattle.std.proofs.Common.{◌≡◌, ◌≢◌, ◌-◌, ℕ, refl, sym, sub
 use Rattle.std.specs.Char.{is_ascii_lowercase}
 use Rattle.player.specs.Plays.{Named, Nobody, World, Finds, named, renamed}
 use Rattle.player.specs.Shows.{ShowsAll}
+use Rattle.std.proofs.Common.{◌∙◌, slice_set, slice_index_or}
+use Rattle.std.proofs.lemmas.List.{get_or-set_other}
+use Rattle.player.specs.declared.place.Place.TheVariants as place
+use Rattle.player.proofs.Lines.{kept_found, kept_more, kept_set}
 use Rattle.player.proofs.Showing.{is_nobody, is_somebody, finds_other, other_kept, other_named, set_both, shows_set}
 use Rattle.player.proofs.stage.meet.Goals as goal
 
 apart : (a b : ℕ) → IsTrue (is_ascii_lowercase a) → IsTrue (is_ascii_lowercase b) → a ≢ b → a - 97 ≢ b - 97
 apart a b low-a low-b far e = far (grind (arith, low-a, low-b, e))
 
-pub returns-in-Nobody : goal.returns-in-Nobody
-returns-in-Nobody g c world on =
+pub returns-in-Nobody-clause-meets : goal.returns-in-Nobody-clause-meets
+returns-in-Nobody-clause-meets g c world on =
     let r = g.C.Played.reading c.args.container.now in
     let i = c.args.name.0 - 97 in
     let j = c.args.other.0 - 97 in
-    let f = c.find-first.ensures world on in
+    let f = c.find-first.ensures.found world on in
     let none : f.found ≡ Nobody = is_nobody r f.found (rw c.in-Nobody.is at f.shows) in
     let finds : Finds r.shape world.root (named world c.args.name.0) f.root Nobody = subst (λ (n : Named). Finds r.shape world.root (named world c.args.name.0) f.root n) none f.finds in
     let next : World = record { root = f.root; names = renamed world.names c.args.name.0 Nobody } in (
@@ -33,18 +37,18 @@ returns-in-Nobody g c world on =
 
 pub meet_at-first-requires : goal.meet_at-first-requires
 meet_at-first-requires g c κs =
-    let f = c.find-first.ensures c.requires.on.0 c.requires.on.1 in
-    let s = c.find-second.ensures _ f.on in
+    let f = c.find-first.ensures.found c.requires.on.0 c.requires.on.1 in
+    let s = c.find-second.ensures.found _ f.on in
     ((refl, tt), ((f.found, f.shows), (s.found, s.shows)))
 
-pub returns : goal.returns
-returns g c world on =
+pub returns-clause-meets : goal.returns-clause-meets
+returns-clause-meets g c world on =
     let r = g.C.Played.reading c.args.container.now in
     let i = c.args.name.0 - 97 in
     let j = c.args.other.0 - 97 in
-    let f = c.find-first.ensures world on in
-    let s = c.find-second.ensures _ f.on in
-    let m = c.meet_at-first.ensures f.found s.found f.shows s.shows in
+    let f = c.find-first.ensures.found world on in
+    let s = c.find-second.ensures.found _ f.on in
+    let m = c.meet_at-first.ensures.meets f.found s.found f.shows s.shows in
     let far : i ≢ j = apart c.args.name.0 c.args.other.0 c.requires.name c.requires.other.0 c.requires.other.1 in
     let some : f.found ≡ Nobody → ⊥ = is_somebody r c.find-first.result f.found f.shows c.in_default.not-Nobody in
     let finds : Finds r.shape f.root (named world c.args.other.0) s.root s.found = subst (λ (n : Named). Finds r.shape f.root n s.root s.found) (other_named world.names i j Nobody far) s.finds in
@@ -69,3 +73,22 @@ returns g c world on =
         names = refl;
       },
     )
+
+pub returns-in-Nobody-clause-kept : goal.returns-in-Nobody-clause-kept
+returns-in-Nobody-clause-kept g c =
+    let i = c.args.name.0 - 97 in
+    let none = kept_found _ _ place.Nobody c.find-first.ensures.same (rw c.in-Nobody.is tt) in
+    rw c.find-first.ensures.places (kept_set _ i place.Nobody none)
+
+pub returns-clause-kept : goal.returns-clause-kept
+returns-clause-kept g c =
+    let i = c.args.name.0 - 97 in
+    let j = c.args.other.0 - 97 in
+    let far : i ≢ j = apart c.args.name.0 c.args.other.0 c.requires.name c.requires.other.0 c.requires.other.1 in
+    let places = c.args.stage.now.places.of.items in
+    let m = c.meet_at-first in
+    let one = kept_found _ _ m.result.0 c.find-first.ensures.same m.ensures.first_kept in
+    let there : slice_index_or (slice_set places i place.Nobody) j place.Nobody ≡ slice_index_or (slice_set places i m.result.0) j place.Nobody = get_or-set_other places i j place.Nobody place.Nobody (λ e. far (sym e)) ∙ sym (get_or-set_other places i j m.result.0 place.Nobody (λ e. far (sym e))) in
+    let two = kept_found _ _ m.result.1 (rw c.find-first.ensures.places at c.find-second.ensures.same) m.ensures.second_kept in
+    rw (c.keep-2.ensures.places, c.keep.ensures.places, c.find-second.ensures.places, c.find-first.ensures.places, set_both places i j place.Nobody m.result.0 m.result.1 far)
+    (kept_more _ _ _ (kept_set places i m.result.0 one) (kept_set _ j m.result.1 (rw (sym there) two)))

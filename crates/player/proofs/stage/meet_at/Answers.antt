@@ -6,8 +6,8 @@ use Rattle.script.specs.declared.answer.Answer.TheVariants as answer
 use Rattle.player.proofs.Showing.{is_resting, is_acting, have_met}
 use Rattle.player.proofs.stage.meet_at.Goals as goal
 
-pub returns-in-Resting-Resting : goal.returns-in-Resting-Resting
-returns-in-Resting-Resting g c one two shows-one shows-two =
+pub returns-in-Resting-Resting-clause-meets : goal.returns-in-Resting-Resting-clause-meets
+returns-in-Resting-Resting-clause-meets g c one two shows-one shows-two =
     let r = g.C.Played.reading c.args.container.now in
     let e = c.meet-by.ensures in
     let at = c.in-Resting-Resting in
@@ -19,8 +19,8 @@ returns-in-Resting-Resting g c one two shows-one shows-two =
     let told : MeetTold one two c.answer_to_meet.result (Resting w) = rw (one-is, two-is, c.answer_to_meet.ensures) (have_met _ _ w c.meet-by.result.1 e.gives) in
     (Resting w, (e.first, refl), rw two-is (e.second.0, sym e.second.1), told)
 
-pub returns-in-Resting-Acting : goal.returns-in-Resting-Acting
-returns-in-Resting-Acting g c one two shows-one shows-two =
+pub returns-in-Resting-Acting-clause-meets : goal.returns-in-Resting-Acting-clause-meets
+returns-in-Resting-Acting-clause-meets g c one two shows-one shows-two =
     let r = g.C.Played.reading c.args.container.now in
     let at = c.in-Resting-Acting in
     let here : Shows r (place.Resting at.pass) one = rw at.is-0 at shows-one in
@@ -30,8 +30,8 @@ returns-in-Resting-Acting g c one two shows-one shows-two =
     let told : MeetTold one two answer.Busy one = rw (one-is, two-is.2) (refl, refl) in
     (one, here, there, told)
 
-pub returns-in-Acting-Resting : goal.returns-in-Acting-Resting
-returns-in-Acting-Resting g c one two shows-one shows-two =
+pub returns-in-Acting-Resting-clause-meets : goal.returns-in-Acting-Resting-clause-meets
+returns-in-Acting-Resting-clause-meets g c one two shows-one shows-two =
     let r = g.C.Played.reading c.args.container.now in
     let at = c.in-Acting-Resting in
     let here : Shows r (place.Acting at.begun) one = rw at.is-0 at shows-one in
@@ -41,8 +41,8 @@ returns-in-Acting-Resting g c one two shows-one shows-two =
     let told : MeetTold one two answer.Busy one = rw (one-is.2, two-is) (refl, refl) in
     (one, here, there, told)
 
-pub returns-in-Acting-Acting : goal.returns-in-Acting-Acting
-returns-in-Acting-Acting g c one two shows-one shows-two =
+pub returns-in-Acting-Acting-clause-meets : goal.returns-in-Acting-Acting-clause-meets
+returns-in-Acting-Acting-clause-meets g c one two shows-one shows-two =
     let r = g.C.Played.reading c.args.container.now in
     let at = c.in-Acting-Acting in
     let here : Shows r (place.Acting at.begun) one = rw at.is-0 at shows-one in
