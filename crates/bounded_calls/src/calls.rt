@@ -1,8 +1,7 @@
 //! Containers whose calls give up after so many tries.
 
-ghost use Rattle.bounded_model.specs.declared.commands.Command.TheVariants.{Put, Take};
 ghost use Rattle.std.specs.Prelude.{ℕ};
-ghost use Rattle.bounded_calls.specs.Calls.{MakesSome, Tried, TriedFrom, TookFor, by_steps};
+ghost use Rattle.bounded_calls.specs.Calls.{MakesSome, Tried, TriedFrom, TookAtLeast, TookFor, by_steps};
 
 use bounded_model::{Command, Operation, Reply, Stepped, Stepwise};
 
@@ -13,7 +12,7 @@ pub trait BoundedCalls<T>: Stepwise<T> {
 
     /// A call: its fast path, and where that does not end it at most so many further steps as a call
     /// makes where nobody interferes, and those of `tries` tries more. Returns what the whole call
-    /// returns; or the call is still under way.
+    /// returns; or the call is still under way, after the steps of so many tries at the least.
     fn try_call(
         &self,
         by: Self::Pass,
@@ -25,46 +24,16 @@ pub trait BoundedCalls<T>: Stepwise<T> {
         Reply<T>,
     >
         requires { Self.is_pass self.now by }
-        ensures { TriedFrom (by_steps (Self.shape self.now) (Self.is_pass self.now) Self.pass
+        ensures tried { TriedFrom (by_steps (Self.shape self.now) (Self.is_pass self.now) Self.pass
             (Self.is_putting self.now) (Self.is_taking self.now) (Self.is_closing self.now)
             (Self.is_shutting self.now) (Self.is_looking self.now)
             Self.putting Self.taking Self.closing Self.shutting Self.looking)
-            (Self.pass by) command result };
-
-    /// The same of a put, whose fast path is all of it in the code of its caller.
-    fn try_put(
-        &self,
-        by: Self::Pass,
-        value: T,
-        tries: u64,
-    ) -> Stepped<
-        Operation<Self::PutOp, Self::TakeOp, Self::CloseOp, Self::ShutOp, Self::LookOp>,
-        Self::Pass,
-        Reply<T>,
-    >
-        requires { Self.is_pass self.now by }
-        ensures { TriedFrom (by_steps (Self.shape self.now) (Self.is_pass self.now) Self.pass
+            (Self.pass by) command result }
+        ensures took { TookAtLeast (by_steps (Self.shape self.now) (Self.is_pass self.now) Self.pass
             (Self.is_putting self.now) (Self.is_taking self.now) (Self.is_closing self.now)
             (Self.is_shutting self.now) (Self.is_looking self.now)
             Self.putting Self.taking Self.closing Self.shutting Self.looking)
-            (Self.pass by) (Put value) result };
-
-    /// The same of a take.
-    fn try_take(
-        &self,
-        by: Self::Pass,
-        tries: u64,
-    ) -> Stepped<
-        Operation<Self::PutOp, Self::TakeOp, Self::CloseOp, Self::ShutOp, Self::LookOp>,
-        Self::Pass,
-        Reply<T>,
-    >
-        requires { Self.is_pass self.now by }
-        ensures { TriedFrom (by_steps (Self.shape self.now) (Self.is_pass self.now) Self.pass
-            (Self.is_putting self.now) (Self.is_taking self.now) (Self.is_closing self.now)
-            (Self.is_shutting self.now) (Self.is_looking self.now)
-            Self.putting Self.taking Self.closing Self.shutting Self.looking)
-            (Self.pass by) Take result };
+            (steps tries) (Self.pass by) result };
 
     /// Goes on with a call for as many steps as so many tries are. One that is still under way then
     /// was begun as before, and has made exactly so many steps more; one that has ended made at most

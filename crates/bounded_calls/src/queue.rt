@@ -44,9 +44,8 @@ fn begin(
 }
 
 impl BoundedCalls<u64> for Queue<u64> {
-    ghost use Rattle.bounded_calls.specs.Calls.{MakesSome, Tried, TriedFrom, TookFor, steps_of};
+    ghost use Rattle.bounded_calls.specs.Calls.{MakesSome, Tried, TriedFrom, TookAtLeast, TookFor, steps_of};
     ghost use Rattle.bounded_calls.specs.Readings.{queue_reading};
-    ghost use Rattle.bounded_model.specs.declared.commands.Command.TheVariants.{Put, Take};
     ghost use Rattle.running.specs.Passes.{pass_in};
 
     ghost steps = { steps_of 18 6 };
@@ -62,51 +61,19 @@ impl BoundedCalls<u64> for Queue<u64> {
         Reply<u64>,
     >
         requires { IsPassOf self.now by }
-        ensures { TriedFrom (queue_reading self.now) (pass_in by) command result }
+        ensures tried { TriedFrom (queue_reading self.now) (pass_in by) command result }
+        ensures took { TookAtLeast (queue_reading self.now) (steps_of 18 6 tries) (pass_in by) result }
     {
         match command {
-            Command::Put(value) => self.try_put(by, value, tries),
-            Command::Take => self.try_take(by, tries),
+            Command::Put(value) => match self.put_at_once(by, value) {
+                Stepped::Again(op) => self.try_on(Operation::Put(op), tries),
+                Stepped::Done(pass, answer) => Stepped::Done(pass, Reply::Put(answer)),
+            },
+            Command::Take => match self.take_at_once(by) {
+                Stepped::Again(op) => self.try_on(Operation::Take(op), tries),
+                Stepped::Done(pass, answer) => Stepped::Done(pass, Reply::Take(answer)),
+            },
             other => self.try_on(begin(self, by, other), tries),
-        }
-    }
-
-    #[inline(always)]
-    fn try_put(
-        &self,
-        by: Pass<u64>,
-        value: u64,
-        tries: u64,
-    ) -> Stepped<
-        Operation<PutOp<u64>, TakeOp<u64>, CloseOp<u64>, ShutOp<u64>, LookOp<u64>>,
-        Pass<u64>,
-        Reply<u64>,
-    >
-        requires { IsPassOf self.now by }
-        ensures { TriedFrom (queue_reading self.now) (pass_in by) (Put value) result }
-    {
-        match self.put_at_once(by, value) {
-            Stepped::Again(op) => self.try_on(Operation::Put(op), tries),
-            Stepped::Done(pass, answer) => Stepped::Done(pass, Reply::Put(answer)),
-        }
-    }
-
-    #[inline(always)]
-    fn try_take(
-        &self,
-        by: Pass<u64>,
-        tries: u64,
-    ) -> Stepped<
-        Operation<PutOp<u64>, TakeOp<u64>, CloseOp<u64>, ShutOp<u64>, LookOp<u64>>,
-        Pass<u64>,
-        Reply<u64>,
-    >
-        requires { IsPassOf self.now by }
-        ensures { TriedFrom (queue_reading self.now) (pass_in by) Take result }
-    {
-        match self.take_at_once(by) {
-            Stepped::Again(op) => self.try_on(Operation::Take(op), tries),
-            Stepped::Done(pass, answer) => Stepped::Done(pass, Reply::Take(answer)),
         }
     }
 
