@@ -13,11 +13,12 @@
  *     in different threads at the same time; a handle that goes to another thread goes there by what
  *     orders the two, as a thread's start or join, a lock, or a sequentially consistent atomic;
  *   - malloc, realloc and free are of one allocator, and align as the C standard has it;
+ *   - a lockfree_put_range that was BUSY is called again with the same array, unchanged;
  *   - no call is made in a signal handler, or in the child of a fork of a process with threads.
  *
  * Other misuse of a handle, and all else that can go wrong in a call, is answered by a code, and then
  * nothing has changed but what is said here. No call but those that make a container, _split, _free, the first
- * _finish of a container and those of a range takes or gives back memory. None waits for another thread: each ends,
+ * _finish of a container, _range_add and _range_put takes or gives back memory. None waits for another thread: each ends,
  * which is proved, and by its code after a bounded number of steps. The inline functions at the end go on until they
  * have another answer than BUSY.
  */
@@ -39,14 +40,14 @@ extern "C" {
 enum {
     LOCKFREE_OK = 0,
     LOCKFREE_FULL = 1,          /* put: each cell holds a value or is held by a call */
-    LOCKFREE_EMPTY = 2,         /* take, fold: no value, and more may come. look: it was empty. range_put: no value was added.
+    LOCKFREE_EMPTY = 2,         /* take, fold: no value, and more may come. look: it was empty. range_put, put_range: of no value.
                                    finish: nothing is left */
     LOCKFREE_CLOSED = 3,        /* put: closed. take, fold: no value, and none will come. close: it was closed before */
     LOCKFREE_SHUT = 4,          /* take, fold: shut. shut: it was shut before */
     LOCKFREE_SPENT = 5,         /* put, take, fold: a tag is at its limit of 2^42 - 1; value is the tag */
-    LOCKFREE_BUSY = 6,          /* the tries are used up: go on with lockfree_go_on */
+    LOCKFREE_BUSY = 6,          /* the tries are used up: go on with lockfree_go_on; of lockfree_put_range with the same call */
     LOCKFREE_UNDER_WAY = 7,     /* the pass has a call under way: lockfree_go_on first. Or a range's values: lockfree_range_put first */
-    LOCKFREE_NO_CALL = 8,       /* go_on: the pass has no call under way */
+    LOCKFREE_NO_CALL = 8,       /* go_on: the pass has no call under way, or one that goes on by lockfree_put_range */
     LOCKFREE_NO_MEMORY = 9,
     LOCKFREE_NO_PASS = 10,      /* split: the root has given as many passes as it may, 65,535 */
     LOCKFREE_BAD_CAPACITY = 11, /* new: a capacity is 1 to 1,048,573. limited: and a limit of tags 2 to 2^42 - 1 */
@@ -109,12 +110,14 @@ lockfree_answer lockfree_finish(lockfree_handle *root);
  * take:  OK, EMPTY, CLOSED, SHUT, SPENT
  * close: OK, CLOSED. No put follows
  * shut:  OK, SHUT. No take follows
- * look:  OK if it was not empty, EMPTY if it was */
+ * look:  OK if it was not empty, EMPTY if it was
+ * count: OK, and value is how many values the queue held at one moment of the call. Queues only */
 lockfree_answer lockfree_put(lockfree_handle *pass, uint64_t value, uint64_t tries);
 lockfree_answer lockfree_take(lockfree_handle *pass, uint64_t tries);
 lockfree_answer lockfree_close(lockfree_handle *pass, uint64_t tries);
 lockfree_answer lockfree_shut(lockfree_handle *pass, uint64_t tries);
 lockfree_answer lockfree_look(lockfree_handle *pass, uint64_t tries);
+lockfree_answer lockfree_count(lockfree_handle *pass, uint64_t tries);
 lockfree_answer lockfree_go_on(lockfree_handle *pass, uint64_t tries);
 
 /* The number of this pass's last call, if that was a put, a take, a fold or a range_put that was OK; else 0. Numbers
@@ -142,6 +145,13 @@ lockfree_answer lockfree_fold(lockfree_handle *pass, bool reversed, uint64_t tri
 uint32_t lockfree_range_add(lockfree_handle *pass, uint64_t value);
 lockfree_answer lockfree_range_put(lockfree_handle *pass, uint64_t tries);
 
+/* The same with the values of an array, in one call and with no memory for them: puts as many as cells can be had, from
+ * the first, so that the last one put is on top. value is how many were put. values is not null, and count may be 0.
+ * After BUSY it is called again, with the same array, until there is another answer; the pass makes no other call until
+ * then, and go_on is NO_CALL, since it has no array.
+ * OK; FULL, CLOSED, SPENT, EMPTY (of no values), and then none was put; BUSY, UNDER_WAY, OTHER_HANDLE, NO_HANDLE */
+lockfree_answer lockfree_put_range(lockfree_handle *pass, const uint64_t *values, size_t count, uint64_t tries);
+
 /* Under ThreadSanitizer, which does not see the library's atomics, each call tells it what they order: of all
  * containers together, so that it reports no race that is none, and misses such as are hidden behind calls of another
  * container. */
@@ -167,6 +177,7 @@ static inline lockfree_answer lockfree_heard(lockfree_answer answer)
 #define lockfree_go_on(pass, tries) LOCKFREE_TOLD((lockfree_go_on)(pass, tries))
 #define lockfree_fold(pass, reversed, tries) LOCKFREE_TOLD((lockfree_fold)(pass, reversed, tries))
 #define lockfree_range_put(pass, tries) LOCKFREE_TOLD((lockfree_range_put)(pass, tries))
+#define lockfree_put_range(pass, values, count, tries) LOCKFREE_TOLD((lockfree_put_range)(pass, values, count, tries))
 #define lockfree_finish(root) LOCKFREE_TOLD((lockfree_finish)(root))
 #endif
 
@@ -238,18 +249,14 @@ static inline uint32_t lockfree_consume_all_atomic(lockfree_handle *pass, bool r
     return answer.code;
 }
 
-/* Puts values onto a stack at once, from the first: as many as there is memory for and cells can be had. More
- * than the capacity cannot be put, and take memory all the same. The answer is range_put's, or range_add's
- * if that refused the first value. */
+/* Puts the values of an array onto a stack at once, from the first: as many as cells can be had. Never BUSY. */
 static inline lockfree_answer lockfree_push_range(lockfree_handle *pass, const uint64_t *values, size_t count)
 {
-    lockfree_answer answer = {0, LOCKFREE_OK};
-    size_t added = 0;
-    while (added < count && (answer.code = lockfree_range_add(pass, values[added])) == LOCKFREE_OK)
-        added++;
-    if (added == 0 && answer.code != LOCKFREE_OK)
-        return answer;
-    return lockfree_until(pass, lockfree_range_put(pass, UINT64_MAX));
+    lockfree_answer answer;
+    do
+        answer = lockfree_put_range(pass, values, count, UINT64_MAX);
+    while (answer.code == LOCKFREE_BUSY);
+    return answer;
 }
 
 #ifdef __cplusplus

@@ -106,7 +106,7 @@ template <class Me, class T> class bulk {
 public:
     /// Puts the values of a range from its front, as many as there is room for, all at once: others see all of them or
     /// none, and the last one is on top. The first that was not put. Values that the range gives by rvalue and that are
-    /// not put stay in the range. Takes memory from lockfree.h's functions for a range, and for more than 64 values; large
+    /// not put stay in the range. Takes memory for more than 64 values; large
     /// ranges of several threads at a time may take memory for cells. std::bad_alloc if there is none for the first value.
     ///
     /// What is behind input iterators, which are read once, is put one after another, so that others may see a part.

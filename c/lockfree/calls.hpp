@@ -119,6 +119,16 @@ public:
     bool empty() const {
         return const_cast<calls *>(this)->ask([](handle &pass) { return lockfree_look(&pass, UINT64_MAX); }) != status::ok;
     }
+    /// How many values a queue held at one moment of the call.
+    template <kind Of = K, class = std::enable_if_t<Of == kind::queue>> std::size_t size() const {
+        std::size_t count = 0;
+        throw_if_not_made(const_cast<calls *>(this)->me().with([&](core &of, seat &by) {
+            const lockfree_answer answer = whole(by.pass, lockfree_count(&by.pass, UINT64_MAX));
+            count = static_cast<std::size_t>(answer.value);
+            return refused(of, answer.code);
+        }));
+        return count;
+    }
     /// Whether a call has closed it and returned, or a call was refused for this.
     bool is_closed() const noexcept {
         const core *const of = me().shared();

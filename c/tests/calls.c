@@ -48,6 +48,31 @@ static void codes_of_calls(make_new *make, int first_out)
     lockfree_free(&a), lockfree_free(&root), lockfree_free(&b);
 }
 
+/* How many there are, known from what was put and taken; and nobody counts but a queue's pass between its calls. */
+static void counting(void)
+{
+    lockfree_handle root = {0}, a = {0}, b = {0}, none = {0};
+    CHECK(lockfree_queue_new(&root, 3) == LOCKFREE_OK && lockfree_split(&root, &a) == LOCKFREE_OK && lockfree_split(&root, &b) == LOCKFREE_OK);
+    CHECK(lockfree_count(&none, 9).code == LOCKFREE_NO_HANDLE && lockfree_count(&root, 9).code == LOCKFREE_OTHER_HANDLE);
+    for (uint64_t round = 0; round < 9; round++) {
+        uint64_t value = 0;
+        for (uint64_t held = 0; held < 3; held++) {
+            lockfree_answer count = lockfree_count(&b, 0);
+            CHECK(count.code == LOCKFREE_OK && count.value == held && lockfree_count(&a, 9).value == held);
+            CHECK(lockfree_push(&a, round) == LOCKFREE_OK && lockfree_number(&a).value == 3 * round + held);
+        }
+        CHECK(lockfree_push(&a, 9) == LOCKFREE_FULL && lockfree_count(&a, 9).value == 3 && lockfree_number(&a).value == 0);
+        for (uint64_t held = 3; held > 0; held--)
+            CHECK(lockfree_count(&a, 9).value == held && lockfree_pop(&b, &value) == LOCKFREE_OK && value == round);
+    }
+    CHECK(lockfree_push(&a, 1) == LOCKFREE_OK && lockfree_close(&a, 9).code == LOCKFREE_OK && lockfree_count(&b, 9).value == 1);
+    CHECK(lockfree_shut(&a, 9).code == LOCKFREE_OK && lockfree_count(&b, 9).value == 1 && lockfree_go_on(&b, 9).code == LOCKFREE_NO_CALL);
+    lockfree_free(&a), lockfree_free(&root), lockfree_free(&b);
+    CHECK(lockfree_stack_new(&root, 3) == LOCKFREE_OK && lockfree_split(&root, &a) == LOCKFREE_OK);
+    CHECK(lockfree_push(&a, 5) == LOCKFREE_OK && lockfree_count(&a, 9).code == LOCKFREE_OTHER_HANDLE && lockfree_pop(&a, &(uint64_t){0}) == LOCKFREE_OK);
+    lockfree_free(&a), lockfree_free(&root);
+}
+
 static void refused_memory(make_new *make)
 {
     for (long at = 1;; at++) {
@@ -116,11 +141,36 @@ static void *takes_all(void *at)
     }
 }
 
+struct counter {
+    lockfree_handle pass;
+    uint64_t most;
+    int *ended;
+};
+
+/* A queue beside other threads holds no more than its capacity. A count may have to begin again. */
+static void *counts_on(void *at)
+{
+    struct counter *counter = at;
+    while (!__atomic_load_n(counter->ended, __ATOMIC_RELAXED)) {
+        lockfree_answer count = lockfree_count(&counter->pass, 0);
+        while (count.code == LOCKFREE_BUSY) {
+            CHECK(lockfree_count(&counter->pass, 9).code == LOCKFREE_UNDER_WAY && lockfree_look(&counter->pass, 9).code == LOCKFREE_UNDER_WAY);
+            CHECK(lockfree_number(&counter->pass).code == LOCKFREE_UNDER_WAY);
+            count = lockfree_go_on(&counter->pass, 0);
+        }
+        CHECK(count.code == LOCKFREE_OK && count.value <= counter->most);
+        sched_yield();
+    }
+    return NULL;
+}
+
 static void many_threads(make_new *make, uint32_t capacity, int first_out)
 {
     lockfree_handle root = {0}, closing = {0};
     struct work works[2 * SIDES] = {0};
-    pthread_t threads[2 * SIDES];
+    int ended = 0;
+    struct counter counter = {{0}, capacity, &ended};
+    pthread_t threads[2 * SIDES], counting_thread;
     seen = calloc(SIDES, EACH);
     CHECK(seen && make(&root, capacity) == LOCKFREE_OK && lockfree_split(&root, &closing) == LOCKFREE_OK);
     for (int i = 0; i < 2 * SIDES; i++) {
@@ -129,6 +179,8 @@ static void many_threads(make_new *make, uint32_t capacity, int first_out)
         CHECK(lockfree_split(&root, &works[i].pass) == LOCKFREE_OK);
         CHECK(pthread_create(&threads[i], NULL, i < SIDES ? puts_all : takes_all, &works[i]) == 0);
     }
+    CHECK(lockfree_split(&root, &counter.pass) == LOCKFREE_OK);
+    CHECK(!first_out || pthread_create(&counting_thread, NULL, counts_on, &counter) == 0);
     CHECK(lockfree_free(&root) == LOCKFREE_OK); /* while the passes are out */
     for (int i = 0; i < SIDES; i++)
         pthread_join(threads[i], NULL);
@@ -139,9 +191,11 @@ static void many_threads(make_new *make, uint32_t capacity, int first_out)
         count += works[i].count;
     }
     CHECK(count == (uint64_t)SIDES * EACH);
+    __atomic_store_n(&ended, 1, __ATOMIC_RELAXED);
+    CHECK(!first_out || (pthread_join(counting_thread, NULL) == 0 && lockfree_count(&counter.pass, 9).value == 0));
     for (int i = 0; i < 2 * SIDES; i++)
         CHECK(lockfree_free(&works[i].pass) == LOCKFREE_OK);
-    CHECK(lockfree_free(&closing) == LOCKFREE_OK);
+    CHECK(lockfree_free(&closing) == LOCKFREE_OK && lockfree_free(&counter.pass) == LOCKFREE_OK);
     free(seen);
 }
 
@@ -275,6 +329,7 @@ static void ranges(void)
     CHECK(lockfree_queue_new(&root, 4) == LOCKFREE_OK && lockfree_split(&root, &pass) == LOCKFREE_OK);
     CHECK(lockfree_range_add(&pass, 1) == LOCKFREE_OTHER_HANDLE && lockfree_range_put(&pass, 9).code == LOCKFREE_OTHER_HANDLE);
     CHECK(lockfree_push_range(&pass, seven, 7).code == LOCKFREE_OTHER_HANDLE && lockfree_look(&pass, 9).code == LOCKFREE_EMPTY);
+    CHECK(lockfree_put_range(&root, seven, 7, 9).code == LOCKFREE_OTHER_HANDLE);
     lockfree_free(&pass), lockfree_free(&root);
     CHECK(lockfree_stack_new(&root, 4) == LOCKFREE_OK && lockfree_split(&root, &pass) == LOCKFREE_OK && lockfree_split(&root, &other) == LOCKFREE_OK);
     CHECK(lockfree_push_range(&pass, seven, 0).code == LOCKFREE_EMPTY);
@@ -287,7 +342,9 @@ static void ranges(void)
     CHECK(put.code == LOCKFREE_OK && put.value == 2 && lockfree_number(&pass).value == 3);
     pops(&other, 12), pops(&pass, 11), pops(&other, 2), pops(&pass, 1);
     adds(&pass, 1, 2);
+    CHECK(lockfree_put_range(&pass, seven, 7, 9).code == LOCKFREE_UNDER_WAY);
     CHECK(lockfree_close(&other, 9).code == LOCKFREE_OK && lockfree_range_put(&pass, 9).code == LOCKFREE_CLOSED);
+    CHECK(lockfree_put_range(&pass, seven, 7, 9).code == LOCKFREE_CLOSED && lockfree_put_range(&pass, seven, 0, 9).code == LOCKFREE_EMPTY);
     CHECK(lockfree_put(&pass, 1, 9).code == LOCKFREE_CLOSED && lockfree_take(&other, 9).code == LOCKFREE_CLOSED);
     lockfree_free(&pass), lockfree_free(&root), lockfree_free(&other);
 }
@@ -300,17 +357,12 @@ static void ranges_without_memory(void)
     CHECK(lockfree_stack_new(&root, 16) == LOCKFREE_OK && lockfree_split(&root, &pass) == LOCKFREE_OK);
     refused = 1;
     CHECK(lockfree_range_add(&pass, 1) == LOCKFREE_NO_MEMORY && lockfree_range_put(&pass, 9).code == LOCKFREE_EMPTY);
-    for (long at = 1, all = 0; !all; at++) {
-        refused = at;
-        lockfree_answer put = lockfree_push_range(&pass, nine, 9);
-        all = refused > 0;
-        refused = 0;
-        CHECK(put.code == (at == 1 ? LOCKFREE_NO_MEMORY : LOCKFREE_OK));
-        CHECK(all ? put.value == 9 : at == 1 ? put.value == 0 : put.value > 0 && put.value < 9);
-        for (uint64_t i = put.value; i >= 1; i--)
-            pops(&pass, i);
-        CHECK(lockfree_look(&pass, 9).code == LOCKFREE_EMPTY);
-    }
+    refused = 1;
+    lockfree_answer put = lockfree_push_range(&pass, nine, 9);
+    CHECK(put.code == LOCKFREE_OK && put.value == 9 && refused == 1); /* an array takes none */
+    refused = 0;
+    for (uint64_t i = 9; i >= 1; i--)
+        pops(&pass, i);
     uint64_t next = 1;
     CHECK(lockfree_range_add(&pass, next++) == LOCKFREE_OK);
     refused = 1;
@@ -326,11 +378,34 @@ static void ranges_without_memory(void)
 enum { RANGES = 20000, LONG = 3 };
 static unsigned char *in_parts; /* by range: whether it was put in more than one */
 
+/* One that is BUSY goes on with its array alone. */
+static lockfree_answer puts_array(lockfree_handle *pass, const uint64_t *values, size_t count)
+{
+    lockfree_answer put;
+    while ((put = lockfree_put_range(pass, values, count, 0)).code == LOCKFREE_BUSY) {
+        CHECK(lockfree_go_on(pass, 9).code == LOCKFREE_NO_CALL && lockfree_put(pass, 1, 9).code == LOCKFREE_UNDER_WAY);
+        CHECK(lockfree_range_add(pass, 1) == LOCKFREE_UNDER_WAY && lockfree_range_put(pass, 1).code == LOCKFREE_UNDER_WAY);
+    }
+    return put;
+}
+
 static void *puts_ranges(void *at)
 {
     struct work *work = at;
+    uint64_t range[LONG];
     for (uint64_t first = work->from; first < work->from + RANGES * LONG; first += LONG)
         for (uint64_t done = 0; done < LONG;) {
+            if (first / LONG % 2 == 0) {
+                for (uint64_t i = done; i < LONG; i++)
+                    range[i] = first + i;
+                lockfree_answer put = puts_array(&work->pass, range + done, LONG - done);
+                CHECK(put.code == LOCKFREE_OK || put.code == LOCKFREE_FULL);
+                if (put.code == LOCKFREE_FULL)
+                    sched_yield();
+                else if ((done += put.value) < LONG)
+                    __atomic_store_n(&in_parts[first / LONG], 1, __ATOMIC_RELAXED);
+                continue;
+            }
             adds(&work->pass, first + done, first + LONG - 1);
             lockfree_answer put = lockfree_range_put(&work->pass, 0);
             while (put.code == LOCKFREE_BUSY) {
@@ -409,6 +484,7 @@ int main(void)
         many_threads(makes[i], 64, i == 0);
         many_threads(makes[i], 3, i == 0);
     }
+    counting();
     folding(false);
     folding(true);
     folds();

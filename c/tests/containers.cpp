@@ -304,7 +304,28 @@ template <template <class, class...> class Container> void all() {
 
 }  // namespace
 
+// A queue's size, known from what was pushed and popped; and beside other threads never above its capacity.
+void sizes() {
+    lockfree::bounded_queue<std::string> queue(3);
+    auto pass = queue.split();
+    for (int round = 0; round < 5; ++round) {
+        for (std::size_t held = 0; held < 3; ++held) CHECK(queue.size() == held && pass.size() == held && queue.push("a string that is no short one"));
+        CHECK(!pass.push("refused") && queue.size() == 3);
+        for (std::size_t held = 3; held > 0; --held) CHECK(pass.size() == held && pass.pop());
+    }
+    std::atomic<bool> ended{false};
+    std::thread counts([&] {
+        while (!ended) CHECK(queue.size() <= 3);
+    });
+    for (long i = 0; i < each; ++i) CHECK(pass.push("x") && pass.pop());
+    ended = true;
+    counts.join();
+    const auto &unchanged = queue;
+    CHECK(unchanged.size() == 0);
+}
+
 int main() {
+    sizes();
     all<lockfree::queue>();
     all<lockfree::stack>();
     folds_of_all_values();

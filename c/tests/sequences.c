@@ -311,6 +311,41 @@ static void put_range(struct slot *slot)
     is(answer, LOCKFREE_OK, put);
 }
 
+static void put_array(struct slot *slot)
+{
+    struct model *m = slot->of;
+    uint64_t values[ADDED];
+    uint32_t count = (uint32_t)below(ADDED + 1), why = refusal(slot, true);
+    for (uint32_t i = 0; i < count; i++)
+        values[i] = next_value++;
+    may_refuse();
+    lockfree_answer answer = lockfree_put_range(&slot->handle, values, count, below(3));
+    if (why != LOCKFREE_OK || count == 0) {
+        is(answer, why != LOCKFREE_OK ? why : LOCKFREE_EMPTY, 0);
+        slot->number = why != LOCKFREE_OK ? slot->number : 0;
+        return;
+    }
+    slot->number = 0;
+    if (m->closed || room(m) == 0) {
+        is(answer, m->closed ? LOCKFREE_CLOSED : LOCKFREE_FULL, 0);
+        return;
+    }
+    uint32_t put = count < room(m) ? count : room(m);
+    for (uint32_t i = 0; i < put; i++)
+        put_in(m, values[i]);
+    slot->number = number_of_put(m);
+    is(answer, LOCKFREE_OK, put);
+}
+
+static void count(struct slot *slot)
+{
+    uint32_t why = refusal(slot, false);
+    why = why == LOCKFREE_OK && slot->of->stack ? (uint32_t)LOCKFREE_OTHER_HANDLE : why;
+    may_refuse();
+    is(lockfree_count(&slot->handle, below(3)), why, why == LOCKFREE_OK ? slot->of->size : 0);
+    slot->number = why == LOCKFREE_OK ? 0 : slot->number;
+}
+
 static void finish(struct slot *slot)
 {
     may_refuse();
@@ -348,7 +383,7 @@ static void move(struct slot *slot)
 
 /* Calls that fill and empty come more often. */
 typedef void call(struct slot *slot);
-static call *const calls[] = {make, split, split, put, put, put, take, take, close_it, shut_it, look, number, fold, go_on, go_on, add, add, put_range, finish, give_up, move};
+static call *const calls[] = {make, split, split, put, put, put, take, take, close_it, shut_it, look, number, fold, go_on, go_on, add, add, put_range, put_array, count, finish, give_up, move};
 
 static void sequence(void)
 {

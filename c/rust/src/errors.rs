@@ -21,8 +21,6 @@ pub enum PushError<T> {
     Closed(T),
     /// A tag is at its limit: the container takes no value any more. See [`Pass::wear`](crate::Pass::wear).
     Spent(T),
-    /// There is no memory for a range. No other push asks for memory.
-    NoMemory(T),
 }
 
 impl<T> PushError<T> {
@@ -36,10 +34,7 @@ impl<T> PushError<T> {
     /// ```
     pub fn into_inner(self) -> T {
         match self {
-            PushError::Full(value)
-            | PushError::Closed(value)
-            | PushError::Spent(value)
-            | PushError::NoMemory(value) => value,
+            PushError::Full(value) | PushError::Closed(value) | PushError::Spent(value) => value,
         }
     }
 
@@ -61,7 +56,6 @@ impl<T> PushError<T> {
         match code {
             Code::FULL => PushError::Full(value),
             Code::CLOSED => PushError::Closed(value),
-            Code::NO_MEMORY => PushError::NoMemory(value),
             _ => PushError::Spent(value),
         }
     }
@@ -74,7 +68,6 @@ impl<T> fmt::Debug for PushError<T> {
             PushError::Full(_) => "Full(..)",
             PushError::Closed(_) => "Closed(..)",
             PushError::Spent(_) => "Spent(..)",
-            PushError::NoMemory(_) => "NoMemory(..)",
         })
     }
 }
@@ -85,7 +78,6 @@ impl<T> fmt::Display for PushError<T> {
             PushError::Full(_) => "the container is full",
             PushError::Closed(_) => "the container was closed",
             PushError::Spent(_) => "a tag of the container is at its limit",
-            PushError::NoMemory(_) => "there is no memory for the range",
         })
     }
 }

@@ -282,6 +282,22 @@ impl<T, K> Pass<T, K> {
     }
 }
 
+impl<T> QueuePass<T> {
+    /// How many values the queue holds.
+    ///
+    /// ```
+    /// let queue = lockfree::Queue::new(4).unwrap();
+    /// let mut pass = queue.pass().unwrap();
+    /// pass.push('a').unwrap();
+    /// pass.push('b').unwrap();
+    /// assert_eq!(pass.len(), 2);
+    /// ```
+    pub fn len(&mut self) -> usize {
+        // (a queue holds no more than its capacity)
+        self.seat.pass.count() as usize
+    }
+}
+
 impl<T, K> Drop for Pass<T, K> {
     fn drop(&mut self) {
         self.core.rest(mem::replace(&mut self.seat, Seat::none()));

@@ -37,7 +37,6 @@ impl Code {
     pub(crate) const SHUT: Code = Code(4);
     pub(crate) const SPENT: Code = Code(5);
     const BUSY: Code = Code(6);
-    pub(crate) const NO_MEMORY: Code = Code(9);
     const NO_PASS: Code = Code(10);
     const BAD_CAPACITY: Code = Code(11);
     const VALUE: Code = Code(15);
@@ -64,11 +63,11 @@ extern "C" {
     fn lockfree_close(pass: *mut Handle, tries: u64) -> Answer;
     fn lockfree_shut(pass: *mut Handle, tries: u64) -> Answer;
     fn lockfree_look(pass: *mut Handle, tries: u64) -> Answer;
+    fn lockfree_count(pass: *mut Handle, tries: u64) -> Answer;
     fn lockfree_number(pass: *mut Handle) -> Answer;
     fn lockfree_go_on(pass: *mut Handle, tries: u64) -> Answer;
     fn lockfree_fold(pass: *mut Handle, reversed: bool, tries: u64) -> Answer;
-    fn lockfree_range_add(pass: *mut Handle, value: Word) -> Code;
-    fn lockfree_range_put(pass: *mut Handle, tries: u64) -> Answer;
+    fn lockfree_put_range(pass: *mut Handle, values: *const Word, count: usize, tries: u64) -> Answer;
 }
 
 impl Handle {
@@ -212,6 +211,12 @@ impl RawPass {
         self.call(|at| unsafe { lockfree_look(at, u64::MAX) }).code == Code::EMPTY
     }
 
+    /// How many values a queue holds.
+    pub(crate) fn count(&mut self) -> u64 {
+        // SAFETY: as in `call`.
+        self.call(|at| unsafe { lockfree_count(at, u64::MAX) }).number()
+    }
+
     /// Begins a fold of a stack, and gives the first value. `fold_on` gives the others, and has to be called to the end.
     pub(crate) fn fold(&mut self, reversed: bool) -> Folded {
         // SAFETY: as in `call`.
@@ -225,19 +230,13 @@ impl RawPass {
         Folded::of(answer)
     }
 
-    /// Puts words onto a stack at once, from the first, as many as there is room and memory for; gives how many.
+    /// Puts words onto a stack at once, from the first, as many as there is room for; gives how many.
     pub(crate) fn put_range(&mut self, words: &[Word]) -> Result<usize, Code> {
-        for (added, word) in words.iter().enumerate() {
-            // SAFETY: as in `call`.
-            let code = unsafe { lockfree_range_add(&mut self.0, *word) };
-            match code {
-                Code::OK => continue,
-                _ if added == 0 => return Err(code),
-                _ => break,
-            }
+        let mut answer = Answer { value: Word::new(0), code: Code::BUSY };
+        while answer.code == Code::BUSY {
+            // SAFETY: as in `call`; and the words are the same each time.
+            answer = unsafe { lockfree_put_range(&mut self.0, words.as_ptr(), words.len(), u64::MAX) };
         }
-        // SAFETY: as in `call`.
-        let answer = self.call(|at| unsafe { lockfree_range_put(at, u64::MAX) });
         // (a range is no longer than a slice)
         if answer.code == Code::OK {
             Ok(answer.number() as usize)

@@ -22,12 +22,12 @@ pub struct Pushed<T> {
 impl<T> StackPass<T> {
     /// Pushes values by one compare-and-swap, from the first, as many as there is room for: other threads see all of these
     /// or none. The last one is on top. The iterator is asked for at most as many values as the capacity, and all else
-    /// that it has stays there. A range takes memory for each of its values; of those over 8 bytes the pops give it back.
+    /// that it has stays there. It takes memory for the values that it asks for; of those over 8 bytes the pops give it back.
     ///
     /// # Errors
     ///
     /// With all values that the iterator gave: [`PushError::Full`] if there was no room at all, [`PushError::Closed`],
-    /// [`PushError::Spent`], [`PushError::NoMemory`].
+    /// [`PushError::Spent`].
     ///
     /// ```
     /// use lockfree::{PushError, Stack};

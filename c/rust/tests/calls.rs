@@ -19,6 +19,34 @@ fn one_thread() {
 }
 
 #[test]
+fn a_queue_counts_its_values() {
+    let queue = Queue::new(3).unwrap();
+    let (mut putting, mut looking) = (queue.pass().unwrap(), queue.pass().unwrap());
+    for round in 0..5 {
+        for held in 0..3 {
+            assert_eq!((putting.len(), looking.len()), (held, held));
+            assert_eq!(putting.push(round), Ok((3 * round + held) as u64));
+        }
+        assert_eq!((putting.push(round).is_err(), looking.len()), (true, 3));
+        assert_eq!((putting.drain().count(), looking.len()), (3, 0));
+    }
+}
+
+#[test]
+fn a_count_beside_other_threads_is_within_the_capacity() {
+    let queue = Queue::new(4).unwrap();
+    std::thread::scope(|scope| {
+        for _ in 0..2 {
+            let mut pass = queue.pass().unwrap();
+            scope.spawn(move || (0..10_000).for_each(|value| assert!(pass.push(value).is_ok() && pass.pop().is_ok())));
+        }
+        let mut pass = queue.pass().unwrap();
+        scope.spawn(move || (0..10_000).for_each(|_| assert!(pass.len() <= 2)));
+    });
+    assert_eq!(queue.pass().unwrap().len(), 0);
+}
+
+#[test]
 fn the_last_comes_first() {
     let stack = Stack::new(8).unwrap();
     let mut pass = stack.pass().unwrap();

@@ -1,5 +1,7 @@
 pub mod AsBox
 pub mod New
 pub mod Stays
+pub mod CopyStays
+pub mod CountStays
 pub mod FoldStays
 pub mod RangeStays

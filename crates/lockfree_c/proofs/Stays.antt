@@ -8,7 +8,7 @@ use Rattle.bounded_model.specs.declared.commands.Reply.{Reply}
 use Rattle.bounded_model.specs.declared.views.PassView.{PassView}
 use Rattle.bounded_calls.specs.Calls.{Reading, MakesSome, Tried, TriedFrom}
 use Rattle.lockfree_c.specs.Codes.{bare}
-use Rattle.lockfree_c.specs.Stages.{IsStage, LeftBy, Called}
+use Rattle.lockfree_c.specs.Stages.{IsStage, LeftBy, Called, Tries}
 use Rattle.lockfree_c.specs.declared.answers.Answer.{Answer}
 use Rattle.lockfree_c.specs.declared.answers.TheConstants.{UNDER_WAY}
 use Rattle.lockfree_c.specs.declared.stage.Stage.{Stage}
@@ -34,8 +34,5 @@ module _ {P O : Type 0} (r : Reading ℕ P O) where
   pub set_out : (call : Command ℕ) (resting : Option P) (op : O) (n : ℕ) → resting ≡ None → r.is_making call op → IsStage r (record { resting = resting; under_way = Some op; number = n })
   set_out call resting op n e making = subst (λ x. At x (Some op)) (sym e) (call, making)
 
-  abbrev pub Left : PassView ℕ → Command ℕ → Stage P O → Answer → Type 0
-  Left begun call t a = (made : Stepped O P (Reply ℕ)) × TriedFrom r begun call made × LeftBy made t a
-
-  pub called : (s : Stage P O) (by : P) (call : Command ℕ) (t : Stage P O) (a : Answer) → Some by ≡ s.resting → Left (r.pass by) call t a → Called r s call t a
-  called s by call t a rests left = subst (λ x. MatchOption x ((a ≡ bare UNDER_WAY) × (t ≡ s)) (λ p. Left (r.pass p) call t a)) rests left
+  pub called : (s : Stage P O) (by : P) (call : Command ℕ) (t : Stage P O) (a : Answer) → Some by ≡ s.resting → Tries r (r.pass by) call t a → Called r s call t a
+  called s by call t a rests left = subst (λ x. MatchOption x ((a ≡ bare UNDER_WAY) × (t ≡ s)) (λ p. Tries r (r.pass p) call t a)) rests left

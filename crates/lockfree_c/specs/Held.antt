@@ -10,6 +10,8 @@ use Rattle.bounded_model.specs.declared.answers.Stepped.TheVariants as stepped
 use Rattle.bounded_model.specs.declared.bulk.Ranged.{Ranged}
 use Rattle.bounded_model.specs.declared.bulk.RangeRefused.{RangeRefused}
 use Rattle.bounded_model.specs.declared.commands.Command.{Command}
+use Rattle.bounded_model.specs.declared.commands.Command.TheVariants.{Put}
+use Rattle.bounded_model.specs.declared.views.PassView.{PassView}
 use Rattle.bounded_model.specs.declared.views.RootView.{RootView}
 use Rattle.index_list.specs.declared.front.Front.{Front}
 use Rattle.index_list.specs.declared.front.Front.TheVariants.{First, Last}
@@ -18,10 +20,15 @@ use Rattle.running.specs.declared.passes.Pass.{Pass}
 use Rattle.queue_machine.specs.Answers as queue_machine
 use Rattle.stack_machine.specs.Answers as stack_machine
 use Rattle.stack_machine.specs.declared.lines.Line.{Line}
+use Rattle.queue_machine.specs.declared.lines.Line as of_queue
+use Rattle.ms_queue.specs.Counting.{IsCounting, LenOp}
 use Rattle.ms_queue.specs.Left as queue_left
 use Rattle.ms_queue.specs.Queue as queue
+use Rattle.ms_queue.specs.Trying.{LenTried}
+use Rattle.ms_queue.specs.declared.queue.Queue.{Queue}
 use Rattle.treiber_stack.specs.Left as stack_left
 use Rattle.treiber_stack.specs.Stack as stack
+use Rattle.treiber_stack.specs.Copying.{IsCopying, CopyTried}
 use Rattle.treiber_stack.specs.FoldOp.{IsFolding, FoldTried}
 use Rattle.treiber_stack.specs.RangeTrying.{IsRanging, RangeTried}
 use Rattle.treiber_stack.specs.declared.fold_op.FoldMade.{FoldMade}
@@ -30,14 +37,16 @@ use Rattle.treiber_stack.specs.declared.range_trying.RangeOp.{RangeOp}
 use Rattle.treiber_stack.specs.declared.stack.Stack.{Stack}
 use Rattle.bounded_calls.specs.Readings.{queue_reading, stack_reading}
 use Rattle.lockfree_c.specs.Codes.{SaysFold, SaysRange, bare, saying, fold_number, range_number}
-use Rattle.lockfree_c.specs.Stages.{IsStage, Called, Rests, SaysNumber, WentOn}
+use Rattle.lockfree_c.specs.Stages.{IsStage, Called, Rests, SaysNumber, Tries, WentOn}
 use Rattle.lockfree_c.specs.declared.answers.Answer.{Answer}
 use Rattle.lockfree_c.specs.declared.answers.TheConstants.{OK, EMPTY, BUSY, UNDER_WAY, NO_CALL, NO_MEMORY, NO_PASS, BAD_CAPACITY, OTHER_HANDLE, VALUE, SHARED}
 use Rattle.lockfree_c.specs.declared.stage.Stage.{Stage}
 use Rattle.lockfree_c.specs.declared.held.Held.{Held}
-use Rattle.lockfree_c.specs.declared.held.Held.TheVariants.{Nothing, QueueRoot as OfQueueRoot, QueuePass as OfQueuePass, StackRoot as OfStackRoot, StackPass as OfStackPass, StackFold as OfStackFold, StackRange as OfStackRange, StackRangePut as OfStackRangePut, QueueRest as OfQueueRest, StackRest as OfStackRest}
+use Rattle.lockfree_c.specs.declared.held.Held.TheVariants.{Nothing, QueueRoot as OfQueueRoot, QueuePass as OfQueuePass, QueueCount as OfQueueCount, StackRoot as OfStackRoot, StackPass as OfStackPass, StackFold as OfStackFold, StackRange as OfStackRange, StackRangePut as OfStackRangePut, StackCopy as OfStackCopy, QueueRest as OfQueueRest, StackRest as OfStackRest}
+use Rattle.lockfree_c.specs.declared.held.QueueCount.{QueueCount}
 use Rattle.lockfree_c.specs.declared.held.QueuePass.{QueuePass}
 use Rattle.lockfree_c.specs.declared.held.QueueRoot.{QueueRoot}
+use Rattle.lockfree_c.specs.declared.held.StackCopy.{StackCopy}
 use Rattle.lockfree_c.specs.declared.held.StackFold.{StackFold}
 use Rattle.lockfree_c.specs.declared.held.StackPass.{StackPass}
 use Rattle.lockfree_c.specs.declared.held.StackRange.{StackRange}
@@ -51,6 +60,9 @@ IsQueueRoot r = queue.IsRootOf r.queue.value r.root
 
 abbrev pub IsQueuePass : QueuePass → Type 0
 IsQueuePass p = IsStage (queue_reading p.queue.value) p.stage
+
+abbrev pub IsQueueCount : QueueCount → Type 0
+IsQueueCount k = IsCounting k.queue.value k.op
 
 abbrev pub IsStackRoot : StackRoot → Type 0
 IsStackRoot r = stack.IsRootOf r.stack.value r.root
@@ -70,15 +82,21 @@ IsStackRange r = stack.IsPassOf r.stack.value r.by × Every (λ place. IsSome pl
 abbrev pub IsStackRangePut : StackRangePut → Type 0
 IsStackRangePut r = (values : List ℕ) × IsRanging r.stack.value values r.values.items r.op
 
+-- a put of some array
+abbrev pub IsStackCopy : StackCopy → Type 0
+IsStackCopy k = (values : List ℕ) × IsCopying k.stack.value values k.op
+
 abbrev pub IsHeld : Held → Type 0
 IsHeld Nothing = Unit {0}
 IsHeld (OfQueueRoot r) = IsQueueRoot r
 IsHeld (OfQueuePass p) = IsQueuePass p
+IsHeld (OfQueueCount k) = IsQueueCount k
 IsHeld (OfStackRoot r) = IsStackRoot r
 IsHeld (OfStackPass p) = IsStackPass p
 IsHeld (OfStackFold f) = IsStackFold f
 IsHeld (OfStackRange r) = IsStackRange r
 IsHeld (OfStackRangePut r) = IsStackRangePut r
+IsHeld (OfStackCopy k) = IsStackCopy k
 IsHeld (OfQueueRest r) = Unit {0}
 IsHeld (OfStackRest r) = Unit {0}
 
@@ -90,11 +108,21 @@ QueueCalled p call q a = (q.queue.value ≡ p.queue.value) × Called (queue_read
 abbrev pub StackCalled : StackPass → Command ℕ → StackPass → Answer → Type 0
 StackCalled p call q a = (q.stack.value ≡ p.stack.value) × Called (stack_reading p.stack.value) p.stage call q.stage a
 
--- why what is no pass for a call makes none: it is a stack's pass that is in a fold or has a range, or another handle
+-- a put of this value, begun as its pass was, that found nothing free
+abbrev pub QueueRefused : QueuePass → PassView ℕ → ℕ → QueuePass → Answer → Type 0
+QueueRefused p begun x q a = (q.queue.value ≡ p.queue.value) × Tries (queue_reading p.queue.value) begun (Put x) q.stage a
+
+abbrev pub StackRefused : StackPass → PassView ℕ → ℕ → StackPass → Answer → Type 0
+StackRefused p begun x q a = (q.stack.value ≡ p.stack.value) × Tries (stack_reading p.stack.value) begun (Put x) q.stage a
+
+-- why what is no pass for a call makes none: it is a queue's pass that is in a count, or a stack's that is in a fold or has a range, or another
+-- handle
 abbrev pub refusal_of : Held → ℕ
+refusal_of (OfQueueCount k) = UNDER_WAY
 refusal_of (OfStackFold f) = UNDER_WAY
 refusal_of (OfStackRange r) = UNDER_WAY
 refusal_of (OfStackRangePut r) = UNDER_WAY
+refusal_of (OfStackCopy k) = UNDER_WAY
 refusal_of h = OTHER_HANDLE
 
 -- what is held is as it was, and C is told why: by a code, or by an answer that says nothing more
@@ -116,6 +144,20 @@ QueueWentOn p q a = (q.queue.value ≡ p.queue.value) × WentOn (queue_reading p
 
 abbrev pub StackWentOn : StackPass → StackPass → Answer → Type 0
 StackWentOn p q a = (q.stack.value ≡ p.stack.value) × WentOn (stack_reading p.stack.value) p.stage q.stage a
+
+-- what some steps of a count have come to
+abbrev pub CountMade : Type 0
+CountMade = Stepped (LenOp ℕ) (Pass ℕ (of_queue.Line ℕ)) ℕ
+
+-- how a count that was tried left what is held, and what C was answered; it has no number
+abbrev pub CountLeft : Queue ℕ → CountMade → Held → Answer → Type 0
+CountLeft c (stepped.Again next) (OfQueueCount k) a = (k.queue.value ≡ c) × (k.op ≡ next) × (a ≡ bare BUSY)
+CountLeft c (stepped.Done back n) (OfQueuePass p) a = (p.queue.value ≡ c) × Rests p.stage back 0 × (a ≡ saying OK n)
+CountLeft c made h a = ⊥
+
+-- the count that is under way is tried further
+abbrev pub CountWentOn : QueueCount → Held → Answer → Type 0
+CountWentOn k g a = (made : CountMade) × LenTried k.queue.value (queue.begun_of k.queue.value k.op.pass) made × CountLeft k.queue.value made g a
 
 -- how a fold that was run left what is held, and what C was answered
 abbrev pub FoldLeft : Stack ℕ → FoldMade ℕ → Held → Answer → Type 0
@@ -146,15 +188,17 @@ RangeWentOn r g a = (places : List (Option ℕ)) × (made : RangeMade)
     × ((values : List ℕ) → IsRanging r.stack.value values r.values.items r.op → RangeTried r.stack.value values (stack.begun_of r.stack.value r.op.pass) places made)
     × RangeLeft r.stack.value places made g a
 
--- where a range is collected, no call is under way
+-- where a range is collected, no call is under way; nor one that goes on without its array
 abbrev pub HeldWentOn : Held → Held → Answer → Type 0
 HeldWentOn (OfQueuePass p) (OfQueuePass q) a = QueueWentOn p q a
 HeldWentOn (OfQueuePass p) h a = ⊥
+HeldWentOn (OfQueueCount k) g a = CountWentOn k g a
 HeldWentOn (OfStackPass p) (OfStackPass q) a = StackWentOn p q a
 HeldWentOn (OfStackPass p) h a = ⊥
 HeldWentOn (OfStackFold f) g a = FoldWentOn f g a
 HeldWentOn (OfStackRange r) g a = Declined NO_CALL (OfStackRange r) g a
 HeldWentOn (OfStackRangePut r) g a = RangeWentOn r g a
+HeldWentOn (OfStackCopy k) g a = Declined NO_CALL (OfStackCopy k) g a
 HeldWentOn h g a = Declined OTHER_HANDLE h g a
 
 -- The number of the call that ended last
@@ -163,6 +207,18 @@ abbrev pub HeldNumber : Held → Answer → Type 0
 HeldNumber (OfQueuePass p) a = SaysNumber p.stage a
 HeldNumber (OfStackPass p) a = SaysNumber p.stage a
 HeldNumber h a = a ≡ bare (refusal_of h)
+
+-- The begin of a count
+
+-- a count of a pass that rests is tried, from what the pass had seen; of one in a call nothing is changed
+abbrev pub QueueCounted : QueuePass → Held → Answer → Type 0
+QueueCounted p g a = MatchOption p.stage.resting
+    (Declined UNDER_WAY (OfQueuePass p) g a)
+    (λ by. (made : CountMade) × LenTried p.queue.value (pass_in by) made × CountLeft p.queue.value made g a)
+
+abbrev pub HeldCounted : Held → Held → Answer → Type 0
+HeldCounted (OfQueuePass p) g a = QueueCounted p g a
+HeldCounted h g a = Declined (refusal_of h) h g a
 
 -- The begin of a fold
 
@@ -224,6 +280,34 @@ abbrev pub HeldRangePut : Held → Held → Answer → Type 0
 HeldRangePut (OfStackPass p) g a = NothingPut p g a
 HeldRangePut (OfStackRange r) g a = RangePut r g a
 HeldRangePut h g a = Declined (refusal_of h) h g a
+
+-- A range from an array of C's
+
+-- how its put left what is held, and what C was answered
+abbrev pub CopyLeft : Stack ℕ → RangeMade → Held → Answer → Type 0
+CopyLeft c (stepped.Again next) (OfStackCopy k) a = (k.stack.value ≡ c) × (k.op ≡ next) × (a ≡ bare BUSY)
+CopyLeft c (stepped.Done back said) (OfStackPass p) a = (p.stack.value ≡ c) × Rests p.stage back (range_number said) × SaysRange said a
+CopyLeft c made h a = ⊥
+
+-- a put of these values is tried, from what the pass had seen; of a pass in a call nothing is changed
+abbrev pub StackCopied : StackPass → List ℕ → Held → Answer → Type 0
+StackCopied p values g a = MatchOption p.stage.resting
+    (Declined UNDER_WAY (OfStackPass p) g a)
+    (λ by. (made : RangeMade) × CopyTried p.stack.value values (pass_in by) made × CopyLeft p.stack.value made g a)
+
+-- the put of them that is under way is tried further
+abbrev pub CopyWentOn : StackCopy → List ℕ → Held → Answer → Type 0
+CopyWentOn k values g a = (made : RangeMade) × CopyTried k.stack.value values (stack.begun_of k.stack.value k.op.pass) made × CopyLeft k.stack.value made g a
+
+abbrev pub HeldCopied : Held → List ℕ → Held → Answer → Type 0
+HeldCopied (OfStackPass p) values g a = StackCopied p values g a
+HeldCopied (OfStackCopy k) values g a = CopyWentOn k values g a
+HeldCopied h values g a = Declined (refusal_of h) h g a
+
+-- a put of an array that is under way goes on with the values that it was begun with
+abbrev pub Continues : Held → List ℕ → Type 0
+Continues (OfStackCopy k) values = IsCopying k.stack.value values k.op
+Continues h values = Unit {0}
 
 -- The calls of a root
 

@@ -1,9 +1,9 @@
 -- What C keeps is as the library left it, and what the exports do to it.
-use Rattle.std.specs.Prelude.{◌≡◌, ℕ, Bool, true, false, Result, MatchResult}
+use Rattle.std.specs.Prelude.{◌≡◌, ℕ, Bool, true, false, List, Result, MatchResult}
 use Rattle.bounded_model.specs.declared.commands.Command.{Command}
 use Rattle.index_list.specs.declared.front.Front.{Front}
 use Rattle.lockfree_c.specs.Codes.{bare}
-use Rattle.lockfree_c.specs.Held.{IsHeld, HeldAdded, HeldCalled, HeldFinished, HeldFolded, HeldNumber, HeldRangePut, HeldWentOn, HeldSplit, NewRefused}
+use Rattle.lockfree_c.specs.Held.{IsHeld, Continues, HeldAdded, HeldCalled, HeldCopied, HeldCounted, HeldFinished, HeldFolded, HeldNumber, HeldRangePut, HeldWentOn, HeldSplit, NewRefused}
 use Rattle.lockfree_c.specs.declared.answers.Answer.{Answer}
 use Rattle.lockfree_c.specs.declared.answers.TheConstants.{OK, NO_HANDLE, IN_USE}
 use Rattle.lockfree_c.specs.declared.held.Held.{Held}
@@ -34,6 +34,11 @@ SlotWentOn s t a = Either s.full
     ((t.full ≡ true) × HeldWentOn s.handle.held t.handle.held a)
     (IsEmpty t × (a ≡ bare NO_HANDLE))
 
+abbrev pub SlotCounted : Slot → Slot → Answer → Type 0
+SlotCounted s t a = Either s.full
+    ((t.full ≡ true) × HeldCounted s.handle.held t.handle.held a)
+    (IsEmpty t × (a ≡ bare NO_HANDLE))
+
 abbrev pub SlotFolded : Slot → Front → Slot → Answer → Type 0
 SlotFolded s front t a = Either s.full
     ((t.full ≡ true) × HeldFolded s.handle.held front t.handle.held a)
@@ -47,6 +52,15 @@ SlotAdded s x t code = Either s.full
 abbrev pub SlotRangePut : Slot → Slot → Answer → Type 0
 SlotRangePut s t a = Either s.full
     ((t.full ≡ true) × HeldRangePut s.handle.held t.handle.held a)
+    (IsEmpty t × (a ≡ bare NO_HANDLE))
+
+-- a put of an array that is under way goes on with that array
+abbrev pub SlotContinues : Slot → List ℕ → Type 0
+SlotContinues s values = s.full ≡ true → Continues s.handle.held values
+
+abbrev pub SlotCopied : Slot → List ℕ → Slot → Answer → Type 0
+SlotCopied s values t a = Either s.full
+    ((t.full ≡ true) × HeldCopied s.handle.held values t.handle.held a)
     (IsEmpty t × (a ≡ bare NO_HANDLE))
 
 -- what is behind it is as it was

@@ -4,6 +4,7 @@ use Rattle.bounded_model.specs.declared.answers.Stepped.{Stepped}
 use Rattle.bounded_model.specs.declared.answers.Stepped.TheVariants.{Again, Done}
 use Rattle.bounded_model.specs.declared.commands.Command.{Command}
 use Rattle.bounded_model.specs.declared.commands.Reply.{Reply}
+use Rattle.bounded_model.specs.declared.views.PassView.{PassView}
 use Rattle.bounded_calls.specs.Calls.{Reading, MakesSome, TriedFrom}
 use Rattle.lockfree_c.specs.Codes.{Says, bare, saying, number_in}
 use Rattle.lockfree_c.specs.declared.answers.Answer.{Answer}
@@ -31,11 +32,15 @@ module _ {P O : Type 0} where
         (MatchOption s.under_way ⊥ (MakesSome r))
         (λ by. r.is_pass by × (s.under_way ≡ None))
 
+    -- a call that was begun as its pass was is tried
+    abbrev pub Tries : PassView ℕ → Command ℕ → Stage P O → Answer → Type 0
+    Tries begun call t a = (made : Stepped O P (Reply ℕ)) × TriedFrom r begun call made × LeftBy made t a
+
     -- a call of a pass that rests is tried, from what the pass had seen; of one in a call nothing is changed
     abbrev pub Called : Stage P O → Command ℕ → Stage P O → Answer → Type 0
     Called s call t a = MatchOption s.resting
         ((a ≡ bare UNDER_WAY) × (t ≡ s))
-        (λ by. (made : Stepped O P (Reply ℕ)) × TriedFrom r (r.pass by) call made × LeftBy made t a)
+        (λ by. Tries (r.pass by) call t a)
 
     -- the call that is under way is tried further, whichever it is
     abbrev pub WentOn : Stage P O → Stage P O → Answer → Type 0

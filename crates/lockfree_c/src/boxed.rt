@@ -1,10 +1,13 @@
 //! The calls on what lies in a box behind a handle.
 ghost use Rattle.std.specs.Prelude.{Ok, Err, IfOk, MatchResult};
-ghost use Rattle.bounded_model.specs.declared.commands.Command.TheVariants.{Put, Take};
+ghost use Rattle.bounded_model.specs.declared.commands.Command.TheVariants.{Look, Put, Take};
 ghost use Rattle.lockfree_c.specs.Held.{
   HeldAdded,
   HeldBegan,
+  Continues,
   HeldCalled,
+  HeldCopied,
+  HeldCounted,
   HeldFinished,
   HeldFolded,
   HeldNumber,
@@ -122,6 +125,20 @@ pub fn take_by(held: &mut Held, tries: u64) -> Answer
     }
 }
 
+/// A look by what lies in the box, if that is a pass.
+#[inline(always)]
+pub fn look_by(held: &mut Held, tries: u64) -> Answer
+    requires { IsHeld held.old }
+    ensures of { IsHeld held.new }
+    ensures gives { HeldCalled held.old Look held.new result }
+{
+    match held {
+        Held::QueuePass(pass) => pass.look(tries),
+        Held::StackPass(pass) => pass.look(),
+        other => Answer::of(other.refusal()),
+    }
+}
+
 /// Any call by what lies in the box, if that is a pass.
 pub fn call_by(held: &mut Held, command: Command<u64>, tries: u64) -> Answer
     requires { IsHeld held.old }
@@ -157,6 +174,32 @@ pub fn fold_by(held: &mut Held, reversed: bool, tries: u64) -> Answer
     ensures gives { HeldFolded held.old (front_from reversed) held.new result }
 {
     let (next, answer) = fold(mem::replace(held, Held::Nothing), reversed, tries);
+    *held = next;
+    answer
+}
+
+// A count by what is held, if that is a queue's pass.
+fn count(held: Held, tries: u64) -> (Held, Answer)
+    requires { IsHeld held }
+    ensures of { IsHeld result.0 }
+    ensures gives { HeldCounted held result.0 result.1 }
+{
+    match held {
+        Held::QueuePass(pass) => pass.count(tries),
+        other => {
+            let answer = Answer::of(other.refusal());
+            (other, answer)
+        }
+    }
+}
+
+/// A count of the values by what lies in the box, if that is a queue's pass.
+pub fn count_by(held: &mut Held, tries: u64) -> Answer
+    requires { IsHeld held.old }
+    ensures of { IsHeld held.new }
+    ensures gives { HeldCounted held.old held.new result }
+{
+    let (next, answer) = count(mem::replace(held, Held::Nothing), tries);
     *held = next;
     answer
 }
@@ -227,6 +270,35 @@ pub fn put_range_by(held: &mut Held, tries: u64) -> Answer
     answer
 }
 
+// A put of these values by what is held, if that is a stack's pass, or is in a put of them.
+fn put_copies(held: Held, values: &[u64], tries: u64) -> (Held, Answer)
+    requires held { IsHeld held }
+    requires same { Continues held values.now }
+    ensures of { IsHeld result.0 }
+    ensures gives { HeldCopied held values.now result.0 result.1 }
+{
+    match held {
+        Held::StackPass(pass) => pass.put_copies(values, tries),
+        Held::StackCopy(copy) => copy.go_on(values, tries),
+        other => {
+            let answer = Answer::of(other.refusal());
+            (other, answer)
+        }
+    }
+}
+
+/// A put of these values by what lies in the box, if that is a stack's pass, or is in a put of them.
+pub fn put_copies_by(held: &mut Held, values: &[u64], tries: u64) -> Answer
+    requires held { IsHeld held.old }
+    requires same { Continues held.old values.now }
+    ensures of { IsHeld held.new }
+    ensures gives { HeldCopied held.old values.now held.new result }
+{
+    let (next, answer) = put_copies(mem::replace(held, Held::Nothing), values, tries);
+    *held = next;
+    answer
+}
+
 // Goes on with the call of what is held, if that is a pass.
 fn go_on(held: Held, tries: u64) -> (Held, Answer)
     requires { IsHeld held }
@@ -244,9 +316,11 @@ fn go_on(held: Held, tries: u64) -> (Held, Answer)
             let answer = pass.go_on(tries);
             (Held::StackPass(pass), answer)
         }
+        Held::QueueCount(count) => count.go_on(tries),
         Held::StackFold(fold) => fold.go_on(tries),
         Held::StackRange(range) => (Held::StackRange(range), Answer::of(NO_CALL)),
         Held::StackRangePut(put) => put.go_on(tries),
+        Held::StackCopy(copy) => (Held::StackCopy(copy), Answer::of(NO_CALL)),
         other => (other, Answer::of(OTHER_HANDLE)),
     }
 }

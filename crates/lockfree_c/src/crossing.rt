@@ -2,8 +2,8 @@
 //! behind one may cross threads.
 
 use crate::held::{
-    QueueOperation, QueuePass, QueueRoot, StackFold, StackOperation, StackPass, StackRange,
-    StackRangePut, StackRoot,
+    QueueCount, QueueOperation, QueuePass, QueueRoot, StackCopy, StackFold, StackOperation,
+    StackPass, StackRange, StackRangePut, StackRoot,
 };
 use bounded_model::Operation;
 
@@ -31,6 +31,12 @@ pub fn queue_operation_crosses(operation: &QueueOperation) {
         Operation::Shut(shut) => crosses(shut),
         Operation::Look(look) => crosses(look),
     }
+}
+
+/// The parts of a queue's pass that is in a count.
+pub fn queue_count_crosses(count: &QueueCount) {
+    crosses(&count.queue);
+    crosses(&count.op);
 }
 
 /// The parts of a stack's root.
@@ -68,6 +74,12 @@ pub fn stack_range_put_crosses(put: &StackRangePut) {
     crosses(&put.stack);
     crosses(&put.op);
     crosses(&put.values);
+}
+
+/// The parts of a stack's pass that is in a put of an array.
+pub fn stack_copy_crosses(copy: &StackCopy) {
+    crosses(&copy.stack);
+    crosses(&copy.op);
 }
 
 /// What is left of a queue.

@@ -13,7 +13,10 @@ ghost use Rattle.lockfree_c.specs.Held.{IsNewQueue, IsNewStack, front_from};
 ghost use Rattle.lockfree_c.specs.Slots.{
   IsSlot,
   SlotAdded,
+  SlotContinues,
   SlotCalled,
+  SlotCopied,
+  SlotCounted,
   SlotFinished,
   SlotFolded,
   SlotFreed,
@@ -26,8 +29,8 @@ ghost use Rattle.lockfree_c.specs.Slots.{
 
 use crate::answers::{Answer, IN_USE, NO_HANDLE, OK};
 use crate::boxed::{
-    add_by, boxed_queue, boxed_stack, call_by, finish_by, fold_by, go_on_by, number_by, put_by,
-    put_range_by, split_from, take_by,
+    add_by, boxed_queue, boxed_stack, call_by, count_by, finish_by, fold_by, go_on_by, look_by,
+    number_by, put_by, put_copies_by, put_range_by, split_from, take_by,
 };
 use crate::slot::Slot;
 use bounded_model::Command;
@@ -220,7 +223,23 @@ pub extern "C" fn lockfree_look(pass: &mut Slot, tries: u64) -> Answer
     ensures of { IsSlot pass.new }
     ensures gives { SlotCalled pass.old Look pass.new result }
 {
-    call(pass, Command::Look, tries)
+    if !pass.full {
+        return Answer::of(NO_HANDLE);
+    }
+    look_by(pass.handle.open_mut(), tries)
+}
+
+/// Counts the values of a queue.
+#[unsafe(no_mangle)]
+pub extern "C" fn lockfree_count(pass: &mut Slot, tries: u64) -> Answer
+    requires { IsSlot pass.old }
+    ensures of { IsSlot pass.new }
+    ensures gives { SlotCounted pass.old pass.new result }
+{
+    if !pass.full {
+        return Answer::of(NO_HANDLE);
+    }
+    count_by(pass.handle.open_mut(), tries)
 }
 
 /// Folds all values of a stack, which one compare-and-swap takes: from the top down, or reversed.
@@ -263,6 +282,21 @@ pub extern "C" fn lockfree_range_put(pass: &mut Slot, tries: u64) -> Answer
         return Answer::of(NO_HANDLE);
     }
     put_range_by(pass.handle.open_mut(), tries)
+}
+
+/// Puts as many values of an array onto a stack as cells can be had, from the first, by one
+/// compare-and-swap. After `BUSY` it goes on, with the same array.
+#[unsafe(no_mangle)]
+pub extern "C" fn lockfree_put_range(pass: &mut Slot, values: &[u64], tries: u64) -> Answer
+    requires slot { IsSlot pass.old }
+    requires same { SlotContinues pass.old values.now }
+    ensures of { IsSlot pass.new }
+    ensures gives { SlotCopied pass.old values.now pass.new result }
+{
+    if !pass.full {
+        return Answer::of(NO_HANDLE);
+    }
+    put_copies_by(pass.handle.open_mut(), values, tries)
 }
 
 /// Goes on with the call that returned `BUSY`, or with the fold that returned `VALUE`.

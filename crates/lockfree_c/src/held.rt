@@ -5,7 +5,7 @@ ghost use Rattle.lockfree_c.specs.Held.{refusal_of};
 use crate::answers::{OTHER_HANDLE, UNDER_WAY};
 use crate::stage::Stage;
 use bounded_model::Operation;
-use ms_queue::Queue;
+use ms_queue::{LenOp, Queue};
 use std::alloc::Global;
 use std::sync::Arc;
 use treiber_stack::{FoldOp, RangeOp, Stack};
@@ -42,6 +42,14 @@ pub struct QueuePass {
     pub stage: Stage<ms_queue::Pass<u64>, QueueOperation>,
 }
 
+/// A queue's pass in a count of the values, with a share of the queue. It stands apart from the others,
+/// so that their puts and takes do not ask for it.
+#[derive(Drop)]
+pub struct QueueCount {
+    pub queue: Arc<Queue<u64>, Global>,
+    pub op: LenOp<u64>,
+}
+
 /// A stack's root, with a share of the stack.
 #[derive(Drop)]
 pub struct StackRoot {
@@ -73,6 +81,14 @@ pub struct StackRange {
     pub values: Vec<Option<u64>>,
 }
 
+/// A stack's pass in a put of a range from an array of C's, with a share of the stack. C keeps the array,
+/// and gives it again to go on.
+#[derive(Drop)]
+pub struct StackCopy {
+    pub stack: Arc<Stack<u64>, Global>,
+    pub op: RangeOp<u64>,
+}
+
 /// A stack's pass in a put of a range, with a share of the stack. A value that is in a cell is not in
 /// its place.
 #[derive(Drop)]
@@ -87,11 +103,13 @@ pub enum Held {
     Nothing,
     QueueRoot(QueueRoot),
     QueuePass(QueuePass),
+    QueueCount(QueueCount),
     StackRoot(StackRoot),
     StackPass(StackPass),
     StackFold(StackFold),
     StackRange(StackRange),
     StackRangePut(StackRangePut),
+    StackCopy(StackCopy),
     /// What is left of a queue that was ended, and not handed out yet.
     QueueRest(ms_queue::Rest<u64>),
     /// The same of a stack.
@@ -105,9 +123,11 @@ impl Held {
         ensures { result ≡ refusal_of self.now }
     {
         match self {
+            Held::QueueCount(_) => UNDER_WAY,
             Held::StackFold(_) => UNDER_WAY,
             Held::StackRange(_) => UNDER_WAY,
             Held::StackRangePut(_) => UNDER_WAY,
+            Held::StackCopy(_) => UNDER_WAY,
             _ => OTHER_HANDLE,
         }
     }

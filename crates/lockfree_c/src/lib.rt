@@ -8,6 +8,8 @@
 
 mod answers;
 mod boxed;
+mod copying;
+mod count;
 mod crossing;
 mod exports;
 mod finish;

@@ -1,14 +1,16 @@
 //! A queue's root and passes.
-ghost use Rattle.std.specs.Prelude.{◌≡◌, MatchResult};
+ghost use Rattle.std.specs.Prelude.{◌≡◌, MatchResult, None};
 ghost use Rattle.bounded_model.specs.Laws.{fresh};
-ghost use Rattle.bounded_model.specs.declared.commands.Command.TheVariants.{Put, Take};
+ghost use Rattle.bounded_model.specs.declared.commands.Command.TheVariants.{Look, Put, Take};
 ghost use Rattle.queue_machine.specs.Answers.{shape};
 ghost use Rattle.running.specs.Passes.{root_in};
-ghost use Rattle.ms_queue.specs.Queue.{shape_of};
+ghost use Rattle.ms_queue.specs.Queue.{begun_of, shape_of};
+ghost use Rattle.ms_queue.specs.Trying.{IsRefusing};
 ghost use Rattle.lockfree_c.specs.Held.{
   IsQueuePass,
   IsQueueRoot,
   QueueCalled,
+  QueueRefused,
   QueueWentOn,
   NewRefused,
   SplitOff,
@@ -20,7 +22,7 @@ use crate::held::{QueuePass, QueueRoot};
 use crate::stage::Stage;
 use bounded_calls::BoundedCalls;
 use bounded_model::{Command, Container, Operation, Reply, Stepped};
-use ms_queue::Queue;
+use ms_queue::{Pass, PutMade, Queue};
 use std::alloc::Global;
 use std::sync::Arc;
 use tagged_index::Limits;
@@ -80,14 +82,33 @@ impl QueuePass {
         ensures gives { QueueCalled self.old (Put value) self.new result }
     {
         match self.stage.resting.take() {
-            Some(by) => match self.queue.put_at_once(by, value) {
-                Stepped::Done(by, said) => self.stage.rest(by, Reply::Put(said)),
-                Stepped::Again(op) => {
+            Some(by) => match self.queue.put_if_room(by, value) {
+                PutMade::Done(by, said) => self.stage.rest(by, Reply::Put(said)),
+                PutMade::Again(op) => {
                     self.stage.under_way = Some(Operation::Put(op));
                     self.go_on(tries)
                 }
+                PutMade::NoCell(by, value) => self.refuse(by, value, tries),
             },
             None => Answer::of(UNDER_WAY),
+        }
+    }
+
+    // A put that found no cell. A function of its own, so that a put that finds one has nothing of it.
+    #[inline(never)]
+    fn refuse(&mut self, by: Pass<u64>, value: u64, tries: u64) -> Answer
+        requires stage { (self.old.stage.resting ≡ None) × (self.old.stage.under_way ≡ None) }
+        requires refusing { IsRefusing self.old.queue.value value by }
+        ensures of { IsQueuePass self.new }
+        ensures gives { QueueRefused self.old
+            (begun_of self.old.queue.value by) value self.new result }
+    {
+        match self.queue.refuse_at_once(by, value) {
+            Stepped::Done(by, said) => self.stage.rest(by, Reply::Put(said)),
+            Stepped::Again(op) => {
+                self.stage.under_way = Some(Operation::Put(op));
+                self.go_on(tries)
+            }
         }
     }
 
@@ -103,6 +124,25 @@ impl QueuePass {
                 Stepped::Done(by, said) => self.stage.rest(by, Reply::Take(said)),
                 Stepped::Again(op) => {
                     self.stage.under_way = Some(Operation::Take(op));
+                    self.go_on(tries)
+                }
+            },
+            None => Answer::of(UNDER_WAY),
+        }
+    }
+
+    /// A look; where the pass is in a call already, nothing.
+    #[inline(always)]
+    pub fn look(&mut self, tries: u64) -> Answer
+        requires { IsQueuePass self.old }
+        ensures of { IsQueuePass self.new }
+        ensures gives { QueueCalled self.old Look self.new result }
+    {
+        match self.stage.resting.take() {
+            Some(by) => match self.queue.look_at_once(by) {
+                Stepped::Done(by, is_empty) => self.stage.rest(by, Reply::Look(is_empty)),
+                Stepped::Again(op) => {
+                    self.stage.under_way = Some(Operation::Look(op));
                     self.go_on(tries)
                 }
             },

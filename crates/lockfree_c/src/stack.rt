@@ -1,14 +1,16 @@
 //! A stack's root and passes.
-ghost use Rattle.std.specs.Prelude.{◌≡◌, MatchResult};
+ghost use Rattle.std.specs.Prelude.{◌≡◌, MatchResult, None};
 ghost use Rattle.bounded_model.specs.Laws.{fresh};
-ghost use Rattle.bounded_model.specs.declared.commands.Command.TheVariants.{Put, Take};
+ghost use Rattle.bounded_model.specs.declared.commands.Command.TheVariants.{Look, Put, Take};
 ghost use Rattle.stack_machine.specs.Answers.{shape};
 ghost use Rattle.running.specs.Passes.{root_in};
-ghost use Rattle.treiber_stack.specs.Stack.{shape_of};
+ghost use Rattle.treiber_stack.specs.Stack.{begun_of, shape_of};
+ghost use Rattle.treiber_stack.specs.Trying.{IsRefusing};
 ghost use Rattle.lockfree_c.specs.Held.{
   IsStackPass,
   IsStackRoot,
   StackCalled,
+  StackRefused,
   StackWentOn,
   NewRefused,
   SplitOff,
@@ -23,7 +25,7 @@ use bounded_model::{Command, Container, Operation, Reply, Stepped};
 use std::alloc::Global;
 use std::sync::Arc;
 use tagged_index::Limits;
-use treiber_stack::Stack;
+use treiber_stack::{Pass, PutMade, Stack};
 
 /// A new stack's root, or why there is none.
 pub fn new_stack(alloc: Global, capacity: u32, tag_limit: u64) -> Result<StackRoot, u32>
@@ -80,14 +82,33 @@ impl StackPass {
         ensures gives { StackCalled self.old (Put value) self.new result }
     {
         match self.stage.resting.take() {
-            Some(by) => match self.stack.put_at_once(by, value) {
-                Stepped::Done(by, said) => self.stage.rest(by, Reply::Put(said)),
-                Stepped::Again(op) => {
+            Some(by) => match self.stack.put_if_room(by, value) {
+                PutMade::Done(by, said) => self.stage.rest(by, Reply::Put(said)),
+                PutMade::Again(op) => {
                     self.stage.under_way = Some(Operation::Put(op));
                     self.go_on(tries)
                 }
+                PutMade::NoNode(by, value) => self.refuse(by, value, tries),
             },
             None => Answer::of(UNDER_WAY),
+        }
+    }
+
+    // A put that found no node. A function of its own, so that a put that finds one has nothing of it.
+    #[inline(never)]
+    fn refuse(&mut self, by: Pass<u64>, value: u64, tries: u64) -> Answer
+        requires stage { (self.old.stage.resting ≡ None) × (self.old.stage.under_way ≡ None) }
+        requires refusing { IsRefusing self.old.stack.value value by }
+        ensures of { IsStackPass self.new }
+        ensures gives { StackRefused self.old
+            (begun_of self.old.stack.value by) value self.new result }
+    {
+        match self.stack.refuse_at_once(by, value) {
+            Stepped::Done(by, said) => self.stage.rest(by, Reply::Put(said)),
+            Stepped::Again(op) => {
+                self.stage.under_way = Some(Operation::Put(op));
+                self.go_on(tries)
+            }
         }
     }
 
@@ -106,6 +127,22 @@ impl StackPass {
                     self.go_on(tries)
                 }
             },
+            None => Answer::of(UNDER_WAY),
+        }
+    }
+
+    /// A look, which is one step; where the pass is in a call already, nothing.
+    #[inline(always)]
+    pub fn look(&mut self) -> Answer
+        requires { IsStackPass self.old }
+        ensures of { IsStackPass self.new }
+        ensures gives { StackCalled self.old Look self.new result }
+    {
+        match self.stage.resting.take() {
+            Some(by) => {
+                let (by, is_empty) = self.stack.is_empty(by);
+                self.stage.rest(by, Reply::Look(is_empty))
+            }
             None => Answer::of(UNDER_WAY),
         }
     }

@@ -11,7 +11,7 @@ returns-clause-gives c =
     let r = c.args.self in
     let made = c.run_for-made.result in
     let places = c.run_for-made.new.values in
-    let on_stack = subst (λ on. (values : List ℕ) → IsRanging on values c.deref_mut.result.now r.op → RangeTried on values (begun_of on r.op.pass) places made) c.deref.ensures c.run_for-made.ensures in
+    let on_stack = subst (λ on. (values : List ℕ) → IsRanging on values c.deref_mut.result.now r.op → RangeTried on values (begun_of on r.op.pass) places made) c.deref.ensures c.run_for-made.ensures.tried in
     let tried = subst (λ old. (values : List ℕ) → IsRanging r.stack.value values old r.op → RangeTried r.stack.value values (begun_of r.stack.value r.op.pass) places made) c.deref_mut.ensures.value on_stack in
     let left = subst (λ new. RangeLeft r.stack.value new made c.left.result.0 c.left.result.1) (with_items_is r.values places (omega arith)) c.left.ensures in
     (places, made, tried, left)

@@ -1,0 +1,82 @@
+//! Counts of a queue's values.
+ghost use Rattle.bounded_model.specs.declared.answers.Stepped.TheVariants.{Done};
+ghost use Rattle.lockfree_c.specs.Held.{
+  CountLeft,
+  CountWentOn,
+  IsHeld,
+  IsQueueCount,
+  IsQueuePass,
+  QueueCounted,
+};
+
+use crate::answers::{Answer, BUSY, OK, UNDER_WAY};
+use crate::held::{Held, QueueCount, QueuePass};
+use crate::stage::Stage;
+use bounded_model::Stepped;
+use ms_queue::{LenOp, Pass, Queue};
+use std::alloc::Global;
+use std::sync::Arc;
+
+// How many steps a count makes where no value is taken, and after each look that found one taken.
+const LOADS: u64 = 4;
+
+// How many steps so many tries are.
+fn steps_for(tries: u64) -> u64 {
+    tries.saturating_mul(LOADS).saturating_add(LOADS)
+}
+
+// What is held once a count was tried, and the answer.
+fn left(queue: Arc<Queue<u64>, Global>, made: Stepped<LenOp<u64>, Pass<u64>, u64>) -> (Held, Answer)
+    ensures { CountLeft queue.value made result.0 result.1 }
+{
+    match made {
+        Stepped::Again(op) => (Held::QueueCount(QueueCount { queue, op }), Answer::of(BUSY)),
+        Stepped::Done(by, count) => {
+            let stage = Stage::of(by, 0);
+            let pass = QueuePass { queue, stage };
+            (Held::QueuePass(pass), Answer::with(OK, count))
+        }
+    }
+}
+
+impl QueuePass {
+    /// A count of the values; where the pass is in a call already, nothing.
+    pub fn count(self, tries: u64) -> (Held, Answer)
+        requires { IsQueuePass self }
+        ensures of { IsHeld result.0 }
+        ensures gives { QueueCounted self result.0 result.1 }
+    {
+        let QueuePass { queue, stage } = self;
+        let Stage {
+            resting,
+            under_way,
+            number,
+        } = stage;
+        let Some(by) = resting else {
+            let stage = Stage {
+                resting: None,
+                under_way,
+                number,
+            };
+            let pass = QueuePass { queue, stage };
+            return (Held::QueuePass(pass), Answer::of(UNDER_WAY));
+        };
+        match queue.len_at_once(by) {
+            Stepped::Done(by, count) => left(queue, Stepped::Done(by, count)),
+            Stepped::Again(op) => QueueCount { queue, op }.go_on(tries),
+        }
+    }
+}
+
+impl QueueCount {
+    /// Goes on with the count until its end, or until the tries are used up.
+    pub fn go_on(self, tries: u64) -> (Held, Answer)
+        requires { IsQueueCount self }
+        ensures of { IsHeld result.0 }
+        ensures gives { CountWentOn self result.0 result.1 }
+    {
+        let QueueCount { queue, op } = self;
+        let made = op.run_for(&queue, steps_for(tries));
+        left(queue, made)
+    }
+}
