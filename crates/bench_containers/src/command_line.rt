@@ -22,7 +22,8 @@ gives 50 spin hints and then yields.
 Work is a loop of multiplications, each of which needs the one before. How many make so many
 nanoseconds is found at the start by the clock: the shortest of 30 trials counts.
 
-The ring is the kit's crossbeam_queue::ArrayQueue, to compare with; a flag beside it closes it.
+An array-queue is the kit's crossbeam_queue::ArrayQueue, to compare with; a flag beside it closes
+it.
 
 Without arguments a short run is made of each, and no time is printed.
 
@@ -49,7 +50,7 @@ fn kind<'a>(alloc: Global) -> Arg<'a> {
     Arg::new(alloc, "kind")
         .long("kind")
         .value_name("KIND")
-        .value_parser(["stack", "queue", "ring"].as_slice())
+        .value_parser(["stack", "queue", "ring", "array-queue"].as_slice())
         .default_value("stack")
         .help("Which container")
 }

@@ -4,10 +4,10 @@
 //! in turn. `--help` tells the words; without words it makes short runs and prints no time.
 #![tactic(auto)]
 
+mod array_queue;
 mod command_line;
 mod fault;
 mod measure;
-mod ring;
 mod run;
 
 use crate::command_line::command_line;
@@ -64,7 +64,8 @@ fn bench<R: Env + Print + Clock + AllocGlobal + Threads + Wait + Sync>(
     if words.len() < 2 {
         try_out(rt, Kind::Stack)?;
         try_out(rt, Kind::Queue)?;
-        return try_out(rt, Kind::Ring);
+        try_out(rt, Kind::Ring)?;
+        return try_out(rt, Kind::ArrayQueue);
     }
     let mut texts = Vec::new(rt.alloc());
     for word in &words {

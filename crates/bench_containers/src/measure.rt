@@ -2,14 +2,15 @@
 
 ghost use Rattle.std.specs.Prelude.{All, IfOk};
 
+use crate::array_queue::{AnyThread, ArrayPool};
 use crate::fault::BenchFault;
-use crate::ring::{AnyThread, Ring};
 use crate::run::{Kind, Run};
 use bench_work::{
     Load, Meter, Percentiles, Pool, Tally, Timed, Untimed, Work, Worker, send_alone, send_through,
 };
 use bounded_model::Container;
 use ms_queue::Queue;
+use ring_queue::{MAX_LAPS, RingLimits, RingQueue};
 use std::alloc::Global;
 use std::sync::Wait;
 use std::thread::Threads;
@@ -68,8 +69,8 @@ fn workers<C: Container<u64>, M: Meter>(
     Ok(all)
 }
 
-// The same for a ring.
-fn ring_workers<M: Meter>(
+// The same for an array queue.
+fn free_workers<M: Meter>(
     alloc: Global,
     count: u32,
 ) -> Result<Vec<Worker<AnyThread, M>>, BenchFault> {
@@ -157,23 +158,33 @@ fn send_by_passes<C: Container<u64> + Sync, M: Meter + Send, R: Threads + Wait +
     send(rt, alloc, &container, team, load, work)
 }
 
-// The same through a ring.
-fn send_by_ring<M: Meter + Send, R: Threads + Wait + Clock + Sync>(
+// The same through an array queue.
+fn send_freely<M: Meter + Send, R: Threads + Wait + Clock + Sync>(
     rt: &R,
     alloc: Global,
-    ring: Ring,
+    array: ArrayPool,
     load: &Load,
     work: Work,
 ) -> Result<(Tally, u64), BenchFault> {
     let team = Team {
-        producers: ring_workers::<M>(alloc, load.producers)?,
-        consumers: ring_workers::<M>(alloc, load.consumers)?,
+        producers: free_workers::<M>(alloc, load.producers)?,
+        consumers: free_workers::<M>(alloc, load.consumers)?,
         last: Worker {
             pass: AnyThread,
             meter: M::new(alloc)?,
         },
     };
-    send(rt, alloc, &ring, team, load, work)
+    send(rt, alloc, &array, team, load, work)
+}
+
+// A ring of the run's capacity, with as many laps as may be, and a pass for each thread and one more.
+fn ring_limits(run: &Run) -> Result<RingLimits, BenchFault> {
+    let passes = run
+        .load
+        .producers
+        .saturating_add(run.load.consumers)
+        .saturating_add(1);
+    RingLimits::of(run.limits.capacity(), MAX_LAPS, passes).ok_or(BenchFault::Range)
 }
 
 // The same through a new container of the run's kind.
@@ -193,8 +204,12 @@ fn send_new<M: Meter + Send, R: Threads + Wait + Clock + Sync>(
             send_by_passes::<Queue<u64>, M, R>(rt, alloc, queue, root, &run.load, work)
         }
         Kind::Ring => {
-            let ring = Ring::new(alloc, run.limits.capacity())?;
-            send_by_ring::<M, R>(rt, alloc, ring, &run.load, work)
+            let (ring, root) = RingQueue::new(alloc, ring_limits(run)?)?;
+            send_by_passes::<RingQueue<u64>, M, R>(rt, alloc, ring, root, &run.load, work)
+        }
+        Kind::ArrayQueue => {
+            let array = ArrayPool::new(alloc, run.limits.capacity())?;
+            send_freely::<M, R>(rt, alloc, array, &run.load, work)
         }
     }
 }

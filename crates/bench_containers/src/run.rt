@@ -13,8 +13,9 @@ const TAG_LIMIT: u64 = (1 << 42) - 1;
 pub enum Kind {
     Stack,
     Queue,
-    /// The kit's `crossbeam_queue::ArrayQueue`, to compare with.
     Ring,
+    /// The kit's `crossbeam_queue::ArrayQueue`, to compare with.
+    ArrayQueue,
 }
 
 impl Kind {
@@ -24,6 +25,7 @@ impl Kind {
             "stack" => Ok(Kind::Stack),
             "queue" => Ok(Kind::Queue),
             "ring" => Ok(Kind::Ring),
+            "array-queue" => Ok(Kind::ArrayQueue),
             _ => Err(BenchFault::Range),
         }
     }
@@ -33,6 +35,7 @@ impl Kind {
             Kind::Stack => "stack",
             Kind::Queue => "queue",
             Kind::Ring => "ring",
+            Kind::ArrayQueue => "array-queue",
         }
     }
 }

@@ -2,6 +2,7 @@ ghost use Rattle.std.specs.Prelude.{IfSome};
 ghost use Rattle.bounded_model.specs.Laws.{PutGives, TakeGives};
 
 use bounded_model::{Container, PutRefused, Stepped, Stepwise, TakeRefused};
+use ring_queue::{RingLimits, RingQueue};
 use tagged_index::{Limits, MAX_TAG};
 use treiber_stack::Stack;
 
@@ -61,6 +62,23 @@ fn steps_of_any_container_are_counted(rt: HostRuntime) {
     assert_eq!(rt; (answer, steps), (Ok((7, 1)), 6));
     let (_, answer, steps) = take_by_steps(&stack, pass).expect(&rt, "a take");
     assert_eq!(rt; (answer, steps), (Err(TakeRefused::Empty), 1));
+}
+
+// A refused put lays its cell back by one step more, and each position that was put or taken already
+// is one load more.
+#[test]
+fn steps_of_a_ring_are_counted(rt: HostRuntime) {
+    let limits = RingLimits::of(1, 9, 2).expect(&rt, "limits");
+    let (ring, mut root) = RingQueue::<u32>::new(rt.alloc(), limits).expect(&rt, "memory");
+    let pass = ring.split(&mut root).expect(&rt, "a pass");
+    let (pass, answer, steps) = put_by_steps(&ring, pass, 7).expect(&rt, "a put");
+    assert_eq!(rt; (answer, steps), (Ok(0), 3));
+    let (pass, answer, steps) = put_by_steps(&ring, pass, 8).expect(&rt, "a put");
+    assert_eq!(rt; (answer, steps), (Err(PutRefused::Full(8)), 4));
+    let (pass, answer, steps) = take_by_steps(&ring, pass).expect(&rt, "a take");
+    assert_eq!(rt; (answer, steps), (Ok((7, 0)), 4));
+    let (_, answer, steps) = take_by_steps(&ring, pass).expect(&rt, "a take");
+    assert_eq!(rt; (answer, steps), (Err(TakeRefused::Empty), 3));
 }
 
 #[test]

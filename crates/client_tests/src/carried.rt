@@ -1,5 +1,6 @@
 use ms_queue::Queue;
 use one_way::{Carried, carry_all};
+use ring_queue::{RingLimits, RingQueue};
 use std::alloc::Global;
 use std::collections::VecDeque;
 use std::process::Abort;
@@ -38,6 +39,20 @@ fn carried_in_order<R: Abort + AllocGlobal + Wait>(
     carry_all(rt, alloc, queue, root, items).expect(rt, "memory")
 }
 
+/// The same over a ring, each of whose slots can be filled so many times.
+fn carried_round<R: Abort + AllocGlobal + Wait>(
+    rt: &R,
+    capacity: u32,
+    laps: u64,
+    count: u32,
+) -> Carried<u32> {
+    let alloc = rt.alloc();
+    let limits = RingLimits::of(capacity, laps, 2).expect(rt, "limits");
+    let (ring, root) = RingQueue::new(alloc, limits).expect(rt, "memory");
+    let items = items(rt, alloc, count);
+    carry_all(rt, alloc, ring, root, items).expect(rt, "memory")
+}
+
 #[test]
 fn a_stack_carries_all_items_from_the_top(rt: HostRuntime) {
     let carried = carried(&rt, 4, 4);
@@ -59,6 +74,16 @@ fn items_without_room_are_handed_back_in_order(rt: HostRuntime) {
 #[test]
 fn a_queue_carries_items_in_their_order(rt: HostRuntime) {
     let mut carried = carried_in_order(&rt, 3, 5);
+    assert_eq!(rt; carried.taken.as_slice(), [0, 1, 2].as_slice());
+    assert!(rt; carried.left.is_empty());
+    assert_eq!(rt; carried.unsent.pop_front(), Some(3));
+    assert_eq!(rt; carried.unsent.pop_front(), Some(4));
+    assert_eq!(rt; carried.unsent.pop_front(), None);
+}
+
+#[test]
+fn a_ring_carries_items_in_their_order(rt: HostRuntime) {
+    let mut carried = carried_round(&rt, 3, 1, 5);
     assert_eq!(rt; carried.taken.as_slice(), [0, 1, 2].as_slice());
     assert!(rt; carried.left.is_empty());
     assert_eq!(rt; carried.unsent.pop_front(), Some(3));

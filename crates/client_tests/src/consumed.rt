@@ -2,6 +2,7 @@
 
 use bounded_model::{Container, Order, PutRefused, TakeRefused, consume_all, consume_one};
 use ms_queue::Queue;
+use ring_queue::{RingLimits, RingQueue};
 use std::process::Abort;
 use std::sync::Wait;
 use tagged_index::{Limits, MAX_TAG};
@@ -48,6 +49,8 @@ impl<T, C: Container<T>> Container<T> for Counting<C> {
     ghost told = { C.told };
 
     ghost order_law = { λ c. C.order_law c.inner };
+
+    ghost passes_law = { λ c. C.passes_law c.inner };
 
     ghost pass_law = { λ c p is. C.pass_law c.inner p.pass is };
 
@@ -171,4 +174,11 @@ fn no_take_follows_a_refusal_by_a_queue(rt: HostRuntime) {
     let limits = Limits::of(3, MAX_TAG).expect(&rt, "limits");
     let (queue, root) = Queue::<u32>::new(rt.alloc(), limits).expect(&rt, "memory");
     tries_no_take_after_a_refusal(&rt, queue, root);
+}
+
+#[test]
+fn no_take_follows_a_refusal_by_a_ring(rt: HostRuntime) {
+    let limits = RingLimits::of(3, 9, 2).expect(&rt, "limits");
+    let (ring, root) = RingQueue::<u32>::new(rt.alloc(), limits).expect(&rt, "memory");
+    tries_no_take_after_a_refusal(&rt, ring, root);
 }

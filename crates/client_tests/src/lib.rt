@@ -1,6 +1,7 @@
 //! Code that knows a container by its traits alone: calls made by single steps, ranges and folds,
-//! run over the stack, and the carry of items from one pass to another, over the queue as well. And
-//! how many takes a consuming call tries, which a container made for that counts.
+//! run over the stack, and the steps over the ring as well; the carry of items from one pass to
+//! another, over each container. And how many takes a consuming call tries, which a container made
+//! for that counts.
 #![tactic(auto)]
 
 #[cfg(test)]

@@ -1,4 +1,4 @@
-//! The tests of every container, each at the queue and at the stack.
+//! The tests of every container, each at the queue, at the stack and at the ring.
 
 use crate::drops::{self, half_read, in_use};
 use crate::fills::{
@@ -8,6 +8,7 @@ use crate::made::Made;
 use crate::steps::{Steps, dropped_late_puts, dropped_puts, dropped_takes, ended_at_their_last};
 use bounded_model::Order;
 use ms_queue::Queue;
+use ring_queue::RingQueue;
 use std::alloc::Global;
 use std::process::Abort;
 use std::sync::{Arc, Wait};
@@ -66,6 +67,11 @@ fn numbers_go_through_a_stack(rt: HostRuntime) {
     numbers_go_through::<Stack<u64>, HostRuntime>(&rt, rt.alloc());
 }
 
+#[test]
+fn numbers_go_through_a_ring(rt: HostRuntime) {
+    numbers_go_through::<RingQueue<u64>, HostRuntime>(&rt, rt.alloc());
+}
+
 // Values that were taken, that are in use, and that are left.
 fn values_are_dropped<C: Made<Arc<u8>>, R: Abort + Wait>(rt: &R, alloc: Global) {
     drops::each_value_once::<C, R>(rt, alloc);
@@ -83,8 +89,14 @@ fn values_of_a_stack_are_dropped_once(rt: HostRuntime) {
     values_are_dropped::<Stack<Arc<u8>>, HostRuntime>(&rt, rt.alloc());
 }
 
+#[test]
+fn values_of_a_ring_are_dropped_once(rt: HostRuntime) {
+    values_are_dropped::<RingQueue<Arc<u8>>, HostRuntime>(&rt, rt.alloc());
+}
+
 const OF_A_QUEUE: Steps = Steps {
     put: 14,
+    kept: 3,
     take: 12,
     taken: 6,
     closed: 12,
@@ -94,11 +106,22 @@ const OF_A_QUEUE: Steps = Steps {
 
 const OF_A_STACK: Steps = Steps {
     put: 6,
+    kept: 3,
     take: 6,
     taken: 3,
     closed: 3,
     back: 1,
     refused: 4,
+};
+
+const OF_A_RING: Steps = Steps {
+    put: 3,
+    kept: 1,
+    take: 4,
+    taken: 3,
+    closed: 2,
+    back: 2,
+    refused: 3,
 };
 
 #[test]
@@ -109,6 +132,11 @@ fn a_put_and_a_take_of_a_queue_make_their_steps(rt: HostRuntime) {
 #[test]
 fn a_put_and_a_take_of_a_stack_make_their_steps(rt: HostRuntime) {
     ended_at_their_last::<Stack<u32>, HostRuntime>(&rt, rt.alloc(), OF_A_STACK);
+}
+
+#[test]
+fn a_put_and_a_take_of_a_ring_make_their_steps(rt: HostRuntime) {
+    ended_at_their_last::<RingQueue<u32>, HostRuntime>(&rt, rt.alloc(), OF_A_RING);
 }
 
 // Values of calls that are dropped between two steps.
@@ -126,4 +154,9 @@ fn values_of_dropped_calls_of_a_queue_are_dropped_once(rt: HostRuntime) {
 #[test]
 fn values_of_dropped_calls_of_a_stack_are_dropped_once(rt: HostRuntime) {
     values_of_dropped_calls::<Stack<Arc<u8>>, HostRuntime>(&rt, rt.alloc(), OF_A_STACK);
+}
+
+#[test]
+fn values_of_dropped_calls_of_a_ring_are_dropped_once(rt: HostRuntime) {
+    values_of_dropped_calls::<RingQueue<Arc<u8>>, HostRuntime>(&rt, rt.alloc(), OF_A_RING);
 }

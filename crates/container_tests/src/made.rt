@@ -4,6 +4,7 @@ ghost use Rattle.std.specs.Prelude.{IfOk};
 
 use bounded_model::{MakeRefused, Stepwise};
 use ms_queue::{self, Queue};
+use ring_queue::{self, RingLimits, RingQueue};
 use std::alloc::Global;
 use std::process::Abort;
 use tagged_index::{Limits, MAX_TAG};
@@ -27,6 +28,21 @@ impl<T: Drop + Send> Made<T> for Stack<T> {
         limits: Limits,
     ) -> Result<(Stack<T>, treiber_stack::Root<T>), MakeRefused> {
         Stack::new(alloc, limits)
+    }
+}
+
+/// More passes than a test has.
+const PASSES: u32 = 16;
+
+impl<T: Drop + Send> Made<T> for RingQueue<T> {
+    fn made(
+        alloc: Global,
+        limits: Limits,
+    ) -> Result<(RingQueue<T>, ring_queue::Root<T>), MakeRefused> {
+        match RingLimits::of(limits.capacity(), limits.tag_limit() / 2, PASSES) {
+            Some(limits) => RingQueue::new(alloc, limits),
+            None => Err(MakeRefused::NoMemory),
+        }
     }
 }
 

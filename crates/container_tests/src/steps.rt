@@ -10,8 +10,10 @@ use std::sync::{Arc, Wait};
 /// How many steps the calls of a container make where nobody interferes.
 #[derive(Clone, Copy)]
 pub(crate) struct Steps {
-    /// Those of a put, which has its value in a cell from its third step on.
+    /// Those of a put, ..
     pub(crate) put: u32,
+    /// .. and of these, those until its value is in a cell.
+    pub(crate) kept: u32,
     /// Those of a take, ..
     pub(crate) take: u32,
     /// .. and of these, those until it has its value.
@@ -86,13 +88,13 @@ pub(crate) fn ended_at_their_last<C: Made<u32>, R: Abort>(rt: &R, alloc: Global,
 }
 
 // A put is dropped after so many steps.
-fn dropped_put<C: Made<Arc<u8>>, R: Abort>(rt: &R, alloc: Global, made: u32) {
+fn dropped_put<C: Made<Arc<u8>>, R: Abort>(rt: &R, alloc: Global, steps: Steps, made: u32) {
     let value = Arc::new(alloc, 7u8).expect(rt, "memory");
     let (container, mut root) = with_room::<Arc<u8>, C, R>(rt, alloc, 2);
     let pass = container.split(&mut root).expect(rt, "a pass");
     let begun = container.begin_put(pass, Arc::try_clone(&value).expect(rt, "a clone"));
     drop(go_on_putting(rt, &container, begun, made));
-    let owners = if made < 3 { 1 } else { 2 };
+    let owners = if made < steps.kept { 1 } else { 2 };
     assert_eq!(rt; Arc::strong_count(&value), owners);
     drop(root);
     drop(container);
@@ -139,7 +141,7 @@ fn dropped_late_put<C: Made<Arc<u8>>, R: Abort + Wait>(
 /// A put that is dropped between any two steps drops its value once.
 pub(crate) fn dropped_puts<C: Made<Arc<u8>>, R: Abort>(rt: &R, alloc: Global, steps: Steps) {
     for made in 0..steps.put {
-        dropped_put::<C, R>(rt, alloc, made);
+        dropped_put::<C, R>(rt, alloc, steps, made);
     }
 }
 

@@ -1,5 +1,5 @@
-//! What a stack has beside puts and takes: a range, folds, single steps, two passes that meet, and a
-//! note that one makes for the other.
+//! What a stack has beside puts and takes: a range, folds, single steps, two passes that meet, a note
+//! that one makes for the other, and a gauge.
 #![tactic(auto)]
 
 ghost use Rattle.std.specs.Prelude.{IfOk, IfSome};
@@ -109,7 +109,9 @@ fn calls<R: AllocGlobal + Print + Wait>(rt: &R) -> Result<(), Fault> {
     let (first, again) = stack.shut(rt, first);
     let (second, refused) = stack.take(rt, second);
     let (first, empty) = stack.is_empty(first);
+    let (first, gauge) = stack.gauge(first);
     println!(rt; "consumed {taken:?}, shut {shut} {again}, take {refused:?}, empty {empty}")?;
+    println!(rt; "{gauge:?}")?;
     stack.join(&mut root, first);
     stack.join(&mut root, second);
     Ok(())

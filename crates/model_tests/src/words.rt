@@ -59,6 +59,12 @@ fn limits_are_made_in_range_alone(rt: HostRuntime) {
         let limits = Limits::of(capacity, tag_limit).expect(&rt, "in range");
         assert_eq!(rt; limits.capacity(), capacity);
         assert_eq!(rt; limits.tag_limit(), tag_limit);
+        assert_eq!(rt; limits.passes(), 65_535);
+        let few = limits.for_passes(3);
+        assert_eq!(rt;
+            (few.capacity(), few.tag_limit(), few.passes()),
+            (capacity, tag_limit, 3)
+        );
     }
     for (capacity, tag_limit) in [(0, 2), (1_048_574, 2), (1, 1), (1, 4_398_046_511_104)] {
         assert_eq!(rt; Limits::of(capacity, tag_limit), None);

@@ -5,6 +5,7 @@ ghost use Rattle.relay.specs.Messages.{AreInputsFrom};
 
 use ms_queue::Queue;
 use relay::{Gate, Message, Plan, RelayFault, Relayed, numbered, run, run_freely};
+use ring_queue::{RingLimits, RingQueue};
 use std::process::Abort;
 use std::sync::Wait;
 use std::thread::Threads;
@@ -19,10 +20,11 @@ pub(crate) const MOST: u64 = MAX_TAG;
 pub(crate) enum Kind {
     Queue,
     Stack,
+    Ring,
 }
 
 /// Each kind.
-pub(crate) const KINDS: [Kind; 2] = [Kind::Queue, Kind::Stack];
+pub(crate) const KINDS: [Kind; 3] = [Kind::Queue, Kind::Stack, Kind::Ring];
 
 /// So many consumers, and nothing else asked for.
 pub(crate) fn plan(consumers: u32) -> Plan {
@@ -71,6 +73,7 @@ pub(crate) fn relay_over<G: Gate + Sync, R: Abort + AllocGlobal + Threads + Wait
     match kind {
         Kind::Queue => through_a_queue(rt, limits, inputs, plan, gate),
         Kind::Stack => through_a_stack(rt, limits, inputs, plan, gate),
+        Kind::Ring => through_a_ring(rt, limits, inputs, plan, gate),
     }
 }
 
@@ -122,6 +125,26 @@ fn through_a_stack<G: Gate + Sync, R: AllocGlobal + Threads + Wait + Sync>(
 {
     match Stack::<Message>::new(rt.alloc(), limits) {
         Ok((stack, root)) => run(rt, rt.alloc(), stack, root, inputs, plan, gate),
+        Err(_) => Err(RelayFault::NoMemory),
+    }
+}
+
+fn through_a_ring<G: Gate + Sync, R: AllocGlobal + Threads + Wait + Sync>(
+    rt: &R,
+    limits: Limits,
+    inputs: Vec<Vec<Message>>,
+    plan: Plan,
+    gate: &G,
+) -> Result<Relayed, RelayFault>
+    requires consumers { 1 ≤ plan.consumers }
+    requires numbered { AreInputsFrom 0 inputs.items }
+{
+    let Some(limits) = RingLimits::of(limits.capacity(), limits.tag_limit() / 2, limits.passes())
+    else {
+        return Err(RelayFault::TooSmall);
+    };
+    match RingQueue::<Message>::new(rt.alloc(), limits) {
+        Ok((ring, root)) => run(rt, rt.alloc(), ring, root, inputs, plan, gate),
         Err(_) => Err(RelayFault::NoMemory),
     }
 }

@@ -30,25 +30,41 @@ fn keeps<R: Abort + AllocGlobal>(rt: &R, relayed: &Relayed, left: &[u32]) {
 
 // The tags allow two puts. What is left and unsent shows that the messages go through the
 // container.
-fn keeps_what_it_has<R: Abort + AllocGlobal + Threads + Wait + Sync>(rt: &R, kind: Kind) {
+fn keeps_what_it_has<R: Abort + AllocGlobal + Threads + Wait + Sync>(
+    rt: &R,
+    kind: Kind,
+    left: &[u32],
+) {
     let takes_none = Plan {
         take: Some(0),
         ..plan(1)
     };
     let relayed = relay_over(rt, kind, (4, 2), &[3], takes_none, &FreeGate).expect(rt, "a relay");
     assert_eq!(rt; relayed.delivered.len(), 0);
-    let left = match kind {
-        Kind::Queue => [0u32, 1],
-        Kind::Stack => [1, 0],
-    };
-    keeps(rt, &relayed, left.as_slice());
+    keeps(rt, &relayed, left);
 }
 
 #[test]
 fn a_spent_container_keeps_what_it_has(rt: HostRuntime) {
-    for kind in KINDS {
-        keeps_what_it_has(&rt, kind);
+    keeps_what_it_has(&rt, Kind::Queue, &[0, 1]);
+    keeps_what_it_has(&rt, Kind::Stack, &[1, 0]);
+}
+
+// Each slot can be filled once. The third put finds the first slot full, and once its message is
+// taken, finds it worn.
+#[test]
+fn a_spent_ring_keeps_what_it_has(rt: HostRuntime) {
+    let takes_one = Plan {
+        take: Some(1),
+        ..plan(1)
+    };
+    let relayed = relay_over(&rt, Kind::Ring, (2, 2), &[3], takes_one, &FreeGate);
+    let relayed = relayed.expect(&rt, "a relay");
+    assert_eq!(rt; relayed.delivered.len(), 1);
+    for taken in &relayed.delivered {
+        assert_eq!(rt; taken.message.seq, 0);
     }
+    keeps(&rt, &relayed, &[1]);
 }
 
 // The tags allow two puts and a take. Two messages fill the stack, and the producer has met that

@@ -1,4 +1,4 @@
-//! Each test, at the queue and at the stack.
+//! Each test, at the queue, at the stack and at the ring.
 
 ghost use Rattle.std.specs.Prelude.{IfOk};
 
@@ -7,6 +7,7 @@ use crate::passes::all_passes;
 use crate::together::{Through, all_through, put_beside_take, take_beside_put};
 use bounded_model::{Container, MakeRefused};
 use ms_queue::{self, Queue};
+use ring_queue::{self, RingLimits, RingQueue};
 use std::alloc::Global;
 use std::process::Abort;
 use std::sync::Wait;
@@ -36,6 +37,18 @@ impl Made for Stack<u32> {
         limits: Limits,
     ) -> Result<(Stack<u32>, treiber_stack::Root<u32>), MakeRefused> {
         Stack::new(alloc, limits)
+    }
+}
+
+impl Made for RingQueue<u32> {
+    fn made(
+        alloc: Global,
+        limits: Limits,
+    ) -> Result<(RingQueue<u32>, ring_queue::Root<u32>), MakeRefused> {
+        match RingLimits::of(limits.capacity(), limits.tag_limit() / 2, limits.passes()) {
+            Some(limits) => RingQueue::new(alloc, limits),
+            None => Err(MakeRefused::NoMemory),
+        }
     }
 }
 
@@ -104,6 +117,12 @@ fn calls_of_a_stack_wait(rt: HostRuntime) {
 }
 
 #[test]
+fn calls_of_a_ring_wait(rt: HostRuntime) {
+    let through = calls_wait::<RingQueue<u32>, HostRuntime>(&rt, rt.alloc());
+    assert!(rt; through.in_order);
+}
+
+#[test]
 fn calls_of_a_queue_stop(rt: HostRuntime) {
     calls_stop::<Queue<u32>, HostRuntime>(&rt, rt.alloc());
 }
@@ -111,4 +130,9 @@ fn calls_of_a_queue_stop(rt: HostRuntime) {
 #[test]
 fn calls_of_a_stack_stop(rt: HostRuntime) {
     calls_stop::<Stack<u32>, HostRuntime>(&rt, rt.alloc());
+}
+
+#[test]
+fn calls_of_a_ring_stop(rt: HostRuntime) {
+    calls_stop::<RingQueue<u32>, HostRuntime>(&rt, rt.alloc());
 }

@@ -1,4 +1,4 @@
-//! Tests of the calls that wait, over both containers: that they try again and wait for another
+//! Tests of the calls that wait, over each container: that they try again and wait for another
 //! thread, what a stop hands back, and passes for many.
 #![tactic(auto)]
 

@@ -1,4 +1,4 @@
-//! The kit's ring, as the threads of a run call it.
+//! The kit's array queue, as the threads of a run call it.
 
 ghost use Rattle.std.specs.Prelude.{◌<◌, ⊤};
 
@@ -9,29 +9,30 @@ use std::alloc::{AllocError, Global};
 use std::sync::Wait;
 use std::sync::atomic::{AtomicBool, Ordering};
 
-/// A ring with a flag beside it, since a ring cannot be closed. It numbers no calls: each answers 0.
+/// An array queue with a flag beside it, since it cannot be closed. It numbers no calls: each answers
+/// 0.
 #[derive(Drop)]
-pub struct Ring {
+pub struct ArrayPool {
     items: ArrayQueue<u64>,
     closed: AtomicBool,
 }
 
-/// A thread's leave to call a ring: any thread has it.
+/// A thread's leave to call an array queue: any thread has it.
 #[derive(Drop)]
 pub struct AnyThread;
 
-impl Ring {
-    pub fn new(alloc: Global, capacity: u32) -> Result<Ring, AllocError>
+impl ArrayPool {
+    pub fn new(alloc: Global, capacity: u32) -> Result<ArrayPool, AllocError>
         requires { 0 < capacity }
     {
-        Ok(Ring {
+        Ok(ArrayPool {
             items: ArrayQueue::new(alloc, capacity as usize)?,
             closed: AtomicBool::new(false),
         })
     }
 }
 
-impl Pool for Ring {
+impl Pool for ArrayPool {
     type Pass = AnyThread;
 
     ghost is_pass = { λ _ _. ⊤ };
