@@ -59,8 +59,8 @@ public:
 template <class T> using bounded_queue = queue<T, fixed_sized<true>>;
 template <class T> using bounded_stack = stack<T, fixed_sized<true>>;
 
-/// A container with room for so many values, for programs without exceptions. Null if there is no memory, or if the
-/// capacity is not 1 to 1,048,573.
+/// Makes a container whose capacity is `room`, for programs without exceptions. Returns null if there is no memory, or if
+/// `room` is not 1 to 1,048,573.
 template <class Container> std::unique_ptr<Container> make(std::size_t room, tag_limit limit = {detail::greatest_tag}) noexcept {
     return detail::make<Container>(room, limit);
 }

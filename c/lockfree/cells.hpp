@@ -85,7 +85,7 @@ public:
         return code == LOCKFREE_OK ? add(3, by) : code;
     }
 
-    /// Makes the cells for so many values. OK, NO_MEMORY.
+    /// Makes cells for a capacity of `values`. Returns OK or NO_MEMORY.
     std::uint32_t add_for(std::size_t values, cells_at_hand &by) noexcept {
         return layout.chain == 0 ? std::uint32_t{LOCKFREE_OK} : add(chains_for(values), by);
     }

@@ -119,8 +119,8 @@ public:
     const std::uint32_t code;
 };
 
-/// A seat out of its place, for one fold: what the fold's function calls goes by another one, which comes to the place
-/// meanwhile, and goes back when the fold ends.
+/// Takes a seat out of its place during one fold. If the fold's function calls the container, that call finds the place
+/// empty and puts another seat there. That one goes back when the fold ends.
 class lent {
 public:
     lent(core &from, seat *&its_place) noexcept : of(from), place(its_place), by(std::exchange(its_place, nullptr)) {}

@@ -122,7 +122,7 @@ impl<T> Made<T> {
         self.chains = chains;
         for first in (0..count as usize).map(|k| k * length) {
             let chain = (first..first + length).rev().fold(None, |next, i| {
-                // SAFETY: the block has so many cells, and they are this call's alone.
+                // SAFETY: `i` is below the length of the block, and no other call has it.
                 let at = unsafe { block.at.add(i) };
                 // SAFETY: as above.
                 unsafe { at.write(Cell { next }) };

@@ -254,8 +254,8 @@ impl<T, K> Pass<T, K> {
     }
 
     /// Which part of the container's life has gone, 0 to 1. A container has numbers for 2^42 - 2 pushes of a queue, or
-    /// 2^42 - 1 pushes and pops of a stack; then each push is `Spent`. That takes more than a day of calls without a pause, so
-    /// a program that makes so many replaces its container in time. The part is known from the pushes' numbers: it is behind
+    /// 2^42 - 1 pushes and pops of a stack; then each push is `Spent`. That takes more than a day of calls without a pause.
+    /// A program that runs for so long replaces its container before. The part is known from the pushes' numbers: it is behind
     /// by 256 pushes at most, and by a stack's pops since its last push.
     ///
     /// ```
