@@ -1,5 +1,5 @@
 -- The queue's laws, of the acts that led to a table.
-use Rattle.std.proofs.Common.{◌≡◌, ℕ, ◌<◌, false, ◌∷◌, refl, arith}
+use Rattle.std.proofs.Common.{◌≡◌, ℕ, ◌<◌, false, ◌∷◌, ◌++◌, refl, arith}
 use Rattle.std.specs.List.{AllByRecursion as Every}
 use Rattle.tagged_index.specs.declared.word.TheConstants.{NULL}
 use Rattle.machine.specs.Seats.{Acts}
@@ -20,7 +20,7 @@ use Rattle.running.specs.Acts.{Begins, Course, IsAllowed}
 use Rattle.runs.specs.Runs.{schedule_of, IsRunning}
 use Rattle.runs.specs.Heard.{IsLinearizable}
 use Rattle.queue_runs.specs.Bounded.{call_at, state_after, IsBounded}
-use Rattle.runs.proofs.Underway.{steps_are_own}
+use Rattle.runs.proofs.Underway.{steps_are_own, later_are_own}
 use Rattle.runs.proofs.Heard.{passes_of, all_below, linearizable_acts}
 
 module _ {T : Type 0} where
@@ -53,5 +53,12 @@ module _ {T : Type 0} where
             arith,
             queue_overtaken n limit x s (schedule_of call_at k.since) (meets passes ((x, Begins first) ∷ before)),
             steps_are_own (on_table T n limit) (queue (shape n limit)) call_at (running n limit) x before now first l k passes low busy,
+          );
+      from_any_point = λ later earlier cut passes low.
+          let s : State T = state_after n limit passes (earlier ++ (x, Begins first) ∷ before) in
+          omega (
+            arith,
+            queue_overtaken n limit x s (schedule_of call_at later) (meets passes (earlier ++ (x, Begins first) ∷ before)),
+            later_are_own (on_table T n limit) (queue (shape n limit)) call_at (running n limit) x before now first l k passes low later earlier cut busy,
           );
     }

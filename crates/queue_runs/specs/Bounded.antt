@@ -30,9 +30,11 @@ module _ {T : Type 0} where
     state_after passes acts = after (queue (shape n limit)) passes (schedule_of call_at acts)
 
     -- Pass x in an operation with this first line, by the acts as it was begun and those by now: since then it has made so many steps, and so many exchanges of others
-    -- have succeeded. The machine that ran as the passes did says which succeeded
+    -- have succeeded. The machine that ran as the passes did says which succeeded. The same bound holds of the steps from any point of the operation on
     pub record IsBounded (before now : Acts (Line T)) (x : ℕ) (first : Line T) : Type 0 where
       pub since : Acts (Line T)
       pub is : now ≡ since ++ (x, Begins first) ∷ before
       pub bound : (passes : ℕ) → Below passes now
           → steps_in x since ≤ 20 + 8 * others_win (queue (shape n limit)) x (schedule_of call_at since) (state_after passes ((x, Begins first) ∷ before))
+      pub from_any_point : (later earlier : Acts (Line T)) → since ≡ later ++ earlier → (passes : ℕ) → Below passes now
+          → steps_in x later ≤ 20 + 8 * others_win (queue (shape n limit)) x (schedule_of call_at later) (state_after passes (earlier ++ (x, Begins first) ∷ before))

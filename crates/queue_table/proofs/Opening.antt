@@ -21,6 +21,7 @@ use Rattle.queue_machine.specs.Rule.{Kept}
 use Rattle.queue_machine.proofs.Start.{start_kept}
 use Rattle.running.specs.Rule.{Rule}
 use Rattle.running.proofs.Acts.{led_first}
+use Rattle.running.proofs.Newest.{newest_first}
 use Rattle.running.proofs.Opening.{empties, home_start, home_past, homes_start, first_who, nobody, below_or_not}
 use Rattle.queue_table.specs.Layout.{clink_at, nlink_at, next_at, cell_at, words_for, start_of, start_at, number_at}
 use Rattle.queue_machine.specs.declared.lines.Number.{Number}
@@ -112,6 +113,7 @@ module _ {T : Type 0} (n limit : ℕ) (ws : List ℕ) (some_cell : 0 < n) (small
     history = [];
     good = good;
     seated = seated_first (shape n limit) (core T n limit).holding (Idle None);
+    newest = newest_first T (Idle None);
     sane = record {
       words_are = long;
       homes_are = homes_start T n;

@@ -21,6 +21,7 @@ use Rattle.ring_machine.specs.Rule.{Good}
 use Rattle.ring_machine.proofs.Start.{IsNew, shown_good}
 use Rattle.running.specs.Rule.{Rule}
 use Rattle.running.proofs.Acts.{led_first}
+use Rattle.running.proofs.Newest.{newest_first}
 use Rattle.running.proofs.Opening.{empties, home_start, home_past, homes_start}
 use Rattle.ring_table.specs.declared.line.SeatLine.TheVariants.{Stock}
 use Rattle.ring_table.specs.Layout.{slot_at, spread, words_for, start_slot, start_at}
@@ -94,6 +95,7 @@ module _ (T : Type 0) (n laps passes : ℕ) (ws : List ℕ) (some_slot : 0 < n) 
     history = [];
     good = good;
     seated = seated_first (shape_for T n laps passes) (core T n laps passes).holding (Stock (cells_from n passes));
+    newest = newest_first T (Stock (cells_from n passes));
     sane = record { words_are = long; homes_are = homes_start T (n + passes); plain = λ q. absurd q };
     led = led_first (ring_on T n laps passes) m first_is;
   }

@@ -90,12 +90,12 @@ module _ {T L O : Type 0} {names : Names L O} (m : Machine T L O names) where
         (λ ne. record { seat = o.seat; view = o.view; there = set_other views id o.seat w (λ e. ne (sym e)) ∙ o.there; owns = o.owns })
         (same_or_not o.seat id)
 
-  front_there : (xs ys : List (View T L)) (i : ℕ) (v : View T L) → get_elem? xs i ≡ some v → get_elem? (xs ++ ys) i ≡ some v
+  pub front_there : (xs ys : List (View T L)) (i : ℕ) (v : View T L) → get_elem? xs i ≡ some v → get_elem? (xs ++ ys) i ≡ some v
   front_there [] ys i v e = absurd (some-ne-none v (sym e))
   front_there (x ∷ xs) ys zero v e = e
   front_there (x ∷ xs) ys (suc i) v e = front_there xs ys i v e
 
-  last_there : (xs : List (View T L)) (v : View T L) → get_elem? (xs ++ v ∷ []) (length xs) ≡ some v
+  pub last_there : (xs : List (View T L)) (v : View T L) → get_elem? (xs ++ v ∷ []) (length xs) ≡ some v
   last_there [] v = refl
   last_there (x ∷ xs) v = last_there xs v
 

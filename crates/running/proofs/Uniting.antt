@@ -1,6 +1,6 @@
 -- Which seats may be made one or cut in two, by what passes, roots and notes show of them; and the lines of a container whose passes are all
 -- alike between their operations.
-use Rattle.std.proofs.Common.{◌≡◌, ◌⊎◌, inl, inr, ⊎_elim, ℕ, Bool, List, [], ◌∷◌, ◌++◌, set, sym, ap, ◌∙◌, subst}
+use Rattle.std.proofs.Common.{refl, ◌≡◌, ◌⊎◌, inl, inr, ⊎_elim, ℕ, Bool, List, [], ◌∷◌, ◌++◌, set, sym, ap, ◌∙◌, subst}
 use mathlib.Core.Option.{some}
 use lib.ListN.{get_elem?}
 use Rattle.atomic_table.proofs.Lists.{set_again}
@@ -17,7 +17,7 @@ module _ {T L O : Type 0} {names : Names L O} (m : Machine T L O names) where
 
   module _ (v w : View T L) where
     pub unites_root : (r : RootView T) (out : ℕ) → v ≡ AtRoot r [] (line_in names v) → m.core.IsStock out (line_in names v) → w ≡ at_rest (R (line_in names w)) (pass_of w) → MayUnite m v w
-    unites_root r out ev stock ew = subst (λ (u : View T L). MayUnite m u w) (sym ev) (subst (MayUnite m (AtRoot r [] (line_in names v))) (sym ew) ((out, stock), m.laws.calm (line_in names w)))
+    unites_root r out ev stock ew = subst (λ (u : View T L). MayUnite m u w) (sym ev) (subst (MayUnite m (AtRoot r [] (line_in names v))) (sym ew) ((out, stock), m.laws.calm (line_in names w), refl))
 
     pub unites_passes : v ≡ at_rest (R (line_in names v)) (pass_of v) → w ≡ at_rest (R (line_in names w)) (pass_of w) → MayUnite m v w
     unites_passes ev ew = subst (λ (u : View T L). MayUnite m u w) (sym ev) (subst (MayUnite m (at_rest (R (line_in names v)) (pass_of v))) (sym ew) (m.laws.calm (line_in names v), m.laws.calm (line_in names w)))

@@ -15,6 +15,7 @@ use Rattle.machine.proofs.Tests.{same_or_not, cases}
 use Rattle.running.specs.Machine.{Names, Machine}
 use Rattle.running.specs.Acts.{Doing, Begins, Steps, Looks, Hears, Now, placed, is_begin, is_step, sum_of, after_act, played, IsAllowed, IsProper, AllProper, answers_at, answers_after, answers_in}
 use Rattle.running.proofs.Acts.{sum_same}
+use Rattle.runs.proofs.Points.{line_other}
 use Rattle.runs.specs.Runs.{Below, one, schedule_of, IsRunning, Shows}
 use Rattle.runs.specs.Work.{in_all, is_look, is_hear}
 use Rattle.runs.proofs.Link.{at_some, run_append, same_idle, o_is, shows_all}
@@ -116,12 +117,6 @@ module _ {T L O C : Type 0} {names : Names L O} (m : Machine T L O names) (x : P
   abbrev after_step : Now names m.core → ℕ → Now names m.core
   after_step k p = record { memory = m.core.after k.memory p (k.line p); line = placed k.line p (m.core.lands k.memory p (k.line p)); history = m.core.adds k.memory p (k.line p) ++ k.history }
 
-  line_other : (k : Now names m.core) (p q : ℕ) (d : Doing L) → p ≢ q → (after_act names m.core k q d).line p ≡ k.line p
-  line_other k p q (Begins first) ne = cases (λ (y : Now names m.core). y.line p ≡ k.line p) (names.is_idle (k.line q)) (now_begun k q first) k (λ b. ap (λ (b : Bool). cond b first (k.line p)) (ne_eqb p q ne)) (λ b. refl)
-  line_other k p q Steps ne = cases (λ (y : Now names m.core). y.line p ≡ k.line p) (names.is_idle (k.line q)) k (after_step k q) (λ b. refl) (λ b. ap (λ (b : Bool). cond b (m.core.lands k.memory q (k.line q)) (k.line p)) (ne_eqb p q ne))
-  line_other k p q Looks ne = refl
-  line_other k p q Hears ne = refl
-
   one_answer : (k : Now names m.core) (p : ℕ) (d : Doing L) (answers : List (Answered T)) → IsAllowed names m.core d → IsProper names m.core k p d
       → is_begin d + is_hear d + (length answers + open_at (k.line p)) ≡ length (answers_after names m.core k p d answers) + open_at ((after_act names m.core k p d).line p)
   one_answer k p (Begins first) answers allowed proper =
@@ -163,7 +158,7 @@ module _ {T L O C : Type 0} {names : Names L O} (m : Machine T L O names) (x : P
         ap (λ (b : Bool). cond b (is_begin a.1) 0) (ne_eqb p a.0 ne),
         ap (λ (b : Bool). cond b (is_hear a.1) 0) (ne_eqb p a.0 ne),
         ap (λ (b : Bool). length (cond b (answers_after names m.core k a.0 a.1 (answered p older)) (answered p older))) (ne_eqb p a.0 ne),
-        ap open_at (line_other k p a.0 a.1 ne),
+        ap open_at (line_other m k p a.0 a.1 ne),
       )
 
   pub balanced : (p : ℕ) (acts : Acts L) → Allowed acts → AllProper names m.core acts → Balanced p acts

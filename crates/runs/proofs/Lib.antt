@@ -4,5 +4,6 @@ pub mod Underway
 pub mod Heard
 pub mod Made
 pub mod Sums
+pub mod Points
 pub mod Costs
 pub mod Work

@@ -8,7 +8,8 @@ use Rattle.machine.specs.Seats.{Acts}
 use Rattle.machine.specs.Schedule.{Machine as Pure, Pass, State, Schedule, run, start}
 use Rattle.machine.specs.Bound.{is_busy, counted, own_steps}
 use Rattle.running.specs.Machine.{Names, Machine}
-use Rattle.running.specs.Acts.{Begins, is_step, is_begin, steps_in, Now, placed, after_act, played, IsAllowed, Course}
+use Rattle.running.specs.Acts.{Begins, is_step, is_begin, steps_in, begins_in, Now, placed, after_act, played, IsAllowed, Course}
+use Rattle.running.proofs.Acts.{sum_append}
 use Rattle.runs.specs.Runs.{Below, one, schedule_of, IsRunning, Shows}
 use Rattle.runs.proofs.Link.{at_some, run_append, shows_all}
 use Rattle.runs.proofs.Count.{begun_by, all_own, sums_same}
@@ -60,9 +61,42 @@ module _ {T L O C : Type 0} {names : Names L O} (m : Machine T L O names) (x : P
   abbrev begun_now : Now names m.core → Now names m.core
   begun_now y = record { memory = y.memory; line = placed y.line p first; history = y.history }
 
-  line_begun : (y : Now names m.core) → names.is_idle (y.line p) ≡ true → (after_act names m.core y p (Begins first)).line p ≡ first
+  pub line_begun : (y : Now names m.core) → names.is_idle (y.line p) ≡ true → (after_act names m.core y p (Begins first)).line p ≡ first
   line_begun y e = ap (λ (b : Bool). (cond b (begun_now y) y).line p) e ∙ ap (λ (b : Bool). cond b first (y.line p)) (eq-eqb p p refl)
 
   -- and as it was begun its pass was at its first line
   pub begins_at : (v : Pass L C (Event T)) → get_elem? s.passes p ≡ some v → v.line ≡ first
   begins_at v at = (shows_all m x call_at is passes older low_older (every_older (λ a. IsAllowed names m.core a.1) k.since older (subst (Every (λ a. IsAllowed names m.core a.1)) k.is k.allowed))).lines p v at ∙ line_begun (played names m.core before) k.rested
+
+  -- The same from any point of the operation on, of the acts `later` behind it
+  module _ (later earlier : Acts L) (cut : k.since ≡ later ++ earlier) where
+    abbrev behind : Acts L
+    behind = earlier ++ older
+
+    abbrev point : S
+    point = run x (schedule_of call_at behind) (start x passes)
+
+    ends_later : run x (schedule_of call_at later) point ≡ run x (schedule_of call_at now) (start x passes)
+    ends_later = sym (run_append x (schedule_of call_at behind) (schedule_of call_at later) (start x passes))
+        ∙ ap (λ (z : Schedule C). run x z (start x passes))
+        (sym (schedule_append call_at later behind) ∙ ap (schedule_of call_at) (sym (append_assoc later earlier older) ∙ ap (λ (a : Acts L). a ++ older) (sym cut) ∙ sym k.is))
+
+    busy_later : names.is_idle l ≡ false → is_busy x (get_elem? (run x (schedule_of call_at later) point).passes p) ≡ true
+    busy_later busy =
+        let there = at_some (run x (schedule_of call_at now) (start x passes)).passes p (omega (arith, shows.many, low_older.0)) in
+        ap (λ (z : S). is_busy x (get_elem? z.passes p)) ends_later ∙ ap (is_busy x) there.1
+        ∙ ap not (is.idle there.0.line ∙ ap names.is_idle (shows.lines p there.0 there.1 ∙ k.at) ∙ busy)
+
+    pub none_begun : (begins_in p later ≡ 0) × (begins_in p earlier ≡ 0)
+    none_begun = let sum = sum_append is_begin p later earlier in let once = ap (begins_in p) (sym cut) ∙ k.once in (omega (arith, sum, once), omega (arith, sum, once))
+
+    pub later_are_own : names.is_idle l ≡ false → own_steps x p (schedule_of call_at later) point ≡ steps_in p later
+    later_are_own busy = all_own x p (schedule_of call_at later) point (busy_later busy) (sums_same x p call_at begun_by is_begin (λ first. refl) refl refl refl later ∙ none_begun.0)
+        ∙ sums_same x p call_at (counted x) is_step (λ first. refl) refl refl refl later
+
+    -- there its pass was at the line that its acts had led it to
+    pub at_point : (v : Pass L C (Event T)) → get_elem? point.passes p ≡ some v → v.line ≡ (played names m.core behind).line p
+    at_point v at =
+        let split : now ≡ later ++ behind = k.is ∙ ap (λ (a : Acts L). a ++ older) cut ∙ append_assoc later earlier older in
+        (shows_all m x call_at is passes behind (every_older (λ a. a.0 < passes) later behind (subst (Below passes) split low))
+        (every_older (λ a. IsAllowed names m.core a.1) later behind (subst (Every (λ a. IsAllowed names m.core a.1)) split k.allowed))).lines p v at

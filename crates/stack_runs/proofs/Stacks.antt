@@ -1,5 +1,5 @@
 -- The stack's laws, of the acts that led to a table.
-use Rattle.std.proofs.Common.{◌≡◌, ℕ, ◌<◌, ◌≤◌, false, ◌∷◌, refl, sym, subst, arith}
+use Rattle.std.proofs.Common.{◌≡◌, ℕ, ◌<◌, ◌≤◌, false, ◌∷◌, ◌++◌, refl, sym, subst, arith}
 use Rattle.std.specs.List.{AllByRecursion as Every}
 use mathlib.Core.Option.{Option, none, some}
 use lib.ListN.{get_elem?}
@@ -19,11 +19,12 @@ use Rattle.step_core.specs.stack.Law.{MeetsRule}
 use Rattle.step_core.proofs.stack.Run.{run_stays}
 use Rattle.step_core.proofs.stack.Points.{stack_linearizable}
 use Rattle.step_core.specs.stack.Object.{object, answer}
-use Rattle.step_core.proofs.stack.Ends.{stack_overtaken, single_overtaken}
-use Rattle.running.specs.Acts.{Begins, Course, IsAllowed}
+use Rattle.step_core.proofs.stack.Ends.{stack_overtaken, single_overtaken, step_single}
+use Rattle.running.specs.Acts.{Begins, Course, IsAllowed, played}
 use Rattle.runs.specs.Runs.{schedule_of, IsRunning}
 use Rattle.runs.specs.Heard.{IsLinearizable}
-use Rattle.runs.proofs.Underway.{steps_are_own, begins_at}
+use Rattle.runs.proofs.Underway.{steps_are_own, begins_at, later_are_own, none_begun, line_begun, at_point}
+use Rattle.runs.proofs.Points.{stays}
 use Rattle.runs.proofs.Heard.{passes_of, all_below, linearizable_acts}
 use Rattle.stack_runs.specs.Bounded.{call_at, state_after, IsBounded}
 
@@ -70,4 +71,22 @@ module _ {T : Type 0} where
               (at_single first one (get_elem? (state_after n limit passes older).passes x) (begins_at (on_table T n limit) (stack (shape n limit)) call_at (running n limit) x before now first l k passes low)),
           steps_are_own (on_table T n limit) (stack (shape n limit)) call_at (running n limit) x before now first l k passes low busy,
         );
+        from_any_point = λ later earlier cut passes low. omega (
+          arith,
+          stack_overtaken n limit some_node x (state_after n limit passes (earlier ++ older)) (schedule_of call_at later) (meets passes (earlier ++ older)),
+          later_are_own (on_table T n limit) (stack (shape n limit)) call_at (running n limit) x before now first l k passes low later earlier cut busy,
+        );
+        single_from_any_point = λ one later earlier cut passes low.
+            let on = on_table T n limit in
+            let machine = stack {T = T} (shape n limit) in
+            let none = (none_begun on machine call_at (running n limit) x before now first l k passes low later earlier cut).1 in
+            let began : (played names (core T n limit) older).line x ≡ first = line_begun on machine call_at (running n limit) x before now first l k passes low (played names (core T n limit) before) k.rested in
+            let single : IsSingle ((played names (core T n limit) (earlier ++ older)).line x) = stays on x IsSingle (λ memory l one. step_single (shape n limit) memory x l one) earlier older none (subst IsSingle (sym began) one) in
+            let there = at_point on machine call_at (running n limit) x before now first l k passes low later earlier cut in
+            omega (
+              arith,
+              single_overtaken n limit some_node x (state_after n limit passes (earlier ++ older)) (schedule_of call_at later) (meets passes (earlier ++ older))
+                  (at_single ((played names (core T n limit) (earlier ++ older)).line x) single (get_elem? (state_after n limit passes (earlier ++ older)).passes x) there),
+              later_are_own on machine call_at (running n limit) x before now first l k passes low later earlier cut busy,
+            );
       }

@@ -33,7 +33,8 @@ module _ {T : Type 0} where
     state_after passes acts = after (stack (shape n limit)) passes (schedule_of call_at acts)
 
     -- Pass x in an operation with this first line, by the acts as it was begun and those by now: since then it has made so many steps, and so many exchanges of others
-    -- have succeeded. The machine that ran as the passes did says which succeeded. Fewer are those of an operation of one value
+    -- have succeeded. The machine that ran as the passes did says which succeeded. Fewer are those of an operation of one value. The same bounds hold
+    -- of the steps from any point of the operation on
     pub record IsBounded (before now : Acts (Line T)) (x : ℕ) (first : Line T) : Type 0 where
       pub since : Acts (Line T)
       pub is : now ≡ since ++ (x, Begins first) ∷ before
@@ -41,3 +42,7 @@ module _ {T : Type 0} where
           → steps_in x since ≤ 4 * n + 6 + 4 * others_win (stack (shape n limit)) x (schedule_of call_at since) (state_after passes ((x, Begins first) ∷ before))
       pub single : IsSingle first → (passes : ℕ) → Below passes now
           → steps_in x since ≤ 9 + 4 * others_win (stack (shape n limit)) x (schedule_of call_at since) (state_after passes ((x, Begins first) ∷ before))
+      pub from_any_point : (later earlier : Acts (Line T)) → since ≡ later ++ earlier → (passes : ℕ) → Below passes now
+          → steps_in x later ≤ 4 * n + 6 + 4 * others_win (stack (shape n limit)) x (schedule_of call_at later) (state_after passes (earlier ++ (x, Begins first) ∷ before))
+      pub single_from_any_point : IsSingle first → (later earlier : Acts (Line T)) → since ≡ later ++ earlier → (passes : ℕ) → Below passes now
+          → steps_in x later ≤ 9 + 4 * others_win (stack (shape n limit)) x (schedule_of call_at later) (state_after passes (earlier ++ (x, Begins first) ∷ before))

@@ -20,6 +20,7 @@ use Rattle.machine.proofs.Seating.{seated_first}
 use Rattle.stack_machine.proofs.Start.{start_kept}
 use Rattle.running.specs.Rule.{Rule}
 use Rattle.running.proofs.Acts.{led_first}
+use Rattle.running.proofs.Newest.{newest_first}
 use Rattle.running.proofs.Opening.{empties, home_start, home_past, homes_start, first_who, nobody, below_or_not}
 use Rattle.stack_table.specs.Layout.{link_at, words_for, start_at}
 use Rattle.stack_table.specs.Memories.{memory_of, at_home}
@@ -76,6 +77,7 @@ module _ {T : Type 0} (n limit : ℕ) where
           alone = λ q r p e _. absurd (nobody T (Idle None) q p e);
         });
         seated = seated_first (shape n limit) (core T n limit).holding (Idle None);
+        newest = newest_first T (Idle None);
         sane = record {
           words_are = long;
           homes_are = homes_start T n;

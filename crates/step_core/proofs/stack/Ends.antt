@@ -115,7 +115,7 @@ module _ {T : Type 0} where
   one_outcome true o o' f f' = f
   one_outcome false o o' f f' = f'
 
-  step_single : (c : Shape) (m : Memory T) (p : ℕ) (l : Line T) → IsSingle l → IsSingle (step c m p l).line
+  pub step_single : (c : Shape) (m : Memory T) (p : ℕ) (l : Line T) → IsSingle l → IsSingle (step c m p l).line
   step_single c m p (LoadFree put) e =
       one_of_two (m.free.index == NULL) _ _ (one_of_two (length put.chain == 0) _ _ tt tt)
       (one_of_two (leb c.limit m.free.tag) _ _ (one_of_two (length put.chain == 0) _ _ tt tt) e)
