@@ -150,6 +150,7 @@ module _ {T : Type 0} (n limit : ℕ) where
     first_deeds = λ p h o rest. begins p h (call_of o);
     first_tells = λ h o rest. first_tells n limit h o;
     unheld = λ m s p. wins_unheld s.good.good s.seat p s.line s.here;
+    free = λ m s o line idle seats. tt;
     does = λ words homes t sane. does n limit words homes sane t.pass t.at.who t.at.lines t.at.history t.at.seat t.at.good t.is t.at.line t.at.here;
   }
 

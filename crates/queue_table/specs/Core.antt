@@ -46,6 +46,7 @@ module _ (T : Type 0) (n limit : ℕ) where
     Deeds = λ o p l b seen. Deeds p (call_of o) l b seen;
     Tells = λ b seen l. Tells n limit b seen l;
     WinsUnheld = WinsUnheld;
+    Free = λ m line first. Unit {0};
   }
 
   abbrev pub core : Core T (Line T) (Operation T)

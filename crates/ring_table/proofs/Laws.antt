@@ -1,7 +1,7 @@
 -- The ring's machine on its table, with all its laws.
 use Rattle.std.proofs.Common.{◌≡◌, ◌≢◌, ℕ, zero, suc, ◌+◌, ◌*◌, ◌<◌, ◌⊎◌, inl, inr, ⊎_elim, true, false, List, [], ◌∷◌, ◌++◌, length, set, refl, sym, ap, ◌∙◌, subst, arith}
 use Rattle.std.proofs.lemmas.Bool.{false≢true}
-use mathlib.Core.Option.{some, some-ne-none}
+use mathlib.Core.Option.{some, some-injective, some-ne-none}
 use lib.ListN.{get_elem?}
 use Rattle.atomic_table.proofs.Lists.{set_again}
 use Rattle.bounded_model.specs.declared.history.Event.{Event}
@@ -11,8 +11,10 @@ use Rattle.bounded_model.specs.Machine as bounded
 use Rattle.bounded_model.proofs.Histories.{own-between}
 use Rattle.machine.specs.Words.{times}
 use Rattle.machine.specs.Program.{does as done}
+use Rattle.machine.specs.Places.{IsHeld}
 use Rattle.machine.specs.Seats.{Saw}
 use Rattle.machine.proofs.Ahead.{Ahead}
+use Rattle.machine.proofs.Lists.{times_here}
 use Rattle.ring_machine.specs.declared.lines.Call.{Call}
 use Rattle.ring_machine.specs.declared.lines.Call.TheVariants.{Put as CallPut, Take as CallTake, Close as CallClose, Shut as CallShut, Look as CallLook, Len as CallLen}
 use Rattle.ring_machine.specs.declared.lines.Line.{Line}
@@ -20,21 +22,24 @@ use Rattle.ring_machine.specs.declared.lines.Line.TheVariants.{Idle}
 use Rattle.ring_machine.specs.Machine.{Memory, memories, table, step, cell_of, is_home, held_cells, resting, starts, first_of}
 use Rattle.ring_machine.specs.Machine as ring
 use Rattle.ring_machine.specs.Answers.{shape}
-use Rattle.ring_machine.specs.Rule.{IsFine, progress, Good, Tells}
+use Rattle.ring_machine.specs.Rule.{cells_in, IsFine, progress, Good, Tells}
+use Rattle.ring_machine.specs.Places.{NothingTwice}
 use Rattle.ring_machine.specs.Deeds.{Deeds}
 use Rattle.ring_machine.proofs.StepKinds.{good_goes}
 use Rattle.ring_machine.proofs.Step.{step_kept}
 use Rattle.ring_machine.proofs.Tells.{tells_kept, step_apart}
 use Rattle.ring_machine.proofs.Doing.{begins, meanwhile, step_does}
-use Rattle.ring_machine.proofs.Places.{wins_unheld}
+use Rattle.ring_machine.proofs.Cells.{cell_in}
+use Rattle.ring_machine.proofs.Places.{nothing_twice, wins_unheld}
 use Rattle.running.specs.Machine.{Core, Laws, Machine, Shared, Cuts, Unites}
 use Rattle.ring_table.specs.declared.line.SeatLine.{SeatLine}
 use Rattle.ring_table.specs.declared.line.SeatLine.TheVariants.{At, Stock}
 use Rattle.ring_table.specs.declared.operation.Operation.{Operation}
 use Rattle.ring_table.specs.Lines.{call_of}
 use Rattle.ring_table.specs.Seats.{passes_of, each_resting, cells_from, names, quiet, first, gives, takes, both, is_idle, IsStock, deed_at}
+use Rattle.ring_table.specs.Free.{IsFree, FreeAt}
 use Rattle.ring_table.specs.Core.{cells, core, DeedsAt, TellsAt, WinsUnheldAt}
-use Rattle.ring_table.proofs.Seats.{found, Same, same_all, Halves, same_cut, Whole, same_union, rests_with}
+use Rattle.ring_table.proofs.Seats.{Found, found, Same, same_all, Halves, same_cut, Whole, same_union, rests_with}
 use Rattle.ring_table.proofs.Shapes.{state_same, legal_same}
 use Rattle.ring_table.proofs.Lifted.{Alike, does_alike}
 use Rattle.ring_table.proofs.Does.{does}
@@ -263,6 +268,33 @@ module _ {T : Type 0} (n laps passes : ℕ) where
         subst (WinsUnheldAt n m seats (At l)) (sym (step_alike p l).line) (wins_unheld k f.place p l f.there)
     unheld_good p (Stock cs) e = tt
 
+    -- The cell of a seat that begins is in that seat's hand alone, and so in no slot and with no other seat
+    free_good : (line : ℕ → SeatLine T) → ((p : ℕ) → is_idle (line p) ≡ false → (j : ℕ) × (get_elem? seats j ≡ some (line p))) → (o : Operation T) (s : SeatLine T) → get_elem? seats q ≡ some s → is_idle s ≡ true → FreeAt n (cells T n laps passes) m line (first o s)
+    free_good line seat_of o (At l) e idle = subst (IsFree n (cells T n laps passes) m.slot line) (sym (first_cell (cell_of l) (call_of o))) (record {
+      is_cell = once.no_others (cell_of l) (inr (inr mine));
+      in_no_slot = λ i low same. once.inside_or_held (cell_of l) (subst (λ (c : ℕ). 0 < times c (cells_in n m.slot)) same (cell_in n i m.slot low)) mine;
+      with_no_pass = λ p l' at busy same.
+          let t = seat_of p (ap is_idle at ∙ busy) in
+          let g = found seats t.0 l' (t.1 ∙ ap (λ (u : SeatLine T). some u) at) in
+          let theirs : IsHeld held_cells (passes_of seats) (cell_of l) = record { pass = g.place; line = l'; at = g.there; has = has l' same } in
+          let one : f.place ≡ g.place = once.one_hand (cell_of l) mine theirs in
+          let both : l ≡ l' = some-injective l l' (sym f.there ∙ ap (get_elem? (passes_of seats)) one ∙ g.there) in
+          false≢true (sym busy ∙ ap ring.is_idle (sym both) ∙ idle);
+    })
+      where
+        once : NothingTwice n (cells T n laps passes) m (passes_of seats)
+        once = nothing_twice k
+
+        f : Found seats q l
+        f = found seats q l e
+
+        has : (l' : Line T) → cell_of l' ≡ cell_of l → 0 < times (cell_of l) (held_cells l')
+        has l' same = subst (λ (c : ℕ). 0 < times (cell_of l) (c ∷ [])) (sym same) (omega (arith, times_here (cell_of l) []))
+
+        mine : IsHeld held_cells (passes_of seats) (cell_of l)
+        mine = record { pass = f.place; line = l; at = f.there; has = has l refl }
+    free_good line seat_of o (Stock cs) e idle = absurd (false≢true idle)
+
   apart_good : (m : Memory T) (p : ℕ) (s : SeatLine T) (h : List (Event T)) (q : ℕ) → q ≢ p → own q ((core T n laps passes).adds m p s ++ h) ≡ own q h
   apart_good m p (At l) h q ne = ap (λ (es : List (Event T)). own q (es ++ h)) (does_alike memories (resting (cell_of l)) m p l (table n (2 * laps) l)).events ∙ step_apart n laps m p q ne h l
   apart_good m p (Stock cs) h q ne = refl
@@ -298,6 +330,7 @@ module _ {T : Type 0} (n laps passes : ℕ) where
     first_deeds = first_deeds;
     first_tells = tells_first;
     unheld = λ m s p. unheld_good m s.lines s.history s.seat s.good p s.line s.here;
+    free = λ m s o line idle seat_of. free_good m s.lines s.history s.seat s.good line seat_of o s.line s.here idle;
     does = λ words homes t sane. does n laps passes words homes sane t.pass t.at.lines t.at.history t.at.seat t.at.good t.at.line t.at.here;
   }
 

@@ -21,6 +21,7 @@ use Rattle.ring_table.specs.declared.operation.Operation.{Operation}
 use Rattle.ring_table.specs.Layout.{layout}
 use Rattle.ring_table.specs.Lines.{call_of, reply, Brings, Says}
 use Rattle.ring_table.specs.Seats.{passes_of, cells_from, IsStock, deed_at}
+use Rattle.ring_table.specs.Free.{FreeAt}
 
 -- What is said of a line of the machine, said of a line of a seat. Of one that is none of a pass nothing is said, and it makes no step
 module _ {T : Type 0} where
@@ -99,6 +100,7 @@ module _ (T : Type 0) (n laps passes : ℕ) where
     Deeds = DeedsAt n;
     Tells = TellsAt n laps;
     WinsUnheld = WinsUnheldAt n;
+    Free = FreeAt n cells;
   }
 
   abbrev pub core : Core T (SeatLine T) (Operation T)

@@ -3,4 +3,5 @@ pub mod Memories
 pub mod Lines
 pub mod Lists
 pub mod Seats
+pub mod Free
 pub mod Core

@@ -21,7 +21,7 @@ use Rattle.machine.proofs.Tests.{same_or_not}
 use Rattle.machine.proofs.Seating.{at_end, left_owns, both_owns, only_first}
 use Rattle.running.specs.Machine.{Names, Machine, IsQuiet}
 use Rattle.running.specs.Rule.{line_now, going_now, quiet, view_after, MayCut, MayLook, MayUnite}
-use Rattle.running.specs.Acts.{Doing, Begins, Steps, Looks, Hears, placed, counted, sum_of, made, Now, having_stepped, after_act, played, IsAllowed, AllProper, answers_at, answers_after, answers_in, HasDone, Worked, Counts, Seen, Sees, IsSame, IsAt, Follows, IsOwned, Led, begun_acts, acts_after}
+use Rattle.running.specs.Acts.{Doing, Begins, Steps, Looks, Hears, placed, counted, sum_of, made, Now, having_stepped, after_act, played, IsAllowed, AllProper, AllFresh, answers_at, answers_after, answers_in, HasDone, Worked, Counts, Seen, Sees, IsSame, IsAt, Follows, IsOwned, Led, begun_acts, acts_after}
 
 -- a seat that is changed, and another
 set_there : {A : Type 0} (xs : List A) (i : ℕ) (x y : A) → get_elem? xs i ≡ some x → get_elem? (set xs i y) i ≡ some y
@@ -63,6 +63,9 @@ module _ {T L O : Type 0} {names : Names L O} (m : Machine T L O names) where
 
   abbrev Proper : Acts L → Type 0
   Proper acts = AllProper names m.core acts
+
+  abbrev Fresh : Acts L → Type 0
+  Fresh acts = AllFresh names m.core acts
 
   -- a line is at rest as it is once its operation has ended
   pub idle_quiet : (l : L) → IsQuiet names m.core l → names.is_idle l ≡ true
@@ -342,11 +345,27 @@ module _ {T L O : Type 0} {names : Names L O} (m : Machine T L O names) where
       sees = λ busy. subst (λ (b : Bool). Seen names m.core after_acts (cond b (rested {L = L} (stepped newer (answers_at names m.core p.answers out) p)) going).now p.number) (sym (sym (quiet_idle out) ∙ busy)) (record { others = []; is = refl; same = λ f none. refl });
     }
 
-    abbrev pub led_step : (memory' : m.core.Memory) → m.core.after memory p.number now_at ≡ memory' → Led names m.core memory' (set views id view_now) newer
-    led_step memory' is = record {
+    -- what an operation begins with that is begun by this step
+    abbrev pub IsFreeNow : Type 0
+    IsFreeNow = names.is_idle l ≡ true → m.core.Free memory (state led.acts).line (names.first o l)
+
+    pub fresh_after : IsFreeNow → Fresh after_acts
+    fresh_after free = (tt, by_test (names.is_idle l) refl)
+      where
+        by_test : (b : Bool) → names.is_idle l ≡ b → Fresh (cond b ((p.number, Begins now_at) ∷ led.acts) led.acts)
+        by_test true e = (
+          subst (λ (k : m.core.Memory). m.core.Free k (state led.acts).line now_at) (sym led.memory_is)
+              (subst (λ (b : Bool). m.core.Free memory (state led.acts).line (cond b (names.first o l) l)) (sym e) (free e)),
+          led.fresh,
+        )
+        by_test false e = led.fresh
+
+    abbrev pub led_step : IsFreeNow → (memory' : m.core.Memory) → m.core.after memory p.number now_at ≡ memory' → Led names m.core memory' (set views id view_now) newer
+    led_step free memory' is = record {
       acts = after_acts;
       allowed = a.allowed_after;
       proper = a.proper_after;
+      fresh = fresh_after free;
       memory_is = a.memory_after ∙ is;
       history_is = a.history_after;
       each = λ j v e. ⊎_elim
@@ -379,6 +398,12 @@ module _ {T L O : Type 0} {names : Names L O} (m : Machine T L O names) where
     looking_proper (AtMeeting p k q l) may a = (tt, a)
     looking_proper (AtHearing p l told) may a = (tt, a)
     looking_proper v may a = a
+
+    looking_fresh : (v : View T L) → Fresh acts → Fresh (looking acts v)
+    looking_fresh (AtPass p begun l) a = (tt, a)
+    looking_fresh (AtMeeting p k q l) a = (tt, a)
+    looking_fresh (AtHearing p l told) a = (tt, a)
+    looking_fresh v a = a
 
     one_more : (k n : ℕ) (d : ℕ) → k ≡ n → d ≡ 1 + n → k + 1 ≡ d
     one_more k n d e f = omega arith
@@ -475,6 +500,7 @@ module _ {T L O : Type 0} {names : Names L O} (m : Machine T L O names) where
       acts = looking led.acts v;
       allowed = looking_allowed led.acts v led.allowed;
       proper = looking_proper led.acts v may led.proper;
+      fresh = looking_fresh led.acts v led.fresh;
       memory_is = ap (λ (k : N). k.memory) (looking_state led.acts v) ∙ led.memory_is;
       history_is = ap (λ (k : N). k.history) (looking_state led.acts v) ∙ led.history_is;
       each = λ j w e. ⊎_elim
@@ -489,6 +515,7 @@ module _ {T L O : Type 0} {names : Names L O} (m : Machine T L O names) where
       acts = led.acts;
       allowed = led.allowed;
       proper = led.proper;
+      fresh = led.fresh;
       memory_is = led.memory_is;
       history_is = led.history_is;
       each = λ j w e. ⊎_elim
@@ -517,6 +544,7 @@ module _ {T L O : Type 0} {names : Names L O} (m : Machine T L O names) where
       acts = led.acts;
       allowed = led.allowed;
       proper = led.proper;
+      fresh = led.fresh;
       memory_is = led.memory_is;
       history_is = led.history_is;
       each = λ j u e. ⊎_elim
@@ -545,6 +573,7 @@ module _ {T L O : Type 0} {names : Names L O} (m : Machine T L O names) where
     acts = [];
     allowed = tt;
     proper = tt;
+    fresh = tt;
     memory_is = is;
     history_is = refl;
     each = λ j v e. subst (Fits []) (only_first m.core.shape m.core.holding j (first_view m.core.stock) v e).1 (record { lines = λ y o. m.laws.fresh y; counts = (λ y le. record { steps_are = refl; answers_are = refl }, tt); sees = tt });

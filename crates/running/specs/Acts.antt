@@ -93,6 +93,17 @@ module _ {T L O : Type 0} (names : Names L O) (c : Core T L O) where
   AllProper [] = Unit {0}
   AllProper (a ∷ older) = IsProper (played older) a.0 a.1 × AllProper older
 
+  -- an operation begins with what is free then
+  abbrev pub IsFresh : Now → Doing L → Type 0
+  IsFresh s (Begins first) = c.Free s.memory s.line first
+  IsFresh s Steps = Unit {0}
+  IsFresh s Looks = Unit {0}
+  IsFresh s Hears = Unit {0}
+
+  abbrev pub AllFresh : Acts L → Type 0
+  AllFresh [] = Unit {0}
+  AllFresh (a ∷ older) = IsFresh (played older) a.1 × AllFresh older
+
   -- only operations of the container are begun
   abbrev pub IsAllowed : Doing L → Type 0
   IsAllowed (Begins first) = IsFirst first
@@ -173,6 +184,7 @@ module _ {T L O : Type 0} (names : Names L O) (c : Core T L O) where
     pub acts : Acts L
     pub allowed : Every (λ a. IsAllowed a.1) acts
     pub proper : AllProper acts
+    pub fresh : AllFresh acts
     pub memory_is : (played acts).memory ≡ memory
     pub history_is : (played acts).history ≡ history
     pub each : (j : ℕ) (v : View T L) → get_elem? views j ≡ some v → Follows (played acts).line acts v

@@ -190,6 +190,7 @@ pub record Rules (T M L O : Type 0) : Type 1 where
   pub Deeds : O → ℕ → L → List (Event T) → List (Event T) → Type 0
   pub Tells : List (Event T) → List (Event T) → L → Type 0
   pub WinsUnheld : M → List L → L → L → Type 0
+  pub Free : M → (ℕ → L) → L → Type 0
 
 module _ {T M P Q L O : Type 0} (b : Board T M P Q L) (r : Rules T M L O) where
   abbrev pub core_of : Core T L O
@@ -210,6 +211,7 @@ module _ {T M P Q L O : Type 0} (b : Board T M P Q L) (r : Rules T M L O) where
     Deeds = r.Deeds;
     Tells = r.Tells;
     WinsUnheld = r.WinsUnheld;
+    Free = r.Free;
     read = read b;
     Sane = Sane b.layout;
     access = λ l. access_of b (b.table l);
