@@ -38,6 +38,7 @@ module _ {T L O : Type 0} {names : Names L O} (m : Machine T L O names) where
         values = are ∙ sym (ap (λ (h : List (Event T)). (state m.core.shape h).values) led.history_is);
         rests = follows.lines;
         proper = led.proper;
+        fresh = led.fresh;
         unmade = follows.counts.0;
         worked = works led.acts r.account r.works follows.counts.1;
       }

@@ -6,7 +6,7 @@ use Rattle.bounded_model.specs.Machine.{state}
 use Rattle.bounded_model.specs.Histories.{Later}
 use Rattle.bounded_model.specs.Laws.{NoneOut}
 use Rattle.machine.specs.Seats.{Acts, IsJoined}
-use Rattle.running.specs.Acts.{Now, IsAllowed, AllProper, HasDone, played}
+use Rattle.running.specs.Acts.{Now, IsAllowed, AllProper, AllFresh, HasDone, played}
 use Rattle.running.specs.Machine.{Names, Machine}
 
 module _ {T L O : Type 0} {names : Names L O} (m : Machine T L O names) where
@@ -24,5 +24,6 @@ module _ {T L O : Type 0} {names : Names L O} (m : Machine T L O names) where
     pub values : left ≡ (state m.core.shape (state_at acts).history).values
     pub rests : (x : ℕ) → (r.given ≤ x) ⊎ IsJoined x r.account → names.is_idle ((state_at acts).line x) ≡ true
     pub proper : AllProper names m.core acts
+    pub fresh : AllFresh names m.core acts
     pub unmade : (x : ℕ) → r.given ≤ x → HasDone names m.core acts x 0 []
     pub worked : Every (λ w. HasDone names m.core acts w.number w.steps w.answers) r.works
