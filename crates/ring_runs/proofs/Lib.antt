@@ -1,0 +1,11 @@
+pub mod Running
+pub mod Calls
+pub mod Pool
+pub mod Free
+pub mod PoolRule
+pub mod RingPoints
+pub mod PoolPoints
+pub mod Follows
+pub mod Rings
+pub mod Counted
+pub mod Overtaken

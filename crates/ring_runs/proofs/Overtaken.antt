@@ -1,0 +1,206 @@
+-- An operation of a ring ends, by what others did meanwhile.
+use Rattle.std.proofs.Common.{◌≡◌, ◌<◌, ◌≤◌, ℕ, suc, ◌+◌, ◌*◌, Bool, true, false, cond, List, [], ◌∷◌, ◌++◌, append_assoc, append-nil, map, refl, sym, ap, ◌∙◌, subst, arith}
+use Rattle.std.specs.List.{AllByRecursion as Every}
+use Rattle.std.proofs.lemmas.Bool.{false≢true}
+use mathlib.Core.Option.{Option, none, some}
+use lib.ListN.{get_elem?}
+use Rattle.machine.specs.Bound.{AtLine, own_steps}
+use Rattle.machine.specs.Progress.{others_win}
+use Rattle.machine.specs.Schedule.{Schedule, start}
+use Rattle.machine.specs.Seats.{Acts}
+use Rattle.machine.proofs.Paying.{Weighs, overtaken, left_at}
+use Rattle.machine.proofs.Stories.{rule_holds}
+use Rattle.machine.proofs.Sums.{at_map}
+use Rattle.machine.proofs.Tests.{cases}
+use Rattle.ring_machine.specs.declared.lines.Call.{Call}
+use Rattle.ring_machine.specs.declared.lines.Line.{Line}
+use Rattle.ring_machine.specs.declared.lines.Line.TheVariants.{Idle}
+use Rattle.ring_machine.specs.Machine.{Memory, cell_of, step}
+use Rattle.ring_machine.specs.Machine as ring
+use Rattle.ring_machine.specs.Answers.{shape}
+use Rattle.ring_table.specs.declared.line.SeatLine.{SeatLine}
+use Rattle.ring_table.specs.declared.line.SeatLine.TheVariants.{At, Stock}
+use Rattle.ring_table.specs.Seats.{names, is_idle, cells_from}
+use Rattle.ring_table.specs.Core.{core}
+use Rattle.ring_table.proofs.Laws.{ring_on}
+use Rattle.ring_table.proofs.Seats.{found}
+use Rattle.running.specs.Acts.{Begins, Course, Now, played, steps_in, IsAllowed}
+use Rattle.runs.specs.Runs.{Below, one, schedule_of}
+use Rattle.runs.proofs.Underway.{steps_are_own, begins_at}
+use Rattle.step_core.proofs.ring.Pays.{step_raises, step_falls}
+use Rattle.step_core.proofs.ring.Weight.{weight, price, weight_small, price_small}
+use Rattle.ring_runs.specs.Machine.{From, Pass, State, cell_ring}
+use Rattle.ring_runs.specs.Fresh.{Fresh, AllFresh}
+use Rattle.ring_runs.specs.Bounded.{call_at, state_after, IsBounded}
+use Rattle.ring_runs.proofs.Pool.{Pool, PoolLine, PoolOutcome, PoolPass, PoolState, Gets, Goes, waits, has, got, gets, idle_in, pool_ring}
+use Rattle.ring_runs.proofs.PoolRule.{Rule, Story, counts, seats_in, busy_counts, pool_told}
+use Rattle.ring_runs.proofs.Follows.{goes, lift, none_map, Keeps}
+use Rattle.ring_runs.proofs.Rings.{FreshFrom, with_pool, Followed, fresh_all, fresh_later, follows, Allowed}
+use Rattle.ring_runs.proofs.Counted.{compared}
+use Rattle.ring_runs.proofs.Running.{running}
+
+every_older : {A : Type 0} (P : A → Type 0) (xs ys : List A) → Every P (xs ++ ys) → Every P ys
+every_older P [] ys e = e
+every_older P (x ∷ xs) ys e = every_older P xs ys e.1
+
+module _ {T : Type 0} where
+  abbrev weight_in : Pool T → PoolLine T → ℕ
+  weight_in m (Gets from call) = 0
+  weight_in m (Goes (At l)) = weight m.memory l
+  weight_in m (Goes (Stock cs)) = 0
+
+  abbrev price_in : PoolLine T → ℕ
+  price_in (Gets from call) = 0
+  price_in (Goes (At l)) = price l
+  price_in (Goes (Stock cs)) = 0
+
+  -- a pass that has its cell
+  abbrev IsGoing : PoolLine T → Type 0
+  IsGoing (Gets from call) = ⊥
+  IsGoing (Goes (At l)) = Unit {0}
+  IsGoing (Goes (Stock cs)) = ⊥
+
+module _ {T : Type 0} (n laps passes : ℕ) where
+  abbrev Kept : PoolState T → Type 0
+  Kept s = Rule n laps (n + passes) s.memory (map (λ v. v.line) s.passes) s.history
+
+  -- the lines of all passes
+  abbrev lines_of : PoolState T → List (PoolLine T)
+  lines_of s = map (λ v. v.line) s.passes
+
+  line_at : (s : PoolState T) (p : ℕ) (v : PoolPass T) (l : PoolLine T) → get_elem? s.passes p ≡ some v → v.line ≡ l → get_elem? (lines_of s) p ≡ some l
+  line_at s p v l at is = at_map (λ (u : PoolPass T). u.line) s.passes p v at ∙ ap some is
+
+  -- a line of the ring that is in an operation, among the seats
+  seat_at : (s : PoolState T) (p : ℕ) (l : Line T) → get_elem? (lines_of s) p ≡ some (Goes (At l)) → ring.is_idle l ≡ false → get_elem? (map counts (lines_of s)) p ≡ some (At l)
+  seat_at s p l at busy = at_map counts (lines_of s) p (Goes (At l)) at ∙ ap some (busy_counts l busy)
+
+  falls_at : (s : PoolState T) (p : ℕ) (l : PoolLine T) → Kept s → get_elem? (lines_of s) p ≡ some l → idle_in l ≡ false → IsGoing l
+      → weight_in ((pool_ring n laps passes).step s.memory p l).memory ((pool_ring n laps passes).step s.memory p l).line < weight_in s.memory l
+  falls_at s p (Gets from call) k at busy going = absurd going
+  falls_at s p (Goes (At l)) k at busy going =
+      let f = found (seats_in n laps (n + passes) s.memory (lines_of s)) (suc p) l (seat_at s p l at busy) in
+      (step_falls k f.place p l f.there busy).0
+  falls_at s p (Goes (Stock cs)) k at busy going = absurd going
+
+  counts_on : (m : Pool T) (p : ℕ) (l : PoolLine T) → IsGoing l → IsGoing ((pool_ring n laps passes).step m p l).line
+  counts_on m p (Gets from call) going = absurd going
+  counts_on m p (Goes (At l)) going = tt
+  counts_on m p (Goes (Stock cs)) going = absurd going
+
+  abbrev spends_in : Pool T → PoolLine T → ℕ
+  spends_in m l = cond ((pool_ring n laps passes).wins m l) (price_in l) 0
+
+  -- a step that changes no word
+  same_words : (m : Pool T) (m' : Pool T) (u : PoolLine T) → m'.memory ≡ m.memory → weight_in m' u ≤ weight_in m u + 0
+  same_words m m' (Gets from call) e = omega arith
+  same_words m m' (Goes (At l)) e = omega (arith, ap (λ (y : Memory T). weight y l) e)
+  same_words m m' (Goes (Stock cs)) e = omega arith
+
+  gets_words : (m : Pool T) (from : SeatLine T) (call : Call T) → (gets m from call).memory.memory ≡ m.memory
+  gets_words m (At l) call = let c : ℕ = cell_of l in cases (λ (o : PoolOutcome T). o.memory.memory ≡ m.memory) (has m c) (got m c call) (waits m (Gets (At l) call)) (λ yes. refl) (λ no. refl)
+  gets_words m (Stock cs) call = refl
+
+  raises_line : (s : PoolState T) (q : ℕ) (l k : Line T) (b : Bool) → ring.is_idle l ≡ b → Kept s → get_elem? (lines_of s) q ≡ some (Goes (At l)) → weight (step (shape n laps) s.memory.memory q l).memory k ≤ weight s.memory.memory k + spends_in s.memory (Goes (At l))
+  raises_line s q l k false busy kept at =
+      let f = found (seats_in n laps (n + passes) s.memory (lines_of s)) (suc q) l (seat_at s q l at busy) in
+      step_raises kept f.place q l k f.there
+  raises_line s q (Idle c a) k true idle kept at = omega arith
+  raises_line s q l k true idle kept at = absurd (false≢true idle)
+
+  raises_at : (s : PoolState T) (q : ℕ) (l u : PoolLine T) → Kept s → get_elem? (lines_of s) q ≡ some l → weight_in ((pool_ring n laps passes).step s.memory q l).memory u ≤ weight_in s.memory u + spends_in s.memory l
+  raises_at s q (Gets from call) u k at = same_words s.memory (gets s.memory from call).memory u (gets_words s.memory from call)
+  raises_at s q (Goes (Stock cs)) u k at = same_words s.memory s.memory u refl
+  raises_at s q (Goes (At l)) (Gets from call) k at = omega arith
+  raises_at s q (Goes (At l)) (Goes (Stock cs)) k at = omega arith
+  raises_at s q (Goes (At l)) (Goes (At u)) k at = raises_line s q l u (ring.is_idle l) refl k at
+
+  weighs : Weighs (pool_ring n laps passes) Kept IsGoing weight_in price_in
+  weighs = record {
+    holds = rule_holds (pool_ring n laps passes) (Rule n laps (n + passes)) (Story n laps (n + passes)) (pool_told n laps (n + passes) passes);
+    falls = λ s p v k at busy going. falls_at s p v.line k (line_at s p v v.line at refl) busy going;
+    counts = λ s p v k at busy going. counts_on s.memory p v.line going;
+    raises = λ s p q u v k at at'. raises_at s q v.line u.line k (line_at s q v v.line at' refl);
+  }
+
+  cheap : (l : PoolLine T) → price_in l ≤ 47
+  cheap (Gets from call) = omega arith
+  cheap (Goes (At l)) = price_small l
+  cheap (Goes (Stock cs)) = omega arith
+
+  left_small : (m : Pool T) (o : Option (PoolPass T)) → left_at (pool_ring n laps passes) Kept IsGoing weight_in price_in weighs m o ≤ 47
+  left_small m none = omega arith
+  left_small m (some v) = by_line v.line
+    where
+      by_line : (l : PoolLine T) → weight_in m l ≤ 47
+      by_line (Gets from call) = omega arith
+      by_line (Goes (At l)) = weight_small m.memory l
+      by_line (Goes (Stock cs)) = omega arith
+
+  pub pool_overtaken : (p : ℕ) (s : PoolState T) (schedule : Schedule (From T)) → Keeps n laps passes s → AtLine IsGoing (get_elem? s.passes p)
+      → own_steps (pool_ring n laps passes) p schedule s ≤ 47 + 47 * others_win (pool_ring n laps passes) p schedule s
+  pool_overtaken p s schedule k going =
+      omega (arith, overtaken (pool_ring n laps passes) Kept IsGoing weight_in price_in weighs 47 cheap p s schedule k.rule going, left_small s.memory (get_elem? s.passes p))
+
+  -- The acts of a table
+
+  schedule_append : (xs ys : Acts (SeatLine T)) → schedule_of call_at (xs ++ ys) ≡ schedule_of call_at ys ++ schedule_of call_at xs
+  schedule_append [] ys = sym (append-nil (schedule_of call_at ys))
+  schedule_append (a ∷ xs) ys = ap (λ (s : Schedule (From T)). s ++ one call_at a.0 a.1) (schedule_append xs ys) ∙ append_assoc (schedule_of call_at ys) (schedule_of call_at xs) (one call_at a.0 a.1)
+
+  fresh_older : (xs ys : Acts (SeatLine T)) → AllFresh n laps passes (xs ++ ys) → AllFresh n laps passes ys
+  fresh_older [] ys f = f
+  fresh_older (x ∷ xs) ys f = fresh_older xs ys f.1
+
+  -- a fresh first line is that of a pass
+  first_goes : (first : SeatLine T) (k : Now names (core T n laps passes)) → Fresh n laps passes k (Begins first) → IsGoing (Goes first)
+  first_goes (At l) k f = tt
+  first_goes (Stock cs) k f = absurd f
+
+  module _ (some_slot : 0 < n) (x : ℕ) (before now : Acts (SeatLine T)) (first l : SeatLine T) (k : Course names (core T n laps passes) before now x first l) (busy : is_idle l ≡ false) (fresh : AllFresh n laps passes now) where
+    abbrev older : Acts (SeatLine T)
+    older = (x, Begins first) ∷ before
+
+    fresh_all_of : AllFresh n laps passes (k.since ++ older)
+    fresh_all_of = subst (AllFresh n laps passes) k.is fresh
+
+    module _ (numbers : ℕ) (low : Below numbers now) where
+      abbrev s : State T
+      s = state_after n laps passes numbers older
+
+      low_older : Below numbers older
+      low_older = every_older (λ a. a.0 < numbers) k.since older (subst (Below numbers) k.is low)
+
+      allowed_older : Allowed n laps passes older
+      allowed_older = every_older (λ a. IsAllowed names (core T n laps passes) a.1) k.since older (subst (Allowed n laps passes) k.is k.allowed)
+
+      so_far : Followed n laps passes (schedule_of call_at older) (start (cell_ring n laps passes) numbers) (cells_from n passes)
+      so_far = follows n laps passes some_slot numbers older low_older allowed_older (fresh_older k.since older fresh_all_of)
+
+      -- what has been begun since had its cell
+      fresh_since : FreshFrom n laps passes (schedule_of call_at k.since) s
+      fresh_since = fresh_later n laps passes (schedule_of call_at older) (schedule_of call_at k.since) (start (cell_ring n laps passes) numbers)
+          (subst (λ (sch : Schedule (From T)). FreshFrom n laps passes sch (start (cell_ring n laps passes) numbers)) (ap (schedule_of call_at) k.is ∙ schedule_append k.since older) (fresh_all n laps passes numbers now low k.allowed fresh))
+
+      going : AtLine IsGoing (get_elem? (lift so_far.left s).passes x)
+      going = by_pass (get_elem? s.passes x) refl
+        where
+          by_pass : (o : Option (Pass T)) → get_elem? s.passes x ≡ o → AtLine IsGoing (get_elem? (lift so_far.left s).passes x)
+          by_pass none e = subst (AtLine IsGoing) (sym (none_map goes s.passes x e)) tt
+          by_pass (some v) e =
+              let at_first : v.line ≡ first = begins_at (ring_on T n laps passes) (cell_ring n laps passes) call_at (running n laps passes) x before now first l k numbers low v e in
+              subst (AtLine IsGoing) (sym (at_map goes s.passes x v e)) (subst (λ (u : SeatLine T). IsGoing (Goes u)) (sym at_first) (first_goes first (played names (core T n laps passes) before) (fresh_older k.since older fresh_all_of).0))
+
+      bound : steps_in x k.since ≤ 47 + 47 * others_win (cell_ring n laps passes) x (schedule_of call_at k.since) s
+      bound =
+          let c = compared n laps passes x (schedule_of call_at k.since) s so_far.left so_far.keeps fresh_since in
+          omega (
+            arith,
+            steps_are_own (ring_on T n laps passes) (cell_ring n laps passes) call_at (running n laps passes) x before now first l k numbers low busy,
+            c.own,
+            c.wins,
+            pool_overtaken x (lift so_far.left s) (with_pool n laps passes (schedule_of call_at k.since) s) so_far.keeps going,
+          )
+
+    pub bounded : IsBounded n laps passes before now x first
+    bounded = record { since = k.since; is = k.is; bound = bound }

@@ -1,0 +1,4 @@
+pub mod Machine
+pub mod Fresh
+pub mod Bounded
+pub mod Linearizable

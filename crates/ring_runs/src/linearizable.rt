@@ -1,0 +1,32 @@
+//! The calls of a run of threads are linearizable.
+ghost use Rattle.std.specs.Prelude.{ℕ, ◌<◌, ◌++◌, List};
+ghost use Rattle.std.specs.List.{AllByRecursion};
+ghost use Rattle.machine.specs.Seats.{Acts};
+ghost use Rattle.ring_machine.specs.declared.lines.Answer.{Answer};
+ghost use Rattle.ring_machine.specs.declared.lines.Call.{Call};
+ghost use Rattle.ring_table.specs.declared.line.SeatLine.{SeatLine};
+ghost use Rattle.ring_table.specs.Seats.{names};
+ghost use Rattle.ring_table.specs.Core.{core};
+ghost use Rattle.step_core.specs.Linearizable.{Entry, IsLinearization, KeepsRealTimeOrder};
+ghost use Rattle.step_core.specs.ring.Object.{object};
+ghost use Rattle.running.specs.Acts.{IsAllowed};
+ghost use Rattle.runs.specs.Heard.{IsLinearizable};
+ghost use Rattle.ring_runs.specs.Fresh.{AllFresh};
+ghost use Rattle.ring_runs.specs.Bounded.{call_in};
+ghost use Rattle.ring_runs.specs.Linearizable.{answer_at};
+
+/// The calls of a run of threads on a ring are linearizable (Herlihy and Wing 1990), refusals among
+/// them, if each pass began its operations with a spare cell that was free: in no slot, and with no
+/// pass that was in an operation. Into the invocations and responses of the acts that led to the
+/// ring's table, in the order of the acts, linearization points can be put, so that in the order of
+/// their points the operations are a legal history of the bounded queue, with the answers that were
+/// given, and with the events that the acts have made. The order of the points keeps real time:
+/// wherever such a history is cut, of each pass the operations that have taken effect are those that
+/// it has completed by then, or these and its pending one.
+pub fn ring_acts_are_linearizable<T>()
+    ensures points { (n laps passes : ℕ) (acts : Acts (SeatLine T)) → 0 < n
+        → AllByRecursion (λ a. IsAllowed names (core T n laps passes) a.1) acts → AllFresh n laps passes acts
+        → IsLinearizable names (core T n laps passes) call_in answer_at (object n laps) acts }
+    ensures keeps_real_time_order { (n laps p : ℕ) (newer older : List (Entry T (Call T) (Answer T))) →
+        IsLinearization (object n laps) (newer ++ older) → KeepsRealTimeOrder p older }
+{}
