@@ -9,3 +9,4 @@ pub mod Follows
 pub mod Rings
 pub mod Counted
 pub mod Overtaken
+pub mod Begins

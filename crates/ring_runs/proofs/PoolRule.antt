@@ -64,7 +64,7 @@ module _ {T : Type 0} where
   first_busy c CallLook = refl
   first_busy c CallLen = refl
 
-  first_cell : (c : ℕ) (call : Call T) → cell_of (first_of c call) ≡ c
+  pub first_cell : (c : ℕ) (call : Call T) → cell_of (first_of c call) ≡ c
   first_cell c (CallPut v) = refl
   first_cell c CallTake = refl
   first_cell c CallClose = refl

@@ -2,11 +2,14 @@
 //! linearizable, and an operation under way has made so many steps, by what others did meanwhile. A
 //! joined pass leaves its spare cell to a later one, so in the machine here each begin says which
 //! cell the pass has. The laws hold of acts in which each operation was begun with a cell that was
-//! free. No function here makes a step: the contract of each is a law of what the passes know.
+//! free, as is that of each pass of a running ring between two operations. No function here makes a
+//! step: the contract of each is a law of what the passes know.
 #![tactic(auto)]
 
 mod bounds;
+mod fresh;
 mod linearizable;
 
 pub use bounds::{ring_acts_are_a_schedule, ring_steps_are_bounded};
+pub use fresh::ring_begins_are_fresh;
 pub use linearizable::ring_acts_are_linearizable;
