@@ -204,5 +204,6 @@ module _ {T L O : Type 0} (names : Names L O) (c : Core T L O) where
     pub is : now ≡ since ++ (x, Begins first) ∷ before
     pub once : begins_in x since ≡ 0
     pub allowed : Every (λ a. IsAllowed a.1) now
+    pub fresh : AllFresh now
     pub rested : names.is_idle ((played before).line x) ≡ true
     pub at : (played now).line x ≡ l
