@@ -34,7 +34,7 @@ use Rattle.ring_runs.specs.Fresh.{IsFree, Fresh}
 use Rattle.ring_runs.proofs.PoolRule.{first_cell}
 
 -- one at most, and one here: the number is below the bound, and there is none elsewhere
-below_one : (c k : ℕ) → 0 < cond (ltb c k) 1 0 → c < k
+pub below_one : (c k : ℕ) → 0 < cond (ltb c k) 1 0 → c < k
 below_one c k = grind (arith, nat_tests)
 
 module _ {T : Type 0} (n laps passes : ℕ) where

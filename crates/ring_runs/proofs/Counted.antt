@@ -15,9 +15,9 @@ use Rattle.ring_table.specs.Seats.{is_idle}
 use Rattle.ring_machine.specs.Machine.{Memory}
 use Rattle.ring_runs.specs.Machine.{From, Pass, State, cell_ring}
 use Rattle.ring_runs.specs.Machine as on_seats
-use Rattle.ring_runs.proofs.Pool.{PoolPass, PoolState, Goes, wins_in, pool_ring}
-use Rattle.ring_runs.proofs.Follows.{goes, lift, twice, none_map, Keeps, one_act}
-use Rattle.ring_runs.proofs.Rings.{FreshFrom, with_pool, kept_run}
+use Rattle.ring_runs.proofs.Pool.{PoolPass, PoolState, Goes, wins_in, waiting, pool_ring}
+use Rattle.ring_runs.proofs.Follows.{goes, lift, twice, none_map, one_act}
+use Rattle.ring_runs.proofs.Rings.{FreshFrom, Keeps, with_pool, kept_run}
 
 more : (b b' : Bool) (k r r' : ℕ) → b' ≡ b → r ≤ r' → cond b (k + r) 0 ≤ cond b' (k + r') 0
 more true true k r r' e le = omega (arith, le)
@@ -44,35 +44,35 @@ module _ {T : Type 0} (n laps passes q : ℕ) where
   mine schedule s = own_steps (cell_ring n laps passes) q schedule s
 
   abbrev mine_in : Schedule (From T) → PoolState T → ℕ
-  mine_in schedule s = own_steps (pool_ring n laps passes) q schedule s
+  mine_in schedule s = own_steps (pool_ring waiting n laps passes) q schedule s
 
   abbrev others : Schedule (From T) → State T → ℕ
   others schedule s = others_win (cell_ring n laps passes) q schedule s
 
   abbrev others_in : Schedule (From T) → PoolState T → ℕ
-  others_in schedule s = others_win (pool_ring n laps passes) q schedule s
+  others_in schedule s = others_win (pool_ring waiting n laps passes) q schedule s
 
   abbrev busy : State T → Bool
   busy s = is_busy (cell_ring n laps passes) (get_elem? s.passes q)
 
   abbrev busy_in : PoolState T → Bool
-  busy_in s = is_busy (pool_ring n laps passes) (get_elem? s.passes q)
+  busy_in s = is_busy (pool_ring waiting n laps passes) (get_elem? s.passes q)
 
   same_busy : (s : State T) (free : List ℕ) → busy_in (lift free s) ≡ busy s
   same_busy s free = by_pass (get_elem? s.passes q) refl
     where
       by_pass : (o : Option (Pass T)) → get_elem? s.passes q ≡ o → busy_in (lift free s) ≡ is_busy (cell_ring n laps passes) o
-      by_pass none e = ap (is_busy (pool_ring n laps passes)) (none_map goes s.passes q e)
-      by_pass (some v) e = ap (is_busy (pool_ring n laps passes)) (at_map goes s.passes q v e)
+      by_pass none e = ap (is_busy (pool_ring waiting n laps passes)) (none_map goes s.passes q e)
+      by_pass (some v) e = ap (is_busy (pool_ring waiting n laps passes)) (at_map goes s.passes q v e)
 
   -- who is in no call makes no step of one, and nobody is counted against it
   none_mine : (schedule : Schedule (From T)) (s : PoolState T) → busy_in s ≡ false → mine_in schedule s ≡ 0
   none_mine [] s e = refl
-  none_mine (a ∷ rest) s e = ap (λ (b : Bool). cond b (cond (eqb a.0 q) (counted (pool_ring n laps passes) a.1) 0 + mine_in rest (next (pool_ring n laps passes) s a)) 0) e
+  none_mine (a ∷ rest) s e = ap (λ (b : Bool). cond b (cond (eqb a.0 q) (counted (pool_ring waiting n laps passes) a.1) 0 + mine_in rest (next (pool_ring waiting n laps passes) s a)) 0) e
 
   none_others : (schedule : Schedule (From T)) (s : PoolState T) → busy_in s ≡ false → others_in schedule s ≡ 0
   none_others [] s e = refl
-  none_others (a ∷ rest) s e = ap (λ (b : Bool). cond b (cond (eqb a.0 q) 0 (cond (wins_at (pool_ring n laps passes) s.memory a.1 (get_elem? s.passes a.0)) 1 0) + others_in rest (next (pool_ring n laps passes) s a)) 0) e
+  none_others (a ∷ rest) s e = ap (λ (b : Bool). cond b (cond (eqb a.0 q) 0 (cond (wins_at (pool_ring waiting n laps passes) s.memory a.1 (get_elem? s.passes a.0)) 1 0) + others_in rest (next (pool_ring waiting n laps passes) s a)) 0) e
 
   -- One act, and what comes behind
   pub record Counts (s : State T) (free : List ℕ) (p : ℕ) (a : Act (From T)) (o : Option (Pass T)) (rest : Schedule (From T)) (end : PoolState T) : Type 0 where
@@ -101,11 +101,11 @@ module _ {T : Type 0} (n laps passes q : ℕ) where
   same_wins m free (At l) = refl
   same_wins m free (Stock cs) = refl
 
-  step_counts : (s : State T) (free : List ℕ) (p : ℕ) (v : Pass T) (rest : Schedule (From T)) → get_elem? s.passes p ≡ some v → Counts s free p Step (some v) rest (next (pool_ring n laps passes) (lift free s) (p, Step))
+  step_counts : (s : State T) (free : List ℕ) (p : ℕ) (v : Pass T) (rest : Schedule (From T)) → get_elem? s.passes p ≡ some v → Counts s free p Step (some v) rest (next (pool_ring waiting n laps passes) (lift free s) (p, Step))
   step_counts s free p v rest at =
-      let end : PoolState T = next (pool_ring n laps passes) (lift free s) (p, Step) in
-      let won : wins_at (pool_ring n laps passes) (lift free s).memory Step (get_elem? (lift free s).passes p) ≡ on_seats.wins_at s.memory v.line =
-      ap (wins_at (pool_ring n laps passes) (lift free s).memory Step) (at_map goes s.passes p v at) ∙ same_wins s.memory free v.line in
+      let end : PoolState T = next (pool_ring waiting n laps passes) (lift free s) (p, Step) in
+      let won : wins_at (pool_ring waiting n laps passes) (lift free s).memory Step (get_elem? (lift free s).passes p) ≡ on_seats.wins_at s.memory v.line =
+      ap (wins_at (pool_ring waiting n laps passes) (lift free s).memory Step) (at_map goes s.passes p v at) ∙ same_wins s.memory free v.line in
       record {
         own = λ r le. more (busy s) (busy_in (lift free s)) (cond (eqb p q) 1 0) r (mine_in rest end) (same_busy s free) le;
         wins = λ r le. subst (λ (w : Bool). cond (busy_in (lift free s)) (cond (eqb p q) 0 (cond w 1 0) + others_in rest end) 0 ≤ cond (busy s) (cond (eqb p q) 0 (cond (on_seats.wins_at s.memory v.line) 1 0) + r) 0) (sym won)
@@ -118,27 +118,27 @@ module _ {T : Type 0} (n laps passes q : ℕ) where
     y = lift free s
 
     abbrev u : PoolPass T
-    u = having_begun (pool_ring n laps passes) y (goes v) from
+    u = having_begun (pool_ring waiting n laps passes) y (goes v) from
 
     abbrev y1 : PoolState T
-    y1 = begun (pool_ring n laps passes) y p (goes v) from
+    y1 = begun (pool_ring waiting n laps passes) y p (goes v) from
 
     abbrev y2 : PoolState T
-    y2 = next (pool_ring n laps passes) y1 (p, Step)
+    y2 = next (pool_ring waiting n laps passes) y1 (p, Step)
 
     -- the pool's machine after both
     module _ (idle : is_idle v.line ≡ true) where
-      first_is : next (pool_ring n laps passes) y (p, Begin from) ≡ y1
-      first_is = ap (acts_at (pool_ring n laps passes) y p (Begin from)) (at_map goes s.passes p v at) ∙ ap (λ (b : Bool). cond b y1 y) idle
+      first_is : next (pool_ring waiting n laps passes) y (p, Begin from) ≡ y1
+      first_is = ap (acts_at (pool_ring waiting n laps passes) y p (Begin from)) (at_map goes s.passes p v at) ∙ ap (λ (b : Bool). cond b y1 y) idle
 
       not_mine : busy s ≡ true → p ≢ q
       not_mine b same = false≢true (sym (ap (is_busy (cell_ring n laps passes)) (ap (get_elem? s.passes) (sym same) ∙ at) ∙ ap not idle) ∙ b)
 
       still : busy s ≡ true → busy_in y1 ≡ true
-      still b = ap (is_busy (pool_ring n laps passes)) (set_other y.passes p q u (not_mine b)) ∙ same_busy s free ∙ b
+      still b = ap (is_busy (pool_ring waiting n laps passes)) (set_other y.passes p q u (not_mine b)) ∙ same_busy s free ∙ b
 
-      no_win : wins_at (pool_ring n laps passes) y1.memory Step (get_elem? y1.passes p) ≡ false
-      no_win = ap (wins_at (pool_ring n laps passes) y1.memory Step) (set_same y.passes p (goes v) u (at_map goes s.passes p v at))
+      no_win : wins_at (pool_ring waiting n laps passes) y1.memory Step (get_elem? y1.passes p) ≡ false
+      no_win = ap (wins_at (pool_ring waiting n laps passes) y1.memory Step) (set_same y.passes p (goes v) u (at_map goes s.passes p v at))
 
       abbrev both : Schedule (From T)
       both = (p, Begin from) ∷ (p, Step) ∷ rest
@@ -147,10 +147,10 @@ module _ {T : Type 0} (n laps passes q : ℕ) where
       second_own = cond (busy_in y1) (cond (eqb p q) 1 0 + mine_in rest y2) 0
 
       own_is : mine_in both y ≡ cond (busy_in y) (cond (eqb p q) 0 0 + cond (busy_in y1) (cond (eqb p q) 1 0 + mine_in rest y2) 0) 0
-      own_is = ap (λ (z : PoolState T). cond (busy_in y) (cond (eqb p q) 0 0 + cond (busy_in z) (cond (eqb p q) 1 0 + mine_in rest (next (pool_ring n laps passes) z (p, Step))) 0) 0) first_is
+      own_is = ap (λ (z : PoolState T). cond (busy_in y) (cond (eqb p q) 0 0 + cond (busy_in z) (cond (eqb p q) 1 0 + mine_in rest (next (pool_ring waiting n laps passes) z (p, Step))) 0) 0) first_is
 
-      wins_is : others_in both y ≡ cond (busy_in y) (cond (eqb p q) 0 0 + cond (busy_in y1) (cond (eqb p q) 0 (cond (wins_at (pool_ring n laps passes) y1.memory Step (get_elem? y1.passes p)) 1 0) + others_in rest y2) 0) 0
-      wins_is = ap (λ (z : PoolState T). cond (busy_in y) (cond (eqb p q) 0 0 + cond (busy_in z) (cond (eqb p q) 0 (cond (wins_at (pool_ring n laps passes) z.memory Step (get_elem? z.passes p)) 1 0) + others_in rest (next (pool_ring n laps passes) z (p, Step))) 0) 0) first_is
+      wins_is : others_in both y ≡ cond (busy_in y) (cond (eqb p q) 0 0 + cond (busy_in y1) (cond (eqb p q) 0 (cond (wins_at (pool_ring waiting n laps passes) y1.memory Step (get_elem? y1.passes p)) 1 0) + others_in rest y2) 0) 0
+      wins_is = ap (λ (z : PoolState T). cond (busy_in y) (cond (eqb p q) 0 0 + cond (busy_in z) (cond (eqb p q) 0 (cond (wins_at (pool_ring waiting n laps passes) z.memory Step (get_elem? z.passes p)) 1 0) + others_in rest (next (pool_ring waiting n laps passes) z (p, Step))) 0) 0) first_is
 
       begin_own : (r : ℕ) → r ≤ mine_in rest y2 → cond (busy s) (cond (eqb p q) 0 0 + r) 0 ≤ mine_in both y
       begin_own r le = omega (arith, own_is, by_test (busy s) refl)
@@ -169,17 +169,17 @@ module _ {T : Type 0} (n laps passes q : ℕ) where
       begin_wins r le = omega (arith, wins_is, by_test (busy s) refl)
         where
           by_test : (b : Bool) → busy s ≡ b
-              → cond (busy_in y) (cond (eqb p q) 0 0 + cond (busy_in y1) (cond (eqb p q) 0 (cond (wins_at (pool_ring n laps passes) y1.memory Step (get_elem? y1.passes p)) 1 0) + others_in rest y2) 0) 0 ≤ cond b (cond (eqb p q) 0 0 + r) 0
+              → cond (busy_in y) (cond (eqb p q) 0 0 + cond (busy_in y1) (cond (eqb p q) 0 (cond (wins_at (pool_ring waiting n laps passes) y1.memory Step (get_elem? y1.passes p)) 1 0) + others_in rest y2) 0) 0 ≤ cond b (cond (eqb p q) 0 0 + r) 0
           by_test false b = omega (
             arith,
-            ap (λ (c : Bool). cond c (cond (eqb p q) 0 0 + cond (busy_in y1) (cond (eqb p q) 0 (cond (wins_at (pool_ring n laps passes) y1.memory Step (get_elem? y1.passes p)) 1 0) + others_in rest y2) 0) 0) (same_busy s free ∙ b),
+            ap (λ (c : Bool). cond c (cond (eqb p q) 0 0 + cond (busy_in y1) (cond (eqb p q) 0 (cond (wins_at (pool_ring waiting n laps passes) y1.memory Step (get_elem? y1.passes p)) 1 0) + others_in rest y2) 0) 0) (same_busy s free ∙ b),
           )
           by_test true b = omega (
             arith,
             le,
             no_begin (eqb p q),
-            ap (λ (c : Bool). cond c (cond (eqb p q) 0 0 + cond (busy_in y1) (cond (eqb p q) 0 (cond (wins_at (pool_ring n laps passes) y1.memory Step (get_elem? y1.passes p)) 1 0) + others_in rest y2) 0) 0) (same_busy s free ∙ b),
-            ap (λ (c : Bool). cond c (cond (eqb p q) 0 (cond (wins_at (pool_ring n laps passes) y1.memory Step (get_elem? y1.passes p)) 1 0) + others_in rest y2) 0) (still b),
+            ap (λ (c : Bool). cond c (cond (eqb p q) 0 0 + cond (busy_in y1) (cond (eqb p q) 0 (cond (wins_at (pool_ring waiting n laps passes) y1.memory Step (get_elem? y1.passes p)) 1 0) + others_in rest y2) 0) 0) (same_busy s free ∙ b),
+            ap (λ (c : Bool). cond c (cond (eqb p q) 0 (cond (wins_at (pool_ring waiting n laps passes) y1.memory Step (get_elem? y1.passes p)) 1 0) + others_in rest y2) 0) (still b),
             ap {B = ℕ} (λ (c : Bool). cond (eqb p q) 0 (cond c 1 0)) no_win,
           )
 
@@ -188,26 +188,26 @@ module _ {T : Type 0} (n laps passes q : ℕ) where
 
     -- both parts of `Counts`, by the test that `twice` makes
     abbrev Own : Bool → Type 0
-    Own b = (r : ℕ) → r ≤ mine_in rest (run (pool_ring n laps passes) (acts_of b) y) → cond (busy s) (cond (eqb p q) 0 0 + r) 0 ≤ mine_in (acts_of b ++ rest) y
+    Own b = (r : ℕ) → r ≤ mine_in rest (run (pool_ring waiting n laps passes) (acts_of b) y) → cond (busy s) (cond (eqb p q) 0 0 + r) 0 ≤ mine_in (acts_of b ++ rest) y
 
     abbrev Wins : Bool → Type 0
-    Wins b = (r : ℕ) → others_in rest (run (pool_ring n laps passes) (acts_of b) y) ≤ r → others_in (acts_of b ++ rest) y ≤ cond (busy s) (cond (eqb p q) 0 0 + r) 0
+    Wins b = (r : ℕ) → others_in rest (run (pool_ring waiting n laps passes) (acts_of b) y) ≤ r → others_in (acts_of b ++ rest) y ≤ cond (busy s) (cond (eqb p q) 0 0 + r) 0
 
     -- the end of a begin, which does something or nothing
-    begin_counts : Counts s free p (Begin from) (some v) rest (run (pool_ring n laps passes) (twice p (Begin from) (some v)) y)
+    begin_counts : Counts s free p (Begin from) (some v) rest (run (pool_ring waiting n laps passes) (twice p (Begin from) (some v)) y)
     begin_counts = by_test (is_idle v.line) refl
       where
-        by_test : (b : Bool) → is_idle v.line ≡ b → Counts s free p (Begin from) (some v) rest (run (pool_ring n laps passes) (twice p (Begin from) (some v)) y)
+        by_test : (b : Bool) → is_idle v.line ≡ b → Counts s free p (Begin from) (some v) rest (run (pool_ring waiting n laps passes) (twice p (Begin from) (some v)) y)
         by_test true idle = record {
-          own = subst Own (sym idle) (λ r le. begin_own idle r (subst (λ (z : PoolState T). r ≤ mine_in rest (next (pool_ring n laps passes) z (p, Step))) (first_is idle) le));
-          wins = subst Wins (sym idle) (λ r le. begin_wins idle r (subst (λ (z : PoolState T). others_in rest (next (pool_ring n laps passes) z (p, Step)) ≤ r) (first_is idle) le));
+          own = subst Own (sym idle) (λ r le. begin_own idle r (subst (λ (z : PoolState T). r ≤ mine_in rest (next (pool_ring waiting n laps passes) z (p, Step))) (first_is idle) le));
+          wins = subst Wins (sym idle) (λ r le. begin_wins idle r (subst (λ (z : PoolState T). others_in rest (next (pool_ring waiting n laps passes) z (p, Step)) ≤ r) (first_is idle) le));
         }
         by_test false idle = record {
           own = subst Own (sym idle) (nothing s free p (Begin from) (some v) rest (λ b. no_begin (eqb p q)));
           wins = subst Wins (sym idle) (nothing_won s free (cond (eqb p q) 0 0) rest);
         }
 
-  act_counts : (s : State T) (free : List ℕ) (p : ℕ) (a : Act (From T)) (o : Option (Pass T)) (rest : Schedule (From T)) → get_elem? s.passes p ≡ o → Counts s free p a o rest (run (pool_ring n laps passes) (twice p a o) (lift free s))
+  act_counts : (s : State T) (free : List ℕ) (p : ℕ) (a : Act (From T)) (o : Option (Pass T)) (rest : Schedule (From T)) → get_elem? s.passes p ≡ o → Counts s free p a o rest (run (pool_ring waiting n laps passes) (twice p a o) (lift free s))
   act_counts s free p a none rest at = none_counts s free p a rest at
   act_counts s free p Step (some v) rest at = step_counts s free p v rest at
   act_counts s free p (Begin from) (some v) rest at = begin_counts s free p v rest at from
@@ -220,7 +220,7 @@ module _ {T : Type 0} (n laps passes q : ℕ) where
   pub compared : (schedule : Schedule (From T)) (s : State T) (free : List ℕ) → Keeps n laps passes (lift free s) → FreshFrom n laps passes schedule s → Compared schedule s free
   compared [] s free k fresh = record { own = omega arith; wins = omega arith }
   compared (a ∷ later) s free k fresh =
-      let o = one_act n laps passes s free a.0 a.1 (get_elem? s.passes a.0) k refl fresh.0 in
+      let o = one_act waiting n laps passes s free a.0 a.1 (get_elem? s.passes a.0) k.rule refl fresh.0 in
       let first : Schedule (From T) = twice a.0 a.1 (get_elem? s.passes a.0) in
       let s' : State T = next (cell_ring n laps passes) s a in
       let rest : Schedule (From T) = with_pool n laps passes later s' in

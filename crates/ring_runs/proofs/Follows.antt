@@ -4,10 +4,9 @@ use Rattle.std.proofs.lemmas.List.{map-set, set-set}
 use mathlib.Core.Option.{Option, none, some, some-injective, some-ne-none}
 use lib.ListN.{get_elem?}
 use Rattle.bounded_model.specs.declared.history.Event.{Event}
-use Rattle.machine.specs.Schedule.{Act, Begin, Step, Schedule, Outcome, having_begun, having_stepped, begun, stepped, acts_at, next, run}
+use Rattle.machine.specs.Schedule.{Act, Begin, Step, Schedule, Outcome, having_begun, having_stepped, begun, stepped, acts_at, next, run, start, first_pass, first_passes}
 use Rattle.machine.specs.Words.{Tagged, times, total}
 use Rattle.machine.proofs.Scheduled.{set_same}
-use Rattle.machine.proofs.Stories.{Stays}
 use Rattle.machine.proofs.Sums.{at_map}
 use Rattle.machine.proofs.Tests.{if_below}
 use Rattle.ring_machine.specs.declared.lines.Answer.{Answer}
@@ -19,18 +18,18 @@ use Rattle.ring_machine.specs.Answers.{shape}
 use Rattle.ring_machine.specs.Rule.{cells_in}
 use Rattle.ring_table.specs.declared.line.SeatLine.{SeatLine}
 use Rattle.ring_table.specs.declared.line.SeatLine.TheVariants.{At, Stock}
-use Rattle.ring_table.specs.Seats.{is_idle}
+use Rattle.ring_table.specs.Seats.{is_idle, cells_from}
 use Rattle.ring_table.proofs.Seats.{sum_at}
 use Rattle.step_core.specs.Linearizable.{Entry, Invokes, Responds, history_at, concurrent_history}
 use Rattle.ring_runs.specs.Machine.{From, Pass, State, cell_ring, step_at}
 use Rattle.ring_runs.specs.Linearizable.{answer_at}
 use Rattle.ring_runs.proofs.Free.{count_free, sum_seats}
-use Rattle.ring_runs.proofs.Pool.{PoolLine, PoolOutcome, PoolPass, PoolState, Gets, Goes, without, waits, got, gets, step_in, idle_in, pool_ring}
-use Rattle.ring_runs.proofs.PoolRule.{Rule, Story, counts, first_busy}
+use Rattle.ring_runs.proofs.Pool.{PoolLine, PoolOutcome, PoolPass, PoolState, Goes, without, waits, got, gets, step_in, idle_in, pool_ring}
+use Rattle.ring_runs.proofs.PoolRule.{Rule, counts, first_busy}
 use Rattle.ring_runs.proofs.PoolPoints.{answer_in}
 
 -- where a list that was mapped has an element, the list has one
-from_map : {A B : Type 0} (f : A → B) (xs : List A) (i : ℕ) (y : B) → get_elem? (map f xs) i ≡ some y → (x : A) × (get_elem? xs i ≡ some x) × (f x ≡ y)
+pub from_map : {A B : Type 0} (f : A → B) (xs : List A) (i : ℕ) (y : B) → get_elem? (map f xs) i ≡ some y → (x : A) × (get_elem? xs i ≡ some x) × (f x ≡ y)
 from_map f [] i y e = absurd (some-ne-none y (sym e))
 from_map f (x ∷ xs) zero y e = (x, refl, some-injective (f x) y e)
 from_map f (x ∷ xs) (suc i) y e = from_map f xs i y e
@@ -68,8 +67,9 @@ module _ {T : Type 0} where
   twice p (Begin from) (some v) = cond (is_idle v.line) ((p, Begin from) ∷ (p, Step) ∷ []) []
 
 module _ {T : Type 0} (n laps passes : ℕ) where
-  abbrev pub Keeps : PoolState T → Type 0
-  Keeps s = Stays (pool_ring n laps passes) (Rule n laps (n + passes)) (Story n laps (n + passes)) s
+  -- the rule, of all passes
+  abbrev pub Kept : PoolState T → Type 0
+  Kept s = Rule n laps (n + passes) s.memory (map (λ v. v.line) s.passes) s.history
 
   -- the cell is in no slot, and no pass in an operation has it
   pub record FreeIn (s : State T) (c : ℕ) : Type 0 where
@@ -83,7 +83,7 @@ module _ {T : Type 0} (n laps passes : ℕ) where
   IsFresh s Step = Unit {0}
 
   -- so it is in the pool
-  module _ (s : State T) (free : List ℕ) (k : Keeps (lift free s)) (c : ℕ) (fresh : FreeIn s c) where
+  module _ (s : State T) (free : List ℕ) (k : Kept (lift free s)) (c : ℕ) (fresh : FreeIn s c) where
     abbrev held : Line T → ℕ
     held l = times c (held_cells l)
 
@@ -111,7 +111,7 @@ module _ {T : Type 0} (n laps passes : ℕ) where
     pub in_pool : ltb 0 (times c free) ≡ true
     in_pool = some_there (times c free) (omega (
       arith,
-      k.rule.once c,
+      k.once c,
       if_below {A = ℕ} c (n + passes) 1 0 fresh.is_cell,
       none_in c n s.memory.slot fresh.in_no_slot,
       sum_seats held free (map counts lines),
@@ -122,19 +122,19 @@ module _ {T : Type 0} (n laps passes : ℕ) where
         some_there : (t : ℕ) → t ≡ 1 → ltb 0 t ≡ true
         some_there t e = ap (ltb 0) e
 
-  -- One act
-
-  gone_is : (m : Memory T) (free : List ℕ) (p : ℕ) (l : SeatLine T) → let o = step_at (shape n laps) m p l in let o' = step_in (shape n laps) (record { memory = m; free = free }) p (Goes l) in
+-- One act
+module _ {T : Type 0} (refused : SeatLine T → Call T → PoolLine T) (n laps passes : ℕ) where
+  gone_is : (m : Memory T) (free : List ℕ) (p : ℕ) (l : SeatLine T) → let o = step_at (shape n laps) m p l in let o' = step_in refused (shape n laps) (record { memory = m; free = free }) p (Goes l) in
       o' ≡ record { memory = record { memory = o.memory; free = o'.memory.free }; line = Goes o.line; events = o.events }
   gone_is m free p (At l) = refl
   gone_is m free p (Stock cs) = refl
 
   -- the state after an act of the ring is that after its acts with a pool
   abbrev Ends : List ℕ → State T → ℕ → Act (From T) → Option (Pass T) → List ℕ → Type 0
-  Ends free s p a o free' = run (pool_ring n laps passes) (twice p a o) (lift free s) ≡ lift free' (acts_at (cell_ring n laps passes) s p a o)
+  Ends free s p a o free' = run (pool_ring refused n laps passes) (twice p a o) (lift free s) ≡ lift free' (acts_at (cell_ring n laps passes) s p a o)
 
   abbrev Heard : List ℕ → State T → ℕ → Act (From T) → Option (Pass T) → Type 0
-  Heard free s p a o = concurrent_history (pool_ring n laps passes) answer_in (twice p a o) (lift free s) ≡ history_at (cell_ring n laps passes) answer_at s p a o
+  Heard free s p a o = concurrent_history (pool_ring refused n laps passes) answer_in (twice p a o) (lift free s) ≡ history_at (cell_ring n laps passes) answer_at s p a o
 
   pub record One (s : State T) (free : List ℕ) (p : ℕ) (a : Act (From T)) (o : Option (Pass T)) : Type 0 where
     pub free' : List ℕ
@@ -153,11 +153,11 @@ module _ {T : Type 0} (n laps passes : ℕ) where
     o = step_at (shape n laps) s.memory p v.line
 
     abbrev o' : PoolOutcome T
-    o' = step_in (shape n laps) y.memory p (Goes v.line)
+    o' = step_in refused (shape n laps) y.memory p (Goes v.line)
 
-    stepped_is : stepped (pool_ring n laps passes) y p (goes v) o' ≡ lift o'.memory.free (stepped (cell_ring n laps passes) s p v o)
+    stepped_is : stepped (pool_ring refused n laps passes) y p (goes v) o' ≡ lift o'.memory.free (stepped (cell_ring n laps passes) s p v o)
     stepped_is =
-        ap (λ (z : PoolOutcome T). stepped (pool_ring n laps passes) y p (goes v) z) (gone_is s.memory free p v.line)
+        ap (λ (z : PoolOutcome T). stepped (pool_ring refused n laps passes) y p (goes v) z) (gone_is s.memory free p v.line)
         ∙ ap (λ (vs : List (PoolPass T)). record { memory = record { memory = o.memory; free = o'.memory.free }; passes = vs; history = o.events ++ s.history }) (sym (map-set goes s.passes p (having_stepped (cell_ring n laps passes) s v o)))
 
     one_step : One s free p Step (some v)
@@ -169,20 +169,20 @@ module _ {T : Type 0} (n laps passes : ℕ) where
         by_test : (b : Bool) → is_idle v.line ≡ b → One s free p Step (some v)
         by_test true idle = record {
           free' = free;
-          ends = ap (acts_at (pool_ring n laps passes) y p Step) at_lift
-              ∙ ap (λ (b : Bool). cond b y (stepped (pool_ring n laps passes) y p (goes v) o')) idle
+          ends = ap (acts_at (pool_ring refused n laps passes) y p Step) at_lift
+              ∙ ap (λ (b : Bool). cond b y (stepped (pool_ring refused n laps passes) y p (goes v) o')) idle
               ∙ ap (λ (b : Bool). lift free (cond b s (stepped (cell_ring n laps passes) s p v o))) (sym idle);
-          heard = ap (history_at (pool_ring n laps passes) answer_in y p Step) at_lift
+          heard = ap (history_at (pool_ring refused n laps passes) answer_in y p Step) at_lift
               ∙ ap (λ (b : Bool). cond b [] (cond (idle_in o'.line) (Responds p (answer_in o'.line) ∷ []) [])) idle
               ∙ ap (λ (b : Bool). cond b [] (reply o.line)) (sym idle);
         }
         by_test false busy = record {
           free' = o'.memory.free;
-          ends = ap (acts_at (pool_ring n laps passes) y p Step) at_lift
-              ∙ ap (λ (b : Bool). cond b y (stepped (pool_ring n laps passes) y p (goes v) o')) busy
+          ends = ap (acts_at (pool_ring refused n laps passes) y p Step) at_lift
+              ∙ ap (λ (b : Bool). cond b y (stepped (pool_ring refused n laps passes) y p (goes v) o')) busy
               ∙ stepped_is
               ∙ ap (λ (b : Bool). lift o'.memory.free (cond b s (stepped (cell_ring n laps passes) s p v o))) (sym busy);
-          heard = ap (history_at (pool_ring n laps passes) answer_in y p Step) at_lift
+          heard = ap (history_at (pool_ring refused n laps passes) answer_in y p Step) at_lift
               ∙ ap (λ (l : PoolLine T). cond (is_idle v.line) [] (cond (idle_in l) (Responds p (answer_in l) ∷ []) [])) (ap (λ (z : PoolOutcome T). z.line) (gone_is s.memory free p v.line));
         }
 
@@ -195,32 +195,32 @@ module _ {T : Type 0} (n laps passes : ℕ) where
       c = cell_of l
 
       abbrev u : PoolPass T
-      u = having_begun (pool_ring n laps passes) y (goes v) from
+      u = having_begun (pool_ring refused n laps passes) y (goes v) from
 
       abbrev y1 : PoolState T
-      y1 = begun (pool_ring n laps passes) y p (goes v) from
+      y1 = begun (pool_ring refused n laps passes) y p (goes v) from
 
       at_begun : get_elem? y1.passes p ≡ some u
       at_begun = set_same y.passes p (goes v) u at_lift
 
-      first_is : is_idle v.line ≡ true → next (pool_ring n laps passes) y (p, Begin from) ≡ y1
-      first_is idle = ap (acts_at (pool_ring n laps passes) y p (Begin from)) at_lift ∙ ap (λ (b : Bool). cond b y1 y) idle
+      first_is : is_idle v.line ≡ true → next (pool_ring refused n laps passes) y (p, Begin from) ≡ y1
+      first_is idle = ap (acts_at (pool_ring refused n laps passes) y p (Begin from)) at_lift ∙ ap (λ (b : Bool). cond b y1 y) idle
 
-      gets_is : gets y.memory (At l) call ≡ got y.memory c call
-      gets_is = ap (λ (b : Bool). cond b (got y.memory c call) (waits y.memory (Gets (At l) call))) there
+      gets_is : gets refused y.memory (At l) call ≡ got y.memory c call
+      gets_is = ap (λ (b : Bool). cond b (got y.memory c call) (waits y.memory (refused (At l) call))) there
 
-      second_is : next (pool_ring n laps passes) y1 (p, Step) ≡ lift (without c free) (begun (cell_ring n laps passes) s p v from)
+      second_is : next (pool_ring refused n laps passes) y1 (p, Step) ≡ lift (without c free) (begun (cell_ring n laps passes) s p v from)
       second_is =
-          ap (acts_at (pool_ring n laps passes) y1 p Step) at_begun
-          ∙ ap (λ (z : PoolOutcome T). stepped (pool_ring n laps passes) y1 p u z) gets_is
+          ap (acts_at (pool_ring refused n laps passes) y1 p Step) at_begun
+          ∙ ap (λ (z : PoolOutcome T). stepped (pool_ring refused n laps passes) y1 p u z) gets_is
           ∙ ap (λ (vs : List (PoolPass T)). record { memory = record { memory = s.memory; free = without c free }; passes = vs; history = s.history })
           (set-set (map goes s.passes) p u (goes (having_begun (cell_ring n laps passes) s v from)) ∙ sym (map-set goes s.passes p (having_begun (cell_ring n laps passes) s v from)))
 
-      heard_begin : is_idle v.line ≡ true → history_at (pool_ring n laps passes) answer_in y p (Begin from) (get_elem? y.passes p) ≡ Invokes p from ∷ []
-      heard_begin idle = ap (history_at (pool_ring n laps passes) answer_in y p (Begin from)) at_lift ∙ ap (λ (b : Bool). cond b (Invokes p from ∷ []) []) idle
+      heard_begin : is_idle v.line ≡ true → history_at (pool_ring refused n laps passes) answer_in y p (Begin from) (get_elem? y.passes p) ≡ Invokes p from ∷ []
+      heard_begin idle = ap (history_at (pool_ring refused n laps passes) answer_in y p (Begin from)) at_lift ∙ ap (λ (b : Bool). cond b (Invokes p from ∷ []) []) idle
 
-      heard_gets : history_at (pool_ring n laps passes) answer_in y1 p Step (get_elem? y1.passes p) ≡ []
-      heard_gets = ap (history_at (pool_ring n laps passes) answer_in y1 p Step) at_begun
+      heard_gets : history_at (pool_ring refused n laps passes) answer_in y1 p Step (get_elem? y1.passes p) ≡ []
+      heard_gets = ap (history_at (pool_ring refused n laps passes) answer_in y1 p Step) at_begun
           ∙ ap (λ (z : PoolOutcome T). cond (idle_in z.line) (Responds p (answer_in z.line) ∷ []) []) gets_is
           ∙ ap (λ (b : Bool). cond b (Responds p (answer_at (At (first_of c call))) ∷ []) []) (first_busy c call)
 
@@ -234,25 +234,32 @@ module _ {T : Type 0} (n laps passes : ℕ) where
           by_test : (b : Bool) → is_idle v.line ≡ b → One s free p (Begin from) (some v)
           by_test true idle = record {
             free' = without c free;
-            ends = ap (λ (b : Bool). run (pool_ring n laps passes) (cond b ((p, Begin from) ∷ (p, Step) ∷ []) []) y) idle
-                ∙ ap (λ (z : PoolState T). next (pool_ring n laps passes) z (p, Step)) (first_is idle)
+            ends = ap (λ (b : Bool). run (pool_ring refused n laps passes) (cond b ((p, Begin from) ∷ (p, Step) ∷ []) []) y) idle
+                ∙ ap (λ (z : PoolState T). next (pool_ring refused n laps passes) z (p, Step)) (first_is idle)
                 ∙ second_is
                 ∙ ap (λ (b : Bool). lift (without c free) (cond b (begun (cell_ring n laps passes) s p v from) s)) (sym idle);
-            heard = ap (λ (b : Bool). concurrent_history (pool_ring n laps passes) answer_in (cond b ((p, Begin from) ∷ (p, Step) ∷ []) []) y) idle
-                ∙ ap (λ (z : PoolState T). ([] ++ history_at (pool_ring n laps passes) answer_in z p Step (get_elem? z.passes p)) ++ history_at (pool_ring n laps passes) answer_in y p (Begin from) (get_elem? y.passes p)) (first_is idle)
+            heard = ap (λ (b : Bool). concurrent_history (pool_ring refused n laps passes) answer_in (cond b ((p, Begin from) ∷ (p, Step) ∷ []) []) y) idle
+                ∙ ap (λ (z : PoolState T). ([] ++ history_at (pool_ring refused n laps passes) answer_in z p Step (get_elem? z.passes p)) ++ history_at (pool_ring refused n laps passes) answer_in y p (Begin from) (get_elem? y.passes p)) (first_is idle)
                 ∙ (λ t. ([] ++ heard_gets t) ++ heard_begin idle t)
                 ∙ sym (heard_ring idle);
           }
           by_test false busy = record {
             free' = free;
-            ends = ap (λ (b : Bool). run (pool_ring n laps passes) (cond b ((p, Begin from) ∷ (p, Step) ∷ []) []) y) busy
+            ends = ap (λ (b : Bool). run (pool_ring refused n laps passes) (cond b ((p, Begin from) ∷ (p, Step) ∷ []) []) y) busy
                 ∙ ap (λ (b : Bool). lift free (cond b (begun (cell_ring n laps passes) s p v from) s)) (sym busy);
-            heard = ap (λ (b : Bool). concurrent_history (pool_ring n laps passes) answer_in (cond b ((p, Begin from) ∷ (p, Step) ∷ []) []) y) busy
+            heard = ap (λ (b : Bool). concurrent_history (pool_ring refused n laps passes) answer_in (cond b ((p, Begin from) ∷ (p, Step) ∷ []) []) y) busy
                 ∙ ap (λ (b : Bool). cond b (cond (ring.is_idle (first_of c call)) (Responds p (answer_at (At (first_of c call))) ∷ []) [] ++ Invokes p from ∷ []) []) (sym busy);
           }
 
-  pub one_act : (s : State T) (free : List ℕ) (p : ℕ) (a : Act (From T)) (o : Option (Pass T)) → Keeps (lift free s) → get_elem? s.passes p ≡ o → IsFresh s a → One s free p a o
+  pub one_act : (s : State T) (free : List ℕ) (p : ℕ) (a : Act (From T)) (o : Option (Pass T)) → Kept n laps passes (lift free s) → get_elem? s.passes p ≡ o → IsFresh n laps passes s a → One s free p a o
   one_act s free p a none k at fresh = record { free' = free; ends = refl; heard = refl }
   one_act s free p Step (some v) k at fresh = one_step s free p v at
-  one_act s free p (Begin (At l, call)) (some v) k at fresh = one_begin s free p v at l call (in_pool s free k (cell_of l) fresh)
+  one_act s free p (Begin (At l, call)) (some v) k at fresh = one_begin s free p v at l call (in_pool n laps passes s free k (cell_of l) fresh)
   one_act s free p (Begin (Stock cs, call)) (some v) k at fresh = absurd fresh
+
+  same_passes : (p k : ℕ) → map goes (first_passes (cell_ring {T = T} n laps passes) p k) ≡ first_passes (pool_ring refused n laps passes) p k
+  same_passes p zero = refl
+  same_passes p (suc k) = ap (λ (vs : List (PoolPass T)). goes (first_pass (cell_ring n laps passes) p) ∷ vs) (same_passes (p + 1) k)
+
+  pub start_is : (numbers : ℕ) → lift (cells_from n passes) (start (cell_ring {T = T} n laps passes) numbers) ≡ start (pool_ring refused n laps passes) numbers
+  start_is numbers = ap (λ (vs : List (PoolPass T)). record { memory = record { memory = (cell_ring n laps passes).first; free = cells_from n passes }; passes = vs; history = [] }) (same_passes 0 numbers)

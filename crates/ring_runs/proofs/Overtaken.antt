@@ -15,7 +15,7 @@ use Rattle.machine.proofs.Tests.{cases}
 use Rattle.ring_machine.specs.declared.lines.Call.{Call}
 use Rattle.ring_machine.specs.declared.lines.Line.{Line}
 use Rattle.ring_machine.specs.declared.lines.Line.TheVariants.{Idle}
-use Rattle.ring_machine.specs.Machine.{Memory, cell_of, step}
+use Rattle.ring_machine.specs.Machine.{Memory, cell_of, step, wins_exchange}
 use Rattle.ring_machine.specs.Machine as ring
 use Rattle.ring_machine.specs.Answers.{shape}
 use Rattle.ring_table.specs.declared.line.SeatLine.{SeatLine}
@@ -28,14 +28,14 @@ use Rattle.running.specs.Acts.{Begins, Course, Now, played, steps_in, IsAllowed}
 use Rattle.runs.specs.Runs.{Below, one, schedule_of}
 use Rattle.runs.proofs.Underway.{steps_are_own, begins_at}
 use Rattle.step_core.proofs.ring.Pays.{step_raises, step_falls}
-use Rattle.step_core.proofs.ring.Weight.{weight, price, weight_small, price_small}
+use Rattle.step_core.proofs.ring.Weight.{weight, price, harm, weight_small, price_small}
 use Rattle.ring_runs.specs.Machine.{From, Pass, State, cell_ring}
 use Rattle.ring_runs.specs.Fresh.{Fresh, AllFresh}
 use Rattle.ring_runs.specs.Bounded.{call_at, state_after, IsBounded}
-use Rattle.ring_runs.proofs.Pool.{Pool, PoolLine, PoolOutcome, PoolPass, PoolState, Gets, Goes, waits, has, got, gets, idle_in, pool_ring}
+use Rattle.ring_runs.proofs.Pool.{Pool, PoolLine, PoolOutcome, PoolPass, PoolState, Gets, Goes, waits, has, got, gets, idle_in, waiting, pool_ring}
 use Rattle.ring_runs.proofs.PoolRule.{Rule, Story, counts, seats_in, busy_counts, pool_told}
-use Rattle.ring_runs.proofs.Follows.{goes, lift, none_map, Keeps}
-use Rattle.ring_runs.proofs.Rings.{FreshFrom, with_pool, Followed, fresh_all, fresh_later, follows, Allowed}
+use Rattle.ring_runs.proofs.Follows.{goes, lift, none_map, Kept}
+use Rattle.ring_runs.proofs.Rings.{FreshFrom, Keeps, with_pool, Followed, fresh_all, fresh_later, follows, Allowed}
 use Rattle.ring_runs.proofs.Counted.{compared}
 use Rattle.ring_runs.proofs.Running.{running}
 
@@ -61,35 +61,36 @@ module _ {T : Type 0} where
   IsGoing (Goes (Stock cs)) = ⊥
 
 module _ {T : Type 0} (n laps passes : ℕ) where
-  abbrev Kept : PoolState T → Type 0
-  Kept s = Rule n laps (n + passes) s.memory (map (λ v. v.line) s.passes) s.history
-
   -- the lines of all passes
   abbrev lines_of : PoolState T → List (PoolLine T)
   lines_of s = map (λ v. v.line) s.passes
 
-  line_at : (s : PoolState T) (p : ℕ) (v : PoolPass T) (l : PoolLine T) → get_elem? s.passes p ≡ some v → v.line ≡ l → get_elem? (lines_of s) p ≡ some l
+  pub line_at : (s : PoolState T) (p : ℕ) (v : PoolPass T) (l : PoolLine T) → get_elem? s.passes p ≡ some v → v.line ≡ l → get_elem? (lines_of s) p ≡ some l
   line_at s p v l at is = at_map (λ (u : PoolPass T). u.line) s.passes p v at ∙ ap some is
 
   -- a line of the ring that is in an operation, among the seats
   seat_at : (s : PoolState T) (p : ℕ) (l : Line T) → get_elem? (lines_of s) p ≡ some (Goes (At l)) → ring.is_idle l ≡ false → get_elem? (map counts (lines_of s)) p ≡ some (At l)
   seat_at s p l at busy = at_map counts (lines_of s) p (Goes (At l)) at ∙ ap some (busy_counts l busy)
 
-  falls_at : (s : PoolState T) (p : ℕ) (l : PoolLine T) → Kept s → get_elem? (lines_of s) p ≡ some l → idle_in l ≡ false → IsGoing l
-      → weight_in ((pool_ring n laps passes).step s.memory p l).memory ((pool_ring n laps passes).step s.memory p l).line < weight_in s.memory l
-  falls_at s p (Gets from call) k at busy going = absurd going
-  falls_at s p (Goes (At l)) k at busy going =
+  pub goes_low : (s : PoolState T) (p : ℕ) (l : Line T) → Kept n laps passes s → get_elem? (lines_of s) p ≡ some (Goes (At l)) → ring.is_idle l ≡ false → let o = step (shape n laps) s.memory.memory p l in
+      (weight o.memory o.line < weight s.memory.memory l) × (harm o.line + cond (wins_exchange s.memory.memory l) (price l) 0 ≤ harm l)
+  goes_low s p l k at busy =
       let f = found (seats_in n laps (n + passes) s.memory (lines_of s)) (suc p) l (seat_at s p l at busy) in
-      (step_falls k f.place p l f.there busy).0
+      step_falls k f.place p l f.there busy
+
+  falls_at : (s : PoolState T) (p : ℕ) (l : PoolLine T) → Kept n laps passes s → get_elem? (lines_of s) p ≡ some l → idle_in l ≡ false → IsGoing l
+      → weight_in ((pool_ring waiting n laps passes).step s.memory p l).memory ((pool_ring waiting n laps passes).step s.memory p l).line < weight_in s.memory l
+  falls_at s p (Gets from call) k at busy going = absurd going
+  falls_at s p (Goes (At l)) k at busy going = (goes_low s p l k at busy).0
   falls_at s p (Goes (Stock cs)) k at busy going = absurd going
 
-  counts_on : (m : Pool T) (p : ℕ) (l : PoolLine T) → IsGoing l → IsGoing ((pool_ring n laps passes).step m p l).line
+  counts_on : (m : Pool T) (p : ℕ) (l : PoolLine T) → IsGoing l → IsGoing ((pool_ring waiting n laps passes).step m p l).line
   counts_on m p (Gets from call) going = absurd going
   counts_on m p (Goes (At l)) going = tt
   counts_on m p (Goes (Stock cs)) going = absurd going
 
   abbrev spends_in : Pool T → PoolLine T → ℕ
-  spends_in m l = cond ((pool_ring n laps passes).wins m l) (price_in l) 0
+  spends_in m l = cond ((pool_ring waiting n laps passes).wins m l) (price_in l) 0
 
   -- a step that changes no word
   same_words : (m : Pool T) (m' : Pool T) (u : PoolLine T) → m'.memory ≡ m.memory → weight_in m' u ≤ weight_in m u + 0
@@ -97,27 +98,27 @@ module _ {T : Type 0} (n laps passes : ℕ) where
   same_words m m' (Goes (At l)) e = omega (arith, ap (λ (y : Memory T). weight y l) e)
   same_words m m' (Goes (Stock cs)) e = omega arith
 
-  gets_words : (m : Pool T) (from : SeatLine T) (call : Call T) → (gets m from call).memory.memory ≡ m.memory
+  gets_words : (m : Pool T) (from : SeatLine T) (call : Call T) → (gets waiting m from call).memory.memory ≡ m.memory
   gets_words m (At l) call = let c : ℕ = cell_of l in cases (λ (o : PoolOutcome T). o.memory.memory ≡ m.memory) (has m c) (got m c call) (waits m (Gets (At l) call)) (λ yes. refl) (λ no. refl)
   gets_words m (Stock cs) call = refl
 
-  raises_line : (s : PoolState T) (q : ℕ) (l k : Line T) (b : Bool) → ring.is_idle l ≡ b → Kept s → get_elem? (lines_of s) q ≡ some (Goes (At l)) → weight (step (shape n laps) s.memory.memory q l).memory k ≤ weight s.memory.memory k + spends_in s.memory (Goes (At l))
+  pub raises_line : (s : PoolState T) (q : ℕ) (l k : Line T) (b : Bool) → ring.is_idle l ≡ b → Kept n laps passes s → get_elem? (lines_of s) q ≡ some (Goes (At l)) → weight (step (shape n laps) s.memory.memory q l).memory k ≤ weight s.memory.memory k + cond (wins_exchange s.memory.memory l) (price l) 0
   raises_line s q l k false busy kept at =
       let f = found (seats_in n laps (n + passes) s.memory (lines_of s)) (suc q) l (seat_at s q l at busy) in
       step_raises kept f.place q l k f.there
   raises_line s q (Idle c a) k true idle kept at = omega arith
   raises_line s q l k true idle kept at = absurd (false≢true idle)
 
-  raises_at : (s : PoolState T) (q : ℕ) (l u : PoolLine T) → Kept s → get_elem? (lines_of s) q ≡ some l → weight_in ((pool_ring n laps passes).step s.memory q l).memory u ≤ weight_in s.memory u + spends_in s.memory l
-  raises_at s q (Gets from call) u k at = same_words s.memory (gets s.memory from call).memory u (gets_words s.memory from call)
+  raises_at : (s : PoolState T) (q : ℕ) (l u : PoolLine T) → Kept n laps passes s → get_elem? (lines_of s) q ≡ some l → weight_in ((pool_ring waiting n laps passes).step s.memory q l).memory u ≤ weight_in s.memory u + spends_in s.memory l
+  raises_at s q (Gets from call) u k at = same_words s.memory (gets waiting s.memory from call).memory u (gets_words s.memory from call)
   raises_at s q (Goes (Stock cs)) u k at = same_words s.memory s.memory u refl
   raises_at s q (Goes (At l)) (Gets from call) k at = omega arith
   raises_at s q (Goes (At l)) (Goes (Stock cs)) k at = omega arith
   raises_at s q (Goes (At l)) (Goes (At u)) k at = raises_line s q l u (ring.is_idle l) refl k at
 
-  weighs : Weighs (pool_ring n laps passes) Kept IsGoing weight_in price_in
+  weighs : Weighs (pool_ring {T = T} waiting n laps passes) (Kept n laps passes) IsGoing weight_in price_in
   weighs = record {
-    holds = rule_holds (pool_ring n laps passes) (Rule n laps (n + passes)) (Story n laps (n + passes)) (pool_told n laps (n + passes) passes);
+    holds = rule_holds (pool_ring {T = T} waiting n laps passes) (Rule n laps (n + passes)) (Story n laps (n + passes)) (pool_told n laps (n + passes) passes);
     falls = λ s p v k at busy going. falls_at s p v.line k (line_at s p v v.line at refl) busy going;
     counts = λ s p v k at busy going. counts_on s.memory p v.line going;
     raises = λ s p q u v k at at'. raises_at s q v.line u.line k (line_at s q v v.line at' refl);
@@ -128,7 +129,7 @@ module _ {T : Type 0} (n laps passes : ℕ) where
   cheap (Goes (At l)) = price_small l
   cheap (Goes (Stock cs)) = omega arith
 
-  left_small : (m : Pool T) (o : Option (PoolPass T)) → left_at (pool_ring n laps passes) Kept IsGoing weight_in price_in weighs m o ≤ 47
+  left_small : (m : Pool T) (o : Option (PoolPass T)) → left_at (pool_ring waiting n laps passes) (Kept n laps passes) IsGoing weight_in price_in weighs m o ≤ 47
   left_small m none = omega arith
   left_small m (some v) = by_line v.line
     where
@@ -138,9 +139,9 @@ module _ {T : Type 0} (n laps passes : ℕ) where
       by_line (Goes (Stock cs)) = omega arith
 
   pub pool_overtaken : (p : ℕ) (s : PoolState T) (schedule : Schedule (From T)) → Keeps n laps passes s → AtLine IsGoing (get_elem? s.passes p)
-      → own_steps (pool_ring n laps passes) p schedule s ≤ 47 + 47 * others_win (pool_ring n laps passes) p schedule s
+      → own_steps (pool_ring waiting n laps passes) p schedule s ≤ 47 + 47 * others_win (pool_ring waiting n laps passes) p schedule s
   pool_overtaken p s schedule k going =
-      omega (arith, overtaken (pool_ring n laps passes) Kept IsGoing weight_in price_in weighs 47 cheap p s schedule k.rule going, left_small s.memory (get_elem? s.passes p))
+      omega (arith, overtaken (pool_ring waiting n laps passes) (Kept n laps passes) IsGoing weight_in price_in weighs 47 cheap p s schedule k.rule going, left_small s.memory (get_elem? s.passes p))
 
   -- The acts of a table
 

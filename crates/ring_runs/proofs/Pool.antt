@@ -1,5 +1,5 @@
 -- The ring with a pool of free cells in its memory, for the proof: a pass that has begun takes its cell out of the pool by a step of its own, and gives its spare
--- one back by its last step. It needs no premise: a pass whose cell is not free waits for ever.
+-- one back by its last step. It needs no premise: there is a line for a pass whose cell is not free.
 use Rattle.std.proofs.Common.{ℕ, ◌+◌, Bool, false, cond, eqb, ltb, List, [], ◌∷◌}
 use Rattle.bounded_model.specs.declared.history.Event.{Event}
 use Rattle.bounded_model.specs.Machine.{Shape}
@@ -44,21 +44,12 @@ module _ {T : Type 0} where
   abbrev pub got : Pool T → ℕ → Call T → PoolOutcome T
   got m c call = record { memory = record { memory = m.memory; free = without c m.free }; line = Goes (At (first_of c call)); events = [] }
 
-  abbrev pub gets : Pool T → SeatLine T → Call T → PoolOutcome T
-  gets m (At l) call = cond (has m (cell_of l)) (got m (cell_of l) call) (waits m (Gets (At l) call))
-  gets m (Stock cs) call = waits m (Gets (Stock cs) call)
-
   -- the pool after a step to this line
   abbrev pub freed : Line T → List ℕ → List ℕ
   freed l free = cond (ring.is_idle l) (cell_of l ∷ free) free
 
   abbrev pub gone : Pool T → ring.Outcome T → PoolOutcome T
   gone m o = record { memory = record { memory = o.memory; free = freed o.line m.free }; line = Goes (At o.line); events = o.events }
-
-  abbrev pub step_in : Shape → Pool T → ℕ → PoolLine T → PoolOutcome T
-  step_in c m p (Gets from call) = gets m from call
-  step_in c m p (Goes (At l)) = gone m (step c m.memory p l)
-  step_in c m p (Goes (Stock cs)) = waits m (Goes (Stock cs))
 
   abbrev pub idle_in : PoolLine T → Bool
   idle_in (Gets from call) = false
@@ -68,6 +59,24 @@ module _ {T : Type 0} where
   wins_in m (Gets from call) = false
   wins_in m (Goes (At l)) = wins_exchange m.memory l
   wins_in m (Goes (Stock cs)) = false
+
+  -- a pass whose cell is not free waits for ever, or gives up
+  abbrev pub waiting : SeatLine T → Call T → PoolLine T
+  waiting from call = Gets from call
+
+  abbrev pub giving_up : SeatLine T → Call T → PoolLine T
+  giving_up from call = Goes (At (resting 0))
+
+-- the machine, by what becomes of a pass whose cell is not free
+module _ {T : Type 0} (refused : SeatLine T → Call T → PoolLine T) where
+  abbrev pub gets : Pool T → SeatLine T → Call T → PoolOutcome T
+  gets m (At l) call = cond (has m (cell_of l)) (got m (cell_of l) call) (waits m (refused (At l) call))
+  gets m (Stock cs) call = waits m (refused (Stock cs) call)
+
+  abbrev pub step_in : Shape → Pool T → ℕ → PoolLine T → PoolOutcome T
+  step_in c m p (Gets from call) = gets m from call
+  step_in c m p (Goes (At l)) = gone m (step c m.memory p l)
+  step_in c m p (Goes (Stock cs)) = waits m (Goes (Stock cs))
 
   abbrev pub pool_ring : ℕ → ℕ → ℕ → Machine (Pool T) (PoolLine T) (From T) (Event T)
   pool_ring n laps passes = record {

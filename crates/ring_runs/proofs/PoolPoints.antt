@@ -16,7 +16,7 @@ use Rattle.ring_runs.proofs.RingPoints.{ring_going, ring_ended, one_answer}
 use Rattle.ring_runs.specs.Machine.{From}
 use Rattle.ring_runs.specs.Linearizable.{answer_at}
 use Rattle.ring_runs.proofs.Calls.{of_more}
-use Rattle.ring_runs.proofs.Pool.{PoolLine, Gets, Goes, idle_in, pool_ring}
+use Rattle.ring_runs.proofs.Pool.{PoolLine, Gets, Goes, idle_in, waiting, pool_ring}
 use Rattle.ring_runs.proofs.PoolRule.{Rule, Story, pool_told, pool_stays}
 
 module _ {T : Type 0} where
@@ -47,7 +47,7 @@ module _ {T : Type 0} (n laps passes : ℕ) where
   unbegun p (Goes (At l)) b seen story = ap ring.is_idle story.1
   unbegun p (Goes (Stock cs)) b seen story = absurd story
 
-  pool_speaks : Speaks {T = T} (pool_ring n laps passes) answer_in (object_from n laps) (Rule n laps (n + passes)) (Story n laps (n + passes))
+  pool_speaks : Speaks {T = T} (pool_ring waiting n laps passes) answer_in (object_from n laps) (Rule n laps (n + passes)) (Story n laps (n + passes))
   pool_speaks = record {
     legal = λ m lines h k. k.told.legal;
     rest_idle = λ p. refl;
@@ -58,6 +58,6 @@ module _ {T : Type 0} (n laps passes : ℕ) where
     one_answer = λ p c a a' e. one_answer p c.1 a a' e;
   }
 
-  pub pool_linearizable : (numbers : ℕ) (schedule : Schedule (From T)) → 0 < n → Linearizable (pool_ring {T = T} n laps passes) answer_in (object_from n laps) numbers schedule
+  pub pool_linearizable : (numbers : ℕ) (schedule : Schedule (From T)) → 0 < n → Linearizable (pool_ring {T = T} waiting n laps passes) answer_in (object_from n laps) numbers schedule
   pool_linearizable numbers schedule some_slot =
-      linearizable {T = T} (pool_ring n laps passes) answer_in (object_from n laps) (Rule n laps (n + passes)) (Story n laps (n + passes)) (pool_told n laps (n + passes) passes) pool_speaks numbers schedule (pool_stays n laps passes some_slot numbers)
+      linearizable {T = T} (pool_ring waiting n laps passes) answer_in (object_from n laps) (Rule n laps (n + passes)) (Story n laps (n + passes)) (pool_told n laps (n + passes) passes) pool_speaks numbers schedule (pool_stays n laps passes some_slot numbers)

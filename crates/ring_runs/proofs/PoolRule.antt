@@ -40,7 +40,7 @@ use Rattle.step_core.proofs.ring.Run as core
 use Rattle.ring_runs.specs.Machine.{From}
 use Rattle.ring_runs.specs.Bounded.{in_operation}
 use Rattle.ring_runs.proofs.Free.{taken_out, laid_back}
-use Rattle.ring_runs.proofs.Pool.{Pool, PoolLine, PoolOutcome, Gets, Goes, without, waits, has, got, gets, gone, step_in, idle_in, pool_ring}
+use Rattle.ring_runs.proofs.Pool.{Pool, PoolLine, PoolOutcome, Gets, Goes, without, waits, has, got, gets, gone, step_in, idle_in, waiting, pool_ring}
 
 module _ {T : Type 0} where
   -- a pass's line as the rule counts it
@@ -161,15 +161,6 @@ module _ {T : Type 0} (n laps cells : ℕ) where
   abbrev After : List (PoolLine T) → List (Event T) → ℕ → PoolOutcome T → Type 0
   After lines h p o = Rule o.memory (set lines p o.line) (o.events ++ h)
 
-  gets_kept : (m : Pool T) (lines : List (PoolLine T)) (h : List (Event T)) (p : ℕ) (from : SeatLine T) (call : Call T) → Rule m lines h → get_elem? lines p ≡ some (Gets from call) → After lines h p (gets m from call)
-  gets_kept m lines h p (Stock cs) call k e = stays m lines h p (Gets (Stock cs) call) (Gets (Stock cs) call) k e refl
-  gets_kept m lines h p (At l) call k e =
-      let c : ℕ = cell_of l in
-      cases (After lines h p) (has m c) (got m c call) (waits m (Gets (At l) call))
-      (λ b. subst (λ (ss : List (SeatLine T)). K m.memory (Stock (without c m.free) ∷ ss) h) (sym (map-set counts lines p (Goes (At (first_of c call))) ∙ ap (set (map counts lines) p) (busy_counts (first_of c call) (first_busy c call))))
-      (takes m.memory m.free (map counts lines) h p c call k (grind (arith, nat_tests)) (at_map counts lines p (Gets (At l) call) e)))
-      (λ b. stays m lines h p (Gets (At l) call) (Gets (At l) call) k e refl)
-
   -- a line of the ring, among the seats
   there : (lines : List (PoolLine T)) (p : ℕ) (l : Line T) → get_elem? lines p ≡ some (Goes (At l)) → machine.is_idle l ≡ false → get_elem? (map counts lines) p ≡ some (At l)
   there lines p l e busy = at_map counts lines p (Goes (At l)) e ∙ ap some (busy_counts l busy)
@@ -190,10 +181,34 @@ module _ {T : Type 0} (n laps cells : ℕ) where
       by_test m' l' h' here kept true idle = ends m' m.free (map counts lines) h' p (At l) l' here idle kept
       by_test m' l' h' here kept false idle = kept
 
-  kept_by : (m : Pool T) (lines : List (PoolLine T)) (h : List (Event T)) (p : ℕ) (l : PoolLine T) → Rule m lines h → get_elem? lines p ≡ some l → idle_in l ≡ false → After lines h p (step_in (shape n laps) m p l)
-  kept_by m lines h p (Gets from call) k e busy = gets_kept m lines h p from call k e
-  kept_by m lines h p (Goes (At l)) k e busy = goes_kept m lines h p l k e busy
-  kept_by m lines h p (Goes (Stock cs)) k e busy = stays m lines h p (Goes (Stock cs)) (Goes (Stock cs)) k e refl
+  -- a pass that begins has no cell yet
+  pub begins_kept : (m : Pool T) (lines : List (PoolLine T)) (h : List (Event T)) (p : ℕ) (l : PoolLine T) (call : From T) → Rule m lines h → get_elem? lines p ≡ some l → idle_in l ≡ true → Rule m (set lines p (Gets call.0 call.1)) h
+  begins_kept m lines h p l call k e idle = stays m lines h p l (Gets call.0 call.1) k e (sym (idle_counts l idle))
+
+  -- A pass whose cell is not free goes to a line with no cell
+  module _ (refused : SeatLine T → Call T → PoolLine T) (no_cell : (from : SeatLine T) (call : Call T) → counts (refused from call) ≡ Stock []) where
+    gets_kept : (m : Pool T) (lines : List (PoolLine T)) (h : List (Event T)) (p : ℕ) (from : SeatLine T) (call : Call T) → Rule m lines h → get_elem? lines p ≡ some (Gets from call) → After lines h p (gets refused m from call)
+    gets_kept m lines h p (Stock cs) call k e = stays m lines h p (Gets (Stock cs) call) (refused (Stock cs) call) k e (no_cell (Stock cs) call)
+    gets_kept m lines h p (At l) call k e =
+        let c : ℕ = cell_of l in
+        cases (After lines h p) (has m c) (got m c call) (waits m (refused (At l) call))
+        (λ b. subst (λ (ss : List (SeatLine T)). K m.memory (Stock (without c m.free) ∷ ss) h) (sym (map-set counts lines p (Goes (At (first_of c call))) ∙ ap (set (map counts lines) p) (busy_counts (first_of c call) (first_busy c call))))
+        (takes m.memory m.free (map counts lines) h p c call k (grind (arith, nat_tests)) (at_map counts lines p (Gets (At l) call) e)))
+        (λ b. stays m lines h p (Gets (At l) call) (refused (At l) call) k e (no_cell (At l) call))
+
+    pub kept_by : (m : Pool T) (lines : List (PoolLine T)) (h : List (Event T)) (p : ℕ) (l : PoolLine T) → Rule m lines h → get_elem? lines p ≡ some l → idle_in l ≡ false → After lines h p (step_in refused (shape n laps) m p l)
+    kept_by m lines h p (Gets from call) k e busy = gets_kept m lines h p from call k e
+    kept_by m lines h p (Goes (At l)) k e busy = goes_kept m lines h p l k e busy
+    kept_by m lines h p (Goes (Stock cs)) k e busy = stays m lines h p (Goes (Stock cs)) (Goes (Stock cs)) k e refl
+
+    gets_apart : (m : Pool T) (from : SeatLine T) (k : Call T) (q : ℕ) (h : List (Event T)) → own q ((gets refused m from k).events ++ h) ≡ own q h
+    gets_apart m (Stock cs) k q h = refl
+    gets_apart m (At l) k q h = let c : ℕ = cell_of l in cases (λ (o : PoolOutcome T). own q (o.events ++ h) ≡ own q h) (has m c) (got m c k) (waits m (refused (At l) k)) (λ yes. refl) (λ no. refl)
+
+    pub apart_by : (m : Pool T) (h : List (Event T)) (p q : ℕ) (l : PoolLine T) → q ≢ p → own q ((step_in refused (shape n laps) m p l).events ++ h) ≡ own q h
+    apart_by m h p q (Gets from k) ne = gets_apart m from k q h
+    apart_by m h p q (Goes (At l)) ne = step_apart n laps m.memory p q ne h l
+    apart_by m h p q (Goes (Stock cs)) ne = refl
 
   -- What a pass has done since it began its call
 
@@ -227,11 +242,11 @@ module _ {T : Type 0} (n laps cells : ℕ) where
       subst (λ (o : Option (From T)). Story p o (Goes (At (first_of c k))) b h) (sym is)
       (first_tells c k b h, record { between = q.between; is = q.is; made = subst (HasMade p n k (first_of c k)) (sym q.none_own) (first_made p c k) })
 
-  gets_story : (m : Pool T) (p : ℕ) (from : SeatLine T) (k : Call T) (call : Option (From T)) (b h : List (Event T)) → call ≡ some (from, k) → Quiet p b h → Tale p call b h (gets m from k)
+  gets_story : (m : Pool T) (p : ℕ) (from : SeatLine T) (k : Call T) (call : Option (From T)) (b h : List (Event T)) → call ≡ some (from, k) → Quiet p b h → Tale p call b h (gets waiting m from k)
   gets_story m p (Stock cs) k call b h is q = (is, q)
   gets_story m p (At l) k call b h is q =
       let c : ℕ = cell_of l in
-      cases (Tale p call b h) (has m c) (got m c k) (waits m (Gets (At l) k)) (λ yes. first_story p c (At l) k call b h is q) (λ no. (is, q))
+      cases (Tale p call b h) (has m c) (got m c k) (waits m (waiting (At l) k)) (λ yes. first_story p c (At l) k call b h is q) (λ no. (is, q))
 
   goes_story : (m : Pool T) (lines : List (PoolLine T)) (h : List (Event T)) (p : ℕ) (call : Option (From T)) (l : Line T) (b seen : List (Event T)) → Rule m lines h → get_elem? lines p ≡ some (Goes (At l)) → machine.is_idle l ≡ false
       → Later b seen → Ahead p seen h → Story p call (Goes (At l)) b seen → Tale p call b h (gone m (step (shape n laps) m.memory p l))
@@ -245,33 +260,24 @@ module _ {T : Type 0} (n laps cells : ℕ) where
       still_doing (some from) l' newer goes d = goes from.1 d
 
   story_kept : (m : Pool T) (lines : List (PoolLine T)) (h : List (Event T)) (p : ℕ) (call : Option (From T)) (l : PoolLine T) (b seen : List (Event T)) → Rule m lines h → get_elem? lines p ≡ some l → idle_in l ≡ false
-      → Later b seen → Ahead p seen h → Story p call l b seen → Tale p call b h (step_in (shape n laps) m p l)
+      → Later b seen → Ahead p seen h → Story p call l b seen → Tale p call b h (step_in waiting (shape n laps) m p l)
   story_kept m lines h p call (Gets from k') b seen k e busy before ahead story = gets_story m p from k' call b h story.0 (quiet_later p b seen h ahead story.1)
   story_kept m lines h p call (Goes (At l)) b seen k e busy before ahead story = goes_story m lines h p call l b seen k e busy before ahead story
   story_kept m lines h p call (Goes (Stock cs)) b seen k e busy before ahead story = absurd story
 
-  gets_apart : (m : Pool T) (from : SeatLine T) (k : Call T) (q : ℕ) (h : List (Event T)) → own q ((gets m from k).events ++ h) ≡ own q h
-  gets_apart m (Stock cs) k q h = refl
-  gets_apart m (At l) k q h = let c : ℕ = cell_of l in cases (λ (o : PoolOutcome T). own q (o.events ++ h) ≡ own q h) (has m c) (got m c k) (waits m (Gets (At l) k)) (λ yes. refl) (λ no. refl)
-
-  apart_by : (m : Pool T) (h : List (Event T)) (p q : ℕ) (l : PoolLine T) → q ≢ p → own q ((step_in (shape n laps) m p l).events ++ h) ≡ own q h
-  apart_by m h p q (Gets from k) ne = gets_apart m from k q h
-  apart_by m h p q (Goes (At l)) ne = step_apart n laps m.memory p q ne h l
-  apart_by m h p q (Goes (Stock cs)) ne = refl
-
   module _ (passes : ℕ) where
-    pub pool_told : Told (pool_ring n laps passes) Rule Story
+    pub pool_told : Told (pool_ring waiting n laps passes) Rule Story
     pool_told = record {
-      begins = λ m lines h p l call k e idle. stays m lines h p l (Gets call.0 call.1) k e (sym (idle_counts l idle));
+      begins = λ m lines h p l call k e idle. begins_kept m lines h p l call k e idle;
       begins_story = λ p l call seen idle. (refl, record { between = []; is = refl; none_own = refl });
-      steps = λ m lines h p l k e busy. kept_by m lines h p l k e busy;
+      steps = λ m lines h p l k e busy. kept_by waiting (λ from call. refl) m lines h p l k e busy;
       steps_story = λ m lines h p call l b seen k e busy before ahead story. story_kept m lines h p call l b seen k e busy before ahead story;
-      apart = λ m h p q l ne. apart_by m h p q l ne;
+      apart = λ m h p q l ne. apart_by waiting (λ from call. refl) m h p q l ne;
     }
 
 module _ {T : Type 0} (n laps passes : ℕ) (some_slot : 0 < n) where
   -- a pass that has begun nothing does not count
-  none_first : (p k : ℕ) → passes_of (map counts (first_lines (pool_ring {T = T} n laps passes) p k)) ≡ []
+  none_first : (p k : ℕ) → passes_of (map counts (first_lines (pool_ring {T = T} waiting n laps passes) p k)) ≡ []
   none_first p zero = refl
   none_first p (suc k) = none_first (p + 1) k
 
@@ -279,7 +285,7 @@ module _ {T : Type 0} (n laps passes : ℕ) (some_slot : 0 < n) where
   rest_lines p zero = refl
   rest_lines p (suc k) = let e : n + p + 1 ≡ n + (p + 1) = omega arith in ap (λ (ls : List (Line T)). resting (n + p) ∷ ls) (ap (λ (c : ℕ). each_resting (cells_from c k)) e ∙ rest_lines (p + 1) k)
 
-  first_passes : (numbers : ℕ) → passes_of (Stock (cells_from n passes) ∷ map counts (first_lines (pool_ring {T = T} n laps passes) 0 numbers)) ≡ first_lines (ring {T = T} (shape n laps)) 0 passes
+  first_passes : (numbers : ℕ) → passes_of (Stock (cells_from n passes) ∷ map counts (first_lines (pool_ring {T = T} waiting n laps passes) 0 numbers)) ≡ first_lines (ring {T = T} (shape n laps)) 0 passes
   first_passes numbers =
       ap (λ (ls : List (Line T)). each_resting (cells_from n passes) ++ ls) (none_first 0 numbers) ∙ append-nil (each_resting (cells_from n passes))
       ∙ (let e : n ≡ n + 0 = omega arith in ap (λ (c : ℕ). each_resting (cells_from c passes)) e) ∙ rest_lines 0 passes
@@ -292,8 +298,11 @@ module _ {T : Type 0} (n laps passes : ℕ) (some_slot : 0 < n) where
     home = λ c low. if_below c (n + passes) (some None) none low;
   }
 
-  pub pool_stays : (numbers : ℕ) → Stays (pool_ring {T = T} n laps passes) (Rule n laps (n + passes)) (Story n laps (n + passes)) (start (pool_ring n laps passes) numbers)
+  pub first_rule : (numbers : ℕ) → Rule n laps (n + passes) (record { memory = first_memory T n laps passes; free = cells_from n passes }) (first_lines (pool_ring {T = T} waiting n laps passes) 0 numbers) []
+  first_rule numbers = subst (λ (ls : List (Line T)). Good T n laps (n + passes) (first_memory T n laps passes) ls []) (sym (first_passes numbers)) (shown_good T n laps passes (first_memory T n laps passes) some_slot first_new)
+
+  pub pool_stays : (numbers : ℕ) → Stays (pool_ring {T = T} waiting n laps passes) (Rule n laps (n + passes)) (Story n laps (n + passes)) (start (pool_ring waiting n laps passes) numbers)
   pool_stays numbers =
-      start_stays (pool_ring n laps passes) (Rule n laps (n + passes)) (Story n laps (n + passes)) numbers
-      (subst (λ (ls : List (Line T)). Good T n laps (n + passes) (first_memory T n laps passes) ls []) (sym (first_passes numbers)) (shown_good T n laps passes (first_memory T n laps passes) some_slot first_new))
+      start_stays (pool_ring waiting n laps passes) (Rule n laps (n + passes)) (Story n laps (n + passes)) numbers
+      (first_rule numbers)
       (λ p. (tt, refl))

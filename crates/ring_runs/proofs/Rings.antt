@@ -1,11 +1,11 @@
 -- The ring's laws, of the acts that led to a table.
-use Rattle.std.proofs.Common.{◌≡◌, ℕ, zero, suc, ◌+◌, ◌<◌, List, [], ◌∷◌, ◌++◌, append-nil, append_assoc, map, refl, sym, ap, ◌∙◌, subst}
+use Rattle.std.proofs.Common.{◌≡◌, ℕ, ◌+◌, ◌<◌, List, [], ◌∷◌, ◌++◌, append-nil, append_assoc, map, refl, sym, ap, ◌∙◌, subst}
 use Rattle.std.specs.List.{AllByRecursion as Every}
 use lib.ListN.{get_elem?}
 use Rattle.machine.specs.Seats.{Acts}
-use Rattle.machine.specs.Schedule.{Schedule, next, run, start, first_pass, first_passes}
+use Rattle.machine.specs.Schedule.{Schedule, next, run, start}
 use Rattle.machine.proofs.Scheduled.{run_kept}
-use Rattle.machine.proofs.Stories.{stays_holds}
+use Rattle.machine.proofs.Stories.{Stays, stays_holds}
 use Rattle.ring_table.specs.declared.line.SeatLine.{SeatLine}
 use Rattle.ring_table.specs.declared.line.SeatLine.TheVariants.{At, Stock}
 use Rattle.ring_table.specs.Seats.{names, cells_from, passes_of}
@@ -17,7 +17,7 @@ use Rattle.runs.specs.Runs.{Below, one, schedule_of, Shows}
 use Rattle.runs.specs.Heard.{IsLinearizable}
 use Rattle.runs.proofs.Link.{run_append, shows_all}
 use Rattle.runs.proofs.Heard.{passes_of as numbers_of, all_below, linearizable_acts}
-use Rattle.step_core.specs.Linearizable.{Linearizable, concurrent_history, Entry}
+use Rattle.step_core.specs.Linearizable.{Linearizable, history_at, concurrent_history, Entry}
 use Rattle.step_core.specs.ring.Object.{object}
 use Rattle.ring_machine.specs.declared.lines.Answer.{Answer}
 use Rattle.ring_runs.specs.Machine.{From, Pass, State, cell_ring}
@@ -25,13 +25,17 @@ use Rattle.ring_runs.specs.Fresh.{Fresh, AllFresh}
 use Rattle.ring_runs.specs.Bounded.{call_in, call_at, in_operation, state_after, MeetsRule}
 use Rattle.ring_runs.specs.Linearizable.{answer_at}
 use Rattle.ring_runs.proofs.Calls.{of_calls_alone}
-use Rattle.ring_runs.proofs.Pool.{PoolPass, PoolState, pool_ring}
+use Rattle.ring_runs.proofs.Pool.{PoolPass, PoolState, waiting, pool_ring}
 use Rattle.ring_runs.proofs.PoolRule.{Rule, Story, counts, pool_told, pool_stays}
 use Rattle.ring_runs.proofs.PoolPoints.{answer_in, call_of, object_from, pool_linearizable}
-use Rattle.ring_runs.proofs.Follows.{goes, lift, twice, IsFresh, Keeps, one_act}
+use Rattle.ring_runs.proofs.Follows.{goes, lift, twice, IsFresh, one_act, start_is}
 use Rattle.ring_runs.proofs.Running.{running}
 
 module _ {T : Type 0} (n laps passes : ℕ) where
+  -- what holds of the ring with a pool between any two acts
+  abbrev pub Keeps : PoolState T → Type 0
+  Keeps s = Stays (pool_ring waiting n laps passes) (Rule n laps (n + passes)) (Story n laps (n + passes)) s
+
   -- each begin of a schedule is at a cell that is free then
   abbrev pub FreshFrom : Schedule (From T) → State T → Type 0
   FreshFrom [] s = Unit {0}
@@ -42,37 +46,46 @@ module _ {T : Type 0} (n laps passes : ℕ) where
   with_pool [] s = []
   with_pool (a ∷ more) s = twice a.0 a.1 (get_elem? s.passes a.0) ++ with_pool more (next (cell_ring n laps passes) s a)
 
-  history_append : (xs ys : Schedule (From T)) (s : PoolState T) → concurrent_history (pool_ring n laps passes) answer_in (xs ++ ys) s ≡ concurrent_history (pool_ring n laps passes) answer_in ys (run (pool_ring n laps passes) xs s) ++ concurrent_history (pool_ring n laps passes) answer_in xs s
-  history_append [] ys s = sym (append-nil (concurrent_history (pool_ring n laps passes) answer_in ys s))
+  history_append : (xs ys : Schedule (From T)) (s : PoolState T) → concurrent_history (pool_ring waiting n laps passes) answer_in (xs ++ ys) s ≡ concurrent_history (pool_ring waiting n laps passes) answer_in ys (run (pool_ring waiting n laps passes) xs s) ++ concurrent_history (pool_ring waiting n laps passes) answer_in xs s
+  history_append [] ys s = sym (append-nil (concurrent_history (pool_ring waiting n laps passes) answer_in ys s))
   history_append (a ∷ xs) ys s =
-      let more : List (Entry T (From T) (Answer T)) = concurrent_history (pool_ring n laps passes) answer_in xs (next (pool_ring n laps passes) s a) in
-      let at : List (Entry T (From T) (Answer T)) = concurrent_history (pool_ring n laps passes) answer_in (a ∷ []) s in
-      ap (λ (l : List (Entry T (From T) (Answer T))). l ++ at) (history_append xs ys (next (pool_ring n laps passes) s a)) ∙ append_assoc (concurrent_history (pool_ring n laps passes) answer_in ys (run (pool_ring n laps passes) xs (next (pool_ring n laps passes) s a))) more at
+      let more : List (Entry T (From T) (Answer T)) = concurrent_history (pool_ring waiting n laps passes) answer_in xs (next (pool_ring waiting n laps passes) s a) in
+      let at : List (Entry T (From T) (Answer T)) = concurrent_history (pool_ring waiting n laps passes) answer_in (a ∷ []) s in
+      ap (λ (l : List (Entry T (From T) (Answer T))). l ++ at) (history_append xs ys (next (pool_ring waiting n laps passes) s a)) ∙ append_assoc (concurrent_history (pool_ring waiting n laps passes) answer_in ys (run (pool_ring waiting n laps passes) xs (next (pool_ring waiting n laps passes) s a))) more at
 
   pub record Followed (schedule : Schedule (From T)) (s : State T) (free : List ℕ) : Type 0 where
     pub left : List ℕ
-    pub ends : run (pool_ring n laps passes) (with_pool schedule s) (lift free s) ≡ lift left (run (cell_ring n laps passes) schedule s)
-    pub heard : concurrent_history (pool_ring n laps passes) answer_in (with_pool schedule s) (lift free s) ≡ concurrent_history (cell_ring n laps passes) answer_at schedule s
-    pub keeps : Keeps n laps passes (lift left (run (cell_ring n laps passes) schedule s))
+    pub ends : run (pool_ring waiting n laps passes) (with_pool schedule s) (lift free s) ≡ lift left (run (cell_ring n laps passes) schedule s)
+    pub heard : concurrent_history (pool_ring waiting n laps passes) answer_in (with_pool schedule s) (lift free s) ≡ concurrent_history (cell_ring n laps passes) answer_at schedule s
+    pub keeps : Keeps (lift left (run (cell_ring n laps passes) schedule s))
 
-  pub kept_run : (schedule : Schedule (From T)) (s : PoolState T) → Keeps n laps passes s → Keeps n laps passes (run (pool_ring n laps passes) schedule s)
+  pub kept_run : (schedule : Schedule (From T)) (s : PoolState T) → Keeps s → Keeps (run (pool_ring waiting n laps passes) schedule s)
   kept_run schedule s k =
-      run_kept (pool_ring n laps passes) (Keeps n laps passes) (stays_holds (pool_ring n laps passes) (Rule n laps (n + passes)) (Story n laps (n + passes)) (pool_told n laps (n + passes) passes)) schedule s k
+      run_kept (pool_ring waiting n laps passes) Keeps (stays_holds (pool_ring waiting n laps passes) (Rule n laps (n + passes)) (Story n laps (n + passes)) (pool_told n laps (n + passes) passes)) schedule s k
 
-  pub followed : (schedule : Schedule (From T)) (s : State T) (free : List ℕ) → Keeps n laps passes (lift free s) → FreshFrom schedule s → Followed schedule s free
+  joined : (first rest : Schedule (From T)) (y y' z : PoolState T) → run (pool_ring waiting n laps passes) first y ≡ y' → run (pool_ring waiting n laps passes) rest y' ≡ z → run (pool_ring waiting n laps passes) (first ++ rest) y ≡ z
+  joined first rest y y' z e e' = run_append (pool_ring waiting n laps passes) first rest y ∙ ap (run (pool_ring waiting n laps passes) rest) e ∙ e'
+
+  heard_joined : (first rest : Schedule (From T)) (y y' : PoolState T) (before after : List (Entry T (From T) (Answer T))) → run (pool_ring waiting n laps passes) first y ≡ y' → concurrent_history (pool_ring waiting n laps passes) answer_in first y ≡ before
+      → concurrent_history (pool_ring waiting n laps passes) answer_in rest y' ≡ after → concurrent_history (pool_ring waiting n laps passes) answer_in (first ++ rest) y ≡ after ++ before
+  heard_joined first rest y y' before after e b a =
+      history_append first rest y
+      ∙ ap (λ (l : List (Entry T (From T) (Answer T))). l ++ concurrent_history (pool_ring waiting n laps passes) answer_in first y) (ap (concurrent_history (pool_ring waiting n laps passes) answer_in rest) e ∙ a)
+      ∙ ap (λ (l : List (Entry T (From T) (Answer T))). after ++ l) b
+
+  pub followed : (schedule : Schedule (From T)) (s : State T) (free : List ℕ) → Keeps (lift free s) → FreshFrom schedule s → Followed schedule s free
   followed [] s free k fresh = record { left = free; ends = refl; heard = refl; keeps = k }
   followed (a ∷ more) s free k fresh =
-      let o = one_act n laps passes s free a.0 a.1 (get_elem? s.passes a.0) k refl fresh.0 in
+      let o = one_act waiting n laps passes s free a.0 a.1 (get_elem? s.passes a.0) k.rule refl fresh.0 in
       let first : Schedule (From T) = twice a.0 a.1 (get_elem? s.passes a.0) in
       let s' : State T = next (cell_ring n laps passes) s a in
-      let k' : Keeps n laps passes (lift o.free' s') = subst (Keeps n laps passes) o.ends (kept_run first (lift free s) k) in
+      let k' : Keeps (lift o.free' s') = subst Keeps o.ends (kept_run first (lift free s) k) in
       let f = followed more s' o.free' k' fresh.1 in
       let rest : Schedule (From T) = with_pool more s' in
       record {
         left = f.left;
-        ends = run_append (pool_ring n laps passes) first rest (lift free s) ∙ ap (run (pool_ring n laps passes) rest) o.ends ∙ f.ends;
-        heard = history_append first rest (lift free s)
-            ∙ (let before = o.heard in let after = ap (concurrent_history (pool_ring n laps passes) answer_in rest) o.ends ∙ f.heard in λ t. after t ++ before t);
+        ends = joined first rest (lift free s) (lift o.free' s') (lift f.left (run (cell_ring n laps passes) more s')) o.ends f.ends;
+        heard = heard_joined first rest (lift free s) (lift o.free' s') (history_at (cell_ring n laps passes) answer_at s a.0 a.1 (get_elem? s.passes a.0)) (concurrent_history (cell_ring n laps passes) answer_at more s') o.ends o.heard f.heard;
         keeps = f.keeps;
       }
 
@@ -109,19 +122,12 @@ module _ {T : Type 0} (n laps passes : ℕ) where
       fresh_append (schedule_of call_at older) (one call_at a.0 a.1) (start (cell_ring n laps passes) numbers) (fresh_all numbers older low.1 allowed.1 fresh.1)
       (fresh_one numbers (state_after n laps passes numbers older) (played names (core T n laps passes) older) (shows_all (ring_on T n laps passes) (cell_ring n laps passes) call_at (running n laps passes) numbers older low.1 allowed.1) a.0 a.1 fresh.0)
 
-  same_passes : (p k : ℕ) → map goes (first_passes (cell_ring {T = T} n laps passes) p k) ≡ first_passes (pool_ring n laps passes) p k
-  same_passes p zero = refl
-  same_passes p (suc k) = ap (λ (vs : List (PoolPass T)). goes (first_pass (cell_ring n laps passes) p) ∷ vs) (same_passes (p + 1) k)
-
-  pub start_is : (numbers : ℕ) → lift (cells_from n passes) (start (cell_ring {T = T} n laps passes) numbers) ≡ start (pool_ring n laps passes) numbers
-  start_is numbers = ap (λ (vs : List (PoolPass T)). record { memory = record { memory = (cell_ring n laps passes).first; free = cells_from n passes }; passes = vs; history = [] }) (same_passes 0 numbers)
-
   -- a pass as the rule counts it
   same_lines : (vs : List (Pass T)) → map counts (map (λ (v : PoolPass T). v.line) (map goes vs)) ≡ map (λ (v : Pass T). in_operation v.line) vs
   same_lines [] = refl
   same_lines (v ∷ vs) = ap (λ (ls : List (SeatLine T)). in_operation v.line ∷ ls) (same_lines vs)
 
-  pub meets_rule : (free : List ℕ) (s : State T) → Keeps n laps passes (lift free s) → MeetsRule n laps passes s
+  pub meets_rule : (free : List ℕ) (s : State T) → Keeps (lift free s) → MeetsRule n laps passes s
   meets_rule free s k = record {
     free = free;
     good = subst (λ (ss : List (SeatLine T)). Good T n laps (n + passes) s.memory (passes_of (Stock free ∷ ss)) s.history) (same_lines s.passes) k.rule;
@@ -135,7 +141,7 @@ module _ {T : Type 0} (n laps passes : ℕ) where
     begins = start (cell_ring n laps passes) numbers
 
     pub follows : Followed schedule begins (cells_from n passes)
-    follows = followed schedule begins (cells_from n passes) (subst (Keeps n laps passes) (sym (start_is numbers)) (pool_stays n laps passes some_slot numbers)) (fresh_all numbers acts low allowed fresh)
+    follows = followed schedule begins (cells_from n passes) (subst Keeps (sym (start_is waiting n laps passes numbers)) (pool_stays n laps passes some_slot numbers)) (fresh_all numbers acts low allowed fresh)
 
     pub meets : MeetsRule n laps passes (state_after n laps passes numbers acts)
     meets = meets_rule follows.left (state_after n laps passes numbers acts) follows.keeps
@@ -145,9 +151,9 @@ module _ {T : Type 0} (n laps passes : ℕ) where
         let l = pool_linearizable n laps passes numbers (with_pool schedule begins) some_slot in
         record {
           course = l.course;
-          same_calls = l.same_calls ∙ ap (concurrent_history (pool_ring n laps passes) answer_in (with_pool schedule begins)) (sym (start_is numbers)) ∙ follows.heard;
+          same_calls = l.same_calls ∙ ap (concurrent_history (pool_ring waiting n laps passes) answer_in (with_pool schedule begins)) (sym (start_is waiting n laps passes numbers)) ∙ follows.heard;
           right = l.right;
-          same_history = l.same_history ∙ ap (λ (z : PoolState T). (run (pool_ring n laps passes) (with_pool schedule begins) z).history) (sym (start_is numbers)) ∙ ap (λ (z : PoolState T). z.history) follows.ends;
+          same_history = l.same_history ∙ ap (λ (z : PoolState T). (run (pool_ring waiting n laps passes) (with_pool schedule begins) z).history) (sym (start_is waiting n laps passes numbers)) ∙ ap (λ (z : PoolState T). z.history) follows.ends;
         }
 
     linearizable_at : IsLinearizable names (core T n laps passes) call_at answer_at (object_from n laps) acts

@@ -1,15 +1,18 @@
 //! Laws of the acts that led to a running ring's table: they are a schedule of its machine, they are
-//! linearizable, and an operation under way has made so many steps, by what others did meanwhile. A
-//! joined pass leaves its spare cell to a later one, so in the machine here each begin says which
-//! cell the pass has. The laws hold of acts in which each operation was begun with a cell that was
-//! free, as is that of each pass of a running ring between two operations. No function here makes a
-//! step: the contract of each is a law of what the passes know.
+//! linearizable, an operation under way has made so many steps, by what others did meanwhile, and all
+//! passes together make no more than their calls cost. A joined pass leaves its spare cell to a later
+//! one, so in the machine here each begin says which cell the pass has. The laws hold of acts in which
+//! each operation was begun with a cell that was free, as is that of each pass of a running ring
+//! between two operations. No function here makes a step: the contract of each is a law of what the
+//! passes know.
 #![tactic(auto)]
 
 mod bounds;
 mod fresh;
 mod linearizable;
+mod work;
 
 pub use bounds::{ring_acts_are_a_schedule, ring_steps_are_bounded};
 pub use fresh::ring_begins_are_fresh;
 pub use linearizable::ring_acts_are_linearizable;
+pub use work::ring_total_work;
