@@ -9,7 +9,6 @@ pub mod Follows
 pub mod Rings
 pub mod Counted
 pub mod Overtaken
-pub mod Begins
 pub mod Paid
 pub mod AtOnce
 pub mod Total

@@ -30,7 +30,7 @@ use Rattle.runs.proofs.Underway.{steps_are_own, begins_at}
 use Rattle.step_core.proofs.ring.Pays.{step_raises, step_falls}
 use Rattle.step_core.proofs.ring.Weight.{weight, price, harm, weight_small, price_small}
 use Rattle.ring_runs.specs.Machine.{From, Pass, State, cell_ring}
-use Rattle.ring_runs.specs.Fresh.{Fresh, AllFresh}
+use Rattle.running.specs.Acts.{IsFresh as Fresh, AllFresh}
 use Rattle.ring_runs.specs.Bounded.{call_at, state_after, IsBounded}
 use Rattle.ring_runs.proofs.Pool.{Pool, PoolLine, PoolOutcome, PoolPass, PoolState, Gets, Goes, waits, has, got, gets, idle_in, waiting, pool_ring}
 use Rattle.ring_runs.proofs.PoolRule.{Rule, Story, counts, seats_in, busy_counts, pool_told}
@@ -149,21 +149,21 @@ module _ {T : Type 0} (n laps passes : ℕ) where
   schedule_append [] ys = sym (append-nil (schedule_of call_at ys))
   schedule_append (a ∷ xs) ys = ap (λ (s : Schedule (From T)). s ++ one call_at a.0 a.1) (schedule_append xs ys) ∙ append_assoc (schedule_of call_at ys) (schedule_of call_at xs) (one call_at a.0 a.1)
 
-  fresh_older : (xs ys : Acts (SeatLine T)) → AllFresh n laps passes (xs ++ ys) → AllFresh n laps passes ys
+  fresh_older : (xs ys : Acts (SeatLine T)) → AllFresh names (core T n laps passes) (xs ++ ys) → AllFresh names (core T n laps passes) ys
   fresh_older [] ys f = f
   fresh_older (x ∷ xs) ys f = fresh_older xs ys f.1
 
   -- a fresh first line is that of a pass
-  first_goes : (first : SeatLine T) (k : Now names (core T n laps passes)) → Fresh n laps passes k (Begins first) → IsGoing (Goes first)
+  first_goes : (first : SeatLine T) (k : Now names (core T n laps passes)) → Fresh names (core T n laps passes) k (Begins first) → IsGoing (Goes first)
   first_goes (At l) k f = tt
   first_goes (Stock cs) k f = absurd f
 
-  module _ (some_slot : 0 < n) (x : ℕ) (before now : Acts (SeatLine T)) (first l : SeatLine T) (k : Course names (core T n laps passes) before now x first l) (busy : is_idle l ≡ false) (fresh : AllFresh n laps passes now) where
+  module _ (some_slot : 0 < n) (x : ℕ) (before now : Acts (SeatLine T)) (first l : SeatLine T) (k : Course names (core T n laps passes) before now x first l) (busy : is_idle l ≡ false) where
     abbrev older : Acts (SeatLine T)
     older = (x, Begins first) ∷ before
 
-    fresh_all_of : AllFresh n laps passes (k.since ++ older)
-    fresh_all_of = subst (AllFresh n laps passes) k.is fresh
+    fresh_all_of : AllFresh names (core T n laps passes) (k.since ++ older)
+    fresh_all_of = subst (AllFresh names (core T n laps passes)) k.is k.fresh
 
     module _ (numbers : ℕ) (low : Below numbers now) where
       abbrev s : State T
@@ -181,7 +181,7 @@ module _ {T : Type 0} (n laps passes : ℕ) where
       -- what has been begun since had its cell
       fresh_since : FreshFrom n laps passes (schedule_of call_at k.since) s
       fresh_since = fresh_later n laps passes (schedule_of call_at older) (schedule_of call_at k.since) (start (cell_ring n laps passes) numbers)
-          (subst (λ (sch : Schedule (From T)). FreshFrom n laps passes sch (start (cell_ring n laps passes) numbers)) (ap (schedule_of call_at) k.is ∙ schedule_append k.since older) (fresh_all n laps passes numbers now low k.allowed fresh))
+          (subst (λ (sch : Schedule (From T)). FreshFrom n laps passes sch (start (cell_ring n laps passes) numbers)) (ap (schedule_of call_at) k.is ∙ schedule_append k.since older) (fresh_all n laps passes numbers now low k.allowed k.fresh))
 
       going : AtLine IsGoing (get_elem? (lift so_far.left s).passes x)
       going = by_pass (get_elem? s.passes x) refl

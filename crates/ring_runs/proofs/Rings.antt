@@ -21,7 +21,7 @@ use Rattle.step_core.specs.Linearizable.{Linearizable, history_at, concurrent_hi
 use Rattle.step_core.specs.ring.Object.{object}
 use Rattle.ring_machine.specs.declared.lines.Answer.{Answer}
 use Rattle.ring_runs.specs.Machine.{From, Pass, State, cell_ring}
-use Rattle.ring_runs.specs.Fresh.{Fresh, AllFresh}
+use Rattle.running.specs.Acts.{IsFresh as Fresh, AllFresh}
 use Rattle.ring_runs.specs.Bounded.{call_in, call_at, in_operation, state_after, MeetsRule}
 use Rattle.ring_runs.specs.Linearizable.{answer_at}
 use Rattle.ring_runs.proofs.Calls.{of_calls_alone}
@@ -99,7 +99,7 @@ module _ {T : Type 0} (n laps passes : ℕ) where
   fresh_later [] ys s f = f
   fresh_later (a ∷ xs) ys s f = fresh_later xs ys (next (cell_ring n laps passes) s a) f.1
 
-  fresh_one : (numbers : ℕ) (s : State T) (k : Now names (core T n laps passes)) → Shows (ring_on T n laps passes) (cell_ring n laps passes) call_at numbers s k → (p : ℕ) (d : Doing (SeatLine T)) → Fresh n laps passes k d → FreshFrom (one call_at p d) s
+  fresh_one : (numbers : ℕ) (s : State T) (k : Now names (core T n laps passes)) → Shows (ring_on T n laps passes) (cell_ring n laps passes) call_at numbers s k → (p : ℕ) (d : Doing (SeatLine T)) → Fresh names (core T n laps passes) k d → FreshFrom (one call_at p d) s
   fresh_one numbers s k sh p (Begins (At l)) f = (
     record {
       is_cell = f.is_cell;
@@ -116,7 +116,7 @@ module _ {T : Type 0} (n laps passes : ℕ) where
   abbrev pub Allowed : Acts (SeatLine T) → Type 0
   Allowed acts = Every (λ a. IsAllowed names (core T n laps passes) a.1) acts
 
-  pub fresh_all : (numbers : ℕ) (acts : Acts (SeatLine T)) → Below numbers acts → Allowed acts → AllFresh n laps passes acts → FreshFrom (schedule_of call_at acts) (start (cell_ring n laps passes) numbers)
+  pub fresh_all : (numbers : ℕ) (acts : Acts (SeatLine T)) → Below numbers acts → Allowed acts → AllFresh names (core T n laps passes) acts → FreshFrom (schedule_of call_at acts) (start (cell_ring n laps passes) numbers)
   fresh_all numbers [] low allowed fresh = tt
   fresh_all numbers (a ∷ older) low allowed fresh =
       fresh_append (schedule_of call_at older) (one call_at a.0 a.1) (start (cell_ring n laps passes) numbers) (fresh_all numbers older low.1 allowed.1 fresh.1)
@@ -133,7 +133,7 @@ module _ {T : Type 0} (n laps passes : ℕ) where
     good = subst (λ (ss : List (SeatLine T)). Good T n laps (n + passes) s.memory (passes_of (Stock free ∷ ss)) s.history) (same_lines s.passes) k.rule;
   }
 
-  module _ (some_slot : 0 < n) (numbers : ℕ) (acts : Acts (SeatLine T)) (low : Below numbers acts) (allowed : Allowed acts) (fresh : AllFresh n laps passes acts) where
+  module _ (some_slot : 0 < n) (numbers : ℕ) (acts : Acts (SeatLine T)) (low : Below numbers acts) (allowed : Allowed acts) (fresh : AllFresh names (core T n laps passes) acts) where
     abbrev schedule : Schedule (From T)
     schedule = schedule_of call_at acts
 
@@ -159,6 +159,6 @@ module _ {T : Type 0} (n laps passes : ℕ) where
     linearizable_at : IsLinearizable names (core T n laps passes) call_at answer_at (object_from n laps) acts
     linearizable_at = linearizable_acts (ring_on T n laps passes) (cell_ring n laps passes) call_at answer_at (running n laps passes) (object_from n laps) numbers acts low allowed ring_linearizable
 
-  pub linearizable : (acts : Acts (SeatLine T)) → 0 < n → Allowed acts → AllFresh n laps passes acts → IsLinearizable names (core T n laps passes) call_in answer_at (object n laps) acts
+  pub linearizable : (acts : Acts (SeatLine T)) → 0 < n → Allowed acts → AllFresh names (core T n laps passes) acts → IsLinearizable names (core T n laps passes) call_in answer_at (object n laps) acts
   linearizable acts some_slot allowed fresh =
       of_calls_alone call_of names (core T n laps passes) call_at answer_at (object n laps) acts (linearizable_at some_slot (numbers_of acts) acts (all_below acts) allowed fresh)

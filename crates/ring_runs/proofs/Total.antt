@@ -29,7 +29,6 @@ use Rattle.step_core.specs.ring.Costs.{cost}
 use Rattle.step_core.proofs.ring.Ends.{call_small}
 use Rattle.ring_machine.specs.declared.lines.Line.{Line}
 use Rattle.ring_runs.specs.Machine.{From, Pass, State, cell_ring, starts}
-use Rattle.ring_runs.specs.Fresh.{AllFresh}
 use Rattle.ring_runs.specs.Bounded.{call_in, call_at}
 use Rattle.ring_runs.specs.Work.{TotalWork}
 use Rattle.ring_runs.proofs.AtOnce.{few_seats}
@@ -174,12 +173,12 @@ module _ {T : Type 0} (n laps passes : ℕ) (some_slot : 0 < n) where
         c.costs,
       )
 
-  pub total_work : (r : RootView T) (left : List T) (ran : IsRun (ring_on T n laps passes) r left) → AllFresh n laps passes ran.acts → IsSound (shape_for T n laps passes) r → NoneOut r → TotalWork passes r ran.acts
-  total_work r left ran fresh sound nobody =
+  pub total_work : (r : RootView T) (left : List T) (ran : IsRun (ring_on T n laps passes) r left) → IsSound (shape_for T n laps passes) r → NoneOut r → TotalWork passes r ran.acts
+  total_work r left ran sound nobody =
       let low : Below r.given ran.acts = below (ring_on T n laps passes) (cell_ring n laps passes) call_at (running n laps passes) r left ran sound nobody in
       let all : IsPaid ran.acts r.works (λ l. cost (passes - 1) (call_in l)) (λ a. 47 + 94 * (passes - 1)) (47 + 94 * (passes - 1)) =
       is_paid (ring_on T n laps passes) (cell_ring n laps passes) call_at (running n laps passes) r left ran sound nobody (price_of n laps passes (passes - 1)) (λ a. 47 + 94 * (passes - 1)) (omega arith)
       (λ schedule p v call at is idle. call_small n laps (n + passes) (passes - 1) call.1)
-      (paid r.given (schedule_of call_at ran.acts) (fresh_all n laps passes r.given ran.acts low ran.allowed fresh)) (47 + 94 * (passes - 1)) (λ a. omega arith) in
+      (paid r.given (schedule_of call_at ran.acts) (fresh_all n laps passes r.given ran.acts low ran.allowed ran.fresh)) (47 + 94 * (passes - 1)) (λ a. omega arith) in
       let none : in_all is_look ran.acts ≡ 0 = no_looks (ring_on T n laps passes) (cell_ring n laps passes) call_at (running n laps passes) (λ reads. reads) ran.acts ran.proper in
       record { prices = all.prices; answers = let a = all.answers in omega arith }

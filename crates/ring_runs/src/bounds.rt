@@ -6,19 +6,17 @@ ghost use Rattle.ring_table.specs.declared.line.SeatLine.{SeatLine};
 ghost use Rattle.ring_table.specs.Seats.{is_idle, names};
 ghost use Rattle.ring_table.specs.Core.{core};
 ghost use Rattle.ring_table.proofs.Laws.{ring_on};
-ghost use Rattle.running.specs.Acts.{Course, IsAllowed, played};
+ghost use Rattle.running.specs.Acts.{AllFresh, Course, IsAllowed, played};
 ghost use Rattle.runs.specs.Runs.{Below, Shows};
 ghost use Rattle.ring_runs.specs.Machine.{cell_ring};
-ghost use Rattle.ring_runs.specs.Fresh.{AllFresh};
 ghost use Rattle.ring_runs.specs.Bounded.{IsBounded, MeetsRule, call_at, state_after};
 
 /// An operation of a ring that is under way has made at most 47 steps, and 47 for each
-/// compare-and-swap by which another pass has succeeded since it was begun. So it is of acts in which
-/// each pass began its operations with a spare cell that was free.
+/// compare-and-swap by which another pass has succeeded since it was begun.
 pub fn ring_steps_are_bounded<T>()
     ensures { (n laps passes x : ℕ) (before now : Acts (SeatLine T)) (first l : SeatLine T) → 0 < n
         → Course names (core T n laps passes) before now x first l → is_idle l ≡ false
-        → AllFresh n laps passes now → IsBounded n laps passes before now x first }
+        → IsBounded n laps passes before now x first }
 {}
 
 /// The acts that led to a ring's table are a schedule of its machine: run with any numbers of passes
@@ -33,6 +31,6 @@ pub fn ring_acts_are_a_schedule<T>()
         → Shows (ring_on T n laps passes) (cell_ring n laps passes) call_at numbers
         (state_after n laps passes numbers acts) (played names (core T n laps passes) acts) }
     ensures meets { (n laps passes numbers : ℕ) (acts : Acts (SeatLine T)) → 0 < n → Below numbers acts
-        → AllByRecursion (λ a. IsAllowed names (core T n laps passes) a.1) acts → AllFresh n laps passes acts
+        → AllByRecursion (λ a. IsAllowed names (core T n laps passes) a.1) acts → AllFresh names (core T n laps passes) acts
         → MeetsRule n laps passes (state_after n laps passes numbers acts) }
 {}

@@ -8,11 +8,9 @@
 #![tactic(auto)]
 
 mod bounds;
-mod fresh;
 mod linearizable;
 mod work;
 
 pub use bounds::{ring_acts_are_a_schedule, ring_steps_are_bounded};
-pub use fresh::ring_begins_are_fresh;
 pub use linearizable::ring_acts_are_linearizable;
 pub use work::ring_total_work;

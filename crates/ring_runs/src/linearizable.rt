@@ -9,9 +9,8 @@ ghost use Rattle.ring_table.specs.Seats.{names};
 ghost use Rattle.ring_table.specs.Core.{core};
 ghost use Rattle.step_core.specs.Linearizable.{Entry, IsLinearization, KeepsRealTimeOrder};
 ghost use Rattle.step_core.specs.ring.Object.{object};
-ghost use Rattle.running.specs.Acts.{IsAllowed};
+ghost use Rattle.running.specs.Acts.{AllFresh, IsAllowed};
 ghost use Rattle.runs.specs.Heard.{IsLinearizable};
-ghost use Rattle.ring_runs.specs.Fresh.{AllFresh};
 ghost use Rattle.ring_runs.specs.Bounded.{call_in};
 ghost use Rattle.ring_runs.specs.Linearizable.{answer_at};
 
@@ -25,7 +24,7 @@ ghost use Rattle.ring_runs.specs.Linearizable.{answer_at};
 /// it has completed by then, or these and its pending one.
 pub fn ring_acts_are_linearizable<T>()
     ensures points { (n laps passes : ℕ) (acts : Acts (SeatLine T)) → 0 < n
-        → AllByRecursion (λ a. IsAllowed names (core T n laps passes) a.1) acts → AllFresh n laps passes acts
+        → AllByRecursion (λ a. IsAllowed names (core T n laps passes) a.1) acts → AllFresh names (core T n laps passes) acts
         → IsLinearizable names (core T n laps passes) call_in answer_at (object n laps) acts }
     ensures keeps_real_time_order { (n laps p : ℕ) (newer older : List (Entry T (Call T) (Answer T))) →
         IsLinearization (object n laps) (newer ++ older) → KeepsRealTimeOrder p older }

@@ -5,16 +5,15 @@ ghost use Rattle.bounded_model.specs.declared.views.RootView.{RootView};
 ghost use Rattle.ring_table.specs.Core.{shape_for};
 ghost use Rattle.ring_table.proofs.Laws.{ring_on};
 ghost use Rattle.run_ends.specs.Ends.{IsRun};
-ghost use Rattle.ring_runs.specs.Fresh.{AllFresh};
 ghost use Rattle.ring_runs.specs.Work.{TotalWork};
 
 /// The total work on a ring for P passes at once, of which all have been joined, however many there
-/// were, if each operation was begun with a spare cell that was free. Together they have made at most
+/// were. Together they have made at most
 /// as many steps as their calls cost: a put `94 * P - 80`, a take `94 * P - 79`, a close or a shut
 /// `47 * P - 34`, a look 12, a count 25, and a meeting or a note heard 1. So they have made at most
 /// `94 * P - 47` steps for each answer.
 pub fn ring_total_work<T>()
     ensures { (n laps passes : ℕ) (r : RootView T) (left : List T) → 0 < n
-        → (ran : IsRun (ring_on T n laps passes) r left) → AllFresh n laps passes ran.acts
+        → (ran : IsRun (ring_on T n laps passes) r left)
         → IsSound (shape_for T n laps passes) r → NoneOut r → TotalWork passes r ran.acts }
 {}
