@@ -43,7 +43,7 @@ module _ {T : Type 0} where
   wins_at m (Stock cs) = false
 
   -- A ring of n slots, each filled at most so many times, for so many passes at once: it has a cell for each slot and each of these. Any number of passes may
-  -- run on it, one after another
+  -- run on it, one after another. Between two calls the cell in the line of a pass says nothing: the next call brings its own
   abbrev pub cell_ring : ℕ → ℕ → ℕ → schedule.Machine (Memory T) (SeatLine T) (From T) (Event T)
   cell_ring n laps passes = record {
     first = first_memory T n laps passes;
