@@ -42,7 +42,8 @@ enum {
     LOCKFREE_FULL = 1,          /* put: each cell holds a value or is held by a call */
     LOCKFREE_EMPTY = 2,         /* take, fold: no value, and more may come. look: it was empty. range_put, put_range: of no value.
                                    finish: nothing is left */
-    LOCKFREE_CLOSED = 3,        /* put: closed. take, fold: no value, and none will come. close: it was closed before */
+    LOCKFREE_CLOSED = 3,        /* put: closed. take, fold: no value, and none will come. close: it was closed before. gauge: it was
+                                   closed, and value is as if it is OK */
     LOCKFREE_SHUT = 4,          /* take, fold: shut. shut: it was shut before */
     LOCKFREE_SPENT = 5,         /* put, take, fold: a tag is at its limit of 2^42 - 1; value is the tag */
     LOCKFREE_BUSY = 6,          /* the tries are used up: go on with lockfree_go_on; of lockfree_put_range with the same call */
@@ -66,8 +67,9 @@ typedef struct lockfree_handle {
 } lockfree_handle;
 
 /* A code, and what it says. value is: of a put that is OK its number, of a take its value, of a fold how many
- * there were, of a range_put how many were put, of a count how many there are; of a fold or a finish that is VALUE
- * the next value; of what is SPENT the tag. What is not said is 0. It comes back in two registers. */
+ * there were, of a range_put how many were put, of a count how many there are; of a gauge, OK or CLOSED, how many tags
+ * were used; of a fold or a finish that is VALUE the next value; of what is SPENT the tag. What is not said is 0. It
+ * comes back in two registers. */
 typedef struct lockfree_answer {
     uint64_t value;
     uint32_t code;
@@ -111,13 +113,17 @@ lockfree_answer lockfree_finish(lockfree_handle *root);
  * close: OK, CLOSED. No put follows
  * shut:  OK, SHUT. No take follows
  * look:  OK if it was not empty, EMPTY if it was
- * count: OK, and value is how many values the queue held at one moment of the call. Queues only */
+ * count: OK, and value is how many values the queue held at one moment of the call. Queues only
+ * gauge: OK if the container was open, CLOSED if it was closed; and value is how many of its tags were used at the same
+ *        moment of the call, at most 2^42 - 1: of a queue one for each put that was OK, of a stack one for each put and
+ *        each take, of one value or of many. It uses none itself, so it also answers once the container is SPENT */
 lockfree_answer lockfree_put(lockfree_handle *pass, uint64_t value, uint64_t tries);
 lockfree_answer lockfree_take(lockfree_handle *pass, uint64_t tries);
 lockfree_answer lockfree_close(lockfree_handle *pass, uint64_t tries);
 lockfree_answer lockfree_shut(lockfree_handle *pass, uint64_t tries);
 lockfree_answer lockfree_look(lockfree_handle *pass, uint64_t tries);
 lockfree_answer lockfree_count(lockfree_handle *pass, uint64_t tries);
+lockfree_answer lockfree_gauge(lockfree_handle *pass, uint64_t tries);
 lockfree_answer lockfree_go_on(lockfree_handle *pass, uint64_t tries);
 
 /* The number of this pass's last call, if that was a put, a take, a fold or a range_put that was OK; else 0. Numbers
@@ -174,6 +180,11 @@ static inline lockfree_answer lockfree_heard(lockfree_answer answer)
 }
 #define lockfree_put(pass, value, tries) LOCKFREE_TOLD((lockfree_put)(pass, value, tries))
 #define lockfree_take(pass, tries) LOCKFREE_TOLD((lockfree_take)(pass, tries))
+#define lockfree_close(pass, tries) LOCKFREE_TOLD((lockfree_close)(pass, tries))
+#define lockfree_shut(pass, tries) LOCKFREE_TOLD((lockfree_shut)(pass, tries))
+#define lockfree_look(pass, tries) LOCKFREE_TOLD((lockfree_look)(pass, tries))
+#define lockfree_count(pass, tries) LOCKFREE_TOLD((lockfree_count)(pass, tries))
+#define lockfree_gauge(pass, tries) LOCKFREE_TOLD((lockfree_gauge)(pass, tries))
 #define lockfree_go_on(pass, tries) LOCKFREE_TOLD((lockfree_go_on)(pass, tries))
 #define lockfree_fold(pass, reversed, tries) LOCKFREE_TOLD((lockfree_fold)(pass, reversed, tries))
 #define lockfree_range_put(pass, tries) LOCKFREE_TOLD((lockfree_range_put)(pass, tries))
@@ -201,6 +212,20 @@ static inline uint32_t lockfree_pop(lockfree_handle *pass, uint64_t *value)
     if (answer.code == LOCKFREE_OK)
         *value = answer.value;
     return answer.code;
+}
+
+/* Whether the container was closed, at one moment of the call. False of a handle whose gauge is refused: one that is
+ * empty, a root, what is left of a container that was ended, and a pass that is under way. */
+static inline bool lockfree_is_closed(lockfree_handle *pass)
+{
+    return lockfree_until(pass, lockfree_gauge(pass, UINT64_MAX)).code == LOCKFREE_CLOSED;
+}
+
+/* How far the container was worn at one moment of the call: how many of its tags were used, of at most 2^42 - 1, or of
+ * the limit that it was made with. 0 of a handle whose gauge is refused. */
+static inline uint64_t lockfree_wear(lockfree_handle *pass)
+{
+    return lockfree_until(pass, lockfree_gauge(pass, UINT64_MAX)).value;
 }
 
 /* Takes one value and hands it to `use`. OK, or why there was none. */

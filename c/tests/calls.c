@@ -73,6 +73,57 @@ static void counting(void)
     lockfree_free(&a), lockfree_free(&root);
 }
 
+/* Whether it is closed and how many tags are used, known from what was put and taken; and nobody tells but a pass between
+ * its calls. */
+static void gauging(make_new *make, uint64_t of_take)
+{
+    lockfree_handle root = {0}, a = {0}, b = {0}, none = {0};
+    uint64_t value = 0, used = 0;
+    CHECK(make(&root, 3) == LOCKFREE_OK && lockfree_split(&root, &a) == LOCKFREE_OK && lockfree_split(&root, &b) == LOCKFREE_OK);
+    CHECK(lockfree_gauge(&none, 9).code == LOCKFREE_NO_HANDLE && lockfree_gauge(&root, 9).code == LOCKFREE_OTHER_HANDLE);
+    for (uint64_t round = 0; round < 9; round++) {
+        lockfree_answer gauge = lockfree_gauge(&b, 0);
+        CHECK(gauge.code == LOCKFREE_OK && gauge.value == used && lockfree_number(&b).value == 0);
+        CHECK(lockfree_push(&a, round) == LOCKFREE_OK && lockfree_wear(&b) == ++used && !lockfree_is_closed(&b));
+        CHECK(lockfree_pop(&b, &value) == LOCKFREE_OK && lockfree_wear(&a) == (used += of_take) && value == round);
+        CHECK(lockfree_pop(&b, &value) == LOCKFREE_EMPTY && lockfree_wear(&b) == used && lockfree_go_on(&b, 9).code == LOCKFREE_NO_CALL);
+    }
+    CHECK(lockfree_push(&a, 1) == LOCKFREE_OK && lockfree_close(&a, 9).code == LOCKFREE_OK);
+    lockfree_answer gauge = lockfree_gauge(&b, 9);
+    CHECK(gauge.code == LOCKFREE_CLOSED && gauge.value == ++used && lockfree_is_closed(&a) && lockfree_wear(&a) == used);
+    CHECK(lockfree_push(&b, 2) == LOCKFREE_CLOSED && lockfree_pop(&b, &value) == LOCKFREE_OK && lockfree_wear(&a) == used + of_take);
+    CHECK(!lockfree_is_closed(&none) && lockfree_wear(&none) == 0 && !lockfree_is_closed(&root) && lockfree_wear(&root) == 0);
+    lockfree_free(&a), lockfree_free(&b);
+    CHECK(lockfree_finish(&root).code == LOCKFREE_EMPTY && lockfree_gauge(&root, 9).code == LOCKFREE_OTHER_HANDLE);
+    lockfree_free(&root);
+    CHECK(make(&root, 3) == LOCKFREE_OK && lockfree_split(&root, &a) == LOCKFREE_OK);
+    CHECK(lockfree_shut(&a, 9).code == LOCKFREE_OK && !lockfree_is_closed(&a) && lockfree_push(&a, 1) == LOCKFREE_OK && lockfree_wear(&a) == 1);
+    if (lockfree_range_add(&a, 1) == LOCKFREE_OK)
+        CHECK(lockfree_gauge(&a, 9).code == LOCKFREE_UNDER_WAY && !lockfree_is_closed(&a) && lockfree_wear(&a) == 0);
+    lockfree_free(&a), lockfree_free(&root);
+}
+
+typedef uint32_t make_limited(lockfree_handle *root, uint32_t capacity, uint64_t tag_limit);
+
+/* The wear of a container whose tags come to their end: what was put, or put and taken, and no more than the limit. */
+static void gauging_to_the_end(make_limited *make, uint64_t of_take)
+{
+    enum { LIMIT = 9 };
+    lockfree_handle root = {0}, pass = {0};
+    uint64_t used = 0, value = 0;
+    CHECK(make(&root, 2, LIMIT) == LOCKFREE_OK && lockfree_split(&root, &pass) == LOCKFREE_OK);
+    lockfree_answer put;
+    while ((put = lockfree_put(&pass, 7, 9)).code == LOCKFREE_OK) {
+        CHECK(lockfree_wear(&pass) == ++used);
+        if (lockfree_pop(&pass, &value) == LOCKFREE_OK)
+            CHECK(lockfree_wear(&pass) == (used += of_take));
+    }
+    CHECK(put.code == LOCKFREE_SPENT && put.value == LIMIT && used >= LIMIT - 1 && used <= LIMIT);
+    CHECK(lockfree_gauge(&pass, 0).code == LOCKFREE_OK && lockfree_wear(&pass) == used);
+    CHECK(lockfree_close(&pass, 9).code == LOCKFREE_OK && lockfree_is_closed(&pass) && lockfree_wear(&pass) == used);
+    lockfree_free(&pass), lockfree_free(&root);
+}
+
 static void refused_memory(make_new *make)
 {
     for (long at = 1;; at++) {
@@ -145,13 +196,32 @@ struct counter {
     lockfree_handle pass;
     uint64_t most;
     int *ended;
+    bool counts;
 };
+
+/* What is worn beside other threads is never less than before, nor is it open again. A gauge may have to begin again. */
+static void gauges_again(lockfree_handle *pass, lockfree_answer *last)
+{
+    lockfree_answer gauge = lockfree_gauge(pass, 0);
+    while (gauge.code == LOCKFREE_BUSY) {
+        CHECK(lockfree_gauge(pass, 9).code == LOCKFREE_UNDER_WAY && lockfree_take(pass, 9).code == LOCKFREE_UNDER_WAY);
+        CHECK(!lockfree_is_closed(pass) && lockfree_wear(pass) == 0);
+        gauge = lockfree_go_on(pass, 0);
+    }
+    CHECK(gauge.code == LOCKFREE_OK || gauge.code == LOCKFREE_CLOSED);
+    CHECK(gauge.value >= last->value && (last->code == LOCKFREE_OK || gauge.code == LOCKFREE_CLOSED));
+    *last = gauge;
+}
 
 /* A queue beside other threads holds no more than its capacity. A count may have to begin again. */
 static void *counts_on(void *at)
 {
     struct counter *counter = at;
+    lockfree_answer last = {0};
     while (!__atomic_load_n(counter->ended, __ATOMIC_RELAXED)) {
+        gauges_again(&counter->pass, &last);
+        if (!counter->counts)
+            continue;
         lockfree_answer count = lockfree_count(&counter->pass, 0);
         while (count.code == LOCKFREE_BUSY) {
             CHECK(lockfree_count(&counter->pass, 9).code == LOCKFREE_UNDER_WAY && lockfree_look(&counter->pass, 9).code == LOCKFREE_UNDER_WAY);
@@ -169,7 +239,7 @@ static void many_threads(make_new *make, uint32_t capacity, int first_out)
     lockfree_handle root = {0}, closing = {0};
     struct work works[2 * SIDES] = {0};
     int ended = 0;
-    struct counter counter = {{0}, capacity, &ended};
+    struct counter counter = {{0}, capacity, &ended, first_out};
     pthread_t threads[2 * SIDES], counting_thread;
     seen = calloc(SIDES, EACH);
     CHECK(seen && make(&root, capacity) == LOCKFREE_OK && lockfree_split(&root, &closing) == LOCKFREE_OK);
@@ -180,7 +250,7 @@ static void many_threads(make_new *make, uint32_t capacity, int first_out)
         CHECK(pthread_create(&threads[i], NULL, i < SIDES ? puts_all : takes_all, &works[i]) == 0);
     }
     CHECK(lockfree_split(&root, &counter.pass) == LOCKFREE_OK);
-    CHECK(!first_out || pthread_create(&counting_thread, NULL, counts_on, &counter) == 0);
+    CHECK(pthread_create(&counting_thread, NULL, counts_on, &counter) == 0);
     CHECK(lockfree_free(&root) == LOCKFREE_OK); /* while the passes are out */
     for (int i = 0; i < SIDES; i++)
         pthread_join(threads[i], NULL);
@@ -192,7 +262,8 @@ static void many_threads(make_new *make, uint32_t capacity, int first_out)
     }
     CHECK(count == (uint64_t)SIDES * EACH);
     __atomic_store_n(&ended, 1, __ATOMIC_RELAXED);
-    CHECK(!first_out || (pthread_join(counting_thread, NULL) == 0 && lockfree_count(&counter.pass, 9).value == 0));
+    CHECK(pthread_join(counting_thread, NULL) == 0 && (!first_out || lockfree_count(&counter.pass, 9).value == 0));
+    CHECK(lockfree_is_closed(&counter.pass) && lockfree_wear(&counter.pass) == (first_out ? 1u : 2u) * SIDES * EACH);
     for (int i = 0; i < 2 * SIDES; i++)
         CHECK(lockfree_free(&works[i].pass) == LOCKFREE_OK);
     CHECK(lockfree_free(&closing) == LOCKFREE_OK && lockfree_free(&counter.pass) == LOCKFREE_OK);
@@ -476,9 +547,12 @@ static void ranges_of_many_threads(void)
 int main(void)
 {
     make_new *const makes[] = {lockfree_queue_new, lockfree_stack_new};
+    make_limited *const limited[] = {lockfree_queue_limited, lockfree_stack_limited};
     for (int i = 0; i < 2; i++) {
         codes_of_handles(makes[i]);
         codes_of_calls(makes[i], i == 0);
+        gauging(makes[i], i == 0 ? 0 : 1);
+        gauging_to_the_end(limited[i], i == 0 ? 0 : 1);
         refused_memory(makes[i]);
         consuming(makes[i]);
         many_threads(makes[i], 64, i == 0);

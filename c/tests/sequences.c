@@ -346,6 +346,20 @@ static void count(struct slot *slot)
     slot->number = why == LOCKFREE_OK ? 0 : slot->number;
 }
 
+static void gauge(struct slot *slot)
+{
+    const struct model *m = slot->of;
+    uint32_t why = refusal(slot, false);
+    may_refuse();
+    lockfree_answer answer = lockfree_gauge(&slot->handle, below(3));
+    if (why != LOCKFREE_OK) {
+        is(answer, why, 0);
+        return;
+    }
+    slot->number = 0;
+    is(answer, m->closed ? LOCKFREE_CLOSED : LOCKFREE_OK, m->puts + (m->stack ? m->takes : 0));
+}
+
 static void finish(struct slot *slot)
 {
     may_refuse();
@@ -383,7 +397,7 @@ static void move(struct slot *slot)
 
 /* Calls that fill and empty come more often. */
 typedef void call(struct slot *slot);
-static call *const calls[] = {make, split, split, put, put, put, take, take, close_it, shut_it, look, number, fold, go_on, go_on, add, add, put_range, put_array, count, finish, give_up, move};
+static call *const calls[] = {make, split, split, put, put, put, take, take, close_it, shut_it, look, number, fold, go_on, go_on, add, add, put_range, put_array, count, gauge, finish, give_up, move};
 
 static void sequence(void)
 {

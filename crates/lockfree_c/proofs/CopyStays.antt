@@ -14,7 +14,7 @@ use Rattle.lockfree_c.specs.Held.{CopyLeft, IsHeld, IsStackCopy, RangeMade, Stac
 use Rattle.lockfree_c.specs.declared.answers.Answer.{Answer}
 use Rattle.lockfree_c.specs.declared.answers.TheConstants.{UNDER_WAY}
 use Rattle.lockfree_c.specs.declared.held.Held.{Held}
-use Rattle.lockfree_c.specs.declared.held.Held.TheVariants.{Nothing, QueueRoot as OfQueueRoot, QueuePass as OfQueuePass, QueueCount as OfQueueCount, StackRoot as OfStackRoot, StackPass as OfStackPass, StackFold as OfStackFold, StackRange as OfStackRange, StackRangePut as OfStackRangePut, StackCopy as OfStackCopy, QueueRest as OfQueueRest, StackRest as OfStackRest}
+use Rattle.lockfree_c.specs.declared.held.Held.TheVariants.{Nothing, QueueRoot as OfQueueRoot, QueuePass as OfQueuePass, QueueCount as OfQueueCount, QueueGauge as OfQueueGauge, StackRoot as OfStackRoot, StackPass as OfStackPass, StackFold as OfStackFold, StackRange as OfStackRange, StackRangePut as OfStackRangePut, StackCopy as OfStackCopy, QueueRest as OfQueueRest, StackRest as OfStackRest}
 use Rattle.lockfree_c.specs.declared.held.StackCopy.{StackCopy}
 use Rattle.lockfree_c.specs.declared.held.StackPass.{StackPass}
 use Rattle.lockfree_c.proofs.FoldStays.{comes_to_rest}
@@ -30,6 +30,7 @@ module _ (c : Stack ℕ) (values : List ℕ) where
   copy_stays begun (Again op) (OfQueueRoot r) a tried left = absurd left
   copy_stays begun (Again op) (OfQueuePass p) a tried left = absurd left
   copy_stays begun (Again op) (OfQueueCount k) a tried left = absurd left
+  copy_stays begun (Again op) (OfQueueGauge k) a tried left = absurd left
   copy_stays begun (Again op) (OfStackRoot r) a tried left = absurd left
   copy_stays begun (Again op) (OfStackPass p) a tried left = absurd left
   copy_stays begun (Again op) (OfStackFold f) a tried left = absurd left
@@ -41,6 +42,7 @@ module _ (c : Stack ℕ) (values : List ℕ) where
   copy_stays begun (Done back said) (OfQueueRoot r) a tried left = absurd left
   copy_stays begun (Done back said) (OfQueuePass p) a tried left = absurd left
   copy_stays begun (Done back said) (OfQueueCount k) a tried left = absurd left
+  copy_stays begun (Done back said) (OfQueueGauge k) a tried left = absurd left
   copy_stays begun (Done back said) (OfStackRoot r) a tried left = absurd left
   copy_stays begun (Done back said) (OfStackFold f) a tried left = absurd left
   copy_stays begun (Done back said) (OfStackRange r) a tried left = absurd left

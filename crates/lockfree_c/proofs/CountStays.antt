@@ -19,13 +19,13 @@ use Rattle.lockfree_c.specs.Stages.{Rests}
 use Rattle.lockfree_c.specs.declared.answers.Answer.{Answer}
 use Rattle.lockfree_c.specs.declared.answers.TheConstants.{UNDER_WAY}
 use Rattle.lockfree_c.specs.declared.held.Held.{Held}
-use Rattle.lockfree_c.specs.declared.held.Held.TheVariants.{Nothing, QueueRoot as OfQueueRoot, QueuePass as OfQueuePass, QueueCount as OfQueueCount, StackRoot as OfStackRoot, StackPass as OfStackPass, StackFold as OfStackFold, StackRange as OfStackRange, StackRangePut as OfStackRangePut, StackCopy as OfStackCopy, QueueRest as OfQueueRest, StackRest as OfStackRest}
+use Rattle.lockfree_c.specs.declared.held.Held.TheVariants.{Nothing, QueueRoot as OfQueueRoot, QueuePass as OfQueuePass, QueueCount as OfQueueCount, QueueGauge as OfQueueGauge, StackRoot as OfStackRoot, StackPass as OfStackPass, StackFold as OfStackFold, StackRange as OfStackRange, StackRangePut as OfStackRangePut, StackCopy as OfStackCopy, QueueRest as OfQueueRest, StackRest as OfStackRest}
 use Rattle.lockfree_c.specs.declared.held.QueueCount.{QueueCount}
 use Rattle.lockfree_c.specs.declared.held.QueuePass.{QueuePass}
 use Rattle.lockfree_c.proofs.Stays.{At}
 
 module _ (c : Queue ℕ) where
-  comes_to_rest : (back : Pass ℕ (Line ℕ)) (p : QueuePass) → IsPassOf c back → p.queue.value ≡ c → Rests p.stage back 0 → IsQueuePass p
+  pub comes_to_rest : (back : Pass ℕ (Line ℕ)) (p : QueuePass) → IsPassOf c back → p.queue.value ≡ c → Rests p.stage back 0 → IsQueuePass p
   comes_to_rest back p is same rests =
       subst (λ x. At (queue_reading p.queue.value) x p.stage.under_way) (sym rests.0) (subst (λ q. IsPassOf q back) (sym same) is, rests.1)
 
@@ -38,6 +38,7 @@ module _ (c : Queue ℕ) where
   count_stays begun (Again op) Nothing a tried left = absurd left
   count_stays begun (Again op) (OfQueueRoot r) a tried left = absurd left
   count_stays begun (Again op) (OfQueuePass p) a tried left = absurd left
+  count_stays begun (Again op) (OfQueueGauge k) a tried left = absurd left
   count_stays begun (Again op) (OfStackRoot r) a tried left = absurd left
   count_stays begun (Again op) (OfStackPass p) a tried left = absurd left
   count_stays begun (Again op) (OfStackFold f) a tried left = absurd left
@@ -49,6 +50,7 @@ module _ (c : Queue ℕ) where
   count_stays begun (Done back n) Nothing a tried left = absurd left
   count_stays begun (Done back n) (OfQueueRoot r) a tried left = absurd left
   count_stays begun (Done back n) (OfQueueCount k) a tried left = absurd left
+  count_stays begun (Done back n) (OfQueueGauge k) a tried left = absurd left
   count_stays begun (Done back n) (OfStackRoot r) a tried left = absurd left
   count_stays begun (Done back n) (OfStackPass p) a tried left = absurd left
   count_stays begun (Done back n) (OfStackFold f) a tried left = absurd left

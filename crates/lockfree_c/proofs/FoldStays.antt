@@ -19,7 +19,7 @@ use Rattle.lockfree_c.specs.Stages.{Rests}
 use Rattle.lockfree_c.specs.declared.answers.Answer.{Answer}
 use Rattle.lockfree_c.specs.declared.answers.TheConstants.{UNDER_WAY}
 use Rattle.lockfree_c.specs.declared.held.Held.{Held}
-use Rattle.lockfree_c.specs.declared.held.Held.TheVariants.{Nothing, QueueRoot as OfQueueRoot, QueuePass as OfQueuePass, QueueCount as OfQueueCount, StackRoot as OfStackRoot, StackPass as OfStackPass, StackFold as OfStackFold, StackRange as OfStackRange, StackRangePut as OfStackRangePut, StackCopy as OfStackCopy, QueueRest as OfQueueRest, StackRest as OfStackRest}
+use Rattle.lockfree_c.specs.declared.held.Held.TheVariants.{Nothing, QueueRoot as OfQueueRoot, QueuePass as OfQueuePass, QueueCount as OfQueueCount, QueueGauge as OfQueueGauge, StackRoot as OfStackRoot, StackPass as OfStackPass, StackFold as OfStackFold, StackRange as OfStackRange, StackRangePut as OfStackRangePut, StackCopy as OfStackCopy, QueueRest as OfQueueRest, StackRest as OfStackRest}
 use Rattle.lockfree_c.specs.declared.held.StackFold.{StackFold}
 use Rattle.lockfree_c.specs.declared.held.StackPass.{StackPass}
 use Rattle.lockfree_c.proofs.Stays.{At}
@@ -42,6 +42,7 @@ module _ (c : Stack ℕ) (front : Front) where
   fold_stays values begun (Again op) (OfQueueRoot r) a tried left = absurd left
   fold_stays values begun (Again op) (OfQueuePass p) a tried left = absurd left
   fold_stays values begun (Again op) (OfQueueCount k) a tried left = absurd left
+  fold_stays values begun (Again op) (OfQueueGauge k) a tried left = absurd left
   fold_stays values begun (Again op) (OfStackRoot r) a tried left = absurd left
   fold_stays values begun (Again op) (OfStackPass p) a tried left = absurd left
   fold_stays values begun (Again op) (OfStackRange r) a tried left = absurd left
@@ -53,6 +54,7 @@ module _ (c : Stack ℕ) (front : Front) where
   fold_stays values begun (Value x op) (OfQueueRoot r) a tried left = absurd left
   fold_stays values begun (Value x op) (OfQueuePass p) a tried left = absurd left
   fold_stays values begun (Value x op) (OfQueueCount k) a tried left = absurd left
+  fold_stays values begun (Value x op) (OfQueueGauge k) a tried left = absurd left
   fold_stays values begun (Value x op) (OfStackRoot r) a tried left = absurd left
   fold_stays values begun (Value x op) (OfStackPass p) a tried left = absurd left
   fold_stays values begun (Value x op) (OfStackRange r) a tried left = absurd left
@@ -64,6 +66,7 @@ module _ (c : Stack ℕ) (front : Front) where
   fold_stays values begun (Done back said) (OfQueueRoot r) a tried left = absurd left
   fold_stays values begun (Done back said) (OfQueuePass p) a tried left = absurd left
   fold_stays values begun (Done back said) (OfQueueCount k) a tried left = absurd left
+  fold_stays values begun (Done back said) (OfQueueGauge k) a tried left = absurd left
   fold_stays values begun (Done back said) (OfStackRoot r) a tried left = absurd left
   fold_stays values begun (Done back said) (OfStackFold f) a tried left = absurd left
   fold_stays values begun (Done back said) (OfStackRange r) a tried left = absurd left

@@ -4,4 +4,5 @@ pub mod Stays
 pub mod CopyStays
 pub mod CountStays
 pub mod FoldStays
+pub mod GaugeStays
 pub mod RangeStays

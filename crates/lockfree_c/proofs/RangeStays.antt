@@ -11,7 +11,7 @@ use Rattle.lockfree_c.specs.Codes.{range_number}
 use Rattle.lockfree_c.specs.Held.{IsHeld, IsStackRangePut, RangeLeft, RangeMade}
 use Rattle.lockfree_c.specs.declared.answers.Answer.{Answer}
 use Rattle.lockfree_c.specs.declared.held.Held.{Held}
-use Rattle.lockfree_c.specs.declared.held.Held.TheVariants.{Nothing, QueueRoot as OfQueueRoot, QueuePass as OfQueuePass, QueueCount as OfQueueCount, StackRoot as OfStackRoot, StackPass as OfStackPass, StackFold as OfStackFold, StackRange as OfStackRange, StackRangePut as OfStackRangePut, StackCopy as OfStackCopy, QueueRest as OfQueueRest, StackRest as OfStackRest}
+use Rattle.lockfree_c.specs.declared.held.Held.TheVariants.{Nothing, QueueRoot as OfQueueRoot, QueuePass as OfQueuePass, QueueCount as OfQueueCount, QueueGauge as OfQueueGauge, StackRoot as OfStackRoot, StackPass as OfStackPass, StackFold as OfStackFold, StackRange as OfStackRange, StackRangePut as OfStackRangePut, StackCopy as OfStackCopy, QueueRest as OfQueueRest, StackRest as OfStackRest}
 use Rattle.lockfree_c.specs.declared.held.StackRangePut.{StackRangePut}
 use Rattle.lockfree_c.proofs.FoldStays.{comes_to_rest}
 
@@ -35,6 +35,7 @@ module _ (c : Stack ℕ) where
   range_stays values begun places (Again op) (OfQueueRoot r) a tried left = absurd left
   range_stays values begun places (Again op) (OfQueuePass p) a tried left = absurd left
   range_stays values begun places (Again op) (OfQueueCount k) a tried left = absurd left
+  range_stays values begun places (Again op) (OfQueueGauge k) a tried left = absurd left
   range_stays values begun places (Again op) (OfStackRoot r) a tried left = absurd left
   range_stays values begun places (Again op) (OfStackPass p) a tried left = absurd left
   range_stays values begun places (Again op) (OfStackFold f) a tried left = absurd left
@@ -46,6 +47,7 @@ module _ (c : Stack ℕ) where
   range_stays values begun places (Done back said) (OfQueueRoot r) a tried left = absurd left
   range_stays values begun places (Done back said) (OfQueuePass p) a tried left = absurd left
   range_stays values begun places (Done back said) (OfQueueCount k) a tried left = absurd left
+  range_stays values begun places (Done back said) (OfQueueGauge k) a tried left = absurd left
   range_stays values begun places (Done back said) (OfStackRoot r) a tried left = absurd left
   range_stays values begun places (Done back said) (OfStackFold f) a tried left = absurd left
   range_stays values begun places (Done back said) (OfStackRange r) a tried left = absurd left

@@ -1,5 +1,5 @@
 -- What the answer that C gets says of what a whole call answered, and the call's number.
-use Rattle.std.specs.Prelude.{◌≡◌, ℕ, true, false, Result, Ok, Err}
+use Rattle.std.specs.Prelude.{◌≡◌, ℕ, Bool, true, false, Result, Ok, Err}
 use Rattle.bounded_model.specs.declared.answers.PutRefused.{PutRefused}
 use Rattle.bounded_model.specs.declared.answers.PutRefused.TheVariants as put
 use Rattle.bounded_model.specs.declared.answers.TakeRefused.{TakeRefused}
@@ -46,6 +46,11 @@ SaysRange (Err range.Nothing) a = a ≡ bare EMPTY
 SaysRange (Err range.Full) a = a ≡ bare FULL
 SaysRange (Err range.Closed) a = a ≡ bare CLOSED
 SaysRange (Err (range.Spent word t)) a = a ≡ saying SPENT t
+
+-- of a gauge: whether it was closed, and how many tags were used
+abbrev pub SaysGauge : Bool → ℕ → Answer → Type 0
+SaysGauge true used a = a ≡ saying CLOSED used
+SaysGauge false used a = a ≡ saying OK used
 
 abbrev pub Says : Reply ℕ → Answer → Type 0
 Says (Put said) a = SaysPut said a

@@ -22,6 +22,7 @@ use Rattle.stack_machine.specs.Answers as stack_machine
 use Rattle.stack_machine.specs.declared.lines.Line.{Line}
 use Rattle.queue_machine.specs.declared.lines.Line as of_queue
 use Rattle.ms_queue.specs.Counting.{IsCounting, LenOp}
+use Rattle.ms_queue.specs.Gauging.{IsGauging}
 use Rattle.ms_queue.specs.Left as queue_left
 use Rattle.ms_queue.specs.Queue as queue
 use Rattle.ms_queue.specs.Trying.{LenTried}
@@ -36,14 +37,17 @@ use Rattle.treiber_stack.specs.declared.fold_op.FoldMade.TheVariants.{Again, Val
 use Rattle.treiber_stack.specs.declared.range_trying.RangeOp.{RangeOp}
 use Rattle.treiber_stack.specs.declared.stack.Stack.{Stack}
 use Rattle.bounded_calls.specs.Readings.{queue_reading, stack_reading}
+use Rattle.lockfree_c.specs.Gauges.{GaugeWentOn}
+use Rattle.lockfree_c.specs.Refusals.{Declined, Refused, refusal_of}
 use Rattle.lockfree_c.specs.Codes.{SaysFold, SaysRange, bare, saying, fold_number, range_number}
 use Rattle.lockfree_c.specs.Stages.{IsStage, Called, Rests, SaysNumber, Tries, WentOn}
 use Rattle.lockfree_c.specs.declared.answers.Answer.{Answer}
 use Rattle.lockfree_c.specs.declared.answers.TheConstants.{OK, EMPTY, BUSY, UNDER_WAY, NO_CALL, NO_MEMORY, NO_PASS, BAD_CAPACITY, OTHER_HANDLE, VALUE, SHARED}
 use Rattle.lockfree_c.specs.declared.stage.Stage.{Stage}
 use Rattle.lockfree_c.specs.declared.held.Held.{Held}
-use Rattle.lockfree_c.specs.declared.held.Held.TheVariants.{Nothing, QueueRoot as OfQueueRoot, QueuePass as OfQueuePass, QueueCount as OfQueueCount, StackRoot as OfStackRoot, StackPass as OfStackPass, StackFold as OfStackFold, StackRange as OfStackRange, StackRangePut as OfStackRangePut, StackCopy as OfStackCopy, QueueRest as OfQueueRest, StackRest as OfStackRest}
+use Rattle.lockfree_c.specs.declared.held.Held.TheVariants.{Nothing, QueueRoot as OfQueueRoot, QueuePass as OfQueuePass, QueueCount as OfQueueCount, QueueGauge as OfQueueGauge, StackRoot as OfStackRoot, StackPass as OfStackPass, StackFold as OfStackFold, StackRange as OfStackRange, StackRangePut as OfStackRangePut, StackCopy as OfStackCopy, QueueRest as OfQueueRest, StackRest as OfStackRest}
 use Rattle.lockfree_c.specs.declared.held.QueueCount.{QueueCount}
+use Rattle.lockfree_c.specs.declared.held.QueueGauge.{QueueGauge}
 use Rattle.lockfree_c.specs.declared.held.QueuePass.{QueuePass}
 use Rattle.lockfree_c.specs.declared.held.QueueRoot.{QueueRoot}
 use Rattle.lockfree_c.specs.declared.held.StackCopy.{StackCopy}
@@ -63,6 +67,9 @@ IsQueuePass p = IsStage (queue_reading p.queue.value) p.stage
 
 abbrev pub IsQueueCount : QueueCount → Type 0
 IsQueueCount k = IsCounting k.queue.value k.op
+
+abbrev pub IsQueueGauge : QueueGauge → Type 0
+IsQueueGauge k = IsGauging k.queue.value k.op
 
 abbrev pub IsStackRoot : StackRoot → Type 0
 IsStackRoot r = stack.IsRootOf r.stack.value r.root
@@ -91,6 +98,7 @@ IsHeld Nothing = Unit {0}
 IsHeld (OfQueueRoot r) = IsQueueRoot r
 IsHeld (OfQueuePass p) = IsQueuePass p
 IsHeld (OfQueueCount k) = IsQueueCount k
+IsHeld (OfQueueGauge k) = IsQueueGauge k
 IsHeld (OfStackRoot r) = IsStackRoot r
 IsHeld (OfStackPass p) = IsStackPass p
 IsHeld (OfStackFold f) = IsStackFold f
@@ -114,23 +122,6 @@ QueueRefused p begun x q a = (q.queue.value ≡ p.queue.value) × Tries (queue_r
 
 abbrev pub StackRefused : StackPass → PassView ℕ → ℕ → StackPass → Answer → Type 0
 StackRefused p begun x q a = (q.stack.value ≡ p.stack.value) × Tries (stack_reading p.stack.value) begun (Put x) q.stage a
-
--- why what is no pass for a call makes none: it is a queue's pass that is in a count, or a stack's that is in a fold or has a range, or another
--- handle
-abbrev pub refusal_of : Held → ℕ
-refusal_of (OfQueueCount k) = UNDER_WAY
-refusal_of (OfStackFold f) = UNDER_WAY
-refusal_of (OfStackRange r) = UNDER_WAY
-refusal_of (OfStackRangePut r) = UNDER_WAY
-refusal_of (OfStackCopy k) = UNDER_WAY
-refusal_of h = OTHER_HANDLE
-
--- what is held is as it was, and C is told why: by a code, or by an answer that says nothing more
-abbrev pub Refused : ℕ → Held → Held → ℕ → Type 0
-Refused why h g code = (code ≡ why) × (g ≡ h)
-
-abbrev pub Declined : ℕ → Held → Held → Answer → Type 0
-Declined why h g a = (a ≡ bare why) × (g ≡ h)
 
 abbrev pub HeldCalled : Held → Command ℕ → Held → Answer → Type 0
 HeldCalled (OfQueuePass p) call (OfQueuePass q) a = QueueCalled p call q a
@@ -193,6 +184,7 @@ abbrev pub HeldWentOn : Held → Held → Answer → Type 0
 HeldWentOn (OfQueuePass p) (OfQueuePass q) a = QueueWentOn p q a
 HeldWentOn (OfQueuePass p) h a = ⊥
 HeldWentOn (OfQueueCount k) g a = CountWentOn k g a
+HeldWentOn (OfQueueGauge k) g a = GaugeWentOn k g a
 HeldWentOn (OfStackPass p) (OfStackPass q) a = StackWentOn p q a
 HeldWentOn (OfStackPass p) h a = ⊥
 HeldWentOn (OfStackFold f) g a = FoldWentOn f g a

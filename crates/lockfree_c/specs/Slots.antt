@@ -3,6 +3,7 @@ use Rattle.std.specs.Prelude.{◌≡◌, ℕ, Bool, true, false, List, Result, M
 use Rattle.bounded_model.specs.declared.commands.Command.{Command}
 use Rattle.index_list.specs.declared.front.Front.{Front}
 use Rattle.lockfree_c.specs.Codes.{bare}
+use Rattle.lockfree_c.specs.Gauges.{HeldGauged}
 use Rattle.lockfree_c.specs.Held.{IsHeld, Continues, HeldAdded, HeldCalled, HeldCopied, HeldCounted, HeldFinished, HeldFolded, HeldNumber, HeldRangePut, HeldWentOn, HeldSplit, NewRefused}
 use Rattle.lockfree_c.specs.declared.answers.Answer.{Answer}
 use Rattle.lockfree_c.specs.declared.answers.TheConstants.{OK, NO_HANDLE, IN_USE}
@@ -37,6 +38,11 @@ SlotWentOn s t a = Either s.full
 abbrev pub SlotCounted : Slot → Slot → Answer → Type 0
 SlotCounted s t a = Either s.full
     ((t.full ≡ true) × HeldCounted s.handle.held t.handle.held a)
+    (IsEmpty t × (a ≡ bare NO_HANDLE))
+
+abbrev pub SlotGauged : Slot → Slot → Answer → Type 0
+SlotGauged s t a = Either s.full
+    ((t.full ≡ true) × HeldGauged s.handle.held t.handle.held a)
     (IsEmpty t × (a ≡ bare NO_HANDLE))
 
 abbrev pub SlotFolded : Slot → Front → Slot → Answer → Type 0

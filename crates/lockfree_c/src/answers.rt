@@ -15,7 +15,7 @@ pub const FULL: u32 = 1;
 pub const EMPTY: u32 = 2;
 
 /// A put: the container is closed. A take: it is closed, and there is no value. A close: it was
-/// closed before.
+/// closed before. A gauge: it was closed.
 pub const CLOSED: u32 = 3;
 
 /// A take: the container is shut. A shut: it was shut before.
@@ -59,7 +59,8 @@ pub const SHARED: u32 = 16;
 
 /// A code, and what it says: of a put that is done its number, of a take its value, of a fold or a
 /// finish the next value, of a fold that is done how many there were, of a put of a range how many
-/// went in, of a count how many there are, and of what is spent the tag. What is not said is 0.
+/// went in, of a count how many there are, of a gauge how many tags were used, and of what is spent
+/// the tag. What is not said is 0.
 #[repr(C)]
 #[derive(Clone, Copy)]
 pub struct Answer {
@@ -68,7 +69,7 @@ pub struct Answer {
 }
 
 impl Answer {
-    ghost use Rattle.lockfree_c.specs.Codes.{SaysFold, SaysPut, SaysRange, SaysTake, Says, bare, saying};
+    ghost use Rattle.lockfree_c.specs.Codes.{SaysFold, SaysGauge, SaysPut, SaysRange, SaysTake, Says, bare, saying};
 
     /// A code alone.
     #[inline(always)]
@@ -134,6 +135,14 @@ impl Answer {
             Err(RangeRefused::Closed) => Answer::of(CLOSED),
             Err(RangeRefused::Spent(_, tag)) => Answer::with(SPENT, tag),
         }
+    }
+
+    /// What a gauge showed.
+    #[inline]
+    pub fn of_gauge(closed: bool, used: u64) -> Answer
+        ensures { SaysGauge closed used result }
+    {
+        Answer::with(if closed { CLOSED } else { OK }, used)
     }
 
     /// What a whole call returned.

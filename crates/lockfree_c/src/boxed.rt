@@ -317,6 +317,7 @@ fn go_on(held: Held, tries: u64) -> (Held, Answer)
             (Held::StackPass(pass), answer)
         }
         Held::QueueCount(count) => count.go_on(tries),
+        Held::QueueGauge(gauge) => gauge.go_on(tries),
         Held::StackFold(fold) => fold.go_on(tries),
         Held::StackRange(range) => (Held::StackRange(range), Answer::of(NO_CALL)),
         Held::StackRangePut(put) => put.go_on(tries),

@@ -2,8 +2,8 @@
 //! behind one may cross threads.
 
 use crate::held::{
-    QueueCount, QueueOperation, QueuePass, QueueRoot, StackCopy, StackFold, StackOperation,
-    StackPass, StackRange, StackRangePut, StackRoot,
+    QueueCount, QueueGauge, QueueOperation, QueuePass, QueueRoot, StackCopy, StackFold,
+    StackOperation, StackPass, StackRange, StackRangePut, StackRoot,
 };
 use bounded_model::Operation;
 
@@ -37,6 +37,12 @@ pub fn queue_operation_crosses(operation: &QueueOperation) {
 pub fn queue_count_crosses(count: &QueueCount) {
     crosses(&count.queue);
     crosses(&count.op);
+}
+
+/// The parts of a queue's pass that is in a gauge.
+pub fn queue_gauge_crosses(gauge: &QueueGauge) {
+    crosses(&gauge.queue);
+    crosses(&gauge.op);
 }
 
 /// The parts of a stack's root.

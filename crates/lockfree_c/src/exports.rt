@@ -20,6 +20,7 @@ ghost use Rattle.lockfree_c.specs.Slots.{
   SlotFinished,
   SlotFolded,
   SlotFreed,
+  SlotGauged,
   SlotNew,
   SlotNumber,
   SlotRangePut,
@@ -32,6 +33,7 @@ use crate::boxed::{
     add_by, boxed_queue, boxed_stack, call_by, count_by, finish_by, fold_by, go_on_by, look_by,
     number_by, put_by, put_copies_by, put_range_by, split_from, take_by,
 };
+use crate::gauge::gauge_by;
 use crate::slot::Slot;
 use bounded_model::Command;
 use std::alloc::Global;
@@ -240,6 +242,19 @@ pub extern "C" fn lockfree_count(pass: &mut Slot, tries: u64) -> Answer
         return Answer::of(NO_HANDLE);
     }
     count_by(pass.handle.open_mut(), tries)
+}
+
+/// Tells whether the container was closed, and how many of its tags were used.
+#[unsafe(no_mangle)]
+pub extern "C" fn lockfree_gauge(pass: &mut Slot, tries: u64) -> Answer
+    requires { IsSlot pass.old }
+    ensures of { IsSlot pass.new }
+    ensures gives { SlotGauged pass.old pass.new result }
+{
+    if !pass.full {
+        return Answer::of(NO_HANDLE);
+    }
+    gauge_by(pass.handle.open_mut(), tries)
 }
 
 /// Folds all values of a stack, which one compare-and-swap takes: from the top down, or reversed.

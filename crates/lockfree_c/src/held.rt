@@ -1,11 +1,11 @@
 //! What lies behind a handle.
 ghost use Rattle.std.specs.Prelude.{◌≡◌};
-ghost use Rattle.lockfree_c.specs.Held.{refusal_of};
+ghost use Rattle.lockfree_c.specs.Refusals.{refusal_of};
 
 use crate::answers::{OTHER_HANDLE, UNDER_WAY};
 use crate::stage::Stage;
 use bounded_model::Operation;
-use ms_queue::{LenOp, Queue};
+use ms_queue::{GaugeOp, LenOp, Queue};
 use std::alloc::Global;
 use std::sync::Arc;
 use treiber_stack::{FoldOp, RangeOp, Stack};
@@ -48,6 +48,13 @@ pub struct QueuePass {
 pub struct QueueCount {
     pub queue: Arc<Queue<u64>, Global>,
     pub op: LenOp<u64>,
+}
+
+/// A queue's pass in a gauge, with a share of the queue. It stands apart as a count does.
+#[derive(Drop)]
+pub struct QueueGauge {
+    pub queue: Arc<Queue<u64>, Global>,
+    pub op: GaugeOp<u64>,
 }
 
 /// A stack's root, with a share of the stack.
@@ -104,6 +111,7 @@ pub enum Held {
     QueueRoot(QueueRoot),
     QueuePass(QueuePass),
     QueueCount(QueueCount),
+    QueueGauge(QueueGauge),
     StackRoot(StackRoot),
     StackPass(StackPass),
     StackFold(StackFold),
@@ -124,6 +132,7 @@ impl Held {
     {
         match self {
             Held::QueueCount(_) => UNDER_WAY,
+            Held::QueueGauge(_) => UNDER_WAY,
             Held::StackFold(_) => UNDER_WAY,
             Held::StackRange(_) => UNDER_WAY,
             Held::StackRangePut(_) => UNDER_WAY,

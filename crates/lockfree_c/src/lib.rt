@@ -14,6 +14,7 @@ mod crossing;
 mod exports;
 mod finish;
 mod fold;
+mod gauge;
 mod handle;
 mod held;
 mod parts;

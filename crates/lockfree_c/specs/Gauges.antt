@@ -1,0 +1,77 @@
+-- What gauges do to what lies behind a handle: of a queue by steps, of a stack by one load.
+use Rattle.std.specs.Prelude.{◌≡◌, ℕ, MatchOption}
+use Rattle.bounded_model.specs.Stepping.{MatchStepped}
+use Rattle.bounded_model.specs.declared.answers.Stepped.{Stepped}
+use Rattle.bounded_model.specs.declared.answers.Stepped.TheVariants as stepped
+use Rattle.bounded_model.specs.declared.views.PassView.{PassView}
+use Rattle.running.specs.Passes.{pass_in}
+use Rattle.running.specs.declared.passes.Pass.{Pass}
+use Rattle.queue_machine.specs.declared.lines.Line.{Line}
+use Rattle.stack_machine.specs.declared.lines.Line as of_stack
+use Rattle.ms_queue.specs.Gauging.{GaugeGives, GaugeOp, IsGauging}
+use Rattle.ms_queue.specs.Queue as queue
+use Rattle.ms_queue.specs.declared.gauging.Gauge.{Gauge}
+use Rattle.ms_queue.specs.declared.queue.Queue.{Queue}
+use Rattle.treiber_stack.specs.Gauging as stack_gauging
+use Rattle.treiber_stack.specs.Stack as stack
+use Rattle.treiber_stack.specs.declared.gauging.Gauge as stack_gauge
+use Rattle.treiber_stack.specs.declared.stack.Stack.{Stack}
+use Rattle.lockfree_c.specs.Codes.{SaysGauge, bare}
+use Rattle.lockfree_c.specs.Refusals.{Declined, refusal_of}
+use Rattle.lockfree_c.specs.Stages.{Rests}
+use Rattle.lockfree_c.specs.declared.answers.Answer.{Answer}
+use Rattle.lockfree_c.specs.declared.answers.TheConstants.{BUSY, UNDER_WAY}
+use Rattle.lockfree_c.specs.declared.held.Held.{Held}
+use Rattle.lockfree_c.specs.declared.held.Held.TheVariants.{QueuePass as OfQueuePass, QueueGauge as OfQueueGauge, StackPass as OfStackPass}
+use Rattle.lockfree_c.specs.declared.held.QueueGauge.{QueueGauge}
+use Rattle.lockfree_c.specs.declared.held.QueuePass.{QueuePass}
+use Rattle.lockfree_c.specs.declared.held.StackPass.{StackPass}
+
+-- A queue's
+
+-- what some steps of a gauge have come to
+abbrev pub GaugeMade : Type 0
+GaugeMade = Stepped (GaugeOp ℕ) (Pass ℕ (Line ℕ)) Gauge
+
+-- it goes on, begun as the pass was v, or has shown how the queue was at one moment since
+abbrev pub GaugeTried : Queue ℕ → PassView ℕ → GaugeMade → Type 0
+GaugeTried c v made = MatchStepped made
+    (λ next. IsGauging c next × (queue.begun_of c next.pass ≡ v))
+    (λ back shown. queue.IsPassOf c back × GaugeGives (queue.room_of c) (queue.limit_of c) v (pass_in back) shown)
+
+-- how one that was tried left what is held, and what C was answered; it has no number
+abbrev pub GaugeLeft : Queue ℕ → GaugeMade → Held → Answer → Type 0
+GaugeLeft c (stepped.Again next) (OfQueueGauge k) a = (k.queue.value ≡ c) × (k.op ≡ next) × (a ≡ bare BUSY)
+GaugeLeft c (stepped.Done back shown) (OfQueuePass p) a = (p.queue.value ≡ c) × Rests p.stage back 0 × SaysGauge shown.closed shown.used a
+GaugeLeft c made h a = ⊥
+
+-- a gauge of a pass that rests is tried, from what the pass had seen; of one in a call nothing is changed
+abbrev pub QueueGauged : QueuePass → Held → Answer → Type 0
+QueueGauged p g a = MatchOption p.stage.resting
+    (Declined UNDER_WAY (OfQueuePass p) g a)
+    (λ by. (made : GaugeMade) × GaugeTried p.queue.value (pass_in by) made × GaugeLeft p.queue.value made g a)
+
+-- the gauge that is under way is tried further
+abbrev pub GaugeWentOn : QueueGauge → Held → Answer → Type 0
+GaugeWentOn k g a = (made : GaugeMade) × GaugeTried k.queue.value (queue.begun_of k.queue.value k.op.pass) made × GaugeLeft k.queue.value made g a
+
+-- A stack's
+
+-- it showed how the stack was at one moment since the pass was v
+abbrev pub GaugeShows : Stack ℕ → PassView ℕ → Pass ℕ (of_stack.Line ℕ) → stack_gauge.Gauge → Type 0
+GaugeShows c v back shown = stack.IsPassOf c back × stack_gauging.GaugeGives (stack.room_of c) (stack.limit_of c) v (pass_in back) shown
+
+-- a pass that rests makes one, and has no number then; of one in a call nothing is changed
+abbrev pub StackGauged : StackPass → StackPass → Answer → Type 0
+StackGauged p q a = (q.stack.value ≡ p.stack.value) × MatchOption p.stage.resting
+    ((a ≡ bare UNDER_WAY) × (q.stage ≡ p.stage))
+    (λ by. (back : Pass ℕ (of_stack.Line ℕ)) × (shown : stack_gauge.Gauge)
+    × GaugeShows p.stack.value (pass_in by) back shown × Rests q.stage back 0 × SaysGauge shown.closed shown.used a)
+
+-- The begin of a gauge
+
+abbrev pub HeldGauged : Held → Held → Answer → Type 0
+HeldGauged (OfQueuePass p) g a = QueueGauged p g a
+HeldGauged (OfStackPass p) (OfStackPass q) a = StackGauged p q a
+HeldGauged (OfStackPass p) h a = ⊥
+HeldGauged h g a = Declined (refusal_of h) h g a

@@ -1,0 +1,139 @@
+//! Gauges: whether a container was closed, and how many of its tags were used, both at one moment.
+ghost use Rattle.lockfree_c.specs.Gauges.{
+  GaugeLeft,
+  GaugeWentOn,
+  HeldGauged,
+  QueueGauged,
+  StackGauged,
+};
+ghost use Rattle.lockfree_c.specs.Held.{IsHeld, IsQueueGauge, IsQueuePass, IsStackPass};
+
+use crate::answers::{Answer, BUSY, UNDER_WAY};
+use crate::held::{Held, QueueGauge, QueuePass, StackPass};
+use crate::stage::Stage;
+use bounded_model::Stepped;
+use ms_queue::{Gauge, GaugeOp, Pass, Queue};
+use std::alloc::Global;
+use std::mem;
+use std::sync::Arc;
+
+// As many steps as a queue's gauge makes where no value is put meanwhile: it may have to move the tail.
+const UNDISTURBED: u64 = 8;
+
+// How many loads a gauge makes from its begin to its end, where the tail is that of the last node.
+const LOADS: u64 = 4;
+
+// How many steps so many tries are.
+fn steps_for(tries: u64) -> u64 {
+    tries.saturating_mul(LOADS).saturating_add(UNDISTURBED)
+}
+
+// What is held once a queue's gauge was tried, and the answer.
+fn left(
+    queue: Arc<Queue<u64>, Global>,
+    made: Stepped<GaugeOp<u64>, Pass<u64>, Gauge>,
+) -> (Held, Answer)
+    ensures { GaugeLeft queue.value made result.0 result.1 }
+{
+    match made {
+        Stepped::Again(op) => (Held::QueueGauge(QueueGauge { queue, op }), Answer::of(BUSY)),
+        Stepped::Done(by, shown) => {
+            let stage = Stage::of(by, 0);
+            let pass = QueuePass { queue, stage };
+            (Held::QueuePass(pass), Answer::of_gauge(shown.closed, shown.used))
+        }
+    }
+}
+
+impl QueuePass {
+    /// A gauge of the queue; where the pass is in a call already, nothing.
+    pub fn gauge(self, tries: u64) -> (Held, Answer)
+        requires { IsQueuePass self }
+        ensures of { IsHeld result.0 }
+        ensures gives { QueueGauged self result.0 result.1 }
+    {
+        let QueuePass { queue, stage } = self;
+        let Stage {
+            resting,
+            under_way,
+            number,
+        } = stage;
+        match resting {
+            Some(by) => {
+                let op = queue.begin_gauge(by);
+                QueueGauge { queue, op }.go_on(tries)
+            }
+            None => {
+                let stage = Stage {
+                    resting: None,
+                    under_way,
+                    number,
+                };
+                let pass = QueuePass { queue, stage };
+                (Held::QueuePass(pass), Answer::of(UNDER_WAY))
+            }
+        }
+    }
+}
+
+impl QueueGauge {
+    /// Goes on with the gauge until its end, or until the tries are used up.
+    pub fn go_on(self, tries: u64) -> (Held, Answer)
+        requires { IsQueueGauge self }
+        ensures of { IsHeld result.0 }
+        ensures gives { GaugeWentOn self result.0 result.1 }
+    {
+        let QueueGauge { queue, op } = self;
+        let made = op.run_for(&queue, steps_for(tries));
+        left(queue, made)
+    }
+}
+
+impl StackPass {
+    /// A gauge of the stack, which is one step; where the pass is in a call already, nothing.
+    pub fn gauge(&mut self) -> Answer
+        requires { IsStackPass self.old }
+        ensures of { IsStackPass self.new }
+        ensures gives { StackGauged self.old self.new result }
+    {
+        match self.stage.resting.take() {
+            Some(by) => {
+                let (by, shown) = self.stack.gauge(by);
+                self.stage = Stage::of(by, 0);
+                Answer::of_gauge(shown.closed, shown.used)
+            }
+            None => Answer::of(UNDER_WAY),
+        }
+    }
+}
+
+// A gauge by what is held, if that is a pass.
+fn gauge(held: Held, tries: u64) -> (Held, Answer)
+    requires { IsHeld held }
+    ensures of { IsHeld result.0 }
+    ensures gives { HeldGauged held result.0 result.1 }
+{
+    match held {
+        Held::QueuePass(pass) => pass.gauge(tries),
+        Held::StackPass(pass) => {
+            let mut pass = pass;
+            let answer = pass.gauge();
+            (Held::StackPass(pass), answer)
+        }
+        other => {
+            let answer = Answer::of(other.refusal());
+            (other, answer)
+        }
+    }
+}
+
+/// A gauge by what lies in the box, if that is a pass.
+pub fn gauge_by(held: &mut Held, tries: u64) -> Answer
+    requires { IsHeld held.old }
+    ensures of { IsHeld held.new }
+    ensures gives { HeldGauged held.old held.new result }
+{
+    let (next, answer) = gauge(mem::replace(held, Held::Nothing), tries);
+    *held = next;
+    answer
+}
