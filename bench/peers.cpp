@@ -122,8 +122,8 @@ private:
 #ifdef MOODYCAMEL
 class Moodycamel {
 public:
-    X
-    bool pop(Value& value) { return values_.try_dequeue(item); }
+    bool push(const Value& value) { return values_.try_enqueue(value); }
+    bool pop(Value& value) { return values_.try_dequeue(value); }
 
 private:
     moodycamel::ConcurrentQueue<Value> values_{CAPACITY};
