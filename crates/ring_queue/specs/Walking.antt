@@ -37,15 +37,16 @@ spare_at (LoadHint c) = c
 spare_at (LoadSlot w) = w.spare
 spare_at (MoveHint w) = w.spare
 
--- a position is one of a slot
+-- a position is one of a slot, on a walk that knows how many there are
 abbrev pub IsRead : ℕ → WalkAt → Type 0
-IsRead n (LoadSlot w) = (index_of w.at < n) × (w.gone < stride)
+IsRead n (LoadSlot w) = (index_of w.at < n) × (w.gone < stride) × (w.room ≡ n)
 IsRead n at = Unit {0}
 
 -- at the end the slot has not been passed
 pub record IsEnd (n laps full : ℕ) (f : Found) : Type 0 where
   pub slot : index_of f.walk.at < n
   pub short : f.walk.gone < stride
+  pub room : f.walk.room ≡ n
   pub within : tag_of f.slot ≤ 2 * laps
   pub here : tag_of f.slot ≤ 2 * tag_of f.walk.at + full
 

@@ -10,8 +10,9 @@
 //! refusal was right at some time between the pass's last step before the call and the answer.
 //!
 //! An operation is begun and then made step by step, or by a whole call, which is a fast path over
-//! the same steps and retries, with a wait, while others interfere, or for a bounded number of
-//! steps, and can then be gone on with.
+//! the same steps and retries while others interfere, or for a bounded number of steps, and can then
+//! be gone on with. A put or a take that was too late goes on at once, one slot further; a close or a
+//! shut whose compare-and-swap failed waits, if its pass calls back to back.
 #![tactic(auto)]
 
 mod closing;

@@ -1,14 +1,18 @@
 //! A put's fast path: the value goes into the spare cell, the walk to the back follows, and the cell
-//! is exchanged for that of the slot there.
+//! is exchanged for that of the slot there. Between two steps there are plain words alone, which the
+//! compiler keeps in registers.
 ghost use Rattle.std.specs.Prelude.{◌≡◌};
 ghost use Rattle.ring_queue.specs.Putting.{PutStands, PutRan, put_of};
 ghost use Rattle.ring_queue.specs.Ring.{IsPassOf};
+ghost use Rattle.ring_queue.specs.declared.putting.PutAt.TheVariants.{Walking};
+ghost use Rattle.ring_queue.specs.declared.walking.WalkAt.TheVariants.{LoadSlot};
 
 use crate::putting::{Answer, PutAt};
 use crate::queue::{Answered, Pass, RingQueue};
-use crate::walking::{STRIDE, WalkAt};
+use crate::walking::{STRIDE, Walk, WalkAt};
 use ring_table::{Operation, SeatLine};
 use running::{Next, any, aside, fast_step, first_step};
+use std::snapshot::Snapshot;
 
 impl<T> RingQueue<T> {
     /// A put's steps on its fast path, as long as nobody is faster.
@@ -28,13 +32,25 @@ impl<T> RingQueue<T> {
     {
         let Pass { pass, spare } = by;
         let table = &self.table.shared;
-        let begun = PutAt::FetchTail(spare, value);
-        let (pass, at) = fast_step!(first_step(table, self, pass, begun, put));
-        let (pass, at) = fast_step!(self.put_fast_walk(pass, at, put));
-        let PutAt::Exchange(shown, end) = at else {
-            return (pass, Next::On(at));
+        let (pass, shown, walking) = fast_step!(
+            first_step(table, self, pass, PutAt::FetchTail(spare, value), put),
+            PutAt::Walking(shown, walking) => shown, walking
+        );
+        let WalkAt::LoadSlot(walk) = walking else {
+            aside();
+            return (pass, Next::On(PutAt::Walking(shown, walking)));
         };
-        any(table, self, pass, PutAt::Exchange(shown, end), put)
+        let (pass, shown, end) = fast_step!(
+            self.put_fast_walk(pass, shown, walk, put),
+            PutAt::Exchange(shown, end) => shown, end
+        );
+        // One put in eight has to move the tail as well.
+        let exchange = PutAt::Exchange(shown, end);
+        let (pass, at) = match any(table, self, pass, exchange, put) {
+            (pass, Next::On(at)) => (pass, at),
+            other => return other,
+        };
+        any(table, self, pass, at, put)
     }
 
     // The walk, as long as the hint is near enough.
@@ -42,36 +58,39 @@ impl<T> RingQueue<T> {
     fn put_fast_walk(
         &self,
         by: running::Pass<T, SeatLine<T>>,
-        begun: PutAt<T>,
+        value: Snapshot<T>,
+        begun: Walk,
         put: &Operation<T>,
     ) -> (
         running::Pass<T, SeatLine<T>>,
         Next<PutAt<T>, Answered<Answer<T>>>,
     )
-        requires stands { PutStands self.now put.now by begun }
+        requires stands { PutStands self.now put.now by (Walking value (LoadSlot begun)) }
         ensures { PutRan self.now put.now by result.0 result.1 }
     {
         let mut pass = by;
-        let mut at = begun;
+        let mut shown = value;
+        let mut walk = begun;
         for _gone in 0..STRIDE {
-            let PutAt::Walking(shown, walking) = at else {
-                return (pass, Next::On(at));
-            };
-            let WalkAt::LoadSlot(walk) = walking else {
-                return (pass, Next::On(PutAt::Walking(shown, walking)));
-            };
             let read = PutAt::Walking(shown, WalkAt::LoadSlot(walk));
             match any(&self.table.shared, self, pass, read, put) {
-                (next, Next::On(to)) => {
-                    pass = next;
-                    at = to;
-                }
-                other => {
-                    aside();
-                    return other;
-                }
+                (next, Next::On(at)) => match at {
+                    PutAt::Walking(still, walking) => match walking {
+                        WalkAt::LoadSlot(further) => {
+                            pass = next;
+                            shown = still;
+                            walk = further;
+                        }
+                        walking => return (next, Next::On(PutAt::Walking(still, walking))),
+                    },
+                    at => return (next, Next::On(at)),
+                },
+                other => return other,
             }
         }
-        (pass, Next::On(at))
+        (
+            pass,
+            Next::On(PutAt::Walking(shown, WalkAt::LoadSlot(walk))),
+        )
     }
 }

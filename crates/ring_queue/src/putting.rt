@@ -159,7 +159,8 @@ impl<T> Code<RingQueue<T>, T, SeatLine<T>, Operation<T>, Ringed, Answered<Answer
                 // With the cell comes its slot, and the value moves in.
                 let shown = Snapshot::of(&value);
                 put_in(&on.table.shared, seat, spare.index, value);
-                let walk = Walk::from(spare, Tagged::from_word(outcome.word));
+                let hint = Tagged::from_word(outcome.word);
+                let walk = Walk::from(spare, hint, on.limits.capacity());
                 Next::On(PutAt::Walking(shown, WalkAt::LoadSlot(walk)))
             }
             PutAt::Walking(shown, at) => match on.walk_on(0, at, outcome) {
@@ -177,8 +178,10 @@ impl<T> Code<RingQueue<T>, T, SeatLine<T>, Operation<T>, Ringed, Answered<Answer
             },
             PutAt::Exchange(shown, end) => {
                 if !outcome.won {
+                    // Another put was faster, so the walk goes on by one slot: a wait would only make
+                    // it longer.
                     let again = WalkAt::LoadSlot(end.walk);
-                    return Next::Lost(PutAt::Walking(shown, again));
+                    return Next::On(PutAt::Walking(shown, again));
                 }
                 // The put has its effect here; the cell that lay in the slot is the spare one now.
                 let walk = Walk {

@@ -1,13 +1,16 @@
 //! A take's fast path: the walk to the front, the exchange of the spare cell for that of the slot
-//! there, and the way of the emptied cell home.
+//! there, and the way of the emptied cell home. Between two steps there are plain words alone, which
+//! the compiler keeps in registers.
 ghost use Rattle.std.specs.Prelude.{◌≡◌};
 ghost use Rattle.ring_table.specs.declared.operation.Operation.TheVariants.{Take as TakeFirst};
 ghost use Rattle.ring_queue.specs.Ring.{IsPassOf};
 ghost use Rattle.ring_queue.specs.Taking.{TakeStands, TakeRan};
+ghost use Rattle.ring_queue.specs.declared.taking.TakeAt.TheVariants.{Walking};
+ghost use Rattle.ring_queue.specs.declared.walking.WalkAt.TheVariants.{LoadSlot};
 
 use crate::queue::{Answered, Pass, RingQueue};
 use crate::taking::{Answer, TakeAt};
-use crate::walking::{STRIDE, WalkAt};
+use crate::walking::{STRIDE, Walk, WalkAt};
 use ring_table::{Operation, SeatLine};
 use running::{Next, any, aside, fast_step, first_step};
 
@@ -29,13 +32,21 @@ impl<T> RingQueue<T> {
         let Pass { pass, spare } = by;
         let table = &self.table.shared;
         let begun = TakeAt::Walking(WalkAt::LoadHint(spare));
-        let (pass, at) = fast_step!(first_step(table, self, pass, begun, take));
-        let (pass, at) = fast_step!(self.take_fast_walk(pass, at, take));
-        let (pass, at) = fast_step!(self.take_fast_exchange(pass, at, take));
-        let TakeAt::Stow(walk, value) = at else {
-            return (pass, Next::On(at));
+        let (pass, walking) = fast_step!(
+            first_step(table, self, pass, begun, take),
+            TakeAt::Walking(walking) => walking
+        );
+        let WalkAt::LoadSlot(walk) = walking else {
+            aside();
+            return (pass, Next::On(TakeAt::Walking(walking)));
         };
-        any(table, self, pass, TakeAt::Stow(walk, value), take)
+        let (pass, at) = match self.take_fast_walk(pass, walk, take) {
+            (pass, Next::On(at)) => (pass, at),
+            other => return other,
+        };
+        let (pass, at) = fast_step!(self.take_fast_exchange(pass, at, take));
+        let (pass, at) = fast_step!(self.take_fast_pass(pass, at, take));
+        any(table, self, pass, at, take)
     }
 
     // The walk, as long as the hint is near enough.
@@ -43,38 +54,35 @@ impl<T> RingQueue<T> {
     fn take_fast_walk(
         &self,
         by: running::Pass<T, SeatLine<T>>,
-        begun: TakeAt<T>,
+        begun: Walk,
         take: &Operation<T>,
     ) -> (
         running::Pass<T, SeatLine<T>>,
         Next<TakeAt<T>, Answered<Answer<T>>>,
     )
         requires named { take.now ≡ TakeFirst }
-        requires stands { TakeStands self.now by begun }
+        requires stands { TakeStands self.now by (Walking (LoadSlot begun)) }
         ensures { TakeRan self.now take.now by result.0 result.1 }
     {
         let mut pass = by;
-        let mut at = begun;
+        let mut walk = begun;
         for _gone in 0..STRIDE {
-            let TakeAt::Walking(walking) = at else {
-                return (pass, Next::On(at));
-            };
-            let WalkAt::LoadSlot(walk) = walking else {
-                return (pass, Next::On(TakeAt::Walking(walking)));
-            };
             let read = TakeAt::Walking(WalkAt::LoadSlot(walk));
             match any(&self.table.shared, self, pass, read, take) {
-                (next, Next::On(to)) => {
-                    pass = next;
-                    at = to;
-                }
-                other => {
-                    aside();
-                    return other;
-                }
+                (next, Next::On(at)) => match at {
+                    TakeAt::Walking(walking) => match walking {
+                        WalkAt::LoadSlot(further) => {
+                            pass = next;
+                            walk = further;
+                        }
+                        walking => return (next, Next::On(TakeAt::Walking(walking))),
+                    },
+                    at => return (next, Next::On(at)),
+                },
+                other => return other,
             }
         }
-        (pass, Next::On(at))
+        (pass, Next::On(TakeAt::Walking(WalkAt::LoadSlot(walk))))
     }
 
     // The exchange, which takes the value.
@@ -93,8 +101,31 @@ impl<T> RingQueue<T> {
         ensures { TakeRan self.now take.now by result.0 result.1 }
     {
         let TakeAt::Exchange(end) = there else {
+            aside();
             return (by, Next::On(there));
         };
         any(&self.table.shared, self, by, TakeAt::Exchange(end), take)
+    }
+
+    // The move of the head, which follows one take in eight.
+    #[inline(always)]
+    fn take_fast_pass(
+        &self,
+        by: running::Pass<T, SeatLine<T>>,
+        taken: TakeAt<T>,
+        take: &Operation<T>,
+    ) -> (
+        running::Pass<T, SeatLine<T>>,
+        Next<TakeAt<T>, Answered<Answer<T>>>,
+    )
+        requires named { take.now ≡ TakeFirst }
+        requires stands { TakeStands self.now by taken }
+        ensures { TakeRan self.now take.now by result.0 result.1 }
+    {
+        let TakeAt::PassHead(walk, value) = taken else {
+            return (by, Next::On(taken));
+        };
+        let passing = TakeAt::PassHead(walk, value);
+        any(&self.table.shared, self, by, passing, take)
     }
 }

@@ -141,7 +141,9 @@ impl<T> Code<RingQueue<T>, T, SeatLine<T>, Operation<T>, Ringed, Answered<Answer
             },
             TakeAt::Exchange(end) => {
                 if !outcome.won {
-                    return Next::Lost(TakeAt::Walking(WalkAt::LoadSlot(end.walk)));
+                    // Another take was faster, so the walk goes on by one slot: a wait would only make
+                    // it longer.
+                    return Next::On(TakeAt::Walking(WalkAt::LoadSlot(end.walk)));
                 }
                 // The take has its effect here; the value moves out with the cell that came.
                 let cell = end.slot.index();

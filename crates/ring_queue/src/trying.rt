@@ -11,8 +11,7 @@ use ring_table::Operation;
 use running::at_once;
 
 impl<T> RingQueue<T> {
-    /// Puts a value on the fast path alone, with a wait after a compare-and-swap that failed. If that
-    /// does not end the put, `run_for` goes on with it.
+    /// Puts a value on the fast path alone. If that does not end the put, `run_for` goes on with it.
     #[inline(always)]
     pub fn put_at_once(
         &self,

@@ -31,19 +31,24 @@ pub struct Walk {
     pub(crate) at: Tagged,
     /// How many positions it has gone on.
     pub(crate) gone: u32,
+    /// How many slots the ring has. The ring knows it too, but after each atomic step the compiler
+    /// would read it there anew.
+    pub(crate) room: u32,
 }
 
 impl Walk {
-    /// A walk from this hint.
+    /// A walk from this hint, in a ring of so many slots.
     #[inline(always)]
-    pub(crate) fn from(spare: Spare, hint: Tagged) -> Walk
-        ensures { result ≡ record { spare = spare; from = hint; at = hint; gone = 0 } }
+    pub(crate) fn from(spare: Spare, hint: Tagged, room: u32) -> Walk
+        ensures { result
+            ≡ record { spare = spare; from = hint; at = hint; gone = 0; room = room } }
     {
         Walk {
             spare,
             from: hint,
             at: hint,
             gone: 0,
+            room,
         }
     }
 }
@@ -75,6 +80,15 @@ impl<T> RingQueue<T> {
         layout::slot(self.limits.capacity(), at.index())
     }
 
+    // The same of a slot on a walk.
+    #[inline(always)]
+    fn slot_on(&self, room: u32, at: Tagged) -> usize
+        requires { room ≡ room_of self.now }
+        ensures { result ≡ slot_at (room_of self.now) (index_of at) }
+    {
+        layout::slot(room, at.index())
+    }
+
     /// The number of a position.
     #[inline(always)]
     pub(crate) fn place_of(&self, at: Tagged) -> u64
@@ -89,7 +103,17 @@ impl<T> RingQueue<T> {
         requires { (index_of at < room_of self.now) × (tag_of at < MAX_TAG) }
         ensures { fields_of result ≡ behind (room_of self.now) (fields_of at) }
     {
-        if at.index() + 1 == self.limits.capacity() {
+        self.behind_on(self.limits.capacity(), at)
+    }
+
+    // The same on a walk.
+    #[inline(always)]
+    fn behind_on(&self, room: u32, at: Tagged) -> Tagged
+        requires room { room ≡ room_of self.now }
+        requires at { (index_of at < room_of self.now) × (tag_of at < MAX_TAG) }
+        ensures { fields_of result ≡ behind (room_of self.now) (fields_of at) }
+    {
+        if at.index() + 1 == room {
             raised(at, 0)
         } else {
             at.kept(at.index() + 1)
@@ -106,7 +130,7 @@ impl<T> RingQueue<T> {
     {
         match at {
             WalkAt::LoadHint(_) => Access::Load(hint),
-            WalkAt::LoadSlot(walk) => Access::Load(self.slot_of(walk.at)),
+            WalkAt::LoadSlot(walk) => Access::Load(self.slot_on(walk.room, walk.at)),
             WalkAt::MoveHint(walk) => Access::Swap(hint, walk.from, walk.at),
         }
     }
@@ -122,7 +146,8 @@ impl<T> RingQueue<T> {
     {
         match at {
             WalkAt::LoadHint(spare) => {
-                let walk = Walk::from(spare, Tagged::from_word(outcome.word));
+                let hint = Tagged::from_word(outcome.word);
+                let walk = Walk::from(spare, hint, self.limits.capacity());
                 Next::On(WalkAt::LoadSlot(walk))
             }
             WalkAt::LoadSlot(walk) => {
@@ -131,7 +156,7 @@ impl<T> RingQueue<T> {
                     return Next::Done(Found { walk, slot });
                 }
                 let further = Walk {
-                    at: self.behind(walk.at),
+                    at: self.behind_on(walk.room, walk.at),
                     gone: walk.gone + 1,
                     ..walk
                 };
@@ -140,14 +165,8 @@ impl<T> RingQueue<T> {
                 }
                 Next::On(WalkAt::LoadSlot(further))
             }
-            // Whoever succeeds, the hint has moved.
-            WalkAt::MoveHint(walk) => {
-                if outcome.won {
-                    Next::On(WalkAt::LoadHint(walk.spare))
-                } else {
-                    Next::Lost(WalkAt::LoadHint(walk.spare))
-                }
-            }
+            // Whoever succeeds, the hint has moved: there is nothing to wait for.
+            WalkAt::MoveHint(walk) => Next::On(WalkAt::LoadHint(walk.spare)),
         }
     }
 }

@@ -2,7 +2,9 @@ use Rattle.std.proofs.Common.{◌≡◌}
 use Rattle.running.specs.Passes.{begun_of}
 use Rattle.ring_queue.specs.Ring.{machine_of}
 use Rattle.ring_queue.specs.Taking.{TakeStands}
+use Rattle.ring_queue.specs.declared.taking.TakeAt.TheVariants.{Walking}
+use Rattle.ring_queue.specs.declared.walking.WalkAt.TheVariants.{LoadSlot}
 use Rattle.ring_queue.proofs.queue.RingQueue.take_fast_walk.Given as goal
 
 abbrev pub invariant-loop-gone : goal.invariant-loop-gone
-invariant-loop-gone g l = TakeStands l.fn.self l.pass l.at × (begun_of (machine_of l.fn.self) l.pass ≡ begun_of (machine_of l.fn.self) l.fn.by)
+invariant-loop-gone g l = TakeStands l.fn.self l.pass (Walking (LoadSlot l.walk)) × (begun_of (machine_of l.fn.self) l.pass ≡ begun_of (machine_of l.fn.self) l.fn.by)
