@@ -1,26 +1,34 @@
 //! Calls by single steps: so many of them, or all that are left.
 
 ghost use Rattle.std.specs.Prelude.{ℕ};
+ghost use Rattle.ring_queue.specs.Closing.{IsClosing};
+ghost use Rattle.ring_queue.specs.Counting.{IsCounting};
+ghost use Rattle.ring_queue.specs.Looking.{IsLooking};
+ghost use Rattle.ring_queue.specs.Putting.{IsPutting};
+ghost use Rattle.ring_queue.specs.Ring.{IsPassOf};
+ghost use Rattle.ring_queue.specs.Shutting.{IsShutting};
+ghost use Rattle.ring_queue.specs.Taking.{IsTaking};
 
 use bounded_model::{PutRefused, Stepped, Stepwise, TakeRefused};
+use ring_queue::{CloseOp, LenOp, LookOp, Pass, PutOp, RingQueue, ShutOp, TakeOp};
 use std::process::Abort;
 
 /// More steps than any call makes that nobody interferes with from here on.
-const MOST: u32 = 60;
+pub(crate) const MOST: u32 = 60;
 
 /// Makes so many steps of a put, none of which ends it.
-pub(crate) fn put_for<C: Stepwise<u64>, R: Abort>(
+pub(crate) fn put_for<T: Drop + Send, R: Abort>(
     rt: &R,
-    container: &C,
-    op: C::PutOp,
+    ring: &RingQueue<T>,
+    op: PutOp<T>,
     steps: u64,
-) -> C::PutOp
-    requires { (x : ℕ) × C.is_putting container.now x op }
-    ensures { (x : ℕ) × C.is_putting container.now x result }
+) -> PutOp<T>
+    requires { (x : T) × IsPutting ring.now x op }
+    ensures { (x : T) × IsPutting ring.now x result }
 {
     let mut op = op;
     for _ in 0..steps {
-        let Stepped::Again(next) = container.step_put(op) else {
+        let Stepped::Again(next) = ring.step_put(op) else {
             panic!(rt; "the put ended early")
         };
         op = next;
@@ -29,18 +37,18 @@ pub(crate) fn put_for<C: Stepwise<u64>, R: Abort>(
 }
 
 /// The same of a take.
-pub(crate) fn take_for<C: Stepwise<u64>, R: Abort>(
+pub(crate) fn take_for<T: Drop + Send, R: Abort>(
     rt: &R,
-    container: &C,
-    op: C::TakeOp,
+    ring: &RingQueue<T>,
+    op: TakeOp<T>,
     steps: u64,
-) -> C::TakeOp
-    requires { C.is_taking container.now op }
-    ensures { C.is_taking container.now result }
+) -> TakeOp<T>
+    requires { IsTaking ring.now op }
+    ensures { IsTaking ring.now result }
 {
     let mut op = op;
     for _ in 0..steps {
-        let Stepped::Again(next) = container.step_take(op) else {
+        let Stepped::Again(next) = ring.step_take(op) else {
             panic!(rt; "the take ended early")
         };
         op = next;
@@ -49,18 +57,18 @@ pub(crate) fn take_for<C: Stepwise<u64>, R: Abort>(
 }
 
 /// The same of a close.
-pub(crate) fn close_for<C: Stepwise<u64>, R: Abort>(
+pub(crate) fn close_for<R: Abort>(
     rt: &R,
-    container: &C,
-    op: C::CloseOp,
+    ring: &RingQueue<u64>,
+    op: CloseOp<u64>,
     steps: u64,
-) -> C::CloseOp
-    requires { C.is_closing container.now op }
-    ensures { C.is_closing container.now result }
+) -> CloseOp<u64>
+    requires { IsClosing ring.now op }
+    ensures { IsClosing ring.now result }
 {
     let mut op = op;
     for _ in 0..steps {
-        let Stepped::Again(next) = container.step_close(op) else {
+        let Stepped::Again(next) = ring.step_close(op) else {
             panic!(rt; "the close ended early")
         };
         op = next;
@@ -69,18 +77,18 @@ pub(crate) fn close_for<C: Stepwise<u64>, R: Abort>(
 }
 
 /// The same of a shut.
-pub(crate) fn shut_for<C: Stepwise<u64>, R: Abort>(
+pub(crate) fn shut_for<R: Abort>(
     rt: &R,
-    container: &C,
-    op: C::ShutOp,
+    ring: &RingQueue<u64>,
+    op: ShutOp<u64>,
     steps: u64,
-) -> C::ShutOp
-    requires { C.is_shutting container.now op }
-    ensures { C.is_shutting container.now result }
+) -> ShutOp<u64>
+    requires { IsShutting ring.now op }
+    ensures { IsShutting ring.now result }
 {
     let mut op = op;
     for _ in 0..steps {
-        let Stepped::Again(next) = container.step_shut(op) else {
+        let Stepped::Again(next) = ring.step_shut(op) else {
             panic!(rt; "the shut ended early")
         };
         op = next;
@@ -88,18 +96,54 @@ pub(crate) fn shut_for<C: Stepwise<u64>, R: Abort>(
     op
 }
 
-/// Makes all steps that are left of a put.
-pub(crate) fn put_to_the_end<C: Stepwise<u64>, R: Abort>(
+/// The same of a look.
+pub(crate) fn look_for<R: Abort>(
     rt: &R,
-    container: &C,
-    op: C::PutOp,
-) -> (C::Pass, Result<u64, PutRefused<u64>>)
-    requires { (x : ℕ) × C.is_putting container.now x op }
-    ensures { C.is_pass container.now result.0 }
+    ring: &RingQueue<u64>,
+    op: LookOp<u64>,
+    steps: u64,
+) -> LookOp<u64>
+    requires { IsLooking ring.now op }
+    ensures { IsLooking ring.now result }
+{
+    let mut op = op;
+    for _ in 0..steps {
+        let Stepped::Again(next) = ring.step_look(op) else {
+            panic!(rt; "the look ended early")
+        };
+        op = next;
+    }
+    op
+}
+
+/// The same of a count.
+pub(crate) fn count_for<R: Abort>(
+    rt: &R,
+    ring: &RingQueue<u64>,
+    op: LenOp<u64>,
+    steps: u64,
+) -> LenOp<u64>
+    requires { IsCounting ring.now op }
+    ensures { IsCounting ring.now result }
+{
+    let Stepped::Again(next) = ring.run_for(op, steps) else {
+        panic!(rt; "the count ended early")
+    };
+    next
+}
+
+/// Makes all steps that are left of a put.
+pub(crate) fn put_to_the_end<R: Abort>(
+    rt: &R,
+    ring: &RingQueue<u64>,
+    op: PutOp<u64>,
+) -> (Pass<u64>, Result<u64, PutRefused<u64>>)
+    requires { (x : ℕ) × IsPutting ring.now x op }
+    ensures { IsPassOf ring.now result.0 }
 {
     let mut op = op;
     for _ in 0..MOST {
-        match container.step_put(op) {
+        match ring.step_put(op) {
             Stepped::Again(next) => op = next,
             Stepped::Done(pass, answer) => return (pass, answer),
         }
@@ -108,17 +152,17 @@ pub(crate) fn put_to_the_end<C: Stepwise<u64>, R: Abort>(
 }
 
 /// The same of a take.
-pub(crate) fn take_to_the_end<C: Stepwise<u64>, R: Abort>(
+pub(crate) fn take_to_the_end<R: Abort>(
     rt: &R,
-    container: &C,
-    op: C::TakeOp,
-) -> (C::Pass, Result<(u64, u64), TakeRefused>)
-    requires { C.is_taking container.now op }
-    ensures { C.is_pass container.now result.0 }
+    ring: &RingQueue<u64>,
+    op: TakeOp<u64>,
+) -> (Pass<u64>, Result<(u64, u64), TakeRefused>)
+    requires { IsTaking ring.now op }
+    ensures { IsPassOf ring.now result.0 }
 {
     let mut op = op;
     for _ in 0..MOST {
-        match container.step_take(op) {
+        match ring.step_take(op) {
             Stepped::Again(next) => op = next,
             Stepped::Done(pass, answer) => return (pass, answer),
         }
@@ -127,17 +171,17 @@ pub(crate) fn take_to_the_end<C: Stepwise<u64>, R: Abort>(
 }
 
 /// The same of a close.
-pub(crate) fn close_to_the_end<C: Stepwise<u64>, R: Abort>(
+pub(crate) fn close_to_the_end<R: Abort>(
     rt: &R,
-    container: &C,
-    op: C::CloseOp,
-) -> (C::Pass, bool)
-    requires { C.is_closing container.now op }
-    ensures { C.is_pass container.now result.0 }
+    ring: &RingQueue<u64>,
+    op: CloseOp<u64>,
+) -> (Pass<u64>, bool)
+    requires { IsClosing ring.now op }
+    ensures { IsPassOf ring.now result.0 }
 {
     let mut op = op;
     for _ in 0..MOST {
-        match container.step_close(op) {
+        match ring.step_close(op) {
             Stepped::Again(next) => op = next,
             Stepped::Done(pass, answer) => return (pass, answer),
         }
@@ -146,20 +190,54 @@ pub(crate) fn close_to_the_end<C: Stepwise<u64>, R: Abort>(
 }
 
 /// The same of a shut.
-pub(crate) fn shut_to_the_end<C: Stepwise<u64>, R: Abort>(
+pub(crate) fn shut_to_the_end<R: Abort>(
     rt: &R,
-    container: &C,
-    op: C::ShutOp,
-) -> (C::Pass, bool)
-    requires { C.is_shutting container.now op }
-    ensures { C.is_pass container.now result.0 }
+    ring: &RingQueue<u64>,
+    op: ShutOp<u64>,
+) -> (Pass<u64>, bool)
+    requires { IsShutting ring.now op }
+    ensures { IsPassOf ring.now result.0 }
 {
     let mut op = op;
     for _ in 0..MOST {
-        match container.step_shut(op) {
+        match ring.step_shut(op) {
             Stepped::Again(next) => op = next,
             Stepped::Done(pass, answer) => return (pass, answer),
         }
     }
     panic!(rt; "the shut does not end")
+}
+
+/// The same of a look.
+pub(crate) fn look_to_the_end<R: Abort>(
+    rt: &R,
+    ring: &RingQueue<u64>,
+    op: LookOp<u64>,
+) -> (Pass<u64>, bool)
+    requires { IsLooking ring.now op }
+    ensures { IsPassOf ring.now result.0 }
+{
+    let mut op = op;
+    for _ in 0..MOST {
+        match ring.step_look(op) {
+            Stepped::Again(next) => op = next,
+            Stepped::Done(pass, answer) => return (pass, answer),
+        }
+    }
+    panic!(rt; "the look does not end")
+}
+
+/// The same of a count.
+pub(crate) fn count_to_the_end<R: Abort>(
+    rt: &R,
+    ring: &RingQueue<u64>,
+    op: LenOp<u64>,
+) -> (Pass<u64>, u64)
+    requires { IsCounting ring.now op }
+    ensures { IsPassOf ring.now result.0 }
+{
+    let Stepped::Done(pass, count) = ring.run_for(op, u64::from(MOST)) else {
+        panic!(rt; "the count does not end")
+    };
+    (pass, count)
 }

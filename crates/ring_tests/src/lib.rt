@@ -1,15 +1,34 @@
 //! Tests of the ring alone: what it may be made with, how many passes it gives, that it goes round and
-//! wears out, and what is left. And of its calls by single steps: a call that stopped at each line
-//! while others went round. What any container has is tested in `container_tests`.
+//! wears out, what is left, and that each value is dropped once. And of its calls by single steps: a
+//! call, and two threads, that stopped at a line while others went round, and schedules that look
+//! random, whose answers are those of a plain list. What any container has is tested in
+//! `container_tests`. `doing` and `plain` are read without the tests too, since `specs/` names what
+//! they declare.
 #![tactic(auto)]
 
 #[cfg(test)]
 mod calls;
 #[cfg(test)]
+mod crew;
+#[cfg(test)]
+mod dice;
+mod doing;
+#[cfg(test)]
+mod drops;
+#[cfg(test)]
+mod judge;
+#[cfg(test)]
 mod leaving;
 #[cfg(test)]
+mod looked;
+#[cfg(test)]
 mod making;
+mod plain;
 #[cfg(test)]
 mod rounds;
 #[cfg(test)]
+mod schedules;
+#[cfg(test)]
 mod stopped;
+#[cfg(test)]
+mod threads;

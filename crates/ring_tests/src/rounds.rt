@@ -97,42 +97,59 @@ fn a_ring_is_spent_after_its_laps(rt: HostRuntime) {
     }
 }
 
-#[test]
-fn a_ring_is_closed_where_it_is_full_or_empty(rt: HostRuntime) {
-    for (through, there) in [(0, 0), (0, 3), (2, 1), (2, 3), (9, 0), (9, 3)] {
-        let (ring, pass) = ring_of(&rt, rt.alloc(), 3, 100);
-        let pass = pass_through(&rt, &ring, pass, through);
-        let last = through.saturating_add(there);
-        let pass = put_all(&rt, &ring, pass, through, last);
-        let (pass, count) = ring.len(&rt, pass);
-        assert!(rt; u64::from(count) == there);
-        let (pass, closed) = ring.close(&rt, pass);
-        assert!(rt; closed);
-        let (pass, again) = ring.close(&rt, pass);
-        assert!(rt; !again);
-        let (pass, put) = ring.put(&rt, pass, 7);
-        assert!(rt; put == Err(PutRefused::Closed(7)));
-        let pass = take_all(&rt, &ring, pass, through, last);
-        let (_, taken) = ring.take(&rt, pass);
-        assert!(rt; taken == Err(TakeRefused::Closed));
-    }
+// A ring is closed after so many values went through, with so many in it.
+fn closed_with<R: Abort + Wait>(rt: &R, alloc: Global, capacity: u32, through: u64, there: u64) {
+    let (ring, pass) = ring_of(rt, alloc, capacity, 100);
+    let pass = pass_through(rt, &ring, pass, through);
+    let last = through.saturating_add(there);
+    let pass = put_all(rt, &ring, pass, through, last);
+    let (pass, count) = ring.len(rt, pass);
+    assert!(rt; u64::from(count) == there);
+    let (pass, closed) = ring.close(rt, pass);
+    assert!(rt; closed);
+    let (pass, again) = ring.close(rt, pass);
+    assert!(rt; !again);
+    let (pass, put) = ring.put(rt, pass, 7);
+    assert!(rt; put == Err(PutRefused::Closed(7)));
+    let pass = take_all(rt, &ring, pass, through, last);
+    let (_, taken) = ring.take(rt, pass);
+    assert!(rt; taken == Err(TakeRefused::Closed));
 }
 
-#[test]
-fn a_shut_ring_is_filled(rt: HostRuntime) {
-    let (ring, pass) = ring_of(&rt, rt.alloc(), 3, 100);
-    let pass = pass_through(&rt, &ring, pass, 2);
-    let (pass, shut) = ring.shut(&rt, pass);
+// The same of a ring that is shut: it can be filled and closed, and nothing is taken.
+fn shut_with<R: Abort + Wait>(rt: &R, alloc: Global, capacity: u32, through: u64, there: u64) {
+    let (ring, pass) = ring_of(rt, alloc, capacity, 100);
+    let pass = pass_through(rt, &ring, pass, through);
+    let pass = put_all(rt, &ring, pass, through, through.saturating_add(there));
+    let (pass, shut) = ring.shut(rt, pass);
     assert!(rt; shut);
-    let (pass, again) = ring.shut(&rt, pass);
+    let (pass, again) = ring.shut(rt, pass);
     assert!(rt; !again);
-    let (pass, is_empty) = ring.look(&rt, pass);
-    assert!(rt; is_empty);
-    let pass = put_all(&rt, &ring, pass, 2, 5);
-    let (pass, full) = ring.put(&rt, pass, 7);
-    assert!(rt; full == Err(PutRefused::Full(7)));
-    let (pass, taken) = ring.take(&rt, pass);
+    let (pass, is_empty) = ring.look(rt, pass);
+    assert!(rt; is_empty == (there == 0));
+    let full = through.saturating_add(u64::from(capacity));
+    let pass = put_all(rt, &ring, pass, through.saturating_add(there), full);
+    let (pass, put) = ring.put(rt, pass, 7);
+    assert!(rt; put == Err(PutRefused::Full(7)));
+    let (pass, closed) = ring.close(rt, pass);
+    assert!(rt; closed);
+    let (pass, put) = ring.put(rt, pass, 7);
+    assert!(rt; put == Err(PutRefused::Closed(7)));
+    let (pass, taken) = ring.take(rt, pass);
     assert!(rt; taken == Err(TakeRefused::Shut));
-    let (_, is_empty) = ring.look(&rt, pass);
-    assert!(rt; !is_empty);
+    let (_, count) = ring.len(rt, pass);
+    assert!(rt; count == capacity);
+}
+
+// Empty, full, and all between, at the first lap and at later ones, and round the end of the circle.
+#[test]
+fn a_ring_is_closed_and_shut_with_any_number_of_values(rt: HostRuntime) {
+    for capacity in 1..=3 {
+        for through in 0..10 {
+            for there in 0..=u64::from(capacity) {
+                closed_with(&rt, rt.alloc(), capacity, through, there);
+                shut_with(&rt, rt.alloc(), capacity, through, there);
+            }
+        }
+    }
 }

@@ -6,35 +6,55 @@ use crate::calls::{
     close_for, close_to_the_end, put_for, put_to_the_end, shut_for, shut_to_the_end, take_for,
     take_to_the_end,
 };
-use bounded_model::{Container, PutRefused, Stepwise, TakeRefused};
+use crate::rounds::{put_all, take_all};
+use bounded_model::{Container, PutRefused, TakeRefused};
 use ring_queue::{Pass, RingLimits, RingQueue};
 use std::alloc::Global;
 use std::process::Abort;
 use std::sync::Wait;
 
-/// How many positions lie between a hint and the end that it names. A walk that has gone on by
-/// eight moves the hint.
-const LAGS: u64 = 8;
+/// How many positions lie between a hint and the end that it names at most. A walk that has gone on
+/// by so many moves the hint.
+pub(crate) const LAGS: u64 = 8;
 
-// A ring, the pass that stops, and one more, after so many values went through.
-fn ring_after<R: Abort + Wait>(
+/// How many steps a put and a take make before their exchange, and a close and a shut before they
+/// mark a slot: they load the hint, and each slot from there on. A walk that moves the hint then
+/// loads it and a slot once more.
+pub(crate) fn steps_before(lag: u64) -> u64 {
+    if lag < LAGS {
+        lag.saturating_add(2)
+    } else {
+        12
+    }
+}
+
+/// A ring, the pass that stops, and one more, after so many values went through. Both hints are so
+/// far behind: after eight values, because a put and a take have stopped for good before they moved
+/// them.
+pub(crate) fn ring_after<R: Abort + Wait>(
     rt: &R,
     alloc: Global,
     capacity: u32,
-    through: u64,
+    lag: u64,
 ) -> (RingQueue<u64>, Pass<u64>, Pass<u64>)
     ensures { IsPassOf result.0 result.1 × IsPassOf result.0 result.2 }
 {
-    let limits = RingLimits::of(capacity, 100, 2).expect(rt, "limits");
+    let limits = RingLimits::of(capacity, 100, 4).expect(rt, "limits");
     let (ring, mut root) = RingQueue::<u64>::new(alloc, limits).expect(rt, "memory");
     let stopped = ring.split(&mut root).expect(rt, "a pass");
     let other = ring.split(&mut root).expect(rt, "a pass");
-    let other = go_through(rt, &ring, other, 0, through);
+    let other = go_through(rt, &ring, other, 0, lag.min(LAGS - 1));
+    if lag == LAGS {
+        let putter = ring.split(&mut root).expect(rt, "a pass");
+        let taker = ring.split(&mut root).expect(rt, "a pass");
+        drop(put_for(rt, &ring, ring.begin_put(putter, 7), 10));
+        drop(take_for(rt, &ring, ring.begin_take(taker), 10));
+    }
     (ring, stopped, other)
 }
 
-// Puts and takes values one after another, the numbers of their calls.
-fn go_through<R: Abort + Wait>(
+/// Puts and takes values one after another, the numbers of their calls.
+pub(crate) fn go_through<R: Abort + Wait>(
     rt: &R,
     ring: &RingQueue<u64>,
     by: Pass<u64>,
@@ -55,15 +75,15 @@ fn go_through<R: Abort + Wait>(
     pass
 }
 
-// How many values are three laps.
-fn three_laps(capacity: u32) -> u64 {
+/// How many values are three laps.
+pub(crate) fn three_laps(capacity: u32) -> u64 {
     u64::from(capacity).saturating_mul(3)
 }
 
 // A put stops before its exchange, which then fails or meets another slot: it has its effect last.
 fn put_stops<R: Abort + Wait>(rt: &R, alloc: Global, capacity: u32, lag: u64, made: u64) {
     let (ring, pass, other) = ring_after(rt, alloc, capacity, lag);
-    let put = put_for(rt, &ring, Stepwise::begin_put(&ring, pass, 1_000), made);
+    let put = put_for(rt, &ring, ring.begin_put(pass, 1_000), made);
     let other = go_through(rt, &ring, other, lag, three_laps(capacity));
     let number = lag.saturating_add(three_laps(capacity));
     let (_, answer) = put_to_the_end(rt, &ring, put);
@@ -75,8 +95,8 @@ fn put_stops<R: Abort + Wait>(rt: &R, alloc: Global, capacity: u32, lag: u64, ma
 #[test]
 fn a_put_that_stops_before_its_exchange_is_the_last(rt: HostRuntime) {
     for capacity in 1..=3 {
-        for lag in 0..LAGS {
-            for made in 0..lag.saturating_add(3) {
+        for lag in 0..=LAGS {
+            for made in 0..=steps_before(lag) {
                 put_stops(&rt, rt.alloc(), capacity, lag, made);
             }
         }
@@ -89,7 +109,7 @@ fn a_put_that_stops_before_its_exchange_is_the_last(rt: HostRuntime) {
 fn a_put_that_stops_behind_its_exchange_is_the_first(rt: HostRuntime) {
     for capacity in 1..=3 {
         let (ring, pass, other) = ring_after(&rt, rt.alloc(), capacity, 7);
-        let put = put_for(&rt, &ring, Stepwise::begin_put(&ring, pass, 1_000), 10);
+        let put = put_for(&rt, &ring, ring.begin_put(pass, 1_000), 10);
         let (other, taken) = ring.take(&rt, other);
         assert!(rt; taken == Ok((1_000, 7)));
         let other = go_through(&rt, &ring, other, 8, three_laps(capacity));
@@ -100,12 +120,30 @@ fn a_put_that_stops_behind_its_exchange_is_the_first(rt: HostRuntime) {
     }
 }
 
+// A put is refused, and stops before it has its value back: the answer stays.
+#[test]
+fn a_put_that_stops_behind_its_refusal_is_refused(rt: HostRuntime) {
+    for capacity in 1..=3 {
+        for lag in 0..=LAGS {
+            let (ring, pass, other) = ring_after(&rt, rt.alloc(), capacity, lag);
+            let full = lag.saturating_add(u64::from(capacity));
+            let other = put_all(&rt, &ring, other, lag, full);
+            let refused = (full % LAGS).saturating_add(2);
+            let put = put_for(&rt, &ring, ring.begin_put(pass, 1_000), refused);
+            let other = take_all(&rt, &ring, other, lag, full);
+            let _ = go_through(&rt, &ring, other, full, three_laps(capacity));
+            let (_, answer) = put_to_the_end(&rt, &ring, put);
+            assert!(rt; answer == Err(PutRefused::Full(1_000)));
+        }
+    }
+}
+
 // A take stops before its exchange: another takes the value that it has seen, and it takes the last.
 fn take_stops_before<R: Abort + Wait>(rt: &R, alloc: Global, capacity: u32, lag: u64, made: u64) {
     let (ring, pass, other) = ring_after(rt, alloc, capacity, lag);
     let (other, put) = ring.put(rt, other, 1_000);
     assert!(rt; put == Ok(lag));
-    let take = take_for(rt, &ring, Stepwise::begin_take(&ring, pass), made);
+    let take = take_for(rt, &ring, ring.begin_take(pass), made);
     let (other, taken) = ring.take(rt, other);
     assert!(rt; taken == Ok((1_000, lag)));
     let other = go_through(
@@ -127,7 +165,7 @@ fn take_stops_behind<R: Abort + Wait>(rt: &R, alloc: Global, capacity: u32, lag:
     let (ring, pass, other) = ring_after(rt, alloc, capacity, lag);
     let (other, put) = ring.put(rt, other, 1_000);
     assert!(rt; put == Ok(lag));
-    let take = take_for(rt, &ring, Stepwise::begin_take(&ring, pass), made);
+    let take = take_for(rt, &ring, ring.begin_take(pass), made);
     let (other, taken) = ring.take(rt, other);
     assert!(rt; taken == Err(TakeRefused::Empty));
     let _ = go_through(
@@ -144,8 +182,8 @@ fn take_stops_behind<R: Abort + Wait>(rt: &R, alloc: Global, capacity: u32, lag:
 #[test]
 fn a_take_that_stops_before_its_exchange_is_the_last(rt: HostRuntime) {
     for capacity in 1..=3 {
-        for lag in 0..LAGS {
-            for made in 0..lag.saturating_add(3) {
+        for lag in 0..=LAGS {
+            for made in 0..=steps_before(lag) {
                 take_stops_before(&rt, rt.alloc(), capacity, lag, made);
             }
         }
@@ -155,8 +193,9 @@ fn a_take_that_stops_before_its_exchange_is_the_last(rt: HostRuntime) {
 #[test]
 fn a_take_that_stops_behind_its_exchange_has_its_value(rt: HostRuntime) {
     for capacity in 1..=3 {
-        for lag in 0..LAGS {
-            take_stops_behind(&rt, rt.alloc(), capacity, lag, lag.saturating_add(3));
+        for lag in 0..=LAGS {
+            let made = steps_before(lag).saturating_add(1);
+            take_stops_behind(&rt, rt.alloc(), capacity, lag, made);
         }
         take_stops_behind(&rt, rt.alloc(), capacity, 7, 11);
     }
@@ -165,7 +204,7 @@ fn a_take_that_stops_behind_its_exchange_has_its_value(rt: HostRuntime) {
 // A close stops at each line, and closes where the ring is then.
 fn close_stops<R: Abort + Wait>(rt: &R, alloc: Global, capacity: u32, lag: u64, made: u64) {
     let (ring, pass, other) = ring_after(rt, alloc, capacity, lag);
-    let close = close_for(rt, &ring, Stepwise::begin_close(&ring, pass), made);
+    let close = close_for(rt, &ring, ring.begin_close(pass), made);
     let other = go_through(rt, &ring, other, lag, three_laps(capacity));
     let number = lag.saturating_add(three_laps(capacity));
     let (other, put) = ring.put(rt, other, 1_000);
@@ -183,7 +222,7 @@ fn close_stops<R: Abort + Wait>(rt: &R, alloc: Global, capacity: u32, lag: u64, 
 // The same of a shut.
 fn shut_stops<R: Abort + Wait>(rt: &R, alloc: Global, capacity: u32, lag: u64, made: u64) {
     let (ring, pass, other) = ring_after(rt, alloc, capacity, lag);
-    let shut = shut_for(rt, &ring, Stepwise::begin_shut(&ring, pass), made);
+    let shut = shut_for(rt, &ring, ring.begin_shut(pass), made);
     let other = go_through(rt, &ring, other, lag, three_laps(capacity));
     let (_, is_shut) = shut_to_the_end(rt, &ring, shut);
     assert!(rt; is_shut);
@@ -197,8 +236,8 @@ fn shut_stops<R: Abort + Wait>(rt: &R, alloc: Global, capacity: u32, lag: u64, m
 #[test]
 fn a_close_and_a_shut_that_stop_mark_where_the_ring_is_then(rt: HostRuntime) {
     for capacity in 1..=3 {
-        for lag in 0..LAGS {
-            for made in 0..lag.saturating_add(3) {
+        for lag in 0..=LAGS {
+            for made in 0..=steps_before(lag) {
                 close_stops(&rt, rt.alloc(), capacity, lag, made);
                 shut_stops(&rt, rt.alloc(), capacity, lag, made);
             }

@@ -1,4 +1,5 @@
+use Rattle.ring_queue.specs.Taking.{IsTaking}
 use Rattle.ring_tests.proofs.calls.take_for.Given as goal
 
 abbrev pub invariant-loop : goal.invariant-loop
-invariant-loop g l = g.C.Stepwise.is_taking l.fn.container l.op
+invariant-loop g l = IsTaking l.fn.ring l.op

@@ -1,0 +1,5 @@
+use Rattle.ring_queue.specs.Ring.{IsPassOf}
+use Rattle.ring_tests.proofs.drops.fill.Given as goal
+
+abbrev pub invariant-loop : goal.invariant-loop
+invariant-loop g l = IsPassOf l.fn.ring l.pass

@@ -1,0 +1,119 @@
+//! A thread that stops in the middle of a put, and one in the middle of a take: others go on, and the
+//! calls end once their threads do.
+
+ghost use Rattle.ring_queue.specs.Ring.{IsPassOf};
+
+use crate::calls::{put_for, put_to_the_end, take_for, take_to_the_end};
+use crate::rounds::{put_all, take_all};
+use crate::stopped::go_through;
+use bounded_model::{Container, TakeRefused};
+use ring_queue::{Pass, RingLimits, RingQueue};
+use std::process::Abort;
+use std::sync::{Barrier, Wait};
+use std::thread;
+use std::thread::Threads;
+
+/// How many values go through while the two have stopped.
+const THROUGH: u64 = 3_000;
+
+// A put stops after so many steps, until the others have let it go on, and tells that it has ended.
+fn put_between<R: Abort + Wait>(
+    rt: &R,
+    ring: &RingQueue<u64>,
+    by: Pass<u64>,
+    made: u64,
+    gate: &Barrier,
+)
+    requires { IsPassOf ring.now by }
+{
+    let put = put_for(rt, ring, ring.begin_put(by, 1_000), made);
+    let _ = gate.wait(rt);
+    let _ = gate.wait(rt);
+    let (_, answer) = put_to_the_end(rt, ring, put);
+    assert!(rt; answer == Ok(THROUGH.saturating_add(1)));
+    let _ = gate.wait(rt);
+}
+
+// The same of a take.
+fn take_between<R: Abort + Wait>(
+    rt: &R,
+    ring: &RingQueue<u64>,
+    by: Pass<u64>,
+    made: u64,
+    gate: &Barrier,
+)
+    requires { IsPassOf ring.now by }
+{
+    let take = take_for(rt, ring, ring.begin_take(by), made);
+    let _ = gate.wait(rt);
+    let _ = gate.wait(rt);
+    let (_, answer) = take_to_the_end(rt, ring, take);
+    assert!(rt; answer == Ok((1_000, THROUGH.saturating_add(1))));
+    let _ = gate.wait(rt);
+}
+
+// Both stop before their exchange, the take where it has seen value 0, and a third pass takes that
+// value and goes on. Then the put ends, and then the take, which takes what it has put.
+fn others_go_on<R: Abort + Threads + Wait + Sync>(
+    rt: &R,
+    ring: &RingQueue<u64>,
+    putter: Pass<u64>,
+    taker: Pass<u64>,
+    other: Pass<u64>,
+) -> Pass<u64>
+    requires putter { IsPassOf ring.now putter }
+    requires taker { IsPassOf ring.now taker }
+    requires other { IsPassOf ring.now other }
+    ensures { IsPassOf ring.now result }
+{
+    let put_gate = Barrier::new(2);
+    let take_gate = Barrier::new(2);
+    let (put_gate, take_gate) = (&put_gate, &take_gate);
+    thread::scope(
+        thread::scope_env(),
+        rt,
+        |scope| -> Pass<u64>
+            requires putter { IsPassOf ring.now putter }
+            requires taker { IsPassOf ring.now taker }
+            requires other { IsPassOf ring.now other }
+            ensures { IsPassOf ring.exit.now result }
+        {
+            let put = scope.spawn(
+                move ||
+                    requires { IsPassOf ring.now putter }
+                { put_between(rt, ring, putter, 2, put_gate) },
+            );
+            assert!(rt; put.is_ok());
+            let _ = put_gate.wait(rt);
+            let other = put_all(rt, ring, other, 0, 1);
+            let take = scope.spawn(
+                move ||
+                    requires { IsPassOf ring.now taker }
+                { take_between(rt, ring, taker, 2, take_gate) },
+            );
+            assert!(rt; take.is_ok());
+            let _ = take_gate.wait(rt);
+            let other = take_all(rt, ring, other, 0, 1);
+            let other = go_through(rt, ring, other, 1, THROUGH);
+            let _ = put_gate.wait(rt);
+            let _ = put_gate.wait(rt);
+            let _ = take_gate.wait(rt);
+            let _ = take_gate.wait(rt);
+            other
+        },
+    )
+}
+
+#[test]
+fn threads_that_stop_in_a_put_and_in_a_take_stop_nobody(rt: HostRuntime) {
+    for capacity in 1..=3 {
+        let limits = RingLimits::of(capacity, 10_000, 3).expect(&rt, "limits");
+        let (ring, mut root) = RingQueue::<u64>::new(rt.alloc(), limits).expect(&rt, "memory");
+        let putter = ring.split(&mut root).expect(&rt, "a pass");
+        let taker = ring.split(&mut root).expect(&rt, "a pass");
+        let other = ring.split(&mut root).expect(&rt, "a pass");
+        let other = others_go_on(&rt, &ring, putter, taker, other);
+        let (_, taken) = ring.take(&rt, other);
+        assert!(rt; taken == Err(TakeRefused::Empty));
+    }
+}
