@@ -12,17 +12,18 @@ use Rattle.relay.specs.Promises.{Lists, LosesNothing, IsAmple, Relays, IsTooSmal
 use Rattle.audit.specs.declared.message_file.TheConstants.{MAX_LINES}
 use Rattle.audit.specs.Reading.{texts}
 use Rattle.audit.proofs.Delivered.{AreTaken, audit-all}
-use Rattle.words.specs.declared.chosen.RelayArgs.{RelayArgs}
-use Rattle.words.specs.declared.command_line.TheConstants.{MAX_FILES}
-use Rattle.streams.specs.Inputs.{AreRead}
-use Rattle.streams.specs.Writing.{GrowsByFront, Written, outcome_text}
-use Rattle.words.specs.declared.chosen.Kind.{Kind}
-use Rattle.words.specs.declared.chosen.Kind.TheVariants.{Queue, Stack, Ring}
-use Rattle.words.specs.declared.command_line.TheConstants.{MAX_CONSUMERS}
+use Rattle.relay_args.specs.declared.args.RelayArgs.{RelayArgs}
+use Rattle.relay_args.specs.declared.ranges.TheConstants.{MAX_FILES}
+use Rattle.file_relay.specs.Inputs.{AreRead}
+use Rattle.file_relay.specs.Outcome.{GrowsByFront, outcome_text}
+use Rattle.told.specs.Writing.{Written}
+use Rattle.relay_args.specs.declared.args.Kind.{Kind}
+use Rattle.relay_args.specs.declared.args.Kind.TheVariants.{Queue, Stack, Ring}
+use Rattle.relay_args.specs.declared.ranges.TheConstants.{MAX_CONSUMERS}
 use Rattle.file_relay.specs.Relaying.{AreReady, FromReaders, IsRelayed, RelaysInputs, limit_of, passes_for, plan_of, shape_for}
 use Rattle.file_relay.specs.Measuring.{MeasuresInputs, Streams}
-use Rattle.streams.specs.declared.tool_fault.ToolFault.{ToolFault}
-use Rattle.streams.specs.declared.tool_fault.ToolFault.TheVariants.{Output}
+use Rattle.file_relay.specs.declared.tool_fault.ToolFault.{ToolFault}
+use Rattle.file_relay.specs.declared.tool_fault.ToolFault.TheVariants.{Output}
 use Rattle.std.specs.Io.KnownBytes.{Appends}
 
 -- ---- what readers gave

@@ -1,1 +1,3 @@
 pub mod AllDelivered
+pub mod Fronts
+pub mod Readers

@@ -1,3 +1,5 @@
+pub mod Inputs
 pub mod Measuring
+pub mod Outcome
 pub mod Relaying
 pub mod Stats

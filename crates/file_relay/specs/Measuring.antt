@@ -4,10 +4,11 @@ use Rattle.std.specs.Io.KnownBytes.{Appends}
 use Rattle.relay.specs.declared.outcome.Relayed.{Relayed}
 use Rattle.relay.specs.Promises.{Lists}
 use Rattle.file_relay.specs.declared.stats.Stats.{Stats}
-use Rattle.streams.specs.declared.tool_fault.ToolFault.{ToolFault}
-use Rattle.words.specs.declared.chosen.RelayArgs.{RelayArgs}
-use Rattle.streams.specs.Writing.{WentOut, Written, outcome_text}
-use Rattle.streams.specs.declared.told.Told.{Told}
+use Rattle.file_relay.specs.declared.tool_fault.ToolFault.{ToolFault}
+use Rattle.relay_args.specs.declared.args.RelayArgs.{RelayArgs}
+use Rattle.file_relay.specs.Outcome.{outcome_text}
+use Rattle.told.specs.Writing.{WentOut, Written}
+use Rattle.told.specs.declared.writing.Told.{Told}
 use Rattle.file_relay.specs.Relaying.{IsRelayed, RelaysInputs}
 use Rattle.file_relay.specs.Stats.{IsStatsOf, stats_text}
 

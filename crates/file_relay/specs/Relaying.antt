@@ -15,14 +15,15 @@ use Rattle.relay.specs.Promises.{Lists, Relays, IsTooSmall, total}
 use Rattle.audit.specs.declared.message_file.TheConstants.{MAX_LINES}
 use Rattle.audit.specs.Delivered.{full_audit}
 use Rattle.audit.specs.Texts.{audit_text}
-use Rattle.words.specs.declared.chosen.Kind.{Kind}
-use Rattle.words.specs.declared.chosen.Kind.TheVariants.{Queue, Stack, Ring}
-use Rattle.words.specs.declared.chosen.RelayArgs.{RelayArgs}
-use Rattle.streams.specs.declared.tool_fault.ToolFault.{ToolFault}
-use Rattle.streams.specs.declared.tool_fault.ToolFault.TheVariants.{File, Relay, Output}
-use Rattle.streams.specs.Inputs.{AreRead, IsFileFault}
-use Rattle.streams.specs.Writing.{GrowsByFront, Written, outcome_text}
-use Rattle.words.specs.declared.command_line.TheConstants.{MAX_FILES, MAX_RELAY_PASSES}
+use Rattle.relay_args.specs.declared.args.Kind.{Kind}
+use Rattle.relay_args.specs.declared.args.Kind.TheVariants.{Queue, Stack, Ring}
+use Rattle.relay_args.specs.declared.args.RelayArgs.{RelayArgs}
+use Rattle.file_relay.specs.declared.tool_fault.ToolFault.{ToolFault}
+use Rattle.file_relay.specs.declared.tool_fault.ToolFault.TheVariants.{File, Relay, Output}
+use Rattle.file_relay.specs.Inputs.{AreRead, IsFileFault}
+use Rattle.file_relay.specs.Outcome.{GrowsByFront, outcome_text}
+use Rattle.told.specs.Writing.{Written}
+use Rattle.relay_args.specs.declared.ranges.TheConstants.{MAX_FILES, MAX_RELAY_PASSES}
 use Rattle.ring_queue.specs.declared.limits.TheConstants.{MAX_LAPS}
 
 -- in which order a container of this kind gives values back

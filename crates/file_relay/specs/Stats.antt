@@ -5,7 +5,7 @@ use Rattle.std.specs.declared.alloc.Global.{Global}
 use Rattle.relay.specs.declared.messages.Message.{Message}
 use Rattle.relay.specs.declared.outcome.Relayed.{Relayed}
 use Rattle.relay.specs.declared.outcome.Taken.{Taken}
-use Rattle.words.specs.declared.chosen.RelayArgs.{RelayArgs}
+use Rattle.relay_args.specs.declared.args.RelayArgs.{RelayArgs}
 use Rattle.file_relay.specs.declared.stats.Stats.{Stats}
 
 -- ---- what is counted

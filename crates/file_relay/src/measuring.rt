@@ -1,24 +1,27 @@
 //! A relay of files that is measured.
 
 ghost use Rattle.std.specs.Prelude.{◌≡◌, ◌≢◌, ◌≤◌, IfErr, length};
-ghost use Rattle.words.specs.declared.command_line.TheConstants.{MAX_FILES};
-ghost use Rattle.streams.specs.declared.tool_fault.ToolFault.TheVariants.{Output};
+ghost use Rattle.relay_args.specs.declared.ranges.TheConstants.{MAX_FILES};
+ghost use Rattle.file_relay.specs.declared.tool_fault.ToolFault.TheVariants.{Output};
 ghost use Rattle.file_relay.specs.Measuring.{MeasuresInputs, Streams};
-ghost use Rattle.words.specs.Ranges.{IsInRange};
+ghost use Rattle.relay_args.specs.Ranges.{IsInRange};
 ghost use Rattle.file_relay.specs.Relaying.{FromReaders};
-ghost use Rattle.streams.specs.Writing.{written};
+ghost use Rattle.told.specs.Writing.{written};
 
+use crate::inputs::read_inputs;
+use crate::outcome::write_outcome;
 use crate::relaying::relay_inputs;
 use crate::stats::Stats;
+use crate::tool_fault::ToolFault;
 use crate::tries::Tries;
+use relay_args::RelayArgs;
 use std::alloc::Global;
 use std::io::{self, Read, Write};
 use std::mem;
 use std::sync::Wait;
 use std::thread::Threads;
 use std::time::{Clock, Instant};
-use streams::{Told, ToolFault, read_inputs, tell, write_outcome};
-use words::RelayArgs;
+use told::{Told, tell};
 
 /// Relays as [`relay_main`](crate::relay_main) does, and then writes stats of the relay on `errors`:
 /// its time and messages a second, how many messages each consumer took, and the refusals that were

@@ -4,30 +4,32 @@ ghost use Rattle.std.specs.Prelude.{◌≡◌, ◌≢◌, ◌≤◌, ◌*◌, If
 ghost use Rattle.bounded_model.specs.Laws.{fresh};
 ghost use Rattle.tagged_index.specs.Limits.{capacity_of, passes_of, tag_limit_of};
 ghost use Rattle.tagged_index.specs.declared.word.TheConstants.{MAX_TAG};
-ghost use Rattle.words.specs.declared.command_line.TheConstants.{MAX_FILES, MAX_RELAY_PASSES};
-ghost use Rattle.words.specs.declared.chosen.Kind.TheVariants.{Ring};
+ghost use Rattle.relay_args.specs.declared.ranges.TheConstants.{MAX_FILES, MAX_RELAY_PASSES};
+ghost use Rattle.relay_args.specs.declared.args.Kind.TheVariants.{Ring};
 ghost use Rattle.ring_queue.specs.Limits.{laps_at};
 ghost use Rattle.ring_queue.specs.declared.limits.TheConstants.{MAX_LAPS};
-ghost use Rattle.streams.specs.declared.tool_fault.ToolFault.TheVariants.{Output, Relay};
+ghost use Rattle.file_relay.specs.declared.tool_fault.ToolFault.TheVariants.{Output, Relay};
 ghost use Rattle.relay.specs.declared.faults.RelayFault.{RelayFault};
 ghost use Rattle.relay.specs.declared.faults.RelayFault.TheVariants.{NoMemory};
-ghost use Rattle.words.specs.Ranges.{IsInRange};
+ghost use Rattle.relay_args.specs.Ranges.{IsInRange};
 ghost use Rattle.file_relay.specs.Relaying.{AreReady, FromReaders, IsCause, IsRelayed, RelaysInputs, plan_of, shape_for};
-ghost use Rattle.streams.specs.Writing.{written};
+ghost use Rattle.told.specs.Writing.{written};
 
+use crate::inputs::read_inputs;
+use crate::outcome::write_outcome;
+use crate::tool_fault::ToolFault;
 use bounded_model::Container;
 use ms_queue::Queue;
 use relay::{FreeGate, Gate, Message, Plan, Relayed, run};
+use relay_args::{Kind, MAX_RELAY_PASSES, RelayArgs};
 use ring_queue::{MAX_LAPS, RingLimits, RingQueue};
 use std::alloc::Global;
 use std::io::{Read, Write};
 use std::mem;
 use std::sync::Wait;
 use std::thread::Threads;
-use streams::{ToolFault, read_inputs, write_outcome};
 use tagged_index::{Limits, MAX_TAG};
 use treiber_stack::Stack;
-use words::{Kind, MAX_RELAY_PASSES, RelayArgs};
 
 /// Relays what the readers give, reader `k`, counted from 0, as sender `k`, and writes the outcome:
 /// the audit, and then the list where that is wanted.

@@ -4,9 +4,9 @@ ghost use Rattle.std.specs.Prelude.{◌≡◌, ◌==◌, ◌++◌, IfOk, OnOk, c
 ghost use Rattle.file_relay.specs.Stats.{IsStatsOf, consumer_lines, ended_puts, ended_takes, is_met, stats_text, time_line, took_each};
 
 use relay::{Message, Relayed, Taken};
+use relay_args::RelayArgs;
 use std::alloc::{AllocError, Global};
 use std::fmt::Write;
-use words::RelayArgs;
 
 /// What is written of a relay beside its outcome.
 #[derive(Debug, Drop, PartialEq, Eq)]

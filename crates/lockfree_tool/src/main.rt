@@ -1,24 +1,29 @@
 //! The program `lockfree`: it replays a script of calls on a container, or relays the lines of
 //! files through one, as the arguments of its command line ask (`run`). What it does stands in the
-//! crates `script_replay` and `file_relay`; here are what the arguments ask for (`words`), and the
+//! crates `script_replay` and `file_relay`, and what the arguments ask for in `words`; here are the
 //! arguments, files and streams of a process.
+//!
+//! The name `-` stands for the standard input, once (`Source`, `open_sources`). The status and the line
+//! on standard error follow from the fault (`Failure`). If nobody reads the output any more, nothing
+//! goes to standard error either (`Output`, `Errors`).
 #![tactic(auto)]
 
 ghost use Rattle.std.specs.Prelude.{⊤};
 
+mod failure;
+mod opening;
+mod pipe;
 mod session;
+mod source;
 
-pub use file_relay::relay_main;
-pub use script_replay::replay;
+use opening::OpenFiles;
+use pipe::{Errors, Output};
 use session::run;
 use std::cell::Cell;
 use std::io::{self, BufWriter};
 use std::process::ExitCode;
 use std::rt::Files;
 use std::{env, fs};
-use streams::{Errors, OpenFiles, Output};
-pub use streams::{ReplayFault, ToolFault};
-pub use words::{Chosen, Kind, RelayArgs, WordsRefused, read_words};
 
 /// How many bytes one write to standard output has, but for the last. Where there is no memory for
 /// them, each write goes out by itself.

@@ -2,9 +2,12 @@
 
 ghost use Rattle.std.specs.Prelude.{◌≡◌, ◌≢◌, [], IfErr, IfOk, OnErr, OnOk, map, string_bytes};
 ghost use Rattle.std.specs.Io.Buffered.{writer_buffer};
-ghost use Rattle.streams.specs.declared.failure.Failure.TheVariants.{Output};
+ghost use Rattle.lockfree_tool.specs.declared.failure.Failure.TheVariants.{Output};
 ghost use Rattle.words.specs.Ranges.{AreInRange, AskForDetails, IsDetailed};
 
+use crate::failure::Failure;
+use crate::opening::{OpenFiles, open_source, open_sources};
+use crate::source::STANDARD_INPUT;
 use file_relay::{relay_main, relay_measured};
 use script_replay::{replay, replay_traced};
 use std::alloc::{AllocError, Global};
@@ -12,7 +15,6 @@ use std::io::{self, BufWriter, ErrorKind, IsTerminal, Read, Write};
 use std::sync::Wait;
 use std::thread::Threads;
 use std::time::Clock;
-use streams::{Failure, OpenFiles, STANDARD_INPUT, open_source, open_sources};
 use words::{Chosen, WordsRefused, read_words};
 
 /// Does what the arguments of the command line ask for, the program's name first, and returns the

@@ -1,7 +1,8 @@
 //! Words of the command line: what they ask for.
 
+use relay_args::{Kind, RelayArgs};
 use std::process::Abort;
-use words::{Chosen, Kind, RelayArgs, WordsRefused, read_words};
+use words::{Chosen, WordsRefused, read_words};
 
 /// The words of a line.
 pub(crate) fn split<'a, R: Abort + AllocGlobal>(rt: &R, line: &'a str) -> Vec<&'a str> {

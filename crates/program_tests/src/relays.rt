@@ -2,12 +2,11 @@
 
 use crate::command_lines::split;
 use audit::ReadFault;
-use file_relay::relay_main;
+use file_relay::{ToolFault, relay_main};
 use relay::RelayFault;
 use std::process::Abort;
 use std::sync::Wait;
 use std::thread::Threads;
-use streams::ToolFault;
 use words::{Chosen, read_words};
 
 // What a relay of these files writes, and how it ends. The words ask for it.

@@ -4,8 +4,7 @@ use crate::queue_rows::QUEUE;
 use crate::resumed_rows::RESUMED;
 use crate::stack_rows::STACK;
 use crate::stopped_rows::STOPPED;
-use script_replay::replay;
-use streams::ReplayFault;
+use script_replay::{ReplayFault, replay};
 
 #[test]
 fn each_script_gets_its_replies(rt: HostRuntime) {

@@ -1,17 +1,17 @@
 -- What is known after a script was read from a reader whose bytes are known.
 use Rattle.std.proofs.Common.{◌≡◌, ◌≢◌, ℕ, List, Option, Some, None, Result, Ok, Err, ap, subst, ◌∙◌, inl}
 use Rattle.std.specs.Prelude.{IfErr, IfOk, IfSome, OnOk}
-use Rattle.streams.specs.declared.fault.ReplayFault.{ReplayFault}
-use Rattle.streams.specs.declared.fault.ReplayFault.TheVariants.{Output}
+use Rattle.script_replay.specs.declared.fault.ReplayFault.{ReplayFault}
+use Rattle.script_replay.specs.declared.fault.ReplayFault.TheVariants.{Output}
 use Rattle.script.specs.declared.fault.ScriptFault.{ScriptFault}
 use Rattle.script.specs.declared.fault.ScriptFault.TheVariants.{NoMemory, NoFinalNewline, BadLine}
 use Rattle.script.specs.declared.line.Line.{Line}
 use Rattle.script.specs.Faults.{IsAccepted, IsTextFault}
 use Rattle.script.specs.Script.{Head, IsScript}
 use Rattle.script.proofs.Laws.{same_script}
-use Rattle.streams.specs.Failure.{replay_fault_of}
+use Rattle.script_replay.specs.Faults.{replay_fault_of}
 use Rattle.std.specs.Io.KnownBytes.{Appends}
-use Rattle.streams.specs.Writing.{AppendsFront}
+use Rattle.told.specs.Writing.{AppendsFront}
 use Rattle.script_replay.specs.Outcome.{IsFaultOf, IsOutputFor, IsOutputOf, IsOutside, Wrote, WroteFront}
 
 -- the text that was read is all of the known bytes

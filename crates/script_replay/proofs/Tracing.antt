@@ -16,8 +16,8 @@ use Rattle.player.specs.Shows.{Reading}
 use Rattle.player.specs.Traces.{Adds, PlaysTraced, nothing_held}
 use Rattle.player.proofs.Tracing.{adds_as}
 use Rattle.script_replay.specs.Outcome.{IsOutputFor}
-use Rattle.streams.specs.Writing.{WentOut}
-use Rattle.streams.specs.declared.told.Told.{Told}
+use Rattle.told.specs.Writing.{WentOut}
+use Rattle.told.specs.declared.writing.Told.{Told}
 use Rattle.script_replay.specs.Traced.{IsPlayedOn, IsTraceFor, IsTracedOf, WroteTraced}
 use Rattle.script_replay.proofs.Outcomes.{known_text}
 

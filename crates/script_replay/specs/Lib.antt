@@ -1,4 +1,5 @@
 pub mod Calls
+pub mod Faults
 pub mod Outcome
 pub mod Readings
 pub mod Traced

@@ -1,9 +1,9 @@
 -- What a replay of a text does.
 use Rattle.std.specs.Prelude.{◌≡◌, ℕ, ◌⊎◌, IfErr, IfSome, List, OnOk, Option, Result, map}
 use Rattle.std.specs.Io.KnownBytes.{Appends}
-use Rattle.streams.specs.declared.fault.ReplayFault.{ReplayFault}
-use Rattle.streams.specs.declared.fault.ReplayFault.TheVariants.{NoMemory, Device, NoFinalNewline, TooLong, BadLine, Output}
-use Rattle.streams.specs.Writing.{AppendsFront, Written}
+use Rattle.script_replay.specs.declared.fault.ReplayFault.{ReplayFault}
+use Rattle.script_replay.specs.declared.fault.ReplayFault.TheVariants.{NoMemory, Device, NoFinalNewline, TooLong, BadLine, Output}
+use Rattle.told.specs.Writing.{AppendsFront, Written}
 use Rattle.bounded_model.specs.declared.history.Order.{Order}
 use Rattle.script.specs.declared.answer.Answer.{Answer}
 use Rattle.script.specs.declared.line.Line.{Line}

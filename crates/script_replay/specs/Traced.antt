@@ -2,8 +2,8 @@
 use Rattle.std.specs.Prelude.{◌≡◌, ℕ, List, Option, map}
 use Rattle.std.specs.List.{concat}
 use Rattle.std.specs.Io.KnownBytes.{Appends}
-use Rattle.streams.specs.Writing.{WentOut}
-use Rattle.streams.specs.declared.told.Told.{Told}
+use Rattle.told.specs.Writing.{WentOut}
+use Rattle.told.specs.declared.writing.Told.{Told}
 use Rattle.bounded_model.specs.declared.container.TheConstants.{MAX_PASSES}
 use Rattle.bounded_model.specs.declared.history.Order.{Order}
 use Rattle.bounded_model.specs.declared.history.Order.TheVariants.{Fifo, Lifo}

@@ -8,10 +8,15 @@
 #![tactic(auto)]
 
 mod answer;
+mod fault;
+mod input;
+mod output;
 mod queue;
 mod ranges;
 mod replaying;
 mod scripted;
 mod stack;
 
+pub use fault::ReplayFault;
+pub use input::MAX_READS;
 pub use replaying::{replay, replay_traced};

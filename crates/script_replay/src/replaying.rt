@@ -2,19 +2,22 @@
 
 ghost use Rattle.std.specs.Prelude.{◌≡◌, ◌≢◌, ◌≤◌, length, IfErr, IfOk, OnOk, IfSome, string_bytes};
 ghost use Rattle.player.specs.Traces.{Adds, lines_in};
-ghost use Rattle.streams.specs.declared.fault.ReplayFault.TheVariants.{Output};
+ghost use Rattle.script_replay.specs.declared.fault.ReplayFault.TheVariants.{Output};
 ghost use Rattle.script_replay.specs.Outcome.{IsFaultOf, IsOutputFor, IsOutside, Replays, Wrote, WroteFront};
 ghost use Rattle.script_replay.specs.Traced.{IsTraceFor, WroteTraced};
-ghost use Rattle.streams.specs.Writing.{written};
+ghost use Rattle.told.specs.Writing.{written};
 ghost use Rattle.script.specs.Faults.{IsAccepted};
 
 use crate::answer::answer;
+use crate::fault::ReplayFault;
+use crate::input::read_text;
+use crate::output::write_all;
 use player::Trace;
 use script::{MAX_SCRIPT_LEN, parse};
 use std::alloc::Global;
 use std::io::{Read, Write};
 use std::sync::Wait;
-use streams::{ReplayFault, Told, read_text, tell, write_all};
+use told::{Told, tell};
 
 /// What is to be written for the script that the reader gives, all of it, and its steps in the trace.
 fn output_for<S: Wait, R: Read>(

@@ -1,9 +1,7 @@
 -- What the arguments ask for, and its ranges.
-use Rattle.std.specs.Prelude.{◌≡◌, ◌≢◌, ◌⊎◌, ◌≤◌, ℕ, Bool, Contains, IfSome, IsTrue, List, codes, length}
-use Rattle.tagged_index.specs.declared.limit.TheConstants.{MAX_CAPACITY}
-use Rattle.words.specs.declared.command_line.TheConstants.{MAX_CONSUMERS, MAX_COUNT, MAX_FILES, MAX_RING_CAPACITY}
-use Rattle.words.specs.declared.chosen.Kind.{Kind}
-use Rattle.words.specs.declared.chosen.Kind.TheVariants.{Queue, Stack, Ring}
+use Rattle.std.specs.Prelude.{◌≡◌, ◌≢◌, ◌⊎◌, ◌≤◌, ℕ, Bool, Contains, IsTrue, List, codes, length}
+use Rattle.relay_args.specs.Ranges.{IsInRange}
+use Rattle.relay_args.specs.declared.ranges.TheConstants.{MAX_FILES}
 use Rattle.words.specs.declared.chosen.Chosen.{Chosen}
 use Rattle.words.specs.declared.chosen.Chosen.TheVariants.{Replay, Traced, Relay, Measured}
 use Rattle.words.specs.declared.chosen.WordsRefused.{WordsRefused}
@@ -11,23 +9,6 @@ use Rattle.words.specs.declared.chosen.WordsRefused.TheVariants.{Help, Bad}
 use Rattle.clap.specs.declared.error.Error.{Error}
 use Rattle.clap.specs.declared.error.kind.ErrorKind.TheVariants.{DisplayHelp, DisplayVersion}
 use Rattle.clap.specs.Values.{kind_of}
-use Rattle.words.specs.declared.chosen.RelayArgs.{RelayArgs}
-
--- the greatest capacity of a container of this kind
-abbrev pub most_of : Kind → ℕ
-most_of Queue = MAX_CAPACITY
-most_of Stack = MAX_CAPACITY
-most_of Ring = MAX_RING_CAPACITY
-
--- how a relay is run: each value lies in its range
-pub record IsInRange (args : RelayArgs) : Type 0 where
-  pub some_capacity : 1 ≤ args.capacity
-  pub capacity : args.capacity ≤ most_of args.kind
-  pub some_consumers : 1 ≤ args.consumers
-  pub consumers : args.consumers ≤ MAX_CONSUMERS
-  pub take : IfSome args.take (λ count. count ≤ MAX_COUNT)
-  pub close_after : IfSome args.close_after (λ count. count ≤ MAX_COUNT)
-  pub shut_after : IfSome args.shut_after (λ count. count ≤ MAX_COUNT)
 
 -- what the program is to do: a relay has its values in their ranges, and 1 to 16 files
 abbrev pub AreInRange : Chosen → Type 0

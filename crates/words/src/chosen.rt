@@ -1,43 +1,15 @@
 //! What the arguments of the command line ask for.
 
-ghost use Rattle.std.specs.Prelude.{◌≡◌, ◌↔◌, ◌≤◌, Contains, IsTrue, IfOk, IfSome, map};
-ghost use Rattle.words.specs.Ranges.{AreInRange, IsAskedFor, IsInRange, IsRelay, most_of};
+ghost use Rattle.std.specs.Prelude.{Contains, IsTrue, IfOk, IfSome, map};
+ghost use Rattle.relay_args.specs.Ranges.{IsInRange};
+ghost use Rattle.words.specs.Ranges.{AreInRange, IsAskedFor, IsRelay};
 
-use crate::command_line::{MAX_CONSUMERS, MAX_COUNT, MAX_FILES, MAX_RING_CAPACITY, command_line};
+use crate::command_line::command_line;
 use clap::ArgMatches;
 use clap::error::ErrorKind;
+use relay_args::{Kind, MAX_FILES, RelayArgs};
 use std::alloc::{AllocError, AllocFailed, Global};
-use tagged_index::MAX_CAPACITY;
 use thiserror::Error;
-
-/// Which container a relay runs over.
-#[derive(Clone, Copy, Debug, PartialEq, Eq)]
-pub enum Kind {
-    /// The first message in is the first out.
-    Queue,
-    /// The last message in is the first out.
-    Stack,
-    /// As of a queue, from a circle of slots.
-    Ring,
-}
-
-/// How a relay is run.
-#[derive(Clone, Copy, Debug, PartialEq, Eq)]
-pub struct RelayArgs {
-    pub kind: Kind,
-    /// The most messages that the container holds: 1 to 1,048,573, of a ring to 1,048,542.
-    pub capacity: u32,
-    /// How many threads take messages out: 1 to 16.
-    pub consumers: u32,
-    /// Each consumer ends after so many messages: 0 to 65,535.
-    pub take: Option<u32>,
-    /// The first producer closes the container after so many messages: 0 to 65,535.
-    pub close_after: Option<u32>,
-    /// The first consumer shuts the container after so many messages: 0 to 65,535.
-    pub shut_after: Option<u32>,
-    /// Whether the messages are listed.
-    pub list: bool,
-}
 
 /// What the program is to do.
 #[derive(Debug, Drop, PartialEq, Eq)]
@@ -198,39 +170,4 @@ fn args_of(found: &ArgMatches<'_>) -> Option<RelayArgs>
         list: found.get_flag("list"),
     };
     args.is_in_range().then_some(args)
-}
-
-impl Kind {
-    // The greatest capacity.
-    fn most(self) -> u32
-        ensures { result ≡ most_of self }
-    {
-        match self {
-            Kind::Queue | Kind::Stack => MAX_CAPACITY,
-            Kind::Ring => MAX_RING_CAPACITY,
-        }
-    }
-}
-
-impl RelayArgs {
-    // Whether each value lies in its range.
-    fn is_in_range(&self) -> bool
-        ensures { IsTrue result ↔ IsInRange self.now }
-    {
-        (1..=self.kind.most()).contains(&self.capacity)
-            && (1..=MAX_CONSUMERS).contains(&self.consumers)
-            && is_count(self.take)
-            && is_count(self.close_after)
-            && is_count(self.shut_after)
-    }
-}
-
-// Whether a count that may be left out lies in its range.
-fn is_count(count: Option<u32>) -> bool
-    ensures { IsTrue result ↔ IfSome count (λ n. n ≤ MAX_COUNT) }
-{
-    match count {
-        Some(count) => count <= MAX_COUNT,
-        None => true,
-    }
 }

@@ -1,27 +1,9 @@
 //! The arguments that the program understands, and its help.
 
 use clap::{Arg, ArgAction, Command, value_parser};
+use relay_args::{MAX_CONSUMERS, MAX_COUNT, MAX_FILES};
 use std::alloc::{AllocError, Global};
-use tagged_index::{MAX_CAPACITY, NULL};
-
-/// The most consumers of a relay.
-pub const MAX_CONSUMERS: u32 = 16;
-
-/// The largest count after which a relay's worker stops: the most messages of a file.
-pub const MAX_COUNT: u32 = 65_535;
-
-/// The most files of a relay.
-pub const MAX_FILES: usize = 16;
-
-/// The most passes of a relay: one for each file, one for each consumer, and one that closes.
-pub const MAX_RELAY_PASSES: u32 = MAX_FILES as u32 + MAX_CONSUMERS + 1;
-
-/// The greatest capacity of a ring that a relay runs over. A ring has a cell for each pass, and the
-/// cells of its slots and its passes are together at most `NULL`.
-pub const MAX_RING_CAPACITY: u32 = NULL - MAX_RELAY_PASSES;
-
-// Clauses and the help say these numbers.
-const _: () = prove!(MAX_RELAY_PASSES == 33 && MAX_RING_CAPACITY == 1_048_542);
+use tagged_index::MAX_CAPACITY;
 
 /// The program's version.
 pub const VERSION: &str = "0.2.0";

@@ -7,7 +7,5 @@
 mod chosen;
 mod command_line;
 
-pub use chosen::{Chosen, Kind, RelayArgs, WordsRefused, read_words};
-pub use command_line::{
-    MAX_CONSUMERS, MAX_COUNT, MAX_FILES, MAX_RELAY_PASSES, MAX_RING_CAPACITY, VERSION,
-};
+pub use chosen::{Chosen, WordsRefused, read_words};
+pub use command_line::VERSION;

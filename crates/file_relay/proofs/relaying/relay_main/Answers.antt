@@ -1,4 +1,4 @@
-use Rattle.streams.specs.Writing.{Written}
+use Rattle.told.specs.Writing.{Written}
 use Rattle.file_relay.specs.Relaying.{RelaysInputs}
 use Rattle.file_relay.proofs.AllDelivered.{are-ready, from-readers, was-written}
 use Rattle.file_relay.proofs.relaying.relay_main.Goals as goal

@@ -1,4 +1,0 @@
-pub mod Fronts
-pub mod Readers
-pub mod Sources
-pub mod Writing

@@ -1,6 +1,0 @@
-use Rattle.streams.proofs.Writing.{Sent}
-use Rattle.streams.proofs.output.write_all.Given as goal
-
--- what went out so far
-abbrev pub invariant-loop : goal.invariant-loop
-invariant-loop g l = Sent (g.W.Write.contents l.fn.writer) (g.W.Write.contents l.writer) l.bytes l.rest

@@ -1,4 +1,0 @@
-pub mod Failure
-pub mod Inputs
-pub mod Sources
-pub mod Writing
