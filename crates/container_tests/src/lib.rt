@@ -1,8 +1,21 @@
-//! Tests of any container, run over both: what a value must go through as in the test suites of
+//! Tests of any container, run over each: what a value must go through as in the test suites of
 //! crossbeam-queue's `ArrayQueue` and of Boost.Lockfree, in our own words; how many steps a put and a
 //! take make, and what becomes of the values of a call that is dropped between two steps.
+//!
+//! And of code that knows a container by its traits alone: ranges and folds, run over the stack; calls
+//! made by single steps, run over the stack and the ring; the carry of items from one pass to another
+//! (`one_way`), run over each. How many takes a consuming call tries, a container counts that is made
+//! for it.
 #![tactic(auto)]
 
+#[cfg(test)]
+mod at_once;
+#[cfg(test)]
+mod by_steps;
+#[cfg(test)]
+mod carried;
+#[cfg(test)]
+mod consumed;
 #[cfg(test)]
 mod crowd;
 #[cfg(test)]

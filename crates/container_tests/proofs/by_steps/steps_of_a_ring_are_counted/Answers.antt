@@ -1,6 +1,6 @@
 use denote.Param.Send.{sendable}
 use Rattle.ring_queue.proofs.Crossing.{rest_send}
-use Rattle.client_tests.proofs.by_steps.steps_of_a_ring_are_counted.Goals as goal
+use Rattle.container_tests.proofs.by_steps.steps_of_a_ring_are_counted.Goals as goal
 
 pub put_by_steps-requires-send-C-Rest : goal.put_by_steps-requires-send-C-Rest
 put_by_steps-requires-send-C-Rest g c κs = search (sendable, rest_send) depth 30

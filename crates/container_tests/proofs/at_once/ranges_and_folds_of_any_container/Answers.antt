@@ -1,6 +1,6 @@
 use denote.Param.Send.{sendable}
 use Rattle.treiber_stack.proofs.Crossing.{rest_send}
-use Rattle.client_tests.proofs.at_once.ranges_and_folds_of_any_container.Goals as goal
+use Rattle.container_tests.proofs.at_once.ranges_and_folds_of_any_container.Goals as goal
 
 pub put_three-pass-requires-send-C-Rest : goal.put_three-pass-requires-send-C-Rest
 put_three-pass-requires-send-C-Rest g c κs = search (sendable, rest_send) depth 30

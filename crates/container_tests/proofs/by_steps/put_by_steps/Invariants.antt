@@ -1,5 +1,5 @@
 use Rattle.std.proofs.Common.{◌≡◌}
-use Rattle.client_tests.proofs.by_steps.put_by_steps.Given as goal
+use Rattle.container_tests.proofs.by_steps.put_by_steps.Given as goal
 
 abbrev pub invariant-loop-before : goal.invariant-loop-before
 invariant-loop-before g l = record {
