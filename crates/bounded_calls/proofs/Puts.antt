@@ -1,45 +1,25 @@
--- A put of a stack that was tried is the call that its operation makes.
-use Rattle.std.proofs.Common.{ℕ, ◌∙◌}
-use Rattle.std.specs.Prelude.{Result}
-use Rattle.bounded_model.specs.declared.answers.PutRefused.{PutRefused}
-use Rattle.bounded_model.specs.declared.answers.Stepped.TheVariants.{Again, Done}
+-- A put that was tried is what it gives as a put, whichever call its operation was asked for.
+use Rattle.std.specs.Prelude.{ℕ}
 use Rattle.bounded_model.specs.declared.answers.Stepped.{Stepped}
 use Rattle.bounded_model.specs.declared.commands.Command.{Command}
 use Rattle.bounded_model.specs.declared.commands.Command.TheVariants as command
-use Rattle.bounded_model.specs.declared.commands.Reply.TheVariants as reply
-use Rattle.stack_machine.specs.declared.lines.Line.{Line}
-use Rattle.running.specs.Ops.{IsUnderWay, OpRan}
-use Rattle.running.specs.declared.passes.Pass.{Pass}
-use Rattle.treiber_stack.specs.KeepsAnswers.{put_promises}
-use Rattle.treiber_stack.specs.declared.stack.Stack.{Stack}
-use Rattle.treiber_stack.specs.Putting.{PutOp, put_account}
-use Rattle.treiber_stack.specs.Stack.{machine_of}
-use Rattle.bounded_calls.specs.Calls.{Tried}
-use Rattle.bounded_calls.specs.Readings.{stack_reading}
+use Rattle.bounded_model.specs.declared.commands.Operation.{Operation}
 use Rattle.bounded_model.specs.declared.commands.Operation.TheVariants.{Put}
+use Rattle.bounded_model.specs.declared.commands.Reply.{Reply}
+use Rattle.bounded_model.specs.declared.views.PassView.{PassView}
+use Rattle.bounded_model.specs.Machine.{Shape}
+use Rattle.bounded_model.specs.Stepping.{Underway}
+use Rattle.bounded_calls.specs.Calls.{Reading, Tried, TriedFrom, by_steps}
 
-module _ (c : Stack ℕ) (op : PutOp ℕ) where
-  -- a put of some value is under way
-  pub put_stands : (call : Command ℕ) → (stack_reading c).is_making call (Put op) → IsUnderWay (machine_of c) (put_account c.table.shared.key) c.table.shared.table_id op
-  put_stands (command.Put x) is = is.under_way
-  put_stands command.Take is = absurd is
-  put_stands command.Close is = absurd is
-  put_stands command.Shut is = absurd is
-  put_stands command.Look is = absurd is
+module _ {T P A B C S L : Type 0} (shape : Shape) (is_pass : P → Type 0) (pass : P → PassView T)
+    (is_putting : T → A → Type 0) (is_taking : B → Type 0) (is_closing : C → Type 0) (is_shutting : S → Type 0) (is_looking : L → Type 0)
+    (putting : A → Underway T) (taking : B → Underway T) (closing : C → Underway T) (shutting : S → Underway T) (looking : L → Underway T) where
+  abbrev pub R : Reading T P (Operation A B C S L)
+  R = by_steps shape is_pass pass is_putting is_taking is_closing is_shutting is_looking putting taking closing shutting looking
 
-  abbrev Made : ℕ → Stepped (PutOp ℕ) (Pass ℕ (Line ℕ)) (Result ℕ (PutRefused ℕ)) → Type 0
-  Made steps r = OpRan (machine_of c) (put_account c.table.shared.key) c.table.shared.table_id (put_promises c.table.shared.key) steps op r
-
-  pub put_goes_on : (steps : ℕ) (next : PutOp ℕ) → Made steps (Again next) → Tried (stack_reading c) (Put op) (Again (Put next))
-  put_goes_on steps next e (command.Put x) is = (record { of = e.2 ∙ is.of; under_way = e.0 }, e.1)
-  put_goes_on steps next e command.Take is = absurd is
-  put_goes_on steps next e command.Close is = absurd is
-  put_goes_on steps next e command.Shut is = absurd is
-  put_goes_on steps next e command.Look is = absurd is
-
-  pub put_ends : (steps : ℕ) (back : Pass ℕ (Line ℕ)) (answer : Result ℕ (PutRefused ℕ)) → Made steps (Done back answer) → Tried (stack_reading c) (Put op) (Done back (reply.Put answer))
-  put_ends steps back answer e (command.Put x) is = (e.0, e.1 x is.of)
-  put_ends steps back answer e command.Take is = absurd is
-  put_ends steps back answer e command.Close is = absurd is
-  put_ends steps back answer e command.Shut is = absurd is
-  put_ends steps back answer e command.Look is = absurd is
+  pub as_put : (op : A) (made : Stepped (Operation A B C S L) P (Reply T)) → ((x : T) → is_putting x op → TriedFrom R (putting op).begun (command.Put x) made) → Tried R (Put op) made
+  as_put op made gives (command.Put x) is = gives x is
+  as_put op made gives command.Take is = absurd is
+  as_put op made gives command.Close is = absurd is
+  as_put op made gives command.Shut is = absurd is
+  as_put op made gives command.Look is = absurd is

@@ -1,4 +1,4 @@
--- How a queue's and a stack's passes and operations are read.
+-- How a queue's, a stack's and a ring's passes and operations are read.
 use Rattle.bounded_model.specs.Stepping.{no_step}
 use Rattle.queue_machine.specs.declared.lines.Line as of_queue
 use Rattle.stack_machine.specs.declared.lines.Line as of_stack
@@ -12,6 +12,15 @@ use Rattle.ms_queue.specs.Queue as queue
 use Rattle.ms_queue.specs.Shutting as queue_shutting
 use Rattle.ms_queue.specs.Stepwise as queue_steps
 use Rattle.ms_queue.specs.Taking as queue_taking
+use Rattle.ring_queue.specs.declared.queue.Pass as of_ring
+use Rattle.ring_queue.specs.declared.queue.RingQueue.{RingQueue}
+use Rattle.ring_queue.specs.Closing as ring_closing
+use Rattle.ring_queue.specs.Looking as ring_looking
+use Rattle.ring_queue.specs.Putting as ring_putting
+use Rattle.ring_queue.specs.Ring as ring
+use Rattle.ring_queue.specs.Shutting as ring_shutting
+use Rattle.ring_queue.specs.Stepwise as ring_steps
+use Rattle.ring_queue.specs.Taking as ring_taking
 use Rattle.treiber_stack.specs.declared.stack.Stack.{Stack}
 use Rattle.treiber_stack.specs.declared.closing.CloseOp as s_close
 use Rattle.treiber_stack.specs.declared.closing.ShutOp as s_shut
@@ -34,3 +43,8 @@ module _ {T : Type 0} where
   stack_reading c = by_steps (stack.shape_of c) (stack.IsPassOf c) pass_in
       (stack_putting.IsPutting c) (stack_taking.IsTaking c) (stack_closing.IsClosing c) (stack_closing.IsShutting c) (λ op. stack.IsPassOf c op.pass)
       (λ op. stack_steps.underway_in op.pass) (λ op. stack_steps.underway_in op.pass) (λ op. stack_steps.underway_in op.pass) (λ op. stack_steps.underway_in op.pass) (λ op. no_step (pass_in op.pass))
+
+  abbrev pub ring_reading : RingQueue T → Reading T (of_ring.Pass T) (Operation (ring_putting.PutOp T) (ring_taking.TakeOp T) (ring_closing.CloseOp T) (ring_shutting.ShutOp T) (ring_looking.LookOp T))
+  ring_reading c = by_steps (ring.shape_of c) (ring.IsPassOf c) ring.pass_in
+      (ring_putting.IsPutting c) (ring_taking.IsTaking c) (ring_closing.IsClosing c) (ring_shutting.IsShutting c) (ring_looking.IsLooking c)
+      (λ op. ring_steps.underway_in op.pass) (λ op. ring_steps.underway_in op.pass) (λ op. ring_steps.underway_in op.pass) (λ op. ring_steps.underway_in op.pass) (λ op. ring_steps.underway_in op.pass)

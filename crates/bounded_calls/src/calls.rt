@@ -1,65 +1,177 @@
 //! Containers whose calls give up after so many tries.
 
-ghost use Rattle.std.specs.Prelude.{ℕ};
-ghost use Rattle.bounded_calls.specs.Calls.{MakesSome, Tried, TriedFrom, TookAtLeast, TookFor, by_steps};
+ghost use Rattle.std.specs.Prelude.{◌≡◌, ℕ, MatchOption};
+ghost use Rattle.bounded_model.specs.Laws.{IsFullOfPasses, Leaves, Splits};
+ghost use Rattle.bounded_model.specs.declared.commands.Command.TheVariants.{Put, Take, Look};
+ghost use Rattle.bounded_model.specs.declared.views.PassView.{PassView};
+ghost use Rattle.bounded_model.specs.declared.views.RootView.{RootView};
+ghost use Rattle.bounded_calls.specs.Calls.{
+  Begins,
+  MakesSome,
+  PutMadeSo,
+  Reading,
+  Tried,
+  TriedFrom,
+  TookAtLeast,
+  TookFor,
+  steps_of,
+};
 
-use bounded_model::{Command, Operation, Reply, Stepped, Stepwise};
+use bounded_model::{Command, Leaving, PutRefused, Reply, Stepped};
 
-/// A container whose calls give up after so many tries, and can then be gone on with.
-pub trait BoundedCalls<T>: Stepwise<T> {
-    /// How many steps so many tries are.
-    ghost steps: { ℕ → ℕ };
+/// What the first steps of a put have come to.
+pub enum PutMade<O, P, T> {
+    Done(P, Result<u64, PutRefused<T>>),
+    /// It is under way: `run_for` goes on with it.
+    Again(O),
+    /// There is no room: `refuse_at_once` says why.
+    NoRoom(P, T),
+}
 
-    /// A call: its fast path, and where that does not end it at most so many further steps as a call
-    /// makes where nobody interferes, and those of `tries` tries more. Returns what the whole call
-    /// returns; or the call is still under way, after the steps of so many tries at the least.
-    fn try_call(
+/// A container whose calls give up after so many tries, and can then be gone on with. It gives the
+/// fast paths of its calls, the steps behind them, and two numbers.
+///
+/// It is no `Container`, whose calls may wait: what is generic over this links none of them, so it
+/// may stand in a library for programs that have no runtime.
+pub trait BoundedCalls<T>: Drop {
+    type Root: Drop;
+
+    type Pass: Drop;
+
+    /// A call that was begun.
+    type Operation: Drop;
+
+    type Rest: Leaving<T> + Drop;
+
+    /// As many steps as any call makes that loses no compare-and-swap.
+    const UNDISTURBED: u64;
+
+    /// How many steps lead to a call's next compare-and-swap, if one has failed.
+    const TO_EXCHANGE: u64;
+
+    ghost UNDISTURBED: { ℕ };
+
+    ghost TO_EXCHANGE: { ℕ };
+
+    /// How its passes and calls are read.
+    ghost reading: { Self → Reading T Self.Pass Self.Operation };
+
+    /// Whether this is the root of this container.
+    ghost is_root: { Self → Self.Root → Type 0 };
+
+    /// What a root has seen, how many passes it has given, and what those joined have done.
+    ghost root: { Self.Root → RootView T };
+
+    /// Whether this pass is in a put of this value that has found no room.
+    ghost is_refusing: { Self → T → Self.Pass → Type 0 };
+
+    /// What that pass had seen as the put was begun.
+    ghost refusing: { Self → Self.Pass → PassView T };
+
+    /// The container's `split`.
+    fn split_off(&self, parent: &mut Self::Root) -> Option<Self::Pass>
+        requires { is_root self.now parent.old }
+        ensures root { is_root self.now parent.new }
+        ensures gives { MatchOption result
+            ((root parent.new ≡ root parent.old)
+            × IsFullOfPasses (reading self.now).shape (root parent.old))
+            (λ p. (reading self.now).is_pass p × Splits (reading self.now).shape
+            (root parent.old) (root parent.new) ((reading self.now).pass p)) };
+
+    /// The container's `finish`.
+    fn end_with(self, parent: Self::Root) -> Self::Rest
+        requires { is_root self parent }
+        ensures { Leaves (reading self).shape (root parent) (Self.Rest.left result) };
+
+    /// A call that makes no step yet.
+    fn begin(&self, by: Self::Pass, command: Command<T>) -> Self::Operation
+        requires { (reading self.now).is_pass by }
+        ensures { Begins (reading self.now) by command result };
+
+    /// Goes on with a call for at most so many steps.
+    fn run_for(
+        &self,
+        operation: Self::Operation,
+        steps: u64,
+    ) -> Stepped<Self::Operation, Self::Pass, Reply<T>>
+        requires { MakesSome (reading self.now) operation }
+        ensures tried { Tried (reading self.now) operation result }
+        ensures took { TookFor (reading self.now) steps operation result };
+
+    /// A put's fast path, if there is room.
+    fn put_if_room(&self, by: Self::Pass, value: T) -> PutMade<Self::Operation, Self::Pass, T>
+        requires { (reading self.now).is_pass by }
+        ensures { PutMadeSo (reading self.now) (is_refusing self.now) (refusing self.now)
+            value ((reading self.now).pass by) result };
+
+    /// Says why nothing can be put, if there is no room.
+    fn refuse_at_once(
         &self,
         by: Self::Pass,
-        command: Command<T>,
-        tries: u64,
-    ) -> Stepped<
-        Operation<Self::PutOp, Self::TakeOp, Self::CloseOp, Self::ShutOp, Self::LookOp>,
-        Self::Pass,
-        Reply<T>,
-    >
-        requires { Self.is_pass self.now by }
-        ensures tried { TriedFrom (by_steps (Self.shape self.now) (Self.is_pass self.now) Self.pass
-            (Self.is_putting self.now) (Self.is_taking self.now) (Self.is_closing self.now)
-            (Self.is_shutting self.now) (Self.is_looking self.now)
-            Self.putting Self.taking Self.closing Self.shutting Self.looking)
-            (Self.pass by) command result }
-        ensures took { TookAtLeast (by_steps (Self.shape self.now) (Self.is_pass self.now) Self.pass
-            (Self.is_putting self.now) (Self.is_taking self.now) (Self.is_closing self.now)
-            (Self.is_shutting self.now) (Self.is_looking self.now)
-            Self.putting Self.taking Self.closing Self.shutting Self.looking)
-            (steps tries) (Self.pass by) result };
+        value: T,
+    ) -> Stepped<Self::Operation, Self::Pass, Reply<T>>
+        requires { is_refusing self.now value by }
+        ensures tried { TriedFrom (reading self.now) (refusing self.now by) (Put value) result }
+        ensures took { TookAtLeast (reading self.now) 0 (refusing self.now by) result };
+
+    /// A take's fast path.
+    fn take_at_once(&self, by: Self::Pass) -> Stepped<Self::Operation, Self::Pass, Reply<T>>
+        requires { (reading self.now).is_pass by }
+        ensures tried { TriedFrom (reading self.now) ((reading self.now).pass by) Take result }
+        ensures took { TookAtLeast (reading self.now) 0 ((reading self.now).pass by) result };
+
+    /// A look's fast path.
+    fn look_at_once(&self, by: Self::Pass) -> Stepped<Self::Operation, Self::Pass, Reply<T>>
+        requires { (reading self.now).is_pass by }
+        ensures tried { TriedFrom (reading self.now) ((reading self.now).pass by) Look result }
+        ensures took { TookAtLeast (reading self.now) 0 ((reading self.now).pass by) result };
 
     /// Goes on with a call for as many steps as so many tries are. One that is still under way then
     /// was begun as before, and has made exactly so many steps more; one that has ended made at most
-    /// so many.
+    /// so many. A function of its own, so that its caller's code has nothing but the fast path.
+    #[inline(never)]
     fn try_on(
         &self,
-        operation: Operation<Self::PutOp, Self::TakeOp, Self::CloseOp, Self::ShutOp, Self::LookOp>,
+        operation: Self::Operation,
         tries: u64,
-    ) -> Stepped<
-        Operation<Self::PutOp, Self::TakeOp, Self::CloseOp, Self::ShutOp, Self::LookOp>,
-        Self::Pass,
-        Reply<T>,
-    >
-        requires { MakesSome (by_steps (Self.shape self.now) (Self.is_pass self.now) Self.pass
-            (Self.is_putting self.now) (Self.is_taking self.now) (Self.is_closing self.now)
-            (Self.is_shutting self.now) (Self.is_looking self.now)
-            Self.putting Self.taking Self.closing Self.shutting Self.looking)
-            operation }
-        ensures tried { Tried (by_steps (Self.shape self.now) (Self.is_pass self.now) Self.pass
-            (Self.is_putting self.now) (Self.is_taking self.now) (Self.is_closing self.now)
-            (Self.is_shutting self.now) (Self.is_looking self.now)
-            Self.putting Self.taking Self.closing Self.shutting Self.looking)
-            operation result }
-        ensures took { TookFor (by_steps (Self.shape self.now) (Self.is_pass self.now) Self.pass
-            (Self.is_putting self.now) (Self.is_taking self.now) (Self.is_closing self.now)
-            (Self.is_shutting self.now) (Self.is_looking self.now)
-            Self.putting Self.taking Self.closing Self.shutting Self.looking)
-            (steps tries) operation result };
+    ) -> Stepped<Self::Operation, Self::Pass, Reply<T>>
+        requires { MakesSome (reading self.now) operation }
+        ensures tried { Tried (reading self.now) operation result }
+        ensures took { TookFor (reading self.now) (steps_of UNDISTURBED TO_EXCHANGE tries) operation result }
+    {
+        let steps = tries
+            .saturating_mul(Self::TO_EXCHANGE)
+            .saturating_add(Self::UNDISTURBED);
+        self.run_for(operation, steps)
+    }
+}
+
+/// A call: its fast path, and if that does not end it at most so many further steps as a call
+/// makes if nobody interferes, and those of `tries` tries more. Returns what the whole call
+/// returns; or the call is still under way, after the steps of so many tries at the least.
+pub fn try_call<T, C: BoundedCalls<T>>(
+    container: &C,
+    by: C::Pass,
+    command: Command<T>,
+    tries: u64,
+) -> Stepped<C::Operation, C::Pass, Reply<T>>
+    requires { (C.reading container.now).is_pass by }
+    ensures tried { TriedFrom (C.reading container.now) ((C.reading container.now).pass by) command result }
+    ensures took { TookAtLeast (C.reading container.now) (steps_of C.UNDISTURBED C.TO_EXCHANGE tries)
+        ((C.reading container.now).pass by) result }
+{
+    let first = match command {
+        Command::Put(value) => match container.put_if_room(by, value) {
+            PutMade::Done(back, said) => Stepped::Done(back, Reply::Put(said)),
+            PutMade::Again(operation) => Stepped::Again(operation),
+            PutMade::NoRoom(back, value) => container.refuse_at_once(back, value),
+        },
+        Command::Take => container.take_at_once(by),
+        Command::Look => container.look_at_once(by),
+        other => Stepped::Again(container.begin(by, other)),
+    };
+    match first {
+        Stepped::Again(operation) => container.try_on(operation, tries),
+        Stepped::Done(back, said) => Stepped::Done(back, said),
+    }
 }

@@ -1,119 +1,122 @@
 //! A stack's calls: each makes its fast path and then a bounded number of steps. A look has one step.
-ghost use Rattle.std.specs.Prelude.{◌≡◌, ◌≤◌};
-ghost use Rattle.bounded_calls.specs.Calls.{Begins, steps_of};
-ghost use Rattle.bounded_calls.specs.Readings.{stack_reading};
-ghost use Rattle.treiber_stack.specs.Stack.{IsPassOf};
+use crate::calls::{BoundedCalls, PutMade};
+use crate::kinds::of_kind;
+use bounded_model::{Command, Container, Operation, Reply, Stepped, Stepwise};
+use treiber_stack::{CloseOp, LookOp, Pass, PutOp, Rest, Root, ShutOp, Stack, TakeOp};
 
-use crate::calls::BoundedCalls;
-use bounded_model::{Command, Operation, Reply, Stepped, Stepwise};
-use treiber_stack::{CloseOp, LookOp, Pass, PutOp, ShutOp, Stack, TakeOp};
-
-// As many steps as any call makes that loses no compare-and-swap.
-const UNDISTURBED: u64 = 10;
-
-// How many steps lead to a call's next compare-and-swap once one has failed.
-const TO_EXCHANGE: u64 = 3;
-
-// How many steps so many tries are.
-#[inline]
-fn steps_for(tries: u64) -> u64
-    ensures { (result ≡ steps_of 10 3 tries) × (10 ≤ result) }
-{
-    tries
-        .saturating_mul(TO_EXCHANGE)
-        .saturating_add(UNDISTURBED)
-}
-
-// A call that makes no step yet.
-#[inline(always)]
-fn begin(
-    stack: &Stack<u64>,
-    by: Pass<u64>,
-    command: Command<u64>,
-) -> Operation<PutOp<u64>, TakeOp<u64>, CloseOp<u64>, ShutOp<u64>, LookOp<u64>>
-    requires { IsPassOf stack.now by }
-    ensures { Begins (stack_reading stack.now) by command result }
-{
-    match command {
-        Command::Put(value) => Operation::Put(Stepwise::begin_put(stack, by, value)),
-        Command::Take => Operation::Take(Stepwise::begin_take(stack, by)),
-        Command::Close => Operation::Close(Stepwise::begin_close(stack, by)),
-        Command::Shut => Operation::Shut(Stepwise::begin_shut(stack, by)),
-        Command::Look => Operation::Look(Stepwise::begin_look(stack, by)),
-    }
-}
+/// A call of a stack's pass that was begun.
+pub type StackOperation = Operation<
+    PutOp<u64>,
+    TakeOp<u64>,
+    CloseOp<u64>,
+    ShutOp<u64>,
+    LookOp<u64>,
+>;
 
 impl BoundedCalls<u64> for Stack<u64> {
-    ghost use Rattle.bounded_calls.specs.Calls.{MakesSome, Tried, TriedFrom, TookAtLeast, TookFor, steps_of};
+    ghost use Rattle.bounded_calls.specs.Calls.{Begins};
+    ghost use Rattle.running.specs.Passes.{root_in};
     ghost use Rattle.bounded_calls.specs.Readings.{stack_reading};
-    ghost use Rattle.running.specs.Passes.{pass_in};
+    ghost use Rattle.treiber_stack.specs.Stack.{IsPassOf, IsRootOf, begun_of};
+    ghost use Rattle.treiber_stack.specs.Trying.{IsRefusing};
 
-    ghost steps = { steps_of 10 3 };
+    type Root = Root<u64>;
 
-    fn try_call(
-        &self,
-        by: Pass<u64>,
-        command: Command<u64>,
-        tries: u64,
-    ) -> Stepped<
-        Operation<PutOp<u64>, TakeOp<u64>, CloseOp<u64>, ShutOp<u64>, LookOp<u64>>,
-        Pass<u64>,
-        Reply<u64>,
-    >
+    type Pass = Pass<u64>;
+
+    type Operation = StackOperation;
+
+    type Rest = Rest<u64>;
+
+    const UNDISTURBED: u64 = 10;
+
+    const TO_EXCHANGE: u64 = 3;
+
+    ghost UNDISTURBED = { 10 };
+
+    ghost TO_EXCHANGE = { 3 };
+
+    ghost reading = { stack_reading };
+
+    ghost is_refusing = { IsRefusing };
+
+    ghost refusing = { begun_of };
+
+    ghost is_root = { IsRootOf };
+
+    ghost root = { root_in };
+
+    #[inline]
+    fn split_off(&self, parent: &mut Root<u64>) -> Option<Pass<u64>> {
+        self.split(parent)
+    }
+
+    #[inline]
+    fn end_with(self, parent: Root<u64>) -> Rest<u64> {
+        self.finish(parent)
+    }
+
+    #[inline(always)]
+    fn begin(&self, by: Pass<u64>, command: Command<u64>) -> StackOperation
         requires { IsPassOf self.now by }
-        ensures tried { TriedFrom (stack_reading self.now) (pass_in by) command result }
-        ensures took { TookAtLeast (stack_reading self.now) (steps_of 10 3 tries) (pass_in by) result }
+        ensures { Begins (stack_reading self.now) by command result }
     {
         match command {
-            Command::Put(value) => match self.put_at_once(by, value) {
-                Stepped::Again(op) => self.try_on(Operation::Put(op), tries),
-                Stepped::Done(pass, answer) => Stepped::Done(pass, Reply::Put(answer)),
-            },
-            Command::Take => match self.take_at_once(by) {
-                Stepped::Again(op) => self.try_on(Operation::Take(op), tries),
-                Stepped::Done(pass, answer) => Stepped::Done(pass, Reply::Take(answer)),
-            },
-            other => self.try_on(begin(self, by, other), tries),
+            Command::Put(value) => Operation::Put(Stepwise::begin_put(self, by, value)),
+            Command::Take => Operation::Take(Stepwise::begin_take(self, by)),
+            Command::Close => Operation::Close(Stepwise::begin_close(self, by)),
+            Command::Shut => Operation::Shut(Stepwise::begin_shut(self, by)),
+            Command::Look => Operation::Look(Stepwise::begin_look(self, by)),
         }
     }
 
-    // A function of its own, so that its caller's code has nothing but the fast path.
-    #[inline(never)]
-    fn try_on(
+    #[inline]
+    fn run_for(
         &self,
-        operation: Operation<PutOp<u64>, TakeOp<u64>, CloseOp<u64>, ShutOp<u64>, LookOp<u64>>,
-        tries: u64,
-    ) -> Stepped<
-        Operation<PutOp<u64>, TakeOp<u64>, CloseOp<u64>, ShutOp<u64>, LookOp<u64>>,
-        Pass<u64>,
-        Reply<u64>,
-    >
-        requires { MakesSome (stack_reading self.now) operation }
-        ensures tried { Tried (stack_reading self.now) operation result }
-        ensures took { TookFor (stack_reading self.now) (steps_of 10 3 tries) operation result }
-    {
-        let steps = steps_for(tries);
+        operation: StackOperation,
+        steps: u64,
+    ) -> Stepped<StackOperation, Pass<u64>, Reply<u64>> {
         match operation {
-            Operation::Put(op) => match op.run_for(self, steps) {
-                Stepped::Again(op) => Stepped::Again(Operation::Put(op)),
-                Stepped::Done(pass, answer) => Stepped::Done(pass, Reply::Put(answer)),
-            },
-            Operation::Take(op) => match op.run_for(self, steps) {
-                Stepped::Again(op) => Stepped::Again(Operation::Take(op)),
-                Stepped::Done(pass, answer) => Stepped::Done(pass, Reply::Take(answer)),
-            },
-            Operation::Close(op) => match op.run_for(self, steps) {
-                Stepped::Again(op) => Stepped::Again(Operation::Close(op)),
-                Stepped::Done(pass, closed) => Stepped::Done(pass, Reply::Close(closed)),
-            },
-            Operation::Shut(op) => match op.run_for(self, steps) {
-                Stepped::Again(op) => Stepped::Again(Operation::Shut(op)),
-                Stepped::Done(pass, shut) => Stepped::Done(pass, Reply::Shut(shut)),
-            },
+            Operation::Put(op) => of_kind!(Put, op.run_for(self, steps)),
+            Operation::Take(op) => of_kind!(Take, op.run_for(self, steps)),
+            Operation::Close(op) => of_kind!(Close, op.run_for(self, steps)),
+            Operation::Shut(op) => of_kind!(Shut, op.run_for(self, steps)),
             Operation::Look(op) => {
-                let (pass, is_empty) = op.end(self);
-                Stepped::Done(pass, Reply::Look(is_empty))
+                if steps == 0 {
+                    return Stepped::Again(Operation::Look(op));
+                }
+                let (back, is_empty) = op.end(self);
+                Stepped::Done(back, Reply::Look(is_empty))
             }
         }
+    }
+
+    #[inline(always)]
+    fn put_if_room(&self, by: Pass<u64>, value: u64) -> PutMade<StackOperation, Pass<u64>, u64> {
+        match self.put_if_room(by, value) {
+            treiber_stack::PutMade::Done(back, said) => PutMade::Done(back, said),
+            treiber_stack::PutMade::Again(op) => PutMade::Again(Operation::Put(op)),
+            treiber_stack::PutMade::NoNode(back, value) => PutMade::NoRoom(back, value),
+        }
+    }
+
+    #[inline]
+    fn refuse_at_once(
+        &self,
+        by: Pass<u64>,
+        value: u64,
+    ) -> Stepped<StackOperation, Pass<u64>, Reply<u64>> {
+        of_kind!(Put, self.refuse_at_once(by, value))
+    }
+
+    #[inline(always)]
+    fn take_at_once(&self, by: Pass<u64>) -> Stepped<StackOperation, Pass<u64>, Reply<u64>> {
+        of_kind!(Take, self.take_at_once(by))
+    }
+
+    #[inline(always)]
+    fn look_at_once(&self, by: Pass<u64>) -> Stepped<StackOperation, Pass<u64>, Reply<u64>> {
+        let (back, is_empty) = self.is_empty(by);
+        Stepped::Done(back, Reply::Look(is_empty))
     }
 }
