@@ -1,5 +1,9 @@
-/* A bounded queue and a bounded stack that many threads share without locks. For C and C++. The functions are
+/* A bounded queue, a bounded stack and a ring that many threads share without locks. For C and C++. The functions are
  * proved; the inline ones at the end are tested.
+ *
+ * Which one: a stack gives the last value first, a queue and a ring the first. A ring is faster than a queue, takes half the
+ * memory and lasts longer, but is made for a number of passes. So take the ring if you know how many passes there will be,
+ * and the queue if you do not.
  *
  * What the library keeps in your memory is a handle: a root or a pass of one container. All zero
  * bytes are an empty handle. A root gives passes, one to each thread; a pass makes the calls. Each
@@ -39,21 +43,23 @@ extern "C" {
 
 enum {
     LOCKFREE_OK = 0,
-    LOCKFREE_FULL = 1,          /* put: each cell holds a value or is held by a call */
+    LOCKFREE_FULL = 1,          /* put: each cell holds a value or is held by a call; of a ring, each slot holds a value */
     LOCKFREE_EMPTY = 2,         /* take, fold: no value, and more may come. look: it was empty. range_put, put_range: of no value.
                                    finish: nothing is left */
     LOCKFREE_CLOSED = 3,        /* put: closed. take, fold: no value, and none will come. close: it was closed before. gauge: it was
                                    closed, and value is as if it is OK */
     LOCKFREE_SHUT = 4,          /* take, fold: shut. shut: it was shut before */
-    LOCKFREE_SPENT = 5,         /* put, take, fold: a tag is at its limit of 2^42 - 1; value is the tag */
+    LOCKFREE_SPENT = 5,         /* put, take, fold: a tag is at its limit of 2^42 - 1; value is the tag. Of a ring, put alone: the
+                                   slot was filled as often as its laps say; value is twice the laps */
     LOCKFREE_BUSY = 6,          /* the tries are used up: go on with lockfree_go_on; of lockfree_put_range with the same call */
     LOCKFREE_UNDER_WAY = 7,     /* the pass has a call under way: lockfree_go_on first. Or a range's values: lockfree_range_put first */
     LOCKFREE_NO_CALL = 8,       /* go_on: the pass has no call under way, or one that goes on by lockfree_put_range */
     LOCKFREE_NO_MEMORY = 9,
-    LOCKFREE_NO_PASS = 10,      /* split: the root has given as many passes as it may, 65,535 */
-    LOCKFREE_BAD_CAPACITY = 11, /* new: a capacity is 1 to 1,048,573. limited: and a limit of tags 2 to 2^42 - 1 */
-    LOCKFREE_OTHER_HANDLE = 12, /* a root in the place of a pass, or the other way round. fold, range: or a queue's pass.
-                                   count: or a stack's pass */
+    LOCKFREE_NO_PASS = 10,      /* split: the root has given as many passes as it may, 65,535; of a ring, as it was made for */
+    LOCKFREE_BAD_CAPACITY = 11, /* new: a capacity is 1 to 1,048,573. limited: and a limit of tags 2 to 2^42 - 1. Of a ring:
+                                   see lockfree_ring_new */
+    LOCKFREE_OTHER_HANDLE = 12, /* a root in the place of a pass, or the other way round. fold, range: or a queue's or a ring's
+                                   pass. count: or a stack's or a ring's. gauge: or a ring's */
     LOCKFREE_NO_HANDLE = 13,    /* the handle is empty: never made, or freed */
     LOCKFREE_IN_USE = 14,       /* the handle to be made is not empty */
     LOCKFREE_VALUE = 15,        /* fold: value is the next one, and the fold is under way: go on with lockfree_go_on.
@@ -88,6 +94,16 @@ uint32_t lockfree_stack_new(lockfree_handle *root, uint32_t capacity);
 uint32_t lockfree_queue_limited(lockfree_handle *root, uint32_t capacity, uint64_t tag_limit);
 uint32_t lockfree_stack_limited(lockfree_handle *root, uint32_t capacity, uint64_t tag_limit);
 
+/* A new ring, for so many passes, and its root in an empty handle. BAD_CAPACITY exactly if the capacity is less than 1, the
+ * passes are not 2 to 65,535, or the two together are more than 1,048,575. Each slot can be filled 2^41 - 1 times: a ring of
+ * capacity n takes n * (2^41 - 1) values in its life, if each pass ends its calls; then puts are SPENT, and takes go on.
+ * _limited: each slot can be filled `laps` times, 1 to 2^41 - 1, else it is BAD_CAPACITY too: for tests of what a program
+ * does once a ring is SPENT.
+ * A pass that is freed is not given again: it counts among those that the ring was made for.
+ * OK, BAD_CAPACITY, NO_MEMORY, IN_USE. */
+uint32_t lockfree_ring_new(lockfree_handle *root, uint32_t capacity, uint32_t passes);
+uint32_t lockfree_ring_limited(lockfree_handle *root, uint32_t capacity, uint64_t laps, uint32_t passes);
+
 /* A new pass in an empty handle. OK, NO_PASS, NO_MEMORY, OTHER_HANDLE, NO_HANDLE, IN_USE. */
 uint32_t lockfree_split(lockfree_handle *root, lockfree_handle *pass);
 
@@ -97,7 +113,7 @@ uint32_t lockfree_split(lockfree_handle *root, lockfree_handle *pass);
 uint32_t lockfree_free(lockfree_handle *handle);
 
 /* Ends a container whose root is its only handle, and hands out what is left in it, one value an answer: a queue's
- * from the front, a stack's from the top. It asks for no memory, no pass and no tag, so it also empties a spent
+ * or a ring's from the front, a stack's from the top. It asks for no memory, no pass and no tag, so it also empties a spent
  * container. If another handle of the container is out, it answers SHARED and nothing has changed: free the passes
  * first. After its first VALUE or EMPTY the root gives no pass (OTHER_HANDLE). lockfree_free then ends the root, with
  * the values that were not handed out. A value that a freed pass had under way is not among those that are left.
@@ -127,8 +143,8 @@ lockfree_answer lockfree_gauge(lockfree_handle *pass, uint64_t tries);
 lockfree_answer lockfree_go_on(lockfree_handle *pass, uint64_t tries);
 
 /* The number of this pass's last call, if that was a put, a take, a fold or a range_put that was OK; else 0. Numbers
- * count the calls of all passes, from 0: a queue's puts and its takes apart, those of a stack together. So a number
- * tells how far a container is worn: it is spent near number 2^42.
+ * count the calls of all passes, from 0: a queue's and a ring's puts and takes apart, those of a stack together. So a
+ * number tells how far a container is worn: it is spent near number 2^42, and a ring of n slots at number n * laps.
  * OK, UNDER_WAY, OTHER_HANDLE, NO_HANDLE. */
 lockfree_answer lockfree_number(lockfree_handle *pass);
 

@@ -7,6 +7,9 @@
 
 typedef uint32_t make_new(lockfree_handle *root, uint32_t capacity);
 
+enum { PASSES = 16 };
+static uint32_t ring_new(lockfree_handle *root, uint32_t capacity) { return lockfree_ring_new(root, capacity, PASSES); }
+
 static void codes_of_handles(make_new *make)
 {
     lockfree_handle root = {0}, pass = {0}, other = {0};
@@ -103,6 +106,34 @@ static void gauging(make_new *make, uint64_t of_take)
     lockfree_free(&a), lockfree_free(&root);
 }
 
+/* What a ring can be made with, and that it gives as many passes as it was made for; and what only others do. */
+static void rings(void)
+{
+    const uint64_t laps = ((uint64_t)1 << 41) - 1, values[] = {1, 2};
+    lockfree_handle root = {0}, passes[5] = {0}, none = {0};
+    uint64_t value = 0;
+    CHECK(lockfree_ring_new(&root, 0, 4) == LOCKFREE_BAD_CAPACITY && lockfree_ring_new(&root, 8, 1) == LOCKFREE_BAD_CAPACITY);
+    CHECK(lockfree_ring_new(&root, 8, 65536) == LOCKFREE_BAD_CAPACITY && lockfree_ring_new(&root, 1048574, 2) == LOCKFREE_BAD_CAPACITY);
+    CHECK(lockfree_ring_limited(&root, 8, 0, 4) == LOCKFREE_BAD_CAPACITY && lockfree_ring_limited(&root, 8, laps + 1, 4) == LOCKFREE_BAD_CAPACITY);
+    CHECK(lockfree_ring_new(&root, 1048573, 2) == LOCKFREE_OK && lockfree_free(&root) == LOCKFREE_OK);
+    CHECK(lockfree_ring_new(&root, 1, 65535) == LOCKFREE_OK && lockfree_free(&root) == LOCKFREE_OK);
+    CHECK(lockfree_ring_limited(&root, 2, laps, 5) == LOCKFREE_OK && lockfree_ring_new(&root, 2, 5) == LOCKFREE_IN_USE);
+    for (int i = 0; i < 5; i++)
+        CHECK(lockfree_split(&root, &passes[i]) == LOCKFREE_OK);
+    CHECK(lockfree_split(&root, &none) == LOCKFREE_NO_PASS && !none.full);
+    for (uint64_t i = 0; i < 5000; i++) { /* each pass brings its cell, and gets another */
+        CHECK(lockfree_push(&passes[i % 5], i) == LOCKFREE_OK && lockfree_number(&passes[i % 5]).value == i);
+        CHECK(lockfree_pop(&passes[i / 3 % 5], &value) == LOCKFREE_OK && value == i && lockfree_number(&passes[i / 3 % 5]).value == i);
+    }
+    CHECK(lockfree_fold(&passes[0], false, 9).code == LOCKFREE_OTHER_HANDLE && lockfree_range_add(&passes[0], 1) == LOCKFREE_OTHER_HANDLE);
+    CHECK(lockfree_range_put(&passes[0], 9).code == LOCKFREE_OTHER_HANDLE && lockfree_put_range(&passes[0], values, 2, 9).code == LOCKFREE_OTHER_HANDLE);
+    CHECK(lockfree_gauge(&passes[0], 9).code == LOCKFREE_OTHER_HANDLE && lockfree_count(&passes[0], 9).code == LOCKFREE_OTHER_HANDLE);
+    CHECK(lockfree_look(&passes[0], 9).code == LOCKFREE_EMPTY && lockfree_go_on(&passes[0], 9).code == LOCKFREE_NO_CALL);
+    for (int i = 0; i < 5; i++)
+        CHECK(lockfree_free(&passes[i]) == LOCKFREE_OK);
+    CHECK(lockfree_split(&root, &none) == LOCKFREE_NO_PASS && lockfree_free(&root) == LOCKFREE_OK); /* they are not given again */
+}
+
 typedef uint32_t make_limited(lockfree_handle *root, uint32_t capacity, uint64_t tag_limit);
 
 /* The wear of a container whose tags come to their end: what was put, or put and taken, and no more than the limit. */
@@ -196,7 +227,7 @@ struct counter {
     lockfree_handle pass;
     uint64_t most;
     int *ended;
-    bool counts;
+    bool counts, gauges;
 };
 
 /* What is worn beside other threads is never less than before, nor is it open again. A gauge may have to begin again. */
@@ -219,7 +250,8 @@ static void *counts_on(void *at)
     struct counter *counter = at;
     lockfree_answer last = {0};
     while (!__atomic_load_n(counter->ended, __ATOMIC_RELAXED)) {
-        gauges_again(&counter->pass, &last);
+        if (counter->gauges)
+            gauges_again(&counter->pass, &last);
         if (!counter->counts)
             continue;
         lockfree_answer count = lockfree_count(&counter->pass, 0);
@@ -239,7 +271,8 @@ static void many_threads(make_new *make, uint32_t capacity, int first_out)
     lockfree_handle root = {0}, closing = {0};
     struct work works[2 * SIDES] = {0};
     int ended = 0;
-    struct counter counter = {{0}, capacity, &ended, first_out};
+    const bool ring = make == ring_new;
+    struct counter counter = {{0}, capacity, &ended, first_out && !ring, !ring};
     pthread_t threads[2 * SIDES], counting_thread;
     seen = calloc(SIDES, EACH);
     CHECK(seen && make(&root, capacity) == LOCKFREE_OK && lockfree_split(&root, &closing) == LOCKFREE_OK);
@@ -262,8 +295,10 @@ static void many_threads(make_new *make, uint32_t capacity, int first_out)
     }
     CHECK(count == (uint64_t)SIDES * EACH);
     __atomic_store_n(&ended, 1, __ATOMIC_RELAXED);
-    CHECK(pthread_join(counting_thread, NULL) == 0 && (!first_out || lockfree_count(&counter.pass, 9).value == 0));
-    CHECK(lockfree_is_closed(&counter.pass) && lockfree_wear(&counter.pass) == (first_out ? 1u : 2u) * SIDES * EACH);
+    CHECK(pthread_join(counting_thread, NULL) == 0 && (!counter.counts || lockfree_count(&counter.pass, 9).value == 0));
+    CHECK(lockfree_look(&counter.pass, 9).code == LOCKFREE_EMPTY);
+    if (counter.gauges)
+        CHECK(lockfree_is_closed(&counter.pass) && lockfree_wear(&counter.pass) == (first_out ? 1u : 2u) * SIDES * EACH);
     for (int i = 0; i < 2 * SIDES; i++)
         CHECK(lockfree_free(&works[i].pass) == LOCKFREE_OK);
     CHECK(lockfree_free(&closing) == LOCKFREE_OK && lockfree_free(&counter.pass) == LOCKFREE_OK);
@@ -546,18 +581,21 @@ static void ranges_of_many_threads(void)
 
 int main(void)
 {
-    make_new *const makes[] = {lockfree_queue_new, lockfree_stack_new};
+    make_new *const makes[] = {lockfree_queue_new, lockfree_stack_new, ring_new};
     make_limited *const limited[] = {lockfree_queue_limited, lockfree_stack_limited};
-    for (int i = 0; i < 2; i++) {
+    for (int i = 0; i < 3; i++) {
         codes_of_handles(makes[i]);
-        codes_of_calls(makes[i], i == 0);
-        gauging(makes[i], i == 0 ? 0 : 1);
-        gauging_to_the_end(limited[i], i == 0 ? 0 : 1);
+        codes_of_calls(makes[i], i != 1);
         refused_memory(makes[i]);
         consuming(makes[i]);
-        many_threads(makes[i], 64, i == 0);
-        many_threads(makes[i], 3, i == 0);
+        many_threads(makes[i], 64, i != 1);
+        many_threads(makes[i], 3, i != 1);
     }
+    for (int i = 0; i < 2; i++) {
+        gauging(makes[i], i == 0 ? 0 : 1);
+        gauging_to_the_end(limited[i], i == 0 ? 0 : 1);
+    }
+    rings();
     counting();
     folding(false);
     folding(true);

@@ -44,6 +44,29 @@ static void spent_queue(uint64_t behind)
     CHECK(lockfree_finish(&root).code == LOCKFREE_EMPTY && lockfree_free(&root) == LOCKFREE_OK);
 }
 
+/* A ring of n slots, each of which can be filled so often, takes n * laps values in its life; then each put is refused, and
+ * takes go on. What is left comes out by its end. */
+static void spent_ring(uint64_t laps)
+{
+    enum { SLOTS = 3 };
+    lockfree_handle root = {0}, pass = {0}, other = {0};
+    uint64_t value = 0, puts = 0;
+    lockfree_answer put;
+    CHECK(lockfree_ring_limited(&root, SLOTS, laps, 2) == LOCKFREE_OK && lockfree_split(&root, &pass) == LOCKFREE_OK && lockfree_split(&root, &other) == LOCKFREE_OK);
+    while ((put = lockfree_put(puts % 2 ? &pass : &other, puts, 9)).code == LOCKFREE_OK) {
+        CHECK(put.value == puts++);
+        if (puts > 2)
+            CHECK(lockfree_pop(&pass, &value) == LOCKFREE_OK && value == puts - 3);
+    }
+    CHECK(put.code == LOCKFREE_SPENT && put.value == 2 * laps && puts == SLOTS * laps);
+    CHECK(lockfree_push(&pass, 1) == LOCKFREE_SPENT && lockfree_number(&pass).value == 0 && lockfree_look(&other, 9).code == LOCKFREE_OK);
+    CHECK(lockfree_pop(&other, &value) == LOCKFREE_OK && value == puts - 2 && lockfree_push(&other, 1) == LOCKFREE_SPENT);
+    CHECK(lockfree_close(&other, 9).code == LOCKFREE_OK && lockfree_push(&other, 1) == LOCKFREE_CLOSED);
+    lockfree_free(&pass), lockfree_free(&other);
+    CHECK((put = lockfree_finish(&root)).code == LOCKFREE_VALUE && put.value == puts - 1);
+    CHECK(lockfree_finish(&root).code == LOCKFREE_EMPTY && lockfree_free(&root) == LOCKFREE_OK);
+}
+
 /* A stack of limit n makes n puts and takes in all. What is left comes out by its end alone. */
 static void spent_stack(void)
 {
@@ -65,12 +88,16 @@ static void spent_stack(void)
     CHECK(lockfree_finish(&root).code == LOCKFREE_EMPTY && lockfree_free(&root) == LOCKFREE_OK);
 }
 
-static void numbers(bool stack)
+typedef uint32_t make_new(lockfree_handle *root, uint32_t capacity);
+
+static uint32_t ring_new(lockfree_handle *root, uint32_t capacity) { return lockfree_ring_new(root, capacity, 8); }
+
+static void numbers(make_new *make, bool stack)
 {
     lockfree_handle root = {0}, a = {0}, b = {0};
     uint64_t value = 0;
     CHECK(lockfree_number(&a).code == LOCKFREE_NO_HANDLE);
-    CHECK((stack ? lockfree_stack_new : lockfree_queue_new)(&root, 4) == LOCKFREE_OK);
+    CHECK(make(&root, 4) == LOCKFREE_OK);
     CHECK(lockfree_split(&root, &a) == LOCKFREE_OK && lockfree_split(&root, &b) == LOCKFREE_OK);
     CHECK(lockfree_number(&root).code == LOCKFREE_OTHER_HANDLE && lockfree_number(&a).code == LOCKFREE_OK && lockfree_number(&a).value == 0);
     CHECK(lockfree_push(&a, 1) == LOCKFREE_OK && lockfree_push(&b, 2) == LOCKFREE_OK);
@@ -82,12 +109,12 @@ static void numbers(bool stack)
 }
 
 /* Who else has the container; and then what is left, as often as one asks. */
-static void finishing(bool stack)
+static void finishing(make_new *make, bool stack)
 {
     lockfree_handle root = {0}, a = {0}, b = {0};
     lockfree_answer answer;
     CHECK(lockfree_finish(&root).code == LOCKFREE_NO_HANDLE);
-    CHECK((stack ? lockfree_stack_new : lockfree_queue_new)(&root, 8) == LOCKFREE_OK);
+    CHECK(make(&root, 8) == LOCKFREE_OK);
     CHECK(lockfree_split(&root, &a) == LOCKFREE_OK && lockfree_split(&root, &b) == LOCKFREE_OK);
     CHECK(lockfree_finish(&a).code == LOCKFREE_OTHER_HANDLE);
     for (uint64_t i = 1; i <= 5; i++)
@@ -139,9 +166,12 @@ int main(void)
     spent_queue(0);
     spent_queue(3);
     spent_stack();
-    for (int stack = 0; stack < 2; stack++) {
-        numbers(stack);
-        finishing(stack);
+    spent_ring(1);
+    spent_ring(1000);
+    make_new *const makes[] = {lockfree_queue_new, lockfree_stack_new, ring_new};
+    for (int i = 0; i < 3; i++) {
+        numbers(makes[i], i == 1);
+        finishing(makes[i], i == 1);
     }
     finishing_after_a_fold();
     puts("passed");

@@ -12,8 +12,9 @@ enum { SLOTS = 6, CALLS = 60, MOST = 6, ADDED = 9 };
 
 /* A container as C has to see it: its values from the end where they are taken. */
 struct model {
-    bool stack;
+    bool stack, ring;
     uint32_t capacity;
+    uint32_t passes; /* that a ring has yet to give */
     uint64_t values[MOST];
     uint32_t size;
     uint32_t held; /* cells that a fold holds */
@@ -109,14 +110,18 @@ static void forget(struct slot *slot)
     slot->of = NULL;
 }
 
+enum { PASSES = 4 };
+
 static void make(struct slot *slot)
 {
-    bool stack = below(2);
+    uint64_t which = below(3);
+    bool stack = which == 1, ring = which == 2;
     uint32_t capacity = (uint32_t)below(MOST + 1);
     struct model *m = calloc(1, sizeof *m);
     CHECK(m);
     may_refuse();
-    uint32_t code = stack ? lockfree_stack_new(&slot->handle, capacity) : lockfree_queue_new(&slot->handle, capacity);
+    uint32_t code = ring ? lockfree_ring_new(&slot->handle, capacity, PASSES)
+                         : (stack ? lockfree_stack_new : lockfree_queue_new)(&slot->handle, capacity);
     bool none = was_refused();
     if (slot->kind != NONE || capacity == 0 || none) {
         CHECK(code == (slot->kind != NONE ? LOCKFREE_IN_USE : capacity == 0 ? LOCKFREE_BAD_CAPACITY : LOCKFREE_NO_MEMORY));
@@ -124,7 +129,7 @@ static void make(struct slot *slot)
         return;
     }
     CHECK(code == LOCKFREE_OK);
-    m->stack = stack, m->capacity = capacity, m->handles = 1;
+    m->stack = stack, m->ring = ring, m->passes = PASSES, m->capacity = capacity, m->handles = 1;
     slot->kind = ROOT, slot->of = m;
 }
 
@@ -140,7 +145,12 @@ static void split(struct slot *root)
         CHECK(code == (pass->kind != NONE ? LOCKFREE_IN_USE : root->kind == NONE ? LOCKFREE_NO_HANDLE : none ? LOCKFREE_NO_MEMORY : LOCKFREE_OTHER_HANDLE));
         return;
     }
+    if (root->of->ring && root->of->passes == 0) {
+        CHECK(code == LOCKFREE_NO_PASS);
+        return;
+    }
     CHECK(code == LOCKFREE_OK);
+    root->of->passes -= root->of->ring;
     pass->kind = PASS, pass->of = root->of, pass->number = 0;
     root->of->handles++;
 }
@@ -340,7 +350,7 @@ static void put_array(struct slot *slot)
 static void count(struct slot *slot)
 {
     uint32_t why = refusal(slot, false);
-    why = why == LOCKFREE_OK && slot->of->stack ? (uint32_t)LOCKFREE_OTHER_HANDLE : why;
+    why = why == LOCKFREE_OK && (slot->of->stack || slot->of->ring) ? (uint32_t)LOCKFREE_OTHER_HANDLE : why;
     may_refuse();
     is(lockfree_count(&slot->handle, below(3)), why, why == LOCKFREE_OK ? slot->of->size : 0);
     slot->number = why == LOCKFREE_OK ? 0 : slot->number;
@@ -350,6 +360,7 @@ static void gauge(struct slot *slot)
 {
     const struct model *m = slot->of;
     uint32_t why = refusal(slot, false);
+    why = why == LOCKFREE_OK && m->ring ? (uint32_t)LOCKFREE_OTHER_HANDLE : why;
     may_refuse();
     lockfree_answer answer = lockfree_gauge(&slot->handle, below(3));
     if (why != LOCKFREE_OK) {

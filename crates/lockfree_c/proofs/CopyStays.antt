@@ -14,14 +14,14 @@ use Rattle.lockfree_c.specs.Held.{CopyLeft, IsHeld, IsStackCopy, RangeMade, Stac
 use Rattle.lockfree_c.specs.declared.answers.Answer.{Answer}
 use Rattle.lockfree_c.specs.declared.answers.TheConstants.{UNDER_WAY}
 use Rattle.lockfree_c.specs.declared.held.Held.{Held}
-use Rattle.lockfree_c.specs.declared.held.Held.TheVariants.{Nothing, QueueRoot as OfQueueRoot, QueuePass as OfQueuePass, QueueCount as OfQueueCount, QueueGauge as OfQueueGauge, StackRoot as OfStackRoot, StackPass as OfStackPass, StackFold as OfStackFold, StackRange as OfStackRange, StackRangePut as OfStackRangePut, StackCopy as OfStackCopy, QueueRest as OfQueueRest, StackRest as OfStackRest}
+use Rattle.lockfree_c.specs.declared.held.Held.TheVariants.{Nothing, QueueRoot as OfQueueRoot, QueuePass as OfQueuePass, QueueCount as OfQueueCount, QueueGauge as OfQueueGauge, StackRoot as OfStackRoot, StackPass as OfStackPass, StackFold as OfStackFold, StackRange as OfStackRange, StackRangePut as OfStackRangePut, StackCopy as OfStackCopy, RingRoot as OfRingRoot, RingPass as OfRingPass, QueueRest as OfQueueRest, StackRest as OfStackRest, RingRest as OfRingRest}
 use Rattle.lockfree_c.specs.declared.held.StackCopy.{StackCopy}
-use Rattle.lockfree_c.specs.declared.held.StackPass.{StackPass}
+use Rattle.lockfree_c.specs.Kinds.{StackPass}
 use Rattle.lockfree_c.proofs.FoldStays.{comes_to_rest}
 
 module _ (c : Stack ℕ) (values : List ℕ) where
-  goes_on : (op : RangeOp ℕ) (k : StackCopy) → IsCopying c values op → k.stack.value ≡ c → k.op ≡ op → IsStackCopy k
-  goes_on op k is same_stack same_op = (values, subst (λ o. IsCopying k.stack.value values o) (sym same_op) (subst (λ s. IsCopying s values op) (sym same_stack) is))
+  goes_on : (op : RangeOp ℕ) (k : StackCopy) → IsCopying c values op → k.container.value ≡ c → k.op ≡ op → IsStackCopy k
+  goes_on op k is same_stack same_op = (values, subst (λ o. IsCopying k.container.value values o) (sym same_op) (subst (λ s. IsCopying s values op) (sym same_stack) is))
 
   pub copy_stays : (begun : PassView ℕ) (made : RangeMade) (g : Held) (a : Answer) → CopyTried c values begun made → CopyLeft c made g a → IsHeld g
   copy_stays begun (Again op) (OfStackCopy k) a tried left = goes_on op k tried.0 left.0 left.1
@@ -38,6 +38,9 @@ module _ (c : Stack ℕ) (values : List ℕ) where
   copy_stays begun (Again op) (OfStackRangePut r) a tried left = absurd left
   copy_stays begun (Again op) (OfQueueRest r) a tried left = absurd left
   copy_stays begun (Again op) (OfStackRest r) a tried left = absurd left
+  copy_stays begun (Again op) (OfRingRoot r) a tried left = absurd left
+  copy_stays begun (Again op) (OfRingPass p) a tried left = absurd left
+  copy_stays begun (Again op) (OfRingRest r) a tried left = absurd left
   copy_stays begun (Done back said) Nothing a tried left = absurd left
   copy_stays begun (Done back said) (OfQueueRoot r) a tried left = absurd left
   copy_stays begun (Done back said) (OfQueuePass p) a tried left = absurd left
@@ -50,10 +53,13 @@ module _ (c : Stack ℕ) (values : List ℕ) where
   copy_stays begun (Done back said) (OfStackCopy k) a tried left = absurd left
   copy_stays begun (Done back said) (OfQueueRest r) a tried left = absurd left
   copy_stays begun (Done back said) (OfStackRest r) a tried left = absurd left
+  copy_stays begun (Done back said) (OfRingRoot r) a tried left = absurd left
+  copy_stays begun (Done back said) (OfRingPass p) a tried left = absurd left
+  copy_stays begun (Done back said) (OfRingRest r) a tried left = absurd left
 
 -- one that a pass at rest began
 pub copied : (p : StackPass) (by : Pass ℕ (Line ℕ)) (values : List ℕ) (g : Held) (a : Answer) → p.stage.resting ≡ Some by
-    → (made : RangeMade) → CopyTried p.stack.value values (pass_in by) made → CopyLeft p.stack.value made g a → StackCopied p values g a
+    → (made : RangeMade) → CopyTried p.container.value values (pass_in by) made → CopyLeft p.container.value made g a → StackCopied p values g a
 copied p by values g a rests made tried left =
-    subst (λ x. MatchOption x ((a ≡ bare UNDER_WAY) × (g ≡ OfStackPass p)) (λ b. (m : RangeMade) × CopyTried p.stack.value values (pass_in b) m × CopyLeft p.stack.value m g a))
+    subst (λ x. MatchOption x ((a ≡ bare UNDER_WAY) × (g ≡ OfStackPass p)) (λ b. (m : RangeMade) × CopyTried p.container.value values (pass_in b) m × CopyLeft p.container.value m g a))
     (sym rests) (made, tried, left)

@@ -19,18 +19,18 @@ use Rattle.lockfree_c.specs.Stages.{Rests}
 use Rattle.lockfree_c.specs.declared.answers.Answer.{Answer}
 use Rattle.lockfree_c.specs.declared.answers.TheConstants.{UNDER_WAY}
 use Rattle.lockfree_c.specs.declared.held.Held.{Held}
-use Rattle.lockfree_c.specs.declared.held.Held.TheVariants.{Nothing, QueueRoot as OfQueueRoot, QueuePass as OfQueuePass, QueueCount as OfQueueCount, QueueGauge as OfQueueGauge, StackRoot as OfStackRoot, StackPass as OfStackPass, StackFold as OfStackFold, StackRange as OfStackRange, StackRangePut as OfStackRangePut, StackCopy as OfStackCopy, QueueRest as OfQueueRest, StackRest as OfStackRest}
+use Rattle.lockfree_c.specs.declared.held.Held.TheVariants.{Nothing, QueueRoot as OfQueueRoot, QueuePass as OfQueuePass, QueueCount as OfQueueCount, QueueGauge as OfQueueGauge, StackRoot as OfStackRoot, StackPass as OfStackPass, StackFold as OfStackFold, StackRange as OfStackRange, StackRangePut as OfStackRangePut, StackCopy as OfStackCopy, RingRoot as OfRingRoot, RingPass as OfRingPass, QueueRest as OfQueueRest, StackRest as OfStackRest, RingRest as OfRingRest}
 use Rattle.lockfree_c.specs.declared.held.QueueCount.{QueueCount}
-use Rattle.lockfree_c.specs.declared.held.QueuePass.{QueuePass}
+use Rattle.lockfree_c.specs.Kinds.{QueuePass}
 use Rattle.lockfree_c.proofs.Stays.{At}
 
 module _ (c : Queue ℕ) where
-  pub comes_to_rest : (back : Pass ℕ (Line ℕ)) (p : QueuePass) → IsPassOf c back → p.queue.value ≡ c → Rests p.stage back 0 → IsQueuePass p
+  pub comes_to_rest : (back : Pass ℕ (Line ℕ)) (p : QueuePass) → IsPassOf c back → p.container.value ≡ c → Rests p.stage back 0 → IsQueuePass p
   comes_to_rest back p is same rests =
-      subst (λ x. At (queue_reading p.queue.value) x p.stage.under_way) (sym rests.0) (subst (λ q. IsPassOf q back) (sym same) is, rests.1)
+      subst (λ x. At (queue_reading p.container.value) x p.stage.under_way) (sym rests.0) (subst (λ q. IsPassOf q back) (sym same) is, rests.1)
 
-  goes_on : (op : LenOp ℕ) (k : QueueCount) → IsCounting c op → k.queue.value ≡ c → k.op ≡ op → IsQueueCount k
-  goes_on op k is same_queue same_op = subst (λ o. IsCounting k.queue.value o) (sym same_op) (subst (λ q. IsCounting q op) (sym same_queue) is)
+  goes_on : (op : LenOp ℕ) (k : QueueCount) → IsCounting c op → k.container.value ≡ c → k.op ≡ op → IsQueueCount k
+  goes_on op k is same_queue same_op = subst (λ o. IsCounting k.container.value o) (sym same_op) (subst (λ q. IsCounting q op) (sym same_queue) is)
 
   pub count_stays : (begun : PassView ℕ) (made : CountMade) (g : Held) (a : Answer) → LenTried c begun made → CountLeft c made g a → IsHeld g
   count_stays begun (Again op) (OfQueueCount k) a tried left = goes_on op k tried.0 left.0 left.1
@@ -47,6 +47,9 @@ module _ (c : Queue ℕ) where
   count_stays begun (Again op) (OfStackRangePut r) a tried left = absurd left
   count_stays begun (Again op) (OfQueueRest r) a tried left = absurd left
   count_stays begun (Again op) (OfStackRest r) a tried left = absurd left
+  count_stays begun (Again op) (OfRingRoot r) a tried left = absurd left
+  count_stays begun (Again op) (OfRingPass p) a tried left = absurd left
+  count_stays begun (Again op) (OfRingRest r) a tried left = absurd left
   count_stays begun (Done back n) Nothing a tried left = absurd left
   count_stays begun (Done back n) (OfQueueRoot r) a tried left = absurd left
   count_stays begun (Done back n) (OfQueueCount k) a tried left = absurd left
@@ -59,6 +62,9 @@ module _ (c : Queue ℕ) where
   count_stays begun (Done back n) (OfStackRangePut r) a tried left = absurd left
   count_stays begun (Done back n) (OfQueueRest r) a tried left = absurd left
   count_stays begun (Done back n) (OfStackRest r) a tried left = absurd left
+  count_stays begun (Done back n) (OfRingRoot r) a tried left = absurd left
+  count_stays begun (Done back n) (OfRingPass p) a tried left = absurd left
+  count_stays begun (Done back n) (OfRingRest r) a tried left = absurd left
 
 -- some steps of a count
 abbrev pub Ran : Queue ℕ → ℕ → LenOp ℕ → CountMade → Type 0
@@ -70,7 +76,7 @@ counts_on c n op (Done back k) ran = (ran.0, ran.1)
 
 -- a count that a pass at rest began
 pub counted : (p : QueuePass) (by : Pass ℕ (Line ℕ)) (g : Held) (a : Answer) → p.stage.resting ≡ Some by
-    → (made : CountMade) → LenTried p.queue.value (pass_in by) made → CountLeft p.queue.value made g a → QueueCounted p g a
+    → (made : CountMade) → LenTried p.container.value (pass_in by) made → CountLeft p.container.value made g a → QueueCounted p g a
 counted p by g a rests made tried left =
-    subst (λ x. MatchOption x ((a ≡ bare UNDER_WAY) × (g ≡ OfQueuePass p)) (λ b. (m : CountMade) × LenTried p.queue.value (pass_in b) m × CountLeft p.queue.value m g a))
+    subst (λ x. MatchOption x ((a ≡ bare UNDER_WAY) × (g ≡ OfQueuePass p)) (λ b. (m : CountMade) × LenTried p.container.value (pass_in b) m × CountLeft p.container.value m g a))
     (sym rests) (made, tried, left)

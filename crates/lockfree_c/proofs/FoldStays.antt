@@ -19,20 +19,20 @@ use Rattle.lockfree_c.specs.Stages.{Rests}
 use Rattle.lockfree_c.specs.declared.answers.Answer.{Answer}
 use Rattle.lockfree_c.specs.declared.answers.TheConstants.{UNDER_WAY}
 use Rattle.lockfree_c.specs.declared.held.Held.{Held}
-use Rattle.lockfree_c.specs.declared.held.Held.TheVariants.{Nothing, QueueRoot as OfQueueRoot, QueuePass as OfQueuePass, QueueCount as OfQueueCount, QueueGauge as OfQueueGauge, StackRoot as OfStackRoot, StackPass as OfStackPass, StackFold as OfStackFold, StackRange as OfStackRange, StackRangePut as OfStackRangePut, StackCopy as OfStackCopy, QueueRest as OfQueueRest, StackRest as OfStackRest}
+use Rattle.lockfree_c.specs.declared.held.Held.TheVariants.{Nothing, QueueRoot as OfQueueRoot, QueuePass as OfQueuePass, QueueCount as OfQueueCount, QueueGauge as OfQueueGauge, StackRoot as OfStackRoot, StackPass as OfStackPass, StackFold as OfStackFold, StackRange as OfStackRange, StackRangePut as OfStackRangePut, StackCopy as OfStackCopy, RingRoot as OfRingRoot, RingPass as OfRingPass, QueueRest as OfQueueRest, StackRest as OfStackRest, RingRest as OfRingRest}
 use Rattle.lockfree_c.specs.declared.held.StackFold.{StackFold}
-use Rattle.lockfree_c.specs.declared.held.StackPass.{StackPass}
+use Rattle.lockfree_c.specs.Kinds.{StackPass}
 use Rattle.lockfree_c.proofs.Stays.{At}
 
 -- a stack's pass that rests
-pub comes_to_rest : (c : Stack ℕ) (back : Pass ℕ (Line ℕ)) (n : ℕ) (p : StackPass) → IsPassOf c back → p.stack.value ≡ c → Rests p.stage back n → IsStackPass p
+pub comes_to_rest : (c : Stack ℕ) (back : Pass ℕ (Line ℕ)) (n : ℕ) (p : StackPass) → IsPassOf c back → p.container.value ≡ c → Rests p.stage back n → IsStackPass p
 comes_to_rest c back n p is same rests =
-    subst (λ x. At (stack_reading p.stack.value) x p.stage.under_way) (sym rests.0) (subst (λ s. IsPassOf s back) (sym same) is, rests.1)
+    subst (λ x. At (stack_reading p.container.value) x p.stage.under_way) (sym rests.0) (subst (λ s. IsPassOf s back) (sym same) is, rests.1)
 
 module _ (c : Stack ℕ) (front : Front) where
-  goes_on : (values : List ℕ) (op : FoldOp ℕ) (f : StackFold) → IsFolding c front values op → f.stack.value ≡ c → f.op ≡ op → IsStackFold f
+  goes_on : (values : List ℕ) (op : FoldOp ℕ) (f : StackFold) → IsFolding c front values op → f.container.value ≡ c → f.op ≡ op → IsStackFold f
   goes_on values op f is same_stack same_op =
-      (front, values, subst (λ o. IsFolding f.stack.value front values o) (sym same_op) (subst (λ s. IsFolding s front values op) (sym same_stack) is))
+      (front, values, subst (λ o. IsFolding f.container.value front values o) (sym same_op) (subst (λ s. IsFolding s front values op) (sym same_stack) is))
 
   pub fold_stays : (values : List ℕ) (begun : PassView ℕ) (made : FoldMade ℕ) (g : Held) (a : Answer) → FoldTried c front values begun made → FoldLeft c made g a → IsHeld g
   fold_stays values begun (Again op) (OfStackFold f) a tried left = goes_on values op f tried.0 left.0 left.1
@@ -50,6 +50,9 @@ module _ (c : Stack ℕ) (front : Front) where
   fold_stays values begun (Again op) (OfStackRangePut r) a tried left = absurd left
   fold_stays values begun (Again op) (OfQueueRest r) a tried left = absurd left
   fold_stays values begun (Again op) (OfStackRest r) a tried left = absurd left
+  fold_stays values begun (Again op) (OfRingRoot r) a tried left = absurd left
+  fold_stays values begun (Again op) (OfRingPass p) a tried left = absurd left
+  fold_stays values begun (Again op) (OfRingRest r) a tried left = absurd left
   fold_stays values begun (Value x op) Nothing a tried left = absurd left
   fold_stays values begun (Value x op) (OfQueueRoot r) a tried left = absurd left
   fold_stays values begun (Value x op) (OfQueuePass p) a tried left = absurd left
@@ -62,6 +65,9 @@ module _ (c : Stack ℕ) (front : Front) where
   fold_stays values begun (Value x op) (OfStackRangePut r) a tried left = absurd left
   fold_stays values begun (Value x op) (OfQueueRest r) a tried left = absurd left
   fold_stays values begun (Value x op) (OfStackRest r) a tried left = absurd left
+  fold_stays values begun (Value x op) (OfRingRoot r) a tried left = absurd left
+  fold_stays values begun (Value x op) (OfRingPass p) a tried left = absurd left
+  fold_stays values begun (Value x op) (OfRingRest r) a tried left = absurd left
   fold_stays values begun (Done back said) Nothing a tried left = absurd left
   fold_stays values begun (Done back said) (OfQueueRoot r) a tried left = absurd left
   fold_stays values begun (Done back said) (OfQueuePass p) a tried left = absurd left
@@ -74,10 +80,13 @@ module _ (c : Stack ℕ) (front : Front) where
   fold_stays values begun (Done back said) (OfStackRangePut r) a tried left = absurd left
   fold_stays values begun (Done back said) (OfQueueRest r) a tried left = absurd left
   fold_stays values begun (Done back said) (OfStackRest r) a tried left = absurd left
+  fold_stays values begun (Done back said) (OfRingRoot r) a tried left = absurd left
+  fold_stays values begun (Done back said) (OfRingPass p) a tried left = absurd left
+  fold_stays values begun (Done back said) (OfRingRest r) a tried left = absurd left
 
 -- a fold that a pass at rest began
 pub folded : (p : StackPass) (by : Pass ℕ (Line ℕ)) (front : Front) (g : Held) (a : Answer) → p.stage.resting ≡ Some by
-    → (made : FoldMade ℕ) → FoldTried p.stack.value front [] (pass_in by) made → FoldLeft p.stack.value made g a → StackFolded p front g a
+    → (made : FoldMade ℕ) → FoldTried p.container.value front [] (pass_in by) made → FoldLeft p.container.value made g a → StackFolded p front g a
 folded p by front g a rests made tried left =
-    subst (λ x. MatchOption x ((a ≡ bare UNDER_WAY) × (g ≡ OfStackPass p)) (λ b. (m : FoldMade ℕ) × FoldTried p.stack.value front [] (pass_in b) m × FoldLeft p.stack.value m g a))
+    subst (λ x. MatchOption x ((a ≡ bare UNDER_WAY) × (g ≡ OfStackPass p)) (λ b. (m : FoldMade ℕ) × FoldTried p.container.value front [] (pass_in b) m × FoldLeft p.container.value m g a))
     (sym rests) (made, tried, left)

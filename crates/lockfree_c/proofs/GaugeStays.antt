@@ -20,15 +20,15 @@ use Rattle.lockfree_c.specs.Stages.{Rests}
 use Rattle.lockfree_c.specs.declared.answers.Answer.{Answer}
 use Rattle.lockfree_c.specs.declared.answers.TheConstants.{UNDER_WAY}
 use Rattle.lockfree_c.specs.declared.held.Held.{Held}
-use Rattle.lockfree_c.specs.declared.held.Held.TheVariants.{Nothing, QueueRoot as OfQueueRoot, QueuePass as OfQueuePass, QueueCount as OfQueueCount, QueueGauge as OfQueueGauge, StackRoot as OfStackRoot, StackPass as OfStackPass, StackFold as OfStackFold, StackRange as OfStackRange, StackRangePut as OfStackRangePut, StackCopy as OfStackCopy, QueueRest as OfQueueRest, StackRest as OfStackRest}
+use Rattle.lockfree_c.specs.declared.held.Held.TheVariants.{Nothing, QueueRoot as OfQueueRoot, QueuePass as OfQueuePass, QueueCount as OfQueueCount, QueueGauge as OfQueueGauge, StackRoot as OfStackRoot, StackPass as OfStackPass, StackFold as OfStackFold, StackRange as OfStackRange, StackRangePut as OfStackRangePut, StackCopy as OfStackCopy, RingRoot as OfRingRoot, RingPass as OfRingPass, QueueRest as OfQueueRest, StackRest as OfStackRest, RingRest as OfRingRest}
 use Rattle.lockfree_c.specs.declared.held.QueueGauge.{QueueGauge}
-use Rattle.lockfree_c.specs.declared.held.QueuePass.{QueuePass}
-use Rattle.lockfree_c.specs.declared.held.StackPass.{StackPass}
+use Rattle.lockfree_c.specs.Kinds.{QueuePass}
+use Rattle.lockfree_c.specs.Kinds.{StackPass}
 use Rattle.lockfree_c.proofs.CountStays.{comes_to_rest}
 
 module _ (c : Queue ℕ) where
-  goes_on : (op : GaugeOp ℕ) (k : QueueGauge) → IsGauging c op → k.queue.value ≡ c → k.op ≡ op → IsQueueGauge k
-  goes_on op k is same_queue same_op = subst (λ o. IsGauging k.queue.value o) (sym same_op) (subst (λ q. IsGauging q op) (sym same_queue) is)
+  goes_on : (op : GaugeOp ℕ) (k : QueueGauge) → IsGauging c op → k.container.value ≡ c → k.op ≡ op → IsQueueGauge k
+  goes_on op k is same_queue same_op = subst (λ o. IsGauging k.container.value o) (sym same_op) (subst (λ q. IsGauging q op) (sym same_queue) is)
 
   pub gauge_stays : (begun : PassView ℕ) (made : GaugeMade) (g : Held) (a : Answer) → GaugeTried c begun made → GaugeLeft c made g a → IsHeld g
   gauge_stays begun (Again op) (OfQueueGauge k) a tried left = goes_on op k tried.0 left.0 left.1
@@ -45,6 +45,9 @@ module _ (c : Queue ℕ) where
   gauge_stays begun (Again op) (OfStackCopy k) a tried left = absurd left
   gauge_stays begun (Again op) (OfQueueRest r) a tried left = absurd left
   gauge_stays begun (Again op) (OfStackRest r) a tried left = absurd left
+  gauge_stays begun (Again op) (OfRingRoot r) a tried left = absurd left
+  gauge_stays begun (Again op) (OfRingPass p) a tried left = absurd left
+  gauge_stays begun (Again op) (OfRingRest r) a tried left = absurd left
   gauge_stays begun (Done back shown) Nothing a tried left = absurd left
   gauge_stays begun (Done back shown) (OfQueueRoot r) a tried left = absurd left
   gauge_stays begun (Done back shown) (OfQueueCount k) a tried left = absurd left
@@ -57,6 +60,9 @@ module _ (c : Queue ℕ) where
   gauge_stays begun (Done back shown) (OfStackCopy k) a tried left = absurd left
   gauge_stays begun (Done back shown) (OfQueueRest r) a tried left = absurd left
   gauge_stays begun (Done back shown) (OfStackRest r) a tried left = absurd left
+  gauge_stays begun (Done back shown) (OfRingRoot r) a tried left = absurd left
+  gauge_stays begun (Done back shown) (OfRingPass p) a tried left = absurd left
+  gauge_stays begun (Done back shown) (OfRingRest r) a tried left = absurd left
 
 -- some steps of a gauge
 abbrev pub Ran : Queue ℕ → ℕ → GaugeOp ℕ → GaugeMade → Type 0
@@ -68,17 +74,17 @@ gauges_on c n op (Done back shown) ran = (ran.0, ran.1)
 
 -- a gauge that a pass at rest began
 pub gauged : (p : QueuePass) (by : Pass ℕ (Line ℕ)) (g : Held) (a : Answer) → p.stage.resting ≡ Some by
-    → (made : GaugeMade) → GaugeTried p.queue.value (pass_in by) made → GaugeLeft p.queue.value made g a → QueueGauged p g a
+    → (made : GaugeMade) → GaugeTried p.container.value (pass_in by) made → GaugeLeft p.container.value made g a → QueueGauged p g a
 gauged p by g a rests made tried left =
-    subst (λ x. MatchOption x ((a ≡ bare UNDER_WAY) × (g ≡ OfQueuePass p)) (λ b. (m : GaugeMade) × GaugeTried p.queue.value (pass_in b) m × GaugeLeft p.queue.value m g a))
+    subst (λ x. MatchOption x ((a ≡ bare UNDER_WAY) × (g ≡ OfQueuePass p)) (λ b. (m : GaugeMade) × GaugeTried p.container.value (pass_in b) m × GaugeLeft p.container.value m g a))
     (sym rests) (made, tried, left)
 
 -- a stack's, which has no parts
-pub shows : (p q : StackPass) (by : Pass ℕ (of_stack.Line ℕ)) (a : Answer) → Some by ≡ p.stage.resting → q.stack.value ≡ p.stack.value
-    → (back : Pass ℕ (of_stack.Line ℕ)) (shown : stack_gauge.Gauge) → GaugeShows p.stack.value (pass_in by) back shown → Rests q.stage back 0 → SaysGauge shown.closed shown.used a → StackGauged p q a
+pub shows : (p q : StackPass) (by : Pass ℕ (of_stack.Line ℕ)) (a : Answer) → Some by ≡ p.stage.resting → q.container.value ≡ p.container.value
+    → (back : Pass ℕ (of_stack.Line ℕ)) (shown : stack_gauge.Gauge) → GaugeShows p.container.value (pass_in by) back shown → Rests q.stage back 0 → SaysGauge shown.closed shown.used a → StackGauged p q a
 shows p q by a rests same back shown is left says = (
   same,
   subst (λ x. MatchOption x ((a ≡ bare UNDER_WAY) × (q.stage ≡ p.stage))
-      (λ b. (r : Pass ℕ (of_stack.Line ℕ)) × (s : stack_gauge.Gauge) × GaugeShows p.stack.value (pass_in b) r s × Rests q.stage r 0 × SaysGauge s.closed s.used a))
-  rests (back, shown, is, left, says),
+      (λ b. (r : Pass ℕ (of_stack.Line ℕ)) × (s : stack_gauge.Gauge) × GaugeShows p.container.value (pass_in b) r s × Rests q.stage r 0 × SaysGauge s.closed s.used a))
+      rests (back, shown, is, left, says),
 )

@@ -6,3 +6,4 @@ pub mod CountStays
 pub mod FoldStays
 pub mod GaugeStays
 pub mod RangeStays
+pub mod Shared

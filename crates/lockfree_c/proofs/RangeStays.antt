@@ -11,7 +11,7 @@ use Rattle.lockfree_c.specs.Codes.{range_number}
 use Rattle.lockfree_c.specs.Held.{IsHeld, IsStackRangePut, RangeLeft, RangeMade}
 use Rattle.lockfree_c.specs.declared.answers.Answer.{Answer}
 use Rattle.lockfree_c.specs.declared.held.Held.{Held}
-use Rattle.lockfree_c.specs.declared.held.Held.TheVariants.{Nothing, QueueRoot as OfQueueRoot, QueuePass as OfQueuePass, QueueCount as OfQueueCount, QueueGauge as OfQueueGauge, StackRoot as OfStackRoot, StackPass as OfStackPass, StackFold as OfStackFold, StackRange as OfStackRange, StackRangePut as OfStackRangePut, StackCopy as OfStackCopy, QueueRest as OfQueueRest, StackRest as OfStackRest}
+use Rattle.lockfree_c.specs.declared.held.Held.TheVariants.{Nothing, QueueRoot as OfQueueRoot, QueuePass as OfQueuePass, QueueCount as OfQueueCount, QueueGauge as OfQueueGauge, StackRoot as OfStackRoot, StackPass as OfStackPass, StackFold as OfStackFold, StackRange as OfStackRange, StackRangePut as OfStackRangePut, StackCopy as OfStackCopy, RingRoot as OfRingRoot, RingPass as OfRingPass, QueueRest as OfQueueRest, StackRest as OfStackRest, RingRest as OfRingRest}
 use Rattle.lockfree_c.specs.declared.held.StackRangePut.{StackRangePut}
 use Rattle.lockfree_c.proofs.FoldStays.{comes_to_rest}
 
@@ -21,11 +21,11 @@ every_push P [] x all one = (one, tt)
 every_push P (y ∷ ys) x all one = (all.0, every_push P ys x all.1 one)
 
 module _ (c : Stack ℕ) where
-  goes_on : (values : List ℕ) (places : List (Option ℕ)) (op : RangeOp ℕ) (r : StackRangePut) → IsRanging c values places op → r.stack.value ≡ c → r.op ≡ op → r.values.items ≡ places → IsStackRangePut r
+  goes_on : (values : List ℕ) (places : List (Option ℕ)) (op : RangeOp ℕ) (r : StackRangePut) → IsRanging c values places op → r.container.value ≡ c → r.op ≡ op → r.values.items ≡ places → IsStackRangePut r
   goes_on values places op r is same_stack same_op same_places = (
     values,
-    subst (λ ps. IsRanging r.stack.value values ps r.op) (sym same_places)
-        (subst (λ o. IsRanging r.stack.value values places o) (sym same_op) (subst (λ s. IsRanging s values places op) (sym same_stack) is)),
+    subst (λ ps. IsRanging r.container.value values ps r.op) (sym same_places)
+        (subst (λ o. IsRanging r.container.value values places o) (sym same_op) (subst (λ s. IsRanging s values places op) (sym same_stack) is)),
   )
 
   pub range_stays : (values : List ℕ) (begun : PassView ℕ) (places : List (Option ℕ)) (made : RangeMade) (g : Held) (a : Answer) → RangeTried c values begun places made → RangeLeft c places made g a → IsHeld g
@@ -43,6 +43,9 @@ module _ (c : Stack ℕ) where
   range_stays values begun places (Again op) (OfStackCopy k) a tried left = absurd left
   range_stays values begun places (Again op) (OfQueueRest r) a tried left = absurd left
   range_stays values begun places (Again op) (OfStackRest r) a tried left = absurd left
+  range_stays values begun places (Again op) (OfRingRoot r) a tried left = absurd left
+  range_stays values begun places (Again op) (OfRingPass p) a tried left = absurd left
+  range_stays values begun places (Again op) (OfRingRest r) a tried left = absurd left
   range_stays values begun places (Done back said) Nothing a tried left = absurd left
   range_stays values begun places (Done back said) (OfQueueRoot r) a tried left = absurd left
   range_stays values begun places (Done back said) (OfQueuePass p) a tried left = absurd left
@@ -55,3 +58,6 @@ module _ (c : Stack ℕ) where
   range_stays values begun places (Done back said) (OfStackRangePut r) a tried left = absurd left
   range_stays values begun places (Done back said) (OfQueueRest r) a tried left = absurd left
   range_stays values begun places (Done back said) (OfStackRest r) a tried left = absurd left
+  range_stays values begun places (Done back said) (OfRingRoot r) a tried left = absurd left
+  range_stays values begun places (Done back said) (OfRingPass p) a tried left = absurd left
+  range_stays values begun places (Done back said) (OfRingRest r) a tried left = absurd left

@@ -34,5 +34,5 @@ module _ {P O : Type 0} (r : Reading ℕ P O) where
   pub set_out : (call : Command ℕ) (resting : Option P) (op : O) (n : ℕ) → resting ≡ None → r.is_making call op → IsStage r (record { resting = resting; under_way = Some op; number = n })
   set_out call resting op n e making = subst (λ x. At x (Some op)) (sym e) (call, making)
 
-  pub called : (s : Stage P O) (by : P) (call : Command ℕ) (t : Stage P O) (a : Answer) → Some by ≡ s.resting → Tries r (r.pass by) call t a → Called r s call t a
-  called s by call t a rests left = subst (λ x. MatchOption x ((a ≡ bare UNDER_WAY) × (t ≡ s)) (λ p. Tries r (r.pass p) call t a)) rests left
+  pub called : (n : ℕ) (s : Stage P O) (by : P) (call : Command ℕ) (t : Stage P O) (a : Answer) → Some by ≡ s.resting → Tries r n (r.pass by) call t a → Called r n s call t a
+  called n s by call t a rests left = subst (λ x. MatchOption x ((a ≡ bare UNDER_WAY) × (t ≡ s)) (λ p. Tries r n (r.pass p) call t a)) rests left

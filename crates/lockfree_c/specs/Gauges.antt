@@ -24,8 +24,8 @@ use Rattle.lockfree_c.specs.declared.answers.TheConstants.{BUSY, UNDER_WAY}
 use Rattle.lockfree_c.specs.declared.held.Held.{Held}
 use Rattle.lockfree_c.specs.declared.held.Held.TheVariants.{QueuePass as OfQueuePass, QueueGauge as OfQueueGauge, StackPass as OfStackPass}
 use Rattle.lockfree_c.specs.declared.held.QueueGauge.{QueueGauge}
-use Rattle.lockfree_c.specs.declared.held.QueuePass.{QueuePass}
-use Rattle.lockfree_c.specs.declared.held.StackPass.{StackPass}
+use Rattle.lockfree_c.specs.Kinds.{QueuePass}
+use Rattle.lockfree_c.specs.Kinds.{StackPass}
 
 -- A queue's
 
@@ -41,19 +41,19 @@ GaugeTried c v made = MatchStepped made
 
 -- how one that was tried left what is held, and what C was answered; it has no number
 abbrev pub GaugeLeft : Queue ℕ → GaugeMade → Held → Answer → Type 0
-GaugeLeft c (stepped.Again next) (OfQueueGauge k) a = (k.queue.value ≡ c) × (k.op ≡ next) × (a ≡ bare BUSY)
-GaugeLeft c (stepped.Done back shown) (OfQueuePass p) a = (p.queue.value ≡ c) × Rests p.stage back 0 × SaysGauge shown.closed shown.used a
+GaugeLeft c (stepped.Again next) (OfQueueGauge k) a = (k.container.value ≡ c) × (k.op ≡ next) × (a ≡ bare BUSY)
+GaugeLeft c (stepped.Done back shown) (OfQueuePass p) a = (p.container.value ≡ c) × Rests p.stage back 0 × SaysGauge shown.closed shown.used a
 GaugeLeft c made h a = ⊥
 
 -- a gauge of a pass that rests is tried, from what the pass had seen; of one in a call nothing is changed
 abbrev pub QueueGauged : QueuePass → Held → Answer → Type 0
 QueueGauged p g a = MatchOption p.stage.resting
     (Declined UNDER_WAY (OfQueuePass p) g a)
-    (λ by. (made : GaugeMade) × GaugeTried p.queue.value (pass_in by) made × GaugeLeft p.queue.value made g a)
+    (λ by. (made : GaugeMade) × GaugeTried p.container.value (pass_in by) made × GaugeLeft p.container.value made g a)
 
 -- the gauge that is under way is tried further
 abbrev pub GaugeWentOn : QueueGauge → Held → Answer → Type 0
-GaugeWentOn k g a = (made : GaugeMade) × GaugeTried k.queue.value (queue.begun_of k.queue.value k.op.pass) made × GaugeLeft k.queue.value made g a
+GaugeWentOn k g a = (made : GaugeMade) × GaugeTried k.container.value (queue.begun_of k.container.value k.op.pass) made × GaugeLeft k.container.value made g a
 
 -- A stack's
 
@@ -63,10 +63,10 @@ GaugeShows c v back shown = stack.IsPassOf c back × stack_gauging.GaugeGives (s
 
 -- a pass that rests makes one, and has no number then; of one in a call nothing is changed
 abbrev pub StackGauged : StackPass → StackPass → Answer → Type 0
-StackGauged p q a = (q.stack.value ≡ p.stack.value) × MatchOption p.stage.resting
+StackGauged p q a = (q.container.value ≡ p.container.value) × MatchOption p.stage.resting
     ((a ≡ bare UNDER_WAY) × (q.stage ≡ p.stage))
     (λ by. (back : Pass ℕ (of_stack.Line ℕ)) × (shown : stack_gauge.Gauge)
-    × GaugeShows p.stack.value (pass_in by) back shown × Rests q.stage back 0 × SaysGauge shown.closed shown.used a)
+    × GaugeShows p.container.value (pass_in by) back shown × Rests q.stage back 0 × SaysGauge shown.closed shown.used a)
 
 -- The begin of a gauge
 

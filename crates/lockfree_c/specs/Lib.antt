@@ -1,5 +1,7 @@
 pub mod Codes
 pub mod Stages
+pub mod Shares
+pub mod Kinds
 pub mod Refusals
 pub mod Gauges
 pub mod Held

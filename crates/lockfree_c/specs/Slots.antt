@@ -25,14 +25,14 @@ abbrev pub Either : Bool → Type 0 → Type 0 → Type 0
 Either true P Q = P
 Either false P Q = Q
 
-abbrev pub SlotCalled : Slot → Command ℕ → Slot → Answer → Type 0
-SlotCalled s call t a = Either s.full
-    ((t.full ≡ true) × HeldCalled s.handle.held call t.handle.held a)
+abbrev pub SlotCalled : ℕ → Slot → Command ℕ → Slot → Answer → Type 0
+SlotCalled tries s call t a = Either s.full
+    ((t.full ≡ true) × HeldCalled tries s.handle.held call t.handle.held a)
     (IsEmpty t × (a ≡ bare NO_HANDLE))
 
-abbrev pub SlotWentOn : Slot → Slot → Answer → Type 0
-SlotWentOn s t a = Either s.full
-    ((t.full ≡ true) × HeldWentOn s.handle.held t.handle.held a)
+abbrev pub SlotWentOn : ℕ → Slot → Slot → Answer → Type 0
+SlotWentOn tries s t a = Either s.full
+    ((t.full ≡ true) × HeldWentOn tries s.handle.held t.handle.held a)
     (IsEmpty t × (a ≡ bare NO_HANDLE))
 
 abbrev pub SlotCounted : Slot → Slot → Answer → Type 0
@@ -80,13 +80,13 @@ SlotFinished s t a = Either s.full
     ((t.full ≡ true) × HeldFinished s.handle.held t.handle.held a)
     (IsEmpty t × (a ≡ bare NO_HANDLE))
 
--- a new root, of which `IsNew` says what it is; a slot that is full is left as it is
-abbrev pub SlotNew : (Held → Type 0) → ℕ → ℕ → Slot → Slot → ℕ → Type 0
-SlotNew IsNew n l s t code = Either s.full
+-- a new root within these limits, of which `IsNew` says what it is; a slot that is full is left as it is
+abbrev pub SlotNew : (Held → Type 0) → Type 0 → Slot → Slot → ℕ → Type 0
+SlotNew IsNew limits s t code = Either s.full
     ((t ≡ s) × (code ≡ IN_USE))
     ((made : Result Held ℕ) × MatchResult made
     (λ held. Holds t held × IsNew held × (code ≡ OK))
-    (λ why. IsEmpty t × NewRefused n l why × (code ≡ why)))
+    (λ why. IsEmpty t × NewRefused limits why × (code ≡ why)))
 
 -- a pass that a root gives, into a slot that is empty
 abbrev pub SlotSplit : Slot → Slot → Slot → Slot → ℕ → Type 0

@@ -5,7 +5,7 @@ use Rattle.bounded_model.specs.declared.answers.Stepped.TheVariants.{Again, Done
 use Rattle.bounded_model.specs.declared.commands.Command.{Command}
 use Rattle.bounded_model.specs.declared.commands.Reply.{Reply}
 use Rattle.bounded_model.specs.declared.views.PassView.{PassView}
-use Rattle.bounded_calls.specs.Calls.{Reading, MakesSome, TriedFrom}
+use Rattle.bounded_calls.specs.Calls.{Reading, MakesSome, TriedFrom, TookAtLeast, TookFor}
 use Rattle.lockfree_c.specs.Codes.{Says, bare, saying, number_in}
 use Rattle.lockfree_c.specs.declared.answers.Answer.{Answer}
 use Rattle.lockfree_c.specs.declared.answers.TheConstants.{OK, BUSY, UNDER_WAY, NO_CALL}
@@ -32,19 +32,19 @@ module _ {P O : Type 0} where
         (MatchOption s.under_way ⊥ (MakesSome r))
         (λ by. r.is_pass by × (s.under_way ≡ None))
 
-    -- a call that was begun as its pass was is tried
-    abbrev pub Tries : PassView ℕ → Command ℕ → Stage P O → Answer → Type 0
-    Tries begun call t a = (made : Stepped O P (Reply ℕ)) × TriedFrom r begun call made × LeftBy made t a
+    -- a call that was begun as its pass was is tried; if it does not end, for at least n steps
+    abbrev pub Tries : ℕ → PassView ℕ → Command ℕ → Stage P O → Answer → Type 0
+    Tries n begun call t a = (made : Stepped O P (Reply ℕ)) × TriedFrom r begun call made × TookAtLeast r n begun made × LeftBy made t a
 
     -- a call of a pass that rests is tried, from what the pass had seen; of one in a call nothing is changed
-    abbrev pub Called : Stage P O → Command ℕ → Stage P O → Answer → Type 0
-    Called s call t a = MatchOption s.resting
+    abbrev pub Called : ℕ → Stage P O → Command ℕ → Stage P O → Answer → Type 0
+    Called n s call t a = MatchOption s.resting
         ((a ≡ bare UNDER_WAY) × (t ≡ s))
-        (λ by. Tries (r.pass by) call t a)
+        (λ by. Tries n (r.pass by) call t a)
 
-    -- the call that is under way is tried further, whichever it is
-    abbrev pub WentOn : Stage P O → Stage P O → Answer → Type 0
-    WentOn s t a = MatchOption s.under_way
+    -- the call that is under way is tried further, whichever it is: for n steps, or to its end
+    abbrev pub WentOn : ℕ → Stage P O → Stage P O → Answer → Type 0
+    WentOn n s t a = MatchOption s.under_way
         ((a ≡ bare NO_CALL) × (t ≡ s))
         (λ op. (made : Stepped O P (Reply ℕ))
-        × ((call : Command ℕ) → r.is_making call op → TriedFrom r (r.making op).begun call made) × LeftBy made t a)
+        × ((call : Command ℕ) → r.is_making call op → TriedFrom r (r.making op).begun call made) × TookFor r n op made × LeftBy made t a)

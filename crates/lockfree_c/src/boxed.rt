@@ -15,44 +15,19 @@ ghost use Rattle.lockfree_c.specs.Held.{
   HeldSplit,
   HeldWentOn,
   IsHeld,
-  IsNewQueue,
-  IsNewStack,
-  NewRefused,
   front_from,
 };
 
-use crate::answers::{Answer, NO_CALL, NO_MEMORY, OTHER_HANDLE};
-use crate::finish::hand_out;
+use crate::answers::{Answer, NO_CALL, NO_MEMORY, OTHER_HANDLE, SHARED};
+use crate::copying::put_copies_of;
+use crate::count::begin_count;
+use crate::fold::begin_fold;
 use crate::held::Held;
-use crate::queue::{new_queue, split_queue};
-use crate::stack::{new_stack, split_stack};
+use crate::range::{begin_range_of, put_nothing};
+use crate::root::hand_out;
 use bounded_model::Command;
 use std::alloc::Global;
 use std::mem;
-
-/// A new queue's root in a box, or why there is none.
-pub fn boxed_queue(alloc: Global, capacity: u32, tag_limit: u64) -> Result<Box<Held, Global>, u32>
-    ensures { MatchResult result
-        (λ b. IsNewQueue capacity tag_limit b.value) (λ code. NewRefused capacity tag_limit code) }
-{
-    let root = new_queue(alloc, capacity, tag_limit)?;
-    match Box::new(alloc, Held::QueueRoot(root)) {
-        Ok(held) => Ok(held),
-        Err(_) => Err(NO_MEMORY),
-    }
-}
-
-/// A new stack's root in a box, or why there is none.
-pub fn boxed_stack(alloc: Global, capacity: u32, tag_limit: u64) -> Result<Box<Held, Global>, u32>
-    ensures { MatchResult result
-        (λ b. IsNewStack capacity tag_limit b.value) (λ code. NewRefused capacity tag_limit code) }
-{
-    let root = new_stack(alloc, capacity, tag_limit)?;
-    match Box::new(alloc, Held::StackRoot(root)) {
-        Ok(held) => Ok(held),
-        Err(_) => Err(NO_MEMORY),
-    }
-}
 
 // A pass of this root, and the root again.
 fn split(held: Held) -> (Held, Result<Held, u32>)
@@ -62,13 +37,17 @@ fn split(held: Held) -> (Held, Result<Held, u32>)
     ensures gives { HeldSplit held result.0 result.1 }
 {
     match held {
-        Held::QueueRoot(root) => match split_queue(root) {
+        Held::QueueRoot(root) => match root.split() {
             (root, Ok(pass)) => (Held::QueueRoot(root), Ok(Held::QueuePass(pass))),
             (root, Err(code)) => (Held::QueueRoot(root), Err(code)),
         },
-        Held::StackRoot(root) => match split_stack(root) {
+        Held::StackRoot(root) => match root.split() {
             (root, Ok(pass)) => (Held::StackRoot(root), Ok(Held::StackPass(pass))),
             (root, Err(code)) => (Held::StackRoot(root), Err(code)),
+        },
+        Held::RingRoot(root) => match root.split() {
+            (root, Ok(pass)) => (Held::RingRoot(root), Ok(Held::RingPass(pass))),
+            (root, Err(code)) => (Held::RingRoot(root), Err(code)),
         },
         other => (other, Err(OTHER_HANDLE)),
     }
@@ -102,11 +81,12 @@ pub fn split_from(alloc: Global, held: &mut Held) -> Result<Box<Held, Global>, u
 pub fn put_by(held: &mut Held, value: u64, tries: u64) -> Answer
     requires { IsHeld held.old }
     ensures of { IsHeld held.new }
-    ensures gives { HeldCalled held.old (Put value) held.new result }
+    ensures gives { HeldCalled tries held.old (Put value) held.new result }
 {
     match held {
         Held::QueuePass(pass) => pass.put(value, tries),
         Held::StackPass(pass) => pass.put(value, tries),
+        Held::RingPass(pass) => pass.put(value, tries),
         other => Answer::of(other.refusal()),
     }
 }
@@ -116,11 +96,12 @@ pub fn put_by(held: &mut Held, value: u64, tries: u64) -> Answer
 pub fn take_by(held: &mut Held, tries: u64) -> Answer
     requires { IsHeld held.old }
     ensures of { IsHeld held.new }
-    ensures gives { HeldCalled held.old Take held.new result }
+    ensures gives { HeldCalled tries held.old Take held.new result }
 {
     match held {
         Held::QueuePass(pass) => pass.take(tries),
         Held::StackPass(pass) => pass.take(tries),
+        Held::RingPass(pass) => pass.take(tries),
         other => Answer::of(other.refusal()),
     }
 }
@@ -130,11 +111,12 @@ pub fn take_by(held: &mut Held, tries: u64) -> Answer
 pub fn look_by(held: &mut Held, tries: u64) -> Answer
     requires { IsHeld held.old }
     ensures of { IsHeld held.new }
-    ensures gives { HeldCalled held.old Look held.new result }
+    ensures gives { HeldCalled tries held.old Look held.new result }
 {
     match held {
         Held::QueuePass(pass) => pass.look(tries),
-        Held::StackPass(pass) => pass.look(),
+        Held::StackPass(pass) => pass.look(tries),
+        Held::RingPass(pass) => pass.look(tries),
         other => Answer::of(other.refusal()),
     }
 }
@@ -143,11 +125,12 @@ pub fn look_by(held: &mut Held, tries: u64) -> Answer
 pub fn call_by(held: &mut Held, command: Command<u64>, tries: u64) -> Answer
     requires { IsHeld held.old }
     ensures of { IsHeld held.new }
-    ensures gives { HeldCalled held.old command held.new result }
+    ensures gives { HeldCalled tries held.old command held.new result }
 {
     match held {
         Held::QueuePass(pass) => pass.call(command, tries),
         Held::StackPass(pass) => pass.call(command, tries),
+        Held::RingPass(pass) => pass.call(command, tries),
         other => Answer::of(other.refusal()),
     }
 }
@@ -159,7 +142,7 @@ fn fold(held: Held, reversed: bool, tries: u64) -> (Held, Answer)
     ensures gives { HeldFolded held (front_from reversed) result.0 result.1 }
 {
     match held {
-        Held::StackPass(pass) => pass.fold(reversed, tries),
+        Held::StackPass(pass) => begin_fold(pass, reversed, tries),
         other => {
             let answer = Answer::of(other.refusal());
             (other, answer)
@@ -185,7 +168,7 @@ fn count(held: Held, tries: u64) -> (Held, Answer)
     ensures gives { HeldCounted held result.0 result.1 }
 {
     match held {
-        Held::QueuePass(pass) => pass.count(tries),
+        Held::QueuePass(pass) => begin_count(pass, tries),
         other => {
             let answer = Answer::of(other.refusal());
             (other, answer)
@@ -211,7 +194,7 @@ fn begin_range(alloc: Global, held: Held, value: u64) -> (Held, u32)
     ensures gives { HeldBegan held value result.0 result.1 }
 {
     match held {
-        Held::StackPass(pass) => pass.begin_range(alloc, value),
+        Held::StackPass(pass) => begin_range_of(alloc, pass, value),
         other => {
             let code = other.refusal();
             (other, code)
@@ -250,7 +233,7 @@ fn put_range(held: Held, tries: u64) -> (Held, Answer)
     ensures gives { HeldRangePut held result.0 result.1 }
 {
     match held {
-        Held::StackPass(pass) => pass.put_nothing(),
+        Held::StackPass(pass) => put_nothing(pass),
         Held::StackRange(range) => range.put(tries),
         other => {
             let answer = Answer::of(other.refusal());
@@ -278,7 +261,7 @@ fn put_copies(held: Held, values: &[u64], tries: u64) -> (Held, Answer)
     ensures gives { HeldCopied held values.now result.0 result.1 }
 {
     match held {
-        Held::StackPass(pass) => pass.put_copies(values, tries),
+        Held::StackPass(pass) => put_copies_of(pass, values, tries),
         Held::StackCopy(copy) => copy.go_on(values, tries),
         other => {
             let answer = Answer::of(other.refusal());
@@ -303,7 +286,7 @@ pub fn put_copies_by(held: &mut Held, values: &[u64], tries: u64) -> Answer
 fn go_on(held: Held, tries: u64) -> (Held, Answer)
     requires { IsHeld held }
     ensures of { IsHeld result.0 }
-    ensures gives { HeldWentOn held result.0 result.1 }
+    ensures gives { HeldWentOn tries held result.0 result.1 }
 {
     match held {
         Held::QueuePass(pass) => {
@@ -315,6 +298,11 @@ fn go_on(held: Held, tries: u64) -> (Held, Answer)
             let mut pass = pass;
             let answer = pass.go_on(tries);
             (Held::StackPass(pass), answer)
+        }
+        Held::RingPass(pass) => {
+            let mut pass = pass;
+            let answer = pass.go_on(tries);
+            (Held::RingPass(pass), answer)
         }
         Held::QueueCount(count) => count.go_on(tries),
         Held::QueueGauge(gauge) => gauge.go_on(tries),
@@ -330,7 +318,7 @@ fn go_on(held: Held, tries: u64) -> (Held, Answer)
 pub fn go_on_by(held: &mut Held, tries: u64) -> Answer
     requires { IsHeld held.old }
     ensures of { IsHeld held.new }
-    ensures gives { HeldWentOn held.old held.new result }
+    ensures gives { HeldWentOn tries held.old held.new result }
 {
     let (next, answer) = go_on(mem::replace(held, Held::Nothing), tries);
     *held = next;
@@ -344,6 +332,7 @@ pub fn number_by(held: &Held) -> Answer
     match held {
         Held::QueuePass(pass) => pass.stage.number(),
         Held::StackPass(pass) => pass.stage.number(),
+        Held::RingPass(pass) => pass.stage.number(),
         other => Answer::of(other.refusal()),
     }
 }
@@ -355,8 +344,18 @@ fn finish(held: Held) -> (Held, Answer)
     ensures gives { HeldFinished held result.0 result.1 }
 {
     match held {
-        Held::QueueRoot(root) => root.finish(),
-        Held::StackRoot(root) => root.finish(),
+        Held::QueueRoot(root) => match root.finish() {
+            Ok((rest, answer)) => (Held::QueueRest(rest), answer),
+            Err(root) => (Held::QueueRoot(root), Answer::of(SHARED)),
+        },
+        Held::StackRoot(root) => match root.finish() {
+            Ok((rest, answer)) => (Held::StackRest(rest), answer),
+            Err(root) => (Held::StackRoot(root), Answer::of(SHARED)),
+        },
+        Held::RingRoot(root) => match root.finish() {
+            Ok((rest, answer)) => (Held::RingRest(rest), answer),
+            Err(root) => (Held::RingRoot(root), Answer::of(SHARED)),
+        },
         Held::QueueRest(rest) => {
             let mut rest = rest;
             let answer = hand_out(&mut rest);
@@ -366,6 +365,11 @@ fn finish(held: Held) -> (Held, Answer)
             let mut rest = rest;
             let answer = hand_out(&mut rest);
             (Held::StackRest(rest), answer)
+        }
+        Held::RingRest(rest) => {
+            let mut rest = rest;
+            let answer = hand_out(&mut rest);
+            (Held::RingRest(rest), answer)
         }
         other => (other, Answer::of(OTHER_HANDLE)),
     }

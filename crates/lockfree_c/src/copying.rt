@@ -4,6 +4,7 @@ ghost use Rattle.lockfree_c.specs.Held.{CopyLeft, CopyWentOn, IsHeld, IsStackPas
 
 use crate::answers::{Answer, BUSY, UNDER_WAY, number_of_range};
 use crate::held::{Held, StackCopy, StackPass};
+use crate::pass::PassOf;
 use crate::stage::Stage;
 use crate::steps::steps_for;
 use bounded_model::{RangeRefused, Ranged, Stepped};
@@ -13,59 +14,60 @@ use treiber_stack::{Pass, RangeOp, Stack};
 
 // What is held once a put of an array was tried, and the answer.
 fn left(
-    stack: Arc<Stack<u64>, Global>,
+    container: Arc<Stack<u64>, Global>,
     made: Stepped<RangeOp<u64>, Pass<u64>, Result<Ranged, RangeRefused>>,
 ) -> (Held, Answer)
-    ensures { CopyLeft stack.value made result.0 result.1 }
+    ensures { CopyLeft container.value made result.0 result.1 }
 {
     match made {
-        Stepped::Again(op) => (Held::StackCopy(StackCopy { stack, op }), Answer::of(BUSY)),
+        Stepped::Again(op) => (
+            Held::StackCopy(StackCopy { container, op }),
+            Answer::of(BUSY),
+        ),
         Stepped::Done(by, said) => {
             let stage = Stage::of(by, number_of_range(&said));
-            let pass = StackPass { stack, stage };
+            let pass = PassOf { container, stage };
             (Held::StackPass(pass), Answer::of_range(said))
         }
     }
 }
 
-impl StackPass {
-    /// A put of these values as a range; where the pass is in a call already, nothing.
-    pub fn put_copies(self, values: &[u64], tries: u64) -> (Held, Answer)
-        requires { IsStackPass self }
-        ensures of { IsHeld result.0 }
-        ensures gives { StackCopied self values.now result.0 result.1 }
-    {
-        let StackPass { stack, stage } = self;
-        let Stage {
-            resting,
+/// A put of these values as a range; where the pass is in a call already, nothing.
+pub fn put_copies_of(pass: StackPass, values: &[u64], tries: u64) -> (Held, Answer)
+    requires { IsStackPass pass }
+    ensures of { IsHeld result.0 }
+    ensures gives { StackCopied pass values.now result.0 result.1 }
+{
+    let PassOf { container, stage } = pass;
+    let Stage {
+        resting,
+        under_way,
+        number,
+    } = stage;
+    let Some(by) = resting else {
+        let stage = Stage {
+            resting: None,
             under_way,
             number,
-        } = stage;
-        let Some(by) = resting else {
-            let stage = Stage {
-                resting: None,
-                under_way,
-                number,
-            };
-            let pass = StackPass { stack, stage };
-            return (Held::StackPass(pass), Answer::of(UNDER_WAY));
         };
-        match stack.begin_copies(by, values) {
-            Stepped::Again(op) => StackCopy { stack, op }.go_on(values, tries),
-            Stepped::Done(by, said) => left(stack, Stepped::Done(by, said)),
-        }
+        let pass = PassOf { container, stage };
+        return (Held::StackPass(pass), Answer::of(UNDER_WAY));
+    };
+    match container.begin_copies(by, values) {
+        Stepped::Again(op) => StackCopy { container, op }.go_on(values, tries),
+        Stepped::Done(by, said) => left(container, Stepped::Done(by, said)),
     }
 }
 
 impl StackCopy {
     /// Goes on with the put of the values that it was begun with.
     pub fn go_on(self, values: &[u64], tries: u64) -> (Held, Answer)
-        requires { IsCopying self.stack.value values.now self.op }
+        requires { IsCopying self.container.value values.now self.op }
         ensures of { IsHeld result.0 }
         ensures gives { CopyWentOn self values.now result.0 result.1 }
     {
-        let StackCopy { stack, op } = self;
-        let made = op.copy_for(&stack, values, steps_for(tries));
-        left(stack, made)
+        let StackCopy { container, op } = self;
+        let made = op.copy_for(&container, values, steps_for(tries));
+        left(container, made)
     }
 }

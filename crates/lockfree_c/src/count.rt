@@ -11,6 +11,7 @@ ghost use Rattle.lockfree_c.specs.Held.{
 
 use crate::answers::{Answer, BUSY, OK, UNDER_WAY};
 use crate::held::{Held, QueueCount, QueuePass};
+use crate::pass::PassOf;
 use crate::stage::Stage;
 use bounded_model::Stepped;
 use ms_queue::{LenOp, Pass, Queue};
@@ -26,45 +27,49 @@ fn steps_for(tries: u64) -> u64 {
 }
 
 // What is held once a count was tried, and the answer.
-fn left(queue: Arc<Queue<u64>, Global>, made: Stepped<LenOp<u64>, Pass<u64>, u64>) -> (Held, Answer)
-    ensures { CountLeft queue.value made result.0 result.1 }
+fn left(
+    container: Arc<Queue<u64>, Global>,
+    made: Stepped<LenOp<u64>, Pass<u64>, u64>,
+) -> (Held, Answer)
+    ensures { CountLeft container.value made result.0 result.1 }
 {
     match made {
-        Stepped::Again(op) => (Held::QueueCount(QueueCount { queue, op }), Answer::of(BUSY)),
+        Stepped::Again(op) => (
+            Held::QueueCount(QueueCount { container, op }),
+            Answer::of(BUSY),
+        ),
         Stepped::Done(by, count) => {
             let stage = Stage::of(by, 0);
-            let pass = QueuePass { queue, stage };
+            let pass = PassOf { container, stage };
             (Held::QueuePass(pass), Answer::with(OK, count))
         }
     }
 }
 
-impl QueuePass {
-    /// A count of the values; where the pass is in a call already, nothing.
-    pub fn count(self, tries: u64) -> (Held, Answer)
-        requires { IsQueuePass self }
-        ensures of { IsHeld result.0 }
-        ensures gives { QueueCounted self result.0 result.1 }
-    {
-        let QueuePass { queue, stage } = self;
-        let Stage {
-            resting,
+/// A count of the values; where the pass is in a call already, nothing.
+pub fn begin_count(pass: QueuePass, tries: u64) -> (Held, Answer)
+    requires { IsQueuePass pass }
+    ensures of { IsHeld result.0 }
+    ensures gives { QueueCounted pass result.0 result.1 }
+{
+    let PassOf { container, stage } = pass;
+    let Stage {
+        resting,
+        under_way,
+        number,
+    } = stage;
+    let Some(by) = resting else {
+        let stage = Stage {
+            resting: None,
             under_way,
             number,
-        } = stage;
-        let Some(by) = resting else {
-            let stage = Stage {
-                resting: None,
-                under_way,
-                number,
-            };
-            let pass = QueuePass { queue, stage };
-            return (Held::QueuePass(pass), Answer::of(UNDER_WAY));
         };
-        match queue.len_at_once(by) {
-            Stepped::Done(by, count) => left(queue, Stepped::Done(by, count)),
-            Stepped::Again(op) => QueueCount { queue, op }.go_on(tries),
-        }
+        let pass = PassOf { container, stage };
+        return (Held::QueuePass(pass), Answer::of(UNDER_WAY));
+    };
+    match container.len_at_once(by) {
+        Stepped::Done(by, count) => left(container, Stepped::Done(by, count)),
+        Stepped::Again(op) => QueueCount { container, op }.go_on(tries),
     }
 }
 
@@ -75,8 +80,8 @@ impl QueueCount {
         ensures of { IsHeld result.0 }
         ensures gives { CountWentOn self result.0 result.1 }
     {
-        let QueueCount { queue, op } = self;
-        let made = op.run_for(&queue, steps_for(tries));
-        left(queue, made)
+        let QueueCount { container, op } = self;
+        let made = op.run_for(&container, steps_for(tries));
+        left(container, made)
     }
 }

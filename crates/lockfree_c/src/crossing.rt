@@ -2,9 +2,10 @@
 //! behind one may cross threads.
 
 use crate::held::{
-    QueueCount, QueueGauge, QueueOperation, QueuePass, QueueRoot, StackCopy, StackFold,
-    StackOperation, StackPass, StackRange, StackRangePut, StackRoot,
+    QueueCount, QueueGauge, QueuePass, QueueRoot, RingPass, RingRoot, StackCopy, StackFold,
+    StackPass, StackRange, StackRangePut, StackRoot,
 };
+use bounded_calls::{QueueOperation, RingOperation, StackOperation};
 use bounded_model::Operation;
 
 // Asks that its type may cross threads, and does nothing.
@@ -12,13 +13,13 @@ fn crosses<T: Send>(_part: &T) {}
 
 /// The parts of a queue's root.
 pub fn queue_root_crosses(root: &QueueRoot) {
-    crosses(&root.queue);
+    crosses(&root.container);
     crosses(&root.root);
 }
 
 /// The parts of a queue's pass, but for the call that it is in.
 pub fn queue_pass_crosses(pass: &QueuePass) {
-    crosses(&pass.queue);
+    crosses(&pass.container);
     crosses(&pass.stage.resting);
 }
 
@@ -35,25 +36,25 @@ pub fn queue_operation_crosses(operation: &QueueOperation) {
 
 /// The parts of a queue's pass that is in a count.
 pub fn queue_count_crosses(count: &QueueCount) {
-    crosses(&count.queue);
+    crosses(&count.container);
     crosses(&count.op);
 }
 
 /// The parts of a queue's pass that is in a gauge.
 pub fn queue_gauge_crosses(gauge: &QueueGauge) {
-    crosses(&gauge.queue);
+    crosses(&gauge.container);
     crosses(&gauge.op);
 }
 
 /// The parts of a stack's root.
 pub fn stack_root_crosses(root: &StackRoot) {
-    crosses(&root.stack);
+    crosses(&root.container);
     crosses(&root.root);
 }
 
 /// The parts of a stack's pass, but for the call that it is in.
 pub fn stack_pass_crosses(pass: &StackPass) {
-    crosses(&pass.stack);
+    crosses(&pass.container);
     crosses(&pass.stage.resting);
 }
 
@@ -64,27 +65,27 @@ pub fn stack_operation_crosses(operation: &StackOperation) {
 
 /// The parts of a stack's pass that is in a fold.
 pub fn stack_fold_crosses(fold: &StackFold) {
-    crosses(&fold.stack);
+    crosses(&fold.container);
     crosses(&fold.op);
 }
 
 /// The parts of a stack's pass that collects a range.
 pub fn stack_range_crosses(range: &StackRange) {
-    crosses(&range.stack);
+    crosses(&range.container);
     crosses(&range.by);
     crosses(&range.values);
 }
 
 /// The parts of a stack's pass that is in a put of a range.
 pub fn stack_range_put_crosses(put: &StackRangePut) {
-    crosses(&put.stack);
+    crosses(&put.container);
     crosses(&put.op);
     crosses(&put.values);
 }
 
 /// The parts of a stack's pass that is in a put of an array.
 pub fn stack_copy_crosses(copy: &StackCopy) {
-    crosses(&copy.stack);
+    crosses(&copy.container);
     crosses(&copy.op);
 }
 
@@ -95,5 +96,33 @@ pub fn queue_rest_crosses(rest: &ms_queue::Rest<u64>) {
 
 /// What is left of a stack.
 pub fn stack_rest_crosses(rest: &treiber_stack::Rest<u64>) {
+    crosses(rest);
+}
+
+/// The parts of a ring's root.
+pub fn ring_root_crosses(root: &RingRoot) {
+    crosses(&root.container);
+    crosses(&root.root);
+}
+
+/// The parts of a ring's pass, but for the call that it is in.
+pub fn ring_pass_crosses(pass: &RingPass) {
+    crosses(&pass.container);
+    crosses(&pass.stage.resting);
+}
+
+/// A call that a ring's pass is in.
+pub fn ring_operation_crosses(operation: &RingOperation) {
+    match operation {
+        Operation::Put(put) => crosses(put),
+        Operation::Take(take) => crosses(take),
+        Operation::Close(close) => crosses(close),
+        Operation::Shut(shut) => crosses(shut),
+        Operation::Look(look) => crosses(look),
+    }
+}
+
+/// What is left of a ring.
+pub fn ring_rest_crosses(rest: &ring_queue::Rest<u64>) {
     crosses(rest);
 }

@@ -7,9 +7,8 @@ ghost use Rattle.bounded_model.specs.declared.commands.Command.TheVariants.{
   Shut,
   Look,
 };
-ghost use Rattle.tagged_index.specs.declared.word.TheConstants.{MAX_TAG};
 ghost use Rattle.lockfree_c.specs.declared.exports.TheConstants.{VERSION};
-ghost use Rattle.lockfree_c.specs.Held.{IsNewQueue, IsNewStack, front_from};
+ghost use Rattle.lockfree_c.specs.Held.{front_from};
 ghost use Rattle.lockfree_c.specs.Slots.{
   IsSlot,
   SlotAdded,
@@ -21,7 +20,6 @@ ghost use Rattle.lockfree_c.specs.Slots.{
   SlotFolded,
   SlotFreed,
   SlotGauged,
-  SlotNew,
   SlotNumber,
   SlotRangePut,
   SlotSplit,
@@ -30,14 +28,13 @@ ghost use Rattle.lockfree_c.specs.Slots.{
 
 use crate::answers::{Answer, IN_USE, NO_HANDLE, OK};
 use crate::boxed::{
-    add_by, boxed_queue, boxed_stack, call_by, count_by, finish_by, fold_by, go_on_by, look_by,
-    number_by, put_by, put_copies_by, put_range_by, split_from, take_by,
+    add_by, call_by, count_by, finish_by, fold_by, go_on_by, look_by, number_by, put_by,
+    put_copies_by, put_range_by, split_from, take_by,
 };
 use crate::gauge::gauge_by;
 use crate::slot::Slot;
 use bounded_model::Command;
 use std::alloc::Global;
-use tagged_index::MAX_TAG;
 
 /// The version, 0.2.0: 10,000 times the first number, 100 times the second, and the third.
 pub const VERSION: u32 = 200;
@@ -50,92 +47,6 @@ pub extern "C" fn lockfree_version() -> u32
     ensures { result ≡ VERSION }
 {
     VERSION
-}
-
-/// A new queue's root: an empty queue of this capacity, open and not shut.
-#[unsafe(no_mangle)]
-pub extern "C" fn lockfree_queue_new(alloc: Global, root: &mut Slot, capacity: u32) -> u32
-    requires { IsSlot root.old }
-    ensures of { IsSlot root.new }
-    ensures gives { SlotNew (IsNewQueue capacity MAX_TAG) capacity MAX_TAG root.old root.new result }
-{
-    if root.full {
-        return IN_USE;
-    }
-    match boxed_queue(alloc, capacity, MAX_TAG) {
-        Ok(held) => {
-            root.put(held);
-            OK
-        }
-        Err(code) => code,
-    }
-}
-
-/// A new stack's root: an empty stack of this capacity, open and not shut.
-#[unsafe(no_mangle)]
-pub extern "C" fn lockfree_stack_new(alloc: Global, root: &mut Slot, capacity: u32) -> u32
-    requires { IsSlot root.old }
-    ensures of { IsSlot root.new }
-    ensures gives { SlotNew (IsNewStack capacity MAX_TAG) capacity MAX_TAG root.old root.new result }
-{
-    if root.full {
-        return IN_USE;
-    }
-    match boxed_stack(alloc, capacity, MAX_TAG) {
-        Ok(held) => {
-            root.put(held);
-            OK
-        }
-        Err(code) => code,
-    }
-}
-
-/// A new queue's root, as by `lockfree_queue_new`, whose tags go up to this limit: 2 to 2^42 - 1.
-#[unsafe(no_mangle)]
-pub extern "C" fn lockfree_queue_limited(
-    alloc: Global,
-    root: &mut Slot,
-    capacity: u32,
-    tag_limit: u64,
-) -> u32
-    requires { IsSlot root.old }
-    ensures of { IsSlot root.new }
-    ensures gives { SlotNew (IsNewQueue capacity tag_limit) capacity tag_limit root.old root.new result }
-{
-    if root.full {
-        return IN_USE;
-    }
-    match boxed_queue(alloc, capacity, tag_limit) {
-        Ok(held) => {
-            root.put(held);
-            OK
-        }
-        Err(code) => code,
-    }
-}
-
-/// A new stack's root, as by `lockfree_stack_new`, whose tags go up to this limit: 2 to 2^42 - 1.
-#[unsafe(no_mangle)]
-pub extern "C" fn lockfree_stack_limited(
-    alloc: Global,
-    root: &mut Slot,
-    capacity: u32,
-    tag_limit: u64,
-) -> u32
-    requires { IsSlot root.old }
-    ensures of { IsSlot root.new }
-    ensures gives { SlotNew (IsNewStack capacity tag_limit) capacity tag_limit root.old root.new result }
-{
-    if root.full {
-        return IN_USE;
-    }
-    match boxed_stack(alloc, capacity, tag_limit) {
-        Ok(held) => {
-            root.put(held);
-            OK
-        }
-        Err(code) => code,
-    }
 }
 
 /// A new pass of the root's container.
@@ -164,7 +75,7 @@ pub extern "C" fn lockfree_split(alloc: Global, root: &mut Slot, pass: &mut Slot
 fn call(pass: &mut Slot, command: Command<u64>, tries: u64) -> Answer
     requires { IsSlot pass.old }
     ensures of { IsSlot pass.new }
-    ensures gives { SlotCalled pass.old command pass.new result }
+    ensures gives { SlotCalled tries pass.old command pass.new result }
 {
     if !pass.full {
         return Answer::of(NO_HANDLE);
@@ -177,7 +88,7 @@ fn call(pass: &mut Slot, command: Command<u64>, tries: u64) -> Answer
 pub extern "C" fn lockfree_put(pass: &mut Slot, value: u64, tries: u64) -> Answer
     requires { IsSlot pass.old }
     ensures of { IsSlot pass.new }
-    ensures gives { SlotCalled pass.old (Put value) pass.new result }
+    ensures gives { SlotCalled tries pass.old (Put value) pass.new result }
 {
     if !pass.full {
         return Answer::of(NO_HANDLE);
@@ -190,7 +101,7 @@ pub extern "C" fn lockfree_put(pass: &mut Slot, value: u64, tries: u64) -> Answe
 pub extern "C" fn lockfree_take(pass: &mut Slot, tries: u64) -> Answer
     requires { IsSlot pass.old }
     ensures of { IsSlot pass.new }
-    ensures gives { SlotCalled pass.old Take pass.new result }
+    ensures gives { SlotCalled tries pass.old Take pass.new result }
 {
     if !pass.full {
         return Answer::of(NO_HANDLE);
@@ -203,7 +114,7 @@ pub extern "C" fn lockfree_take(pass: &mut Slot, tries: u64) -> Answer
 pub extern "C" fn lockfree_close(pass: &mut Slot, tries: u64) -> Answer
     requires { IsSlot pass.old }
     ensures of { IsSlot pass.new }
-    ensures gives { SlotCalled pass.old Close pass.new result }
+    ensures gives { SlotCalled tries pass.old Close pass.new result }
 {
     call(pass, Command::Close, tries)
 }
@@ -213,7 +124,7 @@ pub extern "C" fn lockfree_close(pass: &mut Slot, tries: u64) -> Answer
 pub extern "C" fn lockfree_shut(pass: &mut Slot, tries: u64) -> Answer
     requires { IsSlot pass.old }
     ensures of { IsSlot pass.new }
-    ensures gives { SlotCalled pass.old Shut pass.new result }
+    ensures gives { SlotCalled tries pass.old Shut pass.new result }
 {
     call(pass, Command::Shut, tries)
 }
@@ -223,7 +134,7 @@ pub extern "C" fn lockfree_shut(pass: &mut Slot, tries: u64) -> Answer
 pub extern "C" fn lockfree_look(pass: &mut Slot, tries: u64) -> Answer
     requires { IsSlot pass.old }
     ensures of { IsSlot pass.new }
-    ensures gives { SlotCalled pass.old Look pass.new result }
+    ensures gives { SlotCalled tries pass.old Look pass.new result }
 {
     if !pass.full {
         return Answer::of(NO_HANDLE);
@@ -319,7 +230,7 @@ pub extern "C" fn lockfree_put_range(pass: &mut Slot, values: &[u64], tries: u64
 pub extern "C" fn lockfree_go_on(pass: &mut Slot, tries: u64) -> Answer
     requires { IsSlot pass.old }
     ensures of { IsSlot pass.new }
-    ensures gives { SlotWentOn pass.old pass.new result }
+    ensures gives { SlotWentOn tries pass.old pass.new result }
 {
     if !pass.full {
         return Answer::of(NO_HANDLE);

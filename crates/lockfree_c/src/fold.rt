@@ -15,6 +15,7 @@ ghost use Rattle.lockfree_c.specs.Held.{
 
 use crate::answers::{Answer, BUSY, UNDER_WAY, VALUE, number_of_fold};
 use crate::held::{Held, StackFold, StackPass};
+use crate::pass::PassOf;
 use crate::stage::Stage;
 use crate::steps::steps_for;
 use std::alloc::Global;
@@ -22,7 +23,7 @@ use std::sync::Arc;
 use treiber_stack::{FoldMade, FoldOp, Pass, Stack};
 
 // A fold that makes no step yet.
-fn begin(stack: &Stack<u64>, by: Pass<u64>, reversed: bool) -> FoldOp<u64>
+fn first(stack: &Stack<u64>, by: Pass<u64>, reversed: bool) -> FoldOp<u64>
     requires { IsPassOf stack.now by }
     ensures { IsFolding stack.now (front_from reversed) [] result
         × (begun_of stack.now result.pass ≡ pass_in by) }
@@ -35,50 +36,51 @@ fn begin(stack: &Stack<u64>, by: Pass<u64>, reversed: bool) -> FoldOp<u64>
 }
 
 // What is held once a fold was run, and the answer.
-fn left(stack: Arc<Stack<u64>, Global>, made: FoldMade<u64>) -> (Held, Answer)
-    ensures { FoldLeft stack.value made result.0 result.1 }
+fn left(container: Arc<Stack<u64>, Global>, made: FoldMade<u64>) -> (Held, Answer)
+    ensures { FoldLeft container.value made result.0 result.1 }
 {
     match made {
-        FoldMade::Again(op) => (Held::StackFold(StackFold { stack, op }), Answer::of(BUSY)),
+        FoldMade::Again(op) => (
+            Held::StackFold(StackFold { container, op }),
+            Answer::of(BUSY),
+        ),
         FoldMade::Value(value, op) => {
-            let fold = StackFold { stack, op };
+            let fold = StackFold { container, op };
             (Held::StackFold(fold), Answer::with(VALUE, value))
         }
         FoldMade::Done(by, said) => {
             let stage = Stage::of(by, number_of_fold(&said));
-            let pass = StackPass { stack, stage };
+            let pass = PassOf { container, stage };
             (Held::StackPass(pass), Answer::of_fold(said))
         }
     }
 }
 
-impl StackPass {
-    /// A fold of all values; where the pass is in a call already, nothing.
-    pub fn fold(self, reversed: bool, tries: u64) -> (Held, Answer)
-        requires { IsStackPass self }
-        ensures of { IsHeld result.0 }
-        ensures gives { StackFolded self (front_from reversed) result.0 result.1 }
-    {
-        let StackPass { stack, stage } = self;
-        let Stage {
-            resting,
-            under_way,
-            number,
-        } = stage;
-        match resting {
-            Some(by) => {
-                let op = begin(&stack, by, reversed);
-                StackFold { stack, op }.go_on(tries)
-            }
-            None => {
-                let stage = Stage {
-                    resting: None,
-                    under_way,
-                    number,
-                };
-                let pass = StackPass { stack, stage };
-                (Held::StackPass(pass), Answer::of(UNDER_WAY))
-            }
+/// A fold of all values; where the pass is in a call already, nothing.
+pub fn begin_fold(pass: StackPass, reversed: bool, tries: u64) -> (Held, Answer)
+    requires { IsStackPass pass }
+    ensures of { IsHeld result.0 }
+    ensures gives { StackFolded pass (front_from reversed) result.0 result.1 }
+{
+    let PassOf { container, stage } = pass;
+    let Stage {
+        resting,
+        under_way,
+        number,
+    } = stage;
+    match resting {
+        Some(by) => {
+            let op = first(&container, by, reversed);
+            StackFold { container, op }.go_on(tries)
+        }
+        None => {
+            let stage = Stage {
+                resting: None,
+                under_way,
+                number,
+            };
+            let pass = PassOf { container, stage };
+            (Held::StackPass(pass), Answer::of(UNDER_WAY))
         }
     }
 }
@@ -90,8 +92,8 @@ impl StackFold {
         ensures of { IsHeld result.0 }
         ensures gives { FoldWentOn self result.0 result.1 }
     {
-        let StackFold { stack, op } = self;
-        let made = op.run_for(&stack, steps_for(tries));
-        left(stack, made)
+        let StackFold { container, op } = self;
+        let made = op.run_for(&container, steps_for(tries));
+        left(container, made)
     }
 }

@@ -10,6 +10,7 @@ ghost use Rattle.lockfree_c.specs.Held.{IsHeld, IsQueueGauge, IsQueuePass, IsSta
 
 use crate::answers::{Answer, BUSY, UNDER_WAY};
 use crate::held::{Held, QueueGauge, QueuePass, StackPass};
+use crate::pass::PassOf;
 use crate::stage::Stage;
 use bounded_model::Stepped;
 use ms_queue::{Gauge, GaugeOp, Pass, Queue};
@@ -30,48 +31,52 @@ fn steps_for(tries: u64) -> u64 {
 
 // What is held once a queue's gauge was tried, and the answer.
 fn left(
-    queue: Arc<Queue<u64>, Global>,
+    container: Arc<Queue<u64>, Global>,
     made: Stepped<GaugeOp<u64>, Pass<u64>, Gauge>,
 ) -> (Held, Answer)
-    ensures { GaugeLeft queue.value made result.0 result.1 }
+    ensures { GaugeLeft container.value made result.0 result.1 }
 {
     match made {
-        Stepped::Again(op) => (Held::QueueGauge(QueueGauge { queue, op }), Answer::of(BUSY)),
+        Stepped::Again(op) => (
+            Held::QueueGauge(QueueGauge { container, op }),
+            Answer::of(BUSY),
+        ),
         Stepped::Done(by, shown) => {
             let stage = Stage::of(by, 0);
-            let pass = QueuePass { queue, stage };
-            (Held::QueuePass(pass), Answer::of_gauge(shown.closed, shown.used))
+            let pass = PassOf { container, stage };
+            (
+                Held::QueuePass(pass),
+                Answer::of_gauge(shown.closed, shown.used),
+            )
         }
     }
 }
 
-impl QueuePass {
-    /// A gauge of the queue; where the pass is in a call already, nothing.
-    pub fn gauge(self, tries: u64) -> (Held, Answer)
-        requires { IsQueuePass self }
-        ensures of { IsHeld result.0 }
-        ensures gives { QueueGauged self result.0 result.1 }
-    {
-        let QueuePass { queue, stage } = self;
-        let Stage {
-            resting,
-            under_way,
-            number,
-        } = stage;
-        match resting {
-            Some(by) => {
-                let op = queue.begin_gauge(by);
-                QueueGauge { queue, op }.go_on(tries)
-            }
-            None => {
-                let stage = Stage {
-                    resting: None,
-                    under_way,
-                    number,
-                };
-                let pass = QueuePass { queue, stage };
-                (Held::QueuePass(pass), Answer::of(UNDER_WAY))
-            }
+/// A gauge of the queue; where the pass is in a call already, nothing.
+pub fn begin_gauge(pass: QueuePass, tries: u64) -> (Held, Answer)
+    requires { IsQueuePass pass }
+    ensures of { IsHeld result.0 }
+    ensures gives { QueueGauged pass result.0 result.1 }
+{
+    let PassOf { container, stage } = pass;
+    let Stage {
+        resting,
+        under_way,
+        number,
+    } = stage;
+    match resting {
+        Some(by) => {
+            let op = container.begin_gauge(by);
+            QueueGauge { container, op }.go_on(tries)
+        }
+        None => {
+            let stage = Stage {
+                resting: None,
+                under_way,
+                number,
+            };
+            let pass = PassOf { container, stage };
+            (Held::QueuePass(pass), Answer::of(UNDER_WAY))
         }
     }
 }
@@ -83,27 +88,25 @@ impl QueueGauge {
         ensures of { IsHeld result.0 }
         ensures gives { GaugeWentOn self result.0 result.1 }
     {
-        let QueueGauge { queue, op } = self;
-        let made = op.run_for(&queue, steps_for(tries));
-        left(queue, made)
+        let QueueGauge { container, op } = self;
+        let made = op.run_for(&container, steps_for(tries));
+        left(container, made)
     }
 }
 
-impl StackPass {
-    /// A gauge of the stack, which is one step; where the pass is in a call already, nothing.
-    pub fn gauge(&mut self) -> Answer
-        requires { IsStackPass self.old }
-        ensures of { IsStackPass self.new }
-        ensures gives { StackGauged self.old self.new result }
-    {
-        match self.stage.resting.take() {
-            Some(by) => {
-                let (by, shown) = self.stack.gauge(by);
-                self.stage = Stage::of(by, 0);
-                Answer::of_gauge(shown.closed, shown.used)
-            }
-            None => Answer::of(UNDER_WAY),
+/// A gauge of the stack, which is one step; where the pass is in a call already, nothing.
+pub fn stack_gauge(pass: &mut StackPass) -> Answer
+    requires { IsStackPass pass.old }
+    ensures of { IsStackPass pass.new }
+    ensures gives { StackGauged pass.old pass.new result }
+{
+    match pass.stage.resting.take() {
+        Some(by) => {
+            let (by, shown) = pass.container.gauge(by);
+            pass.stage = Stage::of(by, 0);
+            Answer::of_gauge(shown.closed, shown.used)
         }
+        None => Answer::of(UNDER_WAY),
     }
 }
 
@@ -114,10 +117,10 @@ fn gauge(held: Held, tries: u64) -> (Held, Answer)
     ensures gives { HeldGauged held result.0 result.1 }
 {
     match held {
-        Held::QueuePass(pass) => pass.gauge(tries),
+        Held::QueuePass(pass) => begin_gauge(pass, tries),
         Held::StackPass(pass) => {
             let mut pass = pass;
-            let answer = pass.gauge();
+            let answer = stack_gauge(&mut pass);
             (Held::StackPass(pass), answer)
         }
         other => {

@@ -3,79 +3,53 @@ ghost use Rattle.std.specs.Prelude.{◌≡◌};
 ghost use Rattle.lockfree_c.specs.Refusals.{refusal_of};
 
 use crate::answers::{OTHER_HANDLE, UNDER_WAY};
-use crate::stage::Stage;
-use bounded_model::Operation;
+use crate::pass::PassOf;
+use crate::root::RootOf;
+use bounded_calls::{QueueOperation, RingOperation, StackOperation};
 use ms_queue::{GaugeOp, LenOp, Queue};
+use ring_queue::RingQueue;
 use std::alloc::Global;
 use std::sync::Arc;
 use treiber_stack::{FoldOp, RangeOp, Stack};
 
-/// A call of a queue's pass that was begun.
-pub type QueueOperation = Operation<
-    ms_queue::PutOp<u64>,
-    ms_queue::TakeOp<u64>,
-    ms_queue::CloseOp<u64>,
-    ms_queue::ShutOp<u64>,
-    ms_queue::LookOp<u64>,
->;
-
-/// A call of a stack's pass that was begun.
-pub type StackOperation = Operation<
-    treiber_stack::PutOp<u64>,
-    treiber_stack::TakeOp<u64>,
-    treiber_stack::CloseOp<u64>,
-    treiber_stack::ShutOp<u64>,
-    treiber_stack::LookOp<u64>,
->;
-
 /// A queue's root, with a share of the queue.
-#[derive(Drop)]
-pub struct QueueRoot {
-    pub queue: Arc<Queue<u64>, Global>,
-    pub root: ms_queue::Root<u64>,
-}
+pub type QueueRoot = RootOf<Queue<u64>, ms_queue::Root<u64>>;
 
-/// A queue's pass, with a share of the queue: so it is used with no other.
-#[derive(Drop)]
-pub struct QueuePass {
-    pub queue: Arc<Queue<u64>, Global>,
-    pub stage: Stage<ms_queue::Pass<u64>, QueueOperation>,
-}
+/// A queue's pass, with a share of the queue.
+pub type QueuePass = PassOf<Queue<u64>, ms_queue::Pass<u64>, QueueOperation>;
+
+/// A stack's root, with a share of the stack.
+pub type StackRoot = RootOf<Stack<u64>, treiber_stack::Root<u64>>;
+
+/// A stack's pass, with a share of the stack.
+pub type StackPass = PassOf<Stack<u64>, treiber_stack::Pass<u64>, StackOperation>;
+
+/// A ring's root, with a share of the ring.
+pub type RingRoot = RootOf<RingQueue<u64>, ring_queue::Root<u64>>;
+
+/// A ring's pass, with a share of the ring.
+pub type RingPass = PassOf<RingQueue<u64>, ring_queue::Pass<u64>, RingOperation>;
 
 /// A queue's pass in a count of the values, with a share of the queue. It stands apart from the others,
 /// so that their puts and takes do not ask for it.
 #[derive(Drop)]
 pub struct QueueCount {
-    pub queue: Arc<Queue<u64>, Global>,
+    pub container: Arc<Queue<u64>, Global>,
     pub op: LenOp<u64>,
 }
 
 /// A queue's pass in a gauge, with a share of the queue. It stands apart as a count does.
 #[derive(Drop)]
 pub struct QueueGauge {
-    pub queue: Arc<Queue<u64>, Global>,
+    pub container: Arc<Queue<u64>, Global>,
     pub op: GaugeOp<u64>,
-}
-
-/// A stack's root, with a share of the stack.
-#[derive(Drop)]
-pub struct StackRoot {
-    pub stack: Arc<Stack<u64>, Global>,
-    pub root: treiber_stack::Root<u64>,
-}
-
-/// A stack's pass, with a share of the stack: so it is used with no other.
-#[derive(Drop)]
-pub struct StackPass {
-    pub stack: Arc<Stack<u64>, Global>,
-    pub stage: Stage<treiber_stack::Pass<u64>, StackOperation>,
 }
 
 /// A stack's pass in a fold of all values, with a share of the stack. It stands apart from the others,
 /// so that their puts and takes do not ask for it.
 #[derive(Drop)]
 pub struct StackFold {
-    pub stack: Arc<Stack<u64>, Global>,
+    pub container: Arc<Stack<u64>, Global>,
     pub op: FoldOp<u64>,
 }
 
@@ -83,7 +57,7 @@ pub struct StackFold {
 /// makes no call until they are put.
 #[derive(Drop)]
 pub struct StackRange {
-    pub stack: Arc<Stack<u64>, Global>,
+    pub container: Arc<Stack<u64>, Global>,
     pub by: treiber_stack::Pass<u64>,
     pub values: Vec<Option<u64>>,
 }
@@ -92,7 +66,7 @@ pub struct StackRange {
 /// and gives it again to go on.
 #[derive(Drop)]
 pub struct StackCopy {
-    pub stack: Arc<Stack<u64>, Global>,
+    pub container: Arc<Stack<u64>, Global>,
     pub op: RangeOp<u64>,
 }
 
@@ -100,7 +74,7 @@ pub struct StackCopy {
 /// its place.
 #[derive(Drop)]
 pub struct StackRangePut {
-    pub stack: Arc<Stack<u64>, Global>,
+    pub container: Arc<Stack<u64>, Global>,
     pub op: RangeOp<u64>,
     pub values: Vec<Option<u64>>,
 }
@@ -118,10 +92,14 @@ pub enum Held {
     StackRange(StackRange),
     StackRangePut(StackRangePut),
     StackCopy(StackCopy),
+    RingRoot(RingRoot),
+    RingPass(RingPass),
     /// What is left of a queue that was ended, and not handed out yet.
     QueueRest(ms_queue::Rest<u64>),
     /// The same of a stack.
     StackRest(treiber_stack::Rest<u64>),
+    /// The same of a ring.
+    RingRest(ring_queue::Rest<u64>),
 }
 
 impl Held {

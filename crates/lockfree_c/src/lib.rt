@@ -1,4 +1,4 @@
-//! The queue and the stack for C, C++ and Rust: what a program that is not Rattle holds, and the
+//! The queue, the stack and the ring for C, C++ and Rust: what a program that is not Rattle holds, and the
 //! calls that it makes.
 //!
 //! Promised, as long as C keeps to `c/lockfree.h`: what an export returns says what the container's
@@ -10,17 +10,18 @@ mod answers;
 mod boxed;
 mod copying;
 mod count;
+mod creating;
 mod crossing;
 mod exports;
-mod finish;
 mod fold;
 mod gauge;
 mod handle;
 mod held;
+mod making;
 mod parts;
-mod queue;
+mod pass;
 mod range;
+mod root;
 mod slot;
-mod stack;
 mod stage;
 mod steps;

@@ -14,6 +14,7 @@ ghost use Rattle.lockfree_c.specs.Held.{
 
 use crate::answers::{Answer, BUSY, EMPTY, NO_MEMORY, OK, UNDER_WAY, number_of_range};
 use crate::held::{Held, StackPass, StackRange, StackRangePut};
+use crate::pass::PassOf;
 use crate::stage::Stage;
 use crate::steps::steps_for;
 use bounded_model::{RangeRefused, Ranged, Stepped};
@@ -23,76 +24,82 @@ use treiber_stack::{Pass, RangeOp, Stack};
 
 // What is held once a put of a range was run, and the answer.
 fn left(
-    stack: Arc<Stack<u64>, Global>,
+    container: Arc<Stack<u64>, Global>,
     values: Vec<Option<u64>>,
     made: Stepped<RangeOp<u64>, Pass<u64>, Result<Ranged, RangeRefused>>,
 ) -> (Held, Answer)
-    ensures { RangeLeft stack.value values.items made result.0 result.1 }
+    ensures { RangeLeft container.value values.items made result.0 result.1 }
 {
     match made {
         Stepped::Again(op) => {
-            let put = StackRangePut { stack, op, values };
+            let put = StackRangePut {
+                container,
+                op,
+                values,
+            };
             (Held::StackRangePut(put), Answer::of(BUSY))
         }
         Stepped::Done(by, said) => {
             let stage = Stage::of(by, number_of_range(&said));
-            let pass = StackPass { stack, stage };
+            let pass = PassOf { container, stage };
             (Held::StackPass(pass), Answer::of_range(said))
         }
     }
 }
 
-impl StackPass {
-    /// Begins a range with this value. A pass that is in a call already, or for which there is no memory,
-    /// is as it was.
-    pub fn begin_range(self, alloc: Global, value: u64) -> (Held, u32)
-        requires { IsStackPass self }
-        ensures of { IsHeld result.0 }
-        ensures gives { RangeBegan self value result.0 result.1 }
-    {
-        let StackPass { stack, stage } = self;
-        let Stage {
-            resting,
+/// Begins a range with this value. A pass that is in a call already, or for which there is no memory,
+/// is as it was.
+pub fn begin_range_of(alloc: Global, pass: StackPass, value: u64) -> (Held, u32)
+    requires { IsStackPass pass }
+    ensures of { IsHeld result.0 }
+    ensures gives { RangeBegan pass value result.0 result.1 }
+{
+    let PassOf { container, stage } = pass;
+    let Stage {
+        resting,
+        under_way,
+        number,
+    } = stage;
+    let Some(by) = resting else {
+        let stage = Stage {
+            resting: None,
             under_way,
             number,
-        } = stage;
-        let Some(by) = resting else {
+        };
+        return (Held::StackPass(PassOf { container, stage }), UNDER_WAY);
+    };
+    let mut values = Vec::new(alloc);
+    match values.push(Some(value)) {
+        Ok(()) => {
+            let range = StackRange {
+                container,
+                by,
+                values,
+            };
+            (Held::StackRange(range), OK)
+        }
+        Err(_) => {
             let stage = Stage {
-                resting: None,
+                resting: Some(by),
                 under_way,
                 number,
             };
-            return (Held::StackPass(StackPass { stack, stage }), UNDER_WAY);
-        };
-        let mut values = Vec::new(alloc);
-        match values.push(Some(value)) {
-            Ok(()) => {
-                let range = StackRange { stack, by, values };
-                (Held::StackRange(range), OK)
-            }
-            Err(_) => {
-                let stage = Stage {
-                    resting: Some(by),
-                    under_way,
-                    number,
-                };
-                (Held::StackPass(StackPass { stack, stage }), NO_MEMORY)
-            }
+            (Held::StackPass(PassOf { container, stage }), NO_MEMORY)
         }
     }
+}
 
-    /// The answer to a put of a range where none is collected; nothing is done.
-    pub fn put_nothing(self) -> (Held, Answer)
-        requires { IsStackPass self }
-        ensures of { IsHeld result.0 }
-        ensures gives { NothingPut self result.0 result.1 }
-    {
-        let code = match self.stage.resting {
-            Some(_) => EMPTY,
-            None => UNDER_WAY,
-        };
-        (Held::StackPass(self), Answer::of(code))
-    }
+/// The answer to a put of a range where none is collected; nothing is done.
+pub fn put_nothing(pass: StackPass) -> (Held, Answer)
+    requires { IsStackPass pass }
+    ensures of { IsHeld result.0 }
+    ensures gives { NothingPut pass result.0 result.1 }
+{
+    let code = match pass.stage.resting {
+        Some(_) => EMPTY,
+        None => UNDER_WAY,
+    };
+    (Held::StackPass(pass), Answer::of(code))
 }
 
 impl StackRange {
@@ -114,10 +121,19 @@ impl StackRange {
         ensures of { IsHeld result.0 }
         ensures gives { RangePut self result.0 result.1 }
     {
-        let StackRange { stack, by, values } = self;
-        match stack.begin_range(by, &values) {
-            Stepped::Again(op) => StackRangePut { stack, op, values }.go_on(tries),
-            Stepped::Done(by, said) => left(stack, values, Stepped::Done(by, said)),
+        let StackRange {
+            container,
+            by,
+            values,
+        } = self;
+        match container.begin_range(by, &values) {
+            Stepped::Again(op) => StackRangePut {
+                container,
+                op,
+                values,
+            }
+            .go_on(tries),
+            Stepped::Done(by, said) => left(container, values, Stepped::Done(by, said)),
         }
     }
 }
@@ -129,9 +145,13 @@ impl StackRangePut {
         ensures of { IsHeld result.0 }
         ensures gives { RangeWentOn self result.0 result.1 }
     {
-        let StackRangePut { stack, op, values } = self;
+        let StackRangePut {
+            container,
+            op,
+            values,
+        } = self;
         let mut values = values;
-        let made = op.run_for(&stack, &mut values, steps_for(tries));
-        left(stack, values, made)
+        let made = op.run_for(&container, &mut values, steps_for(tries));
+        left(container, values, made)
     }
 }

@@ -11,10 +11,10 @@ pub returns-clause-of : goal.returns-clause-of
 returns-clause-of c =
     let k = c.args.self in
     let ran = subst (λ on. Ran on c.steps_for.result k.op c.run_for-made.result) c.deref.ensures c.run_for-made.ensures in
-    gauge_stays k.queue.value (begun_of k.queue.value k.op.pass) c.run_for-made.result c.left.result.0 c.left.result.1 (gauges_on k.queue.value c.steps_for.result k.op c.run_for-made.result ran) c.left.ensures
+    gauge_stays k.container.value (begun_of k.container.value k.op.pass) c.run_for-made.result c.left.result.0 c.left.result.1 (gauges_on k.container.value c.steps_for.result k.op c.run_for-made.result ran) c.left.ensures
 
 pub returns-clause-gives : goal.returns-clause-gives
 returns-clause-gives c =
     let k = c.args.self in
     let ran = subst (λ on. Ran on c.steps_for.result k.op c.run_for-made.result) c.deref.ensures c.run_for-made.ensures in
-    (c.run_for-made.result, gauges_on k.queue.value c.steps_for.result k.op c.run_for-made.result ran, c.left.ensures)
+    (c.run_for-made.result, gauges_on k.container.value c.steps_for.result k.op c.run_for-made.result ran, c.left.ensures)

@@ -12,7 +12,7 @@ returns-clause-of c =
     let k = c.args.self in
     let vs = c.args.values.now in
     let tried = subst (λ on. CopyTried on vs (begun_of on k.op.pass) c.copy_for-made.result) c.deref.ensures c.copy_for-made.ensures in
-    copy_stays k.stack.value vs (begun_of k.stack.value k.op.pass) c.copy_for-made.result c.left.result.0 c.left.result.1 tried c.left.ensures
+    copy_stays k.container.value vs (begun_of k.container.value k.op.pass) c.copy_for-made.result c.left.result.0 c.left.result.1 tried c.left.ensures
 
 pub returns-clause-gives : goal.returns-clause-gives
 returns-clause-gives c =

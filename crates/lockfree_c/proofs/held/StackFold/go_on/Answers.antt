@@ -10,7 +10,7 @@ returns-clause-of c =
     let f = c.args.self in
     let is = c.requires in
     let tried = subst (λ on. (front : Front) (values : List ℕ) → IsFolding on front values f.op → FoldTried on front values (begun_of on f.op.pass) c.run_for-made.result) c.deref.ensures c.run_for-made.ensures.tried in
-    fold_stays f.stack.value is.0 is.1 (begun_of f.stack.value f.op.pass) c.run_for-made.result c.left.result.0 c.left.result.1 (tried is.0 is.1 is.2) c.left.ensures
+    fold_stays f.container.value is.0 is.1 (begun_of f.container.value f.op.pass) c.run_for-made.result c.left.result.0 c.left.result.1 (tried is.0 is.1 is.2) c.left.ensures
 
 pub returns-clause-gives : goal.returns-clause-gives
 returns-clause-gives c =

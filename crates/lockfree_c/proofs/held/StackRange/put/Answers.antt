@@ -11,10 +11,10 @@ use Rattle.lockfree_c.proofs.RangeStays.{range_stays}
 use Rattle.lockfree_c.proofs.held.StackRange.put.Goals as goal
 
 -- a put that was begun at what two borrows show
-begun_here : (r : StackRange) (on : Stack ℕ) (places : List (Option ℕ)) (made : RangeMade) → on ≡ r.stack.value → places ≡ r.values.items → RangeBegun on (pass_in r.by) places made
-    → RangeBegun r.stack.value (pass_in r.by) r.values.items made
+begun_here : (r : StackRange) (on : Stack ℕ) (places : List (Option ℕ)) (made : RangeMade) → on ≡ r.container.value → places ≡ r.values.items → RangeBegun on (pass_in r.by) places made
+    → RangeBegun r.container.value (pass_in r.by) r.values.items made
 begun_here r on places made same_stack same_places is =
-    subst (λ ps. RangeBegun r.stack.value (pass_in r.by) ps made) same_places (subst (λ s. RangeBegun s (pass_in r.by) places made) same_stack is)
+    subst (λ ps. RangeBegun r.container.value (pass_in r.by) ps made) same_places (subst (λ s. RangeBegun s (pass_in r.by) places made) same_stack is)
 
 pub begin_range-requires-clause-values : goal.begin_range-requires-clause-values
 begin_range-requires-clause-values c = subst (λ places. Every (λ place. IsSome place) places) (sym c.deref-2.ensures.value) c.requires.1
@@ -32,7 +32,7 @@ returns-in-Again-clause-gives c =
     let made = Again c.in-Again.op in
     let begun = begun_here r c.deref.result.now c.deref-2.result.now made c.deref.ensures c.deref-2.ensures.value c.in-Again.ensures in
     let went = c.go_on.ensures.gives in
-    let tried = subst (λ v. RangeTried r.stack.value begun.0.0 v went.0 went.1) begun.0.2.1 (went.2 begun.0.0 begun.0.2.0) in
+    let tried = subst (λ v. RangeTried r.container.value begun.0.0 v went.0 went.1) begun.0.2.1 (went.2 begun.0.0 begun.0.2.0) in
     (begun.0.0, begun.0.1, (went.0, went.1, tried, went.3))
 
 pub returns-in-Done-clause-gives : goal.returns-in-Done-clause-gives
@@ -47,4 +47,4 @@ returns-in-Done-clause-of c =
     let r = c.args.self in
     let made = Done c.in-Done.by c.in-Done.said in
     let begun = begun_here r c.deref.result.now c.deref-2.result.now made c.deref.ensures c.deref-2.ensures.value c.in-Done.ensures in
-    range_stays r.stack.value begun.0.0 (pass_in r.by) r.values.items made c.left.result.0 c.left.result.1 begun.0.2 c.left.ensures
+    range_stays r.container.value begun.0.0 (pass_in r.by) r.values.items made c.left.result.0 c.left.result.1 begun.0.2 c.left.ensures

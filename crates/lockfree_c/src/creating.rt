@@ -1,0 +1,155 @@
+//! The functions that make a container for C, each into a slot that is empty.
+ghost use Rattle.ring_queue.specs.declared.limits.TheConstants.{MAX_LAPS};
+ghost use Rattle.tagged_index.specs.declared.word.TheConstants.{MAX_TAG};
+ghost use Rattle.lockfree_c.specs.Held.{
+  AreLimits,
+  AreRingLimits,
+  IsNewQueue,
+  IsNewRing,
+  IsNewStack,
+};
+ghost use Rattle.lockfree_c.specs.Slots.{IsSlot, SlotNew};
+
+use crate::answers::{IN_USE, OK};
+use crate::making::{boxed_queue, boxed_ring, boxed_stack};
+use crate::slot::Slot;
+use ring_queue::MAX_LAPS;
+use std::alloc::Global;
+use tagged_index::MAX_TAG;
+
+// A new queue's root, into a slot that is empty.
+fn make_queue(alloc: Global, root: &mut Slot, capacity: u32, tag_limit: u64) -> u32
+    requires { IsSlot root.old }
+    ensures of { IsSlot root.new }
+    ensures gives { SlotNew (IsNewQueue capacity tag_limit) (AreLimits capacity tag_limit) root.old root.new result }
+{
+    if root.full {
+        return IN_USE;
+    }
+    match boxed_queue(alloc, capacity, tag_limit) {
+        Ok(held) => {
+            root.put(held);
+            OK
+        }
+        Err(code) => code,
+    }
+}
+
+// A new stack's root, into a slot that is empty.
+fn make_stack(alloc: Global, root: &mut Slot, capacity: u32, tag_limit: u64) -> u32
+    requires { IsSlot root.old }
+    ensures of { IsSlot root.new }
+    ensures gives { SlotNew (IsNewStack capacity tag_limit) (AreLimits capacity tag_limit) root.old root.new result }
+{
+    if root.full {
+        return IN_USE;
+    }
+    match boxed_stack(alloc, capacity, tag_limit) {
+        Ok(held) => {
+            root.put(held);
+            OK
+        }
+        Err(code) => code,
+    }
+}
+
+// A new ring's root, into a slot that is empty.
+fn make_ring(alloc: Global, root: &mut Slot, capacity: u32, laps: u64, passes: u32) -> u32
+    requires { IsSlot root.old }
+    ensures of { IsSlot root.new }
+    ensures gives { SlotNew (IsNewRing capacity laps passes) (AreRingLimits capacity laps passes) root.old root.new result }
+{
+    if root.full {
+        return IN_USE;
+    }
+    match boxed_ring(alloc, capacity, laps, passes) {
+        Ok(held) => {
+            root.put(held);
+            OK
+        }
+        Err(code) => code,
+    }
+}
+
+/// A new queue's root: an empty queue of this capacity, open and not shut.
+#[unsafe(no_mangle)]
+pub extern "C" fn lockfree_queue_new(alloc: Global, root: &mut Slot, capacity: u32) -> u32
+    requires { IsSlot root.old }
+    ensures of { IsSlot root.new }
+    ensures gives { SlotNew (IsNewQueue capacity MAX_TAG) (AreLimits capacity MAX_TAG) root.old root.new result }
+{
+    make_queue(alloc, root, capacity, MAX_TAG)
+}
+
+/// A new queue's root, as by `lockfree_queue_new`, whose tags go up to this limit: 2 to 2^42 - 1.
+#[unsafe(no_mangle)]
+pub extern "C" fn lockfree_queue_limited(
+    alloc: Global,
+    root: &mut Slot,
+    capacity: u32,
+    tag_limit: u64,
+) -> u32
+    requires { IsSlot root.old }
+    ensures of { IsSlot root.new }
+    ensures gives { SlotNew (IsNewQueue capacity tag_limit) (AreLimits capacity tag_limit) root.old root.new result }
+{
+    make_queue(alloc, root, capacity, tag_limit)
+}
+
+/// A new stack's root: an empty stack of this capacity, open and not shut.
+#[unsafe(no_mangle)]
+pub extern "C" fn lockfree_stack_new(alloc: Global, root: &mut Slot, capacity: u32) -> u32
+    requires { IsSlot root.old }
+    ensures of { IsSlot root.new }
+    ensures gives { SlotNew (IsNewStack capacity MAX_TAG) (AreLimits capacity MAX_TAG) root.old root.new result }
+{
+    make_stack(alloc, root, capacity, MAX_TAG)
+}
+
+/// A new stack's root, as by `lockfree_stack_new`, whose tags go up to this limit: 2 to 2^42 - 1.
+#[unsafe(no_mangle)]
+pub extern "C" fn lockfree_stack_limited(
+    alloc: Global,
+    root: &mut Slot,
+    capacity: u32,
+    tag_limit: u64,
+) -> u32
+    requires { IsSlot root.old }
+    ensures of { IsSlot root.new }
+    ensures gives { SlotNew (IsNewStack capacity tag_limit) (AreLimits capacity tag_limit) root.old root.new result }
+{
+    make_stack(alloc, root, capacity, tag_limit)
+}
+
+/// A new ring's root: an empty ring of this capacity for so many passes, open and not shut. Each of
+/// its slots can be filled 2^41 - 1 times.
+#[unsafe(no_mangle)]
+pub extern "C" fn lockfree_ring_new(
+    alloc: Global,
+    root: &mut Slot,
+    capacity: u32,
+    passes: u32,
+) -> u32
+    requires { IsSlot root.old }
+    ensures of { IsSlot root.new }
+    ensures gives { SlotNew (IsNewRing capacity MAX_LAPS passes) (AreRingLimits capacity MAX_LAPS passes) root.old root.new result }
+{
+    make_ring(alloc, root, capacity, MAX_LAPS, passes)
+}
+
+/// A new ring's root, as by `lockfree_ring_new`, each of whose slots can be filled so often: 1 to
+/// 2^41 - 1 times.
+#[unsafe(no_mangle)]
+pub extern "C" fn lockfree_ring_limited(
+    alloc: Global,
+    root: &mut Slot,
+    capacity: u32,
+    laps: u64,
+    passes: u32,
+) -> u32
+    requires { IsSlot root.old }
+    ensures of { IsSlot root.new }
+    ensures gives { SlotNew (IsNewRing capacity laps passes) (AreRingLimits capacity laps passes) root.old root.new result }
+{
+    make_ring(alloc, root, capacity, laps, passes)
+}
