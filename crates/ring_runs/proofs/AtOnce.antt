@@ -1,5 +1,6 @@
 -- No more passes of a ring are in an operation at once than it has spare cells for.
 use Rattle.std.proofs.Common.{◌≡◌, ◌≢◌, ◌<◌, ◌≤◌, ℕ, zero, suc, ◌+◌, cond, ltb, List, [], ◌∷◌, ◌++◌, map, length, refl, ap, arith}
+use Rattle.std.proofs.lemmas.Bool.Decides.{nat_tests}
 use Rattle.std.proofs.lemmas.List.{length-append, length-map}
 use Rattle.std.specs.List.{AllByRecursion as Every}
 use Rattle.bounded_model.specs.declared.history.Event.{Event}
@@ -15,8 +16,10 @@ use Rattle.ring_table.specs.declared.line.SeatLine.{SeatLine}
 use Rattle.ring_table.specs.declared.line.SeatLine.TheVariants.{Stock}
 use Rattle.ring_table.specs.Seats.{passes_of}
 use Rattle.ring_table.proofs.Seats.{sum_at}
-use Rattle.ring_runs.proofs.Begins.{below_one}
 use Rattle.ring_runs.proofs.Free.{sum_seats}
+
+below_one : (c k : ℕ) → 0 < cond (ltb c k) 1 0 → c < k
+below_one c k = grind (arith, nat_tests)
 
 abbrev pair : ℕ → ℕ × ℕ
 pair c = (c, c)

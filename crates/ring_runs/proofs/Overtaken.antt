@@ -4,9 +4,10 @@ use Rattle.std.specs.List.{AllByRecursion as Every}
 use Rattle.std.proofs.lemmas.Bool.{false≢true}
 use mathlib.Core.Option.{Option, none, some}
 use lib.ListN.{get_elem?}
+use Rattle.bounded_model.specs.declared.history.Event.{Event}
 use Rattle.machine.specs.Bound.{AtLine, own_steps}
 use Rattle.machine.specs.Progress.{others_win}
-use Rattle.machine.specs.Schedule.{Schedule, start}
+use Rattle.machine.specs.Schedule.{Outcome, Schedule, start}
 use Rattle.machine.specs.Seats.{Acts}
 use Rattle.machine.proofs.Paying.{Weighs, overtaken, left_at}
 use Rattle.machine.proofs.Stories.{rule_holds}
@@ -26,7 +27,8 @@ use Rattle.ring_table.proofs.Laws.{ring_on}
 use Rattle.ring_table.proofs.Seats.{found}
 use Rattle.running.specs.Acts.{Begins, Course, Now, played, steps_in, IsAllowed}
 use Rattle.runs.specs.Runs.{Below, one, schedule_of}
-use Rattle.runs.proofs.Underway.{steps_are_own, begins_at}
+use Rattle.runs.proofs.Points.{stays}
+use Rattle.runs.proofs.Underway.{later_are_own, at_point, line_begun, none_begun}
 use Rattle.step_core.proofs.ring.Pays.{step_raises, step_falls}
 use Rattle.step_core.proofs.ring.Weight.{weight, price, harm, weight_small, price_small}
 use Rattle.ring_runs.specs.Machine.{From, Pass, State, cell_ring}
@@ -158,30 +160,48 @@ module _ {T : Type 0} (n laps passes : ℕ) where
   first_goes (At l) k f = tt
   first_goes (Stock cs) k f = absurd f
 
+  -- a step of a pass leads to a line of a pass
+  lands_going : (x : ℕ) (m : Memory T) (l : SeatLine T) → IsGoing (Goes l) → IsGoing (Goes ((core T n laps passes).lands m x l))
+  lands_going x m (At l) going = subst (λ (u : SeatLine T). IsGoing (Goes u)) (ap (λ (o : Outcome (Memory T) (SeatLine T) (Event T)). o.line) ((running n laps passes).steps m x (At l))) tt
+  lands_going x m (Stock cs) going = absurd going
+
   module _ (some_slot : 0 < n) (x : ℕ) (before now : Acts (SeatLine T)) (first l : SeatLine T) (k : Course names (core T n laps passes) before now x first l) (busy : is_idle l ≡ false) where
     abbrev older : Acts (SeatLine T)
     older = (x, Begins first) ∷ before
 
-    fresh_all_of : AllFresh names (core T n laps passes) (k.since ++ older)
-    fresh_all_of = subst (AllFresh names (core T n laps passes)) k.is k.fresh
+    -- The operation from a point on, of the acts `later` behind it
+    module _ (later earlier : Acts (SeatLine T)) (cut : k.since ≡ later ++ earlier) (numbers : ℕ) (low : Below numbers now) where
+      abbrev behind : Acts (SeatLine T)
+      behind = earlier ++ older
 
-    module _ (numbers : ℕ) (low : Below numbers now) where
+      split : now ≡ later ++ behind
+      split = k.is ∙ ap (λ (a : Acts (SeatLine T)). a ++ older) cut ∙ append_assoc later earlier older
+
+      fresh_behind : AllFresh names (core T n laps passes) behind
+      fresh_behind = fresh_older later behind (subst (AllFresh names (core T n laps passes)) split k.fresh)
+
       abbrev s : State T
-      s = state_after n laps passes numbers older
+      s = state_after n laps passes numbers behind
 
-      low_older : Below numbers older
-      low_older = every_older (λ a. a.0 < numbers) k.since older (subst (Below numbers) k.is low)
+      low_behind : Below numbers behind
+      low_behind = every_older (λ a. a.0 < numbers) later behind (subst (Below numbers) split low)
 
-      allowed_older : Allowed n laps passes older
-      allowed_older = every_older (λ a. IsAllowed names (core T n laps passes) a.1) k.since older (subst (Allowed n laps passes) k.is k.allowed)
+      allowed_behind : Allowed n laps passes behind
+      allowed_behind = every_older (λ a. IsAllowed names (core T n laps passes) a.1) later behind (subst (Allowed n laps passes) split k.allowed)
 
-      so_far : Followed n laps passes (schedule_of call_at older) (start (cell_ring n laps passes) numbers) (cells_from n passes)
-      so_far = follows n laps passes some_slot numbers older low_older allowed_older (fresh_older k.since older fresh_all_of)
+      so_far : Followed n laps passes (schedule_of call_at behind) (start (cell_ring n laps passes) numbers) (cells_from n passes)
+      so_far = follows n laps passes some_slot numbers behind low_behind allowed_behind fresh_behind
 
-      -- what has been begun since had its cell
-      fresh_since : FreshFrom n laps passes (schedule_of call_at k.since) s
-      fresh_since = fresh_later n laps passes (schedule_of call_at older) (schedule_of call_at k.since) (start (cell_ring n laps passes) numbers)
-          (subst (λ (sch : Schedule (From T)). FreshFrom n laps passes sch (start (cell_ring n laps passes) numbers)) (ap (schedule_of call_at) k.is ∙ schedule_append k.since older) (fresh_all n laps passes numbers now low k.allowed k.fresh))
+      -- what is begun later has its cell
+      fresh_later_on : FreshFrom n laps passes (schedule_of call_at later) s
+      fresh_later_on = fresh_later n laps passes (schedule_of call_at behind) (schedule_of call_at later) (start (cell_ring n laps passes) numbers)
+          (subst (λ (sch : Schedule (From T)). FreshFrom n laps passes sch (start (cell_ring n laps passes) numbers)) (ap (schedule_of call_at) split ∙ schedule_append later behind) (fresh_all n laps passes numbers now low k.allowed k.fresh))
+
+      -- the pass was at a line of the ring as it began, and so it is at the point
+      at_ring : IsGoing (Goes ((played names (core T n laps passes) behind).line x))
+      at_ring = stays (ring_on T n laps passes) x (λ (u : SeatLine T). IsGoing (Goes u)) (lands_going x) earlier older (none_begun (ring_on T n laps passes) (cell_ring n laps passes) call_at (running n laps passes) x before now first l k numbers low later earlier cut).1
+          (subst (λ (u : SeatLine T). IsGoing (Goes u)) (sym (line_begun (ring_on T n laps passes) (cell_ring n laps passes) call_at (running n laps passes) x before now first l k numbers low (played names (core T n laps passes) before) k.rested))
+          (first_goes first (played names (core T n laps passes) before) (fresh_older earlier older fresh_behind).0))
 
       going : AtLine IsGoing (get_elem? (lift so_far.left s).passes x)
       going = by_pass (get_elem? s.passes x) refl
@@ -189,19 +209,24 @@ module _ {T : Type 0} (n laps passes : ℕ) where
           by_pass : (o : Option (Pass T)) → get_elem? s.passes x ≡ o → AtLine IsGoing (get_elem? (lift so_far.left s).passes x)
           by_pass none e = subst (AtLine IsGoing) (sym (none_map goes s.passes x e)) tt
           by_pass (some v) e =
-              let at_first : v.line ≡ first = begins_at (ring_on T n laps passes) (cell_ring n laps passes) call_at (running n laps passes) x before now first l k numbers low v e in
-              subst (AtLine IsGoing) (sym (at_map goes s.passes x v e)) (subst (λ (u : SeatLine T). IsGoing (Goes u)) (sym at_first) (first_goes first (played names (core T n laps passes) before) (fresh_older k.since older fresh_all_of).0))
+              let there = at_point (ring_on T n laps passes) (cell_ring n laps passes) call_at (running n laps passes) x before now first l k numbers low later earlier cut v e in
+              subst (AtLine IsGoing) (sym (at_map goes s.passes x v e)) (subst (λ (u : SeatLine T). IsGoing (Goes u)) (sym there) at_ring)
 
-      bound : steps_in x k.since ≤ 47 + 47 * others_win (cell_ring n laps passes) x (schedule_of call_at k.since) s
-      bound =
-          let c = compared n laps passes x (schedule_of call_at k.since) s so_far.left so_far.keeps fresh_since in
+      later_bound : steps_in x later ≤ 47 + 47 * others_win (cell_ring n laps passes) x (schedule_of call_at later) s
+      later_bound =
+          let c = compared n laps passes x (schedule_of call_at later) s so_far.left so_far.keeps fresh_later_on in
           omega (
             arith,
-            steps_are_own (ring_on T n laps passes) (cell_ring n laps passes) call_at (running n laps passes) x before now first l k numbers low busy,
+            later_are_own (ring_on T n laps passes) (cell_ring n laps passes) call_at (running n laps passes) x before now first l k numbers low later earlier cut busy,
             c.own,
             c.wins,
-            pool_overtaken x (lift so_far.left s) (with_pool n laps passes (schedule_of call_at k.since) s) so_far.keeps going,
+            pool_overtaken x (lift so_far.left s) (with_pool n laps passes (schedule_of call_at later) s) so_far.keeps going,
           )
 
     pub bounded : IsBounded n laps passes before now x first
-    bounded = record { since = k.since; is = k.is; bound = bound }
+    bounded = record {
+      since = k.since;
+      is = k.is;
+      bound = λ numbers low. later_bound k.since [] (sym (append-nil k.since)) numbers low;
+      from_any_point = later_bound;
+    }

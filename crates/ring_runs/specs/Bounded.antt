@@ -46,9 +46,11 @@ module _ {T : Type 0} where
     state_after numbers acts = after (cell_ring n laps passes) numbers (schedule_of call_at acts)
 
     -- Pass x in an operation with this first line, by the acts as it was begun and those by now: since then it has made so many steps, and so many exchanges of others
-    -- have succeeded. The machine that ran as the passes did says which succeeded
+    -- have succeeded. The machine that ran as the passes did says which succeeded. The same bound holds of the steps from any point of the operation on
     pub record IsBounded (before now : Acts (SeatLine T)) (x : ℕ) (first : SeatLine T) : Type 0 where
       pub since : Acts (SeatLine T)
       pub is : now ≡ since ++ (x, Begins first) ∷ before
       pub bound : (numbers : ℕ) → Below numbers now
           → steps_in x since ≤ 47 + 47 * others_win (cell_ring n laps passes) x (schedule_of call_at since) (state_after numbers ((x, Begins first) ∷ before))
+      pub from_any_point : (later earlier : Acts (SeatLine T)) → since ≡ later ++ earlier → (numbers : ℕ) → Below numbers now
+          → steps_in x later ≤ 47 + 47 * others_win (cell_ring n laps passes) x (schedule_of call_at later) (state_after numbers (earlier ++ (x, Begins first) ∷ before))
