@@ -63,7 +63,6 @@ public:
         const lockfree_answer answer = lockfree_push_range(&by.pass, words(), count);
         if (answer.code != LOCKFREE_OK) return refused(of, answer.code);
         put_count = static_cast<std::size_t>(answer.value);
-        by.pushed.store(lockfree_number(&by.pass).value + 1, std::memory_order_relaxed);
         after = std::next(first, static_cast<distance>(put_count));
         return status::ok;
     }

@@ -106,33 +106,33 @@ public:
 
     /// No push follows. Pops go on until it is empty, and then say closed. Whether this call closed it.
     bool close() {
-        const bool did = ask([](handle &pass) { return lockfree_close(&pass, UINT64_MAX); }) == status::ok;
-        if (core *const of = me().shared()) of->closed.store(true, std::memory_order_release);
+        core *const of = me().shared();
+        if (of) gives(of);
+        const bool did = ask([](handle &pass) { return (lockfree_close)(&pass, UINT64_MAX); }) == status::ok;
+        of->closed.store(true, std::memory_order_release);
         return did;
     }
     /// No pop follows; what is left ends with the container, or is handed out by `finish`. Whether this call shut it.
     bool shut() {
-        return ask([](handle &pass) { return lockfree_shut(&pass, UINT64_MAX); }) == status::ok;
+        return ask([](handle &pass) { return (lockfree_shut)(&pass, UINT64_MAX); }) == status::ok;
     }
 
     /// Whether it was empty at some time in the call.
     bool empty() const {
-        return const_cast<calls *>(this)->ask([](handle &pass) { return lockfree_look(&pass, UINT64_MAX); }) != status::ok;
+        return const_cast<calls *>(this)->ask([](handle &pass) { return (lockfree_look)(&pass, UINT64_MAX); }) != status::ok;
     }
     /// How many values a queue held at one moment of the call.
     template <kind Of = K, class = std::enable_if_t<Of == kind::queue>> std::size_t size() const {
-        std::size_t count = 0;
-        throw_if_not_made(const_cast<calls *>(this)->me().with([&](core &of, seat &by) {
-            const lockfree_answer answer = whole(by.pass, lockfree_count(&by.pass, UINT64_MAX));
-            count = static_cast<std::size_t>(answer.value);
-            return refused(of, answer.code);
-        }));
-        return count;
+        std::uint64_t count = 0;
+        tell(count, [](handle &pass) { return (lockfree_count)(&pass, UINT64_MAX); });
+        return static_cast<std::size_t>(count);
     }
-    /// Whether a call has closed it and returned, or a call was refused for this.
-    bool is_closed() const noexcept {
+    /// Whether it was closed at one moment of the call.
+    bool is_closed() const {
         const core *const of = me().shared();
-        return of && of->closed.load(std::memory_order_acquire);
+        if (of && of->closed.load(std::memory_order_acquire)) return true;
+        std::uint64_t tags = 0;
+        return gauge(tags) == status::closed;
     }
     /// How many values fit.
     std::size_t capacity() const noexcept {
@@ -143,16 +143,16 @@ public:
     bool is_lock_free() const noexcept { return true; }
     static constexpr bool is_always_lock_free = true;
 
-    /// The part of its life that the container has used, from 0 to 1. A queue takes 2^42 - 2 values in its life, a stack
-    /// makes 2^42 - 1 pushes and pops. Then it is spent, and each push and pop says so. A stack's pops since its last push
-    /// are not counted. The call reads each seat that was ever made.
-    double wear() const noexcept {
+    /// The part of its life that the container had used at one moment of the call, from 0 to 1. A queue takes 2^42 - 2
+    /// values in its life, a stack makes 2^42 - 1 pushes and pops. Then it is spent, and each push and pop says so. 1 after
+    /// `finish`.
+    double wear() const {
         const core *const of = me().shared();
-        if (!of) return 0;
-        if (of->spent.load(std::memory_order_acquire)) return 1;
-        const std::uint64_t life = K == kind::queue ? of->most - 1 : of->most;
-        const double used = static_cast<double>(of->pushed()) / static_cast<double>(life);
-        return used < 1 ? used : 1;
+        if (of && of->spent.load(std::memory_order_acquire)) return 1;
+        std::uint64_t used = 0;
+        gauge(used);
+        const double part = static_cast<double>(used) / static_cast<double>(K == kind::queue ? of->most - 1 : of->most);
+        return part < 1 ? part : 1;
     }
 
 protected:
@@ -169,6 +169,21 @@ protected:
 private:
     Me &me() noexcept { return static_cast<Me &>(*this); }
     const Me &me() const noexcept { return static_cast<const Me &>(*this); }
+
+    /// Asks, and tells the number that is answered.
+    template <class Question> status tell(std::uint64_t &number, Question &&question) const {
+        const status what = const_cast<calls *>(this)->me().with([&](core &of, seat &by) {
+            const lockfree_answer answer = whole(by.pass, question(by.pass));
+            number = answer.value;
+            return refused(of, answer.code);
+        });
+        throw_if_not_made(what);
+        return what;
+    }
+    /// How many tags are used, and ok or closed.
+    status gauge(std::uint64_t &tags) const {
+        return tell(tags, [](handle &pass) { return (lockfree_gauge)(&pass, UINT64_MAX); });
+    }
 
     template <class Again, class... Args> status make(Again &again, Args &&...args) {
         return heard(again, me().with([&](core &of, seat &by) { return put_made<T>(of, by, again, std::forward<Args>(args)...); }));

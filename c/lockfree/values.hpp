@@ -77,7 +77,10 @@ template <class T, class F> void use_word(core &of, seat &by, std::uint64_t word
 
 /// A refusal, which the container also keeps in mind.
 inline status refused(core &of, std::uint32_t code) noexcept {
-    if (code == LOCKFREE_CLOSED) of.closed.store(true, std::memory_order_release);
+    if (code == LOCKFREE_CLOSED) {
+        gets(&of);
+        of.closed.store(true, std::memory_order_release);
+    }
     if (code == LOCKFREE_SPENT) of.spent.store(true, std::memory_order_release);
     return status_of(code);
 }
@@ -87,10 +90,7 @@ template <class Again> status put_word(core &of, seat &by, std::uint64_t word, A
     for (;;) {
         gives(&of);
         const lockfree_answer answer = put(by.pass, word);
-        if (answer.code == LOCKFREE_OK) {
-            by.pushed.store(answer.value + 1, std::memory_order_relaxed);
-            return status::ok;
-        }
+        if (answer.code == LOCKFREE_OK) return status::ok;
         if (answer.code != LOCKFREE_FULL || !again()) return refused(of, answer.code);
     }
 }

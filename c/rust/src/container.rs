@@ -1,11 +1,11 @@
 //! The two containers, and what one shares with its passes.
 use crate::cells::{self, Cells, Hand};
 use crate::pass::{Pass, QueuePass, StackPass};
-use crate::raw::{Kind, RawPass, Root};
+use crate::raw::{Code, Kind, RawPass, Root};
 use crate::{MakeError, TAG_LIMIT};
 use std::fmt;
 use std::panic::{catch_unwind, resume_unwind, AssertUnwindSafe};
-use std::sync::atomic::{AtomicBool, AtomicU64, Ordering};
+use std::sync::atomic::{AtomicBool, Ordering};
 use std::sync::{Arc, Mutex, PoisonError};
 
 /// What a container and its passes share. It ends with the last of them.
@@ -13,10 +13,10 @@ pub(crate) struct Core<T> {
     seats: Mutex<Seats<T>>,
     pub(crate) cells: Cells<T>,
     pub(crate) capacity: u32,
-    tag_limit: u64,
-    /// How many numbers are used up, as far as it was noted: behind the truth by at most `BETWEEN_NOTES` puts.
-    numbers: AtomicU64,
-    is_closed: AtomicBool,
+    /// How many tags it has: one for each push of a queue that it takes in its life, and for each push and pop of a stack.
+    life: u64,
+    /// Whether a call was refused since it is worn out.
+    is_spent: AtomicBool,
 }
 
 /// A pass of the library, with what its thread has at hand. It goes to the next pass when its own is dropped, so that
@@ -33,9 +33,6 @@ struct Seats<T> {
     made: usize,
 }
 
-/// So seldom do threads write the same word to say how far the numbers are.
-const BETWEEN_NOTES: u64 = 256;
-
 impl<T> Core<T> {
     fn new(kind: Kind, capacity: u32, tag_limit: u64) -> Result<Core<T>, MakeError> {
         if !(2..=TAG_LIMIT).contains(&tag_limit) {
@@ -46,9 +43,11 @@ impl<T> Core<T> {
             seats: Mutex::new(Seats { root, resting: Vec::new(), made: 0 }),
             cells: Cells::new(capacity)?,
             capacity,
-            tag_limit,
-            numbers: AtomicU64::new(0),
-            is_closed: AtomicBool::new(false),
+            life: match kind {
+                Kind::Queue => tag_limit - 1,
+                Kind::Stack => tag_limit,
+            },
+            is_spent: AtomicBool::new(false),
         })
     }
 
@@ -70,28 +69,19 @@ impl<T> Core<T> {
         self.seats.lock().unwrap_or_else(PoisonError::into_inner).resting.push(seat);
     }
 
-    /// Notes that a put had this number.
-    #[inline]
-    pub(crate) fn note(&self, number: u64) {
-        if number >= self.numbers.load(Ordering::Relaxed).saturating_add(BETWEEN_NOTES) {
-            self.numbers.fetch_max(number + 1, Ordering::Relaxed);
+    /// Keeps what a refusal says of the container.
+    #[cold]
+    pub(crate) fn note_refusal(&self, code: Code) {
+        if code == Code::SPENT {
+            self.is_spent.store(true, Ordering::Relaxed);
         }
     }
 
-    pub(crate) fn note_spent(&self) {
-        self.numbers.store(self.tag_limit, Ordering::Relaxed);
-    }
-
-    pub(crate) fn wear(&self) -> f64 {
-        self.numbers.load(Ordering::Relaxed) as f64 / self.tag_limit as f64
-    }
-
-    pub(crate) fn note_closed(&self) {
-        self.is_closed.store(true, Ordering::Release);
-    }
-
-    pub(crate) fn is_closed(&self) -> bool {
-        self.is_closed.load(Ordering::Acquire)
+    pub(crate) fn wear(&self, by: &mut RawPass) -> f64 {
+        if self.is_spent.load(Ordering::Relaxed) {
+            return 1.0;
+        }
+        (by.gauge().tags as f64 / self.life as f64).min(1.0)
     }
 }
 
@@ -158,7 +148,7 @@ pub(crate) fn drop_each<T>(mut next: impl FnMut() -> Option<T>) {
 /// ```
 pub struct Queue<T> {
     core: Arc<Core<T>>,
-    // By which what is left is taken at the end: only `drop` uses it.
+    // By which the container itself asks, and what is left is taken at the end.
     last: Mutex<QueuePass<T>>,
 }
 
@@ -175,7 +165,7 @@ pub struct Queue<T> {
 /// ```
 pub struct Stack<T> {
     core: Arc<Core<T>>,
-    // By which what is left is taken at the end: only `drop` uses it.
+    // By which the container itself asks, and what is left is taken at the end.
     last: Mutex<StackPass<T>>,
 }
 
@@ -245,7 +235,7 @@ macro_rules! container {
                 self.core.capacity
             }
 
-            /// Whether it was closed, as [`Pass::is_closed`] says it.
+            /// Whether it was closed, as [`Pass::is_closed`] says it. It takes a lock.
             ///
             /// ```
             #[doc = concat!("let container = lockfree::", stringify!($Container), "::<u8>::new(4).unwrap();")]
@@ -253,17 +243,17 @@ macro_rules! container {
             /// assert!(container.is_closed());
             /// ```
             pub fn is_closed(&self) -> bool {
-                self.core.is_closed()
+                self.last.lock().unwrap_or_else(PoisonError::into_inner).is_closed()
             }
 
-            /// Which part of its life has gone, 0 to 1, as [`Pass::wear`] says it.
+            /// Which part of its life has gone, 0 to 1, as [`Pass::wear`] says it. It takes a lock.
             ///
             /// ```
             #[doc = concat!("let container = lockfree::", stringify!($Container), "::<u8>::new(4).unwrap();")]
             /// assert_eq!(container.wear(), 0.0);
             /// ```
             pub fn wear(&self) -> f64 {
-                self.core.wear()
+                self.last.lock().unwrap_or_else(PoisonError::into_inner).wear()
             }
         }
 

@@ -1,6 +1,5 @@
 //! The calls that passes of both containers make.
 use crate::container::{Core, Seat};
-use crate::raw::Code;
 use crate::waiting::Waiting;
 use crate::{MakeError, PopError, PushError};
 use std::fmt;
@@ -63,14 +62,11 @@ impl<T, K> Pass<T, K> {
         let Seat { pass, hand } = &mut self.seat;
         let word = hand.word(&self.core.cells, value).map_err(PushError::Full)?;
         match pass.put(word) {
-            Ok(number) => {
-                self.core.note(number);
-                Ok(number)
-            }
+            Ok(number) => Ok(number),
             Err(code) => {
                 // SAFETY: the word was not put.
                 let value = unsafe { hand.value(&self.core.cells, word) };
-                self.note_refusal(code);
+                self.core.note_refusal(code);
                 Err(PushError::of(code, value))
             }
         }
@@ -98,7 +94,7 @@ impl<T, K> Pass<T, K> {
             // SAFETY: the word comes out. (That none comes out twice is proved.)
             Ok(word) => Ok(unsafe { hand.value(&self.core.cells, word) }),
             Err(code) => {
-                self.note_refusal(code);
+                self.core.note_refusal(code);
                 Err(PopError::of(code))
             }
         }
@@ -198,9 +194,7 @@ impl<T, K> Pass<T, K> {
     /// assert_eq!(pass.push(1), Err(lockfree::PushError::Closed(1)));
     /// ```
     pub fn close(&mut self) -> bool {
-        let closed = self.seat.pass.close();
-        self.core.note_closed();
-        closed
+        self.seat.pass.close()
     }
 
     /// Shuts the container, so that no pop follows; pushes may. What it holds is dropped at the end. Whether this call
@@ -217,7 +211,7 @@ impl<T, K> Pass<T, K> {
         self.seat.pass.shut()
     }
 
-    /// Whether the container was closed: after a `close` has returned, and after any call said that it is closed.
+    /// Whether the container was closed.
     ///
     /// ```
     /// let queue = lockfree::Queue::<u8>::new(4).unwrap();
@@ -226,8 +220,8 @@ impl<T, K> Pass<T, K> {
     /// pass.close();
     /// assert!(pass.is_closed());
     /// ```
-    pub fn is_closed(&self) -> bool {
-        self.core.is_closed()
+    pub fn is_closed(&mut self) -> bool {
+        self.seat.pass.gauge().is_closed
     }
 
     /// Whether the container was empty.
@@ -255,8 +249,7 @@ impl<T, K> Pass<T, K> {
 
     /// Which part of the container's life has gone, 0 to 1. A container has numbers for 2^42 - 2 pushes of a queue, or
     /// 2^42 - 1 pushes and pops of a stack; then each push is `Spent`. That takes more than a day of calls without a pause.
-    /// A program that runs for so long replaces its container before. The part is known from the pushes' numbers: it is behind
-    /// by 256 pushes at most, and by a stack's pops since its last push.
+    /// A program that runs for so long replaces its container before.
     ///
     /// ```
     /// let queue = lockfree::Queue::with_tag_limit(1, 1001).unwrap();
@@ -265,20 +258,10 @@ impl<T, K> Pass<T, K> {
     ///     pass.push(value).unwrap();
     ///     pass.pop().unwrap();
     /// }
-    /// assert!(0.2 < pass.wear() && pass.wear() < 0.5);
+    /// assert_eq!(pass.wear(), 0.5);
     /// ```
-    pub fn wear(&self) -> f64 {
-        self.core.wear()
-    }
-
-    /// Keeps what a refusal says of the container.
-    #[cold]
-    pub(crate) fn note_refusal(&self, code: Code) {
-        match code {
-            Code::CLOSED => self.core.note_closed(),
-            Code::SPENT => self.core.note_spent(),
-            _ => (),
-        }
+    pub fn wear(&mut self) -> f64 {
+        self.core.wear(&mut self.seat.pass)
     }
 }
 

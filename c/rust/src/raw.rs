@@ -64,6 +64,7 @@ extern "C" {
     fn lockfree_shut(pass: *mut Handle, tries: u64) -> Answer;
     fn lockfree_look(pass: *mut Handle, tries: u64) -> Answer;
     fn lockfree_count(pass: *mut Handle, tries: u64) -> Answer;
+    fn lockfree_gauge(pass: *mut Handle, tries: u64) -> Answer;
     fn lockfree_number(pass: *mut Handle) -> Answer;
     fn lockfree_go_on(pass: *mut Handle, tries: u64) -> Answer;
     fn lockfree_fold(pass: *mut Handle, reversed: bool, tries: u64) -> Answer;
@@ -136,6 +137,13 @@ impl Root {
         let answer = unsafe { lockfree_finish(&mut self.0) };
         (answer.code == Code::VALUE).then_some(answer.value)
     }
+}
+
+/// What a queue or a stack was at one moment.
+pub(crate) struct Gauge {
+    pub(crate) is_closed: bool,
+    /// How many tags are used.
+    pub(crate) tags: u64,
 }
 
 /// What a call of a fold gives.
@@ -215,6 +223,13 @@ impl RawPass {
     pub(crate) fn count(&mut self) -> u64 {
         // SAFETY: as in `call`.
         self.call(|at| unsafe { lockfree_count(at, u64::MAX) }).number()
+    }
+
+    /// Gauges a queue or a stack.
+    pub(crate) fn gauge(&mut self) -> Gauge {
+        // SAFETY: as in `call`.
+        let answer = self.call(|at| unsafe { lockfree_gauge(at, u64::MAX) });
+        Gauge { is_closed: answer.code == Code::CLOSED, tags: answer.number() }
     }
 
     /// Begins a fold of a stack, and gives the first value. `fold_on` gives the others, and has to be called to the end.

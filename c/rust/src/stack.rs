@@ -50,12 +50,9 @@ impl<T> StackPass<T> {
         // SAFETY: these words were not put.
         let left = rest.map(|word| unsafe { self.seat.hand.value(&self.core.cells, word) }).collect();
         match put {
-            Ok(count) => {
-                self.core.note(self.seat.pass.number());
-                Ok(Pushed { count: count as u64, left })
-            }
+            Ok(count) => Ok(Pushed { count: count as u64, left }),
             Err(code) => {
-                self.note_refusal(code);
+                self.core.note_refusal(code);
                 Err(PushError::of(code, left))
             }
         }
@@ -102,7 +99,7 @@ impl<T> StackPass<T> {
     fn fold(&mut self, reversed: bool, mut f: impl FnMut(T)) -> Result<u64, PopError> {
         let folded = self.seat.pass.fold(reversed);
         if let Folded::Refused(code) = folded {
-            self.note_refusal(code);
+            self.core.note_refusal(code);
             return Err(PopError::of(code));
         }
         let mut fold = Fold { pass: self, folded };
