@@ -8,7 +8,7 @@
 // moodycamel: moodycamel::ConcurrentQueue, where its header is there. WORK: nanoseconds of work before
 // each put and after each take. CAPACITY is given when it is compiled (-DCAPACITY=4096), and so are the bytes of a value:
 // the item, and room beside it (-DVALUE_BYTES=64). With -DOURS the stack and the queue are those of this repository,
-// as C++ calls them, and there are no others.
+// as C++ calls them, and there is a ring, and no other.
 //
 // Two runs are made, as there: the first gives nanoseconds per item, the second, with the clock read
 // before and after each call, the percentiles. A refused caller gives 50 spin hints and then yields.
@@ -72,6 +72,9 @@ Item item_of(const Value& value) { return value.item; }
 
 using Stack = containers::stack<Value, containers::capacity<CAPACITY>>;
 using Queue = containers::queue<Value, containers::capacity<CAPACITY>>;
+#ifdef OURS
+using Ring = containers::ring_queue<Value, containers::capacity<CAPACITY>>;
+#endif
 
 class MutexStack {
 public:
@@ -338,7 +341,9 @@ int main(int count, char** words) {
     if (load.items == 0 || (load.producers > 0 && load.consumers == 0)) return 2;
     if (kind == "stack") return measure<Stack>(load);
     if (kind == "queue") return measure<Queue>(load);
-#ifndef OURS
+#ifdef OURS
+    if (kind == "ring") return measure<Ring>(load);
+#else
     if (kind == "mutex-stack") return measure<MutexStack>(load);
     if (kind == "mutex-queue") return measure<MutexQueue>(load);
 #endif

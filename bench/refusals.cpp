@@ -2,8 +2,8 @@
 //
 // usage: refusals KIND CALL
 //
-// KIND: stack or queue: Boost.Lockfree's, bounded; with -DOURS those of this repository, as C++ calls them. CALL: push, pop
-// or look. VALUE_BYTES is given when it is compiled. Prints the nanoseconds of a call: the least of 25 trials, each of
+// KIND: stack or queue: Boost.Lockfree's, bounded; with -DOURS those of this repository, as C++ calls them, or its ring.
+// CALL: push, pop or look. VALUE_BYTES is given when it is compiled. Prints the nanoseconds of a call: the least of 25 trials, each of
 // 20,000 calls.
 
 #include <chrono>
@@ -80,5 +80,8 @@ int main(int count, char** words) {
     const std::string kind = words[1], call = words[2];
     if (kind == "stack") return measure<containers::stack<Value, containers::capacity<64>>>(call);
     if (kind == "queue") return measure<containers::queue<Value, containers::capacity<64>>>(call);
+#ifdef OURS
+    if (kind == "ring") return measure<containers::ring_queue<Value, containers::capacity<64>>>(call);
+#endif
     return 2;
 }

@@ -1,4 +1,4 @@
-// A bounded queue and a bounded stack for C++17. They call the functions of lockfree.h, which are proved; these headers
+// A bounded queue, a bounded stack and a ring for C++17. They call the functions of lockfree.h, which are proved; these headers
 // are tested. A call that Boost.Lockfree has too has its name and meaning. A program for Boost's containers switches by
 // including lockfree_boost.hpp.
 //
@@ -7,7 +7,7 @@
 //
 // Calls. push and pop may be called from any thread, at any time. Each thread that calls gets a pass of its own, at its
 // first call of a container, under a lock and with memory; it goes back to the container when the thread ends. `split`
-// makes a pass that a thread keeps itself. At most 65,534 passes are out at a time.
+// makes a pass that a thread keeps itself. At most 65,534 passes are out at a time, of a ring as many as it is made for.
 //
 // Values. A value of a trivially copyable type of up to 8 bytes is itself the word that the library stores. Any other
 // value lies in a cell of the container. The constructor makes the cells, and a thread's first call some more. After that
@@ -23,8 +23,8 @@
 // `try_split` and what says status do not.
 //
 // Wear. A queue takes 2^42 - 2 values in its life, a stack makes 2^42 - 1 pushes and pops. At ten million pushes and pops a
-// second that is five days for a queue, and two and a half for a stack. Then it is spent: each push and pop says so, and
-// `finish` or the destructor gets what is left. `wear()` says which part is used.
+// second that is five days for a queue, and two and a half for a stack. A ring takes 2^41 - 1 times its capacity. Then it
+// is spent: each push says so, and `finish` or the destructor gets what is left. `wear()` says which part is used.
 //
 // Do not: call from a signal handler, or in the child of a fork of a process with threads; unload a shared object whose
 // code is in a call.
@@ -56,17 +56,31 @@ public:
     using base::base;
 };
 
+/// A bounded queue for a known number of threads, which takes less time than `queue`: its calls, but size(). Options: capacity<N>,
+/// or none and the capacity for the constructor. It also takes a pass_limit: as many threads at a time can have called it,
+/// with the passes of `split`. One more gets status::no_pass, and std::length_error of calls that say bool. The pass of a
+/// thread that ends, and of `split` that ends, is the next one's.
+///
+///     lockfree::ring_queue<T> ring(128, lockfree::pass_limit{8});   // 64 passes if nothing is said
+template <class T, class... Options> class ring_queue : public detail::container<T, detail::kind::ring, Options...> {
+    using base = detail::container<T, detail::kind::ring, Options...>;
+
+public:
+    using base::base;
+};
+
 template <class T> using bounded_queue = queue<T, fixed_sized<true>>;
 template <class T> using bounded_stack = stack<T, fixed_sized<true>>;
 
-/// Makes a container whose capacity is `room`, for programs without exceptions. Returns null if there is no memory, or if
-/// `room` is not 1 to 1,048,573.
-template <class Container> std::unique_ptr<Container> make(std::size_t room, tag_limit limit = {detail::greatest_tag}) noexcept {
-    return detail::make<Container>(room, limit);
+/// Makes a container whose capacity is `room`, for programs without exceptions; `most` are limits as a constructor takes
+/// them. Returns null if there is no memory, or no such capacity or limit.
+template <class Container, class... Limits> std::unique_ptr<Container> make(std::size_t room, Limits... most) noexcept {
+    return detail::make<Container>(room, typename Container::limits(most...));
 }
 /// The same of a container with capacity<N>.
-template <class Container> std::unique_ptr<Container> make(tag_limit limit = {detail::greatest_tag}) noexcept {
-    return detail::make<Container>(limit);
+template <class Container, class... Limits, class = std::enable_if_t<std::is_constructible_v<typename Container::limits, Limits...>>>
+std::unique_ptr<Container> make(Limits... most) noexcept {
+    return detail::make<Container>(typename Container::limits(most...));
 }
 
 }  // namespace v0_2

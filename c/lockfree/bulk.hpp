@@ -142,8 +142,7 @@ private:
     }
 };
 
-template <class Me, class T, kind K> class all_calls;
-template <class Me, class T> class all_calls<Me, T, kind::queue> : public calls<Me, T, kind::queue> {};
+template <class Me, class T, kind K> class all_calls : public calls<Me, T, K> {};
 template <class Me, class T> class all_calls<Me, T, kind::stack> : public calls<Me, T, kind::stack>, public bulk<Me, T> {
 public:
     using bulk<Me, T>::bounded_push;

@@ -81,15 +81,18 @@ public:
     using value_type = T;
     using size_type = std::size_t;
     using pass = pass_of<T, K>;
+    using limits = detail::limits<K>;
 
-    /// With capacity<N>. Takes all memory that pushes and pops need, whatever T is. std::bad_alloc.
-    template <bool Sized = sized, class = std::enable_if_t<Sized>>
-    explicit container(tag_limit limit) : container(adopted{made(given::size, limit)}) {}
-    template <bool Sized = sized, class = std::enable_if_t<Sized>> container() : container(adopted{made(given::size, {greatest_tag})}) {}
-    /// With fixed_sized<true>. Room for 1 to 1,048,573 values. std::bad_alloc, std::invalid_argument.
-    template <bool Sized = sized, class = std::enable_if_t<!Sized>>
-    explicit container(size_type room, tag_limit limit = {greatest_tag}) : container(adopted{made(room, limit)}) {
-        static_assert(given::fixed || Sized,
+    /// With capacity<N>. Takes all memory that pushes and pops need, whatever T is. std::bad_alloc, and of limits
+    /// std::invalid_argument.
+    template <bool Sized = sized, class = std::enable_if_t<Sized>> container() : container(adopted{made(given::size, limits())}) {}
+    template <class First, class... More, bool Sized = sized, class = std::enable_if_t<Sized && are_limits<K, First, More...>>>
+    explicit container(First limit, More... more) : container(adopted{made(given::size, limits(limit, more...))}) {}
+    /// With fixed_sized<true>, and a ring without capacity<N>. Room for 1 to 1,048,573 values. std::bad_alloc,
+    /// std::invalid_argument.
+    template <class... Limits, bool Sized = sized, class = std::enable_if_t<!Sized && are_limits<K, Limits...>>>
+    explicit container(size_type room, Limits... most) : container(adopted{made(room, limits(most...))}) {
+        static_assert(given::fixed || Sized || K == kind::ring,
                       "lockfree: Boost's container of a size without fixed_sized<true> grows, and none here does: "
                       "say fixed_sized<true>, or bounded_queue<T> or bounded_stack<T>");
     }
@@ -105,8 +108,8 @@ public:
     }
 
     /// A pass that a thread keeps itself, which spares each call the look for it. Made under a lock; takes memory if more
-    /// are out than ever before. At most 65,534 are out at a time, with those of the threads that have called. try_split's
-    /// is empty if there is no memory or no pass; split throws std::bad_alloc or std::length_error.
+    /// are out than ever before. At most 65,534 are out at a time, with those of the threads that have called; of a ring as
+    /// many as its pass_limit says. try_split's is empty if there is no memory or no pass; split throws std::bad_alloc or std::length_error.
     pass split() {
         seat *by = nullptr;
         throw_for(of->take_seat(by));
@@ -152,13 +155,13 @@ private:
     core *const of;
     const std::size_t place;
 
-    static std::uint32_t make_core(core *&to, size_type room, tag_limit limit) noexcept {
-        return core::make(K, room, layout_of<T>(), limit.most, to);
+    static std::uint32_t make_core(core *&to, size_type room, limits most) noexcept {
+        return core::make(room, layout_of<T>(), most, to);
     }
-    static std::uint32_t make_core(core *&to, tag_limit limit) noexcept { return make_core(to, given::size, limit); }
-    static core *made(size_type room, tag_limit limit) {
+    static std::uint32_t make_core(core *&to, limits most) noexcept { return make_core(to, given::size, most); }
+    static core *made(size_type room, limits most) {
         core *to = nullptr;
-        throw_for(make_core(to, room, limit));
+        throw_for(make_core(to, room, most));
         return to;
     }
 

@@ -19,6 +19,7 @@ namespace detail {
 struct alignas(64) seat {
     handle pass;
     cells_at_hand cells;
+    std::atomic<std::uint64_t> pushed{0};  // of a ring: the number of its last push, and 1
     seat *next_resting = nullptr;
     seat *next_made = nullptr;
 };
@@ -31,11 +32,11 @@ struct alignas(64) seat {
 class core {
 public:
     /// A new core with one user, or null and why. OK, NO_MEMORY, BAD_CAPACITY; OTHER_HANDLE if archive and headers differ.
-    static std::uint32_t make(kind which, std::size_t room, cell_layout layout, std::uint64_t most, core *&to) noexcept {
+    template <kind K> static std::uint32_t make(std::size_t room, cell_layout layout, limits<K> most, core *&to) noexcept {
         if (lockfree_version() / 100 != LOCKFREE_H_VERSION / 100) return LOCKFREE_OTHER_HANDLE;
-        core *const made = new (std::nothrow) core(which, room, layout, most);
+        core *const made = new (std::nothrow) core(room, layout, most.life);
         if (!made) return LOCKFREE_NO_MEMORY;
-        const std::uint32_t code = made->open();
+        const std::uint32_t code = made->open(most);
         if (code == LOCKFREE_OK) to = made;
         else delete made;
         return code;
@@ -43,9 +44,8 @@ public:
     core(const core &) = delete;
     core &operator=(const core &) = delete;
 
-    const kind which;
     const std::size_t room;
-    const std::uint64_t most;  // the tag limit
+    const std::uint64_t life;  // the limit of tags, or of laps
     /// Which of a thread's places at hand is this container's.
     const std::size_t place = next_place();
     /// What some call has heard. They change once.
@@ -66,6 +66,16 @@ public:
 
     void *take_cell(seat &by) noexcept { return cells.take(by.cells, lock); }
     void give_cell(seat &by, void *cell) noexcept { cells.give(by.cells, cell, lock); }
+
+    /// How many values a ring has taken, of those whose push has returned.
+    std::uint64_t pushed() const noexcept {
+        std::uint64_t most_pushed = 0;
+        for (const seat *at = made.load(std::memory_order_acquire); at; at = at->next_made) {
+            const std::uint64_t of_seat = at->pushed.load(std::memory_order_relaxed);
+            if (of_seat > most_pushed) most_pushed = of_seat;
+        }
+        return most_pushed;
+    }
 
     void add_user() noexcept { users.fetch_add(1, std::memory_order_relaxed); }
     /// Whether it was the last one, who then calls `end`.
@@ -115,8 +125,7 @@ public:
     }
 
 private:
-    core(kind of, std::size_t capacity, cell_layout layout, std::uint64_t tags) noexcept
-        : which(of), room(capacity), most(tags), cells(layout) {}
+    core(std::size_t capacity, cell_layout layout, std::uint64_t whole_life) noexcept : room(capacity), life(whole_life), cells(layout) {}
     ~core() { free_all(); }
 
     std::mutex lock;
@@ -133,11 +142,17 @@ private:
         return places.fetch_add(1, std::memory_order_relaxed);
     }
 
-    std::uint32_t open() noexcept {
-        if (room > UINT32_MAX) return LOCKFREE_BAD_CAPACITY;
+    template <kind K> std::uint32_t make_root(limits<K> most) noexcept {
         const auto capacity = static_cast<std::uint32_t>(room);
-        std::uint32_t code = which == kind::queue ? lockfree_queue_limited(&root, capacity, most)
-                                                  : lockfree_stack_limited(&root, capacity, most);
+        if constexpr (K == kind::queue) return lockfree_queue_limited(&root, capacity, most.life);
+        else if constexpr (K == kind::stack) return lockfree_stack_limited(&root, capacity, most.life);
+        else if (most.passes >= UINT32_MAX) return LOCKFREE_BAD_CAPACITY;
+        else return lockfree_ring_limited(&root, capacity, most.life, static_cast<std::uint32_t>(most.passes) + 1);  // one is kept back
+    }
+
+    template <kind K> std::uint32_t open(limits<K> most) noexcept {
+        if (room > UINT32_MAX) return LOCKFREE_BAD_CAPACITY;
+        std::uint32_t code = make_root(most);
         if (code == LOCKFREE_OK) code = cells.open(room);
         if (code == LOCKFREE_OK) code = make_seat(kept);
         return code == LOCKFREE_OK ? cells.add_for(room, kept->cells) : code;

@@ -21,8 +21,6 @@ namespace lockfree {
 inline namespace v0_2 {
 namespace detail {
 
-enum class kind { queue, stack };
-
 /// What a push orders before the pop of its value, and a close before a call that it refuses. The library's atomics do it; ThreadSanitizer, which does not see
 /// them, is told, of each container by itself.
 inline void gives([[maybe_unused]] const void *to) noexcept {

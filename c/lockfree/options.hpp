@@ -3,6 +3,7 @@
 
 #include <cstddef>
 #include <cstdint>
+#include <type_traits>
 
 namespace lockfree {
 inline namespace v0_2 {
@@ -24,10 +25,38 @@ struct tag_limit {
     std::uint64_t most;
 };
 
+/// For a ring's constructor: how many passes are out at a time at most, of threads that have called it and of `split`
+/// together. 1 to 65,534, and with the capacity at most 1,048,574. A ring that is given none has 64.
+struct pass_limit {
+    std::size_t most;
+};
+
+/// For a ring's constructor, as a tag_limit: a ring of capacity n takes n * `most` values in its life. 1 to 2^41 - 1.
+struct lap_limit {
+    std::uint64_t most;
+};
+
 namespace detail {
+
+enum class kind { queue, stack, ring };
 
 /// The greatest tag, and so the limit of a container that is given none.
 inline constexpr std::uint64_t greatest_tag = (std::uint64_t{1} << 42) - 1;
+inline constexpr std::uint64_t greatest_lap = greatest_tag / 2;
+
+/// What a constructor may be told besides the capacity, and what it does if it is not told.
+template <kind K> struct limits {
+    std::uint64_t life;
+    explicit constexpr limits(tag_limit tags = {greatest_tag}) noexcept : life(tags.most) {}
+};
+template <> struct limits<kind::ring> {
+    std::uint64_t life;
+    std::size_t passes;
+    explicit constexpr limits(pass_limit of_passes = {64}, lap_limit laps = {greatest_lap}) noexcept
+        : life(laps.most), passes(of_passes.most) {}
+    explicit constexpr limits(lap_limit laps, pass_limit of_passes = {64}) noexcept : limits(of_passes, laps) {}
+};
+template <kind K, class... Given> inline constexpr bool are_limits = std::is_constructible_v<limits<K>, Given...>;
 
 struct plain_option {
     static constexpr bool known = true, sizes = false, fixes = false, grows = false, allocates = false;

@@ -26,7 +26,7 @@ enum class status : std::uint32_t {
     shut = LOCKFREE_SHUT,            ///< A pop: shut. Nothing comes out any more.
     spent = LOCKFREE_SPENT,          ///< The container is worn out: see `wear()`.
     no_memory = LOCKFREE_NO_MEMORY,  ///< The thread's first call found no memory for its pass.
-    no_pass = LOCKFREE_NO_PASS,      ///< 65,534 passes are out; or the pass is an empty one.
+    no_pass = LOCKFREE_NO_PASS,      ///< As many passes are out as there may be; or the pass is an empty one.
     shared = LOCKFREE_SHARED,        ///< finish: a pass of `split()` is still out.
     stopped = 100                    ///< A waiting call: its stop said so.
 };
@@ -60,8 +60,10 @@ inline void throw_for(std::uint32_t code) {
     switch (code) {
     case LOCKFREE_OK: return;
     case LOCKFREE_NO_MEMORY: LOCKFREE_THROW(std::bad_alloc());
-    case LOCKFREE_BAD_CAPACITY: LOCKFREE_THROW(std::invalid_argument("lockfree: a capacity is 1 to 1,048,573, a tag limit 2 to 2^42 - 1"));
-    case LOCKFREE_NO_PASS: LOCKFREE_THROW(std::length_error("lockfree: 65,534 passes are out, or this one is empty"));
+    case LOCKFREE_BAD_CAPACITY:
+        LOCKFREE_THROW(std::invalid_argument("lockfree: a capacity is 1 to 1,048,573, a tag limit 2 to 2^42 - 1; of a ring the passes are "
+                                             "1 to 65,534, with the capacity at most 1,048,574, and the laps 1 to 2^41 - 1"));
+    case LOCKFREE_NO_PASS: LOCKFREE_THROW(std::length_error("lockfree: all passes of the container are out, or this one is empty"));
     default: LOCKFREE_THROW(std::logic_error("lockfree: the archive is of another version than the headers"));
     }
 }

@@ -111,5 +111,6 @@ template <template <class, class...> class Container> void all() {
 int main() {
     all<lockfree::queue>();
     all<lockfree::stack>();
+    all<lockfree::ring_queue>();
     std::puts("passed");
 }

@@ -121,19 +121,20 @@ void ranges() {
     CHECK(stack.consume_all_atomic([](std::string) {}) == 100);
 }
 
-template <template <class, class...> class Container> void all() {
+template <template <class, class...> class Container> void all(int many) {
     using container = Container<counted, lockfree::fixed_sized<true>>;
     for (const std::size_t room : {1u, 5u, 1000u})
         for (const int threads : {1, 4}) room_stays<container>(room, threads, 1000);
-    room_stays<container>(64, 50, 20);
+    room_stays<container>(64, many, 20);
     deep<container>();
 }
 
 }  // namespace
 
 int main() {
-    all<lockfree::queue>();
-    all<lockfree::stack>();
+    all<lockfree::queue>(50);
+    all<lockfree::stack>(50);
+    all<lockfree::ring_queue>(20);  // each brings three passes, of 64
     folds_in_calls();
     ranges();
     std::puts("passed");

@@ -328,6 +328,7 @@ int main() {
     sizes();
     all<lockfree::queue>();
     all<lockfree::stack>();
+    all<lockfree::ring_queue>();
     folds_of_all_values();
     folds_that_call_their_stack();
     for (const bool reversed : {false, true}) folds_of_many_threads(reversed);

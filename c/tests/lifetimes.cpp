@@ -128,7 +128,6 @@ template <class Container> void caches_forget() {
 template <template <class, class...> class Container> void all() {
     values_of_passes_end<Container<counted, lockfree::fixed_sized<true>>>();
     passes_go_back<Container<int, lockfree::fixed_sized<true>>>();
-    passes_take_the_same<Container<int, lockfree::fixed_sized<true>>>();
     caches_forget<Container<int, lockfree::fixed_sized<true>>>();
 }
 
@@ -137,5 +136,8 @@ template <template <class, class...> class Container> void all() {
 int main() {
     all<lockfree::queue>();
     all<lockfree::stack>();
+    all<lockfree::ring_queue>();
+    passes_take_the_same<lockfree::bounded_queue<int>>();
+    passes_take_the_same<lockfree::bounded_stack<int>>();
     std::puts("passed");
 }

@@ -130,6 +130,7 @@ template <template <class, class...> class Container> void all() {
 int main() {
     all<lockfree::queue>();
     all<lockfree::stack>();
+    all<lockfree::ring_queue>();
     ranges();
     std::puts("passed");
 }

@@ -102,10 +102,13 @@ void of_ranges() {
 int main() {
     of_push<lockfree::queue>();
     of_push<lockfree::stack>();
+    of_push<lockfree::ring_queue>();
     of_other_types<lockfree::queue>();
     of_other_types<lockfree::stack>();
+    of_other_types<lockfree::ring_queue>();
     of_waiting<lockfree::queue>();
     of_waiting<lockfree::stack>();
+    of_waiting<lockfree::ring_queue>();
     of_ranges();
     std::puts("passed");
 }

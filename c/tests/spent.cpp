@@ -103,11 +103,15 @@ template <class Container> void shut_with_a_pass() {
     CHECK(counted::alive == 0);
 }
 
+template <class Container> void ends() {
+    finished<Container>();
+    shut_with_a_pass<Container>();
+}
+
 template <class Container> void all() {
     wears_out<Container>();
     leftovers_of_a_spent_one<Container>();
-    finished<Container>();
-    shut_with_a_pass<Container>();
+    ends<Container>();
 }
 
 }  // namespace
@@ -115,6 +119,7 @@ template <class Container> void all() {
 int main() {
     all<lockfree::bounded_queue<counted>>();
     all<lockfree::bounded_stack<counted>>();
+    ends<lockfree::ring_queue<counted>>();
     lockfree::queue<int, lockfree::capacity<2>> small{lockfree::tag_limit{3}};
     int out = 0;
     CHECK(small.push(1) && small.push(2) && small.pop(out) && out == 1 && small.pop(out) && out == 2);

@@ -122,6 +122,7 @@ template <class Container> void all() {
 int main() {
     all<lockfree::bounded_queue<int>>();
     all<lockfree::bounded_stack<int>>();
+    all<lockfree::ring_queue<int>>();
     ranges();
     names();
     std::puts("passed");

@@ -26,5 +26,6 @@ template <class Container> void all() {
 int main() {
     all<lockfree::bounded_queue<std::string>>();
     all<lockfree::bounded_stack<std::string>>();
+    all<lockfree::ring_queue<std::string>>();
     std::puts("passed");
 }

@@ -86,7 +86,7 @@ impl<T> Cells<T> {
         if !Self::ARE_WORDS {
             let chains = capacity.div_ceil(Self::LENGTH);
             // (a place more for each pass, which a take that is under way may hold)
-            made.root = Root::new(Kind::Stack, chains + (BROUGHT + 1) * PLANNED, TAG_LIMIT)?;
+            made.root = Root::new(Kind::Stack { tags: TAG_LIMIT }, chains + (BROUGHT + 1) * PLANNED)?;
             let mut pass = made.root.split()?;
             made.add_chains(chains, &mut pass)?;
         }

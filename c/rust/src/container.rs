@@ -1,11 +1,11 @@
-//! The two containers, and what one shares with its passes.
+//! The containers, and what one shares with its passes.
 use crate::cells::{self, Cells, Hand};
 use crate::pass::{Pass, QueuePass, StackPass};
 use crate::raw::{Code, Kind, RawPass, Root};
 use crate::{MakeError, TAG_LIMIT};
 use std::fmt;
 use std::panic::{catch_unwind, resume_unwind, AssertUnwindSafe};
-use std::sync::atomic::{AtomicBool, Ordering};
+use std::sync::atomic::{AtomicBool, AtomicU64, Ordering};
 use std::sync::{Arc, Mutex, PoisonError};
 
 /// What a container and its passes share. It ends with the last of them.
@@ -13,9 +13,11 @@ pub(crate) struct Core<T> {
     seats: Mutex<Seats<T>>,
     pub(crate) cells: Cells<T>,
     pub(crate) capacity: u32,
-    /// How many tags it has: one for each push of a queue that it takes in its life, and for each push and pop of a stack.
-    life: u64,
-    /// Whether a call was refused since it is worn out.
+    kind: Kind,
+    /// How many numbers of a ring are used up, as far as it was noted: behind the truth by at most `BETWEEN_NOTES` puts.
+    numbers: AtomicU64,
+    /// What some call has heard.
+    is_closed: AtomicBool,
     is_spent: AtomicBool,
 }
 
@@ -33,20 +35,19 @@ struct Seats<T> {
     made: usize,
 }
 
+/// So seldom do threads write the same word to say how far the numbers are.
+const BETWEEN_NOTES: u64 = 256;
+
 impl<T> Core<T> {
-    fn new(kind: Kind, capacity: u32, tag_limit: u64) -> Result<Core<T>, MakeError> {
-        if !(2..=TAG_LIMIT).contains(&tag_limit) {
-            return Err(MakeError::BadLimit);
-        }
-        let root = Root::new(kind, capacity, tag_limit)?;
+    pub(crate) fn new(kind: Kind, capacity: u32) -> Result<Core<T>, MakeError> {
+        let root = Root::new(kind, capacity)?;
         Ok(Core {
             seats: Mutex::new(Seats { root, resting: Vec::new(), made: 0 }),
             cells: Cells::new(capacity)?,
             capacity,
-            life: match kind {
-                Kind::Queue => tag_limit - 1,
-                Kind::Stack => tag_limit,
-            },
+            kind,
+            numbers: AtomicU64::new(0),
+            is_closed: AtomicBool::new(false),
             is_spent: AtomicBool::new(false),
         })
     }
@@ -69,11 +70,22 @@ impl<T> Core<T> {
         self.seats.lock().unwrap_or_else(PoisonError::into_inner).resting.push(seat);
     }
 
+    /// Notes that a put had this number. (Others than a ring are gauged.)
+    #[inline]
+    pub(crate) fn note(&self, number: u64) {
+        let is_ring = matches!(self.kind, Kind::Ring { .. });
+        if is_ring && number >= self.numbers.load(Ordering::Relaxed).saturating_add(BETWEEN_NOTES) {
+            self.numbers.fetch_max(number + 1, Ordering::Relaxed);
+        }
+    }
+
     /// Keeps what a refusal says of the container.
     #[cold]
     pub(crate) fn note_refusal(&self, code: Code) {
-        if code == Code::SPENT {
-            self.is_spent.store(true, Ordering::Relaxed);
+        match code {
+            Code::CLOSED => self.note_closed(),
+            Code::SPENT => self.is_spent.store(true, Ordering::Relaxed),
+            _ => (),
         }
     }
 
@@ -81,7 +93,24 @@ impl<T> Core<T> {
         if self.is_spent.load(Ordering::Relaxed) {
             return 1.0;
         }
-        (by.gauge().tags as f64 / self.life as f64).min(1.0)
+        let (used, life) = match self.kind {
+            Kind::Queue { tags } => (by.gauge().tags, tags as f64 - 1.0),
+            Kind::Stack { tags } => (by.gauge().tags, tags as f64),
+            Kind::Ring { laps, .. } => (self.numbers.load(Ordering::Relaxed), laps as f64 * f64::from(self.capacity)),
+        };
+        (used as f64 / life).min(1.0)
+    }
+
+    pub(crate) fn note_closed(&self) {
+        self.is_closed.store(true, Ordering::Release);
+    }
+
+    pub(crate) fn is_closed(&self, by: &mut RawPass) -> bool {
+        match self.kind {
+            _ if self.is_closed.load(Ordering::Acquire) => true,
+            Kind::Ring { .. } => false,
+            _ => by.gauge().is_closed,
+        }
     }
 }
 
@@ -169,8 +198,9 @@ pub struct Stack<T> {
     last: Mutex<StackPass<T>>,
 }
 
-macro_rules! container {
-    ($Container:ident, $name:literal, $Pass:ident, $kind:ident) => {
+/// Containers that have as many passes as there may be.
+macro_rules! of_all_passes {
+    ($Container:ident, $name:literal) => {
         impl<T> $Container<T> {
             #[doc = concat!("A ", $name, " of at most `capacity` values: 1 to 1,048,573. It takes its memory now.")]
             ///
@@ -203,17 +233,28 @@ macro_rules! container {
             /// assert!(matches!(refused, Some(PushError::Spent(_))));
             /// ```
             pub fn with_tag_limit(capacity: u32, tag_limit: u64) -> Result<Self, MakeError> {
-                let core = Arc::new(Core::new(Kind::$Container, capacity, tag_limit)?);
+                if !(2..=TAG_LIMIT).contains(&tag_limit) {
+                    return Err(MakeError::BadLimit);
+                }
+                let core = Arc::new(Core::new(Kind::$Container { tags: tag_limit }, capacity)?);
                 let last = Mutex::new(Pass::new(&core)?);
                 Ok(Self { core, last })
             }
+        }
+    };
+}
 
+/// What each container has: `core`, and `last`, by which it asks and takes what is left.
+macro_rules! container {
+    ($Container:ident, $Pass:ident) => {
+        impl<T> $Container<T> {
             /// A pass, for one thread at a time: one that was dropped, or a new one, which takes memory. It takes a lock, which
             /// no call of a pass does.
             ///
             /// # Errors
             ///
-            /// [`MakeError::NoPass`] if 65,534 are out at this time, and [`MakeError::NoMemory`].
+            /// [`MakeError::NoPass`] if 65,534 are out at this time, or of a ring as many as it was made for, and
+            /// [`MakeError::NoMemory`].
             ///
             /// ```
             #[doc = concat!("let container = lockfree::", stringify!($Container), "::new(4).unwrap();")]
@@ -272,5 +313,9 @@ macro_rules! container {
     };
 }
 
-container!(Queue, "queue", QueuePass, Queue);
-container!(Stack, "stack", StackPass, Stack);
+of_all_passes!(Queue, "queue");
+of_all_passes!(Stack, "stack");
+container!(Queue, QueuePass);
+container!(Stack, StackPass);
+
+pub(crate) use container;

@@ -144,11 +144,11 @@ impl Error for PopError {}
 pub enum MakeError {
     /// There is no memory.
     NoMemory,
-    /// The container's 65,534 passes are out.
+    /// As many passes of the container are out as there may be: 65,534, and of a ring as many as it was made for.
     NoPass,
-    /// A capacity is 1 to 1,048,573.
+    /// A capacity is 1 to 1,048,573; of a ring with its passes at most 1,048,574.
     BadCapacity,
-    /// A tag limit is 2 to 2^42 - 1.
+    /// A tag limit is 2 to 2^42 - 1, a lap limit 1 to 2^41 - 1, and a ring's passes are 1 to 65,534.
     BadLimit,
     /// The library that was linked is not of this crate's version.
     OtherVersion,
@@ -158,9 +158,11 @@ impl fmt::Display for MakeError {
     fn fmt(&self, to: &mut fmt::Formatter<'_>) -> fmt::Result {
         to.write_str(match self {
             MakeError::NoMemory => "there is no memory",
-            MakeError::NoPass => "all 65,534 passes of the container are out",
-            MakeError::BadCapacity => "a capacity is 1 to 1,048,573",
-            MakeError::BadLimit => "a tag limit is 2 to 2^42 - 1",
+            MakeError::NoPass => "all passes of the container are out",
+            MakeError::BadCapacity => "a capacity is 1 to 1,048,573, and of a ring with its passes at most 1,048,574",
+            MakeError::BadLimit => {
+                "a tag limit is 2 to 2^42 - 1, a lap limit 1 to 2^41 - 1, and a ring's passes are 1 to 65,534"
+            }
             MakeError::OtherVersion => "liblockfree.a is of another version than this crate",
         })
     }

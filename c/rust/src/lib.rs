@@ -10,12 +10,14 @@ mod container;
 mod errors;
 mod pass;
 mod raw;
+mod ring;
 mod stack;
 mod waiting;
 
 pub use container::{Queue, Stack};
 pub use errors::{MakeError, PopError, PushError};
-pub use pass::{kind, Drain, Pass, QueuePass, StackPass};
+pub use pass::{kind, Drain, Pass, QueuePass, RingPass, StackPass};
+pub use ring::Ring;
 pub use stack::Pushed;
 
 /// The greatest tag, and the limit of a container's numbers.

@@ -8,7 +8,7 @@ use std::mem;
 use std::sync::Arc;
 use std::time::Instant;
 
-/// The kinds of containers, as types: what [`QueuePass`] and [`StackPass`] differ in.
+/// The kinds of containers, as types: what [`QueuePass`], [`StackPass`] and [`RingPass`] differ in.
 pub mod kind {
     /// First in, first out.
     #[derive(Debug)]
@@ -16,6 +16,9 @@ pub mod kind {
     /// Last in, first out.
     #[derive(Debug)]
     pub enum Stack {}
+    /// First in, first out, for a known number of passes.
+    #[derive(Debug)]
+    pub enum Ring {}
 }
 
 /// A pass of a queue.
@@ -24,7 +27,10 @@ pub type QueuePass<T> = Pass<T, kind::Queue>;
 /// A pass of a stack. It has the calls of many values at once, and those of [`Pass`].
 pub type StackPass<T> = Pass<T, kind::Stack>;
 
-/// One thread's way to a container: a [`QueuePass`] or a [`StackPass`].
+/// A pass of a ring. It has the calls of [`Pass`].
+pub type RingPass<T> = Pass<T, kind::Ring>;
+
+/// One thread's way to a container: a [`QueuePass`], a [`StackPass`] or a [`RingPass`].
 ///
 /// Its calls take it by `&mut`, so that one thread uses it at a time; it may be sent to another one. No call waits for
 /// another thread, but those whose names say `wait`; none asks for memory, but a stack's `push_range`; and none takes a lock,
@@ -62,7 +68,10 @@ impl<T, K> Pass<T, K> {
         let Seat { pass, hand } = &mut self.seat;
         let word = hand.word(&self.core.cells, value).map_err(PushError::Full)?;
         match pass.put(word) {
-            Ok(number) => Ok(number),
+            Ok(number) => {
+                self.core.note(number);
+                Ok(number)
+            }
             Err(code) => {
                 // SAFETY: the word was not put.
                 let value = unsafe { hand.value(&self.core.cells, word) };
@@ -194,7 +203,9 @@ impl<T, K> Pass<T, K> {
     /// assert_eq!(pass.push(1), Err(lockfree::PushError::Closed(1)));
     /// ```
     pub fn close(&mut self) -> bool {
-        self.seat.pass.close()
+        let closed = self.seat.pass.close();
+        self.core.note_closed();
+        closed
     }
 
     /// Shuts the container, so that no pop follows; pushes may. What it holds is dropped at the end. Whether this call
@@ -211,7 +222,7 @@ impl<T, K> Pass<T, K> {
         self.seat.pass.shut()
     }
 
-    /// Whether the container was closed.
+    /// Whether the container was closed. A ring says whether a `close` has returned, or any call has said that it is closed.
     ///
     /// ```
     /// let queue = lockfree::Queue::<u8>::new(4).unwrap();
@@ -221,7 +232,7 @@ impl<T, K> Pass<T, K> {
     /// assert!(pass.is_closed());
     /// ```
     pub fn is_closed(&mut self) -> bool {
-        self.seat.pass.gauge().is_closed
+        self.core.is_closed(&mut self.seat.pass)
     }
 
     /// Whether the container was empty.
@@ -247,9 +258,10 @@ impl<T, K> Pass<T, K> {
         self.core.capacity
     }
 
-    /// Which part of the container's life has gone, 0 to 1. A container has numbers for 2^42 - 2 pushes of a queue, or
-    /// 2^42 - 1 pushes and pops of a stack; then each push is `Spent`. That takes more than a day of calls without a pause.
-    /// A program that runs for so long replaces its container before.
+    /// Which part of the container's life has gone, 0 to 1. A queue has numbers for 2^42 - 2 pushes, a stack for 2^42 - 1
+    /// pushes and pops, a ring for 2^41 - 1 times its capacity of pushes; then each push is `Spent`. That takes more than a
+    /// day of calls without a pause. A program that runs for so long replaces its container before. A ring's part is known
+    /// from the numbers of pushes that have returned, and behind by 256 of them at most.
     ///
     /// ```
     /// let queue = lockfree::Queue::with_tag_limit(1, 1001).unwrap();

@@ -55,6 +55,7 @@ extern "C" {
     fn lockfree_version() -> u32;
     fn lockfree_queue_limited(root: *mut Handle, capacity: u32, tag_limit: u64) -> Code;
     fn lockfree_stack_limited(root: *mut Handle, capacity: u32, tag_limit: u64) -> Code;
+    fn lockfree_ring_limited(root: *mut Handle, capacity: u32, laps: u64, passes: u32) -> Code;
     fn lockfree_split(root: *mut Handle, pass: *mut Handle) -> Code;
     fn lockfree_free(handle: *mut Handle) -> Code;
     fn lockfree_finish(root: *mut Handle) -> Answer;
@@ -94,11 +95,12 @@ impl Answer {
     }
 }
 
-/// Which container a root is made for.
+/// Which container a root is made for, and how far that goes.
 #[derive(Clone, Copy)]
 pub(crate) enum Kind {
-    Queue,
-    Stack,
+    Queue { tags: u64 },
+    Stack { tags: u64 },
+    Ring { laps: u64, passes: u32 },
 }
 
 /// A container's root, or none.
@@ -109,7 +111,7 @@ impl Root {
         Root(Handle::empty())
     }
 
-    pub(crate) fn new(kind: Kind, capacity: u32, tag_limit: u64) -> Result<Root, MakeError> {
+    pub(crate) fn new(kind: Kind, capacity: u32) -> Result<Root, MakeError> {
         // SAFETY: it only returns a number. A patch changes no call, so it is not compared.
         if unsafe { lockfree_version() } / 100 != VERSION / 100 {
             return Err(MakeError::OtherVersion);
@@ -118,8 +120,9 @@ impl Root {
         // SAFETY: the handle is empty, and this call's alone.
         let code = unsafe {
             match kind {
-                Kind::Queue => lockfree_queue_limited(&mut root.0, capacity, tag_limit),
-                Kind::Stack => lockfree_stack_limited(&mut root.0, capacity, tag_limit),
+                Kind::Queue { tags } => lockfree_queue_limited(&mut root.0, capacity, tags),
+                Kind::Stack { tags } => lockfree_stack_limited(&mut root.0, capacity, tags),
+                Kind::Ring { laps, passes } => lockfree_ring_limited(&mut root.0, capacity, laps, passes),
             }
         };
         code.made().map(|()| root)

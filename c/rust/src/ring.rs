@@ -1,0 +1,102 @@
+//! The ring: a queue for a known number of passes.
+use crate::container::{container, drop_each, Core};
+use crate::pass::{Pass, RingPass};
+use crate::raw::Kind;
+use crate::{MakeError, TAG_LIMIT};
+use std::fmt;
+use std::sync::{Arc, Mutex, PoisonError};
+
+/// The passes of a ring if nothing is said.
+const USUAL_PASSES: u32 = 64;
+
+/// How many passes may be out at one time.
+const PASS_LIMIT: u32 = 65_534;
+
+/// How many times a ring can be filled.
+const LAP_LIMIT: u64 = TAG_LIMIT / 2;
+
+/// A bounded queue for a known number of passes, which takes less time than a [`Queue`]: first in, first out. It gives
+/// passes, one to each thread, and these make the calls of [`Pass`].
+///
+/// What it holds is dropped with it, also if passes are left; what they push afterwards is dropped with the last of them.
+///
+/// ```
+/// let ring = lockfree::Ring::with_passes(64, 2).unwrap();
+/// let (mut putting, mut taking) = (ring.pass().unwrap(), ring.pass().unwrap());
+/// assert!(ring.pass().is_err());
+/// putting.push("a").unwrap();
+/// putting.push("b").unwrap();
+/// assert!(!taking.is_empty());
+/// assert_eq!(taking.drain().collect::<Vec<_>>(), ["a", "b"]);
+/// ```
+pub struct Ring<T> {
+    core: Arc<Core<T>>,
+    // By which what is left is taken at the end.
+    last: Mutex<RingPass<T>>,
+}
+
+impl<T> Ring<T> {
+    /// A ring of at most `capacity` values, 1 to 1,048,510, and 64 passes. It takes its memory now.
+    ///
+    /// # Errors
+    ///
+    /// [`MakeError::BadCapacity`], [`MakeError::NoMemory`], and [`MakeError::OtherVersion`] if the library that was
+    /// linked is not of this crate's version.
+    ///
+    /// ```
+    /// use lockfree::{MakeError, Ring};
+    /// assert!(Ring::<u8>::new(4).is_ok());
+    /// assert_eq!(Ring::<u8>::new(0).err(), Some(MakeError::BadCapacity));
+    /// ```
+    pub fn new(capacity: u32) -> Result<Self, MakeError> {
+        Self::with_passes(capacity, USUAL_PASSES)
+    }
+
+    /// A ring of at most `capacity` values, of which at most `passes` passes are out at one time: 1 to 65,534, and with
+    /// the capacity at most 1,048,574.
+    ///
+    /// # Errors
+    ///
+    /// Those of `new`, and [`MakeError::BadLimit`].
+    ///
+    /// ```
+    /// use lockfree::{MakeError, Ring};
+    /// let ring = Ring::<u8>::with_passes(4, 1).unwrap();
+    /// let pass = ring.pass().unwrap();
+    /// assert_eq!(ring.pass().err(), Some(MakeError::NoPass));
+    /// drop(pass);
+    /// assert!(ring.pass().is_ok());
+    /// ```
+    pub fn with_passes(capacity: u32, passes: u32) -> Result<Self, MakeError> {
+        Self::with_lap_limit(capacity, passes, LAP_LIMIT)
+    }
+
+    /// The same with a lower limit for its laps, 1 to 2^41 - 1, for tests of what a program does when a ring is spent: it
+    /// takes `laps` times its capacity of values in its life.
+    ///
+    /// # Errors
+    ///
+    /// Those of `with_passes`.
+    ///
+    /// ```
+    /// use lockfree::{PushError, Ring};
+    /// let ring = Ring::with_lap_limit(2, 1, 3).unwrap();
+    /// let mut pass = ring.pass().unwrap();
+    /// for value in 0..6 {
+    ///     pass.push(value).unwrap();
+    ///     pass.pop().unwrap();
+    /// }
+    /// assert_eq!(pass.push(6), Err(PushError::Spent(6)));
+    /// ```
+    pub fn with_lap_limit(capacity: u32, passes: u32, laps: u64) -> Result<Self, MakeError> {
+        if !(1..=PASS_LIMIT).contains(&passes) || !(1..=LAP_LIMIT).contains(&laps) {
+            return Err(MakeError::BadLimit);
+        }
+        // (one more: the ring's own)
+        let core = Arc::new(Core::new(Kind::Ring { laps, passes: passes + 1 }, capacity)?);
+        let last = Mutex::new(Pass::new(&core)?);
+        Ok(Self { core, last })
+    }
+}
+
+container!(Ring, RingPass);
