@@ -32,5 +32,5 @@ pub went_on : {P O : Type 0} (r : Reading ℕ P O) (n : ℕ) (s : Stage P O) (op
     → (made : Stepped O P (Reply ℕ)) → Tried r op made → TookFor r n op made → LeftBy made t a → WentOn r n s t a
 went_on {P} {O} r n s op t a is made tried took left =
     subst (λ u. MatchOption u ((a ≡ bare NO_CALL) × (t ≡ s))
-        (λ o. (m : Stepped O P (Reply ℕ)) × ((k : Command ℕ) → r.is_making k o → TriedFrom r (r.making o).begun k m) × TookFor r n o m × LeftBy m t a))
+    (λ o. (m : Stepped O P (Reply ℕ)) × ((k : Command ℕ) → r.is_making k o → TriedFrom r (r.making o).begun k m) × TookFor r n o m × LeftBy m t a))
     is (made, tried, took, left)
