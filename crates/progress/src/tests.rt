@@ -4,11 +4,14 @@ ghost use Rattle.bounded_model.specs.declared.answers.PutRefused.{PutRefused};
 ghost use Rattle.bounded_model.specs.declared.answers.TakeRefused.{TakeRefused};
 ghost use Rattle.bounded_model.specs.declared.views.Answered.TheVariants.{Put, Take};
 ghost use Rattle.ms_queue.specs.Queue.{IsPassOf, IsRootOf};
+ghost use Rattle.ring_queue.specs.Ring.{IsPassOf as IsRingPassOf, pass_in as ring_pass_in, passes_of};
+ghost use Rattle.ring_queue.specs.Roots.{IsRootOf as IsRingRootOf, root_in as ring_root_in};
 ghost use Rattle.running.specs.Passes.{pass_in, root_in};
 
-use crate::{queue, stack};
+use crate::{queue, ring, stack};
 use bounded_model::{Container, Stepped};
 use ms_queue::{Pass, Queue, Root};
+use ring_queue::{Pass as RingPass, RingLimits, RingQueue, Root as RingRoot};
 use tagged_index::{Limits, MAX_TAG};
 use treiber_stack::Stack;
 
@@ -70,4 +73,37 @@ fn two_passes_make_no_more_steps_than_their_calls_cost(rt: HostRuntime) {
     let (second, took) = queue.take(&rt, second);
     assert!(rt; matches!(took, Ok((7, 0))));
     ends_within(queue, root, first, second);
+}
+
+/// The same of a ring for two passes at once: at most 141 steps for each of the two answers.
+fn ring_ends_within(
+    held: RingQueue<u32>,
+    root: RingRoot<u32>,
+    first: RingPass<u32>,
+    second: RingPass<u32>,
+)
+    requires of { IsRingRootOf held root × IsRingPassOf held first × IsRingPassOf held second }
+    requires two { ((ring_root_in root).given ≡ 2) × ((ring_root_in root).account ≡ [])
+        × ((ring_root_in root).works ≡ []) × (passes_of held ≡ 2) }
+    requires put { (r : Result ℕ (PutRefused (List ℕ))) × ((ring_pass_in first).answers ≡ Put r ∷ []) }
+    requires take { (r : Result (ℕ × ℕ) TakeRefused) × ((ring_pass_in second).answers ≡ Take r ∷ []) }
+    ensures { (ring_pass_in first).steps + (ring_pass_in second).steps ≤ 282 }
+{
+    let mut root = root;
+    held.join(&mut root, first);
+    held.join(&mut root, second);
+    let _ = ring::end(held, root);
+}
+
+#[test]
+fn two_passes_of_a_ring_make_no_more_steps_than_their_calls_cost(rt: HostRuntime) {
+    let limits = RingLimits::of(1, 1, 2).expect(&rt, "limits");
+    let (held, mut root) = RingQueue::<u32>::new(rt.alloc(), limits).expect(&rt, "memory");
+    let first = held.split(&mut root).expect(&rt, "a pass");
+    let second = held.split(&mut root).expect(&rt, "a pass");
+    let (first, put) = held.put(&rt, first, 7);
+    assert!(rt; put.is_ok());
+    let (second, took) = held.take(&rt, second);
+    assert!(rt; matches!(took, Ok((7, 0))));
+    ring_ends_within(held, root, first, second);
 }
