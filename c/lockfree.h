@@ -49,7 +49,7 @@ enum {
     LOCKFREE_CLOSED = 3,        /* put: closed. take, fold: no value, and none will come. close: it was closed before. gauge: it was
                                    closed, and value is as if it is OK */
     LOCKFREE_SHUT = 4,          /* take, fold: shut. shut: it was shut before */
-    LOCKFREE_SPENT = 5,         /* put, take, fold: a tag is at its limit of 2^42 - 1; value is the tag. Of a ring, put alone: the
+    LOCKFREE_SPENT = 5,         /* put, take, fold: a tag is at its limit, 2^42 - 1 or that of _limited; value is the tag. Of a ring, put alone: the
                                    slot was filled as often as its laps say; value is twice the laps */
     LOCKFREE_BUSY = 6,          /* the tries are used up: go on with lockfree_go_on; of lockfree_put_range with the same call */
     LOCKFREE_UNDER_WAY = 7,     /* the pass has a call under way: lockfree_go_on first. Or a range's values: lockfree_range_put first */

@@ -1,9 +1,9 @@
 //! Laws of the acts that led to a running ring's table: they are a schedule of its machine, they are
 //! linearizable, an operation under way has made so many steps, by what others did meanwhile, and all
-//! passes together make no more than their calls cost. A joined pass leaves its spare cell to a later
-//! one, so in the machine here each begin says which cell the pass has. The laws hold of acts in which
-//! each operation was begun with a cell that was free, as is that of each pass of a running ring
-//! between two operations. No function here makes a step: the contract of each is a law of what the
+//! passes together, if none is out, have made no more than their calls cost. A joined pass leaves its
+//! spare cell to a later one, so in the machine here each begin says which cell the pass has. The first
+//! two laws hold of acts in which each operation was begun with a cell that was free; the acts of a
+//! running ring are such. No function here makes a step: the contract of each is a law of what the
 //! passes know.
 #![tactic(auto)]
 

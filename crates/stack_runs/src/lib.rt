@@ -1,7 +1,7 @@
 //! Laws of the acts that led to a running stack's table: they are a schedule of its machine, they are
 //! linearizable, an operation under way has made so many steps, by what others did meanwhile, and all
-//! passes together make no more than their calls cost. No function here makes a step: the contract of
-//! each is a law of what the passes know.
+//! passes together, if none is out, have made no more than their calls cost, besides the loads that read a refused range back. No
+//! function here makes a step: the contract of each is a law of what the passes know.
 #![tactic(auto)]
 
 mod bounds;

@@ -2,7 +2,7 @@
 //!
 //! The functions here make no step: the contract of each is a law, or, of `.._exhibits`, a list of
 //! played rows, and of `.._near_misses`, of wrong machines with a schedule in which each breaks a
-//! law. Nothing that runs stands on this crate.
+//! law. No container stands on this crate.
 #![tactic(auto)]
 
 mod list_laws;
