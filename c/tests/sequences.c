@@ -15,6 +15,7 @@ struct model {
     bool stack, ring;
     uint32_t capacity;
     uint32_t passes; /* that a ring has yet to give */
+    uint64_t laps;   /* how often a slot of a ring can be filled; of the others the limit of their tags */
     uint64_t values[MOST];
     uint32_t size;
     uint32_t held; /* cells that a fold holds */
@@ -112,24 +113,49 @@ static void forget(struct slot *slot)
 
 enum { PASSES = 4 };
 
+/* A limit that a container can be made with, the greatest or of a ring a low one; or one that is none. */
+static uint64_t some_limit(bool ring)
+{
+    const uint64_t least = ring ? 1 : 2, most = ((uint64_t)1 << (ring ? 41 : 42)) - 1;
+    switch (below(8)) {
+    case 0:
+        return least - 1;
+    case 1:
+        return most + 1;
+    default:
+        return ring && below(2) ? 1 + below(3) : most;
+    }
+}
+
+static uint32_t make_in(lockfree_handle *root, const struct model *m, bool limited)
+{
+    if (m->ring)
+        return limited ? lockfree_ring_limited(root, m->capacity, m->laps, PASSES) : lockfree_ring_new(root, m->capacity, PASSES);
+    if (limited)
+        return (m->stack ? lockfree_stack_limited : lockfree_queue_limited)(root, m->capacity, m->laps);
+    return (m->stack ? lockfree_stack_new : lockfree_queue_new)(root, m->capacity);
+}
+
 static void make(struct slot *slot)
 {
     uint64_t which = below(3);
-    bool stack = which == 1, ring = which == 2;
-    uint32_t capacity = (uint32_t)below(MOST + 1);
+    bool limited = below(2);
     struct model *m = calloc(1, sizeof *m);
     CHECK(m);
+    m->stack = which == 1, m->ring = which == 2, m->passes = PASSES, m->handles = 1;
+    m->capacity = (uint32_t)below(MOST + 1);
+    const uint64_t usual = ((uint64_t)1 << 41) - 1;
+    m->laps = limited ? some_limit(m->ring) : usual;
+    const bool bad = m->capacity == 0 || m->laps < (m->ring ? 1 : 2) || m->laps > (m->ring ? usual : 2 * usual + 1);
     may_refuse();
-    uint32_t code = ring ? lockfree_ring_new(&slot->handle, capacity, PASSES)
-                         : (stack ? lockfree_stack_new : lockfree_queue_new)(&slot->handle, capacity);
+    uint32_t code = make_in(&slot->handle, m, limited);
     bool none = was_refused();
-    if (slot->kind != NONE || capacity == 0 || none) {
-        CHECK(code == (slot->kind != NONE ? LOCKFREE_IN_USE : capacity == 0 ? LOCKFREE_BAD_CAPACITY : LOCKFREE_NO_MEMORY));
+    if (slot->kind != NONE || bad || none) {
+        CHECK(code == (slot->kind != NONE ? LOCKFREE_IN_USE : bad ? LOCKFREE_BAD_CAPACITY : LOCKFREE_NO_MEMORY));
         free(m);
         return;
     }
     CHECK(code == LOCKFREE_OK);
-    m->stack = stack, m->ring = ring, m->passes = PASSES, m->capacity = capacity, m->handles = 1;
     slot->kind = ROOT, slot->of = m;
 }
 
@@ -169,6 +195,10 @@ static void put(struct slot *slot)
     slot->number = 0;
     if (m->closed || room(m) == 0) {
         is(answer, m->closed ? LOCKFREE_CLOSED : LOCKFREE_FULL, 0);
+        return;
+    }
+    if (m->ring && m->puts == m->laps * m->capacity) {
+        is(answer, LOCKFREE_SPENT, 2 * m->laps);
         return;
     }
     put_in(m, value);

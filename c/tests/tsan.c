@@ -71,6 +71,8 @@ static void *takes_all(void *at)
     return sum;
 }
 
+static uint32_t ring_new(lockfree_handle *root, uint32_t capacity) { return lockfree_ring_new(root, capacity, 2 * SIDES + 1); }
+
 static void through(uint32_t (*make)(lockfree_handle *root, uint32_t capacity))
 {
     lockfree_handle root = {0}, closing = {0};
@@ -100,6 +102,7 @@ int main(void)
 {
     through(lockfree_queue_new);
     through(lockfree_stack_new);
+    through(ring_new);
     by_ranges = true;
     through(lockfree_stack_new);
     puts("passed");

@@ -1,5 +1,5 @@
 //! No call of a pass asks for memory, whatever a value's type, but the put of a range.
-use lockfree::{Pass, Queue, Stack};
+use lockfree::{Pass, Queue, Ring, Stack};
 use std::alloc::{GlobalAlloc, Layout, System};
 use std::cell::Cell;
 
@@ -51,17 +51,21 @@ fn of_type<T: Clone>(value: T) {
     let (queue, stack) = (Queue::new(CAPACITY).unwrap(), Stack::new(CAPACITY).unwrap());
     let (mut a, mut b) = (queue.pass().unwrap(), queue.pass().unwrap());
     let (mut c, mut d) = (stack.pass().unwrap(), stack.pass().unwrap());
-    let mut values = vec![value; 2 * CAPACITY as usize + 2];
+    let ring = Ring::new(CAPACITY).unwrap();
+    let (mut e, mut f) = (ring.pass().unwrap(), ring.pass().unwrap());
+    let mut values = vec![value; 3 * CAPACITY as usize + 3];
     let mut back = Vec::with_capacity(values.len() + 2);
     for _ in 0..10 {
         let asked = counted(|| {
             fill(&mut a, &mut values, &mut back);
             fill(&mut c, &mut values, &mut back);
+            fill(&mut e, &mut values, &mut back);
             back.extend(b.drain());
+            back.extend(f.drain());
             assert_eq!(d.consume_all_atomic(|value| back.push(value)), Ok(u64::from(CAPACITY)));
-            assert!(a.is_empty() && d.is_empty() && d.pop().is_err());
+            assert!(a.is_empty() && d.is_empty() && d.pop().is_err() && e.is_empty());
         });
-        assert_eq!((asked, back.len()), (0, 2 * CAPACITY as usize + 2));
+        assert_eq!((asked, back.len()), (0, 3 * CAPACITY as usize + 3));
         values.append(&mut back);
     }
 }
