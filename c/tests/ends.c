@@ -1,4 +1,4 @@
-// ways: plain clang address valgrind
+/* ways: plain clang address valgrind */
 /* The version; limits of tags, and what is spent; numbers; and the end of a container, which hands out what is left. */
 #include "lockfree.h"
 

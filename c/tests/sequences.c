@@ -1,5 +1,5 @@
-// ways: plain clang address valgrind
-// valgrind: 400
+/* ways: plain clang address valgrind */
+/* valgrind: 400 */
 /* Random sequences of all calls, by one thread, against a model of their codes, values and numbers; half of them with
  * allocations that are refused. The sequences are the same each time.
  * usage: sequences [how many, 100,000] */

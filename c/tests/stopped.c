@@ -1,4 +1,4 @@
-// ways: plain clang
+/* ways: plain clang */
 /* Threads that stop in the middle of a call, after each of its instructions in turn: all calls of the others end, and no
  * value is lost or comes twice. What has stopped goes on in the end, and ends its call too. The same of calls whose single
  * try was disturbed, and which are BUSY. For x86-64, whose processor stops after an instruction if a flag says so. */
