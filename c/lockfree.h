@@ -1,8 +1,8 @@
 /* A bounded queue, a bounded stack and a ring that many threads share without locks. For C and C++. The functions are
  * proved; the inline ones at the end are tested.
  *
- * Which one: a stack gives the last value first, a queue and a ring the first. A ring is faster than a queue, takes half the
- * memory and lasts longer, but is made for a number of passes. So take the ring if you know how many passes there will be,
+ * Which one: a stack gives the last value first, a queue and a ring the first. Between threads a ring is faster than a queue. It takes
+ * half the memory and lasts longer, but is made for a number of passes. So take the ring if you know how many passes there will be,
  * and the queue if you do not.
  *
  * What the library keeps in your memory is a handle: a root or a pass of one container. All zero
@@ -129,10 +129,10 @@ lockfree_answer lockfree_finish(lockfree_handle *root);
  * close: OK, CLOSED. No put follows
  * shut:  OK, SHUT. No take follows
  * look:  OK if it was not empty, EMPTY if it was
- * count: OK, and value is how many values the queue held at one moment of the call. Queues only
- * gauge: OK if the container was open, CLOSED if it was closed; and value is how many of its tags were used at the same
- *        moment of the call, at most 2^42 - 1: of a queue one for each put that was OK, of a stack one for each put and
- *        each take, of one value or of many. It uses none itself, so it also answers once the container is SPENT */
+ * count: OK, and value is how many values the queue held at one moment of the call. Queues only.
+ * gauge: OK if the container was open, CLOSED if it was closed. value is how many of its tags were used at the same
+ *        moment of the call, at most 2^42 - 1. A queue uses one for each put that was OK. A stack uses one for each put
+ *        and each take, of one value or of many. A gauge uses none, so it also answers once the container is SPENT */
 lockfree_answer lockfree_put(lockfree_handle *pass, uint64_t value, uint64_t tries);
 lockfree_answer lockfree_take(lockfree_handle *pass, uint64_t tries);
 lockfree_answer lockfree_close(lockfree_handle *pass, uint64_t tries);

@@ -15,8 +15,8 @@ const PASS_LIMIT: u32 = 65_534;
 /// How many times a ring can be filled.
 const LAP_LIMIT: u64 = TAG_LIMIT / 2;
 
-/// A bounded queue for a known number of passes, which takes less time than a [`Queue`]: first in, first out. It gives
-/// passes, one to each thread, and these make the calls of [`Pass`].
+/// A bounded queue for a known number of passes: first in, first out. Between threads it takes less time than a [`Queue`]. It
+/// gives passes, one to each thread, and these make the calls of [`Pass`].
 ///
 /// What it holds is dropped with it, also if passes are left; what they push afterwards is dropped with the last of them.
 ///
