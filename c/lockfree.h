@@ -72,10 +72,10 @@ typedef struct lockfree_handle {
     bool full;
 } lockfree_handle;
 
-/* A code, and what it says. value is: of a put that is OK its number, of a take its value, of a fold how many
- * there were, of a range_put how many were put, of a count how many there are; of a gauge, OK or CLOSED, how many tags
- * were used; of a fold or a finish that is VALUE the next value; of what is SPENT the tag. What is not said is 0. It
- * comes back in two registers. */
+/* A code, and what it says. value is, of a put that is OK, its number. Of a take it is the value. Of a fold or a count it is
+ * how many values there were, and of a range_put or a put_range how many were put. Of a gauge, OK or CLOSED, it is how many
+ * tags were used. Of a fold or a finish that is VALUE it is the next value, and of what is SPENT the tag. What is not said is
+ * 0. It comes back in two registers. */
 typedef struct lockfree_answer {
     uint64_t value;
     uint32_t code;
@@ -113,7 +113,7 @@ uint32_t lockfree_split(lockfree_handle *root, lockfree_handle *pass);
 uint32_t lockfree_free(lockfree_handle *handle);
 
 /* Ends a container whose root is its only handle, and hands out what is left in it, one value an answer: a queue's
- * or a ring's from the front, a stack's from the top. It asks for no memory, no pass and no tag, so it also empties a spent
+ * or a ring's from the front, a stack's from the top. It asks for no memory, no pass and no tag. So it also empties a spent
  * container. If another handle of the container is out, it answers SHARED and nothing has changed: free the passes
  * first. After its first VALUE or EMPTY the root gives no pass (OTHER_HANDLE). lockfree_free then ends the root, with
  * the values that were not handed out. A value that a freed pass had under way is not among those that are left.
