@@ -1,11 +1,17 @@
 #include <lockfree.hpp>
 #include <cstdio>
 #include <thread>
+
 int main() {
-    lockfree::queue<int, lockfree::capacity<64>> queue;
-    std::thread producer([&] { for (int i = 0; i < 1000; ++i) while (!queue.push(i)) std::this_thread::yield(); });
+    lockfree::queue<int, lockfree::capacity<64>> queue;   // takes the memory for all values here
+    std::thread producer([&] {
+        for (int i = 0; i < 1000; ++i)
+            queue.push_wait(i);                           // waits while it is full
+        queue.close();                                    // no push follows
+    });
     int value, sum = 0;
-    for (int count = 0; count < 1000; count += queue.pop(value) ? (sum += value, 1) : 0) {}
+    while (queue.pop_wait(value) == lockfree::status::ok)  // then it is closed and empty
+        sum += value;
     producer.join();
     std::printf("%d\n", sum);
 }
