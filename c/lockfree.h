@@ -10,21 +10,21 @@
  * handle has a share of its container, so that no pass is used with another one, and the last of a
  * container's handles that is freed frees it.
  *
- * What you must keep to, since no check can:
- *   - only the functions below write a handle; it may be moved in memory, between calls, but what
- *     was copied is not used twice;
+ * Five rules that no check can enforce:
+ *   - zero a handle before its first use; then only the functions below write it. It may be moved in memory, between
+ *     calls; a copy of it is not used;
  *   - a handle is given to one call at a time. Different handles, also of one container, may be used
  *     in different threads at the same time; a handle that goes to another thread goes there by what
- *     orders the two, as a thread's start or join, a lock, or a sequentially consistent atomic;
+ *     orders the two, as a thread's start or join, a lock, or a release and an acquire;
  *   - malloc, realloc and free are of one allocator, and align as the C standard has it;
  *   - a lockfree_put_range that was BUSY is called again with the same array, unchanged;
  *   - no call is made in a signal handler, or in the child of a fork of a process with threads.
  *
- * Other misuse of a handle, and all else that can go wrong in a call, is answered by a code, and then
- * nothing has changed but what is said here. No call but those that make a container, _split, _free, the first
- * _finish of a container, _range_add and _range_put takes or gives back memory. None waits for another thread: each ends,
- * which is proved, and by its code after a bounded number of steps. The inline functions at the end go on until they
- * have another answer than BUSY.
+ * A code answers any other misuse of a handle, and any other failure of a call. Then nothing has changed but what is
+ * said here. Only the calls that make a container, _split, _free, the first _finish of a container, _range_add and
+ * _range_put take or give back memory. No call waits for another thread: it is proved that each ends. A bound on its
+ * steps is visible in the code, and not proved. The inline functions at the end continue until they have another answer
+ * than BUSY.
  */
 #ifndef LOCKFREE_H
 #define LOCKFREE_H
@@ -51,14 +51,14 @@ enum {
     LOCKFREE_SHUT = 4,          /* take, fold: shut. shut: it was shut before */
     LOCKFREE_SPENT = 5,         /* put, take, fold: a tag is at its limit, 2^42 - 1 or that of _limited; value is the tag. Of a ring, put alone: the
                                    slot was filled as often as its laps say; value is twice the laps */
-    LOCKFREE_BUSY = 6,          /* the tries are used up: go on with lockfree_go_on; of lockfree_put_range with the same call */
+    LOCKFREE_BUSY = 6,          /* the tries are used up: continue with lockfree_go_on; after lockfree_put_range with the same call */
     LOCKFREE_UNDER_WAY = 7,     /* the pass has a call under way: lockfree_go_on first. Or a range's values: lockfree_range_put first */
     LOCKFREE_NO_CALL = 8,       /* go_on: the pass has no call under way, or one that goes on by lockfree_put_range */
     LOCKFREE_NO_MEMORY = 9,
     LOCKFREE_NO_PASS = 10,      /* split: the root has given as many passes as it may, 65,535; of a ring, as it was made for */
     LOCKFREE_BAD_CAPACITY = 11, /* new: a capacity is 1 to 1,048,573. limited: and a limit of tags 2 to 2^42 - 1. Of a ring:
                                    see lockfree_ring_new */
-    LOCKFREE_OTHER_HANDLE = 12, /* a root in the place of a pass, or the other way round. fold, range: or a queue's or a ring's
+    LOCKFREE_OTHER_HANDLE = 12, /* a root instead of a pass, or a pass instead of a root. fold, range: or a queue's or a ring's
                                    pass. count: or a stack's or a ring's. gauge: or a ring's */
     LOCKFREE_NO_HANDLE = 13,    /* the handle is empty: never made, or freed */
     LOCKFREE_IN_USE = 14,       /* the handle to be made is not empty */
@@ -94,9 +94,9 @@ uint32_t lockfree_stack_new(lockfree_handle *root, uint32_t capacity);
 uint32_t lockfree_queue_limited(lockfree_handle *root, uint32_t capacity, uint64_t tag_limit);
 uint32_t lockfree_stack_limited(lockfree_handle *root, uint32_t capacity, uint64_t tag_limit);
 
-/* A new ring, for so many passes, and its root in an empty handle. BAD_CAPACITY exactly if the capacity is less than 1, the
+/* A new ring for this number of passes, and its root in an empty handle. BAD_CAPACITY exactly if the capacity is less than 1, the
  * passes are not 2 to 65,535, or the two together are more than 1,048,575. Each slot can be filled 2^41 - 1 times: a ring of
- * capacity n takes n * (2^41 - 1) values in its life, if each pass ends its calls; then puts are SPENT, and takes go on.
+ * capacity n takes n * (2^41 - 1) values in its life, if each pass ends its calls; then puts are SPENT, and takes still succeed.
  * _limited: each slot can be filled `laps` times, 1 to 2^41 - 1, else it is BAD_CAPACITY too: for tests of what a program
  * does once a ring is SPENT.
  * A pass that is freed is not given again: it counts among those that the ring was made for.
@@ -208,7 +208,7 @@ static inline lockfree_answer lockfree_heard(lockfree_answer answer)
 #define lockfree_finish(root) LOCKFREE_TOLD((lockfree_finish)(root))
 #endif
 
-/* Goes on until there is another answer than BUSY. */
+/* Continues a call until there is another answer than BUSY. */
 static inline lockfree_answer lockfree_until(lockfree_handle *pass, lockfree_answer answer)
 {
     while (answer.code == LOCKFREE_BUSY)
