@@ -150,7 +150,7 @@ lockfree_answer lockfree_number(lockfree_handle *pass);
 
 /* A fold of all values of a stack: one compare-and-swap takes them all, so that what is put after it is
  * not among them. It hands them out one after another, from the top down, or reversed, from the bottom
- * up: each is an answer with the code VALUE, and lockfree_go_on goes on to the next, and at last to OK.
+ * up: each is an answer with the code VALUE, and lockfree_go_on gives the next one, and at last OK.
  * Then their cells are free again; until then they are held, and the pass makes no other call. A fold
  * that is reversed makes two steps more for each value, before the first.
  * OK, VALUE, EMPTY, CLOSED, SHUT, SPENT, BUSY, UNDER_WAY, OTHER_HANDLE, NO_HANDLE. */

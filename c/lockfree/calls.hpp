@@ -37,7 +37,7 @@ template <class T, class Arg> inline constexpr bool is_one_rvalue<T, Arg> = std:
 /// are proved of the algorithms, and docs/proof.md says what is proved of the code.
 ///
 /// Calls that say bool throw std::bad_alloc or std::length_error if a thread's first call finds no memory or no pass;
-/// those that say `status` say it. What the value's own functions throw goes on to the caller, and nothing is pushed.
+/// those that return `status` say it. Exceptions of the value's own functions pass to the caller; then nothing is pushed.
 template <class Me, class T, kind K> class calls {
 public:
     /// Pushes a copy. False if it is full, closed or spent.

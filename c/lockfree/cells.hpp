@@ -63,8 +63,8 @@ struct cells_at_hand {
     std::uint32_t count = 0;  // of `some`
 };
 
-/// All cells of a container. `take` and `give` are for many threads, each with what it has at hand; the others are
-/// called under the container's lock.
+/// All cells of a container. `take` and `give` are for many threads, each with its cells at hand; the remaining functions
+/// are called under the container's lock.
 class cell_store {
 public:
     explicit cell_store(cell_layout of) noexcept : layout(of) {}
@@ -187,7 +187,7 @@ private:
         return nullptr;
     }
 
-    /// `some` is a whole chain: it stays at hand, and the one that was goes to the others.
+    /// `some` is a whole chain: it stays at hand, and the chain that was at hand goes back to the list.
     [[gnu::noinline]] void put_away(cells_at_hand &by, std::mutex &lock) noexcept {
         if (by.chain && !store(by, by.chain)) {
             const std::lock_guard<std::mutex> guard(lock);

@@ -16,7 +16,7 @@ inline namespace v0_2 {
 namespace detail {
 
 /// One thread's own way to a container: of `split`. It moves, and has no copy. When it ends it goes back to its container,
-/// under a lock. It may outlive the container, and goes on then; values that it still pushes end with the last pass.
+/// under a lock. It may outlive the container and still works then; values that it still pushes end with the last pass.
 template <class T, kind K> class pass_of : public all_calls<pass_of<T, K>, T, K> {
 public:
     /// An empty pass: each of its calls says no_pass.

@@ -101,7 +101,7 @@ public:
     }
 
     /// The same, when nobody calls any more, of all that is left, also if it is spent or shut. Then no pass is left, and
-    /// each call says closed. `use` may throw: then the others stay for the next call.
+    /// each call says closed. `use` may throw: then the remaining values stay for the next call.
     template <class F> void finish(F &&use) {
         for (seat *at = made.load(std::memory_order_acquire); at; at = at->next_made) at->pass.free();
         gets(this);

@@ -14,7 +14,7 @@ pub(crate) struct Core<T> {
     pub(crate) cells: Cells<T>,
     pub(crate) capacity: u32,
     kind: Kind,
-    /// How many numbers of a ring are used up, as far as it was noted: behind the truth by at most `BETWEEN_NOTES` puts.
+    /// How many numbers of a ring are used up, as far as it was noted: at most `BETWEEN_NOTES` puts are missing.
     numbers: AtomicU64,
     /// What some call has heard.
     is_closed: AtomicBool,
@@ -134,7 +134,7 @@ impl<T> Drop for Core<T> {
     }
 }
 
-/// Drops each value. If drops panic, it goes on, and then panics as the first of them did.
+/// Drops each value. If drops panic, it continues, and then panics as the first of them did.
 pub(crate) fn drop_each<T>(mut next: impl FnMut() -> Option<T>) {
     let mut first = None;
     while let Some(value) = next() {

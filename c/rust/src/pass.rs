@@ -261,7 +261,7 @@ impl<T, K> Pass<T, K> {
     /// Which part of the container's life has gone, 0 to 1. A queue has numbers for 2^42 - 2 pushes, a stack for 2^42 - 1
     /// pushes and pops, a ring for 2^41 - 1 times its capacity of pushes; then each push is `Spent`. That takes more than a
     /// day of calls without a pause. A program that runs for so long replaces its container before. A ring's part is known
-    /// from the numbers of pushes that have returned, and behind by 256 of them at most.
+    /// from the numbers of pushes that have returned, and misses at most 256 of them.
     ///
     /// ```
     /// let queue = lockfree::Queue::with_tag_limit(1, 1001).unwrap();

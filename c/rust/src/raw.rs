@@ -167,7 +167,7 @@ impl RawPass {
         RawPass(Handle::empty())
     }
 
-    /// Makes a call, and goes on until it has ended.
+    /// Makes a call, and continues it until it has ended.
     #[inline]
     fn call(&mut self, call: impl FnOnce(*mut Handle) -> Answer) -> Answer {
         let mut answer = call(&mut self.0);
@@ -235,7 +235,7 @@ impl RawPass {
         Gauge { is_closed: answer.code == Code::CLOSED, tags: answer.number() }
     }
 
-    /// Begins a fold of a stack, and gives the first value. `fold_on` gives the others, and has to be called to the end.
+    /// Begins a fold of a stack, and gives the first value. `fold_on` gives the remaining values, and the caller calls it to the end.
     pub(crate) fn fold(&mut self, reversed: bool) -> Folded {
         // SAFETY: as in `call`.
         let answer = self.call(|at| unsafe { lockfree_fold(at, reversed, u64::MAX) });
