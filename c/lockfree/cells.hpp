@@ -187,7 +187,7 @@ private:
         return nullptr;
     }
 
-    /// `some` is a whole chain: it stays at hand, and the chain that was at hand goes back to the list.
+    /// `some` is a whole chain: it stays at hand, and the chain that was at hand goes back to the stored ones.
     [[gnu::noinline]] void put_away(cells_at_hand &by, std::mutex &lock) noexcept {
         if (by.chain && !store(by, by.chain)) {
             const std::lock_guard<std::mutex> guard(lock);

@@ -21,8 +21,8 @@ pub struct Pushed<T> {
 
 impl<T> StackPass<T> {
     /// Pushes values by one compare-and-swap, from the first, as many as there is room for: other threads see all of these
-    /// or none. The last one is on top. The iterator gives at most as many values as the capacity; the
-    /// rest stays in it. It takes memory for the values that it asks for; of those over 8 bytes the pops give it back.
+    /// or none. The last one is on top. The iterator gives at most as many values as the capacity; the rest stays in it. The
+    /// call takes memory for these values. Pops give back the memory of values over 8 bytes.
     ///
     /// # Errors
     ///
