@@ -1,5 +1,5 @@
 //! The bound on the steps of a ring's operations.
-ghost use Rattle.std.specs.Prelude.{◌≡◌, ◌+◌, ◌-◌, ◌*◌, ◌≤◌, ℕ};
+ghost use Rattle.std.specs.Prelude.{◌≡◌, ◌+◌, ◌-◌, ◌≤◌, ℕ};
 ghost use Rattle.bounded_model.specs.Laws.{Leaves, NoneOut};
 ghost use Rattle.ring_machine.specs.Machine.{resting};
 ghost use Rattle.ring_queue.specs.Closing.{IsClosing};
@@ -13,12 +13,13 @@ ghost use Rattle.ring_queue.specs.Shutting.{IsShutting};
 ghost use Rattle.ring_queue.specs.Taking.{IsTaking};
 ghost use Rattle.ring_queue.specs.Trying.{PutTried, TakeTried};
 ghost use Rattle.ring_queue.specs.declared.queue.Answered.{Answered as HasAnswered};
+ghost use Rattle.ring_runs.specs.Work.{fee};
 ghost use Rattle.ring_table.specs.Seats.{names};
 ghost use Rattle.ring_table.specs.declared.line.SeatLine.TheVariants.{At};
 ghost use Rattle.ring_table.specs.declared.operation.Operation.{Operation as AnOperation};
 ghost use Rattle.running.specs.Ops.{IsUnderWay};
 ghost use Rattle.runs.specs.Made.{IsAfter};
-ghost use Rattle.runs.specs.Work.{total_steps, total_answers};
+ghost use Rattle.runs.specs.Work.{total_steps, total_fees};
 ghost use Rattle.progress.specs.Rings.{EndsOrOvertaken, IsPaidRun, MadeFor, StepsAreBounded};
 
 use bounded_model::{PutRefused, Stepped, TakeRefused};
@@ -90,14 +91,15 @@ where
 
 /// Ends a ring, as `finish` does, and returns what is left. That stands for a run of the passes whose
 /// calls are linearizable. If no pass is out, all passes together have made at most as many steps as
-/// the calls that they have begun cost (`ring_total_work`): for P passes at once at most
-/// `94 * P - 47` for each answer, however many passes there were.
+/// their calls cost, each by what it has answered: of a ring for P passes at once, however many there
+/// were, a put `94 * P - 80`, a take `94 * P - 79`, a close or a shut `47 * P - 34`, a look 12, a count
+/// 25, and a meeting or a note heard 1.
 pub fn end<T>(ring: RingQueue<T>, parent: Root<T>) -> Rest<T>
     requires { IsRootOf ring parent }
     ensures leaves { Leaves (shape_of ring) (root_in parent) (left_in result) }
     ensures run { IsPaidRun ring (root_in parent) (left_in result) }
     ensures work { NoneOut (root_in parent) → total_steps (root_in parent).works
-        ≤ (47 + 94 * (passes_of ring - 1)) * total_answers (root_in parent).works }
+        ≤ total_fees (fee (passes_of ring - 1)) (root_in parent).works }
 {
     ring.end(parent)
 }

@@ -11,4 +11,5 @@ pub mod Counted
 pub mod Overtaken
 pub mod Paid
 pub mod AtOnce
+mod Fees
 pub mod Total

@@ -26,12 +26,12 @@ use Rattle.runs.specs.Work.{in_all, is_look, IsPaid}
 use Rattle.runs.proofs.Costs.{no_looks}
 use Rattle.runs.proofs.Work.{below, is_paid}
 use Rattle.step_core.specs.ring.Costs.{cost}
-use Rattle.step_core.proofs.ring.Ends.{call_small}
 use Rattle.ring_machine.specs.declared.lines.Line.{Line}
 use Rattle.ring_runs.specs.Machine.{From, Pass, State, cell_ring, starts}
 use Rattle.ring_runs.specs.Bounded.{call_in, call_at}
-use Rattle.ring_runs.specs.Work.{TotalWork}
+use Rattle.ring_runs.specs.Work.{fee, TotalWork}
 use Rattle.ring_runs.proofs.AtOnce.{few_seats}
+use Rattle.ring_runs.proofs.Fees.{fee_small, worth}
 use Rattle.ring_runs.proofs.Pool.{PoolPass, PoolState, Goes, idle_in, waiting, giving_up, pool_ring}
 use Rattle.ring_runs.proofs.PoolRule.{counts, first_busy, pool_stays}
 use Rattle.ring_runs.proofs.Follows.{goes, lift, twice, from_map, Kept, one_act, start_is}
@@ -176,9 +176,14 @@ module _ {T : Type 0} (n laps passes : ℕ) (some_slot : 0 < n) where
   pub total_work : (r : RootView T) (left : List T) (ran : IsRun (ring_on T n laps passes) r left) → IsSound (shape_for T n laps passes) r → NoneOut r → TotalWork passes r ran.acts
   total_work r left ran sound nobody =
       let low : Below r.given ran.acts = below (ring_on T n laps passes) (cell_ring n laps passes) call_at (running n laps passes) r left ran sound nobody in
-      let all : IsPaid ran.acts r.works (λ l. cost (passes - 1) (call_in l)) (λ a. 47 + 94 * (passes - 1)) (47 + 94 * (passes - 1)) =
-      is_paid (ring_on T n laps passes) (cell_ring n laps passes) call_at (running n laps passes) r left ran sound nobody (price_of n laps passes (passes - 1)) (λ a. 47 + 94 * (passes - 1)) (omega arith)
-      (λ schedule p v call at is idle. call_small n laps (n + passes) (passes - 1) call.1)
-      (paid r.given (schedule_of call_at ran.acts) (fresh_all n laps passes r.given ran.acts low ran.allowed ran.fresh)) (47 + 94 * (passes - 1)) (λ a. omega arith) in
+      let k : ℕ = passes - 1 in
+      let all : IsPaid ran.acts r.works (λ l. cost k (call_in l)) (fee k) (25 + 94 * k) =
+      is_paid (ring_on T n laps passes) (cell_ring n laps passes) call_at (running n laps passes) r left ran sound nobody (price_of n laps passes k) (fee k) (omega arith)
+      (worth n laps passes k some_slot r.given)
+      (paid r.given (schedule_of call_at ran.acts) (fresh_all n laps passes r.given ran.acts low ran.allowed ran.fresh)) (25 + 94 * k) (fee_small k) in
       let none : in_all is_look ran.acts ≡ 0 = no_looks (ring_on T n laps passes) (cell_ring n laps passes) call_at (running n laps passes) (λ reads. reads) ran.acts ran.proper in
-      record { prices = all.prices; answers = let a = all.answers in omega arith }
+      record {
+        prices = all.prices;
+        fees = let f = all.fees in omega arith;
+        answers = let a = all.answers in omega arith;
+      }
