@@ -39,7 +39,7 @@ module _ {T : Type 0} (c : RingQueue T) (o : Operation T) (p : Pass T (SeatLine 
   abbrev pub now : Acts (SeatLine T)
   now = acts_now p.seat.me.0
 
-  -- What the pass has done of an operation since it was begun at this line: so many steps, which are at most 47, and 47 for each exchange by which another
+  -- What the pass has done of an operation since it was begun at this line: so many steps, which are at most 47, and 30 for each exchange by which another
   -- pass has succeeded meanwhile
   pub record Bounds (first : SeatLine T) (count : ℕ) : Type 0 where
     pub bound : IsBounded (room_of c) (laps_of c) (passes_of c) before now (pass_in p).number first

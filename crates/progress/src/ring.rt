@@ -30,7 +30,7 @@ use ring_table::{Operation, SeatLine};
 use running::{Call, Op};
 
 /// The most steps that an operation makes while no other pass's compare-and-swap succeeds. Each by
-/// which another pass succeeds allows 47 more.
+/// which another pass succeeds allows 30 more.
 pub const ALONE: u64 = 47;
 
 /// Puts a value step by step, with no wait, for at most `ALONE + 1` steps. If the put has not ended
@@ -92,7 +92,7 @@ where
 /// Ends a ring, as `finish` does, and returns what is left. That stands for a run of the passes whose
 /// calls are linearizable. If no pass is out, all passes together have made at most as many steps as
 /// their calls cost, each by what it has answered: of a ring for P passes at once, however many there
-/// were, a put `94 * P - 80`, a take `94 * P - 79`, a close or a shut `47 * P - 34`, a look 12, a count
+/// were, a put `40 * P - 26`, a take `35 * P - 20`, a close or a shut `22 * P - 9`, a look 12, a count
 /// 25, and a meeting or a note heard 1.
 pub fn end<T>(ring: RingQueue<T>, parent: Root<T>) -> Rest<T>
     requires { IsRootOf ring parent }
@@ -104,7 +104,7 @@ pub fn end<T>(ring: RingQueue<T>, parent: Root<T>) -> Rest<T>
     ring.end(parent)
 }
 
-/// A put under way has made at most 47 steps, and 47 for each compare-and-swap by which another pass
+/// A put under way has made at most `ALONE` steps, and 30 for each compare-and-swap by which another pass
 /// has succeeded since it was begun.
 pub fn put_is_bounded<T>(ring: &RingQueue<T>, op: &PutOp<T>)
     requires { (x : T) × IsPutting ring.now x op.now }

@@ -90,8 +90,8 @@ fn two_passes_make_no_more_steps_than_their_calls_cost(rt: HostRuntime) {
     ends_within(queue, root, first, second);
 }
 
-/// The same of a ring for two passes at once: at most 217 steps, since a put costs at most 108, and a
-/// take 109.
+/// The same of a ring for two passes at once: at most 104 steps, since a put costs at most 54, and a
+/// take 50.
 fn ring_ends_within(
     held: RingQueue<u32>,
     root: RingRoot<u32>,
@@ -103,7 +103,7 @@ fn ring_ends_within(
         × ((ring_root_in root).works ≡ []) × (passes_of held ≡ 2) }
     requires put { (r : Result ℕ (PutRefused (List ℕ))) × ((ring_pass_in first).answers ≡ Put r ∷ []) }
     requires take { (r : Result (ℕ × ℕ) TakeRefused) × ((ring_pass_in second).answers ≡ Take r ∷ []) }
-    ensures { (ring_pass_in first).steps + (ring_pass_in second).steps ≤ 217 }
+    ensures { (ring_pass_in first).steps + (ring_pass_in second).steps ≤ 104 }
 {
     let mut root = root;
     held.join(&mut root, first);

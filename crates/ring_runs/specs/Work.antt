@@ -13,11 +13,11 @@ module _ {T : Type 0} where
   -- what a call has cost at most that gave this answer, if k other passes were in a call meanwhile; a ring has no folds and no gauges. A meeting or a note
   -- heard is one load
   abbrev pub fee : ℕ → Answered T → ℕ
-  fee k (Put r) = 14 + 94 * k
-  fee k (Take r) = 15 + 94 * k
+  fee k (Put r) = 14 + 40 * k
+  fee k (Take r) = 15 + 35 * k
   fee k (Fold r) = 0
-  fee k (Close b) = 13 + 47 * k
-  fee k (Shut b) = 13 + 47 * k
+  fee k (Close b) = 13 + 22 * k
+  fee k (Shut b) = 13 + 22 * k
   fee k (Look b) = 12
   fee k (Len n) = 25
   fee k (Gauge closed used) = 0
@@ -28,4 +28,4 @@ module _ {T : Type 0} where
   pub record TotalWork (passes : ℕ) (r : RootView T) (acts : Acts (SeatLine T)) : Type 0 where
     pub prices : total_steps r.works ≤ in_all (pays (λ l. cost (passes - 1) (call_in l))) acts
     pub fees : total_steps r.works ≤ total_fees (fee (passes - 1)) r.works
-    pub answers : total_steps r.works ≤ (25 + 94 * (passes - 1)) * total_answers r.works
+    pub answers : total_steps r.works ≤ (25 + 40 * (passes - 1)) * total_answers r.works
