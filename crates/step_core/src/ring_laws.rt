@@ -74,6 +74,17 @@ pub fn ring_linearizable<T>()
         IsLinearization (object n laps) (newer ++ older) → KeepsRealTimeOrder p older }
 {}
 
+/// While no other pass's compare-and-swap succeeds, a ring's call has ended after at most 47 of its own
+/// steps: from every state that meets the rule, wherever the call is in it; and so from every state
+/// that a schedule leads to.
+pub fn ring_bound<T>()
+    ensures wherever_the_rule_holds { (n laps cells p : ℕ) (s : State T) (stretch : Schedule (Call T)) →
+        MeetsRule n laps cells s → IsStretch (ring (shape n laps)) p stretch s →
+        own_steps (ring (shape n laps)) p stretch s ≤ 47 }
+    ensures in_every_schedule { (n laps passes : ℕ) (schedule : Schedule (Call T)) → 0 < n →
+        MeetsRule n laps (n + passes) (after (ring (shape n laps)) passes schedule) }
+{}
+
 /// A ring is lock-free (Herlihy 1993, there non-blocking), by number and without any fairness. Where
 /// never more than P = 1 + `others` passes are in a call at once, they make at most 40 * P + 7 steps
 /// for each call that ends, and for each of the P: from every state that meets the rule. So among any
