@@ -13,3 +13,4 @@ pub mod Paid
 pub mod AtOnce
 mod Fees
 pub mod Total
+mod Ended

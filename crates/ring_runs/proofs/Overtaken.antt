@@ -41,7 +41,7 @@ use Rattle.ring_runs.proofs.Rings.{FreshFrom, Keeps, with_pool, Followed, fresh_
 use Rattle.ring_runs.proofs.Counted.{compared}
 use Rattle.ring_runs.proofs.Running.{running}
 
-every_older : {A : Type 0} (P : A → Type 0) (xs ys : List A) → Every P (xs ++ ys) → Every P ys
+pub every_older : {A : Type 0} (P : A → Type 0) (xs ys : List A) → Every P (xs ++ ys) → Every P ys
 every_older P [] ys e = e
 every_older P (x ∷ xs) ys e = every_older P xs ys e.1
 
@@ -147,11 +147,11 @@ module _ {T : Type 0} (n laps passes : ℕ) where
 
   -- The acts of a table
 
-  schedule_append : (xs ys : Acts (SeatLine T)) → schedule_of call_at (xs ++ ys) ≡ schedule_of call_at ys ++ schedule_of call_at xs
+  pub schedule_append : (xs ys : Acts (SeatLine T)) → schedule_of call_at (xs ++ ys) ≡ schedule_of call_at ys ++ schedule_of call_at xs
   schedule_append [] ys = sym (append-nil (schedule_of call_at ys))
   schedule_append (a ∷ xs) ys = ap (λ (s : Schedule (From T)). s ++ one call_at a.0 a.1) (schedule_append xs ys) ∙ append_assoc (schedule_of call_at ys) (schedule_of call_at xs) (one call_at a.0 a.1)
 
-  fresh_older : (xs ys : Acts (SeatLine T)) → AllFresh names (core T n laps passes) (xs ++ ys) → AllFresh names (core T n laps passes) ys
+  pub fresh_older : (xs ys : Acts (SeatLine T)) → AllFresh names (core T n laps passes) (xs ++ ys) → AllFresh names (core T n laps passes) ys
   fresh_older [] ys f = f
   fresh_older (x ∷ xs) ys f = fresh_older xs ys f.1
 

@@ -5,7 +5,7 @@ use mathlib.Core.Option.{Option, none, some}
 use lib.ListN.{get_elem?}
 use Rattle.bounded_model.specs.declared.views.RootView.{RootView}
 use Rattle.bounded_model.specs.Laws.{IsSound, NoneOut}
-use Rattle.machine.specs.Progress.{steps_made, calls_cost, in_call, AtOnce}
+use Rattle.machine.specs.Progress.{steps_made, calls_ended, calls_cost, in_call, AtOnce}
 use Rattle.machine.specs.Schedule.{Act, Begin, Step, Schedule, having_begun, begun, acts_at, next, run, start}
 use Rattle.machine.specs.Words.{total}
 use Rattle.machine.proofs.Paying.{all_paid}
@@ -71,6 +71,10 @@ module _ {T : Type 0} (n laps passes : ℕ) where
   abbrev Few : Schedule (From T) → PoolState T → Type 0
   Few schedule s = AtOnce (pool_ring giving_up n laps passes) (suc (passes - 1)) schedule s
 
+  ended_append : (xs ys : Schedule (From T)) (s : PoolState T) → calls_ended (pool_ring giving_up n laps passes) (xs ++ ys) s ≡ calls_ended (pool_ring giving_up n laps passes) xs s + calls_ended (pool_ring giving_up n laps passes) ys (run (pool_ring giving_up n laps passes) xs s)
+  ended_append [] ys s = omega arith
+  ended_append (a ∷ xs) ys s = omega (arith, ended_append xs ys (next (pool_ring giving_up n laps passes) s a))
+
   abbrev calls_in : PoolState T → ℕ
   calls_in s = in_call (pool_ring giving_up n laps passes) s
 
@@ -123,13 +127,14 @@ module _ {T : Type 0} (n laps passes : ℕ) where
       by_test true idle = subst (λ (ys : Schedule (From T)). Few (ys ++ rest) (lift free s)) (sym (acts_by true idle)) (omega (arith, few_busy s free k), (few_begun idle, subst (Few rest) (sym (ends_by true idle)) few))
 
   -- A whole schedule: it makes one step more with a pool for each begin, which its call pays for
-  record Compared (schedule : Schedule (From T)) (s : State T) (free : List ℕ) : Type 0 where
-    few : Few (with_pool n laps passes schedule s) (lift free s)
-    steps : steps_in n laps passes (passes - 1) (with_pool n laps passes schedule s) (lift free s) ≡ steps_made (cell_ring n laps passes) schedule s + calls_cost (cell_ring n laps passes) (one_each n laps passes (passes - 1)) schedule s
+  pub record Compared (schedule : Schedule (From T)) (s : State T) (free : List ℕ) : Type 0 where
+    pub few : Few (with_pool n laps passes schedule s) (lift free s)
+    pub steps : steps_in n laps passes (passes - 1) (with_pool n laps passes schedule s) (lift free s) ≡ steps_made (cell_ring n laps passes) schedule s + calls_cost (cell_ring n laps passes) (one_each n laps passes (passes - 1)) schedule s
+    pub ended : calls_ended (pool_ring giving_up n laps passes) (with_pool n laps passes schedule s) (lift free s) ≡ calls_ended (cell_ring n laps passes) schedule s
     costs : costs_in n laps passes (passes - 1) (with_pool n laps passes schedule s) (lift free s) ≡ calls_cost (cell_ring n laps passes) (price_of n laps passes (passes - 1)) schedule s + calls_cost (cell_ring n laps passes) (one_each n laps passes (passes - 1)) schedule s
 
-  compared : (schedule : Schedule (From T)) (s : State T) (free : List ℕ) → Holding n laps passes (lift free s) → FreshFrom n laps passes schedule s → Compared schedule s free
-  compared [] s free k fresh = record { few = omega (arith, few_busy s free k); steps = refl; costs = refl }
+  pub compared : (schedule : Schedule (From T)) (s : State T) (free : List ℕ) → Holding n laps passes (lift free s) → FreshFrom n laps passes schedule s → Compared schedule s free
+  compared [] s free k fresh = record { few = omega (arith, few_busy s free k); steps = refl; ended = refl; costs = refl }
   compared (a ∷ later) s free k fresh =
       let o = one_act giving_up n laps passes s free a.0 a.1 (get_elem? s.passes a.0) k.0 refl fresh.0 in
       let first : Schedule (From T) = twice a.0 a.1 (get_elem? s.passes a.0) in
@@ -141,12 +146,21 @@ module _ {T : Type 0} (n laps passes : ℕ) where
       record {
         few = few_act s free a.0 a.1 (get_elem? s.passes a.0) rest o.free' k refl o.ends k' r.few;
         steps = omega (arith, c.steps, ap (steps_in n laps passes (passes - 1) rest) o.ends, r.steps);
+        ended = omega (arith, ended_append first rest (lift free s), o.ended, ap (calls_ended (pool_ring giving_up n laps passes) rest) o.ends, r.ended);
         costs = omega (arith, c.costs, ap (costs_in n laps passes (passes - 1) rest) o.ends, r.costs);
       }
 
+  -- where a schedule leads to
+  pub reached : (schedule : Schedule (From T)) (s : State T) (free : List ℕ) → Holding n laps passes (lift free s) → FreshFrom n laps passes schedule s → (free' : List ℕ) × Holding n laps passes (lift free' (run (cell_ring n laps passes) schedule s))
+  reached [] s free k fresh = (free, k)
+  reached (a ∷ later) s free k fresh =
+      let o = one_act giving_up n laps passes s free a.0 a.1 (get_elem? s.passes a.0) k.0 refl fresh.0 in
+      let s' : State T = next (cell_ring n laps passes) s a in
+      reached later s' o.free' (subst (Holding n laps passes) o.ends (kept_run (twice a.0 a.1 (get_elem? s.passes a.0)) (lift free s) k)) fresh.1
+
 module _ {T : Type 0} (n laps passes : ℕ) (some_slot : 0 < n) where
   -- the ring before the first act
-  start_holds : (numbers : ℕ) → Holding n laps passes (lift (cells_from n passes) (start (cell_ring {T = T} n laps passes) numbers))
+  pub start_holds : (numbers : ℕ) → Holding n laps passes (lift (cells_from n passes) (start (cell_ring {T = T} n laps passes) numbers))
   start_holds numbers = (
     subst (Kept n laps passes) (sym (start_is waiting n laps passes numbers)) (pool_stays n laps passes some_slot numbers).rule,
     λ q l at.
