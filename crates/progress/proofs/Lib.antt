@@ -5,3 +5,4 @@ pub mod QueueCalls
 pub mod Stacks
 pub mod StackCalls
 pub mod Rings
+pub mod RingCalls

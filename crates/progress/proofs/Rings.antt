@@ -1,5 +1,5 @@
 -- What an operation of a ring under way knows bounds its steps.
-use Rattle.std.proofs.Common.{◌≡◌, ℕ, false, arith}
+use Rattle.std.proofs.Common.{◌≡◌, ℕ, ◌+◌, ◌*◌, ◌<◌, false, arith}
 use Rattle.tagged_index.specs.declared.limit.Limits.{Limits}
 use Rattle.bounded_model.specs.declared.views.PassView.{PassView}
 use Rattle.machine.specs.Seats.{Acts, acts_before, acts_now, pass_of}
@@ -14,9 +14,10 @@ use Rattle.ring_table.specs.declared.operation.Operation.{Operation}
 use Rattle.running.specs.Acts.{Course}
 use Rattle.running.specs.Going.{Going}
 use Rattle.running.specs.declared.passes.Pass.{Pass}
+use Rattle.runs.specs.Made.{HasMade}
 use Rattle.runs.proofs.Made.{some_made}
-use Rattle.progress.proofs.Courses.{Bounds, bounds}
-use Rattle.progress.specs.Rings.{StepsAreBounded}
+use Rattle.progress.proofs.Courses.{Bounds, bounds, bounds_some}
+use Rattle.progress.specs.Rings.{StepsAreBounded, IsOvertaken}
 
 module _ {T : Type 0} (c : RingQueue T) (o : Operation T) (p : Pass T (SeatLine T)) {begun : PassView T} {l : SeatLine T} (g : Going (machine_of c) o p.seat.me.0 begun l) where
   abbrev x : ℕ
@@ -50,3 +51,9 @@ module _ {T : Type 0} (c : RingQueue T) (o : Operation T) (p : Pass T (SeatLine 
         made = k.1;
         bound = λ busy. (let b : Bounded k.0 = bounds (machine_of c) p.seat.me.0 Bound since (λ first b. b.is) bound_so g k.0 k.1 busy in (b.rest, record { bound = b.bound; steps = b.steps }));
       }
+
+  -- after more steps than those, others have won
+  pub overtaken : (count w : ℕ) → HasMade names o p.seat.me.0 count → 47 + 30 * w < count → IsOvertaken c o p w
+  overtaken count w h more =
+      let b : Bounded count = bounds_some (machine_of c) p.seat.me.0 Bound since (λ first b. b.is) bound_so g count h (omega (arith, more)) in
+      record { rest = b.rest; since = b.bound.since; is = b.bound.is; wins = λ numbers low. (let most = b.bound.bound numbers low in omega (arith, most, b.steps, more)) }

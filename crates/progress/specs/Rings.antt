@@ -1,24 +1,35 @@
 -- How many steps an operation of a ring has made, as its caller sees it.
-use Rattle.std.specs.Prelude.{◌≡◌, ℕ, List, false}
+use Rattle.std.specs.Prelude.{◌≡◌, ℕ, ◌<◌, List, false, ◌∷◌, ◌++◌}
+use Rattle.bounded_model.specs.declared.answers.Stepped.{Stepped}
 use Rattle.bounded_model.specs.Laws.{NoneOut}
+use Rattle.bounded_model.specs.Stepping.{MatchStepped}
+use Rattle.bounded_model.specs.declared.views.PassView.{PassView}
 use Rattle.bounded_model.specs.declared.views.RootView.{RootView}
+use Rattle.machine.specs.Progress.{others_win}
 use Rattle.machine.specs.Seats.{Acts, acts_before, acts_now}
-use Rattle.ring_queue.specs.Ring.{room_of, laps_of, passes_of, machine_of}
+use Rattle.ring_queue.specs.Ring.{room_of, laps_of, passes_of, machine_of, IsPassOf}
+use Rattle.ring_queue.specs.Ring as ring
+use Rattle.ring_queue.specs.declared.queue.Answered.{Answered}
+use Rattle.ring_queue.specs.declared.queue.Pass.{Pass as RingPass}
 use Rattle.ring_queue.specs.declared.queue.RingQueue.{RingQueue}
-use Rattle.ring_runs.specs.Bounded.{IsBounded, call_in}
+use Rattle.ring_runs.specs.Bounded.{IsBounded, call_at, call_in, state_after}
 use Rattle.ring_runs.specs.Linearizable.{answer_at}
+use Rattle.ring_runs.specs.Machine.{cell_ring}
 use Rattle.ring_runs.specs.Work.{TotalWork}
 use Rattle.ring_table.specs.Core.{core}
 use Rattle.ring_table.specs.Seats.{names}
 use Rattle.ring_table.specs.declared.line.SeatLine.{SeatLine}
 use Rattle.ring_table.specs.declared.operation.Operation.{Operation}
 use Rattle.run_ends.specs.Ends.{IsRun}
-use Rattle.running.specs.Acts.{steps_in}
-use Rattle.running.specs.Passes.{pass_in}
+use Rattle.running.specs.Acts.{Begins, steps_in}
+use Rattle.running.specs.Code.{Account}
+use Rattle.running.specs.Passes.{begun_of, pass_in}
 use Rattle.running.specs.Rule.{line_in}
+use Rattle.running.specs.declared.op.Op.{Op}
 use Rattle.running.specs.declared.passes.Pass.{Pass}
 use Rattle.runs.specs.Heard.{IsLinearizable}
-use Rattle.runs.specs.Made.{HasMade}
+use Rattle.runs.specs.Made.{HasMade, IsAfter}
+use Rattle.runs.specs.Runs.{Below, schedule_of}
 use Rattle.step_core.specs.ring.Object.{object}
 
 module _ {T : Type 0} (c : RingQueue T) (o : Operation T) (p : Pass T (SeatLine T)) where
@@ -28,7 +39,7 @@ module _ {T : Type 0} (c : RingQueue T) (o : Operation T) (p : Pass T (SeatLine 
   abbrev pub now : Acts (SeatLine T)
   now = acts_now p.seat.me.0
 
-  -- What the pass has done of an operation since it was begun at this line: so many steps, which are at most 47, and 47 for each exchange by which another
+  -- What the pass has done of an operation since it was begun at this line: so many steps, which are at most 47, and 30 for each exchange by which another
   -- pass has succeeded meanwhile
   pub record Bounds (first : SeatLine T) (count : ℕ) : Type 0 where
     pub bound : IsBounded (room_of c) (laps_of c) (passes_of c) before now (pass_in p).number first
@@ -40,6 +51,26 @@ module _ {T : Type 0} (c : RingQueue T) (o : Operation T) (p : Pass T (SeatLine 
     pub count : ℕ
     pub made : HasMade names o p.seat.me.0 count
     pub bound : names.is_idle (line_in names p.seat.me.0) ≡ false → (rest : SeatLine T) × Bounds (names.first o rest) count
+
+  -- more than w exchanges of other passes have succeeded since the operation was begun: those of the machine that ran as the passes did, with any numbers
+  -- of passes that are enough
+  pub record IsOvertaken (w : ℕ) : Type 0 where
+    pub rest : SeatLine T
+    pub since : Acts (SeatLine T)
+    pub is : now ≡ since ++ ((pass_in p).number, Begins (names.first o rest)) ∷ before
+    pub wins : (numbers : ℕ) → Below numbers now
+        → w < others_win (cell_ring (room_of c) (laps_of c) (passes_of c)) (pass_in p).number (schedule_of call_at since) (state_after (room_of c) (laps_of c) (passes_of c) numbers (((pass_in p).number, Begins (names.first o rest)) ∷ before))
+
+-- an operation that did not end was overtaken
+abbrev pub EndsOrOvertaken : {T S A : Type 0} → RingQueue T → Stepped (Op T (SeatLine T) (Operation T) S) (RingPass T) A → Type 0
+EndsOrOvertaken c made = MatchStepped made (λ next. IsOvertaken c next.operation next.pass 0) (λ back answer. Unit {0})
+
+module _ {T S A : Type 0} (c : RingQueue T) (account : Account T (SeatLine T) (Operation T) S (Answered A)) (Promises : Operation T → PassView T → PassView T → Answered A → Type 0) where
+  -- The operation goes on, begun as before, after this many steps in all; or its pass is back and has given what it promises
+  abbrev pub MadeFor : ℕ → Op T (SeatLine T) (Operation T) S → Stepped (Op T (SeatLine T) (Operation T) S) (RingPass T) A → Type 0
+  MadeFor k op r = MatchStepped r
+      (λ next. IsAfter (machine_of c) account c.table.shared.table_id k next × (begun_of (machine_of c) next.pass ≡ begun_of (machine_of c) op.pass) × (next.operation ≡ op.operation))
+      (λ back a. IsPassOf c back × Promises op.operation (begun_of (machine_of c) op.pass) (ring.pass_in back) (record { spare = back.spare; answer = a }))
 
 -- What is left stands for a run of the passes. Their calls are linearizable, and if no pass is out, they have made no more steps together than their
 -- calls cost

@@ -1,35 +1,110 @@
 //! The bound on the steps of a ring's operations.
-ghost use Rattle.std.specs.Prelude.{◌+◌, ◌-◌, ◌*◌, ◌≤◌};
+ghost use Rattle.std.specs.Prelude.{◌≡◌, ◌+◌, ◌-◌, ◌≤◌, ℕ};
 ghost use Rattle.bounded_model.specs.Laws.{Leaves, NoneOut};
+ghost use Rattle.ring_machine.specs.Machine.{resting};
 ghost use Rattle.ring_queue.specs.Closing.{IsClosing};
 ghost use Rattle.ring_queue.specs.Counting.{IsCounting};
 ghost use Rattle.ring_queue.specs.Leaving.{left_in};
 ghost use Rattle.ring_queue.specs.Looking.{IsLooking};
 ghost use Rattle.ring_queue.specs.Putting.{IsPutting};
-ghost use Rattle.ring_queue.specs.Ring.{passes_of, shape_of};
+ghost use Rattle.ring_queue.specs.Ring.{IsPassOf, machine_of, pass_in, passes_of, shape_of};
 ghost use Rattle.ring_queue.specs.Roots.{IsRootOf, root_in};
 ghost use Rattle.ring_queue.specs.Shutting.{IsShutting};
 ghost use Rattle.ring_queue.specs.Taking.{IsTaking};
-ghost use Rattle.runs.specs.Work.{total_steps, total_answers};
-ghost use Rattle.progress.specs.Rings.{StepsAreBounded, IsPaidRun};
+ghost use Rattle.ring_queue.specs.Trying.{PutTried, TakeTried};
+ghost use Rattle.ring_queue.specs.declared.queue.Answered.{Answered as HasAnswered};
+ghost use Rattle.ring_runs.specs.Work.{fee};
+ghost use Rattle.ring_table.specs.Seats.{names};
+ghost use Rattle.ring_table.specs.declared.line.SeatLine.TheVariants.{At};
+ghost use Rattle.ring_table.specs.declared.operation.Operation.{Operation as AnOperation};
+ghost use Rattle.running.specs.Ops.{IsUnderWay};
+ghost use Rattle.runs.specs.Made.{IsAfter};
+ghost use Rattle.runs.specs.Work.{total_steps, total_fees};
+ghost use Rattle.progress.specs.Rings.{EndsOrOvertaken, IsPaidRun, MadeFor, StepsAreBounded};
 
-use ring_queue::{CloseOp, LenOp, LookOp, PutOp, Rest, RingQueue, Root, ShutOp, TakeOp};
+use bounded_model::{PutRefused, Stepped, TakeRefused};
+use ring_queue::{
+    Answered, CloseOp, LenOp, LookOp, Pass, PutOp, Rest, RingQueue, Ringed, Root, ShutOp, TakeOp,
+};
+use ring_table::{Operation, SeatLine};
+use running::{Call, Op};
+
+/// The most steps that an operation makes while no other pass's compare-and-swap succeeds. Each by
+/// which another pass succeeds allows 30 more.
+pub const ALONE: u64 = 47;
+
+/// Puts a value step by step, with no wait, for at most `ALONE + 1` steps. If the put has not ended
+/// then, another pass's compare-and-swap has succeeded since it was begun, and it comes back under
+/// way.
+pub fn put_or_overtaken<T>(
+    ring: &RingQueue<T>,
+    by: Pass<T>,
+    value: T,
+) -> Stepped<PutOp<T>, Pass<T>, Result<u64, PutRefused<T>>>
+    requires { IsPassOf ring.now by }
+    ensures tried { PutTried ring.now value (pass_in by) result }
+    ensures overtaken { EndsOrOvertaken ring.now result }
+{
+    step_for(ring, ring.begin_put(by, value), ALONE + 1)
+}
+
+/// Takes a value in the same way.
+pub fn take_or_overtaken<T>(
+    ring: &RingQueue<T>,
+    by: Pass<T>,
+) -> Stepped<TakeOp<T>, Pass<T>, Result<(T, u64), TakeRefused>>
+    requires { IsPassOf ring.now by }
+    ensures tried { TakeTried ring.now (pass_in by) result }
+    ensures overtaken { EndsOrOvertaken ring.now result }
+{
+    step_for(ring, ring.begin_take(by), ALONE + 1)
+}
+
+// `runs::step_for` for a ring, whose pass comes back with the spare cell of its last line.
+fn step_for<T, S, A>(
+    ring: &RingQueue<T>,
+    op: Op<T, SeatLine<T>, Operation<T>, S>,
+    steps: u64,
+) -> Stepped<Op<T, SeatLine<T>, Operation<T>, S>, Pass<T>, A>
+where
+    S: Call<RingQueue<T>, T, SeatLine<T>, Operation<T>, Ringed, Answered<A>, 0>,
+    requires under_way { IsUnderWay (machine_of ring.now) (S.account ring.now.table.shared.key)
+        ring.now.table.shared.table_id op }
+    requires spare { (o : AnOperation T) (a : HasAnswered A)
+        → names.quiet ((S.account ring.now.table.shared.key).answer o a)
+        ≡ At (resting a.spare.index) }
+    ensures { (k : ℕ)
+        → IsAfter (machine_of ring.now) (S.account ring.now.table.shared.key)
+        ring.now.table.shared.table_id k op
+        → MadeFor ring.now (S.account ring.now.table.shared.key)
+        (S.promises ring.now.table.shared.key) (k + steps) op result }
+{
+    let mut op = op;
+    for _done in 0..steps {
+        match ring.step_op(op) {
+            Stepped::Again(next) => op = next,
+            Stepped::Done(back, answer) => return Stepped::Done(back, answer),
+        }
+    }
+    Stepped::Again(op)
+}
 
 /// Ends a ring, as `finish` does, and returns what is left. That stands for a run of the passes whose
 /// calls are linearizable. If no pass is out, all passes together have made at most as many steps as
-/// the calls that they have begun cost (`ring_total_work`): for P passes at once at most
-/// `94 * P - 47` for each answer, however many passes there were.
+/// their calls cost, each by what it has answered: of a ring for P passes at once, however many there
+/// were, a put `40 * P - 26`, a take `35 * P - 20`, a close or a shut `22 * P - 9`, a look 12, a count
+/// 25, and a meeting or a note heard 1.
 pub fn end<T>(ring: RingQueue<T>, parent: Root<T>) -> Rest<T>
     requires { IsRootOf ring parent }
     ensures leaves { Leaves (shape_of ring) (root_in parent) (left_in result) }
     ensures run { IsPaidRun ring (root_in parent) (left_in result) }
     ensures work { NoneOut (root_in parent) → total_steps (root_in parent).works
-        ≤ (47 + 94 * (passes_of ring - 1)) * total_answers (root_in parent).works }
+        ≤ total_fees (fee (passes_of ring - 1)) (root_in parent).works }
 {
     ring.end(parent)
 }
 
-/// A put under way has made at most 47 steps, and 47 for each compare-and-swap by which another pass
+/// A put under way has made at most `ALONE` steps, and 30 for each compare-and-swap by which another pass
 /// has succeeded since it was begun.
 pub fn put_is_bounded<T>(ring: &RingQueue<T>, op: &PutOp<T>)
     requires { (x : T) × IsPutting ring.now x op.now }

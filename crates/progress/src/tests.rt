@@ -45,6 +45,21 @@ fn alone_the_calls_of_a_stack_end(rt: HostRuntime) {
     assert!(rt; matches!(took, Ok((7, 1))));
 }
 
+#[test]
+fn alone_the_calls_of_a_ring_end(rt: HostRuntime) {
+    let limits = RingLimits::of(1, 1, 2).expect(&rt, "limits");
+    let (ring, mut root) = RingQueue::<u32>::new(rt.alloc(), limits).expect(&rt, "memory");
+    let pass = ring.split(&mut root).expect(&rt, "a pass");
+    let Stepped::Done(pass, put) = ring::put_or_overtaken(&ring, pass, 7) else {
+        panic!(rt; "the put was overtaken")
+    };
+    assert!(rt; put.is_ok());
+    let Stepped::Done(_, took) = ring::take_or_overtaken(&ring, pass) else {
+        panic!(rt; "the take was overtaken")
+    };
+    assert!(rt; matches!(took, Ok((7, 0))));
+}
+
 /// The end of a queue that has given two passes, of which one has made a put and the other a take.
 /// Together they have made at most 61 steps, whatever the other did meanwhile: with two passes a put
 /// costs at most 32, and a take 29.
@@ -75,7 +90,8 @@ fn two_passes_make_no_more_steps_than_their_calls_cost(rt: HostRuntime) {
     ends_within(queue, root, first, second);
 }
 
-/// The same of a ring for two passes at once: at most 141 steps for each of the two answers.
+/// The same of a ring for two passes at once: at most 104 steps, since a put costs at most 54, and a
+/// take 50.
 fn ring_ends_within(
     held: RingQueue<u32>,
     root: RingRoot<u32>,
@@ -87,7 +103,7 @@ fn ring_ends_within(
         × ((ring_root_in root).works ≡ []) × (passes_of held ≡ 2) }
     requires put { (r : Result ℕ (PutRefused (List ℕ))) × ((ring_pass_in first).answers ≡ Put r ∷ []) }
     requires take { (r : Result (ℕ × ℕ) TakeRefused) × ((ring_pass_in second).answers ≡ Take r ∷ []) }
-    ensures { (ring_pass_in first).steps + (ring_pass_in second).steps ≤ 282 }
+    ensures { (ring_pass_in first).steps + (ring_pass_in second).steps ≤ 104 }
 {
     let mut root = root;
     held.join(&mut root, first);

@@ -73,7 +73,7 @@ module _ {T : Type 0} (n limit : ℕ) (some_cell : 0 < n) (small : n < NULL) (so
       let schedule : Schedule (Call T) = schedule_of call_at ran.acts in
       let once = at_once (queue {T = T} (shape n limit)) r.given (suc k) few schedule (after (queue {T = T} (shape n limit)) r.given []) (passes_after (queue {T = T} (shape n limit)) r.given []) in
       let paid : IsPaid ran.acts r.works (λ l. cost k (call_at l)) (fee k) (18 + 14 * k) = is_paid (on_table T n limit) (queue (shape n limit)) call_at (running n limit) r left ran sound nobody (cost k) (fee k) (omega arith)
-      (λ schedule p v call at is idle. worth k r.given schedule p v call at is idle) (queue_costs n limit k r.given schedule some_cell small some_tag once) (18 + 14 * k) (fee_small k) in
+      (λ older low allowed fresh p v call at is idle. worth k r.given (schedule_of call_at older) p v call at is idle) (queue_costs n limit k r.given schedule some_cell small some_tag once) (18 + 14 * k) (fee_small k) in
       let none : in_all is_look ran.acts ≡ 0 = no_looks (on_table T n limit) (queue (shape n limit)) call_at (running n limit) (λ reads. reads) ran.acts ran.proper in
       record {
         prices = paid.prices;

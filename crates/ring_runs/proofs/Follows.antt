@@ -5,6 +5,7 @@ use mathlib.Core.Option.{Option, none, some, some-injective, some-ne-none}
 use lib.ListN.{get_elem?}
 use Rattle.bounded_model.specs.declared.history.Event.{Event}
 use Rattle.machine.specs.Schedule.{Act, Begin, Step, Schedule, Outcome, having_begun, having_stepped, begun, stepped, acts_at, next, run, start, first_pass, first_passes}
+use Rattle.machine.specs.Progress.{ends_at, calls_ended}
 use Rattle.machine.specs.Words.{Tagged, times, total}
 use Rattle.machine.proofs.Scheduled.{set_same}
 use Rattle.machine.proofs.Sums.{at_map}
@@ -136,10 +137,14 @@ module _ {T : Type 0} (refused : SeatLine T → Call T → PoolLine T) (n laps p
   abbrev Heard : List ℕ → State T → ℕ → Act (From T) → Option (Pass T) → Type 0
   Heard free s p a o = concurrent_history (pool_ring refused n laps passes) answer_in (twice p a o) (lift free s) ≡ history_at (cell_ring n laps passes) answer_at s p a o
 
+  abbrev EndsCalls : List ℕ → State T → ℕ → Act (From T) → Option (Pass T) → Type 0
+  EndsCalls free s p a o = calls_ended (pool_ring refused n laps passes) (twice p a o) (lift free s) ≡ ends_at (cell_ring n laps passes) s.memory p a o
+
   pub record One (s : State T) (free : List ℕ) (p : ℕ) (a : Act (From T)) (o : Option (Pass T)) : Type 0 where
     pub free' : List ℕ
     pub ends : Ends free s p a o free'
     pub heard : Heard free s p a o
+    pub ended : EndsCalls free s p a o
 
   module _ (s : State T) (free : List ℕ) (p : ℕ) (v : Pass T) (at : get_elem? s.passes p ≡ some v) where
     abbrev y : PoolState T
@@ -163,6 +168,13 @@ module _ {T : Type 0} (refused : SeatLine T → Call T → PoolLine T) (n laps p
     one_step : One s free p Step (some v)
     one_step = by_test (is_idle v.line) refl
       where
+        ended_step : EndsCalls free s p Step (some v)
+        ended_step = omega (
+          arith,
+          ap (ends_at (pool_ring refused n laps passes) y.memory p Step) at_lift,
+          ap {B = ℕ} (λ (z : PoolOutcome T). cond (is_idle v.line) 0 (cond (idle_in z.line) 1 0)) (gone_is s.memory free p v.line),
+        )
+
         reply : (l : SeatLine T) → List (Entry T (From T) (Answer T))
         reply l = cond (is_idle l) (Responds p (answer_at l) ∷ []) []
 
@@ -175,6 +187,7 @@ module _ {T : Type 0} (refused : SeatLine T → Call T → PoolLine T) (n laps p
           heard = ap (history_at (pool_ring refused n laps passes) answer_in y p Step) at_lift
               ∙ ap (λ (b : Bool). cond b [] (cond (idle_in o'.line) (Responds p (answer_in o'.line) ∷ []) [])) idle
               ∙ ap (λ (b : Bool). cond b [] (reply o.line)) (sym idle);
+          ended = ended_step;
         }
         by_test false busy = record {
           free' = o'.memory.free;
@@ -184,6 +197,7 @@ module _ {T : Type 0} (refused : SeatLine T → Call T → PoolLine T) (n laps p
               ∙ ap (λ (b : Bool). lift o'.memory.free (cond b s (stepped (cell_ring n laps passes) s p v o))) (sym busy);
           heard = ap (history_at (pool_ring refused n laps passes) answer_in y p Step) at_lift
               ∙ ap (λ (l : PoolLine T). cond (is_idle v.line) [] (cond (idle_in l) (Responds p (answer_in l) ∷ []) [])) (ap (λ (z : PoolOutcome T). z.line) (gone_is s.memory free p v.line));
+          ended = ended_step;
         }
 
     -- a begin at a cell that the pool has
@@ -228,6 +242,15 @@ module _ {T : Type 0} (refused : SeatLine T → Call T → PoolLine T) (n laps p
       heard_ring idle = ap (λ (b : Bool). cond b (cond (ring.is_idle (first_of c call)) (Responds p (answer_at (At (first_of c call))) ∷ []) [] ++ Invokes p from ∷ []) []) idle
           ∙ ap (λ (b : Bool). cond b (Responds p (answer_at (At (first_of c call))) ∷ []) [] ++ Invokes p from ∷ []) (first_busy c call)
 
+      ended_begin : ends_at (pool_ring refused n laps passes) y.memory p (Begin from) (get_elem? y.passes p) ≡ 0
+      ended_begin = ap (ends_at (pool_ring refused n laps passes) y.memory p (Begin from)) at_lift
+
+      ended_gets : is_idle v.line ≡ true → (let z = next (pool_ring refused n laps passes) y (p, Begin from) in ends_at (pool_ring refused n laps passes) z.memory p Step (get_elem? z.passes p) ≡ 0)
+      ended_gets idle = ap (λ (z : PoolState T). ends_at (pool_ring refused n laps passes) z.memory p Step (get_elem? z.passes p)) (first_is idle)
+          ∙ ap (ends_at (pool_ring refused n laps passes) y1.memory p Step) at_begun
+          ∙ ap {B = ℕ} (λ (z : PoolOutcome T). cond (idle_in z.line) 1 0) gets_is
+          ∙ ap {B = ℕ} (λ (b : Bool). cond b 1 0) (first_busy c call)
+
       one_begin : One s free p (Begin from) (some v)
       one_begin = by_test (is_idle v.line) refl
         where
@@ -242,6 +265,7 @@ module _ {T : Type 0} (refused : SeatLine T → Call T → PoolLine T) (n laps p
                 ∙ ap (λ (z : PoolState T). ([] ++ history_at (pool_ring refused n laps passes) answer_in z p Step (get_elem? z.passes p)) ++ history_at (pool_ring refused n laps passes) answer_in y p (Begin from) (get_elem? y.passes p)) (first_is idle)
                 ∙ (λ t. ([] ++ heard_gets t) ++ heard_begin idle t)
                 ∙ sym (heard_ring idle);
+            ended = ap (λ (b : Bool). calls_ended (pool_ring refused n laps passes) (cond b ((p, Begin from) ∷ (p, Step) ∷ []) []) y) idle ∙ omega (arith, ended_begin, ended_gets idle);
           }
           by_test false busy = record {
             free' = free;
@@ -249,10 +273,11 @@ module _ {T : Type 0} (refused : SeatLine T → Call T → PoolLine T) (n laps p
                 ∙ ap (λ (b : Bool). lift free (cond b (begun (cell_ring n laps passes) s p v from) s)) (sym busy);
             heard = ap (λ (b : Bool). concurrent_history (pool_ring refused n laps passes) answer_in (cond b ((p, Begin from) ∷ (p, Step) ∷ []) []) y) busy
                 ∙ ap (λ (b : Bool). cond b (cond (ring.is_idle (first_of c call)) (Responds p (answer_at (At (first_of c call))) ∷ []) [] ++ Invokes p from ∷ []) []) (sym busy);
+            ended = ap (λ (b : Bool). calls_ended (pool_ring refused n laps passes) (cond b ((p, Begin from) ∷ (p, Step) ∷ []) []) y) busy;
           }
 
   pub one_act : (s : State T) (free : List ℕ) (p : ℕ) (a : Act (From T)) (o : Option (Pass T)) → Kept n laps passes (lift free s) → get_elem? s.passes p ≡ o → IsFresh n laps passes s a → One s free p a o
-  one_act s free p a none k at fresh = record { free' = free; ends = refl; heard = refl }
+  one_act s free p a none k at fresh = record { free' = free; ends = refl; heard = refl; ended = refl }
   one_act s free p Step (some v) k at fresh = one_step s free p v at
   one_act s free p (Begin (At l, call)) (some v) k at fresh = one_begin s free p v at l call (in_pool n laps passes s free k (cell_of l) fresh)
   one_act s free p (Begin (Stock cs, call)) (some v) k at fresh = absurd fresh

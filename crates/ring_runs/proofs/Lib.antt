@@ -11,4 +11,6 @@ pub mod Counted
 pub mod Overtaken
 pub mod Paid
 pub mod AtOnce
+mod Fees
 pub mod Total
+mod Ended

@@ -41,7 +41,7 @@ use Rattle.ring_runs.proofs.Rings.{FreshFrom, Keeps, with_pool, Followed, fresh_
 use Rattle.ring_runs.proofs.Counted.{compared}
 use Rattle.ring_runs.proofs.Running.{running}
 
-every_older : {A : Type 0} (P : A → Type 0) (xs ys : List A) → Every P (xs ++ ys) → Every P ys
+pub every_older : {A : Type 0} (P : A → Type 0) (xs ys : List A) → Every P (xs ++ ys) → Every P ys
 every_older P [] ys e = e
 every_older P (x ∷ xs) ys e = every_older P xs ys e.1
 
@@ -126,7 +126,7 @@ module _ {T : Type 0} (n laps passes : ℕ) where
     raises = λ s p q u v k at at'. raises_at s q v.line u.line k (line_at s q v v.line at' refl);
   }
 
-  cheap : (l : PoolLine T) → price_in l ≤ 47
+  cheap : (l : PoolLine T) → price_in l ≤ 30
   cheap (Gets from call) = omega arith
   cheap (Goes (At l)) = price_small l
   cheap (Goes (Stock cs)) = omega arith
@@ -141,17 +141,17 @@ module _ {T : Type 0} (n laps passes : ℕ) where
       by_line (Goes (Stock cs)) = omega arith
 
   pub pool_overtaken : (p : ℕ) (s : PoolState T) (schedule : Schedule (From T)) → Keeps n laps passes s → AtLine IsGoing (get_elem? s.passes p)
-      → own_steps (pool_ring waiting n laps passes) p schedule s ≤ 47 + 47 * others_win (pool_ring waiting n laps passes) p schedule s
+      → own_steps (pool_ring waiting n laps passes) p schedule s ≤ 47 + 30 * others_win (pool_ring waiting n laps passes) p schedule s
   pool_overtaken p s schedule k going =
-      omega (arith, overtaken (pool_ring waiting n laps passes) (Kept n laps passes) IsGoing weight_in price_in weighs 47 cheap p s schedule k.rule going, left_small s.memory (get_elem? s.passes p))
+      omega (arith, overtaken (pool_ring waiting n laps passes) (Kept n laps passes) IsGoing weight_in price_in weighs 30 cheap p s schedule k.rule going, left_small s.memory (get_elem? s.passes p))
 
   -- The acts of a table
 
-  schedule_append : (xs ys : Acts (SeatLine T)) → schedule_of call_at (xs ++ ys) ≡ schedule_of call_at ys ++ schedule_of call_at xs
+  pub schedule_append : (xs ys : Acts (SeatLine T)) → schedule_of call_at (xs ++ ys) ≡ schedule_of call_at ys ++ schedule_of call_at xs
   schedule_append [] ys = sym (append-nil (schedule_of call_at ys))
   schedule_append (a ∷ xs) ys = ap (λ (s : Schedule (From T)). s ++ one call_at a.0 a.1) (schedule_append xs ys) ∙ append_assoc (schedule_of call_at ys) (schedule_of call_at xs) (one call_at a.0 a.1)
 
-  fresh_older : (xs ys : Acts (SeatLine T)) → AllFresh names (core T n laps passes) (xs ++ ys) → AllFresh names (core T n laps passes) ys
+  pub fresh_older : (xs ys : Acts (SeatLine T)) → AllFresh names (core T n laps passes) (xs ++ ys) → AllFresh names (core T n laps passes) ys
   fresh_older [] ys f = f
   fresh_older (x ∷ xs) ys f = fresh_older xs ys f.1
 
@@ -212,7 +212,7 @@ module _ {T : Type 0} (n laps passes : ℕ) where
               let there = at_point (ring_on T n laps passes) (cell_ring n laps passes) call_at (running n laps passes) x before now first l k numbers low later earlier cut v e in
               subst (AtLine IsGoing) (sym (at_map goes s.passes x v e)) (subst (λ (u : SeatLine T). IsGoing (Goes u)) (sym there) at_ring)
 
-      later_bound : steps_in x later ≤ 47 + 47 * others_win (cell_ring n laps passes) x (schedule_of call_at later) s
+      later_bound : steps_in x later ≤ 47 + 30 * others_win (cell_ring n laps passes) x (schedule_of call_at later) s
       later_bound =
           let c = compared n laps passes x (schedule_of call_at later) s so_far.left so_far.keeps fresh_later_on in
           omega (

@@ -5,7 +5,7 @@ use mathlib.Core.Option.{Option, none, some}
 use lib.ListN.{get_elem?}
 use Rattle.bounded_model.specs.declared.views.RootView.{RootView}
 use Rattle.bounded_model.specs.Laws.{IsSound, NoneOut}
-use Rattle.machine.specs.Progress.{steps_made, calls_cost, in_call, AtOnce}
+use Rattle.machine.specs.Progress.{steps_made, calls_ended, calls_cost, in_call, AtOnce}
 use Rattle.machine.specs.Schedule.{Act, Begin, Step, Schedule, having_begun, begun, acts_at, next, run, start}
 use Rattle.machine.specs.Words.{total}
 use Rattle.machine.proofs.Paying.{all_paid}
@@ -26,12 +26,12 @@ use Rattle.runs.specs.Work.{in_all, is_look, IsPaid}
 use Rattle.runs.proofs.Costs.{no_looks}
 use Rattle.runs.proofs.Work.{below, is_paid}
 use Rattle.step_core.specs.ring.Costs.{cost}
-use Rattle.step_core.proofs.ring.Ends.{call_small}
 use Rattle.ring_machine.specs.declared.lines.Line.{Line}
 use Rattle.ring_runs.specs.Machine.{From, Pass, State, cell_ring, starts}
 use Rattle.ring_runs.specs.Bounded.{call_in, call_at}
-use Rattle.ring_runs.specs.Work.{TotalWork}
+use Rattle.ring_runs.specs.Work.{fee, TotalWork}
 use Rattle.ring_runs.proofs.AtOnce.{few_seats}
+use Rattle.ring_runs.proofs.Fees.{fee_small, worth}
 use Rattle.ring_runs.proofs.Pool.{PoolPass, PoolState, Goes, idle_in, waiting, giving_up, pool_ring}
 use Rattle.ring_runs.proofs.PoolRule.{counts, first_busy, pool_stays}
 use Rattle.ring_runs.proofs.Follows.{goes, lift, twice, from_map, Kept, one_act, start_is}
@@ -70,6 +70,10 @@ module _ {T : Type 0} (n laps passes : ℕ) where
 
   abbrev Few : Schedule (From T) → PoolState T → Type 0
   Few schedule s = AtOnce (pool_ring giving_up n laps passes) (suc (passes - 1)) schedule s
+
+  ended_append : (xs ys : Schedule (From T)) (s : PoolState T) → calls_ended (pool_ring giving_up n laps passes) (xs ++ ys) s ≡ calls_ended (pool_ring giving_up n laps passes) xs s + calls_ended (pool_ring giving_up n laps passes) ys (run (pool_ring giving_up n laps passes) xs s)
+  ended_append [] ys s = omega arith
+  ended_append (a ∷ xs) ys s = omega (arith, ended_append xs ys (next (pool_ring giving_up n laps passes) s a))
 
   abbrev calls_in : PoolState T → ℕ
   calls_in s = in_call (pool_ring giving_up n laps passes) s
@@ -123,13 +127,14 @@ module _ {T : Type 0} (n laps passes : ℕ) where
       by_test true idle = subst (λ (ys : Schedule (From T)). Few (ys ++ rest) (lift free s)) (sym (acts_by true idle)) (omega (arith, few_busy s free k), (few_begun idle, subst (Few rest) (sym (ends_by true idle)) few))
 
   -- A whole schedule: it makes one step more with a pool for each begin, which its call pays for
-  record Compared (schedule : Schedule (From T)) (s : State T) (free : List ℕ) : Type 0 where
-    few : Few (with_pool n laps passes schedule s) (lift free s)
-    steps : steps_in n laps passes (passes - 1) (with_pool n laps passes schedule s) (lift free s) ≡ steps_made (cell_ring n laps passes) schedule s + calls_cost (cell_ring n laps passes) (one_each n laps passes (passes - 1)) schedule s
+  pub record Compared (schedule : Schedule (From T)) (s : State T) (free : List ℕ) : Type 0 where
+    pub few : Few (with_pool n laps passes schedule s) (lift free s)
+    pub steps : steps_in n laps passes (passes - 1) (with_pool n laps passes schedule s) (lift free s) ≡ steps_made (cell_ring n laps passes) schedule s + calls_cost (cell_ring n laps passes) (one_each n laps passes (passes - 1)) schedule s
+    pub ended : calls_ended (pool_ring giving_up n laps passes) (with_pool n laps passes schedule s) (lift free s) ≡ calls_ended (cell_ring n laps passes) schedule s
     costs : costs_in n laps passes (passes - 1) (with_pool n laps passes schedule s) (lift free s) ≡ calls_cost (cell_ring n laps passes) (price_of n laps passes (passes - 1)) schedule s + calls_cost (cell_ring n laps passes) (one_each n laps passes (passes - 1)) schedule s
 
-  compared : (schedule : Schedule (From T)) (s : State T) (free : List ℕ) → Holding n laps passes (lift free s) → FreshFrom n laps passes schedule s → Compared schedule s free
-  compared [] s free k fresh = record { few = omega (arith, few_busy s free k); steps = refl; costs = refl }
+  pub compared : (schedule : Schedule (From T)) (s : State T) (free : List ℕ) → Holding n laps passes (lift free s) → FreshFrom n laps passes schedule s → Compared schedule s free
+  compared [] s free k fresh = record { few = omega (arith, few_busy s free k); steps = refl; ended = refl; costs = refl }
   compared (a ∷ later) s free k fresh =
       let o = one_act giving_up n laps passes s free a.0 a.1 (get_elem? s.passes a.0) k.0 refl fresh.0 in
       let first : Schedule (From T) = twice a.0 a.1 (get_elem? s.passes a.0) in
@@ -141,12 +146,21 @@ module _ {T : Type 0} (n laps passes : ℕ) where
       record {
         few = few_act s free a.0 a.1 (get_elem? s.passes a.0) rest o.free' k refl o.ends k' r.few;
         steps = omega (arith, c.steps, ap (steps_in n laps passes (passes - 1) rest) o.ends, r.steps);
+        ended = omega (arith, ended_append first rest (lift free s), o.ended, ap (calls_ended (pool_ring giving_up n laps passes) rest) o.ends, r.ended);
         costs = omega (arith, c.costs, ap (costs_in n laps passes (passes - 1) rest) o.ends, r.costs);
       }
 
+  -- where a schedule leads to
+  pub reached : (schedule : Schedule (From T)) (s : State T) (free : List ℕ) → Holding n laps passes (lift free s) → FreshFrom n laps passes schedule s → (free' : List ℕ) × Holding n laps passes (lift free' (run (cell_ring n laps passes) schedule s))
+  reached [] s free k fresh = (free, k)
+  reached (a ∷ later) s free k fresh =
+      let o = one_act giving_up n laps passes s free a.0 a.1 (get_elem? s.passes a.0) k.0 refl fresh.0 in
+      let s' : State T = next (cell_ring n laps passes) s a in
+      reached later s' o.free' (subst (Holding n laps passes) o.ends (kept_run (twice a.0 a.1 (get_elem? s.passes a.0)) (lift free s) k)) fresh.1
+
 module _ {T : Type 0} (n laps passes : ℕ) (some_slot : 0 < n) where
   -- the ring before the first act
-  start_holds : (numbers : ℕ) → Holding n laps passes (lift (cells_from n passes) (start (cell_ring {T = T} n laps passes) numbers))
+  pub start_holds : (numbers : ℕ) → Holding n laps passes (lift (cells_from n passes) (start (cell_ring {T = T} n laps passes) numbers))
   start_holds numbers = (
     subst (Kept n laps passes) (sym (start_is waiting n laps passes numbers)) (pool_stays n laps passes some_slot numbers).rule,
     λ q l at.
@@ -176,9 +190,14 @@ module _ {T : Type 0} (n laps passes : ℕ) (some_slot : 0 < n) where
   pub total_work : (r : RootView T) (left : List T) (ran : IsRun (ring_on T n laps passes) r left) → IsSound (shape_for T n laps passes) r → NoneOut r → TotalWork passes r ran.acts
   total_work r left ran sound nobody =
       let low : Below r.given ran.acts = below (ring_on T n laps passes) (cell_ring n laps passes) call_at (running n laps passes) r left ran sound nobody in
-      let all : IsPaid ran.acts r.works (λ l. cost (passes - 1) (call_in l)) (λ a. 47 + 94 * (passes - 1)) (47 + 94 * (passes - 1)) =
-      is_paid (ring_on T n laps passes) (cell_ring n laps passes) call_at (running n laps passes) r left ran sound nobody (price_of n laps passes (passes - 1)) (λ a. 47 + 94 * (passes - 1)) (omega arith)
-      (λ schedule p v call at is idle. call_small n laps (n + passes) (passes - 1) call.1)
-      (paid r.given (schedule_of call_at ran.acts) (fresh_all n laps passes r.given ran.acts low ran.allowed ran.fresh)) (47 + 94 * (passes - 1)) (λ a. omega arith) in
+      let k : ℕ = passes - 1 in
+      let all : IsPaid ran.acts r.works (λ l. cost k (call_in l)) (fee k) (25 + 40 * k) =
+      is_paid (ring_on T n laps passes) (cell_ring n laps passes) call_at (running n laps passes) r left ran sound nobody (price_of n laps passes k) (fee k) (omega arith)
+      (worth n laps passes k some_slot r.given)
+      (paid r.given (schedule_of call_at ran.acts) (fresh_all n laps passes r.given ran.acts low ran.allowed ran.fresh)) (25 + 40 * k) (fee_small k) in
       let none : in_all is_look ran.acts ≡ 0 = no_looks (ring_on T n laps passes) (cell_ring n laps passes) call_at (running n laps passes) (λ reads. reads) ran.acts ran.proper in
-      record { prices = all.prices; answers = let a = all.answers in omega arith }
+      record {
+        prices = all.prices;
+        fees = let f = all.fees in omega arith;
+        answers = let a = all.answers in omega arith;
+      }

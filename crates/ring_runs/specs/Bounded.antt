@@ -51,6 +51,6 @@ module _ {T : Type 0} where
       pub since : Acts (SeatLine T)
       pub is : now ≡ since ++ (x, Begins first) ∷ before
       pub bound : (numbers : ℕ) → Below numbers now
-          → steps_in x since ≤ 47 + 47 * others_win (cell_ring n laps passes) x (schedule_of call_at since) (state_after numbers ((x, Begins first) ∷ before))
+          → steps_in x since ≤ 47 + 30 * others_win (cell_ring n laps passes) x (schedule_of call_at since) (state_after numbers ((x, Begins first) ∷ before))
       pub from_any_point : (later earlier : Acts (SeatLine T)) → since ≡ later ++ earlier → (numbers : ℕ) → Below numbers now
-          → steps_in x later ≤ 47 + 47 * others_win (cell_ring n laps passes) x (schedule_of call_at later) (state_after numbers (earlier ++ (x, Begins first) ∷ before))
+          → steps_in x later ≤ 47 + 30 * others_win (cell_ring n laps passes) x (schedule_of call_at later) (state_after numbers (earlier ++ (x, Begins first) ∷ before))

@@ -2,3 +2,4 @@ pub mod Machine
 pub mod Bounded
 pub mod Linearizable
 pub mod Work
+pub mod Ended

@@ -1,14 +1,31 @@
--- What all passes of a ring have done together.
+-- What the calls of a ring cost, and what all its passes have done together.
 use Rattle.std.specs.Prelude.{ℕ, ◌+◌, ◌-◌, ◌*◌, ◌≤◌}
+use Rattle.bounded_model.specs.declared.views.Answered.{Answered}
+use Rattle.bounded_model.specs.declared.views.Answered.TheVariants.{Put, Take, Fold, Close, Shut, Look, Len, Gauge, Heard}
 use Rattle.bounded_model.specs.declared.views.RootView.{RootView}
 use Rattle.machine.specs.Seats.{Acts}
 use Rattle.step_core.specs.ring.Costs.{cost}
 use Rattle.ring_table.specs.declared.line.SeatLine.{SeatLine}
-use Rattle.runs.specs.Work.{total_steps, total_answers, in_all, pays}
+use Rattle.runs.specs.Work.{total_steps, total_answers, total_fees, in_all, pays}
 use Rattle.ring_runs.specs.Bounded.{call_in}
 
--- Of a ring for so many passes at once, the joined passes have made at most so many steps, together: what the calls cost that these acts begin, with a load for
--- each meeting and each note heard; and so many for each answer
-pub record TotalWork {T : Type 0} (passes : ℕ) (r : RootView T) (acts : Acts (SeatLine T)) : Type 0 where
-  pub prices : total_steps r.works ≤ in_all (pays (λ l. cost (passes - 1) (call_in l))) acts
-  pub answers : total_steps r.works ≤ (47 + 94 * (passes - 1)) * total_answers r.works
+module _ {T : Type 0} where
+  -- what a call has cost at most that gave this answer, if k other passes were in a call meanwhile; a ring has no folds and no gauges. A meeting or a note
+  -- heard is one load
+  abbrev pub fee : ℕ → Answered T → ℕ
+  fee k (Put r) = 14 + 40 * k
+  fee k (Take r) = 15 + 35 * k
+  fee k (Fold r) = 0
+  fee k (Close b) = 13 + 22 * k
+  fee k (Shut b) = 13 + 22 * k
+  fee k (Look b) = 12
+  fee k (Len n) = 25
+  fee k (Gauge closed used) = 0
+  fee k Heard = 1
+
+  -- Of a ring for so many passes at once, the joined passes have made at most so many steps, together: what the calls cost that these acts begin, with a
+  -- load for each meeting and each note heard; the fees of all that was answered; and so many for each answer
+  pub record TotalWork (passes : ℕ) (r : RootView T) (acts : Acts (SeatLine T)) : Type 0 where
+    pub prices : total_steps r.works ≤ in_all (pays (λ l. cost (passes - 1) (call_in l))) acts
+    pub fees : total_steps r.works ≤ total_fees (fee (passes - 1)) r.works
+    pub answers : total_steps r.works ≤ (25 + 40 * (passes - 1)) * total_answers r.works

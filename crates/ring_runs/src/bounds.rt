@@ -11,7 +11,7 @@ ghost use Rattle.runs.specs.Runs.{Below, Shows};
 ghost use Rattle.ring_runs.specs.Machine.{cell_ring};
 ghost use Rattle.ring_runs.specs.Bounded.{IsBounded, MeetsRule, call_at, state_after};
 
-/// An operation of a ring that is under way has made at most 47 steps, and 47 for each
+/// An operation of a ring that is under way has made at most 47 steps, and 30 for each
 /// compare-and-swap by which another pass has succeeded since it was begun.
 pub fn ring_steps_are_bounded<T>()
     ensures { (n laps passes x : ℕ) (before now : Acts (SeatLine T)) (first l : SeatLine T) → 0 < n

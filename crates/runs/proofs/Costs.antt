@@ -13,7 +13,7 @@ use Rattle.machine.specs.Progress.{steps_at, costs_at, steps_made, calls_cost, A
 use Rattle.machine.proofs.Scheduled.{next_kept, same_passes, set_same}
 use Rattle.machine.proofs.Tests.{same_or_not, cases}
 use Rattle.running.specs.Machine.{Names, Machine}
-use Rattle.running.specs.Acts.{Doing, Begins, Steps, Looks, Hears, Now, placed, is_begin, is_step, sum_of, after_act, played, IsAllowed, IsProper, AllProper, answers_at, answers_after, answers_in}
+use Rattle.running.specs.Acts.{Doing, Begins, Steps, Looks, Hears, Now, placed, is_begin, is_step, sum_of, after_act, played, IsAllowed, IsProper, AllProper, AllFresh, answers_at, answers_after, answers_in}
 use Rattle.running.proofs.Acts.{sum_same}
 use Rattle.runs.proofs.Points.{line_other}
 use Rattle.runs.specs.Runs.{Below, one, schedule_of, IsRunning, Shows}
@@ -170,7 +170,7 @@ module _ {T L O C : Type 0} {names : Names L O} (m : Machine T L O names) (x : P
 
   -- Of each pass: what its calls cost, with what it has heard, is at most what its answers are worth, and its call under way
   module _ (n : ℕ) (cost : C → ℕ) (fee : Answered T → ℕ) (some_fee : 0 < fee Heard)
-      (worth : (schedule : Schedule C) (p : ℕ) (v : Pass L C (Event T)) (call : C) → get_elem? (run x schedule (start x n)).passes p ≡ some v → v.call ≡ some call → x.is_idle v.line ≡ true → cost call ≤ fee (m.core.reply v.line)) where
+      (worth : (acts : Acts L) → Below n acts → Allowed acts → AllFresh names m.core acts → (p : ℕ) (v : Pass L C (Event T)) (call : C) → get_elem? (run x (schedule_of call_at acts) (start x n)).passes p ≡ some v → v.call ≡ some call → x.is_idle v.line ≡ true → cost call ≤ fee (m.core.reply v.line)) where
     abbrev price : L → ℕ
     price l = cost (call_at l)
 
@@ -195,10 +195,10 @@ module _ {T L O C : Type 0} {names : Names L O} (m : Machine T L O names) (x : P
     worth_of none a h = omega arith
     worth_of (some c) a h = h c refl
 
-    one_covers : (older : Acts L) (p : ℕ) (d : Doing L) → Below n ((p, d) ∷ older) → Allowed ((p, d) ∷ older) → AllProper names m.core ((p, d) ∷ older)
+    one_covers : (older : Acts L) (p : ℕ) (d : Doing L) → Below n ((p, d) ∷ older) → Allowed ((p, d) ∷ older) → AllFresh names m.core ((p, d) ∷ older) → AllProper names m.core ((p, d) ∷ older)
         → priced price d + is_hear d + (total fee (answered p older) + due (get_elem? (after older).passes p))
         ≤ total fee (answers_after names m.core (played names m.core older) p d (answered p older)) + due (get_elem? (after ((p, d) ∷ older)).passes p)
-    one_covers older p (Begins first) low allowed proper =
+    one_covers older p (Begins first) low allowed fresh proper =
         let k : Now names m.core = played names m.core older in
         let s : S = after older in
         let sh = shows_all m x call_at is n older low.1 allowed.1 in
@@ -212,7 +212,7 @@ module _ {T L O C : Type 0} {names : Names L O} (m : Machine T L O names) (x : P
         let was : due (get_elem? s.passes p) ≡ 0 = ap due there.1 ∙ ap (λ (b : Bool). cond b 0 (cost_of v.call)) idle in
         let will : due (get_elem? (after ((p, Begins first) ∷ older)).passes p) ≡ price first = ap (λ (z : S). due (get_elem? z.passes p)) to ∙ ap due (set_same s.passes p v v' there.1) ∙ ap (λ (b : Bool). cond b 0 (price first)) busy in
         omega (arith, was, will)
-    one_covers older p Steps low allowed proper =
+    one_covers older p Steps low allowed fresh proper =
         let k : Now names m.core = played names m.core older in
         let s : S = after older in
         let sh = shows_all m x call_at is n older low.1 allowed.1 in
@@ -229,14 +229,14 @@ module _ {T L O C : Type 0} {names : Names L O} (m : Machine T L O names) (x : P
         let will : due (get_elem? (after ((p, Steps) ∷ older)).passes p) ≡ cond (names.is_idle to) 0 (cost_of v.call) = ap due here ∙ ap (λ (b : Bool). cond b 0 (cost_of v.call)) (is.idle v'.line ∙ ap names.is_idle line) in
         let replies : answers_after names m.core k p Steps (answered p older) ≡ answers_at names m.core (answered p older) to = ap (λ (b : Bool). cond b (answered p older) (answers_at names m.core (answered p older) to)) proper.0 in
         let paid : names.is_idle to ≡ true → cost_of v.call ≤ fee (m.core.reply to) = λ ends. subst (λ (l : L). cost_of v.call ≤ fee (m.core.reply l)) line
-        (worth_of v.call (fee (m.core.reply v'.line)) (λ c e. worth (schedule_of call_at ((p, Steps) ∷ older)) p v' c here e (is.idle v'.line ∙ ap names.is_idle line ∙ ends))) in
+        (worth_of v.call (fee (m.core.reply v'.line)) (λ c e. worth ((p, Steps) ∷ older) low allowed fresh p v' c here e (is.idle v'.line ∙ ap names.is_idle line ∙ ends))) in
         omega (arith, was, will, ap (λ (said : List (Answered T)). total fee said) replies, at_end (names.is_idle to) (m.core.reply to) (answered p older) (cost_of v.call) paid)
       where
         at_end : (b : Bool) (a : Answered T) (answers : List (Answered T)) (c : ℕ) → (b ≡ true → c ≤ fee a) → total fee answers + c ≤ total fee (cond b (a ∷ answers) answers) + cond b 0 c
         at_end true a answers c h = let e = h refl in omega arith
         at_end false a answers c h = omega arith
-    one_covers older p Looks low allowed proper = let e = ap (λ (z : S). due (get_elem? z.passes p)) (run_append x (schedule_of call_at older) (one call_at p Looks) (start x n)) in omega (arith, e)
-    one_covers older p Hears low allowed proper = let e = ap (λ (z : S). due (get_elem? z.passes p)) (run_append x (schedule_of call_at older) (one call_at p Hears) (start x n)) in omega (arith, e, some_fee)
+    one_covers older p Looks low allowed fresh proper = let e = ap (λ (z : S). due (get_elem? z.passes p)) (run_append x (schedule_of call_at older) (one call_at p Looks) (start x n)) in omega (arith, e)
+    one_covers older p Hears low allowed fresh proper = let e = ap (λ (z : S). due (get_elem? z.passes p)) (run_append x (schedule_of call_at older) (one call_at p Hears) (start x n)) in omega (arith, e, some_fee)
 
     other_stays : (older : Acts L) (p q : ℕ) (d : Doing L) → q ≢ p → get_elem? (after ((q, d) ∷ older)).passes p ≡ get_elem? (after older).passes p
     other_stays older p q (Begins first) ne = ap (λ (z : S). get_elem? z.passes p) (run_append x (schedule_of call_at older) (one call_at q (Begins first)) (start x n)) ∙ same_there x p (after older) q (Begin (call_at first)) ne (get_elem? (after older).passes q)
@@ -244,8 +244,8 @@ module _ {T L O C : Type 0} {names : Names L O} (m : Machine T L O names) (x : P
     other_stays older p q Looks ne = ap (λ (z : S). get_elem? z.passes p) (run_append x (schedule_of call_at older) (one call_at q Looks) (start x n))
     other_stays older p q Hears ne = ap (λ (z : S). get_elem? z.passes p) (run_append x (schedule_of call_at older) (one call_at q Hears) (start x n))
 
-    covered_mine : (a : ℕ × Doing L) (older : Acts L) → Below n (a ∷ older) → Allowed (a ∷ older) → AllProper names m.core (a ∷ older) → Covered a.0 older → Covered a.0 (a ∷ older)
-    covered_mine a older low allowed proper before =
+    covered_mine : (a : ℕ × Doing L) (older : Acts L) → Below n (a ∷ older) → Allowed (a ∷ older) → AllFresh names m.core (a ∷ older) → AllProper names m.core (a ∷ older) → Covered a.0 older → Covered a.0 (a ∷ older)
+    covered_mine a older low allowed fresh proper before =
         let k : Now names m.core = played names m.core older in
         omega (
           arith,
@@ -253,7 +253,7 @@ module _ {T L O C : Type 0} {names : Names L O} (m : Machine T L O names) (x : P
           sum_same {L = L} (priced price) a.0 a.1 older,
           sum_same {L = L} is_hear a.0 a.1 older,
           ap (λ (b : Bool). total fee (cond b (answers_after names m.core k a.0 a.1 (answered a.0 older)) (answered a.0 older))) (eq-eqb a.0 a.0 refl),
-          one_covers older a.0 a.1 low allowed proper,
+          one_covers older a.0 a.1 low allowed fresh proper,
         )
 
     covered_other : (p : ℕ) (a : ℕ × Doing L) (older : Acts L) → p ≢ a.0 → Covered p older → Covered p (a ∷ older)
@@ -268,11 +268,11 @@ module _ {T L O C : Type 0} {names : Names L O} (m : Machine T L O names) (x : P
           ap due (other_stays older p a.0 a.1 (λ e. ne (sym e))),
         )
 
-    pub covered : (p : ℕ) (acts : Acts L) → Below n acts → Allowed acts → AllProper names m.core acts → Covered p acts
-    covered p [] low allowed proper = omega arith
-    covered p (a ∷ older) low allowed proper = ⊎_elim
-        (λ same. subst (λ (q : ℕ). Covered q older → Covered q (a ∷ older)) (sym same) (covered_mine a older low allowed proper) (covered p older low.1 allowed.1 proper.1))
-        (λ ne. covered_other p a older ne (covered p older low.1 allowed.1 proper.1))
+    pub covered : (p : ℕ) (acts : Acts L) → Below n acts → Allowed acts → AllFresh names m.core acts → AllProper names m.core acts → Covered p acts
+    covered p [] low allowed fresh proper = omega arith
+    covered p (a ∷ older) low allowed fresh proper = ⊎_elim
+        (λ same. subst (λ (q : ℕ). Covered q older → Covered q (a ∷ older)) (sym same) (covered_mine a older low allowed fresh proper) (covered p older low.1 allowed.1 fresh.1 proper.1))
+        (λ ne. covered_other p a older ne (covered p older low.1 allowed.1 fresh.1 proper.1))
         (same_or_not p a.0)
 
     pub nothing_due : (p : ℕ) (acts : Acts L) → Below n acts → Allowed acts → names.is_idle ((played names m.core acts).line p) ≡ true → due (get_elem? (after acts).passes p) ≡ 0

@@ -12,11 +12,11 @@ use Rattle.bounded_model.specs.Histories.{Among}
 use Rattle.bounded_model.specs.Laws.{IsSound, NoneOut}
 use Rattle.machine.specs.Seats.{Acts, IsJoined}
 use Rattle.machine.specs.Words.{total}
-use Rattle.machine.specs.Schedule.{Machine as Pure, Pass, Schedule, run, start}
+use Rattle.machine.specs.Schedule.{Machine as Pure, Pass, run, start}
 use Rattle.machine.specs.Progress.{steps_made, calls_cost}
 use Rattle.machine.proofs.Sums.{total_map}
 use Rattle.running.specs.Machine.{Names, Machine}
-use Rattle.running.specs.Acts.{Doing, Begins, Steps, Looks, Hears, counted, is_step, sum_of, made, played, HasDone}
+use Rattle.running.specs.Acts.{Doing, Begins, Steps, Looks, Hears, counted, is_step, sum_of, made, played, HasDone, IsAllowed, AllFresh}
 use Rattle.run_ends.specs.Ends.{IsRun}
 use Rattle.runs.specs.Runs.{Below, schedule_of, IsRunning}
 use Rattle.runs.specs.Work.{total_steps, total_fees, in_all, is_look, is_hear, pays, IsPaid}
@@ -65,7 +65,7 @@ module _ {T L O C : Type 0} {names : Names L O} (m : Machine T L O names) (x : P
     kinds Hears = refl
 
     module _ (cost : C → ℕ) (fee : Answered T → ℕ) (some_fee : 0 < fee Heard)
-        (worth : (schedule : Schedule C) (p : ℕ) (v : Pass L C (Event T)) (call : C) → get_elem? (run x schedule (start x r.given)).passes p ≡ some v → v.call ≡ some call → x.is_idle v.line ≡ true → cost call ≤ fee (m.core.reply v.line))
+        (worth : (older : Acts L) → Below r.given older → Every (λ a. IsAllowed names m.core a.1) older → AllFresh names m.core older → (p : ℕ) (v : Pass L C (Event T)) (call : C) → get_elem? (run x (schedule_of call_at older) (start x r.given)).passes p ≡ some v → v.call ≡ some call → x.is_idle v.line ≡ true → cost call ≤ fee (m.core.reply v.line))
         (paid : steps_made x (schedule_of call_at acts) (start x r.given) ≤ calls_cost x cost (schedule_of call_at acts) (start x r.given)) where
       abbrev price_at : L → ℕ
       price_at l = cost (call_at l)
@@ -73,7 +73,7 @@ module _ {T L O C : Type 0} {names : Names L O} (m : Machine T L O names) (x : P
       one_fee : (w : Work T) → IsJoined w.number r.account → HasDone names m.core acts w.number w.steps w.answers → sum_of (priced price_at) w.number acts + sum_of is_hear w.number acts ≤ total fee w.answers
       one_fee w joined done = omega (
         arith,
-        covered m x call_at is r.given cost fee some_fee worth w.number acts below ran.allowed ran.proper,
+        covered m x call_at is r.given cost fee some_fee worth w.number acts below ran.allowed ran.fresh ran.proper,
         nothing_due m x call_at is r.given cost fee some_fee worth w.number acts below ran.allowed (ran.rests w.number (inr joined)),
         ap (λ (said : List (Answered T)). total fee said) done.answers_are,
       )

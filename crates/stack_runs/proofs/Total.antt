@@ -171,11 +171,11 @@ module _ {T : Type 0} (n limit : ℕ) (some_node : 0 < n) (small : n ≤ NULL) w
 
     paid : IsPaid ran.acts r.works (λ l. cost n k (call_at l)) (fee n k) (4 * n + 4 + (3 * n + 4) * k)
     paid = is_paid (on_table T n limit) (stack (shape n limit)) call_at (running n limit) r left ran sound nobody (cost n k) (fee n k) (omega arith)
-        (worth (cost n k) (fee n k) (worth_answer n k some_node) r.given) spent (4 * n + 4 + (3 * n + 4) * k) (fee_small n k some_node)
+        (λ older low allowed fresh. worth (cost n k) (fee n k) (worth_answer n k some_node) r.given (schedule_of call_at older)) spent (4 * n + 4 + (3 * n + 4) * k) (fee_small n k some_node)
 
     singly_paid : Every (λ a. BeginsSingle a.1) ran.acts → IsPaid ran.acts r.works (λ l. single_cost n k some_node (call_at l)) (single_fee k) (7 + 7 * k)
     singly_paid all = is_paid (on_table T n limit) (stack (shape n limit)) call_at (running n limit) r left ran sound nobody (single_cost n k some_node) (single_fee k) (omega arith)
-        (worth (single_cost n k some_node) (single_fee k) (single_worth_answer n k some_node) r.given)
+        (λ older low allowed fresh. worth (single_cost n k some_node) (single_fee k) (single_worth_answer n k some_node) r.given (schedule_of call_at older))
         (omega (arith, spent, prices_of (cost n k), prices_of (single_cost n k some_node), single_prices n k some_node ran.acts all)) (7 + 7 * k) (single_fee_small n k some_node)
 
     pub total_work : TotalWork n r ran.acts

@@ -1,6 +1,7 @@
 pub mod Run
 pub mod Points
 pub mod Weight
+mod Raises
 pub mod Pays
 pub mod Ends
 pub mod InOrder

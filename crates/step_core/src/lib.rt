@@ -22,7 +22,8 @@ pub use queue_laws::{
 };
 pub use queue_shown::{queue_exhibits, queue_near_misses};
 pub use ring_laws::{
-    ring_answers, ring_cells, ring_core, ring_linearizable, ring_lock_free, ring_order, ring_rule,
+    ring_answers, ring_bound, ring_cells, ring_core, ring_linearizable, ring_lock_free, ring_order,
+    ring_rule,
 };
 pub use ring_shown::{ring_exhibits, ring_near_misses};
 pub use stack_laws::{

@@ -74,14 +74,25 @@ pub fn ring_linearizable<T>()
         IsLinearization (object n laps) (newer ++ older) → KeepsRealTimeOrder p older }
 {}
 
+/// While no other pass's compare-and-swap succeeds, a ring's call has ended after at most 47 of its own
+/// steps: from every state that meets the rule, wherever the call is in it; and so from every state
+/// that a schedule leads to.
+pub fn ring_bound<T>()
+    ensures wherever_the_rule_holds { (n laps cells p : ℕ) (s : State T) (stretch : Schedule (Call T)) →
+        MeetsRule n laps cells s → IsStretch (ring (shape n laps)) p stretch s →
+        own_steps (ring (shape n laps)) p stretch s ≤ 47 }
+    ensures in_every_schedule { (n laps passes : ℕ) (schedule : Schedule (Call T)) → 0 < n →
+        MeetsRule n laps (n + passes) (after (ring (shape n laps)) passes schedule) }
+{}
+
 /// A ring is lock-free (Herlihy 1993, there non-blocking), by number and without any fairness. Where
-/// never more than P = 1 + `others` passes are in a call at once, they make at most 94 * P - 47 steps
+/// never more than P = 1 + `others` passes are in a call at once, they make at most 40 * P + 7 steps
 /// for each call that ends, and for each of the P: from every state that meets the rule. So among any
-/// P * (94 * P - 47) + 1 steps after any schedule of P passes, some call ends. And in all, from the
-/// start, the passes make no more steps than the calls cost that they begin: a put 94 * P - 80, a take
-/// 94 * P - 79, a close or a shut 47 * P - 34, a look 12, a count 25.
+/// P * (40 * P + 7) + 1 steps after any schedule of P passes, some call ends. And in all, from the
+/// start, the passes make no more steps than the calls cost that they begin: a put 40 * P - 26, a take
+/// 35 * P - 20, a close or a shut 22 * P - 9, a look 12, a count 25.
 ///
-/// Of each single call: it has ended after at most 47 of its own steps, and 47 for each
+/// Of each single call: it has ended after at most 47 of its own steps, and 30 for each
 /// compare-and-swap by which another pass succeeds meanwhile. So a step that does not succeed costs
 /// nobody else, and while no other pass's compare-and-swap succeeds, 47 steps are enough, however
 /// long its pass had stopped.
@@ -89,9 +100,9 @@ pub fn ring_lock_free<T>()
     ensures wherever_the_rule_holds { (n laps cells others : ℕ) (s : State T) (schedule : Schedule (Call T)) →
         MeetsRule n laps cells s → AtOnce (ring (shape n laps)) (suc others) schedule s →
         steps_made (ring (shape n laps)) schedule s
-        ≤ (47 + 94 * others) * (calls_ended (ring (shape n laps)) schedule s + suc others) }
+        ≤ (47 + 40 * others) * (calls_ended (ring (shape n laps)) schedule s + suc others) }
     ensures in_every_schedule { (n laps others : ℕ) → 0 < n →
-        LockFree (ring {T = T} (shape n laps)) (suc others) ((47 + 94 * others) * suc others) }
+        LockFree (ring {T = T} (shape n laps)) (suc others) ((47 + 40 * others) * suc others) }
     ensures all_costs { (n laps passes others : ℕ) (schedule : Schedule (Call T)) → 0 < n →
         let s = start (ring (shape n laps)) passes in
         AtOnce (ring (shape n laps)) (suc others) schedule s →
@@ -100,7 +111,7 @@ pub fn ring_lock_free<T>()
     ensures overtaken { (n laps cells p : ℕ) (s : State T) (schedule : Schedule (Call T)) →
         MeetsRule n laps cells s →
         own_steps (ring (shape n laps)) p schedule s
-        ≤ 47 + 47 * others_win (ring (shape n laps)) p schedule s }
+        ≤ 47 + 30 * others_win (ring (shape n laps)) p schedule s }
     ensures unhindered { (n laps cells p : ℕ) (s : State T) (stretch : Schedule (Call T)) →
         MeetsRule n laps cells s → IsStretch (ring (shape n laps)) p stretch s →
         own_steps (ring (shape n laps)) p stretch s ≤ 47 }

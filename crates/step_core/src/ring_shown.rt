@@ -73,7 +73,7 @@ pub fn ring_near_misses()
     ensures stale_take_unlawful { ¬ Lawful ℕ 1 1 3 (after (ring_with is_always_empty (shape 1 1)) 2 stale_take) }
     ensures stale_take_not_linearizable { ¬ Linearizable (ring_with is_always_empty (shape 1 1)) answer (object 1 1) 2 stale_take }
     // A near miss that is not lock-free: two passes make each other fail, round after round.
-    ensures starving_not_lock_free { ¬ LockFree (ring_with spoils_where_it_lost (shape 1 1)) 2 ((47 + 94 * 1) * 2) }
+    ensures starving_not_lock_free { ¬ LockFree (ring_with spoils_where_it_lost (shape 1 1)) 2 ((47 + 40 * 1) * 2) }
     ensures starving_not_unhindered { let machine = ring_with spoils_where_it_lost (shape 1 1) in
-        ¬ (own_steps machine 0 (in_turn 24) starving ≤ 47 + 47 * others_win machine 0 (in_turn 24) starving) }
+        ¬ (own_steps machine 0 (in_turn 24) starving ≤ 47 + 30 * others_win machine 0 (in_turn 24) starving) }
 {}

@@ -71,12 +71,12 @@ front_turn_grows g g' ToLook h = omega arith
 front_turn_grows g g' ToCountFrom h = omega (arith, h)
 
 abbrev pub front_harm : Front → ℕ
-front_harm ToTake = 94
-front_harm ToShut = 47
+front_harm ToTake = 35
+front_harm ToShut = 22
 front_harm ToLook = 0
 front_harm ToCountFrom = 0
 
-front_harm_small : (s : Front) → front_harm s ≤ 94
+front_harm_small : (s : Front) → front_harm s ≤ 40
 front_harm_small ToTake = omega arith
 front_harm_small ToShut = omega arith
 front_harm_small ToLook = omega arith
@@ -119,36 +119,36 @@ module _ {T : Type 0} where
 
   -- what an exchange costs another line where it is won. One that moves a hint as far as it may go costs nobody
   abbrev pub price : Line T → ℕ
-  price (PutCell w v y) = 47
-  price (PassTail w) = 47
-  price (MarkBack w y) = 47
-  price (TakeCell w y) = 47
-  price (PassHead w v) = 47
-  price (ShutFront w y) = 47
+  price (PutCell w v y) = 30
+  price (PassTail w) = 10
+  price (MarkBack w y) = 22
+  price (TakeCell w y) = 25
+  price (PassHead w v) = 10
+  price (ShutFront w y) = 22
   price l = 0
 
   -- and what the call may still cost another line
   abbrev pub back_harm : Back T → ℕ
-  back_harm (ToPut v) = 94
-  back_harm ToClose = 47
+  back_harm (ToPut v) = 40
+  back_harm ToClose = 22
   back_harm (ToCount front) = 0
 
   abbrev pub harm : Line T → ℕ
   harm (Idle c a) = 0
-  harm (FetchTail c v) = 94
+  harm (FetchTail c v) = 40
   harm (LoadTail c s) = back_harm s
   harm (LoadBack w s) = back_harm s
   harm (MoveTail w s) = back_harm s
-  harm (PutCell w v y) = 94
-  harm (PassTail w) = 47
-  harm (MarkBack w y) = 47
+  harm (PutCell w v y) = 40
+  harm (PassTail w) = 10
+  harm (MarkBack w y) = 22
   harm (LoadHead c s) = front_harm s
   harm (LoadFront w s) = front_harm s
   harm (MoveHead w s) = front_harm s
-  harm (TakeCell w y) = 94
-  harm (PassHead w v) = 47
+  harm (TakeCell w y) = 35
+  harm (PassHead w v) = 10
   harm (Stow w a) = 0
-  harm (ShutFront w y) = 47
+  harm (ShutFront w y) = 22
   harm (CheckFront c front back) = 0
 
 module _ {T : Type 0} where
@@ -157,7 +157,7 @@ module _ {T : Type 0} where
   turn_small slot g e ToClose = omega arith
   turn_small slot g e (ToCount front) = omega (arith, lost_small (not (was_emptied slot front)) (5 + g + e))
 
-  back_harm_small : (s : Back T) → back_harm s ≤ 94
+  back_harm_small : (s : Back T) → back_harm s ≤ 40
   back_harm_small (ToPut v) = omega arith
   back_harm_small ToClose = omega arith
   back_harm_small (ToCount front) = omega arith
@@ -234,7 +234,7 @@ module _ {T : Type 0} where
   weight_small m (ShutFront w y) = omega (arith, lost_small (same (m.slot w.at.index) y) 22)
   weight_small m (CheckFront c front back) = omega (arith, lag_small m, late_small m, turn_small m.slot (lag m) (late m) (ToCount front))
 
-  pub harm_small : (l : Line T) → harm l ≤ 94
+  pub harm_small : (l : Line T) → harm l ≤ 40
   harm_small (Idle c a) = omega arith
   harm_small (FetchTail c v) = omega arith
   harm_small (LoadTail c s) = back_harm_small s
@@ -252,6 +252,6 @@ module _ {T : Type 0} where
   harm_small (ShutFront w y) = omega arith
   harm_small (CheckFront c front back) = omega arith
 
-  pub price_small : (l : Line T) → price l ≤ 47
+  pub price_small : (l : Line T) → price l ≤ 30
   price_small (Idle c a) = omega arith
   price_small l = omega arith

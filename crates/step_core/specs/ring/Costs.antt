@@ -15,10 +15,10 @@ module _ {T : Type 0} where
 
   -- how many steps of another pass its exchanges can make vain
   abbrev pub harms : Call T → ℕ
-  harms (CallPut v) = 94
-  harms CallTake = 94
-  harms CallClose = 47
-  harms CallShut = 47
+  harms (CallPut v) = 40
+  harms CallTake = 35
+  harms CallClose = 22
+  harms CallShut = 22
   harms CallLook = 0
   harms CallLen = 0
 

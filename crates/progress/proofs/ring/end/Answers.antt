@@ -19,4 +19,4 @@ pub returns-clause-work : goal.returns-clause-work
 returns-clause-work g c = λ nobody.
     let ring = c.args.ring in
     let limits = ring.table.shared.key in
-    (total_work (room_of ring) (laps_of ring) (passes_of ring) (let e = limits.some_capacity in omega arith) _ _ c.end.ensures.run c.requires.on.sound nobody).answers
+    (total_work (room_of ring) (laps_of ring) (passes_of ring) (let e = limits.some_capacity in omega arith) _ _ c.end.ensures.run c.requires.on.sound nobody).fees

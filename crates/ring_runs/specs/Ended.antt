@@ -1,0 +1,16 @@
+-- Some call on a ring ends, whatever the passes do.
+use Rattle.std.specs.Prelude.{ℕ, ◌+◌, ◌-◌, ◌*◌, ◌≤◌}
+use Rattle.machine.specs.Progress.{steps_made, calls_ended}
+use Rattle.machine.specs.Seats.{Acts}
+use Rattle.ring_table.specs.declared.line.SeatLine.{SeatLine}
+use Rattle.runs.specs.Runs.{schedule_of}
+use Rattle.ring_runs.specs.Bounded.{call_at, state_after}
+use Rattle.ring_runs.specs.Machine.{cell_ring}
+
+-- Of a ring for so many passes at once: in the acts behind the earlier ones the passes have made at most so many steps, together, for each call that ended in
+-- them, and for each of the passes
+abbrev pub CallsEnd : {T : Type 0} → ℕ → ℕ → ℕ → ℕ → (later earlier : Acts (SeatLine T)) → Type 0
+CallsEnd n laps passes numbers later earlier =
+    let ring = cell_ring n laps passes in
+    let s = state_after n laps passes numbers earlier in
+    steps_made ring (schedule_of call_at later) s ≤ (47 + 40 * (passes - 1)) * (calls_ended ring (schedule_of call_at later) s + passes)

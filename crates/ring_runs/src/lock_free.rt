@@ -1,0 +1,25 @@
+//! A run of threads on a ring is lock-free.
+ghost use Rattle.std.specs.Prelude.{ℕ, ◌<◌, ◌++◌};
+ghost use Rattle.std.specs.List.{AllByRecursion};
+ghost use Rattle.machine.specs.Seats.{Acts};
+ghost use Rattle.ring_table.specs.declared.line.SeatLine.{SeatLine};
+ghost use Rattle.ring_table.specs.Seats.{names};
+ghost use Rattle.ring_table.specs.Core.{core};
+ghost use Rattle.running.specs.Acts.{AllFresh, IsAllowed};
+ghost use Rattle.runs.specs.Runs.{Below};
+ghost use Rattle.ring_runs.specs.Ended.{CallsEnd};
+
+/// A run of threads on a ring is lock-free (Herlihy 1993, there non-blocking), by number and without
+/// any fairness, if each pass began its operations with a spare cell that was free. Of the acts that
+/// led to the table of a ring for P passes at once, take those from any point on: the passes have made
+/// at most `40 * P + 7` steps in them, together, for each call that ended in them, and for each of the
+/// P. So among any `P * (40 * P + 7) + 1` steps some call ends, however many passes there were. Of a
+/// queue and a stack the same follows from `queue_lock_free` and `stack_lock_free`, since their acts
+/// are schedules of those machines.
+pub fn ring_acts_are_lock_free<T>()
+    ensures { (n laps passes numbers : ℕ) (later earlier : Acts (SeatLine T)) → 0 < n → 0 < passes
+        → Below numbers (later ++ earlier)
+        → AllByRecursion (λ a. IsAllowed names (core T n laps passes) a.1) (later ++ earlier)
+        → AllFresh names (core T n laps passes) (later ++ earlier)
+        → CallsEnd n laps passes numbers later earlier }
+{}
