@@ -59,7 +59,7 @@ enum {
     LOCKFREE_BAD_CAPACITY = 11, /* new: a capacity is 1 to 1,048,573. limited: and a limit of tags 2 to 2^42 - 1. Of a ring:
                                    see lockfree_ring_new */
     LOCKFREE_OTHER_HANDLE = 12, /* a root instead of a pass, or a pass instead of a root. fold, range: or a queue's or a ring's
-                                   pass. count: or a stack's or a ring's. gauge: or a ring's */
+                                   pass. count: or a stack's */
     LOCKFREE_NO_HANDLE = 13,    /* the handle is empty: never made, or freed */
     LOCKFREE_IN_USE = 14,       /* the handle to be made is not empty */
     LOCKFREE_VALUE = 15,        /* fold: value is the next one, and the fold is under way: go on with lockfree_go_on.
@@ -74,8 +74,8 @@ typedef struct lockfree_handle {
 
 /* A code, and what it says. value is, of a put that is OK, its number. Of a take it is the value. Of a fold or a count it is
  * how many values there were, and of a range_put or a put_range how many were put. Of a gauge, OK or CLOSED, it is how many
- * tags were used. Of a fold or a finish that is VALUE it is the next value, and of what is SPENT the tag. What is not said is
- * 0. It comes back in two registers. */
+ * tags were used; of a ring, how many values were put. Of a fold or a finish that is VALUE it is the next value, and of what is
+ * SPENT the tag. What is not said is 0. It comes back in two registers. */
 typedef struct lockfree_answer {
     uint64_t value;
     uint32_t code;
@@ -129,10 +129,12 @@ lockfree_answer lockfree_finish(lockfree_handle *root);
  * close: OK, CLOSED. No put follows
  * shut:  OK, SHUT. No take follows
  * look:  OK if it was not empty, EMPTY if it was
- * count: OK, and value is how many values the queue held at one moment of the call. Queues only.
+ * count: OK, and value is how many values the queue or the ring held at one moment of the call, 0 to its capacity. Not of
+ *        stacks. It begins anew while others take
  * gauge: OK if the container was open, CLOSED if it was closed. value is how many of its tags were used at the same
  *        moment of the call, at most 2^42 - 1. A queue uses one for each put that was OK. A stack uses one for each put
- *        and each take, of one value or of many. A gauge uses none, so it also answers once the container is SPENT */
+ *        and each take, of one value or of many. Of a ring, value is how many puts were OK, at most its capacity times its
+ *        laps: then it is SPENT. A gauge uses no tag, so it also answers once the container is SPENT */
 lockfree_answer lockfree_put(lockfree_handle *pass, uint64_t value, uint64_t tries);
 lockfree_answer lockfree_take(lockfree_handle *pass, uint64_t tries);
 lockfree_answer lockfree_close(lockfree_handle *pass, uint64_t tries);
@@ -238,7 +240,8 @@ static inline bool lockfree_is_closed(lockfree_handle *pass)
 }
 
 /* How far the container was worn at one moment of the call: how many of its tags were used, of at most 2^42 - 1, or of
- * the limit that it was made with. 0 of a handle whose gauge is refused. */
+ * the limit that it was made with. Of a ring: how many values were put, of its capacity times its laps. 0 of a handle whose
+ * gauge is refused. */
 static inline uint64_t lockfree_wear(lockfree_handle *pass)
 {
     return lockfree_until(pass, lockfree_gauge(pass, UINT64_MAX)).value;

@@ -56,7 +56,7 @@ public:
     using base::base;
 };
 
-/// A bounded queue for a known number of threads, which takes less time between threads than `queue`: its calls, but size(). Options: capacity<N>,
+/// A bounded queue for a known number of threads, which takes less time between threads than `queue`: its calls. Options: capacity<N>,
 /// or none and the capacity for the constructor. It also takes a pass_limit: as many threads at a time can have called it,
 /// with the passes of `split`. One more gets status::no_pass, and std::length_error of calls that say bool. The pass of a
 /// thread that ends, and of `split` that ends, is the next one's.

@@ -121,20 +121,18 @@ public:
     bool empty() const {
         return const_cast<calls *>(this)->ask([](handle &pass) { return (lockfree_look)(&pass, UINT64_MAX); }) != status::ok;
     }
-    /// How many values a queue held at one moment of the call.
-    template <kind Of = K, class = std::enable_if_t<Of == kind::queue>> std::size_t size() const {
+    /// How many values a queue or a ring held at one moment of the call, 0 to its capacity. It begins anew while others pop.
+    template <kind Of = K, class = std::enable_if_t<Of != kind::stack>> std::size_t size() const {
         std::uint64_t count = 0;
         tell(count, [](handle &pass) { return (lockfree_count)(&pass, UINT64_MAX); });
         return static_cast<std::size_t>(count);
     }
-    /// Whether it was closed at one moment of the call. A ring says whether a call has closed it and returned, or was
-    /// refused for this.
+    /// Whether it was closed at one moment of the call.
     bool is_closed() const {
         const core *const of = me().shared();
         if (of && of->closed.load(std::memory_order_acquire)) return true;
-        if constexpr (K == kind::ring) return false;
-        std::uint64_t tags = 0;
-        return gauge(tags) == status::closed;
+        std::uint64_t used = 0;
+        return gauge(used) == status::closed;
     }
     /// How many values fit.
     std::size_t capacity() const noexcept {
@@ -147,19 +145,14 @@ public:
 
     /// The part of its life that the container had used at one moment of the call, from 0 to 1. A queue takes 2^42 - 2
     /// values in its life, a stack makes 2^42 - 1 pushes and pops, a ring takes 2^41 - 1 times its capacity. Then it is
-    /// spent, and each push says so, each pop of a stack too. A ring's call reads each pass that was ever made, and counts
-    /// the pushes that have returned. 1 after `finish`.
+    /// spent, and each push says so, each pop of a stack too. 1 after `finish`.
     double wear() const {
         const core *const of = me().shared();
         if (of && of->spent.load(std::memory_order_acquire)) return 1;
         std::uint64_t used = 0;
-        if constexpr (K == kind::ring) {
-            if (!of) throw_for(LOCKFREE_NO_PASS);
-            return part(of->pushed(), static_cast<double>(of->life) * static_cast<double>(of->room));
-        } else {
-            gauge(used);
-            return part(used, static_cast<double>(K == kind::queue ? of->life - 1 : of->life));
-        }
+        gauge(used);
+        const double life = static_cast<double>(of->life);
+        return part(used, K == kind::queue ? life - 1 : K == kind::ring ? life * static_cast<double>(of->room) : life);
     }
 
 protected:
@@ -187,9 +180,9 @@ private:
         throw_if_not_made(what);
         return what;
     }
-    /// How many tags are used, and ok or closed.
-    status gauge(std::uint64_t &tags) const {
-        return tell(tags, [](handle &pass) { return (lockfree_gauge)(&pass, UINT64_MAX); });
+    /// How many tags are used, of a ring how many values were put, and ok or closed.
+    status gauge(std::uint64_t &used) const {
+        return tell(used, [](handle &pass) { return (lockfree_gauge)(&pass, UINT64_MAX); });
     }
     static double part(std::uint64_t used, double whole_life) noexcept {
         const double of_life = static_cast<double>(used) / whole_life;
@@ -197,10 +190,10 @@ private:
     }
 
     template <class Again, class... Args> status make(Again &again, Args &&...args) {
-        return heard(again, me().with([&](core &of, seat &by) { return put_made<T, K>(of, by, again, std::forward<Args>(args)...); }));
+        return heard(again, me().with([&](core &of, seat &by) { return put_made<T>(of, by, again, std::forward<Args>(args)...); }));
     }
     template <class Again> status move(Again &again, T &value) {
-        return heard(again, me().with([&](core &of, seat &by) { return put_moved<T, K>(of, by, again, value); }));
+        return heard(again, me().with([&](core &of, seat &by) { return put_moved<T>(of, by, again, value); }));
     }
     /// A call that waits is full only because it was stopped.
     template <class Again> static status heard(Again &, status what) noexcept {

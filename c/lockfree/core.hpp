@@ -19,7 +19,6 @@ namespace detail {
 struct alignas(64) seat {
     handle pass;
     cells_at_hand cells;
-    std::atomic<std::uint64_t> pushed{0};  // of a ring: the number of its last push, and 1
     seat *next_resting = nullptr;
     seat *next_made = nullptr;
 };
@@ -66,16 +65,6 @@ public:
 
     void *take_cell(seat &by) noexcept { return cells.take(by.cells, lock); }
     void give_cell(seat &by, void *cell) noexcept { cells.give(by.cells, cell, lock); }
-
-    /// How many values a ring has taken, of those whose push has returned.
-    std::uint64_t pushed() const noexcept {
-        std::uint64_t most_pushed = 0;
-        for (const seat *at = made.load(std::memory_order_acquire); at; at = at->next_made) {
-            const std::uint64_t of_seat = at->pushed.load(std::memory_order_relaxed);
-            if (of_seat > most_pushed) most_pushed = of_seat;
-        }
-        return most_pushed;
-    }
 
     void add_user() noexcept { users.fetch_add(1, std::memory_order_relaxed); }
     /// Whether it was the last one, who then calls `end`.

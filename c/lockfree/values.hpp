@@ -86,25 +86,22 @@ inline status refused(core &of, std::uint32_t code) noexcept {
 }
 
 /// Puts a word; while it is full, as long as `again()` is true.
-template <kind K, class Again> status put_word(core &of, seat &by, std::uint64_t word, Again &again) {
+template <class Again> status put_word(core &of, seat &by, std::uint64_t word, Again &again) {
     for (;;) {
         gives(&of);
         const lockfree_answer answer = put(by.pass, word);
-        if (answer.code == LOCKFREE_OK) {
-            if constexpr (K == kind::ring) by.pushed.store(answer.value + 1, std::memory_order_relaxed);
-            return status::ok;
-        }
+        if (answer.code == LOCKFREE_OK) return status::ok;
         if (answer.code != LOCKFREE_FULL || !again()) return refused(of, answer.code);
     }
 }
 
 /// Puts a value that is made of `args` in its place.
-template <class T, kind K, class Again, class... Args> status put_made(core &of, seat &by, Again &again, Args &&...args) {
+template <class T, class Again, class... Args> status put_made(core &of, seat &by, Again &again, Args &&...args) {
     if constexpr (goes_by_value<T>) {
         const T value(std::forward<Args>(args)...);
         std::uint64_t word = 0;
         std::memcpy(&word, &value, sizeof value);
-        return put_word<K>(of, by, word, again);
+        return put_word(of, by, word, again);
     } else {
         held_cell cell(of, by);
         if (!cell) return status::no_memory;
@@ -115,7 +112,7 @@ template <class T, kind K, class Again, class... Args> status put_made(core &of,
                 if (value) value->~T();
             }
         } made{value};
-        const status what = put_word<K>(of, by, cell.word(), again);
+        const status what = put_word(of, by, cell.word(), again);
         if (what != status::ok) return what;
         made.value = nullptr;
         cell.given_away();
@@ -124,9 +121,9 @@ template <class T, kind K, class Again, class... Args> status put_made(core &of,
 }
 
 /// Puts a value by moving it; if it is refused, or `again` throws, it is where it was.
-template <class T, kind K, class Again> status put_moved(core &of, seat &by, Again &again, T &value) {
+template <class T, class Again> status put_moved(core &of, seat &by, Again &again, T &value) {
     if constexpr (goes_by_value<T> || (!moves_back<T> && std::is_copy_constructible_v<T>)) {
-        return put_made<T, K>(of, by, again, std::as_const(value));
+        return put_made<T>(of, by, again, std::as_const(value));
     } else {
         held_cell cell(of, by);
         if (!cell) return status::no_memory;
@@ -139,7 +136,7 @@ template <class T, kind K, class Again> status put_moved(core &of, seat &by, Aga
                 move_back(*moved, from);
             }
         } made{::new (cell.at()) T(std::move(value)), value};
-        const status what = put_word<K>(of, by, cell.word(), again);
+        const status what = put_word(of, by, cell.word(), again);
         if (what != status::ok) return what;
         made.moved = nullptr;
         cell.given_away();

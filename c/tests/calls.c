@@ -51,11 +51,11 @@ static void codes_of_calls(make_new *make, int first_out)
     lockfree_free(&a), lockfree_free(&root), lockfree_free(&b);
 }
 
-/* How many there are, known from what was put and taken; and nobody counts but a queue's pass between its calls. */
-static void counting(void)
+/* How many there are, known from what was put and taken; and nobody counts but a queue's or a ring's pass between its calls. */
+static void counting(make_new *make)
 {
     lockfree_handle root = {0}, a = {0}, b = {0}, none = {0};
-    CHECK(lockfree_queue_new(&root, 3) == LOCKFREE_OK && lockfree_split(&root, &a) == LOCKFREE_OK && lockfree_split(&root, &b) == LOCKFREE_OK);
+    CHECK(make(&root, 3) == LOCKFREE_OK && lockfree_split(&root, &a) == LOCKFREE_OK && lockfree_split(&root, &b) == LOCKFREE_OK);
     CHECK(lockfree_count(&none, 9).code == LOCKFREE_NO_HANDLE && lockfree_count(&root, 9).code == LOCKFREE_OTHER_HANDLE);
     for (uint64_t round = 0; round < 9; round++) {
         uint64_t value = 0;
@@ -127,19 +127,22 @@ static void rings(void)
     }
     CHECK(lockfree_fold(&passes[0], false, 9).code == LOCKFREE_OTHER_HANDLE && lockfree_range_add(&passes[0], 1) == LOCKFREE_OTHER_HANDLE);
     CHECK(lockfree_range_put(&passes[0], 9).code == LOCKFREE_OTHER_HANDLE && lockfree_put_range(&passes[0], values, 2, 9).code == LOCKFREE_OTHER_HANDLE);
-    CHECK(lockfree_gauge(&passes[0], 9).code == LOCKFREE_OTHER_HANDLE && lockfree_count(&passes[0], 9).code == LOCKFREE_OTHER_HANDLE);
+    CHECK(lockfree_gauge(&passes[0], 9).value == 5000 && lockfree_count(&passes[0], 9).value == 0);
     CHECK(lockfree_look(&passes[0], 9).code == LOCKFREE_EMPTY && lockfree_go_on(&passes[0], 9).code == LOCKFREE_NO_CALL);
     for (int i = 0; i < 5; i++)
         CHECK(lockfree_free(&passes[i]) == LOCKFREE_OK);
     CHECK(lockfree_split(&root, &none) == LOCKFREE_NO_PASS && lockfree_free(&root) == LOCKFREE_OK); /* they are not given again */
 }
 
-typedef uint32_t make_limited(lockfree_handle *root, uint32_t capacity, uint64_t tag_limit);
+typedef uint32_t make_limited(lockfree_handle *root, uint32_t capacity, uint64_t limit);
+
+static uint32_t ring_limited(lockfree_handle *root, uint32_t capacity, uint64_t laps) { return lockfree_ring_limited(root, capacity, laps, 2); }
 
 enum { TAGS = 9 };
 
 /* The wear of a container whose tags come to their end: one for each put that is OK, and of a stack for each take. A queue
- * that is empty before each put does not come to its last tag. */
+ * that is empty before each put does not come to its last tag. A ring takes its capacity times its laps, and is spent at twice
+ * the laps: both are 18. */
 static void gauging_to_the_end(make_limited *make, uint64_t of_take, uint64_t end)
 {
     lockfree_handle root = {0}, pass = {0};
@@ -229,7 +232,7 @@ struct counter {
     lockfree_handle pass;
     uint64_t most;
     int *ended;
-    bool counts, gauges;
+    bool counts;
 };
 
 /* What is worn beside other threads is never less than before, nor is it open again. A gauge may have to begin again. */
@@ -246,14 +249,13 @@ static void gauges_again(lockfree_handle *pass, lockfree_answer *last)
     *last = gauge;
 }
 
-/* A queue beside other threads holds no more than its capacity. A count may have to begin again. */
+/* A queue or a ring beside other threads holds no more than its capacity. A count may have to begin again. */
 static void *counts_on(void *at)
 {
     struct counter *counter = at;
     lockfree_answer last = {0};
     while (!__atomic_load_n(counter->ended, __ATOMIC_RELAXED)) {
-        if (counter->gauges)
-            gauges_again(&counter->pass, &last);
+        gauges_again(&counter->pass, &last);
         sched_yield();
         if (!counter->counts)
             continue;
@@ -274,8 +276,7 @@ static void many_threads(make_new *make, uint32_t capacity, int first_out)
     lockfree_handle root = {0}, closing = {0};
     struct work works[2 * SIDES] = {0};
     int ended = 0;
-    const bool ring = make == ring_new;
-    struct counter counter = {{0}, capacity, &ended, first_out && !ring, !ring};
+    struct counter counter = {{0}, capacity, &ended, first_out};
     pthread_t threads[2 * SIDES], counting_thread;
     seen = calloc(SIDES, EACH);
     CHECK(seen && make(&root, capacity) == LOCKFREE_OK && lockfree_split(&root, &closing) == LOCKFREE_OK);
@@ -300,8 +301,7 @@ static void many_threads(make_new *make, uint32_t capacity, int first_out)
     __atomic_store_n(&ended, 1, __ATOMIC_RELAXED);
     CHECK(pthread_join(counting_thread, NULL) == 0 && (!counter.counts || lockfree_count(&counter.pass, 9).value == 0));
     CHECK(lockfree_look(&counter.pass, 9).code == LOCKFREE_EMPTY);
-    if (counter.gauges)
-        CHECK(lockfree_is_closed(&counter.pass) && lockfree_wear(&counter.pass) == (first_out ? 1u : 2u) * SIDES * EACH);
+    CHECK(lockfree_is_closed(&counter.pass) && lockfree_wear(&counter.pass) == (first_out ? 1u : 2u) * SIDES * EACH);
     for (int i = 0; i < 2 * SIDES; i++)
         CHECK(lockfree_free(&works[i].pass) == LOCKFREE_OK);
     CHECK(lockfree_free(&closing) == LOCKFREE_OK && lockfree_free(&counter.pass) == LOCKFREE_OK);
@@ -585,7 +585,8 @@ static void ranges_of_many_threads(void)
 int main(void)
 {
     make_new *const makes[] = {lockfree_queue_new, lockfree_stack_new, ring_new};
-    make_limited *const limited[] = {lockfree_queue_limited, lockfree_stack_limited};
+    make_limited *const limited[] = {lockfree_queue_limited, lockfree_stack_limited, ring_limited};
+    const uint64_t ends[] = {TAGS - 1, TAGS, 2 * TAGS};
     for (int i = 0; i < 3; i++) {
         codes_of_handles(makes[i]);
         codes_of_calls(makes[i], i != 1);
@@ -593,13 +594,12 @@ int main(void)
         consuming(makes[i]);
         many_threads(makes[i], 64, i != 1);
         many_threads(makes[i], 3, i != 1);
-    }
-    for (int i = 0; i < 2; i++) {
-        gauging(makes[i], i == 0 ? 0 : 1);
-        gauging_to_the_end(limited[i], i == 0 ? 0 : 1, i == 0 ? TAGS - 1 : TAGS);
+        gauging(makes[i], i == 1 ? 1 : 0);
+        gauging_to_the_end(limited[i], i == 1 ? 1 : 0, ends[i]);
     }
     rings();
-    counting();
+    counting(lockfree_queue_new);
+    counting(ring_new);
     folding(false);
     folding(true);
     folds();

@@ -304,9 +304,10 @@ template <template <class, class...> class Container> void all() {
 
 }  // namespace
 
-// A queue's size, known from what was pushed and popped; and beside other threads never above its capacity.
-void sizes() {
-    lockfree::bounded_queue<std::string> queue(3);
+// How many values a queue or a ring holds, known from what was pushed and popped; and beside other threads never above its
+// capacity.
+template <class Container> void sizes() {
+    Container queue(3);
     auto pass = queue.split();
     for (int round = 0; round < 5; ++round) {
         for (std::size_t held = 0; held < 3; ++held) CHECK(queue.size() == held && pass.size() == held && queue.push("a string that is no short one"));
@@ -325,7 +326,8 @@ void sizes() {
 }
 
 int main() {
-    sizes();
+    sizes<lockfree::bounded_queue<std::string>>();
+    sizes<lockfree::ring_queue<std::string>>();
     all<lockfree::queue>();
     all<lockfree::stack>();
     all<lockfree::ring_queue>();

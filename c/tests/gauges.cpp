@@ -7,6 +7,7 @@
 #include <stdexcept>
 #include <string>
 #include <thread>
+#include <type_traits>
 #include <vector>
 
 namespace {
@@ -29,21 +30,29 @@ lockfree_answer __wrap_lockfree_close(lockfree_handle *pass, std::uint64_t tries
 
 namespace {
 
+using lockfree::lap_limit;
 using lockfree::status;
 using lockfree::tag_limit;
 
-constexpr std::uint64_t limit = 10001;
+using queue = lockfree::bounded_queue<std::string>;
+using stack = lockfree::bounded_stack<std::string>;
+using ring = lockfree::ring_queue<std::string>;
 
-/// The part of its life that so many calls are: of a queue its pushes, of a stack its pushes and pops.
+constexpr std::uint64_t limit = 10001, laps = 500;
+
+template <class Container> using limit_of = std::conditional_t<std::is_same_v<Container, ring>, lap_limit, tag_limit>;
+
+/// The part of its life that so many calls are: of a queue and of a ring its pushes, of a stack its pushes and pops. The ring
+/// holds 3 values.
 template <class Container> double part(long pushes, long pops) {
-    constexpr bool is_queue = std::is_base_of_v<lockfree::bounded_queue<std::string>, Container>;
-    const double used = static_cast<double>(is_queue ? pushes : pushes + pops);
-    return used / static_cast<double>(is_queue ? limit - 1 : limit);
+    constexpr bool is_stack = std::is_same_v<Container, stack>, is_queue = std::is_same_v<Container, queue>;
+    const double used = static_cast<double>(is_stack ? pushes + pops : pushes);
+    return used / static_cast<double>(is_stack ? limit : is_queue ? limit - 1 : 3 * laps);
 }
 
 /// After each call, of whichever pass; pops and refused calls among them.
 template <class Container> void wears_exactly() {
-    Container container(3, tag_limit{limit});
+    Container container(3, limit_of<Container>{std::is_same_v<Container, ring> ? laps : limit});
     const Container &seen = container;
     auto pass = container.split();
     std::string out;
@@ -67,7 +76,7 @@ template <class Container> void wears_exactly() {
 
 /// Never falls while others call.
 template <class Container> void only_rises() {
-    Container container(3, tag_limit{1000001});
+    Container container(3, limit_of<Container>{1000001});
     std::atomic<bool> ended{false};
     std::thread asks([&] {
         double last = 0;
@@ -154,7 +163,8 @@ template <class Container> void all() {
 }  // namespace
 
 int main() {
-    all<lockfree::bounded_queue<std::string>>();
-    all<lockfree::bounded_stack<std::string>>();
+    all<queue>();
+    all<stack>();
+    all<ring>();
     std::puts("passed");
 }

@@ -380,7 +380,7 @@ static void put_array(struct slot *slot)
 static void count(struct slot *slot)
 {
     uint32_t why = refusal(slot, false);
-    why = why == LOCKFREE_OK && (slot->of->stack || slot->of->ring) ? (uint32_t)LOCKFREE_OTHER_HANDLE : why;
+    why = why == LOCKFREE_OK && slot->of->stack ? (uint32_t)LOCKFREE_OTHER_HANDLE : why;
     may_refuse();
     is(lockfree_count(&slot->handle, below(3)), why, why == LOCKFREE_OK ? slot->of->size : 0);
     slot->number = why == LOCKFREE_OK ? 0 : slot->number;
@@ -390,7 +390,6 @@ static void gauge(struct slot *slot)
 {
     const struct model *m = slot->of;
     uint32_t why = refusal(slot, false);
-    why = why == LOCKFREE_OK && m->ring ? (uint32_t)LOCKFREE_OTHER_HANDLE : why;
     may_refuse();
     lockfree_answer answer = lockfree_gauge(&slot->handle, below(3));
     if (why != LOCKFREE_OK) {

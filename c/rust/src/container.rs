@@ -5,7 +5,7 @@ use crate::raw::{Code, Kind, RawPass, Root};
 use crate::{MakeError, TAG_LIMIT};
 use std::fmt;
 use std::panic::{catch_unwind, resume_unwind, AssertUnwindSafe};
-use std::sync::atomic::{AtomicBool, AtomicU64, Ordering};
+use std::sync::atomic::{AtomicBool, Ordering};
 use std::sync::{Arc, Mutex, PoisonError};
 
 /// What a container and its passes share. It ends with the last of them.
@@ -14,8 +14,6 @@ pub(crate) struct Core<T> {
     pub(crate) cells: Cells<T>,
     pub(crate) capacity: u32,
     kind: Kind,
-    /// How many numbers of a ring are used up, as far as it was noted: at most `BETWEEN_NOTES` puts are missing.
-    numbers: AtomicU64,
     /// What some call has heard.
     is_closed: AtomicBool,
     is_spent: AtomicBool,
@@ -35,9 +33,6 @@ struct Seats<T> {
     made: usize,
 }
 
-/// So seldom do threads write the same word to say how far the numbers are.
-const BETWEEN_NOTES: u64 = 256;
-
 impl<T> Core<T> {
     pub(crate) fn new(kind: Kind, capacity: u32) -> Result<Core<T>, MakeError> {
         let root = Root::new(kind, capacity)?;
@@ -46,7 +41,6 @@ impl<T> Core<T> {
             cells: Cells::new(capacity)?,
             capacity,
             kind,
-            numbers: AtomicU64::new(0),
             is_closed: AtomicBool::new(false),
             is_spent: AtomicBool::new(false),
         })
@@ -70,15 +64,6 @@ impl<T> Core<T> {
         self.seats.lock().unwrap_or_else(PoisonError::into_inner).resting.push(seat);
     }
 
-    /// Notes that a put had this number. (Others than a ring are gauged.)
-    #[inline]
-    pub(crate) fn note(&self, number: u64) {
-        let is_ring = matches!(self.kind, Kind::Ring { .. });
-        if is_ring && number >= self.numbers.load(Ordering::Relaxed).saturating_add(BETWEEN_NOTES) {
-            self.numbers.fetch_max(number + 1, Ordering::Relaxed);
-        }
-    }
-
     /// Keeps what a refusal says of the container.
     #[cold]
     pub(crate) fn note_refusal(&self, code: Code) {
@@ -93,12 +78,12 @@ impl<T> Core<T> {
         if self.is_spent.load(Ordering::Relaxed) {
             return 1.0;
         }
-        let (used, life) = match self.kind {
-            Kind::Queue { tags } => (by.gauge().tags, tags as f64 - 1.0),
-            Kind::Stack { tags } => (by.gauge().tags, tags as f64),
-            Kind::Ring { laps, .. } => (self.numbers.load(Ordering::Relaxed), laps as f64 * f64::from(self.capacity)),
+        let life = match self.kind {
+            Kind::Queue { tags } => tags as f64 - 1.0,
+            Kind::Stack { tags } => tags as f64,
+            Kind::Ring { laps, .. } => laps as f64 * f64::from(self.capacity),
         };
-        (used as f64 / life).min(1.0)
+        (by.gauge().used as f64 / life).min(1.0)
     }
 
     pub(crate) fn note_closed(&self) {
@@ -106,11 +91,7 @@ impl<T> Core<T> {
     }
 
     pub(crate) fn is_closed(&self, by: &mut RawPass) -> bool {
-        match self.kind {
-            _ if self.is_closed.load(Ordering::Acquire) => true,
-            Kind::Ring { .. } => false,
-            _ => by.gauge().is_closed,
-        }
+        self.is_closed.load(Ordering::Acquire) || by.gauge().is_closed
     }
 }
 

@@ -67,18 +67,12 @@ impl<T, K> Pass<T, K> {
     pub fn push(&mut self, value: T) -> Result<u64, PushError<T>> {
         let Seat { pass, hand } = &mut self.seat;
         let word = hand.word(&self.core.cells, value).map_err(PushError::Full)?;
-        match pass.put(word) {
-            Ok(number) => {
-                self.core.note(number);
-                Ok(number)
-            }
-            Err(code) => {
-                // SAFETY: the word was not put.
-                let value = unsafe { hand.value(&self.core.cells, word) };
-                self.core.note_refusal(code);
-                Err(PushError::of(code, value))
-            }
-        }
+        pass.put(word).map_err(|code| {
+            // SAFETY: the word was not put.
+            let value = unsafe { hand.value(&self.core.cells, word) };
+            self.core.note_refusal(code);
+            PushError::of(code, value)
+        })
     }
 
     /// Pops a value.
@@ -222,7 +216,7 @@ impl<T, K> Pass<T, K> {
         self.seat.pass.shut()
     }
 
-    /// Whether the container was closed. A ring says whether a `close` has returned, or any call has said that it is closed.
+    /// Whether the container was closed.
     ///
     /// ```
     /// let queue = lockfree::Queue::<u8>::new(4).unwrap();
@@ -260,8 +254,7 @@ impl<T, K> Pass<T, K> {
 
     /// Which part of the container's life has gone, 0 to 1. A queue has numbers for 2^42 - 2 pushes, a stack for 2^42 - 1
     /// pushes and pops, a ring for 2^41 - 1 times its capacity of pushes; then each push is `Spent`. That takes more than a
-    /// day of calls without a pause. A program that runs for so long replaces its container before. A ring's part is known
-    /// from the numbers of pushes that have returned, and misses at most 256 of them.
+    /// day of calls without a pause. A program that runs for so long replaces its container before.
     ///
     /// ```
     /// let queue = lockfree::Queue::with_tag_limit(1, 1001).unwrap();
@@ -278,7 +271,7 @@ impl<T, K> Pass<T, K> {
 }
 
 impl<T> QueuePass<T> {
-    /// How many values the queue holds.
+    /// How many values the queue holds. It begins anew while others pop.
     ///
     /// ```
     /// let queue = lockfree::Queue::new(4).unwrap();
@@ -289,6 +282,22 @@ impl<T> QueuePass<T> {
     /// ```
     pub fn len(&mut self) -> usize {
         // (a queue holds no more than its capacity)
+        self.seat.pass.count() as usize
+    }
+}
+
+impl<T> RingPass<T> {
+    /// How many values the ring holds. It begins anew while others pop.
+    ///
+    /// ```
+    /// let ring = lockfree::Ring::new(4).unwrap();
+    /// let mut pass = ring.pass().unwrap();
+    /// pass.push('a').unwrap();
+    /// pass.push('b').unwrap();
+    /// assert_eq!(pass.len(), 2);
+    /// ```
+    pub fn len(&mut self) -> usize {
+        // (a ring holds no more than its capacity)
         self.seat.pass.count() as usize
     }
 }

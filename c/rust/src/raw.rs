@@ -142,11 +142,11 @@ impl Root {
     }
 }
 
-/// What a queue or a stack was at one moment.
+/// What a container was at one moment.
 pub(crate) struct Gauge {
     pub(crate) is_closed: bool,
-    /// How many tags are used.
-    pub(crate) tags: u64,
+    /// How many tags are used, of a ring how many values were put.
+    pub(crate) used: u64,
 }
 
 /// What a call of a fold gives.
@@ -222,17 +222,17 @@ impl RawPass {
         self.call(|at| unsafe { lockfree_look(at, u64::MAX) }).code == Code::EMPTY
     }
 
-    /// How many values a queue holds.
+    /// How many values a queue or a ring holds.
     pub(crate) fn count(&mut self) -> u64 {
         // SAFETY: as in `call`.
         self.call(|at| unsafe { lockfree_count(at, u64::MAX) }).number()
     }
 
-    /// Gauges a queue or a stack.
+    /// Gauges the container.
     pub(crate) fn gauge(&mut self) -> Gauge {
         // SAFETY: as in `call`.
         let answer = self.call(|at| unsafe { lockfree_gauge(at, u64::MAX) });
-        Gauge { is_closed: answer.code == Code::CLOSED, tags: answer.number() }
+        Gauge { is_closed: answer.code == Code::CLOSED, used: answer.number() }
     }
 
     /// Begins a fold of a stack, and gives the first value. `fold_on` gives the remaining values, and the caller calls it to the end.

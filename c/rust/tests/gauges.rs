@@ -1,5 +1,5 @@
-//! What a queue and a stack say of themselves by a gauge: whether they are closed, and how far they are worn, exactly.
-use lockfree::{PushError, Queue, Stack};
+//! What a container says of itself by a gauge: whether it is closed, and how far it is worn, exactly.
+use lockfree::{PushError, Queue, Ring, Stack};
 
 const LIMIT: u64 = 1001;
 
@@ -45,11 +45,17 @@ fn spent_ones_are_worn_out() {
 
 #[test]
 fn closed_by_a_pass_that_is_gone() {
-    let (queue, stack) = (Queue::<u8>::new(2).unwrap(), Stack::<u8>::new(2).unwrap());
-    let (mut of_queue, mut of_stack) = (queue.pass().unwrap(), stack.pass().unwrap());
+    let (queue, stack, ring) =
+        (Queue::<u8>::new(2).unwrap(), Stack::<u8>::new(2).unwrap(), Ring::<u8>::new(2).unwrap());
+    let (mut of_queue, mut of_stack, mut of_ring) =
+        (queue.pass().unwrap(), stack.pass().unwrap(), ring.pass().unwrap());
     assert!(!queue.is_closed() && !of_queue.is_closed() && !stack.is_closed() && !of_stack.is_closed());
+    assert!(!ring.is_closed() && !of_ring.is_closed());
     std::thread::scope(|scope| {
-        scope.spawn(|| assert!(queue.pass().unwrap().close() && stack.pass().unwrap().close()));
+        scope.spawn(|| {
+            assert!(queue.pass().unwrap().close() && stack.pass().unwrap().close() && ring.pass().unwrap().close())
+        });
     });
     assert!(queue.is_closed() && of_queue.is_closed() && stack.is_closed() && of_stack.is_closed());
+    assert!(ring.is_closed() && of_ring.is_closed());
 }

@@ -9,9 +9,9 @@ fn one_thread() {
     let mut pass = ring.pass().unwrap();
     assert_eq!((pass.pop(), ring.capacity(), pass.capacity()), (Err(PopError::Empty), 2, 2));
     assert!(pass.is_empty());
-    assert_eq!(pass.push("a".to_string()), Ok(0));
-    assert_eq!(pass.push("b".to_string()), Ok(1));
-    assert_eq!(pass.push("c".to_string()), Err(PushError::Full("c".to_string())));
+    assert_eq!((pass.len(), pass.push("a".to_string()), pass.len()), (0, Ok(0), 1));
+    assert_eq!((pass.push("b".to_string()), pass.len()), (Ok(1), 2));
+    assert_eq!((pass.push("c".to_string()), pass.len()), (Err(PushError::Full("c".to_string())), 2));
     assert!(!pass.is_empty());
     assert_eq!(pass.pop_numbered(), Ok(("a".to_string(), 0)));
     assert!(!pass.is_closed() && !ring.is_closed());
@@ -56,16 +56,30 @@ fn limits() {
 fn it_wears_by_laps() {
     let ring = Ring::with_lap_limit(4, 2, 500).unwrap();
     let mut pass = ring.pass().unwrap();
-    let mut last = 0.0;
     for i in 0..2000u32 {
-        let truth = f64::from(i) / 2000.0;
-        let wear = pass.wear();
-        assert!(last <= wear && wear <= truth && truth - wear <= 257.0 / 2000.0, "{wear} for {truth}");
-        last = wear;
+        assert_eq!((pass.wear(), ring.wear()), (f64::from(i) / 2000.0, f64::from(i) / 2000.0));
         assert_eq!((pass.push(i), pass.pop()), (Ok(u64::from(i)), Ok(i)));
     }
     assert_eq!(pass.push(2000), Err(PushError::Spent(2000)));
     assert_eq!((pass.wear(), ring.wear()), (1.0, 1.0));
+}
+
+#[test]
+fn it_holds_no_more_than_its_capacity_beside_others() {
+    let ring = Ring::with_passes(3, 2).unwrap();
+    let (mut moves, mut counts) = (ring.pass().unwrap(), ring.pass().unwrap());
+    std::thread::scope(|scope| {
+        let moving = scope.spawn(move || {
+            for i in 0..50_000u32 {
+                assert_eq!((moves.push(i), moves.pop()), (Ok(u64::from(i)), Ok(i)));
+            }
+        });
+        while !moving.is_finished() {
+            assert!(counts.len() <= 3);
+        }
+        moving.join().unwrap();
+        assert_eq!(counts.len(), 0);
+    });
 }
 
 #[test]

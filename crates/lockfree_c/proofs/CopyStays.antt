@@ -14,7 +14,7 @@ use Rattle.lockfree_c.specs.Held.{CopyLeft, IsHeld, IsStackCopy, RangeMade, Stac
 use Rattle.lockfree_c.specs.declared.answers.Answer.{Answer}
 use Rattle.lockfree_c.specs.declared.answers.TheConstants.{UNDER_WAY}
 use Rattle.lockfree_c.specs.declared.held.Held.{Held}
-use Rattle.lockfree_c.specs.declared.held.Held.TheVariants.{Nothing, QueueRoot as OfQueueRoot, QueuePass as OfQueuePass, QueueCount as OfQueueCount, QueueGauge as OfQueueGauge, StackRoot as OfStackRoot, StackPass as OfStackPass, StackFold as OfStackFold, StackRange as OfStackRange, StackRangePut as OfStackRangePut, StackCopy as OfStackCopy, RingRoot as OfRingRoot, RingPass as OfRingPass, QueueRest as OfQueueRest, StackRest as OfStackRest, RingRest as OfRingRest}
+use Rattle.lockfree_c.specs.declared.held.Held.TheVariants.{Nothing, QueueRoot as OfQueueRoot, QueuePass as OfQueuePass, QueueCount as OfQueueCount, QueueGauge as OfQueueGauge, StackRoot as OfStackRoot, StackPass as OfStackPass, StackFold as OfStackFold, StackRange as OfStackRange, StackRangePut as OfStackRangePut, StackCopy as OfStackCopy, RingRoot as OfRingRoot, RingPass as OfRingPass, RingCount as OfRingCount, RingGauge as OfRingGauge, QueueRest as OfQueueRest, StackRest as OfStackRest, RingRest as OfRingRest}
 use Rattle.lockfree_c.specs.declared.held.StackCopy.{StackCopy}
 use Rattle.lockfree_c.specs.Kinds.{StackPass}
 use Rattle.lockfree_c.proofs.FoldStays.{comes_to_rest}
@@ -40,6 +40,8 @@ module _ (c : Stack ℕ) (values : List ℕ) where
   copy_stays begun (Again op) (OfStackRest r) a tried left = absurd left
   copy_stays begun (Again op) (OfRingRoot r) a tried left = absurd left
   copy_stays begun (Again op) (OfRingPass p) a tried left = absurd left
+  copy_stays begun (Again op) (OfRingCount k) a tried left = absurd left
+  copy_stays begun (Again op) (OfRingGauge k) a tried left = absurd left
   copy_stays begun (Again op) (OfRingRest r) a tried left = absurd left
   copy_stays begun (Done back said) Nothing a tried left = absurd left
   copy_stays begun (Done back said) (OfQueueRoot r) a tried left = absurd left
@@ -55,6 +57,8 @@ module _ (c : Stack ℕ) (values : List ℕ) where
   copy_stays begun (Done back said) (OfStackRest r) a tried left = absurd left
   copy_stays begun (Done back said) (OfRingRoot r) a tried left = absurd left
   copy_stays begun (Done back said) (OfRingPass p) a tried left = absurd left
+  copy_stays begun (Done back said) (OfRingCount k) a tried left = absurd left
+  copy_stays begun (Done back said) (OfRingGauge k) a tried left = absurd left
   copy_stays begun (Done back said) (OfRingRest r) a tried left = absurd left
 
 -- one that a pass at rest began

@@ -19,7 +19,7 @@ use Rattle.lockfree_c.specs.Stages.{Rests}
 use Rattle.lockfree_c.specs.declared.answers.Answer.{Answer}
 use Rattle.lockfree_c.specs.declared.answers.TheConstants.{UNDER_WAY}
 use Rattle.lockfree_c.specs.declared.held.Held.{Held}
-use Rattle.lockfree_c.specs.declared.held.Held.TheVariants.{Nothing, QueueRoot as OfQueueRoot, QueuePass as OfQueuePass, QueueCount as OfQueueCount, QueueGauge as OfQueueGauge, StackRoot as OfStackRoot, StackPass as OfStackPass, StackFold as OfStackFold, StackRange as OfStackRange, StackRangePut as OfStackRangePut, StackCopy as OfStackCopy, RingRoot as OfRingRoot, RingPass as OfRingPass, QueueRest as OfQueueRest, StackRest as OfStackRest, RingRest as OfRingRest}
+use Rattle.lockfree_c.specs.declared.held.Held.TheVariants.{Nothing, QueueRoot as OfQueueRoot, QueuePass as OfQueuePass, QueueCount as OfQueueCount, QueueGauge as OfQueueGauge, StackRoot as OfStackRoot, StackPass as OfStackPass, StackFold as OfStackFold, StackRange as OfStackRange, StackRangePut as OfStackRangePut, StackCopy as OfStackCopy, RingRoot as OfRingRoot, RingPass as OfRingPass, RingCount as OfRingCount, RingGauge as OfRingGauge, QueueRest as OfQueueRest, StackRest as OfStackRest, RingRest as OfRingRest}
 use Rattle.lockfree_c.specs.declared.held.QueueCount.{QueueCount}
 use Rattle.lockfree_c.specs.Kinds.{QueuePass}
 use Rattle.lockfree_c.proofs.Stays.{At}
@@ -49,6 +49,8 @@ module _ (c : Queue ℕ) where
   count_stays begun (Again op) (OfStackRest r) a tried left = absurd left
   count_stays begun (Again op) (OfRingRoot r) a tried left = absurd left
   count_stays begun (Again op) (OfRingPass p) a tried left = absurd left
+  count_stays begun (Again op) (OfRingCount k) a tried left = absurd left
+  count_stays begun (Again op) (OfRingGauge k) a tried left = absurd left
   count_stays begun (Again op) (OfRingRest r) a tried left = absurd left
   count_stays begun (Done back n) Nothing a tried left = absurd left
   count_stays begun (Done back n) (OfQueueRoot r) a tried left = absurd left
@@ -64,6 +66,8 @@ module _ (c : Queue ℕ) where
   count_stays begun (Done back n) (OfStackRest r) a tried left = absurd left
   count_stays begun (Done back n) (OfRingRoot r) a tried left = absurd left
   count_stays begun (Done back n) (OfRingPass p) a tried left = absurd left
+  count_stays begun (Done back n) (OfRingCount k) a tried left = absurd left
+  count_stays begun (Done back n) (OfRingGauge k) a tried left = absurd left
   count_stays begun (Done back n) (OfRingRest r) a tried left = absurd left
 
 -- some steps of a count

@@ -19,7 +19,7 @@ use Rattle.lockfree_c.specs.Stages.{Rests}
 use Rattle.lockfree_c.specs.declared.answers.Answer.{Answer}
 use Rattle.lockfree_c.specs.declared.answers.TheConstants.{UNDER_WAY}
 use Rattle.lockfree_c.specs.declared.held.Held.{Held}
-use Rattle.lockfree_c.specs.declared.held.Held.TheVariants.{Nothing, QueueRoot as OfQueueRoot, QueuePass as OfQueuePass, QueueCount as OfQueueCount, QueueGauge as OfQueueGauge, StackRoot as OfStackRoot, StackPass as OfStackPass, StackFold as OfStackFold, StackRange as OfStackRange, StackRangePut as OfStackRangePut, StackCopy as OfStackCopy, RingRoot as OfRingRoot, RingPass as OfRingPass, QueueRest as OfQueueRest, StackRest as OfStackRest, RingRest as OfRingRest}
+use Rattle.lockfree_c.specs.declared.held.Held.TheVariants.{Nothing, QueueRoot as OfQueueRoot, QueuePass as OfQueuePass, QueueCount as OfQueueCount, QueueGauge as OfQueueGauge, StackRoot as OfStackRoot, StackPass as OfStackPass, StackFold as OfStackFold, StackRange as OfStackRange, StackRangePut as OfStackRangePut, StackCopy as OfStackCopy, RingRoot as OfRingRoot, RingPass as OfRingPass, RingCount as OfRingCount, RingGauge as OfRingGauge, QueueRest as OfQueueRest, StackRest as OfStackRest, RingRest as OfRingRest}
 use Rattle.lockfree_c.specs.declared.held.StackFold.{StackFold}
 use Rattle.lockfree_c.specs.Kinds.{StackPass}
 use Rattle.lockfree_c.proofs.Stays.{At}
@@ -52,6 +52,8 @@ module _ (c : Stack ℕ) (front : Front) where
   fold_stays values begun (Again op) (OfStackRest r) a tried left = absurd left
   fold_stays values begun (Again op) (OfRingRoot r) a tried left = absurd left
   fold_stays values begun (Again op) (OfRingPass p) a tried left = absurd left
+  fold_stays values begun (Again op) (OfRingCount k) a tried left = absurd left
+  fold_stays values begun (Again op) (OfRingGauge k) a tried left = absurd left
   fold_stays values begun (Again op) (OfRingRest r) a tried left = absurd left
   fold_stays values begun (Value x op) Nothing a tried left = absurd left
   fold_stays values begun (Value x op) (OfQueueRoot r) a tried left = absurd left
@@ -67,6 +69,8 @@ module _ (c : Stack ℕ) (front : Front) where
   fold_stays values begun (Value x op) (OfStackRest r) a tried left = absurd left
   fold_stays values begun (Value x op) (OfRingRoot r) a tried left = absurd left
   fold_stays values begun (Value x op) (OfRingPass p) a tried left = absurd left
+  fold_stays values begun (Value x op) (OfRingCount k) a tried left = absurd left
+  fold_stays values begun (Value x op) (OfRingGauge k) a tried left = absurd left
   fold_stays values begun (Value x op) (OfRingRest r) a tried left = absurd left
   fold_stays values begun (Done back said) Nothing a tried left = absurd left
   fold_stays values begun (Done back said) (OfQueueRoot r) a tried left = absurd left
@@ -82,6 +86,8 @@ module _ (c : Stack ℕ) (front : Front) where
   fold_stays values begun (Done back said) (OfStackRest r) a tried left = absurd left
   fold_stays values begun (Done back said) (OfRingRoot r) a tried left = absurd left
   fold_stays values begun (Done back said) (OfRingPass p) a tried left = absurd left
+  fold_stays values begun (Done back said) (OfRingCount k) a tried left = absurd left
+  fold_stays values begun (Done back said) (OfRingGauge k) a tried left = absurd left
   fold_stays values begun (Done back said) (OfRingRest r) a tried left = absurd left
 
 -- a fold that a pass at rest began

@@ -20,7 +20,7 @@ use Rattle.lockfree_c.specs.Stages.{Rests}
 use Rattle.lockfree_c.specs.declared.answers.Answer.{Answer}
 use Rattle.lockfree_c.specs.declared.answers.TheConstants.{UNDER_WAY}
 use Rattle.lockfree_c.specs.declared.held.Held.{Held}
-use Rattle.lockfree_c.specs.declared.held.Held.TheVariants.{Nothing, QueueRoot as OfQueueRoot, QueuePass as OfQueuePass, QueueCount as OfQueueCount, QueueGauge as OfQueueGauge, StackRoot as OfStackRoot, StackPass as OfStackPass, StackFold as OfStackFold, StackRange as OfStackRange, StackRangePut as OfStackRangePut, StackCopy as OfStackCopy, RingRoot as OfRingRoot, RingPass as OfRingPass, QueueRest as OfQueueRest, StackRest as OfStackRest, RingRest as OfRingRest}
+use Rattle.lockfree_c.specs.declared.held.Held.TheVariants.{Nothing, QueueRoot as OfQueueRoot, QueuePass as OfQueuePass, QueueCount as OfQueueCount, QueueGauge as OfQueueGauge, StackRoot as OfStackRoot, StackPass as OfStackPass, StackFold as OfStackFold, StackRange as OfStackRange, StackRangePut as OfStackRangePut, StackCopy as OfStackCopy, RingRoot as OfRingRoot, RingPass as OfRingPass, RingCount as OfRingCount, RingGauge as OfRingGauge, QueueRest as OfQueueRest, StackRest as OfStackRest, RingRest as OfRingRest}
 use Rattle.lockfree_c.specs.declared.held.QueueGauge.{QueueGauge}
 use Rattle.lockfree_c.specs.Kinds.{QueuePass}
 use Rattle.lockfree_c.specs.Kinds.{StackPass}
@@ -47,6 +47,8 @@ module _ (c : Queue ℕ) where
   gauge_stays begun (Again op) (OfStackRest r) a tried left = absurd left
   gauge_stays begun (Again op) (OfRingRoot r) a tried left = absurd left
   gauge_stays begun (Again op) (OfRingPass p) a tried left = absurd left
+  gauge_stays begun (Again op) (OfRingCount k) a tried left = absurd left
+  gauge_stays begun (Again op) (OfRingGauge k) a tried left = absurd left
   gauge_stays begun (Again op) (OfRingRest r) a tried left = absurd left
   gauge_stays begun (Done back shown) Nothing a tried left = absurd left
   gauge_stays begun (Done back shown) (OfQueueRoot r) a tried left = absurd left
@@ -62,6 +64,8 @@ module _ (c : Queue ℕ) where
   gauge_stays begun (Done back shown) (OfStackRest r) a tried left = absurd left
   gauge_stays begun (Done back shown) (OfRingRoot r) a tried left = absurd left
   gauge_stays begun (Done back shown) (OfRingPass p) a tried left = absurd left
+  gauge_stays begun (Done back shown) (OfRingCount k) a tried left = absurd left
+  gauge_stays begun (Done back shown) (OfRingGauge k) a tried left = absurd left
   gauge_stays begun (Done back shown) (OfRingRest r) a tried left = absurd left
 
 -- some steps of a gauge

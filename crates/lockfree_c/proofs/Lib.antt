@@ -6,4 +6,5 @@ pub mod CountStays
 pub mod FoldStays
 pub mod GaugeStays
 pub mod RangeStays
+pub mod RingStays
 pub mod Shared

@@ -11,7 +11,7 @@ use Rattle.lockfree_c.specs.Codes.{range_number}
 use Rattle.lockfree_c.specs.Held.{IsHeld, IsStackRangePut, RangeLeft, RangeMade}
 use Rattle.lockfree_c.specs.declared.answers.Answer.{Answer}
 use Rattle.lockfree_c.specs.declared.held.Held.{Held}
-use Rattle.lockfree_c.specs.declared.held.Held.TheVariants.{Nothing, QueueRoot as OfQueueRoot, QueuePass as OfQueuePass, QueueCount as OfQueueCount, QueueGauge as OfQueueGauge, StackRoot as OfStackRoot, StackPass as OfStackPass, StackFold as OfStackFold, StackRange as OfStackRange, StackRangePut as OfStackRangePut, StackCopy as OfStackCopy, RingRoot as OfRingRoot, RingPass as OfRingPass, QueueRest as OfQueueRest, StackRest as OfStackRest, RingRest as OfRingRest}
+use Rattle.lockfree_c.specs.declared.held.Held.TheVariants.{Nothing, QueueRoot as OfQueueRoot, QueuePass as OfQueuePass, QueueCount as OfQueueCount, QueueGauge as OfQueueGauge, StackRoot as OfStackRoot, StackPass as OfStackPass, StackFold as OfStackFold, StackRange as OfStackRange, StackRangePut as OfStackRangePut, StackCopy as OfStackCopy, RingRoot as OfRingRoot, RingPass as OfRingPass, RingCount as OfRingCount, RingGauge as OfRingGauge, QueueRest as OfQueueRest, StackRest as OfStackRest, RingRest as OfRingRest}
 use Rattle.lockfree_c.specs.declared.held.StackRangePut.{StackRangePut}
 use Rattle.lockfree_c.proofs.FoldStays.{comes_to_rest}
 
@@ -45,6 +45,8 @@ module _ (c : Stack ℕ) where
   range_stays values begun places (Again op) (OfStackRest r) a tried left = absurd left
   range_stays values begun places (Again op) (OfRingRoot r) a tried left = absurd left
   range_stays values begun places (Again op) (OfRingPass p) a tried left = absurd left
+  range_stays values begun places (Again op) (OfRingCount k) a tried left = absurd left
+  range_stays values begun places (Again op) (OfRingGauge k) a tried left = absurd left
   range_stays values begun places (Again op) (OfRingRest r) a tried left = absurd left
   range_stays values begun places (Done back said) Nothing a tried left = absurd left
   range_stays values begun places (Done back said) (OfQueueRoot r) a tried left = absurd left
@@ -60,4 +62,6 @@ module _ (c : Stack ℕ) where
   range_stays values begun places (Done back said) (OfStackRest r) a tried left = absurd left
   range_stays values begun places (Done back said) (OfRingRoot r) a tried left = absurd left
   range_stays values begun places (Done back said) (OfRingPass p) a tried left = absurd left
+  range_stays values begun places (Done back said) (OfRingCount k) a tried left = absurd left
+  range_stays values begun places (Done back said) (OfRingGauge k) a tried left = absurd left
   range_stays values begun places (Done back said) (OfRingRest r) a tried left = absurd left

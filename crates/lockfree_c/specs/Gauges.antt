@@ -1,4 +1,4 @@
--- What gauges do to what lies behind a handle: of a queue by steps, of a stack by one load.
+-- What gauges do to what lies behind a handle: of a queue by steps, of a stack by one load. `Rings` says it of a ring.
 use Rattle.std.specs.Prelude.{◌≡◌, ℕ, MatchOption}
 use Rattle.bounded_model.specs.Stepping.{MatchStepped}
 use Rattle.bounded_model.specs.declared.answers.Stepped.{Stepped}
@@ -18,11 +18,12 @@ use Rattle.treiber_stack.specs.declared.gauging.Gauge as stack_gauge
 use Rattle.treiber_stack.specs.declared.stack.Stack.{Stack}
 use Rattle.lockfree_c.specs.Codes.{SaysGauge, bare}
 use Rattle.lockfree_c.specs.Refusals.{Declined, refusal_of}
+use Rattle.lockfree_c.specs.Rings.{RingGauged}
 use Rattle.lockfree_c.specs.Stages.{Rests}
 use Rattle.lockfree_c.specs.declared.answers.Answer.{Answer}
 use Rattle.lockfree_c.specs.declared.answers.TheConstants.{BUSY, UNDER_WAY}
 use Rattle.lockfree_c.specs.declared.held.Held.{Held}
-use Rattle.lockfree_c.specs.declared.held.Held.TheVariants.{QueuePass as OfQueuePass, QueueGauge as OfQueueGauge, StackPass as OfStackPass}
+use Rattle.lockfree_c.specs.declared.held.Held.TheVariants.{QueuePass as OfQueuePass, QueueGauge as OfQueueGauge, StackPass as OfStackPass, RingPass as OfRingPass}
 use Rattle.lockfree_c.specs.declared.held.QueueGauge.{QueueGauge}
 use Rattle.lockfree_c.specs.Kinds.{QueuePass}
 use Rattle.lockfree_c.specs.Kinds.{StackPass}
@@ -74,4 +75,5 @@ abbrev pub HeldGauged : Held → Held → Answer → Type 0
 HeldGauged (OfQueuePass p) g a = QueueGauged p g a
 HeldGauged (OfStackPass p) (OfStackPass q) a = StackGauged p q a
 HeldGauged (OfStackPass p) h a = ⊥
+HeldGauged (OfRingPass p) g a = RingGauged p g a
 HeldGauged h g a = Declined (refusal_of h) h g a

@@ -34,6 +34,8 @@ use Rattle.treiber_stack.specs.declared.fold_op.FoldMade.TheVariants.{Again, Val
 use Rattle.treiber_stack.specs.declared.range_trying.RangeOp.{RangeOp}
 use Rattle.treiber_stack.specs.declared.stack.Stack.{Stack}
 use Rattle.ring_table.specs.Core.{shape_for}
+use Rattle.ring_queue.specs.Counting as ring_counting
+use Rattle.ring_queue.specs.Gauging as ring_gauging
 use Rattle.ring_queue.specs.Leaving as ring_left
 use Rattle.ring_queue.specs.Ring as ring
 use Rattle.ring_queue.specs.Roots as ring_roots
@@ -41,6 +43,7 @@ use Rattle.ring_queue.specs.declared.limits.TheConstants.{MIN_LAPS, MAX_LAPS}
 use Rattle.bounded_calls.specs.Readings.{queue_reading, ring_reading, stack_reading}
 use Rattle.lockfree_c.specs.Gauges.{GaugeWentOn}
 use Rattle.lockfree_c.specs.Refusals.{Declined, Refused, refusal_of}
+use Rattle.lockfree_c.specs.Rings as ring_calls
 use Rattle.lockfree_c.specs.Codes.{SaysFold, SaysRange, bare, saying, fold_number, range_number}
 use Rattle.lockfree_c.specs.Kinds.{QueuePass, QueueRoot, RingPass, RingRoot, StackPass, StackRoot, queue_steps, ring_steps, stack_steps}
 use Rattle.lockfree_c.specs.Shares.{HandsOut, IsEnded, IsPass, PassCalled, PassWentOn, SplitOff, SplitRefused}
@@ -48,9 +51,11 @@ use Rattle.lockfree_c.specs.Stages.{Rests, SaysNumber}
 use Rattle.lockfree_c.specs.declared.answers.Answer.{Answer}
 use Rattle.lockfree_c.specs.declared.answers.TheConstants.{OK, EMPTY, BUSY, UNDER_WAY, NO_CALL, NO_MEMORY, NO_PASS, BAD_CAPACITY, OTHER_HANDLE, VALUE, SHARED}
 use Rattle.lockfree_c.specs.declared.held.Held.{Held}
-use Rattle.lockfree_c.specs.declared.held.Held.TheVariants.{Nothing, QueueRoot as OfQueueRoot, QueuePass as OfQueuePass, QueueCount as OfQueueCount, QueueGauge as OfQueueGauge, StackRoot as OfStackRoot, StackPass as OfStackPass, StackFold as OfStackFold, StackRange as OfStackRange, StackRangePut as OfStackRangePut, StackCopy as OfStackCopy, RingRoot as OfRingRoot, RingPass as OfRingPass, QueueRest as OfQueueRest, StackRest as OfStackRest, RingRest as OfRingRest}
+use Rattle.lockfree_c.specs.declared.held.Held.TheVariants.{Nothing, QueueRoot as OfQueueRoot, QueuePass as OfQueuePass, QueueCount as OfQueueCount, QueueGauge as OfQueueGauge, StackRoot as OfStackRoot, StackPass as OfStackPass, StackFold as OfStackFold, StackRange as OfStackRange, StackRangePut as OfStackRangePut, StackCopy as OfStackCopy, RingRoot as OfRingRoot, RingPass as OfRingPass, RingCount as OfRingCount, RingGauge as OfRingGauge, QueueRest as OfQueueRest, StackRest as OfStackRest, RingRest as OfRingRest}
 use Rattle.lockfree_c.specs.declared.held.QueueCount.{QueueCount}
 use Rattle.lockfree_c.specs.declared.held.QueueGauge.{QueueGauge}
+use Rattle.lockfree_c.specs.declared.held.RingCount.{RingCount}
+use Rattle.lockfree_c.specs.declared.held.RingGauge.{RingGauge}
 use Rattle.lockfree_c.specs.declared.held.StackCopy.{StackCopy}
 use Rattle.lockfree_c.specs.declared.held.StackFold.{StackFold}
 use Rattle.lockfree_c.specs.declared.held.StackRange.{StackRange}
@@ -82,6 +87,12 @@ IsRingRoot r = ring_roots.IsRootOf r.container.value r.root
 abbrev pub IsRingPass : RingPass → Type 0
 IsRingPass p = IsPass ring_reading p
 
+abbrev pub IsRingCount : RingCount → Type 0
+IsRingCount k = ring_counting.IsCounting k.container.value k.op
+
+abbrev pub IsRingGauge : RingGauge → Type 0
+IsRingGauge k = ring_gauging.IsGauging k.container.value k.op
+
 -- a fold that has handed out some values
 abbrev pub IsStackFold : StackFold → Type 0
 IsStackFold f = (front : Front) × (values : List ℕ) × IsFolding f.container.value front values f.op
@@ -112,6 +123,8 @@ IsHeld (OfStackRangePut r) = IsStackRangePut r
 IsHeld (OfStackCopy k) = IsStackCopy k
 IsHeld (OfRingRoot r) = IsRingRoot r
 IsHeld (OfRingPass p) = IsRingPass p
+IsHeld (OfRingCount k) = IsRingCount k
+IsHeld (OfRingGauge k) = IsRingGauge k
 IsHeld (OfQueueRest r) = Unit {0}
 IsHeld (OfStackRest r) = Unit {0}
 IsHeld (OfRingRest r) = Unit {0}
@@ -185,6 +198,8 @@ HeldWentOn tries (OfStackRangePut r) g a = RangeWentOn r g a
 HeldWentOn tries (OfStackCopy k) g a = Declined NO_CALL (OfStackCopy k) g a
 HeldWentOn tries (OfRingPass p) (OfRingPass q) a = PassWentOn ring_reading (ring_steps tries) p q a
 HeldWentOn tries (OfRingPass p) h a = ⊥
+HeldWentOn tries (OfRingCount k) g a = ring_calls.CountWentOn k g a
+HeldWentOn tries (OfRingGauge k) g a = ring_calls.GaugeWentOn k g a
 HeldWentOn tries h g a = Declined OTHER_HANDLE h g a
 
 -- The number of the call that ended last
@@ -205,6 +220,7 @@ QueueCounted p g a = MatchOption p.stage.resting
 
 abbrev pub HeldCounted : Held → Held → Answer → Type 0
 HeldCounted (OfQueuePass p) g a = QueueCounted p g a
+HeldCounted (OfRingPass p) g a = ring_calls.RingCounted p g a
 HeldCounted h g a = Declined (refusal_of h) h g a
 
 -- The begin of a fold

@@ -3,6 +3,7 @@ pub mod Stages
 pub mod Shares
 pub mod Kinds
 pub mod Refusals
+pub mod Rings
 pub mod Gauges
 pub mod Held
 pub mod Owned

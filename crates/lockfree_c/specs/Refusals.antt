@@ -4,9 +4,9 @@ use Rattle.lockfree_c.specs.Codes.{bare}
 use Rattle.lockfree_c.specs.declared.answers.Answer.{Answer}
 use Rattle.lockfree_c.specs.declared.answers.TheConstants.{UNDER_WAY, OTHER_HANDLE}
 use Rattle.lockfree_c.specs.declared.held.Held.{Held}
-use Rattle.lockfree_c.specs.declared.held.Held.TheVariants.{QueueCount as OfQueueCount, QueueGauge as OfQueueGauge, StackFold as OfStackFold, StackRange as OfStackRange, StackRangePut as OfStackRangePut, StackCopy as OfStackCopy}
+use Rattle.lockfree_c.specs.declared.held.Held.TheVariants.{QueueCount as OfQueueCount, QueueGauge as OfQueueGauge, StackFold as OfStackFold, StackRange as OfStackRange, StackRangePut as OfStackRangePut, StackCopy as OfStackCopy, RingCount as OfRingCount, RingGauge as OfRingGauge}
 
--- what is no pass for a call is a queue's pass that is in a count or a gauge, a stack's that is in a fold or has a range, or another handle
+-- what is no pass for a call is a queue's pass or a ring's that is in a count or a gauge, a stack's that is in a fold or has a range, or another handle
 abbrev pub refusal_of : Held → ℕ
 refusal_of (OfQueueCount k) = UNDER_WAY
 refusal_of (OfQueueGauge k) = UNDER_WAY
@@ -14,6 +14,8 @@ refusal_of (OfStackFold f) = UNDER_WAY
 refusal_of (OfStackRange r) = UNDER_WAY
 refusal_of (OfStackRangePut r) = UNDER_WAY
 refusal_of (OfStackCopy k) = UNDER_WAY
+refusal_of (OfRingCount k) = UNDER_WAY
+refusal_of (OfRingGauge k) = UNDER_WAY
 refusal_of h = OTHER_HANDLE
 
 -- what is held is as it was, and C is told why: by a code, or by an answer that says nothing more

@@ -59,8 +59,8 @@ pub const SHARED: u32 = 16;
 
 /// A code, and what it says: of a put that is done its number, of a take its value, of a fold or a
 /// finish the next value, of a fold that is done how many there were, of a put of a range how many
-/// went in, of a count how many there are, of a gauge how many tags were used, and of what is spent
-/// the tag. What is not said is 0.
+/// went in, of a count how many there are, of a gauge how many tags were used (of a ring, how many
+/// values were put), and of what is spent the tag. What is not said is 0.
 #[repr(C)]
 #[derive(Clone, Copy)]
 pub struct Answer {

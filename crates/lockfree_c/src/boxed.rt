@@ -24,6 +24,7 @@ use crate::count::begin_count;
 use crate::fold::begin_fold;
 use crate::held::Held;
 use crate::range::{begin_range_of, put_nothing};
+use crate::ring::begin_ring_count;
 use crate::root::hand_out;
 use bounded_model::Command;
 use std::alloc::Global;
@@ -161,7 +162,7 @@ pub fn fold_by(held: &mut Held, reversed: bool, tries: u64) -> Answer
     answer
 }
 
-// A count by what is held, if that is a queue's pass.
+// A count by what is held, if that is a queue's pass or a ring's.
 fn count(held: Held, tries: u64) -> (Held, Answer)
     requires { IsHeld held }
     ensures of { IsHeld result.0 }
@@ -169,6 +170,7 @@ fn count(held: Held, tries: u64) -> (Held, Answer)
 {
     match held {
         Held::QueuePass(pass) => begin_count(pass, tries),
+        Held::RingPass(pass) => begin_ring_count(pass, tries),
         other => {
             let answer = Answer::of(other.refusal());
             (other, answer)
@@ -176,7 +178,7 @@ fn count(held: Held, tries: u64) -> (Held, Answer)
     }
 }
 
-/// A count of the values by what lies in the box, if that is a queue's pass.
+/// A count of the values by what lies in the box, if that is a queue's pass or a ring's.
 pub fn count_by(held: &mut Held, tries: u64) -> Answer
     requires { IsHeld held.old }
     ensures of { IsHeld held.new }
@@ -310,6 +312,8 @@ fn go_on(held: Held, tries: u64) -> (Held, Answer)
         Held::StackRange(range) => (Held::StackRange(range), Answer::of(NO_CALL)),
         Held::StackRangePut(put) => put.go_on(tries),
         Held::StackCopy(copy) => (Held::StackCopy(copy), Answer::of(NO_CALL)),
+        Held::RingCount(count) => count.go_on(tries),
+        Held::RingGauge(gauge) => gauge.go_on(tries),
         other => (other, Answer::of(OTHER_HANDLE)),
     }
 }

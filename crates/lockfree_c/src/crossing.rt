@@ -2,8 +2,8 @@
 //! behind one may cross threads.
 
 use crate::held::{
-    QueueCount, QueueGauge, QueuePass, QueueRoot, RingPass, RingRoot, StackCopy, StackFold,
-    StackPass, StackRange, StackRangePut, StackRoot,
+    QueueCount, QueueGauge, QueuePass, QueueRoot, RingCount, RingGauge, RingPass, RingRoot,
+    StackCopy, StackFold, StackPass, StackRange, StackRangePut, StackRoot,
 };
 use bounded_calls::{QueueOperation, RingOperation, StackOperation};
 use bounded_model::Operation;
@@ -120,6 +120,18 @@ pub fn ring_operation_crosses(operation: &RingOperation) {
         Operation::Shut(shut) => crosses(shut),
         Operation::Look(look) => crosses(look),
     }
+}
+
+/// The parts of a ring's pass that is in a count.
+pub fn ring_count_crosses(count: &RingCount) {
+    crosses(&count.container);
+    crosses(&count.op);
+}
+
+/// The parts of a ring's pass that is in a gauge.
+pub fn ring_gauge_crosses(gauge: &RingGauge) {
+    crosses(&gauge.container);
+    crosses(&gauge.op);
 }
 
 /// What is left of a ring.

@@ -142,7 +142,7 @@ pub extern "C" fn lockfree_look(pass: &mut Slot, tries: u64) -> Answer
     look_by(pass.handle.open_mut(), tries)
 }
 
-/// Counts the values of a queue.
+/// Counts the values of a queue or of a ring.
 #[unsafe(no_mangle)]
 pub extern "C" fn lockfree_count(pass: &mut Slot, tries: u64) -> Answer
     requires { IsSlot pass.old }
@@ -155,7 +155,8 @@ pub extern "C" fn lockfree_count(pass: &mut Slot, tries: u64) -> Answer
     count_by(pass.handle.open_mut(), tries)
 }
 
-/// Tells whether the container was closed, and how many of its tags were used.
+/// Tells whether the container was closed, and how many of its tags were used; of a ring, how many
+/// values were put.
 #[unsafe(no_mangle)]
 pub extern "C" fn lockfree_gauge(pass: &mut Slot, tries: u64) -> Answer
     requires { IsSlot pass.old }

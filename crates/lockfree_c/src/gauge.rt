@@ -11,6 +11,7 @@ ghost use Rattle.lockfree_c.specs.Held.{IsHeld, IsQueueGauge, IsQueuePass, IsSta
 use crate::answers::{Answer, BUSY, UNDER_WAY};
 use crate::held::{Held, QueueGauge, QueuePass, StackPass};
 use crate::pass::PassOf;
+use crate::ring::begin_ring_gauge;
 use crate::stage::Stage;
 use bounded_model::Stepped;
 use ms_queue::{Gauge, GaugeOp, Pass, Queue};
@@ -123,6 +124,7 @@ fn gauge(held: Held, tries: u64) -> (Held, Answer)
             let answer = stack_gauge(&mut pass);
             (Held::StackPass(pass), answer)
         }
+        Held::RingPass(pass) => begin_ring_gauge(pass, tries),
         other => {
             let answer = Answer::of(other.refusal());
             (other, answer)

@@ -45,6 +45,20 @@ pub struct QueueGauge {
     pub op: GaugeOp<u64>,
 }
 
+/// A ring's pass in a count of the values, with a share of the ring. It stands apart as a queue's does.
+#[derive(Drop)]
+pub struct RingCount {
+    pub container: Arc<RingQueue<u64>, Global>,
+    pub op: ring_queue::LenOp<u64>,
+}
+
+/// A ring's pass in a gauge, with a share of the ring. It stands apart as a count does.
+#[derive(Drop)]
+pub struct RingGauge {
+    pub container: Arc<RingQueue<u64>, Global>,
+    pub op: ring_queue::GaugeOp<u64>,
+}
+
 /// A stack's pass in a fold of all values, with a share of the stack. It stands apart from the others,
 /// so that their puts and takes do not ask for it.
 #[derive(Drop)]
@@ -94,6 +108,8 @@ pub enum Held {
     StackCopy(StackCopy),
     RingRoot(RingRoot),
     RingPass(RingPass),
+    RingCount(RingCount),
+    RingGauge(RingGauge),
     /// What is left of a queue that was ended, and not handed out yet.
     QueueRest(ms_queue::Rest<u64>),
     /// The same of a stack.
@@ -115,6 +131,8 @@ impl Held {
             Held::StackRange(_) => UNDER_WAY,
             Held::StackRangePut(_) => UNDER_WAY,
             Held::StackCopy(_) => UNDER_WAY,
+            Held::RingCount(_) => UNDER_WAY,
+            Held::RingGauge(_) => UNDER_WAY,
             _ => OTHER_HANDLE,
         }
     }

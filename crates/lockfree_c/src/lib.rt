@@ -21,6 +21,7 @@ mod making;
 mod parts;
 mod pass;
 mod range;
+mod ring;
 mod root;
 mod slot;
 mod stage;

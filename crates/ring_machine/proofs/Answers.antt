@@ -1,5 +1,5 @@
 -- What the words that a pass finds tell of the history, so that its answer is right.
-use Rattle.std.proofs.Common.{◌≡◌, ◌≢◌, ℕ, ◌+◌, ◌*◌, ◌<◌, ◌≤◌, true, false, List, [], ◌∷◌, ◌++◌, length, sym, ap, subst, lt_of_not-le, arith}
+use Rattle.std.proofs.Common.{◌≡◌, ◌≢◌, ℕ, ◌+◌, ◌*◌, ◌<◌, ◌≤◌, Bool, true, false, List, [], ◌∷◌, ◌++◌, length, sym, ap, subst, lt_of_not-le, arith}
 use Rattle.bounded_model.specs.declared.answers.Word.TheVariants.{Next as NextWord}
 use Rattle.bounded_model.specs.declared.history.Event.{Event}
 use Rattle.bounded_model.specs.declared.history.Event.TheVariants.{Hold, Put, Take, TakeAll, Free, Close, Shut}
@@ -11,7 +11,7 @@ use Rattle.bounded_model.proofs.Histories.{is_nil}
 use Rattle.machine.specs.Words.{Tagged}
 use Rattle.ring_machine.specs.declared.lines.Line.{Line}
 use Rattle.ring_machine.specs.Machine.{Memory, place, empty_at, full_at}
-use Rattle.ring_machine.specs.Answers.{shape, state}
+use Rattle.ring_machine.specs.Answers.{shape, state, IsGauged}
 use Rattle.ring_machine.specs.Rule.{IsBefore, Good}
 use Rattle.ring_machine.proofs.Positions.{laps_small}
 use Rattle.ring_machine.proofs.Turned.{was_put, at_the_back, at_the_front, full_here, not_put, empty_or_full, is_open, is_unshut}
@@ -51,6 +51,19 @@ module _ {T : Type 0} {n laps cells : ℕ} {m : Memory T} {lines : List (Line T)
     full_now ne =
         let full = full_here x.turned w.index w.tag b.slot back_here le ne in
         omega (arith, full, x.told.balance, x.told.held, few_values x.told)
+
+    -- no slot is filled more often than there are laps
+    pub puts_within : (state n laps history).puts ≤ laps * n
+    puts_within =
+        let h : (state n laps history).puts < laps * n + 1 = lt_of_not-le (λ more.
+        let low : 0 < n = omega (arith, b.slot) in
+        let high = x.turned.put 0 laps low (omega (arith, more)) in
+        absurd (omega (arith, high, x.turned.within 0 low))) in
+        omega (arith, h)
+
+    pub gauged_now : (closed : Bool) → (m.slot w.index).mark ≡ closed → IsGauged n laps closed (place n w) history
+    gauged_now true h = (closed_now h, puts_here, omega (arith, puts_here, puts_within))
+    gauged_now false h = (open_now h, puts_here, omega (arith, puts_here, puts_within))
 
     -- a tag near the limit means as many laps, and as many puts at least
     pub spent_now : (m.slot w.index).tag ≡ empty_at w.tag → 2 * laps ≤ (m.slot w.index).tag + 1 → Justifies (shape n laps) history (PutSpent (NextWord w.index) (m.slot w.index).tag)

@@ -15,13 +15,13 @@ use Rattle.machine.proofs.Tests.{cases}
 use Rattle.machine.proofs.Program.{Cases, by_cases}
 use Rattle.ring_machine.specs.declared.lines.Walk.{Walk}
 use Rattle.ring_machine.specs.declared.lines.Back.{Back}
-use Rattle.ring_machine.specs.declared.lines.Back.TheVariants.{ToPut, ToClose, ToCount}
+use Rattle.ring_machine.specs.declared.lines.Back.TheVariants.{ToPut, ToClose, ToCount, ToGauge}
 use Rattle.ring_machine.specs.declared.lines.Front.{Front}
 use Rattle.ring_machine.specs.declared.lines.Front.TheVariants.{ToTake, ToShut, ToLook, ToCount as ToCountFrom}
 use Rattle.ring_machine.specs.declared.lines.Call.{Call}
-use Rattle.ring_machine.specs.declared.lines.Call.TheVariants.{Put as CallPut, Take as CallTake, Close as CallClose, Shut as CallShut, Look as CallLook, Len as CallLen}
+use Rattle.ring_machine.specs.declared.lines.Call.TheVariants.{Put as CallPut, Take as CallTake, Close as CallClose, Shut as CallShut, Look as CallLook, Len as CallLen, Gauge as CallGauge}
 use Rattle.ring_machine.specs.declared.lines.Answer.{Answer}
-use Rattle.ring_machine.specs.declared.lines.Answer.TheVariants.{Put as AnswerPut, Take as AnswerTake, Close as AnswerClose, Shut as AnswerShut, Look as AnswerLook, Len as AnswerLen}
+use Rattle.ring_machine.specs.declared.lines.Answer.TheVariants.{Put as AnswerPut, Take as AnswerTake, Close as AnswerClose, Shut as AnswerShut, Look as AnswerLook, Len as AnswerLen, Gauge as AnswerGauge}
 use Rattle.ring_machine.specs.declared.lines.Line.{Line}
 use Rattle.ring_machine.specs.declared.lines.Line.TheVariants.{Idle, FetchTail, LoadTail, LoadBack, MoveTail, PutCell, PassTail, MarkBack, LoadHead, LoadFront, MoveHead, TakeCell, PassHead, Stow, ShutFront, CheckFront}
 use Rattle.ring_machine.specs.Machine.{Memory, memories, Outcome, place, empty_at, full_at, stride, further, with_cell, ends, beyond_back, at_back, beyond_front, at_front, put_done, take_done, table, cell_of, resting, first_of, step, wins_put, wins_value}
@@ -47,6 +47,7 @@ module _ {T : Type 0} where
   begins n p h c CallShut = record { between = []; is = refl; made = (refl, refl) }
   begins n p h c CallLook = record { between = []; is = refl; made = (refl, refl) }
   begins n p h c CallLen = record { between = []; is = refl; made = (refl, refl) }
+  begins n p h c CallGauge = record { between = []; is = refl; made = (refl, refl) }
 
 module _ {T : Type 0} {n laps cells : ℕ} {m : Memory T} {lines : List (Line T)} {h : List (Event T)} (x : Good T n laps cells m lines h) (q p : ℕ) (call : Call T) (begun : List (Event T)) where
   abbrev At : Line T → Type 0
@@ -82,7 +83,7 @@ module _ {T : Type 0} {n laps cells : ℕ} {m : Memory T} {lines : List (Line T)
   of : (call' : Call T) (a : Answer T) (events : List (Event T)) → call ≡ call' → Makes p call' a events → Makes p call a events
   of call' a events is made = subst (λ (k : Call T). Makes p k a events) (sym is) made
 
-  back_does : (w : Walk) (s : Back T) → At (LoadBack w s) → At (at_back (2 * laps) w s (m.slot w.at.index))
+  back_does : (w : Walk) (s : Back T) → At (LoadBack w s) → At (at_back n (2 * laps) w s (m.slot w.at.index))
   back_does w (ToPut v) d =
       let y = m.slot w.at.index in
       let closed : Line T = Stow w (AnswerPut (Err (PutClosed v))) in
@@ -99,6 +100,7 @@ module _ {T : Type 0} {n laps cells : ℕ} {m : Memory T} {lines : List (Line T)
       let y = m.slot w.at.index in
       cases At y.mark (ends w.cell (AnswerClose false)) (MarkBack w y) (λ b. stays d (of CallClose (AnswerClose false) (own p d.between) d.made.0 d.made.1)) (λ b. stays d d.made)
   back_does w (ToCount front) d = stays d d.made
+  back_does w ToGauge d = stays d (of CallGauge (AnswerGauge (m.slot w.at.index).mark (place n w.at)) (own p d.between) d.made.0 d.made.1)
 
   front_does : (w : Walk) (s : Front) → At (LoadFront w s) → At (at_front w s (m.slot w.at.index))
   front_does w ToTake d =
@@ -152,7 +154,7 @@ module _ {T : Type 0} {n laps cells : ℕ} {m : Memory T} {lines : List (Line T)
   does (Stow w a) at d = stays d d.made
   does (LoadBack w s) at d =
       let y = m.slot w.at.index in
-      cases At (ltb (empty_at w.at.tag) y.tag) (beyond_back n w s) (at_back (2 * laps) w s y)
+      cases At (ltb (empty_at w.at.tag) y.tag) (beyond_back n w s) (at_back n (2 * laps) w s y)
       (λ b. cases At (eqb (w.gone + 1) stride) (MoveTail (further n w) s) (LoadBack (further n w) s) (λ b'. stays d d.made) (λ b'. stays d d.made))
       (λ b. back_does w s d)
   does (MoveTail w s) at d = (λ won. stays d d.made, stays d d.made)

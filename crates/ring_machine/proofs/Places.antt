@@ -10,7 +10,7 @@ use Rattle.machine.proofs.Program.{Cases, by_cases}
 use Rattle.machine.proofs.Places.{in_one_place, is_inside}
 use Rattle.ring_machine.specs.declared.lines.Walk.{Walk}
 use Rattle.ring_machine.specs.declared.lines.Back.{Back}
-use Rattle.ring_machine.specs.declared.lines.Back.TheVariants.{ToPut, ToClose, ToCount}
+use Rattle.ring_machine.specs.declared.lines.Back.TheVariants.{ToPut, ToClose, ToCount, ToGauge}
 use Rattle.ring_machine.specs.declared.lines.Front.{Front}
 use Rattle.ring_machine.specs.declared.lines.Front.TheVariants.{ToTake, ToShut, ToLook, ToCount as ToCountFrom}
 use Rattle.ring_machine.specs.declared.lines.Line.{Line}
@@ -63,10 +63,11 @@ module _ {T : Type 0} {n laps cells : ℕ} {m : Memory T} {lines : List (Line T)
         } in
         of _ (eqb (w.gone + 1) stride) _ _ (brings _ refl) (brings _ refl)
 
-    back_wins : (w : Walk) (s : Back T) (l : Line T) → cell_of l ≡ w.cell → (y : Tagged) → WinsUnheld n m lines l (at_back (2 * laps) w s y)
+    back_wins : (w : Walk) (s : Back T) (l : Line T) → cell_of l ≡ w.cell → (y : Tagged) → WinsUnheld n m lines l (at_back n (2 * laps) w s y)
     back_wins w (ToPut v) l is y = of _ y.mark _ _ (same _ _ (sym is)) (of _ (eqb y.tag (empty_at w.at.tag)) _ _ (of _ (leb (2 * laps) (y.tag + 1)) _ _ (same _ _ (sym is)) (same _ _ (sym is))) (same _ _ (sym is)))
     back_wins w ToClose l is y = of _ y.mark _ _ (same _ _ (sym is)) (same _ _ (sym is))
     back_wins w (ToCount front) l is y = same _ _ (sym is)
+    back_wins w ToGauge l is y = same _ _ (sym is)
 
     front_wins : (w : Walk) (s : Front) (l : Line T) → cell_of l ≡ w.cell → (y : Tagged) → WinsUnheld n m lines l (at_front w s y)
     front_wins w ToTake l is y = of _ y.second _ _ (same _ _ (sym is)) (of _ (eqb y.tag (full_at w.at.tag)) _ _ (same _ _ (sym is)) (of _ y.mark _ _ (same _ _ (sym is)) (same _ _ (sym is))))

@@ -12,10 +12,10 @@ use Rattle.machine.proofs.Tests.{cases}
 use Rattle.machine.proofs.Program.{Cases, by_cases}
 use Rattle.ring_machine.specs.declared.lines.Walk.{Walk}
 use Rattle.ring_machine.specs.declared.lines.Back.{Back}
-use Rattle.ring_machine.specs.declared.lines.Back.TheVariants.{ToPut, ToClose, ToCount}
+use Rattle.ring_machine.specs.declared.lines.Back.TheVariants.{ToPut, ToClose, ToCount, ToGauge}
 use Rattle.ring_machine.specs.declared.lines.Front.{Front}
 use Rattle.ring_machine.specs.declared.lines.Front.TheVariants.{ToTake, ToShut, ToLook, ToCount as ToCountFrom}
-use Rattle.ring_machine.specs.declared.lines.Answer.TheVariants.{Put as AnswerPut, Take as AnswerTake, Close as AnswerClose, Shut as AnswerShut, Look as AnswerLook, Len as AnswerLen}
+use Rattle.ring_machine.specs.declared.lines.Answer.TheVariants.{Put as AnswerPut, Take as AnswerTake, Close as AnswerClose, Shut as AnswerShut, Look as AnswerLook, Len as AnswerLen, Gauge as AnswerGauge}
 use Rattle.ring_machine.specs.declared.lines.Line.{Line}
 use Rattle.ring_machine.specs.declared.lines.Line.TheVariants.{Idle, FetchTail, LoadTail, LoadBack, MoveTail, PutCell, PassTail, MarkBack, LoadHead, LoadFront, MoveHead, TakeCell, PassHead, Stow, ShutFront, CheckFront}
 use Rattle.ring_machine.specs.Machine.{Memory, memories, Outcome, place, behind, empty_at, full_at, stride, walk, further, with_cell, ends, beyond_back, at_back, found_back, beyond_front, at_front, found_front, put_done, take_done, has_put, has_taken, goes_on, table, cell_of, is_home, resting, step, wins_put, wins_value, after_tail, after_head}
@@ -68,14 +68,14 @@ module _ {T : Type 0} (n laps cells : ℕ) (m : Memory T) (lines : List (Line T)
     load_back w s e =
         let f : Fine (LoadBack w s) = x.fine q (LoadBack w s) e in
         let y = m.slot w.at.index in
-        cases (λ l. After q (goes_on m l)) (ltb (empty_at w.at.tag) y.tag) (beyond_back n w s) (at_back (2 * laps) w s y)
+        cases (λ l. After q (goes_on m l)) (ltb (empty_at w.at.tag) y.tag) (beyond_back n w s) (at_back n (2 * laps) w s y)
         (λ b. let less = was_put x.turned w.at.index w.at.tag f.0.at.slot (grind (arith, nat_tests)) in
         cases (λ l. After q (goes_on m l)) (eqb (w.gone + 1) stride) (MoveTail (further n w) s) (LoadBack (further n w) s)
         (λ b'. to (MoveTail (further n w) s) e refl (λ h. h) (walked_on n now.tail now.puts w f.0 less b', f.1))
         (λ b'. to (LoadBack (further n w) s) e refl (λ h. h) (walks_on n now.tail now.puts w f.0 less b', f.1)))
         (λ b. here s e f (grind (arith, nat_tests)))
       where
-        here : (s : Back T) → get_elem? lines q ≡ some (LoadBack w s) → Fine (LoadBack w s) → (m.slot w.at.index).tag ≤ empty_at w.at.tag → After q (goes_on m (at_back (2 * laps) w s (m.slot w.at.index)))
+        here : (s : Back T) → get_elem? lines q ≡ some (LoadBack w s) → Fine (LoadBack w s) → (m.slot w.at.index).tag ≤ empty_at w.at.tag → After q (goes_on m (at_back n (2 * laps) w s (m.slot w.at.index)))
         here (ToPut v) e f le =
             let y = m.slot w.at.index in
             let closed : Line T = Stow w (AnswerPut (Err (PutClosed v))) in
@@ -96,6 +96,7 @@ module _ {T : Type 0} (n laps cells : ℕ) (m : Memory T) (lines : List (Line T)
             let closed : Line T = ends w.cell (AnswerClose false) in
             cases (λ l. After q (goes_on m l)) y.mark closed (MarkBack w y) (λ b. to closed e refl (λ h. h) tt) (λ b. to (MarkBack w y) e refl (λ h. h) (f.0, b, le))
         here (ToCount front) e f le = to (CheckFront w.cell front w.at) e refl (λ h. h) f.1
+        here ToGauge e f le = to (ends w.cell (AnswerGauge (m.slot w.at.index).mark (place n w.at))) e refl (λ h. h) tt
 
     load_front : (w : Walk) (s : Front) → get_elem? lines q ≡ some (LoadFront w s) → After q (goes_on m (found_front n w s (m.slot w.at.index)))
     load_front w s e =

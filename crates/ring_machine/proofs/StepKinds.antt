@@ -15,7 +15,7 @@ use Rattle.machine.proofs.Sums.{total_set, total_one, total_two, at_set}
 use Rattle.machine.proofs.Tests.{at_most_one}
 use Rattle.ring_machine.specs.declared.lines.Walk.{Walk}
 use Rattle.ring_machine.specs.declared.lines.Back.{Back}
-use Rattle.ring_machine.specs.declared.lines.Back.TheVariants.{ToPut, ToClose, ToCount}
+use Rattle.ring_machine.specs.declared.lines.Back.TheVariants.{ToPut, ToClose, ToCount, ToGauge}
 use Rattle.ring_machine.specs.declared.lines.Line.{Line}
 use Rattle.ring_machine.specs.declared.lines.Line.TheVariants.{Idle, FetchTail, LoadTail, LoadBack, MoveTail, PutCell, PassTail, MarkBack, LoadHead, LoadFront, MoveHead, TakeCell, PassHead, Stow, ShutFront, CheckFront}
 use Rattle.ring_machine.specs.Machine.{Memory, place, empty_at, full_at, cell_of, held_cells, is_home, store_word, after_fetch, after_stow, after_put, after_take, after_slot, after_tail, after_head}
@@ -53,6 +53,7 @@ module _ {T : Type 0} (n laps : ℕ) (g g' : Progress) (x : Grows g g') where
   seeks_later (ToPut v) f = tt
   seeks_later ToClose f = tt
   seeks_later (ToCount front) f = before_later n g.takes g'.takes front x.takes f
+  seeks_later ToGauge f = tt
 
   -- what a pass has read stays fine
   pub fine_later : (l : Line T) → IsFine n laps g l → IsFine n laps g' l

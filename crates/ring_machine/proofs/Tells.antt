@@ -17,7 +17,7 @@ use Rattle.machine.proofs.Tests.{cases}
 use Rattle.machine.proofs.Program.{Cases, by_cases, Apart, adds_own}
 use Rattle.ring_machine.specs.declared.lines.Walk.{Walk}
 use Rattle.ring_machine.specs.declared.lines.Back.{Back}
-use Rattle.ring_machine.specs.declared.lines.Back.TheVariants.{ToPut, ToClose, ToCount}
+use Rattle.ring_machine.specs.declared.lines.Back.TheVariants.{ToPut, ToClose, ToCount, ToGauge}
 use Rattle.ring_machine.specs.declared.lines.Front.{Front}
 use Rattle.ring_machine.specs.declared.lines.Front.TheVariants.{ToTake, ToShut, ToLook, ToCount as ToCountFrom}
 use Rattle.ring_machine.specs.declared.lines.Answer.{Answer}
@@ -27,7 +27,7 @@ use Rattle.ring_machine.specs.declared.lines.Line.TheVariants.{Idle, FetchTail, 
 use Rattle.ring_machine.specs.Machine.{Memory, memories, Outcome, place, empty_at, full_at, stride, further, with_cell, ends, beyond_back, at_back, beyond_front, at_front, put_done, take_done, has_put, table, cell_of, resting, step, wins_value}
 use Rattle.ring_machine.specs.Answers.{shape, state, IsRight}
 use Rattle.ring_machine.specs.Rule.{IsBefore, IsFine, Tells, progress, Good}
-use Rattle.ring_machine.proofs.Answers.{takes_grow, puts_here, closed_now, open_now, full_now, spent_now, takes_here, shut_now, unshut_now, empty_tag, empty_now, closed_at_front, open_at_front, some_now}
+use Rattle.ring_machine.proofs.Answers.{takes_grow, puts_here, closed_now, gauged_now, open_now, full_now, spent_now, takes_here, shut_now, unshut_now, empty_tag, empty_now, closed_at_front, open_at_front, some_now}
 
 module _ {T : Type 0} where
   -- an answer that was right stays so when its pass has seen more
@@ -54,7 +54,7 @@ module _ {T : Type 0} where
     abbrev Fine : Line T → Type 0
     Fine l = IsFine n laps (progress T n laps m history) l
 
-    back_tells : (w : Walk) (s : Back T) → Fine (LoadBack w s) → (m.slot w.at.index).tag ≤ empty_at w.at.tag → Says (at_back (2 * laps) w s (m.slot w.at.index))
+    back_tells : (w : Walk) (s : Back T) → Fine (LoadBack w s) → (m.slot w.at.index).tag ≤ empty_at w.at.tag → Says (at_back n (2 * laps) w s (m.slot w.at.index))
     back_tells w (ToPut v) f le =
         let y = m.slot w.at.index in
         let closed : Line T = Stow w (AnswerPut (Err (PutClosed v))) in
@@ -71,6 +71,7 @@ module _ {T : Type 0} where
         let y = m.slot w.at.index in
         cases Says y.mark (ends w.cell (AnswerClose false)) (MarkBack w y) (λ b. now_right (closed_now x w.at f.0.at le b)) (λ b. tt)
     back_tells w (ToCount front) f le = record { puts = puts_here x w.at f.0.at le; takes = f.1.before; balance = x.told.balance }
+    back_tells w ToGauge f le = now_right (gauged_now x w.at f.0.at le (m.slot w.at.index).mark refl)
 
     front_tells : (w : Walk) (s : Front) → Fine (LoadFront w s) → (m.slot w.at.index).tag ≤ full_at w.at.tag → Says (at_front w s (m.slot w.at.index))
     front_tells w ToTake f le =
@@ -118,7 +119,7 @@ module _ {T : Type 0} where
     told (Stow w a) e t = right_wider n laps begun seen history a now t
     told (LoadBack w s) e t =
         let y = m.slot w.at.index in
-        cases Says (ltb (empty_at w.at.tag) y.tag) (beyond_back n w s) (at_back (2 * laps) w s y)
+        cases Says (ltb (empty_at w.at.tag) y.tag) (beyond_back n w s) (at_back n (2 * laps) w s y)
         (λ b. cases Says (eqb (w.gone + 1) stride) (MoveTail (further n w) s) (LoadBack (further n w) s) (λ b'. tt) (λ b'. tt))
         (λ b. back_tells w s (x.fine q (LoadBack w s) e) (grind (arith, nat_tests)))
     told (MoveTail w s) e t = (λ won. tt, tt)

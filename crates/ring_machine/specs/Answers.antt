@@ -1,12 +1,12 @@
 -- The bounded queue that the machine's history is one of, and which answers of its passes are right.
-use Rattle.std.specs.Prelude.{ℕ, ◌*◌, true, false, List, Ok, Err}
+use Rattle.std.specs.Prelude.{◌≡◌, ℕ, ◌*◌, ◌≤◌, Bool, true, false, List, Ok, Err}
 use Rattle.bounded_model.specs.declared.history.Order.TheVariants.{Fifo}
 use Rattle.bounded_model.specs.declared.history.Event.{Event}
 use Rattle.bounded_model.specs.Machine as bounded
 use Rattle.bounded_model.specs.Justified as right
 use Rattle.bounded_model.specs.declared.answers.PutRefused.TheVariants.{Full, Closed, Spent}
 use Rattle.ring_machine.specs.declared.lines.Answer.{Answer}
-use Rattle.ring_machine.specs.declared.lines.Answer.TheVariants.{Put as AnswerPut, Take as AnswerTake, Close as AnswerClose, Shut as AnswerShut, Look as AnswerLook, Len as AnswerLen}
+use Rattle.ring_machine.specs.declared.lines.Answer.TheVariants.{Put as AnswerPut, Take as AnswerTake, Close as AnswerClose, Shut as AnswerShut, Look as AnswerLook, Len as AnswerLen, Gauge as AnswerGauge}
 
 -- a ring of n slots, each of which is filled at most so many times: a lap raises a slot's tag by two. How many passes may
 -- be out is for its root to say
@@ -16,6 +16,11 @@ shape n laps = record { order = Fifo; capacity = n; limit = 2 * laps; passes = 0
 -- the bounded machine at the end of a history
 abbrev pub state : {T : Type 0} → ℕ → ℕ → List (Event T) → bounded.State T
 state n laps history = bounded.state (shape n laps) history
+
+-- whether the ring is closed at the end of a history, and how many values were put, of those that it can take: each of
+-- its n slots is filled at most so many times
+abbrev pub IsGauged : {T : Type 0} → ℕ → ℕ → Bool → ℕ → List (Event T) → Type 0
+IsGauged n laps closed used h = ((state n laps h).closed ≡ closed) × ((state n laps h).puts ≡ used) × (used ≤ laps * n)
 
 -- some history between those seen at the begin and at the end of an operation justifies its answer,
 -- where that is one that changes nothing
@@ -32,3 +37,4 @@ IsRight n laps begun seen (AnswerShut true) = Unit {0}
 IsRight n laps begun seen (AnswerShut false) = right.Sometime begun seen (λ h. right.Justifies (shape n laps) h right.NotShut)
 IsRight n laps begun seen (AnswerLook empty) = right.Sometime begun seen (λ h. right.Justifies (shape n laps) h (right.Looked empty))
 IsRight n laps begun seen (AnswerLen k) = right.Sometime begun seen (λ h. right.Justifies (shape n laps) h (right.Counted k))
+IsRight n laps begun seen (AnswerGauge closed used) = right.Sometime begun seen (IsGauged n laps closed used)

@@ -1,4 +1,4 @@
--- The ring as a machine: any number of passes put, take, close, shut, look and count, one atomic step at a
+-- The ring as a machine: any number of passes put, take, close, shut, look, count and gauge, one atomic step at a
 -- time. `table` has its lines.
 use Rattle.std.specs.Prelude.{ℕ, ◌+◌, ◌-◌, ◌*◌, ◌==◌, leb, ltb, if◌then◌else◌, Bool, true, false, List, [], ◌∷◌, Option as Slot, Some, None, Ok, Err}
 use mathlib.Core.Option.{Option, none, some}
@@ -14,17 +14,17 @@ use Rattle.machine.specs.Chains.{with_home}
 use Rattle.machine.specs.Program.{Memories, becomes, Then, stays, returns, brings, Deed, rests, loads, fetches, stows, attempts, swaps, answered, does, wins as won_by}
 use Rattle.ring_machine.specs.declared.lines.Walk.{Walk}
 use Rattle.ring_machine.specs.declared.lines.Back.{Back}
-use Rattle.ring_machine.specs.declared.lines.Back.TheVariants.{ToPut, ToClose, ToCount}
+use Rattle.ring_machine.specs.declared.lines.Back.TheVariants.{ToPut, ToClose, ToCount, ToGauge}
 use Rattle.ring_machine.specs.declared.lines.Front.{Front}
 use Rattle.ring_machine.specs.declared.lines.Front.TheVariants.{ToTake, ToShut, ToLook, ToCount as ToCountFrom}
 use Rattle.ring_machine.specs.declared.lines.Answer.{Answer}
-use Rattle.ring_machine.specs.declared.lines.Answer.TheVariants.{Put as AnswerPut, Take as AnswerTake, Close as AnswerClose, Shut as AnswerShut, Look as AnswerLook, Len as AnswerLen}
+use Rattle.ring_machine.specs.declared.lines.Answer.TheVariants.{Put as AnswerPut, Take as AnswerTake, Close as AnswerClose, Shut as AnswerShut, Look as AnswerLook, Len as AnswerLen, Gauge as AnswerGauge}
 use Rattle.ring_machine.specs.declared.lines.Place.{Place}
 use Rattle.ring_machine.specs.declared.lines.Place.TheVariants.{Head as AtHead, Tail as AtTail, Slot as AtSlot}
 use Rattle.ring_machine.specs.declared.lines.Line.{Line}
 use Rattle.ring_machine.specs.declared.lines.Line.TheVariants.{Idle, FetchTail, LoadTail, LoadBack, MoveTail, PutCell, PassTail, MarkBack, LoadHead, LoadFront, MoveHead, TakeCell, PassHead, Stow, ShutFront, CheckFront}
 use Rattle.ring_machine.specs.declared.lines.Call.{Call}
-use Rattle.ring_machine.specs.declared.lines.Call.TheVariants.{Put as CallPut, Take as CallTake, Close as CallClose, Shut as CallShut, Look as CallLook, Len as CallLen}
+use Rattle.ring_machine.specs.declared.lines.Call.TheVariants.{Put as CallPut, Take as CallTake, Close as CallClose, Shut as CallShut, Look as CallLook, Len as CallLen, Gauge as CallGauge}
 
 -- The words, and what each value cell has: none while a pass has it in hand, some None where it is empty at home.
 -- `head` and `tail` name positions near the front and the back
@@ -109,13 +109,14 @@ module _ {T : Type 0} where
       else if x.tag == empty_at w.at.tag then (if leb limit (x.tag + 1) then Stow w (AnswerPut (Err (PutSpent v (NextWord w.at.index) x.tag))) else PutCell w v x)
       else Stow w (AnswerPut (Err (PutFull v)))
 
-  abbrev pub at_back : ℕ → Walk → Back T → Tagged → Line T
-  at_back limit w (ToPut v) x = found_to_put limit w v x
-  at_back limit w ToClose x = if x.mark then ends w.cell (AnswerClose false) else MarkBack w x
-  at_back limit w (ToCount front) x = CheckFront w.cell front w.at
+  abbrev pub at_back : ℕ → ℕ → Walk → Back T → Tagged → Line T
+  at_back n limit w (ToPut v) x = found_to_put limit w v x
+  at_back n limit w ToClose x = if x.mark then ends w.cell (AnswerClose false) else MarkBack w x
+  at_back n limit w (ToCount front) x = CheckFront w.cell front w.at
+  at_back n limit w ToGauge x = ends w.cell (AnswerGauge x.mark (place n w.at))
 
   abbrev pub found_back : ℕ → ℕ → Walk → Back T → Tagged → Line T
-  found_back n limit w s x = if ltb (empty_at w.at.tag) x.tag then beyond_back n w s else at_back limit w s x
+  found_back n limit w s x = if ltb (empty_at w.at.tag) x.tag then beyond_back n w s else at_back n limit w s x
 
   -- the slot was taken already
   abbrev pub beyond_front : ℕ → Walk → Front → Line T
@@ -203,7 +204,7 @@ module _ {T : Type 0} where
   -- What each line does in a ring of n slots, with tags up to a limit
   abbrev pub table : ℕ → ℕ → Line T → Deed T (Memory T) Place ⊥ (Line T) (Event T)
   table n limit (Idle c a) = rests
-  -- to the back: to put, to close, to count
+  -- to the back: to put, to close, to count, to gauge
   table n limit (FetchTail c v) = fetches AtTail (c ∷ []) (λ w. LoadBack (walk c w) (ToPut v))
   table n limit (LoadTail c s) = loads AtTail (λ w. LoadBack (walk c w) s)
   table n limit (LoadBack w s) = loads (AtSlot w.at.index) (found_back n limit w s)
@@ -289,6 +290,7 @@ module _ {T : Type 0} where
   first_of c CallShut = LoadHead c ToShut
   first_of c CallLook = LoadHead c ToLook
   first_of c CallLen = LoadHead c ToCountFrom
+  first_of c CallGauge = LoadTail c ToGauge
 
   abbrev pub starts : Call T → Line T → Line T
   starts call l = first_of (cell_of l) call

@@ -8,7 +8,7 @@ use Rattle.bounded_model.specs.Machine as bounded
 use Rattle.machine.specs.Words.{Tagged, times, total}
 use Rattle.ring_machine.specs.declared.lines.Walk.{Walk}
 use Rattle.ring_machine.specs.declared.lines.Back.{Back}
-use Rattle.ring_machine.specs.declared.lines.Back.TheVariants.{ToPut, ToClose, ToCount}
+use Rattle.ring_machine.specs.declared.lines.Back.TheVariants.{ToPut, ToClose, ToCount, ToGauge}
 use Rattle.ring_machine.specs.declared.lines.Line.{Line}
 use Rattle.ring_machine.specs.declared.lines.Line.TheVariants.{Idle, FetchTail, LoadTail, LoadBack, MoveTail, PutCell, PassTail, MarkBack, LoadHead, LoadFront, MoveHead, TakeCell, PassHead, Stow, ShutFront, CheckFront}
 use Rattle.ring_machine.specs.Machine.{Memory, place, empty_at, full_at, stride, cell_of, is_home, held_cells}
@@ -53,6 +53,7 @@ module _ {T : Type 0} (n laps : ℕ) (g : Progress) where
   Seeks (ToPut v) = Unit {0}
   Seeks ToClose = Unit {0}
   Seeks (ToCount front) = IsBefore n g.takes front
+  Seeks ToGauge = Unit {0}
 
   abbrev pub IsFine : Line T → Type 0
   IsFine (Idle c a) = Unit {0}

@@ -41,6 +41,8 @@ pub enum Back<T> {
     ToClose,
     /// To say how many values stand before it, this position having been the front.
     ToCount(Fields),
+    /// To say whether the ring is closed there, and how many values were put before it.
+    ToGauge,
 }
 
 /// Why a pass goes to the front, the first position that was not taken.
@@ -69,6 +71,8 @@ pub enum Answer<T> {
     Look(bool),
     /// How many values it held.
     Len(u64),
+    /// Whether it was closed, and how many values had been put.
+    Gauge(bool, u64),
 }
 
 /// The next atomic step of a pass, with its spare cell and what it has read. A word that was read
@@ -118,4 +122,5 @@ pub enum Call<T> {
     Shut,
     Look,
     Len,
+    Gauge,
 }

@@ -8,6 +8,7 @@ pub mod Passes
 pub mod Looks
 pub mod Closes
 pub mod Counts
+pub mod Gauges
 pub mod Takes
 pub mod Puts
 pub mod FastPath

@@ -12,6 +12,8 @@ pub mod Closing
 pub mod Shutting
 pub mod Looking
 pub mod Counting
+pub mod Gauging
 pub mod KeepsAnswers
+pub mod KeepsGauge
 pub mod Trying
 pub mod Naming

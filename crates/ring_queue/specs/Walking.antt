@@ -74,15 +74,15 @@ module _ {T : Type 0} where
   walk_line (to_front s) (MoveHint w) = MoveHead (line_of w) s
 
   -- the line that the slot leads to that it has come to
-  abbrev pub end_line : ℕ → Aim T → Found → Line T
-  end_line limit (to_back s) f = at_back limit (line_of f.walk) s (fields_of f.slot)
-  end_line limit (to_front s) f = at_front (line_of f.walk) s (fields_of f.slot)
+  abbrev pub end_line : ℕ → ℕ → Aim T → Found → Line T
+  end_line n limit (to_back s) f = at_back n limit (line_of f.walk) s (fields_of f.slot)
+  end_line n limit (to_front s) f = at_front (line_of f.walk) s (fields_of f.slot)
 
   -- what a step leads to, with this spare cell, and with these slots in hand before it and after it
   abbrev pub Walks : RingQueue T → SeatLine T → Aim T → Spare → List (ℕ × Slot T) → List (ℕ × Slot T) → Next WalkAt Found → Type 0
   Walks c l aim spare had has to = MatchNext to
       (λ at. (l ≡ At (walk_line aim at)) × (has ≡ had) × IsRead (room_of c) at × (spare_at at ≡ spare))
-      (λ end. (l ≡ At (end_line (2 * laps_of c) aim end)) × (has ≡ had) × IsEnd (room_of c) (laps_of c) (full_of aim) end × (end.walk.spare ≡ spare))
+      (λ end. (l ≡ At (end_line (room_of c) (2 * laps_of c) aim end)) × (has ≡ had) × IsEnd (room_of c) (laps_of c) (full_of aim) end × (end.walk.spare ≡ spare))
 
   -- where a step leads that came to r
   abbrev pub WalkedTo : RingQueue T → Aim T → WalkAt → Outcome → List (ℕ × Slot T) → List (ℕ × Slot T) → Next WalkAt Found → Type 0

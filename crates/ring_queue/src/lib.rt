@@ -19,6 +19,7 @@ mod closing;
 mod container;
 mod counting;
 mod ending;
+mod gauging;
 mod limits;
 mod looking;
 mod making;
@@ -41,6 +42,7 @@ mod walking;
 
 pub use closing::CloseOp;
 pub use counting::LenOp;
+pub use gauging::{Gauge, GaugeOp};
 pub use limits::{MAX_LAPS, MIN_LAPS, RingLimits};
 pub use looking::LookOp;
 pub use places::ring_places;

@@ -12,7 +12,7 @@ use Rattle.machine.proofs.Stories.{Told, rule_holds}
 use Rattle.machine.proofs.Sums.{at_map, at_set}
 use Rattle.machine.proofs.Tests.{cases}
 use Rattle.ring_machine.specs.declared.lines.Call.{Call}
-use Rattle.ring_machine.specs.declared.lines.Call.TheVariants.{Put as CallPut, Take as CallTake, Close as CallClose, Shut as CallShut, Look as CallLook, Len as CallLen}
+use Rattle.ring_machine.specs.declared.lines.Call.TheVariants.{Put as CallPut, Take as CallTake, Close as CallClose, Shut as CallShut, Look as CallLook, Len as CallLen, Gauge as CallGauge}
 use Rattle.ring_machine.specs.declared.lines.Line.TheVariants.{Idle}
 use Rattle.ring_machine.specs.Machine.{Memory, cell_of, first_of, resting}
 use Rattle.ring_machine.specs.Machine as ring
@@ -67,6 +67,7 @@ module _ {T : Type 0} where
   first_weighs m c CallShut = (omega (arith, late_small m), omega arith)
   first_weighs m c CallLook = (omega (arith, late_small m), omega arith)
   first_weighs m c CallLen = (omega (arith, lag_small m, late_small m), omega arith)
+  first_weighs m c CallGauge = (omega (arith, lag_small m), omega arith)
 
   idle_weighs : (m : Pool T) (l : PoolLine T) → idle_in l ≡ true → (weighed m l ≡ 0) × (harmed l ≡ 0)
   idle_weighs m (Gets from call) e = absurd (false≢true e)

@@ -18,7 +18,7 @@ use Rattle.machine.proofs.Sums.{at_map}
 use Rattle.machine.proofs.Tests.{cases, if_below}
 use Rattle.machine.specs.Schedule.{start}
 use Rattle.ring_machine.specs.declared.lines.Call.{Call}
-use Rattle.ring_machine.specs.declared.lines.Call.TheVariants.{Put as CallPut, Take as CallTake, Close as CallClose, Shut as CallShut, Look as CallLook, Len as CallLen}
+use Rattle.ring_machine.specs.declared.lines.Call.TheVariants.{Put as CallPut, Take as CallTake, Close as CallClose, Shut as CallShut, Look as CallLook, Len as CallLen, Gauge as CallGauge}
 use Rattle.ring_machine.specs.declared.lines.Line.{Line}
 use Rattle.ring_machine.specs.declared.lines.Line.TheVariants.{Idle}
 use Rattle.ring_machine.specs.Machine.{Memory, cell_of, first_of, is_home, resting, step, ring}
@@ -63,6 +63,7 @@ module _ {T : Type 0} where
   first_busy c CallShut = refl
   first_busy c CallLook = refl
   first_busy c CallLen = refl
+  first_busy c CallGauge = refl
 
   pub first_cell : (c : ℕ) (call : Call T) → cell_of (first_of c call) ≡ c
   first_cell c (CallPut v) = refl
@@ -71,6 +72,7 @@ module _ {T : Type 0} where
   first_cell c CallShut = refl
   first_cell c CallLook = refl
   first_cell c CallLen = refl
+  first_cell c CallGauge = refl
 
   idle_home : (l : Line T) → machine.is_idle l ≡ true → is_home l ≡ true
   idle_home (Idle c a) idle = refl
@@ -84,6 +86,7 @@ module _ {T : Type 0} (n laps cells : ℕ) where
   first_fine m h c CallShut = tt
   first_fine m h c CallLook = tt
   first_fine m h c CallLen = tt
+  first_fine m h c CallGauge = tt
 
   first_tells : (c : ℕ) (call : Call T) (begun seen : List (Event T)) → Tells n laps begun seen (first_of c call)
   first_tells c (CallPut v) begun seen = tt
@@ -92,6 +95,7 @@ module _ {T : Type 0} (n laps cells : ℕ) where
   first_tells c CallShut begun seen = tt
   first_tells c CallLook begun seen = tt
   first_tells c CallLen begun seen = tt
+  first_tells c CallGauge begun seen = tt
 
   first_made : (p c : ℕ) (call : Call T) → HasMade p n call (first_of c call) []
   first_made p c (CallPut v) = (refl, refl)
@@ -100,6 +104,7 @@ module _ {T : Type 0} (n laps cells : ℕ) where
   first_made p c CallShut = (refl, refl)
   first_made p c CallLook = (refl, refl)
   first_made p c CallLen = (refl, refl)
+  first_made p c CallGauge = (refl, refl)
 
   -- the rule of the seats
   abbrev K : Memory T → List (SeatLine T) → List (Event T) → Type 0

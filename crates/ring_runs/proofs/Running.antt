@@ -5,7 +5,7 @@ use Rattle.ring_machine.specs.Answers.{shape}
 use Rattle.ring_table.specs.declared.line.SeatLine.{SeatLine}
 use Rattle.ring_table.specs.declared.line.SeatLine.TheVariants.{At, Stock}
 use Rattle.ring_table.specs.declared.operation.Operation.{Operation}
-use Rattle.ring_table.specs.declared.operation.Operation.TheVariants.{Put as PutFirst, Take as TakeFirst, Close as CloseFirst, Shut as ShutFirst, Look as LookFirst, Len as LenFirst}
+use Rattle.ring_table.specs.declared.operation.Operation.TheVariants.{Put as PutFirst, Take as TakeFirst, Close as CloseFirst, Shut as ShutFirst, Look as LookFirst, Len as LenFirst, Gauge as GaugeFirst}
 use Rattle.ring_table.specs.Seats.{names}
 use Rattle.ring_table.specs.Core.{core}
 use Rattle.ring_table.proofs.Lifted.{does_alike}
@@ -28,6 +28,7 @@ module _ {T : Type 0} (n laps passes : ℕ) where
   begins ShutFirst (At k) l = refl
   begins LookFirst (At k) l = refl
   begins LenFirst (At k) l = refl
+  begins GaugeFirst (At k) l = refl
   begins o (Stock cs) l = refl
 
   pub running : IsRunning (ring_on T n laps passes) (cell_ring n laps passes) call_at

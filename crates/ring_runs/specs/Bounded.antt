@@ -5,7 +5,8 @@ use Rattle.machine.specs.Seats.{Acts}
 use Rattle.machine.specs.Schedule.{after}
 use Rattle.machine.specs.Progress.{others_win}
 use Rattle.ring_machine.specs.declared.lines.Call.{Call}
-use Rattle.ring_machine.specs.declared.lines.Call.TheVariants.{Put as CallPut, Take as CallTake, Close as CallClose, Shut as CallShut, Look as CallLook, Len as CallLen}
+use Rattle.ring_machine.specs.declared.lines.Call.TheVariants.{Put as CallPut, Take as CallTake, Close as CallClose, Shut as CallShut, Look as CallLook, Len as CallLen, Gauge as CallGauge}
+use Rattle.ring_machine.specs.declared.lines.Back.TheVariants.{ToGauge}
 use Rattle.ring_machine.specs.declared.lines.Front.TheVariants.{ToShut, ToLook, ToCount}
 use Rattle.ring_machine.specs.declared.lines.Line.TheVariants.{FetchTail, LoadTail, LoadHead}
 use Rattle.ring_machine.specs.Machine as ring
@@ -21,6 +22,7 @@ module _ {T : Type 0} where
   -- the call that begins at a line, which has the cell of the line that it is begun from
   abbrev pub call_in : SeatLine T → Call T
   call_in (At (FetchTail c v)) = CallPut v
+  call_in (At (LoadTail c ToGauge)) = CallGauge
   call_in (At (LoadTail c s)) = CallClose
   call_in (At (LoadHead c ToShut)) = CallShut
   call_in (At (LoadHead c ToLook)) = CallLook

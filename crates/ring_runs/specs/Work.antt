@@ -10,7 +10,7 @@ use Rattle.runs.specs.Work.{total_steps, total_answers, total_fees, in_all, pays
 use Rattle.ring_runs.specs.Bounded.{call_in}
 
 module _ {T : Type 0} where
-  -- what a call has cost at most that gave this answer, if k other passes were in a call meanwhile; a ring has no folds and no gauges. A meeting or a note
+  -- what a call has cost at most that gave this answer, if k other passes were in a call meanwhile; a ring has no folds. A meeting or a note
   -- heard is one load
   abbrev pub fee : ℕ → Answered T → ℕ
   fee k (Put r) = 14 + 40 * k
@@ -20,7 +20,7 @@ module _ {T : Type 0} where
   fee k (Shut b) = 13 + 22 * k
   fee k (Look b) = 12
   fee k (Len n) = 25
-  fee k (Gauge closed used) = 0
+  fee k (Gauge closed used) = 12
   fee k Heard = 1
 
   -- Of a ring for so many passes at once, the joined passes have made at most so many steps, together: what the calls cost that these acts begin, with a

@@ -16,11 +16,11 @@ use Rattle.bounded_model.specs.Laws.{Adds, BacksOut, PutGives, TakeGives, CloseG
 use Rattle.bounded_model.specs.Machine.{Shape, State, state}
 use Rattle.machine.specs.Seats.{pass_of}
 use Rattle.machine.specs.declared.seats.View.{View}
-use Rattle.ring_machine.specs.Answers.{shape}
+use Rattle.ring_machine.specs.Answers.{shape, IsGauged}
 use Rattle.ring_machine.specs.Deeds.{Deeds}
 use Rattle.ring_machine.specs.Machine.{ends}
 use Rattle.ring_machine.specs.declared.lines.Answer.{Answer}
-use Rattle.ring_machine.specs.declared.lines.Answer.TheVariants.{Put as AnswerPut, Take as AnswerTake, Close as AnswerClose, Shut as AnswerShut, Look as AnswerLook, Len as AnswerLen}
+use Rattle.ring_machine.specs.declared.lines.Answer.TheVariants.{Put as AnswerPut, Take as AnswerTake, Close as AnswerClose, Shut as AnswerShut, Look as AnswerLook, Len as AnswerLen, Gauge as AnswerGauge}
 use Rattle.ring_machine.specs.declared.lines.Call.{Call}
 use Rattle.ring_machine.specs.declared.lines.Call.TheVariants.{Put as CallPut}
 use Rattle.running.specs.Going.{Ended}
@@ -29,7 +29,7 @@ use Rattle.ring_table.specs.Lines.{call_of}
 use Rattle.ring_table.specs.declared.line.SeatLine.{SeatLine}
 use Rattle.ring_table.specs.declared.line.SeatLine.TheVariants.{At}
 use Rattle.ring_table.specs.declared.operation.Operation.{Operation}
-use Rattle.ring_table.specs.declared.operation.Operation.TheVariants.{Take as TakeFirst, Close as CloseFirst, Shut as ShutFirst, Look as LookFirst, Len as LenFirst}
+use Rattle.ring_table.specs.declared.operation.Operation.TheVariants.{Take as TakeFirst, Close as CloseFirst, Shut as ShutFirst, Look as LookFirst, Len as LenFirst, Gauge as GaugeFirst}
 use Rattle.ring_table.proofs.Laws.{ring_on}
 use Rattle.ring_table.proofs.Shapes.{with_passes, state_same}
 
@@ -103,3 +103,7 @@ module _ {T : Type 0} (n laps passes : ℕ) (v : View T (SeatLine T)) (begun : P
 
   pub len_gives : (k : ℕ) → Ends LenFirst (AnswerLen k) → LenGives (shape_for T n laps passes) begun (pass_of v) k
   len_gives k e = (adds_of e e.deeds [] e.deeds.made, right_for (λ s. length s.values ≡ k) e.tells)
+
+  -- a gauge says nothing of passes, and is right as it was told
+  pub gauge_gives : (closed : Bool) (used : ℕ) → Ends GaugeFirst (AnswerGauge closed used) → Adds begun (pass_of v) [] × Sometime begun.seen (pass_of v).seen (IsGauged n laps closed used)
+  gauge_gives closed used e = (adds_of e e.deeds [] e.deeds.made, e.tells)

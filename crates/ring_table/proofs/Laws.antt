@@ -16,7 +16,7 @@ use Rattle.machine.specs.Seats.{Saw}
 use Rattle.machine.proofs.Ahead.{Ahead}
 use Rattle.machine.proofs.Lists.{times_here}
 use Rattle.ring_machine.specs.declared.lines.Call.{Call}
-use Rattle.ring_machine.specs.declared.lines.Call.TheVariants.{Put as CallPut, Take as CallTake, Close as CallClose, Shut as CallShut, Look as CallLook, Len as CallLen}
+use Rattle.ring_machine.specs.declared.lines.Call.TheVariants.{Put as CallPut, Take as CallTake, Close as CallClose, Shut as CallShut, Look as CallLook, Len as CallLen, Gauge as CallGauge}
 use Rattle.ring_machine.specs.declared.lines.Line.{Line}
 use Rattle.ring_machine.specs.declared.lines.Line.TheVariants.{Idle}
 use Rattle.ring_machine.specs.Machine.{Memory, memories, table, step, cell_of, is_home, held_cells, resting, starts, first_of}
@@ -58,6 +58,7 @@ module _ {T : Type 0} where
   first_fine n laps m h c CallShut = tt
   first_fine n laps m h c CallLook = tt
   first_fine n laps m h c CallLen = tt
+  first_fine n laps m h c CallGauge = tt
 
   first_cell : (c : ℕ) (call : Call T) → cell_of (first_of c call) ≡ c
   first_cell c (CallPut v) = refl
@@ -66,6 +67,7 @@ module _ {T : Type 0} where
   first_cell c CallShut = refl
   first_cell c CallLook = refl
   first_cell c CallLen = refl
+  first_cell c CallGauge = refl
 
   starts_busy : (call : Call T) (l : Line T) → ring.is_idle (starts call l) ≡ false
   starts_busy (CallPut v) l = refl
@@ -74,6 +76,7 @@ module _ {T : Type 0} where
   starts_busy CallShut l = refl
   starts_busy CallLook l = refl
   starts_busy CallLen l = refl
+  starts_busy CallGauge l = refl
 
   idle_home : (l : Line T) → ring.is_idle l ≡ true → is_home l ≡ true
   idle_home (Idle c a) idle = refl
@@ -86,6 +89,7 @@ module _ {T : Type 0} where
   first_tells n laps c CallShut seen = tt
   first_tells n laps c CallLook seen = tt
   first_tells n laps c CallLen seen = tt
+  first_tells n laps c CallGauge seen = tt
 
   -- Lines of seats
 

@@ -2,16 +2,16 @@
 use Rattle.std.specs.Prelude.{◌≡◌, ℕ, ◌*◌, ◌<◌, ◌≤◌, List, [], ◌∷◌, Option as Slot, Some, None}
 use Rattle.tagged_index.specs.Fields.{index_of, tag_of}
 use Rattle.bounded_model.specs.declared.views.Answered.{Answered}
-use Rattle.bounded_model.specs.declared.views.Answered.TheVariants.{Take as TakeAnswered, Close as CloseAnswered, Shut as ShutAnswered, Look as LookAnswered, Len as LenAnswered, Heard}
+use Rattle.bounded_model.specs.declared.views.Answered.TheVariants.{Take as TakeAnswered, Close as CloseAnswered, Shut as ShutAnswered, Look as LookAnswered, Len as LenAnswered, Gauge as GaugeAnswered, Heard}
 use Rattle.bounded_model.specs.Laws.{put_answered}
 use Rattle.ring_machine.specs.declared.lines.Answer.{Answer}
-use Rattle.ring_machine.specs.declared.lines.Answer.TheVariants.{Put as AnswerPut, Take as AnswerTake, Close as AnswerClose, Shut as AnswerShut, Look as AnswerLook, Len as AnswerLen}
+use Rattle.ring_machine.specs.declared.lines.Answer.TheVariants.{Put as AnswerPut, Take as AnswerTake, Close as AnswerClose, Shut as AnswerShut, Look as AnswerLook, Len as AnswerLen, Gauge as AnswerGauge}
 use Rattle.ring_machine.specs.declared.lines.Call.{Call}
-use Rattle.ring_machine.specs.declared.lines.Call.TheVariants.{Put as CallPut, Take as CallTake, Close as CallClose, Shut as CallShut, Look as CallLook, Len as CallLen}
+use Rattle.ring_machine.specs.declared.lines.Call.TheVariants.{Put as CallPut, Take as CallTake, Close as CallClose, Shut as CallShut, Look as CallLook, Len as CallLen, Gauge as CallGauge}
 use Rattle.ring_machine.specs.declared.lines.Line.{Line}
 use Rattle.ring_machine.specs.declared.lines.Line.TheVariants.{Idle, FetchTail, LoadTail, LoadBack, LoadHead, LoadFront, TakeCell}
 use Rattle.ring_table.specs.declared.operation.Operation.{Operation}
-use Rattle.ring_table.specs.declared.operation.Operation.TheVariants.{Put as PutFirst, Take as TakeFirst, Close as CloseFirst, Shut as ShutFirst, Look as LookFirst, Len as LenFirst}
+use Rattle.ring_table.specs.declared.operation.Operation.TheVariants.{Put as PutFirst, Take as TakeFirst, Close as CloseFirst, Shut as ShutFirst, Look as LookFirst, Len as LenFirst, Gauge as GaugeFirst}
 
 module _ {T : Type 0} where
   -- the machine's call of an operation
@@ -22,6 +22,7 @@ module _ {T : Type 0} where
   call_of ShutFirst = CallShut
   call_of LookFirst = CallLook
   call_of LenFirst = CallLen
+  call_of GaugeFirst = CallGauge
 
   -- what its call has answered, of a pass that is idle at this line
   abbrev pub answered : Answer T → Answered T
@@ -31,6 +32,7 @@ module _ {T : Type 0} where
   answered (AnswerShut b) = ShutAnswered b
   answered (AnswerLook b) = LookAnswered b
   answered (AnswerLen k) = LenAnswered k
+  answered (AnswerGauge closed used) = GaugeAnswered closed used
 
   abbrev pub reply : Line T → Answered T
   reply (Idle c (Some a)) = answered a

@@ -11,4 +11,5 @@ pub enum Operation<T> {
     Shut,
     Look,
     Len,
+    Gauge,
 }

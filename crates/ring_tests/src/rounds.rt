@@ -91,8 +91,10 @@ fn a_ring_is_spent_after_its_laps(rt: HostRuntime) {
             let (pass, put) = ring.put(&rt, pass, 7);
             let tag = laps.saturating_mul(2);
             assert!(rt; put == Err(PutRefused::Spent(7, Word::Next(0), tag)));
-            let (_, taken) = ring.take(&rt, pass);
+            let (pass, taken) = ring.take(&rt, pass);
             assert!(rt; taken == Err(TakeRefused::Empty));
+            let (_, gauge) = ring.gauge(&rt, pass);
+            assert!(rt; !gauge.closed && gauge.used == count);
         }
     }
 }
@@ -105,6 +107,8 @@ fn closed_with<R: Abort + Wait>(rt: &R, alloc: Global, capacity: u32, through: u
     let pass = put_all(rt, &ring, pass, through, last);
     let (pass, count) = ring.len(rt, pass);
     assert!(rt; u64::from(count) == there);
+    let (pass, gauge) = ring.gauge(rt, pass);
+    assert!(rt; !gauge.closed && gauge.used == last);
     let (pass, closed) = ring.close(rt, pass);
     assert!(rt; closed);
     let (pass, again) = ring.close(rt, pass);
@@ -112,8 +116,10 @@ fn closed_with<R: Abort + Wait>(rt: &R, alloc: Global, capacity: u32, through: u
     let (pass, put) = ring.put(rt, pass, 7);
     assert!(rt; put == Err(PutRefused::Closed(7)));
     let pass = take_all(rt, &ring, pass, through, last);
-    let (_, taken) = ring.take(rt, pass);
+    let (pass, taken) = ring.take(rt, pass);
     assert!(rt; taken == Err(TakeRefused::Closed));
+    let (_, gauge) = ring.gauge(rt, pass);
+    assert!(rt; gauge.closed && gauge.used == last);
 }
 
 // The same of a ring that is shut: it can be filled and closed, and nothing is taken.

@@ -18,8 +18,8 @@ ghost use Rattle.step_core.specs.ring.Law.{Lawful, AllDone, NoneUnanswered, line
 ghost use Rattle.step_core.specs.ring.Bound.{MeetsRule};
 ghost use Rattle.step_core.specs.ring.Costs.{cost};
 
-/// In every schedule of puts, takes, closes, shuts, looks at and counts of a ring of `n` slots, each
-/// of which is filled at most `laps` times: the history is legal for a bounded queue of `n` values,
+/// In every schedule of puts, takes, closes, shuts, looks at, counts and gauges of a ring of `n` slots,
+/// each of which is filled at most `laps` times: the history is legal for a bounded queue of `n` values,
 /// the words and cells stand for it, each of the cells of `n` slots and of all passes is in one slot
 /// or the spare one of one pass, no hand has anything between two steps, and each refusal is
 /// justified by the history as it was at some time between its begin and its end.
@@ -65,7 +65,8 @@ pub fn ring_answers<T>()
 {}
 
 /// A ring is linearizable (Herlihy and Wing 1990). A put, a take, a close and a shut take effect at
-/// the compare-and-swap that makes their event, a refusal and a look at the load that they answer by,
+/// the compare-and-swap that makes their event, a refusal, a look and a gauge at the load that they answer
+/// by,
 /// and a count at the load that found the back.
 pub fn ring_linearizable<T>()
     ensures points { (n laps passes : ℕ) (schedule : Schedule (Call T)) → 0 < n →
@@ -90,7 +91,7 @@ pub fn ring_bound<T>()
 /// for each call that ends, and for each of the P: from every state that meets the rule. So among any
 /// P * (40 * P + 7) + 1 steps after any schedule of P passes, some call ends. And in all, from the
 /// start, the passes make no more steps than the calls cost that they begin: a put 40 * P - 26, a take
-/// 35 * P - 20, a close or a shut 22 * P - 9, a look 12, a count 25.
+/// 35 * P - 20, a close or a shut 22 * P - 9, a look or a gauge 12, a count 25.
 ///
 /// Of each single call: it has ended after at most 47 of its own steps, and 30 for each
 /// compare-and-swap by which another pass succeeds meanwhile. So a step that does not succeed costs

@@ -13,7 +13,7 @@ use Rattle.machine.proofs.Scheduled.{passes_after}
 use Rattle.machine.proofs.Stories.{rule_holds}
 use Rattle.machine.proofs.Sums.{at_map}
 use Rattle.ring_machine.specs.declared.lines.Call.{Call}
-use Rattle.ring_machine.specs.declared.lines.Call.TheVariants.{Put as CallPut, Take as CallTake, Close as CallClose, Shut as CallShut, Look as CallLook, Len as CallLen}
+use Rattle.ring_machine.specs.declared.lines.Call.TheVariants.{Put as CallPut, Take as CallTake, Close as CallClose, Shut as CallShut, Look as CallLook, Len as CallLen, Gauge as CallGauge}
 use Rattle.ring_machine.specs.declared.lines.Line.{Line}
 use Rattle.ring_machine.specs.declared.lines.Line.TheVariants.{Idle}
 use Rattle.ring_machine.specs.Answers.{shape}
@@ -53,6 +53,7 @@ module _ {T : Type 0} (n laps cells : ℕ) where
   begins m l CallShut = (omega (arith, late_small m), omega arith)
   begins m l CallLook = (omega (arith, late_small m), omega arith)
   begins m l CallLen = (omega (arith, lag_small m, late_small m), omega arith)
+  begins m l CallGauge = (omega (arith, lag_small m), omega arith)
 
   pub ring_pays : Pays (ring (shape n laps)) Rules weight price harm alone harms
   ring_pays = record {

@@ -10,7 +10,7 @@ use Rattle.machine.specs.Words.{Tagged, same, raised, marked, with_second}
 use Rattle.machine.proofs.Tests.{same-is, fresh, is_true, is_false, lost, lost_small, lost_none, lost_all}
 use Rattle.ring_machine.specs.declared.lines.Walk.{Walk}
 use Rattle.ring_machine.specs.declared.lines.Back.{Back}
-use Rattle.ring_machine.specs.declared.lines.Back.TheVariants.{ToPut, ToClose, ToCount}
+use Rattle.ring_machine.specs.declared.lines.Back.TheVariants.{ToPut, ToClose, ToCount, ToGauge}
 use Rattle.ring_machine.specs.declared.lines.Front.{Front}
 use Rattle.ring_machine.specs.declared.lines.Front.TheVariants.{ToTake, ToShut, ToLook, ToCount as ToCountFrom}
 use Rattle.ring_machine.specs.declared.lines.Answer.TheVariants.{Len as AnswerLen}
@@ -122,7 +122,7 @@ module _ {T : Type 0} where
 
     -- What it leaves to its own call
 
-    here_low : (w : Walk) (s : Back T) → Lower weight harm m 0 (1 + turn m.slot (lag m) (late m) s) (back_harm s) (at_back (2 * laps) w s (m.slot w.at.index))
+    here_low : (w : Walk) (s : Back T) → Lower weight harm m 0 (1 + turn m.slot (lag m) (late m) s) (back_harm s) (at_back n (2 * laps) w s (m.slot w.at.index))
     here_low w (ToPut v) =
         let y = m.slot w.at.index in
         either weight harm m 3 40 y.mark _ _ (omega arith, omega arith)
@@ -131,6 +131,7 @@ module _ {T : Type 0} where
         (omega arith, omega arith))
     here_low w ToClose = let y = m.slot w.at.index in either weight harm m 2 22 y.mark _ _ (omega arith, omega arith) (omega (arith, fresh y 22), omega arith)
     here_low w (ToCount front) = (omega arith, omega arith)
+    here_low w ToGauge = (omega arith, omega arith)
 
     front_low : (w : Walk) (s : Front) → was_emptied m.slot w.at ≡ false → Lower weight harm m 0 (1 + front_turn (lag m) s) (front_harm s) (at_front w s (m.slot w.at.index))
     front_low w ToTake b =
@@ -151,7 +152,7 @@ module _ {T : Type 0} where
         (omega (arith, walking_begins (was_filled m.slot m.tail) (lost (same m.tail m.tail) (lag m)) (turn m.slot (lag m) (late m) s) (fresh m.tail (lag m))), omega arith)
     step_falls (LoadBack w s) e busy = by_test (was_filled m.slot w.at) refl
       where
-        by_test : (b : Bool) → was_filled m.slot w.at ≡ b → Low weight harm (goes_on m (cond b (beyond_back n w s) (at_back (2 * laps) w s (m.slot w.at.index)))) 0 (walking b w.gone (lost (same m.tail w.from) (lag m)) (turn m.slot (lag m) (late m) s)) (back_harm s)
+        by_test : (b : Bool) → was_filled m.slot w.at ≡ b → Low weight harm (goes_on m (cond b (beyond_back n w s) (at_back n (2 * laps) w s (m.slot w.at.index)))) 0 (walking b w.gone (lost (same m.tail w.from) (lag m)) (turn m.slot (lag m) (late m) s)) (back_harm s)
         by_test true b =
             let f : Fine (LoadBack w s) = x.fine q (LoadBack w s) e in
             let rest = lost (same m.tail w.from) (lag m) in

@@ -10,9 +10,9 @@ use Rattle.bounded_model.specs.declared.history.Event.TheVariants.{Put, Take, Cl
 use Rattle.bounded_model.specs.Histories.{own}
 use Rattle.machine.specs.Schedule.{Act}
 use Rattle.ring_machine.specs.declared.lines.Call.{Call}
-use Rattle.ring_machine.specs.declared.lines.Call.TheVariants.{Put as CallPut, Take as CallTake, Close as CallClose, Shut as CallShut, Look as CallLook, Len as CallLen}
+use Rattle.ring_machine.specs.declared.lines.Call.TheVariants.{Put as CallPut, Take as CallTake, Close as CallClose, Shut as CallShut, Look as CallLook, Len as CallLen, Gauge as CallGauge}
 use Rattle.ring_machine.specs.declared.lines.Answer.{Answer}
-use Rattle.ring_machine.specs.declared.lines.Answer.TheVariants.{Put as AnswerPut, Take as AnswerTake, Close as AnswerClose, Shut as AnswerShut, Look as AnswerLook, Len as AnswerLen}
+use Rattle.ring_machine.specs.declared.lines.Answer.TheVariants.{Put as AnswerPut, Take as AnswerTake, Close as AnswerClose, Shut as AnswerShut, Look as AnswerLook, Len as AnswerLen, Gauge as AnswerGauge}
 use Rattle.ring_machine.specs.declared.lines.Line.{Line}
 use Rattle.ring_machine.specs.declared.lines.Line.TheVariants.{Idle, PassTail, PassHead, Stow}
 use Rattle.ring_machine.specs.Machine.{is_idle, put_done, take_done, ring}
@@ -42,6 +42,7 @@ module _ {T : Type 0} (n laps cells : ℕ) where
     given p CallShut (AnswerShut false) mine made = inl (ap visible made, λ r. r)
     given p CallLook (AnswerLook empty) mine made = inl (ap visible made, λ r. r)
     given p CallLen (AnswerLen k) mine made = inl (ap visible made, λ r. r)
+    given p CallGauge (AnswerGauge closed used) mine made = inl (ap visible made, λ r. r)
     given p c a mine made = absurd made
 
   -- a call whose answer is known already has taken effect

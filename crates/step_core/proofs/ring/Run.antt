@@ -9,7 +9,7 @@ use Rattle.machine.proofs.Scheduled.{run_kept}
 use Rattle.machine.proofs.Stories.{Told, Stays, stays_holds, start_stays}
 use Rattle.ring_machine.specs.declared.lines.Answer.{Answer}
 use Rattle.ring_machine.specs.declared.lines.Call.{Call}
-use Rattle.ring_machine.specs.declared.lines.Call.TheVariants.{Put as CallPut, Take as CallTake, Close as CallClose, Shut as CallShut, Look as CallLook, Len as CallLen}
+use Rattle.ring_machine.specs.declared.lines.Call.TheVariants.{Put as CallPut, Take as CallTake, Close as CallClose, Shut as CallShut, Look as CallLook, Len as CallLen, Gauge as CallGauge}
 use Rattle.ring_machine.specs.declared.lines.Line.{Line}
 use Rattle.ring_machine.specs.declared.lines.Line.TheVariants.{Idle}
 use Rattle.ring_machine.specs.Machine.{Memory, Pass, State, cell_of, is_home, is_idle, starts, first_of, resting, full_at, ring}
@@ -52,6 +52,7 @@ module _ {T : Type 0} (n laps cells : ℕ) where
   first_fine m h c CallShut = tt
   first_fine m h c CallLook = tt
   first_fine m h c CallLen = tt
+  first_fine m h c CallGauge = tt
 
   first_cell : (c : ℕ) (call : Call T) → cell_of (first_of c call) ≡ c
   first_cell c (CallPut v) = refl
@@ -60,6 +61,7 @@ module _ {T : Type 0} (n laps cells : ℕ) where
   first_cell c CallShut = refl
   first_cell c CallLook = refl
   first_cell c CallLen = refl
+  first_cell c CallGauge = refl
 
   pub starts_busy : (call : Call T) (l : Line T) → is_idle (starts call l) ≡ false
   starts_busy (CallPut v) l = refl
@@ -68,6 +70,7 @@ module _ {T : Type 0} (n laps cells : ℕ) where
   starts_busy CallShut l = refl
   starts_busy CallLook l = refl
   starts_busy CallLen l = refl
+  starts_busy CallGauge l = refl
 
   -- a pass between two calls has nothing in hand
   idle_home : (l : Line T) → is_idle l ≡ true → is_home l ≡ true
@@ -82,6 +85,7 @@ module _ {T : Type 0} (n laps cells : ℕ) where
   first_tells c CallShut seen = tt
   first_tells c CallLook seen = tt
   first_tells c CallLen seen = tt
+  first_tells c CallGauge seen = tt
 
   pub ring_told : Told (ring (shape n laps)) Rule Story
   ring_told = record {

@@ -4,7 +4,7 @@ use Rattle.std.proofs.Common.{◌≡◌, ℕ, ◌+◌, ◌-◌, ◌≤◌, ◌<�
 use Rattle.machine.specs.Words.{Tagged, same}
 use Rattle.machine.proofs.Tests.{lost, lost_small, lost_grows}
 use Rattle.ring_machine.specs.declared.lines.Back.{Back}
-use Rattle.ring_machine.specs.declared.lines.Back.TheVariants.{ToPut, ToClose, ToCount}
+use Rattle.ring_machine.specs.declared.lines.Back.TheVariants.{ToPut, ToClose, ToCount, ToGauge}
 use Rattle.ring_machine.specs.declared.lines.Front.{Front}
 use Rattle.ring_machine.specs.declared.lines.Front.TheVariants.{ToTake, ToShut, ToLook, ToCount as ToCountFrom}
 use Rattle.ring_machine.specs.declared.lines.Line.{Line}
@@ -95,6 +95,7 @@ module _ {T : Type 0} where
   turn slot g e (ToPut v) = 2
   turn slot g e ToClose = 1
   turn slot g e (ToCount front) = 1 + lost (not (was_emptied slot front)) (5 + g + e)
+  turn slot g e ToGauge = 0
 
   abbrev pub weight_of : (head tail : Tagged) (slot : ℕ → Tagged) (g e : ℕ) → Line T → ℕ
   weight_of head tail slot g e (Idle c a) = 0
@@ -132,6 +133,7 @@ module _ {T : Type 0} where
   back_harm (ToPut v) = 40
   back_harm ToClose = 22
   back_harm (ToCount front) = 0
+  back_harm ToGauge = 0
 
   abbrev pub harm : Line T → ℕ
   harm (Idle c a) = 0
@@ -156,11 +158,13 @@ module _ {T : Type 0} where
   turn_small slot g e (ToPut v) = omega arith
   turn_small slot g e ToClose = omega arith
   turn_small slot g e (ToCount front) = omega (arith, lost_small (not (was_emptied slot front)) (5 + g + e))
+  turn_small slot g e ToGauge = omega arith
 
   back_harm_small : (s : Back T) → back_harm s ≤ 40
   back_harm_small (ToPut v) = omega arith
   back_harm_small ToClose = omega arith
   back_harm_small (ToCount front) = omega arith
+  back_harm_small ToGauge = omega arith
 
   pub lag_small : (m : Memory T) → lag m ≤ 10
   lag_small m = lost_small (not (was_filled m.slot m.tail)) 10
@@ -173,6 +177,7 @@ module _ {T : Type 0} where
   turn_grows slot g e g' e' (ToPut v) h h' = omega arith
   turn_grows slot g e g' e' ToClose h h' = omega arith
   turn_grows slot g e g' e' (ToCount front) h h' = omega (arith, lost_grows (not (was_emptied slot front)) (5 + g + e) (5 + g' + e') (omega (arith, h, h')))
+  turn_grows slot g e g' e' ToGauge h h' = omega arith
 
   -- the tail has come to the back: no line weighs more
   pub tail_raise : (head tail tail' : Tagged) (slot : ℕ → Tagged) (g e : ℕ) (l : Line T) → weight_of head tail' slot 0 e l ≤ weight_of head tail slot g e l

@@ -6,12 +6,12 @@ use Rattle.bounded_model.specs.declared.history.Event.TheVariants.{Put, Take, Cl
 use Rattle.bounded_model.specs.declared.answers.PutRefused.TheVariants.{Full, Closed, Spent}
 use Rattle.bounded_model.specs.Justified as right
 use Rattle.ring_machine.specs.declared.lines.Call.{Call}
-use Rattle.ring_machine.specs.declared.lines.Call.TheVariants.{Put as CallPut, Take as CallTake, Close as CallClose, Shut as CallShut, Look as CallLook, Len as CallLen}
+use Rattle.ring_machine.specs.declared.lines.Call.TheVariants.{Put as CallPut, Take as CallTake, Close as CallClose, Shut as CallShut, Look as CallLook, Len as CallLen, Gauge as CallGauge}
 use Rattle.ring_machine.specs.declared.lines.Answer.{Answer}
-use Rattle.ring_machine.specs.declared.lines.Answer.TheVariants.{Put as AnswerPut, Take as AnswerTake, Close as AnswerClose, Shut as AnswerShut, Look as AnswerLook, Len as AnswerLen}
+use Rattle.ring_machine.specs.declared.lines.Answer.TheVariants.{Put as AnswerPut, Take as AnswerTake, Close as AnswerClose, Shut as AnswerShut, Look as AnswerLook, Len as AnswerLen, Gauge as AnswerGauge}
 use Rattle.ring_machine.specs.declared.lines.Line.{Line}
 use Rattle.ring_machine.specs.declared.lines.Line.TheVariants.{Idle}
-use Rattle.ring_machine.specs.Answers.{shape}
+use Rattle.ring_machine.specs.Answers.{shape, IsGauged}
 use Rattle.step_core.specs.Linearizable.{Object}
 
 module _ {T : Type 0} where
@@ -34,6 +34,7 @@ module _ {T : Type 0} where
   IsSaid n laps h CallShut (AnswerShut false) = right.Justifies (shape n laps) h right.NotShut
   IsSaid n laps h CallLook (AnswerLook empty) = right.Justifies (shape n laps) h (right.Looked empty)
   IsSaid n laps h CallLen (AnswerLen k) = right.Justifies (shape n laps) h (right.Counted k)
+  IsSaid n laps h CallGauge (AnswerGauge closed used) = IsGauged n laps closed used h
   IsSaid n laps h call a = ⊥
 
   -- the ring of n slots

@@ -1,0 +1,34 @@
+-- Where a gauge goes on.
+use Rattle.std.proofs.Common.{◌≡◌, ℕ, Bool, List, [], refl, sym, subst}
+use Rattle.std.specs.Prelude.{Option as Slot}
+use Rattle.tagged_index.specs.Fields.{fields_of}
+use Rattle.ring_machine.specs.declared.lines.Back.TheVariants.{ToGauge}
+use Rattle.ring_machine.specs.Machine.{place}
+use Rattle.running.specs.Code.{Came}
+use Rattle.running.specs.declared.access.Outcome.{Outcome}
+use Rattle.running.specs.declared.code.Next.{Next}
+use Rattle.running.specs.declared.code.Next.TheVariants.{On, Done}
+use Rattle.ring_queue.specs.declared.gauging.Gauge.{Gauge}
+use Rattle.ring_queue.specs.declared.gauging.GaugeAt.{GaugeAt}
+use Rattle.ring_queue.specs.declared.queue.Answered.{Answered}
+use Rattle.ring_queue.specs.declared.queue.RingQueue.{RingQueue}
+use Rattle.ring_queue.specs.declared.walking.Found.{Found}
+use Rattle.ring_queue.specs.declared.walking.WalkAt.{WalkAt}
+use Rattle.ring_queue.specs.Gauging.{gauge_account, gauge_line}
+use Rattle.ring_queue.specs.Ring.{machine_of, room_of}
+use Rattle.ring_queue.specs.Walking.{to_back, WalkedTo}
+use Rattle.ring_queue.proofs.Walks.{busy, LeadsTo, walk_goes, walk_ends}
+
+module _ {T : Type 0} (c : RingQueue T) (s : GaugeAt) (r : Outcome) (has : List (ℕ × Slot T)) (came : Came (machine_of c).core (gauge_line s) r [] has) where
+  abbrev pub Gauging : Next GaugeAt (Answered Gauge) → Type 0
+  Gauging next = LeadsTo c (gauge_account c.table.shared.key) s r has has next
+
+  pub gauge_goes : (to : WalkAt) → WalkedTo c (to_back ToGauge) s.at r [] has (On to) → Gauging (On (record { at = to }))
+  gauge_goes to walked = walk_goes c (gauge_account c.table.shared.key) s (to_back ToGauge) s.at refl r has has came to walked (record { at = to })
+      (λ l e. record { same = refl; is = e.0; busy = busy {T = T} (to_back ToGauge) to; hand = e.1; knows = e.2 })
+
+  -- the mark is that of the slot, and the number the place of the position
+  pub gauge_ends : (end : Found) → WalkedTo c (to_back ToGauge) s.at r [] has (Done end) → (closed : Bool) (used : ℕ) → closed ≡ (fields_of end.slot).mark → used ≡ place (room_of c) (fields_of end.walk.at)
+      → Gauging (Done (record { spare = end.walk.spare; answer = record { closed = closed; used = used } }))
+  gauge_ends end walked closed used ec eu = subst (λ (g : Gauge). Gauging (Done (record { spare = end.walk.spare; answer = g }))) (λ i. record { closed = sym ec i; used = sym eu i })
+      (walk_ends c (gauge_account c.table.shared.key) s (to_back ToGauge) s.at refl r has has came end walked (Done (record { spare = end.walk.spare; answer = record { closed = (fields_of end.slot).mark; used = place (room_of c) (fields_of end.walk.at) } })) (λ l e. record { is = e.0; hand = e.1 }))

@@ -1,0 +1,113 @@
+//! Gauging a ring: whether it is closed, and how many values were put. By steps, and by a whole call.
+ghost use Rattle.std.specs.Prelude.{◌≡◌};
+ghost use Rattle.bounded_model.specs.Stepping.{no_step};
+ghost use Rattle.running.specs.Ops.{underway_of};
+ghost use Rattle.ring_queue.specs.Gauging.{GaugeGives, IsGauging};
+ghost use Rattle.ring_queue.specs.Ring.{IsPassOf, laps_of, machine_of, pass_in, room_of};
+
+use crate::queue::{Answered, Pass, RingQueue};
+use crate::rule::Ringed;
+use crate::walking::WalkAt;
+use atomic_table::Seat;
+use machine::seats::View;
+use ring_table::layout::TAIL;
+use ring_table::{Operation, SeatLine};
+use running::{Access, Call, Code, Next, Op, Outcome, first_step, to_the_end};
+use std::sync::Wait;
+
+/// A gauge that was begun.
+pub type GaugeOp<T> = Op<T, SeatLine<T>, Operation<T>, GaugeAt>;
+
+/// What a gauge shows.
+#[derive(Clone, Copy, Debug, PartialEq, Eq)]
+pub struct Gauge {
+    /// Whether the ring was closed.
+    pub closed: bool,
+    /// How many values were put, of those that the ring can take: its laps times its capacity.
+    pub used: u64,
+}
+
+/// The next step of a gauge: one of the way to the back.
+#[derive(Clone, Copy)]
+pub struct GaugeAt {
+    pub(crate) at: WalkAt,
+}
+
+impl<T> RingQueue<T> {
+    /// Whether the ring was closed, and how many values were put, both at one time since its pass's last
+    /// step before the call. It walks further while values are put.
+    pub fn gauge<R: Wait>(&self, rt: &R, by: Pass<T>) -> (Pass<T>, Gauge)
+        requires { IsPassOf self.now by }
+        ensures of { IsPassOf self.now result.0 }
+        ensures gives { GaugeGives (room_of self.now) (laps_of self.now)
+            (pass_in by) (pass_in result.0) result.1 }
+    {
+        let Pass { pass, spare } = by;
+        let table = &self.table.shared;
+        let gauge = Operation::Gauge;
+        let begun = GaugeAt {
+            at: WalkAt::LoadHint(spare),
+        };
+        let first = first_step(table, self, pass, begun, &gauge);
+        let (pass, Answered { spare, answer }) = to_the_end(rt, table, self, first, &gauge);
+        (Pass { pass, spare }, answer)
+    }
+
+    /// A gauge that makes no step yet.
+    #[inline]
+    pub fn begin_gauge(&self, by: Pass<T>) -> GaugeOp<T>
+        requires { IsPassOf self.now by }
+        ensures { IsGauging self.now result
+            × (underway_of (machine_of self.now) result.pass ≡ no_step (pass_in by)) }
+    {
+        let Pass { pass, spare } = by;
+        let begun = GaugeAt {
+            at: WalkAt::LoadHint(spare),
+        };
+        Op::begin(self, pass, Operation::Gauge, begun)
+    }
+}
+
+impl<T> Code<RingQueue<T>, T, SeatLine<T>, Operation<T>, Ringed, Answered<Gauge>, 0> for GaugeAt {
+    ghost use Rattle.ring_queue.specs.Gauging.{gauge_account};
+
+    ghost account = { gauge_account };
+
+    #[inline(always)]
+    fn access(&self, on: &RingQueue<T>) -> Access {
+        on.walk_access(TAIL, &self.at)
+    }
+
+    #[inline(always)]
+    fn next(
+        self,
+        on: &RingQueue<T>,
+        _seat: &mut Seat<Option<T>, View<T, SeatLine<T>>>,
+        outcome: Outcome,
+    ) -> Next<GaugeAt, Answered<Gauge>> {
+        match on.walk_on(0, self.at, outcome) {
+            Next::On(at) => Next::On(GaugeAt { at }),
+            Next::Lost(at) => Next::Lost(GaugeAt { at }),
+            // One word says both: the slot at the back has the mark of a closed ring, and its position is
+            // the number of values put.
+            Next::Done(end) => Next::Done(Answered {
+                spare: end.walk.spare,
+                answer: Gauge {
+                    closed: end.slot.is_marked(),
+                    used: on.place_of(end.walk.at),
+                },
+            }),
+        }
+    }
+}
+
+impl<T> Call<RingQueue<T>, T, SeatLine<T>, Operation<T>, Ringed, Answered<Gauge>, 0> for GaugeAt {
+    ghost use Rattle.std.specs.Prelude.{refl};
+    ghost use Rattle.ring_queue.specs.KeepsGauge.{gauge_promises, gauge_keeps};
+
+    ghost promises = { gauge_promises };
+
+    ghost idle = { λ key o answer. refl };
+
+    ghost keeps = { gauge_keeps };
+}
