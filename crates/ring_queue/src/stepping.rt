@@ -18,7 +18,7 @@ use running::{Call, Next, Op, single_step, try_for};
 impl<T> RingQueue<T> {
     /// One step of the machine, an act of its pass, of an operation that ends with a spare cell and an answer.
     #[inline]
-    pub(crate) fn step_op<S, A>(
+    pub fn step_op<S, A>(
         &self,
         op: Op<T, SeatLine<T>, Operation<T>, S>,
     ) -> Stepped<Op<T, SeatLine<T>, Operation<T>, S>, Pass<T>, A>
