@@ -11,3 +11,4 @@ pub mod Counts
 pub mod Takes
 pub mod Puts
 pub mod FastPath
+pub mod Positions

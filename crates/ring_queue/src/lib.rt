@@ -20,6 +20,7 @@ mod container;
 mod counting;
 mod ending;
 mod limits;
+mod look_fast;
 mod looking;
 mod making;
 mod naming;
