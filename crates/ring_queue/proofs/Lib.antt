@@ -11,4 +11,3 @@ pub mod Counts
 pub mod Takes
 pub mod Puts
 pub mod FastPath
-pub mod Positions

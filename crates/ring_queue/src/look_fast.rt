@@ -1,7 +1,6 @@
 //! A look's fast path: the load of the hint, and the walk to the front. It repeats what the loop over
-//! steps (`to_the_end`, `run_for`) does: that loop holds a look's state in memory, and finds out anew
-//! before each load what to do. Between two steps here there are plain words alone. Of a look at a
-//! ring the count of instructions to compare is that of both loads and of 3.5 steps of the walk.
+//! steps does, for the reason that `put_fast` has. The count to look at is the instructions of a look
+//! at an empty ring.
 ghost use Rattle.std.specs.Prelude.{◌≡◌};
 ghost use Rattle.ring_table.specs.declared.operation.Operation.TheVariants.{Look as LookFirst};
 ghost use Rattle.ring_queue.specs.Looking.{LookStands, LookRan, slot_loaded};

@@ -1,8 +1,8 @@
 //! Going to the back or to the front, along the positions from one that a hint names: the same steps
 //! for all operations.
-ghost use Rattle.std.specs.Prelude.{◌≡◌, ℕ, ◌+◌, ◌<◌, ◌≤◌, List, Option as Slot};
-ghost use Rattle.tagged_index.specs.Fields.{fields_of, index_of, kept, tag_of};
-ghost use Rattle.tagged_index.specs.declared.word.TheConstants.{MAX_TAG, NULL};
+ghost use Rattle.std.specs.Prelude.{◌≡◌, ℕ, ◌<◌, ◌≤◌, List, Option as Slot};
+ghost use Rattle.tagged_index.specs.Fields.{fields_of, index_of, tag_of};
+ghost use Rattle.tagged_index.specs.declared.word.TheConstants.{MAX_TAG};
 ghost use Rattle.ring_machine.specs.Machine.{behind, place};
 ghost use Rattle.ring_table.specs.Layout.{slot_at};
 ghost use Rattle.ring_table.specs.Lists.{lists};
@@ -71,15 +71,6 @@ pub struct Found {
     pub(crate) slot: Tagged,
 }
 
-// The position one slot further in the same lap: an index is the lowest field of its word.
-#[inline(always)]
-fn next_slot(at: Tagged) -> Tagged
-    requires { index_of at < NULL }
-    ensures { fields_of result ≡ kept (fields_of at) (index_of at + 1) }
-{
-    Tagged::from_word(at.word() + 1)
-}
-
 impl<T> RingQueue<T> {
     /// The word of the slot at a position.
     #[inline(always)]
@@ -125,7 +116,7 @@ impl<T> RingQueue<T> {
         if at.index() + 1 == room {
             raised(at, 0)
         } else {
-            next_slot(at)
+            at.kept(at.index() + 1)
         }
     }
 
