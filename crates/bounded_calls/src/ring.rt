@@ -105,6 +105,6 @@ impl BoundedCalls<u64> for RingQueue<u64> {
 
     #[inline(always)]
     fn look_at_once(&self, by: Pass<u64>) -> Stepped<RingOperation, Pass<u64>, Reply<u64>> {
-        Stepped::Again(Operation::Look(self.begin_look(by)))
+        of_kind!(Look, self.look_at_once(by))
     }
 }

@@ -7,7 +7,8 @@ use Rattle.ring_machine.specs.declared.lines.Front.TheVariants.{ToLook}
 use Rattle.ring_machine.specs.Machine.{ends}
 use Rattle.running.specs.Code.{Account, to_answer}
 use Rattle.running.specs.Ops.{IsUnderWay}
-use Rattle.running.specs.Steps.{Stands}
+use Rattle.running.specs.Steps.{Stands, Ran}
+use Rattle.running.specs.declared.code.Next.{Next}
 use Rattle.running.specs.declared.op.Op.{Op}
 use Rattle.running.specs.declared.passes.Pass.{Pass}
 use Rattle.ring_table.specs.declared.line.SeatLine.{SeatLine}
@@ -17,11 +18,17 @@ use Rattle.ring_table.specs.declared.operation.Operation.TheVariants.{Look as Lo
 use Rattle.ring_queue.specs.declared.looking.LookAt.{LookAt}
 use Rattle.ring_queue.specs.declared.queue.Answered.{Answered}
 use Rattle.ring_queue.specs.declared.queue.RingQueue.{RingQueue}
+use Rattle.ring_queue.specs.declared.walking.Walk.{Walk}
+use Rattle.ring_queue.specs.declared.walking.WalkAt.TheVariants.{LoadSlot}
 use Rattle.ring_queue.specs.Ring.{machine_of}
 use Rattle.ring_queue.specs.Walking.{to_front, walk_line, IsRead}
 
 abbrev pub LookOp : Type 0 → Type 0
 LookOp T = Op T (SeatLine T) (Operation T) LookAt
+
+-- its next load is that of the slot that the walk has come to
+abbrev pub slot_loaded : Walk → LookAt
+slot_loaded w = record { at = LoadSlot w }
 
 module _ {T : Type 0} where
   -- the machine's line
@@ -31,6 +38,10 @@ module _ {T : Type 0} where
   -- how it is read
   abbrev pub look_account : Limits → Account T (SeatLine T) (Operation T) LookAt (Answered Bool)
   look_account k = to_answer (λ s. LookFirst) look_line (λ s. []) (λ s. IsRead (capacity_of k) s.at) (λ o a. At (ends a.spare.index (AnswerLook a.answer)))
+
+  -- what some steps of it give
+  abbrev pub LookRan : RingQueue T → Operation T → Pass T (SeatLine T) → Pass T (SeatLine T) → Next LookAt (Answered Bool) → Type 0
+  LookRan c o p q r = Ran (machine_of c) (look_account c.table.shared.key) c.table.shared.table_id o p q r
 
   -- an operation is at this
   abbrev pub LookStands : RingQueue T → Pass T (SeatLine T) → LookAt → Type 0

@@ -1,14 +1,15 @@
 -- A call that made a bounded number of steps: it is under way, begun as before, or it gave what the whole call gives.
-use Rattle.std.specs.Prelude.{◌≡◌, ℕ, Result}
+use Rattle.std.specs.Prelude.{◌≡◌, ℕ, Bool, Result}
 use Rattle.bounded_model.specs.declared.answers.PutRefused.{PutRefused}
 use Rattle.bounded_model.specs.declared.answers.Stepped.{Stepped}
 use Rattle.bounded_model.specs.declared.answers.TakeRefused.{TakeRefused}
 use Rattle.bounded_model.specs.declared.views.PassView.{PassView}
-use Rattle.bounded_model.specs.Laws.{PutGives, TakeGives}
+use Rattle.bounded_model.specs.Laws.{LookGives, PutGives, TakeGives}
 use Rattle.bounded_model.specs.Stepping.{MatchStepped}
 use Rattle.running.specs.Passes.{begun_of}
 use Rattle.ring_queue.specs.declared.queue.Pass.{Pass}
 use Rattle.ring_queue.specs.declared.queue.RingQueue.{RingQueue}
+use Rattle.ring_queue.specs.Looking.{IsLooking, LookOp}
 use Rattle.ring_queue.specs.Putting.{IsPutting, PutOp}
 use Rattle.ring_queue.specs.Ring.{machine_of, shape_of, pass_in, IsPassOf}
 use Rattle.ring_queue.specs.Taking.{IsTaking, TakeOp}
@@ -18,6 +19,11 @@ module _ {T : Type 0} (c : RingQueue T) where
   PutTried x begun made = MatchStepped made
       (λ next. IsPutting c x next × (begun_of (machine_of c) next.pass ≡ begun))
       (λ back answer. IsPassOf c back × PutGives (shape_of c) begun x (pass_in back) answer)
+
+  abbrev pub LookTried : PassView T → Stepped (LookOp T) (Pass T) Bool → Type 0
+  LookTried begun made = MatchStepped made
+      (λ next. IsLooking c next × (begun_of (machine_of c) next.pass ≡ begun))
+      (λ back empty. IsPassOf c back × LookGives (shape_of c) begun (pass_in back) empty)
 
   abbrev pub TakeTried : PassView T → Stepped (TakeOp T) (Pass T) (Result (T × ℕ) TakeRefused) → Type 0
   TakeTried begun made = MatchStepped made

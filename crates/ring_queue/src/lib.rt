@@ -21,6 +21,7 @@ mod counting;
 mod ending;
 mod gauging;
 mod limits;
+mod look_fast;
 mod looking;
 mod making;
 mod naming;

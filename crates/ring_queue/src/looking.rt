@@ -13,7 +13,7 @@ use atomic_table::Seat;
 use machine::seats::View;
 use ring_table::layout::HEAD;
 use ring_table::{Operation, SeatLine};
-use running::{Access, Call, Code, Next, Op, Outcome, first_step, to_the_end};
+use running::{Access, Call, Code, Next, Op, Outcome, to_the_end};
 use std::sync::Wait;
 
 /// A look that was begun.
@@ -32,13 +32,9 @@ impl<T> RingQueue<T> {
         ensures of { IsPassOf self.now result.0 }
         ensures gives { LookGives (shape_of self.now) (pass_in by) (pass_in result.0) result.1 }
     {
-        let Pass { pass, spare } = by;
         let table = &self.table.shared;
         let look = Operation::Look;
-        let begun = LookAt {
-            at: WalkAt::LoadHint(spare),
-        };
-        let first = first_step(table, self, pass, begun, &look);
+        let first = self.look_fast(by, &look);
         let (pass, Answered { spare, answer }) = to_the_end(rt, table, self, first, &look);
         (Pass { pass, spare }, answer)
     }

@@ -1,6 +1,9 @@
 //! A put's fast path: the value goes into the spare cell, the walk to the back follows, and the cell
-//! is exchanged for that of the slot there. Between two steps there are plain words alone, which the
-//! compiler keeps in registers.
+//! is exchanged for that of the slot there; or the value is refused. It repeats what the loop over
+//! steps does (`to_the_end`, `run_for`), which holds a put's state in memory and finds out anew before
+//! each step what to do. Between two steps here there are plain words alone, which the compiler keeps
+//! in registers. The counts to look at are the instructions of a put and a take in turn on one thread,
+//! and those of a put to a full ring.
 ghost use Rattle.std.specs.Prelude.{◌≡◌};
 ghost use Rattle.ring_queue.specs.Putting.{PutStands, PutRan, put_of};
 ghost use Rattle.ring_queue.specs.Ring.{IsPassOf};
@@ -40,10 +43,10 @@ impl<T> RingQueue<T> {
             aside();
             return (pass, Next::On(PutAt::Walking(shown, walking)));
         };
-        let (pass, shown, end) = fast_step!(
-            self.put_fast_walk(pass, shown, walk, put),
-            PutAt::Exchange(shown, end) => shown, end
-        );
+        let (pass, at) = fast_step!(self.put_fast_walk(pass, shown, walk, put));
+        let PutAt::Exchange(shown, end) = at else {
+            return self.put_fast_refuse(pass, at, put);
+        };
         // One put in eight has to move the tail as well.
         let exchange = PutAt::Exchange(shown, end);
         let (pass, at) = match any(table, self, pass, exchange, put) {
@@ -51,6 +54,29 @@ impl<T> RingQueue<T> {
             other => return other,
         };
         any(table, self, pass, at, put)
+    }
+
+    // The way home of the spare cell, where the value is refused. It is a function of its own, and cold,
+    // so that a put that is not refused does not pass over that code.
+    #[cold]
+    #[inline(never)]
+    fn put_fast_refuse(
+        &self,
+        by: running::Pass<T, SeatLine<T>>,
+        there: PutAt<T>,
+        put: &Operation<T>,
+    ) -> (
+        running::Pass<T, SeatLine<T>>,
+        Next<PutAt<T>, Answered<Answer<T>>>,
+    )
+        requires stands { PutStands self.now put.now by there }
+        ensures { PutRan self.now put.now by result.0 result.1 }
+    {
+        let PutAt::Stow(walk, why) = there else {
+            aside();
+            return (by, Next::On(there));
+        };
+        any(&self.table.shared, self, by, PutAt::Stow(walk, why), put)
     }
 
     // The walk, as long as the hint is near enough.

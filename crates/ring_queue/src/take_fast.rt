@@ -1,6 +1,7 @@
 //! A take's fast path: the walk to the front, the exchange of the spare cell for that of the slot
-//! there, and the way of the emptied cell home. Between two steps there are plain words alone, which
-//! the compiler keeps in registers.
+//! there, and the way of the emptied cell home. It repeats what the loop over steps does, for the
+//! reason that `put_fast` has. The counts to look at are the instructions of a put and a take in turn
+//! on one thread, and those of a take from an empty ring.
 ghost use Rattle.std.specs.Prelude.{◌≡◌};
 ghost use Rattle.ring_table.specs.declared.operation.Operation.TheVariants.{Take as TakeFirst};
 ghost use Rattle.ring_queue.specs.Ring.{IsPassOf};

@@ -1,8 +1,9 @@
 //! Calls that make a bounded number of steps, for callers that may not wait. Once the steps are
 //! used up, the operation comes back as it is, begun as before.
 ghost use Rattle.ring_queue.specs.Ring.{IsPassOf, pass_in};
-ghost use Rattle.ring_queue.specs.Trying.{PutTried, TakeTried};
+ghost use Rattle.ring_queue.specs.Trying.{LookTried, PutTried, TakeTried};
 
+use crate::looking::LookOp;
 use crate::putting::{PutOp, put_operation};
 use crate::queue::{Answered, Pass, RingQueue};
 use crate::taking::TakeOp;
@@ -51,6 +52,27 @@ impl<T> RingQueue<T> {
             Stepped::Again((pass, at)) => Stepped::Again(TakeOp {
                 pass,
                 operation: take,
+                at,
+            }),
+            Stepped::Done(pass, answered) => {
+                let Answered { spare, answer } = answered;
+                Stepped::Done(Pass { pass, spare }, answer)
+            }
+        }
+    }
+
+    /// Looks whether the ring is empty, in the same way.
+    #[inline(always)]
+    pub fn look_at_once(&self, by: Pass<T>) -> Stepped<LookOp<T>, Pass<T>, bool>
+        requires { IsPassOf self.now by }
+        ensures { LookTried self.now (pass_in by) result }
+    {
+        let look = Operation::Look;
+        let first = self.look_fast(by, &look);
+        match at_once(self, first, &look) {
+            Stepped::Again((pass, at)) => Stepped::Again(LookOp {
+                pass,
+                operation: look,
                 at,
             }),
             Stepped::Done(pass, answered) => {
