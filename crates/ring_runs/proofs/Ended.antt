@@ -6,7 +6,7 @@ use Rattle.machine.specs.Schedule.{Schedule, start}
 use Rattle.machine.specs.Seats.{Acts}
 use Rattle.machine.proofs.Paying.{AnyCall, any_call, calls_end}
 use Rattle.ring_machine.specs.declared.lines.Call.{Call}
-use Rattle.ring_machine.specs.declared.lines.Call.TheVariants.{Put as CallPut, Take as CallTake, Close as CallClose, Shut as CallShut, Look as CallLook, Len as CallLen}
+use Rattle.ring_machine.specs.declared.lines.Call.TheVariants.{Put as CallPut, Take as CallTake, Close as CallClose, Shut as CallShut, Look as CallLook, Len as CallLen, Gauge as CallGauge}
 use Rattle.ring_table.specs.declared.line.SeatLine.{SeatLine}
 use Rattle.ring_table.specs.declared.line.SeatLine.TheVariants.{At, Stock}
 use Rattle.ring_table.specs.Core.{core}
@@ -33,6 +33,7 @@ module _ {T : Type 0} (k : ℕ) where
   from_small CallShut = omega arith
   from_small CallLook = omega arith
   from_small CallLen = omega arith
+  from_small CallGauge = omega arith
 
   line_small : (m : Pool T) (l : PoolLine T) → weighed m l + harmed l * k ≤ 47 + 40 * k
   line_small m (Gets from call) = from_small call

@@ -10,9 +10,9 @@ use Rattle.bounded_model.specs.Histories.{own}
 use Rattle.machine.specs.Seats.{Acts}
 use Rattle.machine.proofs.Sums.{at_map}
 use Rattle.ring_machine.specs.declared.lines.Answer.{Answer}
-use Rattle.ring_machine.specs.declared.lines.Answer.TheVariants.{Put as AnswerPut, Take as AnswerTake, Close as AnswerClose, Shut as AnswerShut, Look as AnswerLook, Len as AnswerLen}
+use Rattle.ring_machine.specs.declared.lines.Answer.TheVariants.{Put as AnswerPut, Take as AnswerTake, Close as AnswerClose, Shut as AnswerShut, Look as AnswerLook, Len as AnswerLen, Gauge as AnswerGauge}
 use Rattle.ring_machine.specs.declared.lines.Call.{Call}
-use Rattle.ring_machine.specs.declared.lines.Call.TheVariants.{Put as CallPut, Take as CallTake, Close as CallClose, Shut as CallShut, Look as CallLook, Len as CallLen}
+use Rattle.ring_machine.specs.declared.lines.Call.TheVariants.{Put as CallPut, Take as CallTake, Close as CallClose, Shut as CallShut, Look as CallLook, Len as CallLen, Gauge as CallGauge}
 use Rattle.ring_machine.specs.declared.lines.Line.{Line}
 use Rattle.ring_machine.specs.declared.lines.Line.TheVariants.{Idle}
 use Rattle.ring_machine.specs.Deeds.{Makes}
@@ -43,6 +43,7 @@ module _ {T : Type 0} (k : ℕ) where
   worth_answer p CallShut (AnswerShut b) events made = omega arith
   worth_answer p CallLook (AnswerLook b) events made = omega arith
   worth_answer p CallLen (AnswerLen n) events made = omega arith
+  worth_answer p CallGauge (AnswerGauge closed used) events made = omega arith
   worth_answer p call a events made = absurd made
 
   pub fee_small : (a : Answered T) → fee k a ≤ 25 + 40 * k

@@ -4,7 +4,7 @@ use Rattle.std.proofs.lemmas.Bool.Decides.{nat_tests}
 use Rattle.machine.specs.Words.{Tagged, same}
 use Rattle.machine.proofs.Tests.{lost, lost_small, lost_more, lost_grows}
 use Rattle.ring_machine.specs.declared.lines.Back.{Back}
-use Rattle.ring_machine.specs.declared.lines.Back.TheVariants.{ToPut, ToClose, ToCount}
+use Rattle.ring_machine.specs.declared.lines.Back.TheVariants.{ToPut, ToClose, ToCount, ToGauge}
 use Rattle.ring_machine.specs.declared.lines.Front.{Front}
 use Rattle.ring_machine.specs.declared.lines.Front.TheVariants.{ToTake, ToShut, ToLook, ToCount as ToCountFrom}
 use Rattle.ring_machine.specs.declared.lines.Line.{Line}
@@ -55,6 +55,7 @@ module _ {T : Type 0} where
   turn_lags : (slot slot' : ℕ → Tagged) (g g' e e' : ℕ) (s : Back T) → SameFront slot slot' → g' + e' ≤ g + e + 10 → turn slot' g' e' s ≤ turn slot g e s + 10
   turn_lags slot slot' g g' e e' (ToPut v) same h = omega arith
   turn_lags slot slot' g g' e e' ToClose same h = omega arith
+  turn_lags slot slot' g g' e e' ToGauge same h = omega arith
   turn_lags slot slot' g g' e e' (ToCount front) same h =
       let there = was_emptied slot front in
       omega (
@@ -68,6 +69,7 @@ module _ {T : Type 0} where
   turn_passed : (slot slot' : ℕ → Tagged) (g e e' : ℕ) (s : Back T) → g ≤ 10 → e' ≤ 10 → turn slot' g e' s ≤ turn slot g e s + 25
   turn_passed slot slot' g e e' (ToPut v) h h' = omega arith
   turn_passed slot slot' g e e' ToClose h h' = omega arith
+  turn_passed slot slot' g e e' ToGauge h h' = omega arith
   turn_passed slot slot' g e e' (ToCount front) h h' = omega (arith, h, h', lost_small (not (was_emptied slot' front)) (5 + g + e'))
 
   -- a slot was filled, and the tail may lag
