@@ -2,8 +2,11 @@
 ghost use Rattle.std.specs.Prelude.{◌≡◌};
 ghost use Rattle.bounded_model.specs.Laws.{LenGives};
 ghost use Rattle.bounded_model.specs.Stepping.{no_step};
+ghost use Rattle.ring_machine.specs.declared.lines.Answer.TheVariants.{Len as AnswerLen};
+ghost use Rattle.ring_table.specs.declared.operation.Operation.TheVariants.{Len as LenFirst};
 ghost use Rattle.running.specs.Ops.{underway_of};
 ghost use Rattle.ring_queue.specs.Counting.{IsCounting};
+ghost use Rattle.ring_queue.specs.Ran.{WasRun};
 ghost use Rattle.ring_queue.specs.Ring.{IsPassOf, machine_of, pass_in, shape_of};
 
 use crate::queue::{Answered, Pass, RingQueue};
@@ -34,11 +37,12 @@ pub enum LenAt {
 
 impl<T> RingQueue<T> {
     /// How many values the ring held at some time since its pass's last step before the call, from
-    /// 0 to the capacity. It retries while values are taken.
+    /// 0 to the capacity. It retries while values are taken. The call was a run of the machine's steps.
     pub fn len<R: Wait>(&self, rt: &R, by: Pass<T>) -> (Pass<T>, u32)
         requires { IsPassOf self.now by }
         ensures of { IsPassOf self.now result.0 }
         ensures gives { LenGives (shape_of self.now) (pass_in by) (pass_in result.0) result.1 }
+        ensures ran { WasRun self.now LenFirst (pass_in by) result.0 (AnswerLen result.1) }
     {
         let Pass { pass, spare } = by;
         let table = &self.table.shared;

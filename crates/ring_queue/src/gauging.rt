@@ -1,8 +1,11 @@
 //! Gauging a ring: whether it is closed, and how many values were put. By steps, and by a whole call.
 ghost use Rattle.std.specs.Prelude.{◌≡◌};
 ghost use Rattle.bounded_model.specs.Stepping.{no_step};
+ghost use Rattle.ring_machine.specs.declared.lines.Answer.TheVariants.{Gauge as AnswerGauge};
+ghost use Rattle.ring_table.specs.declared.operation.Operation.TheVariants.{Gauge as GaugeFirst};
 ghost use Rattle.running.specs.Ops.{underway_of};
 ghost use Rattle.ring_queue.specs.Gauging.{GaugeGives, IsGauging};
+ghost use Rattle.ring_queue.specs.Ran.{WasRun};
 ghost use Rattle.ring_queue.specs.Ring.{IsPassOf, laps_of, machine_of, pass_in, room_of};
 
 use crate::queue::{Answered, Pass, RingQueue};
@@ -35,12 +38,14 @@ pub struct GaugeAt {
 
 impl<T> RingQueue<T> {
     /// Whether the ring was closed, and how many values were put, both at one time since its pass's last
-    /// step before the call. It walks further while values are put.
+    /// step before the call. It walks further while values are put. The call was a run of the machine's
+    /// steps.
     pub fn gauge<R: Wait>(&self, rt: &R, by: Pass<T>) -> (Pass<T>, Gauge)
         requires { IsPassOf self.now by }
         ensures of { IsPassOf self.now result.0 }
         ensures gives { GaugeGives (room_of self.now) (laps_of self.now)
             (pass_in by) (pass_in result.0) result.1 }
+        ensures ran { WasRun self.now GaugeFirst (pass_in by) result.0 (AnswerGauge result.1.closed result.1.used) }
     {
         let Pass { pass, spare } = by;
         let table = &self.table.shared;

@@ -2,8 +2,11 @@
 ghost use Rattle.std.specs.Prelude.{◌≡◌};
 ghost use Rattle.bounded_model.specs.Laws.{LookGives};
 ghost use Rattle.bounded_model.specs.Stepping.{no_step};
+ghost use Rattle.ring_machine.specs.declared.lines.Answer.TheVariants.{Look as AnswerLook};
+ghost use Rattle.ring_table.specs.declared.operation.Operation.TheVariants.{Look as LookFirst};
 ghost use Rattle.running.specs.Ops.{underway_of};
 ghost use Rattle.ring_queue.specs.Looking.{IsLooking};
+ghost use Rattle.ring_queue.specs.Ran.{WasRun};
 ghost use Rattle.ring_queue.specs.Ring.{IsPassOf, machine_of, pass_in, shape_of};
 
 use crate::queue::{Answered, Pass, RingQueue};
@@ -26,11 +29,13 @@ pub struct LookAt {
 }
 
 impl<T> RingQueue<T> {
-    /// Whether the ring was empty at some time since its pass's last step before the call.
+    /// Whether the ring was empty at some time since its pass's last step before the call. The call was
+    /// a run of the machine's steps.
     pub fn look<R: Wait>(&self, rt: &R, by: Pass<T>) -> (Pass<T>, bool)
         requires { IsPassOf self.now by }
         ensures of { IsPassOf self.now result.0 }
         ensures gives { LookGives (shape_of self.now) (pass_in by) (pass_in result.0) result.1 }
+        ensures ran { WasRun self.now LookFirst (pass_in by) result.0 (AnswerLook result.1) }
     {
         let table = &self.table.shared;
         let look = Operation::Look;

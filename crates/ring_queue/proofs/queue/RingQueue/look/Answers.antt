@@ -17,3 +17,10 @@ returns-clause-gives g c =
     let r = c.to_the_end-pass.result in
     let b = back q c.args.by r.0 r.1.spare (AnswerLook r.1.answer) c.requires (c.to_the_end-pass.ensures.stops c.args.by.pass c.look_fast-first.ensures) in
     look_gives (room_of q) (laps_of q) (passes_of q) r.0.seat.me.0 (pass_in c.args.by) r.1.spare.index r.1.answer b.ended
+
+pub returns-clause-ran : goal.returns-clause-ran
+returns-clause-ran g c =
+    let q = c.args.self.now in
+    let r = c.to_the_end-pass.result in
+    let b = back q c.args.by r.0 r.1.spare (AnswerLook r.1.answer) c.requires (c.to_the_end-pass.ensures.stops c.args.by.pass c.look_fast-first.ensures) in
+    b.ran
