@@ -44,23 +44,17 @@ impl<T> RingQueue<T> {
             return (pass, Next::On(PutAt::Walking(shown, walking)));
         };
         let (pass, at) = fast_step!(self.put_fast_walk(pass, shown, walk, put));
-        let PutAt::Exchange(shown, end) = at else {
-            return self.put_fast_refuse(pass, at, put);
-        };
-        // One put in eight has to move the tail as well.
-        let exchange = PutAt::Exchange(shown, end);
-        let (pass, at) = match any(table, self, pass, exchange, put) {
+        let (pass, at) = match self.put_fast_end(pass, at, put) {
             (pass, Next::On(at)) => (pass, at),
             other => return other,
         };
-        any(table, self, pass, at, put)
+        self.put_fast_pass(pass, at, put)
     }
 
-    // The way home of the spare cell, where the value is refused. It is a function of its own, and cold,
-    // so that a put that is not refused does not pass over that code.
-    #[cold]
-    #[inline(never)]
-    fn put_fast_refuse(
+    // At the back the exchange, which puts the value; or the way home of the spare cell, if the value
+    // is refused.
+    #[inline(always)]
+    fn put_fast_end(
         &self,
         by: running::Pass<T, SeatLine<T>>,
         there: PutAt<T>,
@@ -72,11 +66,42 @@ impl<T> RingQueue<T> {
         requires stands { PutStands self.now put.now by there }
         ensures { PutRan self.now put.now by result.0 result.1 }
     {
-        let PutAt::Stow(walk, why) = there else {
+        let table = &self.table.shared;
+        match there {
+            PutAt::Exchange(shown, end) => any(table, self, by, PutAt::Exchange(shown, end), put),
+            PutAt::Stow(walk, why) => any(table, self, by, PutAt::Stow(walk, why), put),
+            at => {
+                aside();
+                (by, Next::On(at))
+            }
+        }
+    }
+
+    // One put in eight has to move the tail as well.
+    #[inline(always)]
+    fn put_fast_pass(
+        &self,
+        by: running::Pass<T, SeatLine<T>>,
+        put_there: PutAt<T>,
+        put: &Operation<T>,
+    ) -> (
+        running::Pass<T, SeatLine<T>>,
+        Next<PutAt<T>, Answered<Answer<T>>>,
+    )
+        requires stands { PutStands self.now put.now by put_there }
+        ensures { PutRan self.now put.now by result.0 result.1 }
+    {
+        let PutAt::PassTail(shown, walk) = put_there else {
             aside();
-            return (by, Next::On(there));
+            return (by, Next::On(put_there));
         };
-        any(&self.table.shared, self, by, PutAt::Stow(walk, why), put)
+        any(
+            &self.table.shared,
+            self,
+            by,
+            PutAt::PassTail(shown, walk),
+            put,
+        )
     }
 
     // The walk, as long as the hint is near enough.
