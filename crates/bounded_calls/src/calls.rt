@@ -22,17 +22,17 @@ use bounded_model::{Command, Leaving, PutRefused, Reply, Stepped};
 /// What the first steps of a put have come to.
 pub enum PutMade<O, P, T> {
     Done(P, Result<u64, PutRefused<T>>),
-    /// It is under way: `run_for` goes on with it.
+    /// It is under way: `run_for` continues it.
     Again(O),
     /// There is no room: `refuse_at_once` says why.
     NoRoom(P, T),
 }
 
-/// A container whose calls give up after so many tries, and can then be gone on with. It gives the
-/// fast paths of its calls, the steps behind them, and two numbers.
+/// A container whose calls give up after a number of tries; the caller can continue them. It gives
+/// the fast paths of its calls, the steps after them, and two numbers.
 ///
-/// It is no `Container`, whose calls may wait: what is generic over this links none of them, so it
-/// may stand in a library for programs that have no runtime.
+/// It is no `Container`, whose calls may wait. Code that is generic over this trait links none of
+/// those, so a library for programs without a runtime can have it.
 pub trait BoundedCalls<T>: Drop {
     type Root: Drop;
 
@@ -126,9 +126,9 @@ pub trait BoundedCalls<T>: Drop {
         ensures tried { TriedFrom (reading self.now) ((reading self.now).pass by) Look result }
         ensures took { TookAtLeast (reading self.now) 0 ((reading self.now).pass by) result };
 
-    /// Goes on with a call for as many steps as so many tries are. One that is still under way then
-    /// was begun as before, and has made exactly so many steps more; one that has ended made at most
-    /// so many. A function of its own, so that its caller's code has nothing but the fast path.
+    /// Continues a call for the steps of this number of tries. If it is still under way then, it was
+    /// begun as before and has made exactly these steps more. If it has ended, it has made at most
+    /// these. A function of its own, so that its caller's code has nothing but the fast path.
     #[inline(never)]
     fn try_on(
         &self,
@@ -146,9 +146,10 @@ pub trait BoundedCalls<T>: Drop {
     }
 }
 
-/// A call: its fast path, and if that does not end it at most so many further steps as a call
-/// makes if nobody interferes, and those of `tries` tries more. Returns what the whole call
-/// returns; or the call is still under way, after the steps of so many tries at the least.
+/// A call: its fast path, and if that does not end it, the steps that a call makes if nobody
+/// interferes and those of `tries` tries more. Returns what the whole call returns. Or the call is
+/// still under way, and has made at least the steps of its tries. A bound on them from above is
+/// visible in the code only.
 pub fn try_call<T, C: BoundedCalls<T>>(
     container: &C,
     by: C::Pass,

@@ -42,7 +42,7 @@ pub const NO_PASS: u32 = 10;
 /// The capacity is out of range.
 pub const BAD_CAPACITY: u32 = 11;
 
-/// A root in the place of a pass, or the other way round.
+/// A root instead of a pass, or a pass instead of a root.
 pub const OTHER_HANDLE: u32 = 12;
 
 /// The handle is empty.
@@ -57,10 +57,14 @@ pub const VALUE: u32 = 15;
 /// A finish: another handle of the container is out.
 pub const SHARED: u32 = 16;
 
-/// A code, and what it says: of a put that is done its number, of a take its value, of a fold or a
-/// finish the next value, of a fold that is done how many there were, of a put of a range how many
-/// went in, of a count how many there are, of a gauge how many tags were used (of a ring, how many
-/// values were put), and of what is spent the tag. What is not said is 0.
+/// A code, and the value that goes with it:
+/// - a put that is done: its number; a take: the value;
+/// - a fold, a finish: the next value; a fold that is done, a count: how many values;
+/// - a put of a range: how many went in;
+/// - a gauge: how many tags were used, or in a ring how many values were put;
+/// - `SPENT`: the tag.
+///
+/// Any other value is 0.
 #[repr(C)]
 #[derive(Clone, Copy)]
 pub struct Answer {
@@ -160,7 +164,7 @@ impl Answer {
     }
 }
 
-/// The number of a whole call that returned this: of a put or a take that is done. Of another 0.
+/// The number of a whole call that returned this: that of a put or a take that is done, else 0.
 #[inline(always)]
 pub fn number_of(said: &Reply<u64>) -> u64
     ensures { result ≡ number_in said.now }

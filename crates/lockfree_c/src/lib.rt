@@ -1,9 +1,9 @@
 //! The queue, the stack and the ring for C, C++ and Rust: what a program that is not Rattle holds, and the
 //! calls that it makes.
 //!
-//! Promised, as long as C keeps to `c/lockfree.h`: what an export returns says what the container's
-//! law says of the call, and a pass is used with its own container alone. That the last handle of a
-//! container frees it is tested, and stands in no contract.
+//! Promised, as long as C keeps the rules of `c/lockfree.h`: an export returns what the container's
+//! law says of the call, and a pass is used with its own container only. A test shows that the last
+//! handle of a container frees it; no contract says it.
 #![tactic(auto)]
 
 mod answers;

@@ -1,9 +1,9 @@
-//! How many steps a running operation has made, as its caller sees it: at most so many of its own,
-//! and so many for each compare-and-swap by which another pass has succeeded meanwhile. There are also
-//! calls that make just so many steps: if a call has not ended by then, another pass's
+//! Bounds on the steps of a running operation, as its caller sees it: a number of steps, and a number
+//! more for each compare-and-swap by which another pass has succeeded meanwhile. There are also calls
+//! that make one step more than the first number: if such a call has not ended then, another pass's
 //! compare-and-swap has succeeded since it was begun. At the end, if no pass is out, all passes
-//! together have made no more steps than their calls cost, besides a stack's loads that read a refused
-//! range back.
+//! together have made no more steps than their calls cost. A stack's loads that read a refused range
+//! back come on top.
 #![tactic(auto)]
 
 pub mod queue;

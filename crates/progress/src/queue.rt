@@ -18,8 +18,8 @@ use bounded_model::{PutRefused, Stepped, TakeRefused};
 use ms_queue::{CloseOp, LookOp, Pass, PutOp, Queue, Rest, Root, ShutOp, TakeOp};
 use runs::step_for;
 
-/// The most steps that an operation makes while no other pass's compare-and-swap succeeds. Each by
-/// which another pass succeeds allows 8 more.
+/// An operation that is still under way has made at most this many steps, and 8 more for each
+/// compare-and-swap by which another pass has succeeded.
 pub const ALONE: u64 = 20;
 
 /// Puts a value step by step, with no wait, for at most `ALONE + 1` steps. If the put has not ended
@@ -49,9 +49,9 @@ pub fn take_or_overtaken<T>(
     step_for(queue, queue.begin_take(by), ALONE + 1)
 }
 
-/// Ends a queue, as `finish` does, and returns what is left. That stands for a run of the passes whose
+/// Ends a queue, as `finish` does, and returns what is left: the outcome of a run of the passes whose
 /// calls are linearizable. If no pass is out, all passes together have made at most as many steps as
-/// their calls cost, each by what it has answered: where P passes were given, a put `14 * P + 4`, a
+/// their calls cost, each by what it has answered. If P passes were given, a put costs `14 * P + 4`, a
 /// take `12 * P + 5`, a close `8 * P`, a shut `6 * P - 4`, a look 3, a count 4, a gauge 8, and a meeting
 /// or a note heard 1.
 pub fn end<T>(queue: Queue<T>, parent: Root<T>) -> Rest<T>

@@ -29,8 +29,8 @@ use ring_queue::{
 use ring_table::{Operation, SeatLine};
 use running::{Call, Op};
 
-/// The most steps that an operation makes while no other pass's compare-and-swap succeeds. Each by
-/// which another pass succeeds allows 30 more.
+/// An operation that is still under way has made at most this many steps, and 30 more for each
+/// compare-and-swap by which another pass has succeeded.
 pub const ALONE: u64 = 47;
 
 /// Puts a value step by step, with no wait, for at most `ALONE + 1` steps. If the put has not ended
@@ -89,11 +89,11 @@ where
     Stepped::Again(op)
 }
 
-/// Ends a ring, as `finish` does, and returns what is left. That stands for a run of the passes whose
+/// Ends a ring, as `finish` does, and returns what is left: the outcome of a run of the passes whose
 /// calls are linearizable. If no pass is out, all passes together have made at most as many steps as
-/// their calls cost, each by what it has answered: of a ring for P passes at once, however many there
-/// were, a put `40 * P - 26`, a take `35 * P - 20`, a close or a shut `22 * P - 9`, a look 12, a count
-/// 25, and a meeting or a note heard 1.
+/// their calls cost, each by what it has answered. In a ring for P passes at once, however many there
+/// were, a put costs `40 * P - 26`, a take `35 * P - 20`, a close or a shut `22 * P - 9`, a look or a
+/// gauge 12, a count 25, and a meeting or a note heard 1.
 pub fn end<T>(ring: RingQueue<T>, parent: Root<T>) -> Rest<T>
     requires { IsRootOf ring parent }
     ensures leaves { Leaves (shape_of ring) (root_in parent) (left_in result) }

@@ -18,8 +18,8 @@ use bounded_model::{PutRefused, Stepped, TakeRefused};
 use runs::step_for;
 use treiber_stack::{CloseOp, FoldOp, Pass, PutOp, RangeOp, Rest, Root, ShutOp, Stack, TakeOp};
 
-/// The most steps that a put or a take of one value, a close, a shut or a look makes while no other
-/// pass's compare-and-swap succeeds. Each by which another pass succeeds allows 4 more.
+/// A put or a take of one value, a close, a shut or a look that is still under way has made at most
+/// this many steps, and 4 more for each compare-and-swap by which another pass has succeeded.
 pub const ALONE: u64 = 9;
 
 /// Puts a value step by step, with no wait, for at most `ALONE + 1` steps. If the put has not ended
@@ -49,9 +49,9 @@ pub fn take_or_overtaken<T>(
     step_for(stack, stack.begin_take(by), ALONE + 1)
 }
 
-/// Ends a stack, as `finish` does, and returns what is left. That stands for a run of the passes whose
+/// Ends a stack, as `finish` does, and returns what is left: the outcome of a run of the passes whose
 /// calls are linearizable. If no pass is out, all passes together have made at most as many steps as
-/// their calls cost, besides the loads by which refused ranges are read back (`stack_total_work`).
+/// their calls cost (`stack_total_work`). The loads by which refused ranges are read back come on top.
 pub fn end<T>(stack: Stack<T>, parent: Root<T>) -> Rest<T>
     requires { IsRootOf stack parent }
     ensures leaves { Leaves (shape_of stack) (root_in parent) (left_in result) }

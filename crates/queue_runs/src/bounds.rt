@@ -23,9 +23,9 @@ pub fn queue_steps_are_bounded<T>()
         → IsBounded n limit before now x first }
 {}
 
-/// The acts that led to a queue's table are a schedule of its machine: run with any number of passes
-/// that is large enough, from the words of a new queue, it comes to the same words, history and lines;
-/// and there the machine's rule holds, so all that is proved of such states holds of the queue.
+/// The acts that led to a queue's table are a schedule of its machine. Run with any number of passes
+/// that is large enough, from the words of a new queue, it comes to the same words, history and lines.
+/// The machine's rule holds there, so all that is proved of such states holds of the queue.
 pub fn queue_acts_are_a_schedule<T>()
     ensures shows { (n limit passes : ℕ) (acts : Acts (Line T)) → Below passes acts
         → AllByRecursion (λ a. IsAllowed names (core T n limit) a.1) acts

@@ -9,9 +9,9 @@
 //! what a pass has seen is always a legal history of one sequential queue, which only grows, and a
 //! refusal was right at some time between the pass's last step before the call and the answer.
 //!
-//! An operation is begun and then made step by step, or by a whole call, which is a fast path over
-//! the same steps and retries while others interfere, or for a bounded number of steps, and can then
-//! be gone on with. A put or a take that was too late goes on at once, one slot further; a close or a
+//! An operation is begun and then made step by step. A whole call makes the same steps on a fast path,
+//! and retries while others interfere. A bounded call makes a bounded number of steps; the caller can
+//! continue it. A put or a take that was too late goes on at once, one slot further; a close or a
 //! shut whose compare-and-swap failed waits, if its pass calls back to back.
 #![tactic(auto)]
 

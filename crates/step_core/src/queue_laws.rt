@@ -20,10 +20,10 @@ ghost use Rattle.step_core.specs.queue.Law.{Lawful, AllDone, NoneUnanswered, lin
 ghost use Rattle.step_core.specs.queue.Bound.{MeetsRule};
 ghost use Rattle.step_core.specs.queue.Costs.{cost};
 
-/// In every schedule of puts, takes, closes, shuts, looks at, counts and gauges of a queue of `n`
-/// value cells, whose nodes are used again: the history is legal for a bounded queue, the words and
-/// cells stand for it, each cell and each node is in one place, a put that has a cell finds a node,
-/// and each refusal is justified by the history as it was at some time between its begin and its end.
+/// What holds in every schedule of puts, takes, closes, shuts, looks at, counts and gauges of a queue
+/// of `n` value cells, whose nodes are used again. The history is legal for a bounded queue, and the
+/// words and cells represent it. Each cell and each node is in one place. A put that has a cell finds a
+/// node. Each refusal is justified by the history at some time between its begin and its end.
 pub fn queue_core<T>()
     ensures { (n limit passes : ℕ) (schedule : Schedule (Call T)) → 0 < n → n < NULL → 0 < limit →
         Lawful T n limit (after (queue (shape n limit)) passes schedule) }
@@ -55,11 +55,10 @@ pub fn queue_nodes<T>()
         NothingTwice n s.memory (lines_of s) }
 {}
 
-/// In every schedule of a queue, a call ends with an answer, each pass answers the call that it
-/// began, and the events that it adds from the begin to the answer are exactly those that the
-/// answer speaks of: a put takes one cell and puts the call's value, a take takes one value and
-/// gives its cell back, a refused put hands back the call's value, and a refusal leaves nothing
-/// held.
+/// In every schedule of a queue, a call ends with an answer, and each pass answers the call that it
+/// began. From the begin to the answer the call adds exactly the events of its answer. A put takes one
+/// cell and puts the call's value. A take takes one value and gives its cell back. A refused put hands
+/// back the call's value. A refusal leaves nothing held.
 pub fn queue_answers<T>()
     ensures answered { (n limit passes : ℕ) (schedule : Schedule (Call T)) → 0 < n → n < NULL → 0 < limit →
         NoneUnanswered (after (queue (shape n limit)) passes schedule) }
@@ -68,8 +67,8 @@ pub fn queue_answers<T>()
         AllDone (after (queue (shape n limit)) passes schedule) }
 {}
 
-/// While no other pass's compare-and-swap succeeds, a queue's put, take, close, shut, look or count has
-/// ended after at most 32 of its own steps: from every state that meets the rule, wherever the call
+/// While no other pass's compare-and-swap succeeds, a queue's put, take, close, shut, look, count or
+/// gauge has ended after at most 32 of its own steps: from every state that meets the rule, wherever the call
 /// is in it; and so from every state that a schedule leads to.
 pub fn queue_bound<T>()
     ensures wherever_the_rule_holds { (n limit p : ℕ) (s : State T) (stretch : Schedule (Call T)) →
@@ -86,7 +85,7 @@ pub fn queue_bound<T>()
 /// each of the P: from every state that meets the rule. So among any P * (14 * P + 6) + 1 steps after
 /// any schedule of P passes, some call ends. And in all, from the start, the passes make no more
 /// steps than the calls cost that they begin: a put 14 * P + 4, a take 12 * P + 5, a close 8 * P, a
-/// shut 6 * P - 4, a look 3, a count 4.
+/// shut 6 * P - 4, a look 3, a count 4, a gauge 8.
 ///
 /// Of each single call: it has ended after at most 20 of its own steps, and 8 for each
 /// compare-and-swap by which another pass succeeds meanwhile. So a step that does not succeed costs
@@ -133,15 +132,14 @@ pub fn queue_order<T>()
         (gather took_of (after (queue (shape n limit)) passes schedule).history) }
 {}
 
-/// A queue is linearizable (Herlihy and Wing 1990). Into the history of invocations and responses
-/// of any schedule linearization points can be put, one for each operation that is completed and
-/// for some that are pending, each between its invocation and its response, so that in the order of
-/// their points the operations are a legal history of the bounded queue as a sequential object,
-/// with the answers that are given. A put, a take, a close and a shut take effect at the
-/// compare-and-swap that makes their event, a refusal, a look and a count at a moment at which they are
-/// right. And the order of the points keeps real time: wherever such a history is cut, of each pass
-/// the operations that have taken effect are those that it has completed by then, or these and its
-/// pending one.
+/// A queue is linearizable (Herlihy and Wing 1990). Linearization points can be put into the
+/// invocations and responses of any schedule: one for each completed operation and for some pending
+/// ones, each between its invocation and its response. In the order of their points the operations are
+/// a legal history of the bounded queue as a sequential object, with the answers that are given. A put,
+/// a take, a close and a shut take effect at the compare-and-swap that makes their event. A refusal, a
+/// look, a count and a gauge take effect at a moment at which they are right. The order of the points
+/// keeps real time. Cut such a history anywhere: the operations of a pass that have taken effect are
+/// those that it has completed by then, or these and its pending one.
 pub fn queue_linearizable<T>()
     ensures points { (n limit passes : ℕ) (schedule : Schedule (Call T)) → 0 < n → n < NULL → 0 < limit →
         Linearizable (queue (shape n limit)) answer (object n limit) passes schedule }

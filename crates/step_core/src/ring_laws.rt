@@ -18,11 +18,11 @@ ghost use Rattle.step_core.specs.ring.Law.{Lawful, AllDone, NoneUnanswered, line
 ghost use Rattle.step_core.specs.ring.Bound.{MeetsRule};
 ghost use Rattle.step_core.specs.ring.Costs.{cost};
 
-/// In every schedule of puts, takes, closes, shuts, looks at, counts and gauges of a ring of `n` slots,
-/// each of which is filled at most `laps` times: the history is legal for a bounded queue of `n` values,
-/// the words and cells stand for it, each of the cells of `n` slots and of all passes is in one slot
-/// or the spare one of one pass, no hand has anything between two steps, and each refusal is
-/// justified by the history as it was at some time between its begin and its end.
+/// What holds in every schedule of puts, takes, closes, shuts, looks at, counts and gauges of a ring of
+/// `n` slots, each of which is filled at most `laps` times. The history is legal for a bounded queue of
+/// `n` values, and the words and cells represent it. Each of the cells of `n` slots and of all passes is
+/// in one slot or the spare one of one pass. No hand has anything between two steps. Each refusal is
+/// justified by the history at some time between its begin and its end.
 pub fn ring_core<T>()
     ensures { (n laps passes : ℕ) (schedule : Schedule (Call T)) → 0 < n →
         Lawful T n laps (n + passes) (after (ring (shape n laps)) passes schedule) }
@@ -52,11 +52,10 @@ pub fn ring_cells<T>()
         NothingTwice n (n + passes) s.memory (lines_of s) }
 {}
 
-/// In every schedule of a ring, a call ends with an answer, each pass answers the call that it began,
-/// and the events that it adds from the begin to the answer are exactly those that the answer speaks
-/// of: a put that succeeds takes a cell and puts the call's value in one step, a take takes one value
-/// and gives its cell back in one step, a refused put hands back the call's value, and a refusal adds
-/// nothing.
+/// In every schedule of a ring, a call ends with an answer, and each pass answers the call that it
+/// began. From the begin to the answer the call adds exactly the events of its answer. A put that
+/// succeeds takes a cell and puts the call's value in one step. A take takes one value and gives its
+/// cell back in one step. A refused put hands back the call's value. A refusal adds nothing.
 pub fn ring_answers<T>()
     ensures answered { (n laps passes : ℕ) (schedule : Schedule (Call T)) → 0 < n →
         NoneUnanswered (after (ring (shape n laps)) passes schedule) }

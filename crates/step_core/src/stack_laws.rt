@@ -20,10 +20,10 @@ ghost use Rattle.step_core.specs.stack.Bound.{IsSingle};
 ghost use Rattle.step_core.specs.stack.Costs.{cost, IsSingleCall};
 ghost use Rattle.step_core.specs.stack.Law.{Lawful, AllDone, NoneUnanswered, MeetsRule, lines_of};
 
-/// In every schedule of puts of one or more values, takes, folds, closes, shuts, looks at and gauges
-/// of a stack of `n` nodes: the history is legal for a bounded stack, the words and slots stand for
-/// it, each node is in one place, and each refusal is justified by the history as it was at some
-/// time between its begin and its end.
+/// What holds in every schedule of puts of one or more values, takes, folds, closes, shuts, looks at
+/// and gauges of a stack of `n` nodes. The history is legal for a bounded stack, and the words and
+/// slots represent it. Each node is in one place. Each refusal is justified by the history at some time
+/// between its begin and its end.
 pub fn stack_core<T>()
     ensures { (n limit passes : ℕ) (schedule : Schedule (Call T)) → 0 < n → n ≤ NULL →
         Lawful T n limit (after (stack (shape n limit)) passes schedule) }
@@ -54,13 +54,13 @@ pub fn stack_nodes<T>()
         NoNodeTwice n s.memory (lines_of s) }
 {}
 
-/// In every schedule of a stack, a call ends with an answer, each pass answers the call that it
-/// began, and the events that it adds from the begin to the answer are exactly those that the
-/// answer speaks of: a put takes one node for each value that it puts, by one compare-and-swap, and
-/// what it puts and leaves over are the call's values in order; a take takes one value and gives
-/// its node back; a fold takes all values by one compare-and-swap, folds them in the call's
-/// direction, and gives all nodes back by one. A refused put hands back the call's values, and a
-/// refusal leaves nothing held. A range leaves values out only where no node could be had.
+/// In every schedule of a stack, a call ends with an answer, and each pass answers the call that it
+/// began. From the begin to the answer the call adds exactly the events of its answer. A put takes one
+/// node for each value that it puts, by one compare-and-swap. The values that it puts and those that it
+/// leaves over are the call's, in order. A take takes one value and gives its node back. A fold takes
+/// all values by one compare-and-swap, folds them in the call's direction, and gives all nodes back by
+/// one. A refused put hands back the call's values, and a refusal leaves nothing held. A range leaves
+/// values out only if no node could be had.
 pub fn stack_answers<T>()
     ensures answered { (n limit passes : ℕ) (schedule : Schedule (Call T)) → 0 < n → n ≤ NULL →
         NoneUnanswered (after (stack (shape n limit)) passes schedule) }
@@ -68,9 +68,9 @@ pub fn stack_answers<T>()
         AllDone (shape n limit) (after (stack (shape n limit)) passes schedule) }
 {}
 
-/// While no other pass's compare-and-swap succeeds, a stack's put of one value, take, close, shut
-/// or look has ended after at most 16 of its own steps: from every state, wherever the call is in
-/// it.
+/// While no other pass's compare-and-swap succeeds, a stack's put of one value, take, close, shut,
+/// look or gauge has ended after at most 16 of its own steps: from every state, wherever the call is
+/// in it.
 pub fn stack_bound<T>()
     ensures { (c : Shape) (p : ℕ) (s : State T) (stretch : Schedule (Call T)) →
         AtLine IsSingle (get_elem? s.passes p) → IsStretch (stack c) p stretch s →
@@ -84,7 +84,7 @@ pub fn stack_bound<T>()
 /// that meets the rule. So among any P * (7 * P + 2) + 1 steps after any schedule of P passes some call
 /// ends; with ranges and folds among P * ((3 * n + 4) * P + n + 2) + 1. And in all, from the start, the
 /// passes make no more steps than the calls cost that they begin: a put of one value 7 * P, a take
-/// 7 * P - 1, a close or a shut 4 * P - 2, a look 1; a put of r values, up to n, (3 * r + 4) * P + r - 1,
+/// 7 * P - 1, a close or a shut 4 * P - 2, a look or a gauge 1; a put of r values, up to n, (3 * r + 4) * P + r - 1,
 /// a fold downwards 7 * P + n - 2, one upwards 7 * P + 3 * n - 2.
 ///
 /// Of each single call: it has ended after at most 9 of its own steps, with ranges and folds 4 * n
