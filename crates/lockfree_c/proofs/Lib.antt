@@ -1,5 +1,6 @@
 pub mod AsBox
 pub mod New
+pub mod NoRoom
 pub mod Stays
 pub mod CopyStays
 pub mod CountStays
