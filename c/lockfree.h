@@ -11,14 +11,14 @@
  * container's handles that is freed frees it.
  *
  * Five rules that no check can enforce:
- *   - zero a handle before its first use; then only the functions below write it. It may be moved in memory, between
- *     calls; a copy of it is not used;
- *   - a handle is given to one call at a time. Different handles, also of one container, may be used
- *     in different threads at the same time; a handle that goes to another thread goes there by what
- *     orders the two, as a thread's start or join, a lock, or a release and an acquire;
- *   - malloc, realloc and free are of one allocator, and align as the C standard has it;
- *   - a lockfree_put_range that was BUSY is called again with the same array, unchanged;
- *   - no call is made in a signal handler, or in the child of a fork of a process with threads.
+ *   - Zero a handle before its first use. Then only the functions below write it. It may be moved in memory between
+ *     calls. Never use a copy of it.
+ *   - Give a handle to one call at a time. Different handles, also of one container, may be used in different threads
+ *     at the same time. If a handle goes to another thread, something orders the two threads: a start or a join, a
+ *     lock, or a release and an acquire.
+ *   - malloc, realloc and free are of one allocator, and align as the C standard has it.
+ *   - If a lockfree_put_range was BUSY, call it again with the same array, unchanged.
+ *   - Make no call in a signal handler, or in the child of a fork of a process with threads.
  *
  * A code answers any other misuse of a handle, and any other failure of a call. Then nothing has changed but what is
  * said here. Only the calls that make a container, _split, _free, the first _finish of a container, _range_add and
