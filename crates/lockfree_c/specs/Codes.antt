@@ -1,4 +1,4 @@
--- What the answer that C gets says of what a whole call answered, and the call's number.
+-- What the answer that C gets says of what a whole call answered, and the number of the call.
 use Rattle.std.specs.Prelude.{◌≡◌, ℕ, Bool, true, false, Result, Ok, Err}
 use Rattle.bounded_model.specs.declared.answers.PutRefused.{PutRefused}
 use Rattle.bounded_model.specs.declared.answers.PutRefused.TheVariants as put
@@ -17,7 +17,7 @@ use Rattle.lockfree_c.specs.declared.answers.TheConstants.{OK, FULL, EMPTY, CLOS
 abbrev pub bare : ℕ → Answer
 bare code = record { value = 0; code = code }
 
--- a code with what it says
+-- a code with its value
 abbrev pub saying : ℕ → ℕ → Answer
 saying code value = record { value = value; code = code }
 
@@ -34,12 +34,12 @@ SaysTake (Err take.Closed) a = a ≡ bare CLOSED
 SaysTake (Err take.Shut) a = a ≡ bare SHUT
 SaysTake (Err (take.Spent word t)) a = a ≡ saying SPENT t
 
--- how many values there were in a fold that is done; a refusal as that of a take
+-- how many values there were in a fold that is done; a fold is refused as a take is
 abbrev pub SaysFold : Result Folded TakeRefused → Answer → Type 0
 SaysFold (Ok f) a = a ≡ saying OK f.count
 SaysFold (Err why) a = SaysTake (Err why) a
 
--- how many values of a range went in
+-- how many values of a range the put has put
 abbrev pub SaysRange : Result Ranged RangeRefused → Answer → Type 0
 SaysRange (Ok r) a = a ≡ saying OK r.count
 SaysRange (Err range.Nothing) a = a ≡ bare EMPTY
@@ -62,7 +62,7 @@ Says (Shut false) a = a ≡ bare SHUT
 Says (Look true) a = a ≡ bare EMPTY
 Says (Look false) a = a ≡ bare OK
 
--- the number of a call that is done; 0 where it has none
+-- the number of a call that is done; 0 if it has none
 abbrev pub number_in : Reply ℕ → ℕ
 number_in (Put (Ok n)) = n
 number_in (Take (Ok r)) = r.1

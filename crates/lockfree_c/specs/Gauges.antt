@@ -1,4 +1,5 @@
--- What gauges do to what lies behind a handle: of a queue by steps, of a stack by one load. `Rings` says it of a ring.
+-- What gauges do to what lies behind a handle. A queue's gauge makes steps, and a stack's makes one load. `Rings` has a
+-- ring's gauges.
 use Rattle.std.specs.Prelude.{◌≡◌, ℕ, MatchOption}
 use Rattle.bounded_model.specs.Stepping.{MatchStepped}
 use Rattle.bounded_model.specs.declared.answers.Stepped.{Stepped}

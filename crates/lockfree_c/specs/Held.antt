@@ -1,4 +1,4 @@
--- What holds of what lies behind a handle, and what the calls do to it.
+-- What holds between calls of what lies behind a handle, and what the calls do to it.
 use Rattle.std.specs.Prelude.{◌≡◌, ◌≤◌, ◌+◌, ◌⊎◌, ℕ, List, [], ◌∷◌, ◌++◌, map, Bool, true, false, Option, Some, IsSome, Result, MatchOption, MatchResult, None}
 use Rattle.std.specs.List.{AllByRecursion as Every}
 use Rattle.tagged_index.specs.declared.limit.TheConstants.{MIN_CAPACITY, MAX_CAPACITY, MIN_TAG_LIMIT}
@@ -131,7 +131,7 @@ IsHeld (OfRingRest r) = Unit {0}
 
 -- The calls of a pass
 
--- with so many tries
+-- with this number of tries
 abbrev pub HeldCalled : ℕ → Held → Command ℕ → Held → Answer → Type 0
 HeldCalled tries (OfQueuePass p) call (OfQueuePass q) a = PassCalled queue_reading (queue_steps tries) p call q a
 HeldCalled tries (OfQueuePass p) call h a = ⊥
@@ -184,7 +184,7 @@ RangeWentOn r g a = (places : List (Option ℕ)) × (made : RangeMade)
     × ((values : List ℕ) → IsRanging r.container.value values r.values.items r.op → RangeTried r.container.value values (stack.begun_of r.container.value r.op.pass) places made)
     × RangeLeft r.container.value places made g a
 
--- where a range is collected, no call is under way; nor one that goes on without its array
+-- a stack's pass that collects a range has no call under way; a put of an array does not continue without its array
 abbrev pub HeldWentOn : ℕ → Held → Held → Answer → Type 0
 HeldWentOn tries (OfQueuePass p) (OfQueuePass q) a = PassWentOn queue_reading (queue_steps tries) p q a
 HeldWentOn tries (OfQueuePass p) h a = ⊥
@@ -307,7 +307,7 @@ HeldCopied (OfStackPass p) values g a = StackCopied p values g a
 HeldCopied (OfStackCopy k) values g a = CopyWentOn k values g a
 HeldCopied h values g a = Declined (refusal_of h) h g a
 
--- a put of an array that is under way goes on with the values that it was begun with
+-- a put of an array that is under way continues with the values that it was begun with
 abbrev pub Continues : Held → List ℕ → Type 0
 Continues (OfStackCopy k) values = IsCopying k.container.value values k.op
 Continues h values = Unit {0}
@@ -333,7 +333,7 @@ abbrev pub IsNewRing : ℕ → ℕ → ℕ → Held → Type 0
 IsNewRing n laps passes (OfRingRoot r) = IsRingRoot r × (ring_roots.root_in r.root ≡ fresh) × (ring.shape_of r.container.value ≡ shape_for ℕ n laps passes)
 IsNewRing n laps passes h = ⊥
 
--- there is none: it was asked for beyond these limits, or there was no memory
+-- there is none: the numbers are beyond these limits, or there was no memory
 abbrev pub NewRefused : Type 0 → ℕ → Type 0
 NewRefused limits code = ((code ≡ BAD_CAPACITY) × (limits → ⊥)) ⊎ ((code ≡ NO_MEMORY) × limits)
 

@@ -1,4 +1,4 @@
--- The roots and passes of each container, and how many steps so many tries of its calls are.
+-- The roots and passes of each container, and how many steps a number of tries of its calls allows.
 use Rattle.std.specs.Prelude.{ℕ}
 use Rattle.bounded_model.specs.declared.commands.Operation.{Operation}
 use Rattle.queue_machine.specs.declared.lines.Line as of_queue

@@ -1,4 +1,4 @@
--- What a handle ends as that lends what is behind it.
+-- The state in which a handle ends that lends what lies behind it.
 use Rattle.std.specs.Borrow.{Lends, MutBor, Fml}
 use Rattle.lockfree_c.specs.contracts.handle.Handle.{the_row}
 use Rattle.lockfree_c.specs.contracts.held.Held.{the_row as held_row}

@@ -6,7 +6,8 @@ use Rattle.lockfree_c.specs.declared.answers.TheConstants.{UNDER_WAY, OTHER_HAND
 use Rattle.lockfree_c.specs.declared.held.Held.{Held}
 use Rattle.lockfree_c.specs.declared.held.Held.TheVariants.{QueueCount as OfQueueCount, QueueGauge as OfQueueGauge, StackFold as OfStackFold, StackRange as OfStackRange, StackRangePut as OfStackRangePut, StackCopy as OfStackCopy, RingCount as OfRingCount, RingGauge as OfRingGauge}
 
--- what is no pass for a call is a queue's pass or a ring's that is in a count or a gauge, a stack's that is in a fold or has a range, or another handle
+-- No pass for a call is a queue's or a ring's pass that is in a count or a gauge, a stack's pass that is in a fold or has a range, and
+-- any other handle
 abbrev pub refusal_of : Held → ℕ
 refusal_of (OfQueueCount k) = UNDER_WAY
 refusal_of (OfQueueGauge k) = UNDER_WAY
@@ -18,7 +19,7 @@ refusal_of (OfRingCount k) = UNDER_WAY
 refusal_of (OfRingGauge k) = UNDER_WAY
 refusal_of h = OTHER_HANDLE
 
--- what is held is as it was, and C is told why: by a code, or by an answer that says nothing more
+-- nothing changes, and C gets the reason: a code, or an answer with this code and the value 0
 abbrev pub Refused : ℕ → Held → Held → ℕ → Type 0
 Refused why h g code = (code ≡ why) × (g ≡ h)
 

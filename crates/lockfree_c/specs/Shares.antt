@@ -1,4 +1,5 @@
--- What holds of a pass and of a root that have a share of their container, and what their calls do. A container is known by how its passes are read.
+-- What holds of a pass and of a root that have a share of their container, and what their calls do. `reading` says how the passes of a
+-- container are read.
 use Rattle.std.specs.Prelude.{◌≡◌, ◌⊎◌, ℕ, List, [], ◌∷◌, Option, Result, MatchOption, MatchResult}
 use Rattle.bounded_model.specs.Laws.{IsFullOfPasses, Leaves, Splits}
 use Rattle.bounded_model.specs.declared.commands.Command.{Command}
@@ -29,7 +30,7 @@ module _ {C P O : Type 0} (reading : C → Reading ℕ P O) where
   abbrev pub PassWentOn : ℕ → PassOf C P O → PassOf C P O → Answer → Type 0
   PassWentOn n p q a = (q.container.value ≡ p.container.value) × WentOn (reading p.container.value) n p.stage q.stage a
 
--- the next of what is left is handed out, or there is none
+-- the call hands out the next value that is left, or there is none
 abbrev pub HandsOut : List ℕ → List ℕ → Answer → Type 0
 HandsOut before after a = (given : Option ℕ) × MatchOption given
     ((a ≡ bare EMPTY) × (before ≡ []) × (after ≡ []))
@@ -48,6 +49,6 @@ module _ {C R P O : Type 0} (reading : C → Reading ℕ P O) (root : R → Root
   abbrev pub IsSplit : RootOf C R → RootOf C R → Result (PassOf C P O) ℕ → Type 0
   IsSplit r s made = (s.container.value ≡ r.container.value) × MatchResult made (SplitOff r s) (SplitRefused r s)
 
-  -- the container was ended, and the first of what its root leaves is handed out: then this is left
+  -- the container was ended, and the call hands out the first value that its root leaves: then this is left
   abbrev pub IsEnded : RootOf C R → List ℕ → Answer → Type 0
   IsEnded r after a = (left : List ℕ) × Leaves (reading r.container.value).shape (root r.root) left × HandsOut left after a

@@ -1,4 +1,4 @@
--- What C keeps is as the library left it, and what the exports do to it.
+-- What C keeps between calls, as the library left it, and what the exports do to it.
 use Rattle.std.specs.Prelude.{◌≡◌, ℕ, Bool, true, false, List, Result, MatchResult}
 use Rattle.bounded_model.specs.declared.commands.Command.{Command}
 use Rattle.index_list.specs.declared.front.Front.{Front}
@@ -20,7 +20,7 @@ Holds s held = (s.full ≡ true) × (s.handle.held ≡ held)
 abbrev pub IsEmpty : Slot → Type 0
 IsEmpty s = s.full ≡ false
 
--- P where it is so, and Q where it is not
+-- P if it is so, and Q if it is not
 abbrev pub Either : Bool → Type 0 → Type 0 → Type 0
 Either true P Q = P
 Either false P Q = Q
@@ -60,7 +60,7 @@ SlotRangePut s t a = Either s.full
     ((t.full ≡ true) × HeldRangePut s.handle.held t.handle.held a)
     (IsEmpty t × (a ≡ bare NO_HANDLE))
 
--- a put of an array that is under way goes on with that array
+-- a put of an array that is under way continues with that array
 abbrev pub SlotContinues : Slot → List ℕ → Type 0
 SlotContinues s values = s.full ≡ true → Continues s.handle.held values
 

@@ -32,7 +32,7 @@ module _ {P O : Type 0} where
         (MatchOption s.under_way ⊥ (MakesSome r))
         (λ by. r.is_pass by × (s.under_way ≡ None))
 
-    -- a call that was begun as its pass was is tried; if it does not end, for at least n steps
+    -- a call that was begun as its pass was is tried: for at least n steps, if it does not end
     abbrev pub Tries : ℕ → PassView ℕ → Command ℕ → Stage P O → Answer → Type 0
     Tries n begun call t a = (made : Stepped O P (Reply ℕ)) × TriedFrom r begun call made × TookAtLeast r n begun made × LeftBy made t a
 

@@ -1,4 +1,4 @@
-//! What a call returns to C: a code, and with some of them a value. A call's number is kept by its pass.
+//! What a call returns to C: a code, and with some codes a value. The pass keeps the call's number.
 ghost use Rattle.std.specs.Prelude.{◌≡◌};
 ghost use Rattle.lockfree_c.specs.Codes.{fold_number, number_in, range_number};
 
@@ -7,24 +7,24 @@ use bounded_model::{Folded, PutRefused, RangeRefused, Ranged, Reply, TakeRefused
 /// Done.
 pub const OK: u32 = 0;
 
-/// A put: each cell holds a value or is held by a pass.
+/// A put of a value or of a range: each cell holds a value or is held by a pass.
 pub const FULL: u32 = 1;
 
-/// A take: there is no value, and more may come. A look: it was empty. A put of a range: no value was
-/// added.
+/// A take or a fold: there is no value, and more may come. A look: it was empty. A put of a range:
+/// C added no value. A finish: no value is left.
 pub const EMPTY: u32 = 2;
 
-/// A put: the container is closed. A take: it is closed, and there is no value. A close: it was
-/// closed before. A gauge: it was closed.
+/// A put of a value or of a range: the container is closed. A take or a fold: it is closed, and
+/// there is no value. A close: it was closed before. A gauge: it was closed.
 pub const CLOSED: u32 = 3;
 
-/// A take: the container is shut. A shut: it was shut before.
+/// A take or a fold: the container is shut. A shut: it was shut before.
 pub const SHUT: u32 = 4;
 
-/// A tag is at its limit; the value is the tag.
+/// A tag is at its limit. The value is the tag.
 pub const SPENT: u32 = 5;
 
-/// The tries are used up: the call is under way.
+/// The tries are used up, and the call is still under way.
 pub const BUSY: u32 = 6;
 
 /// The pass has a call under way already, or the values of a range.
@@ -36,35 +36,39 @@ pub const NO_CALL: u32 = 8;
 /// There is no memory.
 pub const NO_MEMORY: u32 = 9;
 
-/// As many passes are out as there may be.
+/// A split: the container cannot give a pass, since the largest number of passes is out.
 pub const NO_PASS: u32 = 10;
 
-/// The capacity is out of range.
+/// The capacity is out of range, or the tag limit, or a ring's laps or passes.
 pub const BAD_CAPACITY: u32 = 11;
 
-/// A root instead of a pass, or a pass instead of a root.
+/// The handle is of the wrong kind: a root instead of a pass, a pass instead of a root, or a pass
+/// of a container that has no such call.
 pub const OTHER_HANDLE: u32 = 12;
 
 /// The handle is empty.
 pub const NO_HANDLE: u32 = 13;
 
-/// The handle that is to be made is not empty.
+/// The slot for the new handle is not empty.
 pub const IN_USE: u32 = 14;
 
-/// A fold: the answer has the next value, and the fold goes on.
+/// A fold: the answer has the next value, and the fold is still under way. A finish: the answer has
+/// the next value that is left.
 pub const VALUE: u32 = 15;
 
 /// A finish: another handle of the container is out.
 pub const SHARED: u32 = 16;
 
 /// A code, and the value that goes with it:
-/// - a put that is done: its number; a take: the value;
-/// - a fold, a finish: the next value; a fold that is done, a count: how many values;
-/// - a put of a range: how many went in;
-/// - a gauge: how many tags were used, or in a ring how many values were put;
+/// - a put that is done: its number,
+/// - a take that is done: the value,
+/// - `VALUE`, from a fold or a finish: the next value,
+/// - a fold that is done, a count that is done: how many values,
+/// - a put of a range that is done: how many values it put,
+/// - a gauge that is done: how many tags were used, or in a ring how many values were put,
 /// - `SPENT`: the tag.
 ///
-/// Any other value is 0.
+/// In any other answer the value is 0.
 #[repr(C)]
 #[derive(Clone, Copy)]
 pub struct Answer {
@@ -83,7 +87,7 @@ impl Answer {
         Answer { value: 0, code }
     }
 
-    /// A code with what it says.
+    /// A code with its value.
     #[inline(always)]
     pub fn with(code: u32, value: u64) -> Answer
         ensures { result ≡ saying code value }
@@ -164,7 +168,7 @@ impl Answer {
     }
 }
 
-/// The number of a whole call that returned this: that of a put or a take that is done, else 0.
+/// The number of a whole call that returned this: that of a put or a take that is done, or 0.
 #[inline(always)]
 pub fn number_of(said: &Reply<u64>) -> u64
     ensures { result ≡ number_in said.now }

@@ -30,7 +30,7 @@ use bounded_model::Command;
 use std::alloc::Global;
 use std::mem;
 
-// A pass of this root, and the root again.
+// Splits a pass off this root, and gives the root back.
 fn split(held: Held) -> (Held, Result<Held, u32>)
     requires { IsHeld held }
     ensures root { IsHeld result.0 }
@@ -54,7 +54,7 @@ fn split(held: Held) -> (Held, Result<Held, u32>)
     }
 }
 
-/// A pass of the root that lies here, in a box of its own.
+/// Splits a pass off the root in this box, into a box of its own.
 pub fn split_from(alloc: Global, held: &mut Held) -> Result<Box<Held, Global>, u32>
     requires { IsHeld held.old }
     ensures root { IsHeld held.new }
@@ -77,7 +77,7 @@ pub fn split_from(alloc: Global, held: &mut Held) -> Result<Box<Held, Global>, u
     }
 }
 
-/// A put by what lies in the box, if that is a pass.
+/// The pass in the box puts a value. Any other handle gives `refusal`.
 #[inline(always)]
 pub fn put_by(held: &mut Held, value: u64, tries: u64) -> Answer
     requires { IsHeld held.old }
@@ -92,7 +92,7 @@ pub fn put_by(held: &mut Held, value: u64, tries: u64) -> Answer
     }
 }
 
-/// A take by what lies in the box, if that is a pass.
+/// The pass in the box takes a value. Any other handle gives `refusal`.
 #[inline(always)]
 pub fn take_by(held: &mut Held, tries: u64) -> Answer
     requires { IsHeld held.old }
@@ -107,7 +107,7 @@ pub fn take_by(held: &mut Held, tries: u64) -> Answer
     }
 }
 
-/// A look by what lies in the box, if that is a pass.
+/// The pass in the box looks. Any other handle gives `refusal`.
 #[inline(always)]
 pub fn look_by(held: &mut Held, tries: u64) -> Answer
     requires { IsHeld held.old }
@@ -122,7 +122,7 @@ pub fn look_by(held: &mut Held, tries: u64) -> Answer
     }
 }
 
-/// Any call by what lies in the box, if that is a pass.
+/// The pass in the box makes any call. Any other handle gives `refusal`.
 pub fn call_by(held: &mut Held, command: Command<u64>, tries: u64) -> Answer
     requires { IsHeld held.old }
     ensures of { IsHeld held.new }
@@ -136,7 +136,7 @@ pub fn call_by(held: &mut Held, command: Command<u64>, tries: u64) -> Answer
     }
 }
 
-// A fold by what is held, if that is a stack's pass.
+// A stack's pass folds. Any other handle gives `refusal`.
 fn fold(held: Held, reversed: bool, tries: u64) -> (Held, Answer)
     requires { IsHeld held }
     ensures of { IsHeld result.0 }
@@ -151,7 +151,7 @@ fn fold(held: Held, reversed: bool, tries: u64) -> (Held, Answer)
     }
 }
 
-/// A fold of all values by what lies in the box, if that is a stack's pass.
+/// The stack's pass in the box folds all values. Any other handle gives `refusal`.
 pub fn fold_by(held: &mut Held, reversed: bool, tries: u64) -> Answer
     requires { IsHeld held.old }
     ensures of { IsHeld held.new }
@@ -162,7 +162,7 @@ pub fn fold_by(held: &mut Held, reversed: bool, tries: u64) -> Answer
     answer
 }
 
-// A count by what is held, if that is a queue's pass or a ring's.
+// A queue's or a ring's pass counts the values. Any other handle gives `refusal`.
 fn count(held: Held, tries: u64) -> (Held, Answer)
     requires { IsHeld held }
     ensures of { IsHeld result.0 }
@@ -178,7 +178,7 @@ fn count(held: Held, tries: u64) -> (Held, Answer)
     }
 }
 
-/// A count of the values by what lies in the box, if that is a queue's pass or a ring's.
+/// The queue's or ring's pass in the box counts the values. Any other handle gives `refusal`.
 pub fn count_by(held: &mut Held, tries: u64) -> Answer
     requires { IsHeld held.old }
     ensures of { IsHeld held.new }
@@ -189,7 +189,7 @@ pub fn count_by(held: &mut Held, tries: u64) -> Answer
     answer
 }
 
-// Begins a range with this value, if this is a stack's pass.
+// A stack's pass begins a range with this value. Any other handle gives `refusal`.
 fn begin_range(alloc: Global, held: Held, value: u64) -> (Held, u32)
     requires { IsHeld held }
     ensures of { IsHeld result.0 }
@@ -204,7 +204,7 @@ fn begin_range(alloc: Global, held: Held, value: u64) -> (Held, u32)
     }
 }
 
-// Begins a range of what lies in the box.
+// The stack's pass in the box begins a range with this value. Any other handle gives `refusal`.
 fn begin_range_by(alloc: Global, held: &mut Held, value: u64) -> u32
     requires { IsHeld held.old }
     ensures of { IsHeld held.new }
@@ -215,8 +215,8 @@ fn begin_range_by(alloc: Global, held: &mut Held, value: u64) -> u32
     code
 }
 
-/// Adds a value to the range that what lies in the box collects, where it lies; begins one, if that is
-/// a stack's pass that has none.
+/// Adds a value, in place, to the range that the box collects. If the box holds a stack's pass, it
+/// begins a range. Any other handle gives `refusal`.
 pub fn add_by(alloc: Global, held: &mut Held, value: u64) -> u32
     requires { IsHeld held.old }
     ensures of { IsHeld held.new }
@@ -228,7 +228,7 @@ pub fn add_by(alloc: Global, held: &mut Held, value: u64) -> u32
     }
 }
 
-// Puts the range that is collected here, if this is a stack's pass.
+// A stack's pass puts the range that it has collected. Any other handle gives `refusal`.
 fn put_range(held: Held, tries: u64) -> (Held, Answer)
     requires { IsHeld held }
     ensures of { IsHeld result.0 }
@@ -244,7 +244,8 @@ fn put_range(held: Held, tries: u64) -> (Held, Answer)
     }
 }
 
-/// Puts the range that what lies in the box has collected, if that is a stack's pass.
+/// The stack's pass in the box puts the range that it has collected. Any other handle gives
+/// `refusal`.
 pub fn put_range_by(held: &mut Held, tries: u64) -> Answer
     requires { IsHeld held.old }
     ensures of { IsHeld held.new }
@@ -255,7 +256,7 @@ pub fn put_range_by(held: &mut Held, tries: u64) -> Answer
     answer
 }
 
-// A put of these values by what is held, if that is a stack's pass, or is in a put of them.
+// A stack's pass begins a put of these values, or continues it. Any other handle gives `refusal`.
 fn put_copies(held: Held, values: &[u64], tries: u64) -> (Held, Answer)
     requires held { IsHeld held }
     requires same { Continues held values.now }
@@ -272,7 +273,8 @@ fn put_copies(held: Held, values: &[u64], tries: u64) -> (Held, Answer)
     }
 }
 
-/// A put of these values by what lies in the box, if that is a stack's pass, or is in a put of them.
+/// The stack's pass in the box begins a put of these values, or continues it. Any other handle
+/// gives `refusal`.
 pub fn put_copies_by(held: &mut Held, values: &[u64], tries: u64) -> Answer
     requires held { IsHeld held.old }
     requires same { Continues held.old values.now }
@@ -284,7 +286,7 @@ pub fn put_copies_by(held: &mut Held, values: &[u64], tries: u64) -> Answer
     answer
 }
 
-// Goes on with the call of what is held, if that is a pass.
+// A pass continues its call. A put of an array has none to continue here: it gives `NO_CALL`.
 fn go_on(held: Held, tries: u64) -> (Held, Answer)
     requires { IsHeld held }
     ensures of { IsHeld result.0 }
@@ -318,7 +320,7 @@ fn go_on(held: Held, tries: u64) -> (Held, Answer)
     }
 }
 
-/// Goes on with the call of what lies in the box, if that is a pass.
+/// The pass in the box continues its call. A put of an array gives `NO_CALL`.
 pub fn go_on_by(held: &mut Held, tries: u64) -> Answer
     requires { IsHeld held.old }
     ensures of { IsHeld held.new }
@@ -341,7 +343,7 @@ pub fn number_by(held: &Held) -> Answer
     }
 }
 
-// Ends the container of what is held, if that is a root, or hands out the next of what is left.
+// A root ends its container. Any later call hands out the next value that is left.
 fn finish(held: Held) -> (Held, Answer)
     requires { IsHeld held }
     ensures of { IsHeld result.0 }
@@ -379,7 +381,7 @@ fn finish(held: Held) -> (Held, Answer)
     }
 }
 
-/// Ends the container of the root that lies in the box, or hands out the next of what is left.
+/// The root in the box ends its container. Any later call hands out the next value that is left.
 pub fn finish_by(held: &mut Held) -> Answer
     requires { IsHeld held.old }
     ensures of { IsHeld held.new }

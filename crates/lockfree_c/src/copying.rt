@@ -1,4 +1,4 @@
-//! Ranges of a stack that are put from an array of C's, with no memory for them.
+//! Puts of a range onto a stack from an array of C's. They take no memory for the values.
 ghost use Rattle.treiber_stack.specs.Copying.{IsCopying};
 ghost use Rattle.lockfree_c.specs.Held.{CopyLeft, CopyWentOn, IsHeld, IsStackPass, StackCopied};
 
@@ -12,7 +12,7 @@ use std::alloc::Global;
 use std::sync::Arc;
 use treiber_stack::{Pass, RangeOp, Stack};
 
-// What is held once a put of an array was tried, and the answer.
+// What the handle holds after a put of an array was tried, and the answer.
 fn left(
     container: Arc<Stack<u64>, Global>,
     made: Stepped<RangeOp<u64>, Pass<u64>, Result<Ranged, RangeRefused>>,
@@ -32,7 +32,8 @@ fn left(
     }
 }
 
-/// A put of these values as a range; where the pass is in a call already, nothing.
+/// Puts these values as a range. If the pass is in a call already, nothing changes, and the code is
+/// `UNDER_WAY`.
 pub fn put_copies_of(pass: StackPass, values: &[u64], tries: u64) -> (Held, Answer)
     requires { IsStackPass pass }
     ensures of { IsHeld result.0 }
@@ -60,7 +61,7 @@ pub fn put_copies_of(pass: StackPass, values: &[u64], tries: u64) -> (Held, Answ
 }
 
 impl StackCopy {
-    /// Goes on with the put of the values that it was begun with.
+    /// Continues the put of the values that it was begun with.
     pub fn go_on(self, values: &[u64], tries: u64) -> (Held, Answer)
         requires { IsCopying self.container.value values.now self.op }
         ensures of { IsHeld result.0 }

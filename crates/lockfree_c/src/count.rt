@@ -18,15 +18,15 @@ use ms_queue::{LenOp, Pass, Queue};
 use std::alloc::Global;
 use std::sync::Arc;
 
-// How many steps a count makes where no value is taken, and after each look that found one taken.
+// How many steps a count makes if nobody takes a value, and after each look that found one taken.
 const LOADS: u64 = 4;
 
-// How many steps so many tries are.
+// How many steps this number of tries allows.
 fn steps_for(tries: u64) -> u64 {
     tries.saturating_mul(LOADS).saturating_add(LOADS)
 }
 
-// What is held once a count was tried, and the answer.
+// What the handle holds after a count was tried, and the answer.
 fn left(
     container: Arc<Queue<u64>, Global>,
     made: Stepped<LenOp<u64>, Pass<u64>, u64>,
@@ -46,7 +46,8 @@ fn left(
     }
 }
 
-/// A count of the values; where the pass is in a call already, nothing.
+/// Counts the values. If the pass is in a call already, nothing changes, and the code is
+/// `UNDER_WAY`.
 pub fn begin_count(pass: QueuePass, tries: u64) -> (Held, Answer)
     requires { IsQueuePass pass }
     ensures of { IsHeld result.0 }
@@ -74,7 +75,7 @@ pub fn begin_count(pass: QueuePass, tries: u64) -> (Held, Answer)
 }
 
 impl QueueCount {
-    /// Goes on with the count until its end, or until the tries are used up.
+    /// Continues the count until it ends, or until the tries are used up.
     pub fn go_on(self, tries: u64) -> (Held, Answer)
         requires { IsQueueCount self }
         ensures of { IsHeld result.0 }

@@ -1,4 +1,4 @@
-//! The functions that make a container for C, each into a slot that is empty.
+//! The functions that make a container for C. Each writes its root to a slot that is empty.
 ghost use Rattle.ring_queue.specs.declared.limits.TheConstants.{MAX_LAPS};
 ghost use Rattle.tagged_index.specs.declared.word.TheConstants.{MAX_TAG};
 ghost use Rattle.lockfree_c.specs.Held.{
@@ -17,7 +17,7 @@ use ring_queue::MAX_LAPS;
 use std::alloc::Global;
 use tagged_index::MAX_TAG;
 
-// A new queue's root, into a slot that is empty.
+// Makes a queue, and writes its root to a slot that is empty.
 fn make_queue(alloc: Global, root: &mut Slot, capacity: u32, tag_limit: u64) -> u32
     requires { IsSlot root.old }
     ensures of { IsSlot root.new }
@@ -35,7 +35,7 @@ fn make_queue(alloc: Global, root: &mut Slot, capacity: u32, tag_limit: u64) -> 
     }
 }
 
-// A new stack's root, into a slot that is empty.
+// Makes a stack, and writes its root to a slot that is empty.
 fn make_stack(alloc: Global, root: &mut Slot, capacity: u32, tag_limit: u64) -> u32
     requires { IsSlot root.old }
     ensures of { IsSlot root.new }
@@ -53,7 +53,7 @@ fn make_stack(alloc: Global, root: &mut Slot, capacity: u32, tag_limit: u64) -> 
     }
 }
 
-// A new ring's root, into a slot that is empty.
+// Makes a ring, and writes its root to a slot that is empty.
 fn make_ring(alloc: Global, root: &mut Slot, capacity: u32, laps: u64, passes: u32) -> u32
     requires { IsSlot root.old }
     ensures of { IsSlot root.new }
@@ -121,8 +121,8 @@ pub extern "C" fn lockfree_stack_limited(
     make_stack(alloc, root, capacity, tag_limit)
 }
 
-/// A new ring's root: an empty ring of this capacity for so many passes, open and not shut. Each of
-/// its slots can be filled 2^41 - 1 times.
+/// A new ring's root: an empty ring of this capacity for `passes` passes at once, open and not
+/// shut. Each of its slots can be filled 2^41 - 1 times.
 #[unsafe(no_mangle)]
 pub extern "C" fn lockfree_ring_new(
     alloc: Global,
@@ -137,8 +137,8 @@ pub extern "C" fn lockfree_ring_new(
     make_ring(alloc, root, capacity, MAX_LAPS, passes)
 }
 
-/// A new ring's root, as by `lockfree_ring_new`, each of whose slots can be filled so often: 1 to
-/// 2^41 - 1 times.
+/// A new ring's root, as by `lockfree_ring_new`. Each of its slots can be filled `laps` times: 1 to
+/// 2^41 - 1.
 #[unsafe(no_mangle)]
 pub extern "C" fn lockfree_ring_limited(
     alloc: Global,

@@ -1,5 +1,5 @@
-//! C may give a handle to another thread, also one with a call under way: the parts of what lies
-//! behind one may cross threads.
+//! C may give a handle to another thread, also while a call is under way. So the parts of what lies
+//! behind a handle may cross threads.
 
 use crate::held::{
     QueueCount, QueueGauge, QueuePass, QueueRoot, RingCount, RingGauge, RingPass, RingRoot,
@@ -8,7 +8,7 @@ use crate::held::{
 use bounded_calls::{QueueOperation, RingOperation, StackOperation};
 use bounded_model::Operation;
 
-// Asks that its type may cross threads, and does nothing.
+// Requires that its type may cross threads, and does nothing.
 fn crosses<T: Send>(_part: &T) {}
 
 /// The parts of a queue's root.
@@ -17,7 +17,7 @@ pub fn queue_root_crosses(root: &QueueRoot) {
     crosses(&root.root);
 }
 
-/// The parts of a queue's pass, but for the call that it is in.
+/// The parts of a queue's pass, except the call that it is in.
 pub fn queue_pass_crosses(pass: &QueuePass) {
     crosses(&pass.container);
     crosses(&pass.stage.resting);
@@ -52,7 +52,7 @@ pub fn stack_root_crosses(root: &StackRoot) {
     crosses(&root.root);
 }
 
-/// The parts of a stack's pass, but for the call that it is in.
+/// The parts of a stack's pass, except the call that it is in.
 pub fn stack_pass_crosses(pass: &StackPass) {
     crosses(&pass.container);
     crosses(&pass.stage.resting);
@@ -105,7 +105,7 @@ pub fn ring_root_crosses(root: &RingRoot) {
     crosses(&root.root);
 }
 
-/// The parts of a ring's pass, but for the call that it is in.
+/// The parts of a ring's pass, except the call that it is in.
 pub fn ring_pass_crosses(pass: &RingPass) {
     crosses(&pass.container);
     crosses(&pass.stage.resting);

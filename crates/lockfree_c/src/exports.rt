@@ -1,4 +1,4 @@
-//! The functions that C calls. A slot is written by them alone, and given to one call at a time.
+//! The functions that C calls. Only they write a slot, and C gives a slot to one call at a time.
 ghost use Rattle.std.specs.Prelude.{◌≡◌};
 ghost use Rattle.bounded_model.specs.declared.commands.Command.TheVariants.{
   Put,
@@ -71,7 +71,7 @@ pub extern "C" fn lockfree_split(alloc: Global, root: &mut Slot, pass: &mut Slot
     }
 }
 
-// Any call of what the slot holds.
+// The pass in the slot makes any call.
 fn call(pass: &mut Slot, command: Command<u64>, tries: u64) -> Answer
     requires { IsSlot pass.old }
     ensures of { IsSlot pass.new }
@@ -155,8 +155,8 @@ pub extern "C" fn lockfree_count(pass: &mut Slot, tries: u64) -> Answer
     count_by(pass.handle.open_mut(), tries)
 }
 
-/// Tells whether the container was closed, and how many of its tags were used; of a ring, how many
-/// values were put.
+/// Tells whether the container was closed, and how many of its tags were used, or in a ring how
+/// many values were put.
 #[unsafe(no_mangle)]
 pub extern "C" fn lockfree_gauge(pass: &mut Slot, tries: u64) -> Answer
     requires { IsSlot pass.old }
@@ -169,8 +169,8 @@ pub extern "C" fn lockfree_gauge(pass: &mut Slot, tries: u64) -> Answer
     gauge_by(pass.handle.open_mut(), tries)
 }
 
-/// Folds all values of a stack, which one compare-and-swap takes: from the top down, or reversed.
-/// Each value is an answer of its own.
+/// Folds all values of a stack: one compare-and-swap takes them. The order is from the top down, or
+/// reversed. Each value is an answer of its own.
 #[unsafe(no_mangle)]
 pub extern "C" fn lockfree_fold(pass: &mut Slot, reversed: bool, tries: u64) -> Answer
     requires { IsSlot pass.old }
@@ -183,8 +183,8 @@ pub extern "C" fn lockfree_fold(pass: &mut Slot, reversed: bool, tries: u64) -> 
     fold_by(pass.handle.open_mut(), reversed, tries)
 }
 
-/// Adds a value to the range that a stack's pass collects; the first one begins it. Until they are
-/// put the pass makes no other call.
+/// Adds a value to the range that a stack's pass collects. The first value begins the range. The
+/// pass makes no other call until `lockfree_range_put`.
 #[unsafe(no_mangle)]
 pub extern "C" fn lockfree_range_add(alloc: Global, pass: &mut Slot, value: u64) -> u32
     requires { IsSlot pass.old }
@@ -197,8 +197,8 @@ pub extern "C" fn lockfree_range_add(alloc: Global, pass: &mut Slot, value: u64)
     add_by(alloc, pass.handle.open_mut(), value)
 }
 
-/// Puts as many of the values as cells can be had, from the first that was added, by one
-/// compare-and-swap. The values that are not put are forgotten.
+/// Puts the values of the range by one compare-and-swap, from the first that was added, as far as
+/// it gets cells for them. It forgets the values that it does not put.
 #[unsafe(no_mangle)]
 pub extern "C" fn lockfree_range_put(pass: &mut Slot, tries: u64) -> Answer
     requires { IsSlot pass.old }
@@ -211,8 +211,8 @@ pub extern "C" fn lockfree_range_put(pass: &mut Slot, tries: u64) -> Answer
     put_range_by(pass.handle.open_mut(), tries)
 }
 
-/// Puts as many values of an array onto a stack as cells can be had, from the first, by one
-/// compare-and-swap. After `BUSY` it goes on, with the same array.
+/// Puts the values of an array onto a stack by one compare-and-swap, from the first, as far as it
+/// gets cells for them. After `BUSY` call it again with the same array to continue the put.
 #[unsafe(no_mangle)]
 pub extern "C" fn lockfree_put_range(pass: &mut Slot, values: &[u64], tries: u64) -> Answer
     requires slot { IsSlot pass.old }
@@ -226,7 +226,8 @@ pub extern "C" fn lockfree_put_range(pass: &mut Slot, values: &[u64], tries: u64
     put_copies_by(pass.handle.open_mut(), values, tries)
 }
 
-/// Goes on with the call that returned `BUSY`, or with the fold that returned `VALUE`.
+/// Continues the call that returned `BUSY`, or the fold that returned `VALUE`. It continues no put
+/// of an array: C calls `lockfree_put_range` again for that, and this call gives `NO_CALL`.
 #[unsafe(no_mangle)]
 pub extern "C" fn lockfree_go_on(pass: &mut Slot, tries: u64) -> Answer
     requires { IsSlot pass.old }
@@ -252,7 +253,7 @@ pub extern "C" fn lockfree_number(pass: &mut Slot) -> Answer
     number_by(pass.handle.open_mut())
 }
 
-/// Ends a container whose root is its only handle, and hands out what is left in it, one value an
+/// Ends a container if the root is its only handle, and hands out what is left in it, one value an
 /// answer.
 #[unsafe(no_mangle)]
 pub extern "C" fn lockfree_finish(root: &mut Slot) -> Answer

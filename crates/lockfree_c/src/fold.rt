@@ -1,4 +1,4 @@
-//! Folds of all values of a stack, each value handed out by itself.
+//! Folds of all values of a stack. Each value is an answer of its own.
 ghost use Rattle.std.specs.Prelude.{◌≡◌, []};
 ghost use Rattle.running.specs.Passes.{pass_in};
 ghost use Rattle.treiber_stack.specs.FoldOp.{IsFolding};
@@ -35,7 +35,7 @@ fn first(stack: &Stack<u64>, by: Pass<u64>, reversed: bool) -> FoldOp<u64>
     }
 }
 
-// What is held once a fold was run, and the answer.
+// What the handle holds after a fold was run, and the answer.
 fn left(container: Arc<Stack<u64>, Global>, made: FoldMade<u64>) -> (Held, Answer)
     ensures { FoldLeft container.value made result.0 result.1 }
 {
@@ -56,7 +56,8 @@ fn left(container: Arc<Stack<u64>, Global>, made: FoldMade<u64>) -> (Held, Answe
     }
 }
 
-/// A fold of all values; where the pass is in a call already, nothing.
+/// Folds all values. If the pass is in a call already, nothing changes, and the code is
+/// `UNDER_WAY`.
 pub fn begin_fold(pass: StackPass, reversed: bool, tries: u64) -> (Held, Answer)
     requires { IsStackPass pass }
     ensures of { IsHeld result.0 }
@@ -86,7 +87,7 @@ pub fn begin_fold(pass: StackPass, reversed: bool, tries: u64) -> (Held, Answer)
 }
 
 impl StackFold {
-    /// Goes on with the fold until its next value or its end.
+    /// Continues the fold until its next value or its end, or until the tries are used up.
     pub fn go_on(self, tries: u64) -> (Held, Answer)
         requires { IsStackFold self }
         ensures of { IsHeld result.0 }

@@ -1,4 +1,5 @@
-//! Gauges: whether a container was closed, and how many of its tags were used, both at one moment.
+//! Gauges. A gauge shows whether a container was closed, and how many of its tags were used or, in
+//! a ring, how many values were put, both at one moment.
 ghost use Rattle.lockfree_c.specs.Gauges.{
   GaugeLeft,
   GaugeWentOn,
@@ -19,18 +20,19 @@ use std::alloc::Global;
 use std::mem;
 use std::sync::Arc;
 
-// As many steps as a queue's gauge makes where no value is put meanwhile: it may have to move the tail.
+// How many steps a queue's gauge makes if nobody puts a value meanwhile. It may have to move the
+// tail.
 const UNDISTURBED: u64 = 8;
 
-// How many loads a gauge makes from its begin to its end, where the tail is that of the last node.
+// How many loads a gauge makes from its begin to its end, if the tail names the last node.
 const LOADS: u64 = 4;
 
-// How many steps so many tries are.
+// How many steps this number of tries allows.
 fn steps_for(tries: u64) -> u64 {
     tries.saturating_mul(LOADS).saturating_add(UNDISTURBED)
 }
 
-// What is held once a queue's gauge was tried, and the answer.
+// What the handle holds after a queue's gauge was tried, and the answer.
 fn left(
     container: Arc<Queue<u64>, Global>,
     made: Stepped<GaugeOp<u64>, Pass<u64>, Gauge>,
@@ -53,7 +55,8 @@ fn left(
     }
 }
 
-/// A gauge of the queue; where the pass is in a call already, nothing.
+/// Gauges the queue. If the pass is in a call already, nothing changes, and the code is
+/// `UNDER_WAY`.
 pub fn begin_gauge(pass: QueuePass, tries: u64) -> (Held, Answer)
     requires { IsQueuePass pass }
     ensures of { IsHeld result.0 }
@@ -83,7 +86,7 @@ pub fn begin_gauge(pass: QueuePass, tries: u64) -> (Held, Answer)
 }
 
 impl QueueGauge {
-    /// Goes on with the gauge until its end, or until the tries are used up.
+    /// Continues the gauge until it ends, or until the tries are used up.
     pub fn go_on(self, tries: u64) -> (Held, Answer)
         requires { IsQueueGauge self }
         ensures of { IsHeld result.0 }
@@ -95,7 +98,8 @@ impl QueueGauge {
     }
 }
 
-/// A gauge of the stack, which is one step; where the pass is in a call already, nothing.
+/// Gauges the stack, in one step. If the pass is in a call already, nothing changes, and the code
+/// is `UNDER_WAY`.
 pub fn stack_gauge(pass: &mut StackPass) -> Answer
     requires { IsStackPass pass.old }
     ensures of { IsStackPass pass.new }
@@ -111,7 +115,7 @@ pub fn stack_gauge(pass: &mut StackPass) -> Answer
     }
 }
 
-// A gauge by what is held, if that is a pass.
+// A pass gauges its container. Any other handle gives `refusal`.
 fn gauge(held: Held, tries: u64) -> (Held, Answer)
     requires { IsHeld held }
     ensures of { IsHeld result.0 }
@@ -132,7 +136,7 @@ fn gauge(held: Held, tries: u64) -> (Held, Answer)
     }
 }
 
-/// A gauge by what lies in the box, if that is a pass.
+/// The pass in the box gauges its container. Any other handle gives `refusal`.
 pub fn gauge_by(held: &mut Held, tries: u64) -> Answer
     requires { IsHeld held.old }
     ensures of { IsHeld held.new }

@@ -30,45 +30,45 @@ pub type RingRoot = RootOf<RingQueue<u64>, ring_queue::Root<u64>>;
 /// A ring's pass, with a share of the ring.
 pub type RingPass = PassOf<RingQueue<u64>, ring_queue::Pass<u64>, RingOperation>;
 
-/// A queue's pass in a count of the values, with a share of the queue. It stands apart from the others,
-/// so that their puts and takes do not ask for it.
+/// A queue's pass in a count of the values, with a share of the queue. It is a variant of its own,
+/// so that the puts and takes of the pass need not check for it.
 #[derive(Drop)]
 pub struct QueueCount {
     pub container: Arc<Queue<u64>, Global>,
     pub op: LenOp<u64>,
 }
 
-/// A queue's pass in a gauge, with a share of the queue. It stands apart as a count does.
+/// A queue's pass in a gauge, with a share of the queue. It is a variant of its own as a count is.
 #[derive(Drop)]
 pub struct QueueGauge {
     pub container: Arc<Queue<u64>, Global>,
     pub op: GaugeOp<u64>,
 }
 
-/// A ring's pass in a count of the values, with a share of the ring. It stands apart as a queue's does.
+/// A ring's pass in a count of the values, with a share of the ring. It is a variant of its own.
 #[derive(Drop)]
 pub struct RingCount {
     pub container: Arc<RingQueue<u64>, Global>,
     pub op: ring_queue::LenOp<u64>,
 }
 
-/// A ring's pass in a gauge, with a share of the ring. It stands apart as a count does.
+/// A ring's pass in a gauge, with a share of the ring. It is a variant of its own as a count is.
 #[derive(Drop)]
 pub struct RingGauge {
     pub container: Arc<RingQueue<u64>, Global>,
     pub op: ring_queue::GaugeOp<u64>,
 }
 
-/// A stack's pass in a fold of all values, with a share of the stack. It stands apart from the others,
-/// so that their puts and takes do not ask for it.
+/// A stack's pass in a fold of all values, with a share of the stack. It is a variant of its own,
+/// so that the puts and takes of the pass need not check for it.
 #[derive(Drop)]
 pub struct StackFold {
     pub container: Arc<Stack<u64>, Global>,
     pub op: FoldOp<u64>,
 }
 
-/// A stack's pass that collects the values of a range, each in a place, with a share of the stack. It
-/// makes no call until they are put.
+/// A stack's pass that collects the values of a range, each in a place, with a share of the stack.
+/// It makes no call until it puts them.
 #[derive(Drop)]
 pub struct StackRange {
     pub container: Arc<Stack<u64>, Global>,
@@ -76,8 +76,8 @@ pub struct StackRange {
     pub values: Vec<Option<u64>>,
 }
 
-/// A stack's pass in a put of a range from an array of C's, with a share of the stack. C keeps the array,
-/// and gives it again to go on.
+/// A stack's pass in a put of a range from an array of C's, with a share of the stack. C keeps the
+/// array, and gives it again to continue the put.
 #[derive(Drop)]
 pub struct StackCopy {
     pub container: Arc<Stack<u64>, Global>,
@@ -110,16 +110,17 @@ pub enum Held {
     RingPass(RingPass),
     RingCount(RingCount),
     RingGauge(RingGauge),
-    /// What is left of a queue that was ended, and not handed out yet.
+    /// The values of a queue that was ended that were not handed out yet.
     QueueRest(ms_queue::Rest<u64>),
-    /// The same of a stack.
+    /// Those of a stack.
     StackRest(treiber_stack::Rest<u64>),
-    /// The same of a ring.
+    /// Those of a ring.
     RingRest(ring_queue::Rest<u64>),
 }
 
 impl Held {
-    /// Why it makes no call, where it is no pass for one. Apart from the calls, which ask a pass mostly.
+    /// Why it makes no call, if it is no pass for one. A function of its own, since most calls find
+    /// a pass.
     #[cold]
     pub fn refusal(&self) -> u32
         ensures { result ≡ refusal_of self.now }

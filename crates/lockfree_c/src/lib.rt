@@ -1,9 +1,11 @@
-//! The queue, the stack and the ring for C, C++ and Rust: what a program that is not Rattle holds, and the
-//! calls that it makes.
+//! The queue, the stack and the ring for C, C++ and Rust: what a program that is not Rattle holds,
+//! and the calls that it makes.
 //!
-//! Promised, as long as C keeps the rules of `c/lockfree.h`: an export returns what the container's
-//! law says of the call, and a pass is used with its own container only. A test shows that the last
-//! handle of a container frees it; no contract says it.
+//! Promised, as long as C keeps the rules of `c/lockfree.h`:
+//! - An export returns what the container's law says of the call.
+//! - A pass is used with its own container only.
+//!
+//! A test shows that the last handle of a container frees it. No contract says it.
 #![tactic(auto)]
 
 mod answers;

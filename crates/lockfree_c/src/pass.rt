@@ -11,7 +11,7 @@ use bounded_model::{Command, Reply, Stepped};
 use std::alloc::Global;
 use std::sync::Arc;
 
-/// A container's pass, with a share of the container: so it is used with no other.
+/// A container's pass, with a share of the container. So the pass is used with no other container.
 #[derive(Drop)]
 pub struct PassOf<C, P, O> {
     pub container: Arc<C, Global>,
@@ -19,7 +19,8 @@ pub struct PassOf<C, P, O> {
 }
 
 impl<C: BoundedCalls<u64>> PassOf<C, C::Pass, C::Operation> {
-    /// A put; if the pass is in a call already, nothing.
+    /// Puts a value. If the pass is in a call already, nothing changes, and the code is
+    /// `UNDER_WAY`.
     #[inline(always)]
     pub fn put(&mut self, value: u64, tries: u64) -> Answer
         requires { IsPass C.reading self.old }
@@ -40,7 +41,8 @@ impl<C: BoundedCalls<u64>> PassOf<C, C::Pass, C::Operation> {
         }
     }
 
-    // A put that found no room. A function of its own, so that a put that finds some has nothing of it.
+    // A put that found no room. A function of its own, so that a put that finds room has none of
+    // its code.
     #[inline(never)]
     fn refuse(&mut self, by: C::Pass, value: u64, tries: u64) -> Answer
         requires stage { (self.old.stage.resting ≡ None) × (self.old.stage.under_way ≡ None) }
@@ -58,7 +60,8 @@ impl<C: BoundedCalls<u64>> PassOf<C, C::Pass, C::Operation> {
         }
     }
 
-    /// A take; if the pass is in a call already, nothing.
+    /// Takes a value. If the pass is in a call already, nothing changes, and the code is
+    /// `UNDER_WAY`.
     #[inline(always)]
     pub fn take(&mut self, tries: u64) -> Answer
         requires { IsPass C.reading self.old }
@@ -78,7 +81,7 @@ impl<C: BoundedCalls<u64>> PassOf<C, C::Pass, C::Operation> {
         }
     }
 
-    /// A look; if the pass is in a call already, nothing.
+    /// Looks. If the pass is in a call already, nothing changes, and the code is `UNDER_WAY`.
     #[inline(always)]
     pub fn look(&mut self, tries: u64) -> Answer
         requires { IsPass C.reading self.old }
@@ -98,7 +101,8 @@ impl<C: BoundedCalls<u64>> PassOf<C, C::Pass, C::Operation> {
         }
     }
 
-    /// Any call, with no fast path; if the pass is in one already, nothing.
+    /// Makes any call, with no fast path. If the pass is in one already, nothing changes, and the
+    /// code is `UNDER_WAY`.
     pub fn call(&mut self, command: Command<u64>, tries: u64) -> Answer
         requires { IsPass C.reading self.old }
         ensures of { IsPass C.reading self.new }
@@ -114,8 +118,9 @@ impl<C: BoundedCalls<u64>> PassOf<C, C::Pass, C::Operation> {
         }
     }
 
-    /// Goes on with the call that the pass is in, if it is in one. A function of its own, so that a
-    /// put and a take on their fast path have no locals for it, and need not clear them.
+    /// Continues the call that the pass is in. If it is in none, the code is `NO_CALL`. A function
+    /// of its own, so that a put and a take on their fast path have no locals for it and need not
+    /// clear them.
     #[inline(never)]
     pub fn go_on(&mut self, tries: u64) -> Answer
         requires { IsPass C.reading self.old }

@@ -1,4 +1,5 @@
-//! Ranges of a stack: C gives the values one after another, and then one compare-and-swap puts them.
+//! Ranges of a stack. C gives the values one after another, and then one compare-and-swap puts
+//! them.
 ghost use Rattle.lockfree_c.specs.Held.{
   IsHeld,
   IsStackPass,
@@ -22,7 +23,7 @@ use std::alloc::Global;
 use std::sync::Arc;
 use treiber_stack::{Pass, RangeOp, Stack};
 
-// What is held once a put of a range was run, and the answer.
+// What the handle holds after a put of a range was run, and the answer.
 fn left(
     container: Arc<Stack<u64>, Global>,
     values: Vec<Option<u64>>,
@@ -47,8 +48,8 @@ fn left(
     }
 }
 
-/// Begins a range with this value. A pass that is in a call already, or for which there is no memory,
-/// is as it was.
+/// Begins a range with this value. If the pass is in a call already, the code is `UNDER_WAY`. If
+/// there is no memory, it is `NO_MEMORY`. Then nothing changes.
 pub fn begin_range_of(alloc: Global, pass: StackPass, value: u64) -> (Held, u32)
     requires { IsStackPass pass }
     ensures of { IsHeld result.0 }
@@ -89,7 +90,8 @@ pub fn begin_range_of(alloc: Global, pass: StackPass, value: u64) -> (Held, u32)
     }
 }
 
-/// The answer to a put of a range where none is collected; nothing is done.
+/// The answer to a put of a range if the pass collects none: `EMPTY`, or `UNDER_WAY` if it is in a
+/// call. Nothing changes.
 pub fn put_nothing(pass: StackPass) -> (Held, Answer)
     requires { IsStackPass pass }
     ensures of { IsHeld result.0 }
@@ -103,7 +105,8 @@ pub fn put_nothing(pass: StackPass) -> (Held, Answer)
 }
 
 impl StackRange {
-    /// Adds a value at the end; where there is no memory, nothing.
+    /// Adds a value at the end. If there is no memory, it adds nothing, and the code is
+    /// `NO_MEMORY`.
     pub fn add(&mut self, value: u64) -> u32
         requires { IsStackRange self.old }
         ensures of { IsStackRange self.new }
@@ -115,7 +118,8 @@ impl StackRange {
         }
     }
 
-    /// Begins the put of the values, and goes on with it.
+    /// Begins the put of the values, and continues it until it ends, or until the tries are used
+    /// up.
     pub fn put(self, tries: u64) -> (Held, Answer)
         requires { IsStackRange self }
         ensures of { IsHeld result.0 }
@@ -139,7 +143,7 @@ impl StackRange {
 }
 
 impl StackRangePut {
-    /// Goes on with the put until its end, or until the tries are used up.
+    /// Continues the put until it ends, or until the tries are used up.
     pub fn go_on(self, tries: u64) -> (Held, Answer)
         requires { IsStackRangePut self }
         ensures of { IsHeld result.0 }

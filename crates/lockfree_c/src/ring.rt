@@ -18,19 +18,19 @@ use ring_queue::{Gauge, GaugeOp, LenOp, Pass, RingQueue};
 use std::alloc::Global;
 use std::sync::Arc;
 
-// As many steps as a count makes from its begin, and after each look that found a value taken, if no
-// other pass succeeds meanwhile.
+// How many steps a count makes if no other pass succeeds meanwhile: from its begin, and after each
+// look that found a value taken.
 const COUNTS: u64 = 25;
 
-// The same of a gauge.
+// How many steps a gauge makes from its begin, if no other pass succeeds meanwhile.
 const GAUGES: u64 = 12;
 
-// How many steps so many tries are, each of so many.
+// How many steps this number of tries allows, if each try has `each` steps.
 fn steps_for(tries: u64, each: u64) -> u64 {
     tries.saturating_mul(each).saturating_add(each)
 }
 
-// What is held once a count was tried, and the answer.
+// What the handle holds after a count was tried, and the answer.
 fn count_left(
     container: Arc<RingQueue<u64>, Global>,
     made: Stepped<LenOp<u64>, Pass<u64>, u64>,
@@ -50,7 +50,7 @@ fn count_left(
     }
 }
 
-// The same of a gauge.
+// What the handle holds after a gauge was tried, and the answer.
 fn gauge_left(
     container: Arc<RingQueue<u64>, Global>,
     made: Stepped<GaugeOp<u64>, Pass<u64>, Gauge>,
@@ -73,7 +73,8 @@ fn gauge_left(
     }
 }
 
-/// A count of the values; where the pass is in a call already, nothing.
+/// Counts the values. If the pass is in a call already, nothing changes, and the code is
+/// `UNDER_WAY`.
 pub fn begin_ring_count(pass: RingPass, tries: u64) -> (Held, Answer)
     requires { IsRingPass pass }
     ensures of { IsHeld result.0 }
@@ -102,7 +103,7 @@ pub fn begin_ring_count(pass: RingPass, tries: u64) -> (Held, Answer)
     }
 }
 
-/// A gauge of the ring; where the pass is in a call already, nothing.
+/// Gauges the ring. If the pass is in a call already, nothing changes, and the code is `UNDER_WAY`.
 pub fn begin_ring_gauge(pass: RingPass, tries: u64) -> (Held, Answer)
     requires { IsRingPass pass }
     ensures of { IsHeld result.0 }
@@ -132,7 +133,7 @@ pub fn begin_ring_gauge(pass: RingPass, tries: u64) -> (Held, Answer)
 }
 
 impl RingCount {
-    /// Goes on with the count until its end, or until the tries are used up.
+    /// Continues the count until it ends, or until the tries are used up.
     pub fn go_on(self, tries: u64) -> (Held, Answer)
         requires { IsRingCount self }
         ensures of { IsHeld result.0 }
@@ -145,7 +146,7 @@ impl RingCount {
 }
 
 impl RingGauge {
-    /// Goes on with the gauge until its end, or until the tries are used up.
+    /// Continues the gauge until it ends, or until the tries are used up.
     pub fn go_on(self, tries: u64) -> (Held, Answer)
         requires { IsRingGauge self }
         ensures of { IsHeld result.0 }

@@ -1,4 +1,5 @@
-//! A root of any container, with a share of it: passes, and the end, whose values are handed out one an answer.
+//! A root of any container, with a share of it. It gives passes, and ends the container. The end
+//! hands out the values that are left, one an answer.
 ghost use Rattle.std.specs.Prelude.{◌≡◌, MatchResult};
 ghost use Rattle.lockfree_c.specs.Shares.{HandsOut, IsEnded, IsSplit};
 
@@ -17,7 +18,7 @@ pub struct RootOf<C, R> {
     pub root: R,
 }
 
-/// The next of what is left.
+/// Hands out the next value that is left (`VALUE`), or says that there is none (`EMPTY`).
 pub fn hand_out<R: Leaving<u64>>(rest: &mut R) -> Answer
     ensures { HandsOut (R.left rest.old) (R.left rest.new) result }
 {
@@ -28,7 +29,8 @@ pub fn hand_out<R: Leaving<u64>>(rest: &mut R) -> Answer
 }
 
 impl<C: BoundedCalls<u64>> RootOf<C, C::Root> {
-    /// A pass with a share of the container.
+    /// A pass with a share of the container. The code is `NO_MEMORY` if there is no memory for the
+    /// share, and `NO_PASS` if the largest number of passes is out.
     pub fn split(
         self,
     ) -> (
@@ -56,8 +58,8 @@ impl<C: BoundedCalls<u64>> RootOf<C, C::Root> {
         }
     }
 
-    /// Ends the container, and hands out the first of what is left; the root again, if another handle
-    /// of it is out.
+    /// Ends the container, and hands out the first value that is left. If another handle of it is
+    /// out, the call gives the root back.
     pub fn finish(self) -> Result<(C::Rest, Answer), RootOf<C, C::Root>>
         requires { C.is_root self.container.value self.root }
         ensures { MatchResult result

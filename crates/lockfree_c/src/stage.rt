@@ -4,8 +4,8 @@ ghost use Rattle.std.specs.Prelude.{◌≡◌, None, Some};
 use crate::answers::{Answer, BUSY, OK, UNDER_WAY, number_of};
 use bounded_model::{Reply, Stepped};
 
-/// A pass between its calls, or the call that it is in. They stand apart, so that a call that ends
-/// at once moves no operation.
+/// A pass between its calls, or the call that it is in. They are separate fields, so that a call
+/// that ends at once moves no operation.
 #[derive(Drop)]
 pub struct Stage<P, O> {
     pub resting: Option<P>,
@@ -30,7 +30,7 @@ impl<P: Drop, O: Drop> Stage<P, O> {
         }
     }
 
-    /// The number of the call that ended last; not while one is under way.
+    /// The number of the call that ended last. While a call is under way, the code is `UNDER_WAY`.
     #[inline]
     pub fn number(&self) -> Answer
         ensures { SaysNumber self.now result }
@@ -41,7 +41,7 @@ impl<P: Drop, O: Drop> Stage<P, O> {
         }
     }
 
-    /// Keeps the pass of a call that has ended, and answers what that gave.
+    /// Keeps the pass of a call that has ended, and answers what the call gave.
     #[inline(always)]
     pub fn rest(&mut self, by: P, said: Reply<u64>) -> Answer
         requires { self.old.under_way ≡ None }
@@ -52,7 +52,8 @@ impl<P: Drop, O: Drop> Stage<P, O> {
         Answer::of_reply(said)
     }
 
-    /// Keeps what a tried call gave back, and answers: a call that is under way is busy.
+    /// Keeps what a tried call gave back, and answers. If the call is still under way, the code is
+    /// `BUSY`.
     pub fn leave(&mut self, made: Stepped<O, P, Reply<u64>>) -> Answer
         requires { (self.old.resting ≡ None) × (self.old.under_way ≡ None) }
         ensures { LeftBy made self.new result }

@@ -8,8 +8,8 @@ use Rattle.bounded_model.specs.declared.answers.PutRefused.TheVariants.{Full, Cl
 use Rattle.ring_machine.specs.declared.lines.Answer.{Answer}
 use Rattle.ring_machine.specs.declared.lines.Answer.TheVariants.{Put as AnswerPut, Take as AnswerTake, Close as AnswerClose, Shut as AnswerShut, Look as AnswerLook, Len as AnswerLen, Gauge as AnswerGauge}
 
--- a ring of n slots, each of which is filled at most so many times: a lap raises a slot's tag by two. How many passes may
--- be out is for its root to say
+-- a ring of n slots, each of which can be filled `laps` times: a lap raises a slot's tag by two. Its root says how many
+-- passes may be out
 abbrev pub shape : ℕ → ℕ → bounded.Shape
 shape n laps = record { order = Fifo; capacity = n; limit = 2 * laps; passes = 0 }
 
@@ -17,13 +17,13 @@ shape n laps = record { order = Fifo; capacity = n; limit = 2 * laps; passes = 0
 abbrev pub state : {T : Type 0} → ℕ → ℕ → List (Event T) → bounded.State T
 state n laps history = bounded.state (shape n laps) history
 
--- whether the ring is closed at the end of a history, and how many values were put, of those that it can take: each of
--- its n slots is filled at most so many times
+-- whether the ring is closed at the end of a history, and how many values were put. They are at most the values that
+-- the ring can take: `laps` for each of its n slots
 abbrev pub IsGauged : {T : Type 0} → ℕ → ℕ → Bool → ℕ → List (Event T) → Type 0
 IsGauged n laps closed used h = ((state n laps h).closed ≡ closed) × ((state n laps h).puts ≡ used) × (used ≤ laps * n)
 
--- some history between those seen at the begin and at the end of an operation justifies its answer,
--- where that is one that changes nothing
+-- some history between those seen at the begin and at the end of an operation justifies its answer, if the answer is
+-- one that changes nothing
 abbrev pub IsRight : {T : Type 0} → ℕ → ℕ → List (Event T) → List (Event T) → Answer T → Type 0
 IsRight n laps begun seen (AnswerPut (Ok done)) = Unit {0}
 IsRight n laps begun seen (AnswerPut (Err (Full v))) = right.Sometime begun seen (λ h. right.Justifies (shape n laps) h right.PutFull)

@@ -1,5 +1,5 @@
--- What a pass of the ring has done since its operation was begun with a call: its own events, by its line
--- and at the end by its answer.
+-- What a pass of the ring has done since its operation was begun with a call: its own events. The line says which, and
+-- at the end the answer does.
 use Rattle.std.specs.Prelude.{◌≡◌, ℕ, if◌then◌else◌, List, [], ◌∷◌, ◌++◌, Result, Some, None, Ok, Err}
 use Rattle.bounded_model.specs.declared.answers.Word.TheVariants.{Next}
 use Rattle.bounded_model.specs.declared.answers.PutRefused.{PutRefused}
@@ -22,7 +22,7 @@ use Rattle.ring_machine.specs.declared.lines.Line.TheVariants.{Idle, FetchTail, 
 use Rattle.ring_machine.specs.Machine.{put_done, take_done}
 
 module _ {T : Type 0} (p : ℕ) where
-  -- All the events of pass p from begin to answer, the newest first, are these
+  -- The events of pass p from begin to answer, the newest first
 
   -- a put of v takes a cell and puts v, in one step. A refusal hands v back
   abbrev pub MakesPut : T → Result ℕ (PutRefused T) → List (Event T) → Type 0
@@ -38,7 +38,7 @@ module _ {T : Type 0} (p : ℕ) where
   MakesTake (Err (TakeSpent word t)) events = ⊥
   MakesTake (Err why) events = events ≡ []
 
-  -- the answer is one of the call, and the events are those that it speaks of
+  -- the answer is one of the call, and the events are those of the answer
   abbrev pub Makes : Call T → Answer T → List (Event T) → Type 0
   Makes (CallPut v) (AnswerPut r) events = MakesPut v r events
   Makes CallTake (AnswerTake r) events = MakesTake r events
@@ -49,7 +49,7 @@ module _ {T : Type 0} (p : ℕ) where
   Makes CallGauge (AnswerGauge closed used) events = events ≡ []
   Makes call a events = ⊥
 
-  -- So far the call and the events are these
+  -- The call and the events of an operation that is at this line
 
   abbrev pub seeks_back : Back T → Call T
   seeks_back (ToPut v) = CallPut v

@@ -26,8 +26,8 @@ use Rattle.ring_machine.specs.declared.lines.Line.TheVariants.{Idle, FetchTail, 
 use Rattle.ring_machine.specs.declared.lines.Call.{Call}
 use Rattle.ring_machine.specs.declared.lines.Call.TheVariants.{Put as CallPut, Take as CallTake, Close as CallClose, Shut as CallShut, Look as CallLook, Len as CallLen, Gauge as CallGauge}
 
--- The words, and what each value cell has: none while a pass has it in hand, some None where it is empty at home.
--- `head` and `tail` name positions near the front and the back
+-- The words, and the value of each cell: none while a pass has the cell in hand, some None if the cell is empty at
+-- home. `head` and `tail` name positions near the front and the back
 pub record Memory (T : Type 0) : Type 0 where
   pub head : Tagged
   pub tail : Tagged
@@ -38,8 +38,8 @@ pub record Memory (T : Type 0) : Type 0 where
 abbrev pub store_word : (ℕ → Tagged) → ℕ → Tagged → ℕ → Tagged
 store_word slot i x j = if j == i then x else slot j
 
--- A position of a ring of n slots: a word's index says which slot, and its tag in which lap. Its place in
--- the order of all, and the position behind it
+-- A position of a ring of n slots. A word's index says which slot, and its tag in which lap. Its place in the order of
+-- all positions, and the next position
 abbrev pub place : ℕ → Tagged → ℕ
 place n w = w.tag * n + w.index
 
@@ -53,7 +53,7 @@ empty_at lap = 2 * lap
 abbrev pub full_at : ℕ → ℕ
 full_at lap = 2 * lap + 1
 
--- a walk goes on for fewer positions than these, and then moves `HEAD` or `TAIL`
+-- a walk passes fewer positions than this, and then moves `HEAD` or `TAIL`
 abbrev pub stride : ℕ
 stride = 8
 
@@ -77,8 +77,8 @@ module _ {T : Type 0} where
   abbrev pub after_stow : Memory T → ℕ → Memory T
   after_stow m c = record m { home = with_home m.home c (some None) }
 
-  -- a slot's cell is exchanged for the spare one, which comes home with a value; or for the spare one, while
-  -- that of the slot leaves home
+  -- A slot's cell is exchanged for the spare one. In a put the spare cell comes home with a value; in a take the cell
+  -- of the slot leaves home
   abbrev pub after_put : Memory T → Walk → Tagged → T → Memory T
   after_put m w x v = record m { slot = store_word m.slot w.at.index (raised x w.cell); home = with_home m.home w.cell (some (Some v)) }
 
@@ -94,7 +94,7 @@ module _ {T : Type 0} where
   abbrev pub after_head : Memory T → Tagged → Memory T
   after_head m w = record m { head = w }
 
-  -- Where a pass goes on, from its line and the word that it found
+  -- The next line of a pass, from its line and the word that it found
 
   abbrev pub ends : ℕ → Answer T → Line T
   ends c a = Idle c (Some a)
@@ -138,11 +138,11 @@ module _ {T : Type 0} where
   abbrev pub found_front : ℕ → Walk → Front → Tagged → Line T
   found_front n w s x = if ltb (full_at w.at.tag) x.tag then beyond_front n w s else at_front w s x
 
-  -- where a take was made meanwhile, the count begins again
+  -- if another pass took a value meanwhile, the count begins again
   abbrev pub found_again : ℕ → ℕ → Tagged → Tagged → Tagged → Line T
   found_again n c front back x = if ltb (full_at front.tag) x.tag then LoadHead c ToCountFrom else ends c (AnswerLen (place n back - place n front))
 
-  -- the put, or the take, has its number: the place where the walk has come to
+  -- the number of the put, or of the take, is the place to which the walk has come
   abbrev pub put_done : ℕ → Walk → Answer T
   put_done n w = AnswerPut (Ok (place n w.at))
 
@@ -195,7 +195,7 @@ module _ {T : Type 0} where
   abbrev pub by : Line T → (ℕ → List (Event T)) → Then (Line T) (Event T)
   by l events = record { line = l; events = events }
 
-  -- The cell of the slot is the pass's spare one now. Of a put it stays at home, empty; of a take it comes with
+  -- The cell of the slot is now the pass's spare one. After a put it stays at home, empty; after a take it comes with
   -- the value
   abbrev pub took : ℕ → Walk → ℕ → List (Option (Slot T)) → Option (Then (Line T) (Event T))
   took n w c (some (Some v) ∷ others) = some (by (has_taken n (with_cell w c) v) (λ p. Free p 1 ∷ Take p v (place n w.at) ∷ []))

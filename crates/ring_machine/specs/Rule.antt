@@ -1,5 +1,5 @@
--- What holds of the ring between any two steps: of its words and cells, and of its history. T, the number
--- of takes, is the place of the front, and P, the number of puts, that of the back.
+-- What holds of the ring between any two steps: of its words and cells, and of its history. T is the number of takes
+-- and the place of the front. P is the number of puts and the place of the back.
 use Rattle.std.specs.Prelude.{◌≡◌, ℕ, zero, suc, ◌+◌, ◌-◌, ◌*◌, ◌<◌, ◌≤◌, Bool, true, false, ltb, if◌then◌else◌, List, [], ◌∷◌, length, None, Some}
 use mathlib.Core.Option.{some}
 use lib.ListN.{get_elem?}
@@ -14,30 +14,30 @@ use Rattle.ring_machine.specs.declared.lines.Line.TheVariants.{Idle, FetchTail, 
 use Rattle.ring_machine.specs.Machine.{Memory, place, empty_at, full_at, stride, cell_of, is_home, held_cells}
 use Rattle.ring_machine.specs.Answers.{IsRight, shape, state}
 
--- How far the ring has come: the places that the hints name, the number of puts and that of takes. None of
--- these ever falls
+-- How far the ring has come: the places that the hints name, the number of puts and the number of takes. None of these
+-- ever falls
 pub record Progress : Type 0 where
   pub tail : ℕ
   pub head : ℕ
   pub puts : ℕ
   pub takes : ℕ
 
--- Of what passes have read. All of it is said of places, and no pass can undo it
+-- What passes have read. It is all about places, so no pass can undo it
 
 -- a position that is no further than this place
 pub record IsBefore (n most : ℕ) (w : Tagged) : Type 0 where
   pub slot : w.index < n
   pub before : place n w ≤ most
 
--- a walk from what a hint said, each position of which was put, or taken, before the walk left it: `hint` is
--- the place that it names now, `most` the back or the front
+-- a walk from the position of a hint. Each position was put, or taken, before the walk passed it. `hint` is the place
+-- that the hint names now, and `most` that of the back or the front
 pub record Walks (n hint most : ℕ) (w : Walk) : Type 0 where
   pub at : IsBefore n most w.at
   pub from : place n w.from ≤ hint
   pub gone : place n w.at ≡ place n w.from + w.gone
   pub short : w.gone < stride
 
--- one that has gone as far as it may
+-- a walk that has gone as far as it may
 pub record HasWalked (n most : ℕ) (w : Walk) : Type 0 where
   pub at : IsBefore n most w.at
   pub gone : place n w.at ≡ place n w.from + stride
@@ -73,13 +73,13 @@ module _ {T : Type 0} (n laps : ℕ) (g : Progress) where
   IsFine (ShutFront w x) = Walks n g.head g.takes w × (x.second ≡ false) × (x.tag ≤ full_at w.at.tag)
   IsFine (CheckFront c front back) = IsBefore n g.takes front
 
--- A hint names a position that is not behind the one that it hints at, and less than a stride before it
+-- A hint names a position that is not after the one that it hints at, and at most a stride before it
 pub record Hints (n exact : ℕ) (w : Tagged) : Type 0 where
   pub at : IsBefore n exact w
   pub near : exact ≤ place n w + stride
 
--- The slots: the positions below T are taken, those from T to P - 1 are full, and those from P on are not
--- filled yet. At slot i and lap l is the place l * n + i
+-- The slots: the positions below T are taken, those from T to P - 1 are full, and those from P on are not yet filled.
+-- Slot i at lap l is the place l * n + i
 pub record Turned (n laps puts takes : ℕ) (slot : ℕ → Tagged) : Type 0 where
   pub put : (i lap : ℕ) → i < n → lap * n + i < puts → empty_at lap < (slot i).tag
   pub unput : (i lap : ℕ) → i < n → puts ≤ lap * n + i → (slot i).tag ≤ empty_at lap
@@ -87,28 +87,28 @@ pub record Turned (n laps puts takes : ℕ) (slot : ℕ → Tagged) : Type 0 whe
   pub untaken : (i lap : ℕ) → i < n → takes ≤ lap * n + i → (slot i).tag ≤ full_at lap
   pub within : (i : ℕ) → i < n → (slot i).tag ≤ 2 * laps
 
--- The marks: the ring is closed where the slot at the back has the mark, and no other slot ever has it; and
--- shut where the slot at the front has the second mark
+-- The marks: the ring is closed exactly if the slot at the back has the mark, and shut exactly if the slot at the front
+-- has the second mark. If the ring is not closed, no slot has the mark; if it is not shut, no slot has the second mark
 pub record Marked (n puts takes : ℕ) (closed shut : Bool) (slot : ℕ → Tagged) : Type 0 where
   pub closed_marked : closed ≡ true → (i lap : ℕ) → i < n → lap * n + i ≡ puts → (slot i).mark ≡ true
   pub marked_closed : (i : ℕ) → i < n → (slot i).mark ≡ true → closed ≡ true
   pub shut_marked : shut ≡ true → (i lap : ℕ) → i < n → lap * n + i ≡ takes → (slot i).second ≡ true
   pub marked_shut : (i : ℕ) → i < n → (slot i).second ≡ true → shut ≡ true
 
--- the cells of the slots, of n slots
+-- the cells of n slots
 abbrev pub cells_in : ℕ → (ℕ → Tagged) → List ℕ
 cells_in zero slot = []
 cells_in (suc n) slot = (slot n).index ∷ cells_in n slot
 
 module _ (T : Type 0) where
-  -- The values: the cell of an empty slot is empty, and that of a full one has the value that was put there:
-  -- so many values stand before it as places lie between the front and it
+  -- The values: the cell of an empty slot is empty, and that of a full slot has the value that was put there. That
+  -- value's index among the values is the slot's place less the front's
   pub record Filled (n takes : ℕ) (m : Memory T) (values : List T) : Type 0 where
     pub empty : (i lap : ℕ) → i < n → (m.slot i).tag ≡ empty_at lap → m.home (m.slot i).index ≡ some None
     pub stored : (i lap : ℕ) (v : T) → i < n → (m.slot i).tag ≡ full_at lap → get_elem? values (lap * n + i - takes) ≡ some v → m.home (m.slot i).index ≡ some (Some v)
 
-  -- The history is legal, and has what the ring has. No hand ever has anything between two steps: a put takes
-  -- its cell as it puts, a take gives its cell back as it takes
+  -- The history is legal, and its state is that of the ring. No hand has anything between two steps: a put takes its
+  -- cell in the step in which it puts, and a take gives its cell back in the step in which it takes
   pub record Told (n laps : ℕ) (history : List (Event T)) : Type 0 where
     pub legal : bounded.Legal (shape n laps) history
     pub hands : (p : ℕ) → (state n laps history).hand p ≡ 0
@@ -120,7 +120,7 @@ module _ (T : Type 0) where
   abbrev pub progress : ℕ → ℕ → Memory T → List (Event T) → Progress
   progress n laps m history = record { tail = place n m.tail; head = place n m.head; puts = (state n laps history).puts; takes = (state n laps history).takes }
 
-  -- each of so many cells is once in a slot or the spare one of a pass, and no other cell is anywhere
+  -- each of the `cells` cells is in one slot or the spare one of one pass, once, and no other cell is anywhere
   abbrev pub Once : ℕ → ℕ → Memory T → List (Line T) → Type 0
   Once n cells m lines = (c : ℕ) → times c (cells_in n m.slot) + total (λ l. times c (held_cells l)) lines ≡ if ltb c cells then 1 else 0
 
@@ -139,8 +139,8 @@ module _ (T : Type 0) where
     pub told : Told n laps history
     pub fine : (q : ℕ) (l : Line T) → get_elem? lines q ≡ some l → IsFine n laps (progress n laps m history) l
 
--- What a line says of the histories that its pass had seen at the begin and has seen by now: the answer is
--- right, and of a count where the back was when the front had not been passed
+-- What a line says of the histories that its pass had seen at the begin and has seen by now. The answer is right. The
+-- line of a count says where the back was while the front had not been passed
 module _ {T : Type 0} (n laps : ℕ) (begun seen : List (Event T)) where
   pub record Counts (front back : Tagged) : Type 0 where
     pub puts : (state n laps seen).puts ≡ place n back

@@ -1,8 +1,7 @@
-//! The ring as a pure machine, as far as running code needs it: its words and value cells, for each
-//! pass the line that it is at, with the spare cell that it has and what it has read, and what one
-//! step does. A step is one load or compare-and-swap of one word. A rule says what holds between
-//! any two steps, and lemmas say that each step keeps it from any state where it holds; running
-//! code cites those lemmas.
+//! The ring as a pure machine, as far as running code needs it: its words and value cells, the line
+//! of each pass with its spare cell and what it has read, and the effect of one step. A step is one
+//! load or compare-and-swap of one word. A rule says what holds between any two steps. Lemmas prove
+//! that each step keeps it from any state in which it holds, and running code cites those lemmas.
 #![tactic(auto)]
 
 pub mod lines;

@@ -1,21 +1,21 @@
-//! What a pass of the ring is at between two of its atomic steps: a bounded queue in a circle of
-//! slots. A slot's word names a cell; its tag is even where the slot is empty, odd where it is full,
-//! and rises at each put and each take. A pass always has one spare cell, and exchanges it for that
-//! of a slot. Between calls the spare cell lies at home, empty; a put has it in hand from its first
-//! step on, and a take has the cell that it took until its last step. No value of these types is made at run time: they stand in definitions, proofs and
-//! views.
+//! The line of a pass of the ring between two of its atomic steps. The ring is a bounded queue in a
+//! circle of slots. A slot's word names a cell. Its tag is even if the slot is empty, odd if it is
+//! full, and rises at each put and each take. A pass always has one spare cell, and exchanges it
+//! for that of a slot. Between calls the spare cell lies at home, empty. A put has it in hand from
+//! its first step on, and a take has the cell that it took until its last step. No value of these
+//! types is made at run time: they stand in definitions, proofs and views.
 //!
-//! A position is a word: its index says which slot, its tag in which lap. Puts and takes go through
-//! the positions in their order, and have their numbers.
+//! A position is a word: its index says which slot, and its tag in which lap. Puts and takes pass
+//! through the positions in their order, and each has the number of its position.
 
 use bounded_model::{PutRefused, TakeRefused};
 use tagged_index::Fields;
 
 /// A tagged word.
 pub enum Place {
-    /// A position near the front, from which a pass looks for it.
+    /// A position near the front, from which a pass looks for the front.
     Head,
-    /// A position near the back, from which a pass looks for it.
+    /// A position near the back, from which a pass looks for the back.
     Tail,
     /// The word of a slot.
     Slot(u32),
@@ -29,23 +29,23 @@ pub struct Walk {
     pub from: Fields,
     /// The position that the walk has come to.
     pub at: Fields,
-    /// How many positions it has gone on.
+    /// How many positions it has passed.
     pub gone: u32,
 }
 
-/// Why a pass goes to the back, the first position that was not put.
+/// Why a pass goes to the back: the first position that was not put.
 pub enum Back<T> {
     /// To put this value there.
     ToPut(T),
     /// To close the ring there.
     ToClose,
-    /// To say how many values stand before it, this position having been the front.
+    /// To say how many values stand before it, if this position was the front.
     ToCount(Fields),
     /// To say whether the ring is closed there, and how many values were put before it.
     ToGauge,
 }
 
-/// Why a pass goes to the front, the first position that was not taken.
+/// Why a pass goes to the front: the first position that was not taken.
 pub enum Front {
     /// To take the value there.
     ToTake,
@@ -75,8 +75,8 @@ pub enum Answer<T> {
     Gauge(bool, u64),
 }
 
-/// The next atomic step of a pass, with its spare cell and what it has read. A word that was read
-/// last stands behind the others.
+/// The next atomic step of a pass, with its spare cell and what it has read. The word that the pass
+/// read last is the last field.
 pub enum Line<T> {
     /// No operation. The answer is that of the last one.
     Idle(u32, Option<Answer<T>>),
@@ -90,7 +90,7 @@ pub enum Line<T> {
     MoveTail(Walk, Back<T>),
     /// Exchange the spare cell, with the value in it, for the cell of the empty slot.
     PutCell(Walk, T, Fields),
-    /// The value is put where the walk has come to. Compare-and-swap `TAIL` for the position behind.
+    /// The value is put at the position of the walk. Compare-and-swap `TAIL` for the next position.
     PassTail(Walk),
     /// Set the mark of the slot at the back.
     MarkBack(Walk, Fields),
@@ -102,15 +102,15 @@ pub enum Line<T> {
     MoveHead(Walk, Front),
     /// Exchange the spare cell, which is empty, for the cell of the full slot.
     TakeCell(Walk, Fields),
-    /// The value is taken where the walk has come to. Compare-and-swap `HEAD` for the position
-    /// behind.
+    /// The value is taken at the position of the walk. Compare-and-swap `HEAD` for the next
+    /// position.
     PassHead(Walk, T),
     /// Load the slot that the walk has come to once more, and lay the spare cell, which is empty,
     /// back home. Then the operation answers.
     Stow(Walk, Answer<T>),
     /// Set the second mark of the slot at the front.
     ShutFront(Walk, Fields),
-    /// The front was the first position when the back was the second: load its slot again.
+    /// The front was the first position while the back was the second: load its slot again.
     CheckFront(u32, Fields, Fields),
 }
 

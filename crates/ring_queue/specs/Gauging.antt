@@ -26,8 +26,8 @@ use Rattle.ring_queue.specs.Walking.{to_back, walk_line, IsRead}
 abbrev pub GaugeOp : Type 0 → Type 0
 GaugeOp T = Op T (SeatLine T) (Operation T) GaugeAt
 
--- of a ring of n slots, each filled at most so many times: it changes nothing, and shows how it was at some time
--- between what its pass had seen as it was begun, v, and as it ended, w
+-- a ring of n slots, each of which can be filled `laps` times: a gauge changes nothing, and shows how the ring was at
+-- some time between what its pass had seen as the gauge began, v, and as it ended, w
 abbrev pub GaugeGives : {T : Type 0} → ℕ → ℕ → PassView T → PassView T → Gauge → Type 0
 GaugeGives n laps v w g = Adds v w [] × Sometime v.seen w.seen (IsGauged n laps g.closed g.used)
 

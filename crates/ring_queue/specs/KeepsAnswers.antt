@@ -1,4 +1,4 @@
--- What the answers of the operations tell: their laws.
+-- What the answers of the operations say: their laws.
 use Rattle.std.specs.Prelude.{◌≡◌, ℕ, Bool}
 use Rattle.tagged_index.specs.Limits.{capacity_of, passes_of}
 use Rattle.tagged_index.specs.declared.limit.Limits.{Limits}
@@ -32,7 +32,7 @@ abbrev pub shape_at : Type 0 → Limits → Shape
 shape_at T k = (machine_at {T = T} k).core.shape
 
 module _ {T : Type 0} (k : Limits) where
-  -- What each promises: a put, that it is one of whichever value it is one of
+  -- What each operation promises. A put promises it of each value that it is a put of
   abbrev pub put_promises : Operation T → PassView T → PassView T → PutAnswer T → Type 0
   put_promises o begun now a = (x : T) → call_of o ≡ CallPut x → PutGives (shape_at T k) begun x now a.answer
 

@@ -1,4 +1,4 @@
--- What the answer of a gauge tells: the law of its operation.
+-- What the answer of a gauge says: the law of its operation.
 use Rattle.tagged_index.specs.Limits.{capacity_of, passes_of}
 use Rattle.tagged_index.specs.declared.limit.Limits.{Limits}
 use Rattle.bounded_model.specs.declared.views.PassView.{PassView}

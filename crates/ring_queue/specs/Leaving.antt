@@ -1,4 +1,4 @@
--- What a ring's rest has not given yet.
+-- The values of a ring's rest that it has not given yet.
 use Rattle.std.specs.Prelude.{List}
 use Rattle.std.specs.Mem.Slots.{slots_items}
 use Rattle.ring_queue.specs.declared.rest.Rest.{Rest}

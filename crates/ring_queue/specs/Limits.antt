@@ -8,7 +8,7 @@ use Rattle.ring_table.specs.declared.line.SeatLine.{SeatLine}
 use Rattle.ring_table.specs.declared.operation.Operation.{Operation}
 use Rattle.ring_table.proofs.Laws.{ring_on}
 
--- each lap raises a slot's tag by two, so that of an odd limit the last tag is of no use
+-- each lap raises a slot's tag by two, so the last tag of an odd limit is of no use
 abbrev pub laps_at : Limits → ℕ
 laps_at k = tag_limit_of k / 2
 

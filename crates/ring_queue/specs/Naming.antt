@@ -25,6 +25,6 @@ module _ {T : Type 0} where
   abbrev pub naming : ℕ → ℕ → Naming T (Memory T) Place ⊥ (Line T) (Event T)
   naming n limit = record { table = table n limit; word = word_at; number = λ q. absurd q }
 
-  -- the next step of an operation at this line has this name, however many slots there are, and whatever the limit of the tags
+  -- the next step of an operation at this line has this name, for any number of slots and any limit of the tags
   abbrev pub IsNextStep : Line T → StepName → Type 0
   IsNextStep line name = (n limit : ℕ) → IsNamed (naming n limit) line name

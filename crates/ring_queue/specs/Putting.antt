@@ -96,7 +96,7 @@ module _ {T : Type 0} where
   abbrev pub put_account : Limits → Account T (SeatLine T) (Operation T) (PutAt T) (Answer T)
   put_account k = to_answer (λ s. put_of (put_value s)) (λ s. At (put_line s)) put_slots (λ s. HasReadToPut (capacity_of k) (laps_at k) s) (λ o a. At (ends a.spare.index (AnswerPut a.answer)))
 
-  -- a put of x, by its operation, which is also the put of the value that it has
+  -- a put of x, by its operation: the put of the value that the operation has is a put of x too
   pub record IsPutting (c : RingQueue T) (x : T) (op : PutOp T) : Type 0 where
     pub of : call_of op.operation ≡ CallPut x
     pub under_way : IsUnderWay (machine_of c) (put_account c.table.shared.key) c.table.shared.table_id op

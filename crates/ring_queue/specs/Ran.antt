@@ -9,7 +9,7 @@ use Rattle.ring_queue.specs.declared.queue.Pass.{Pass}
 use Rattle.ring_queue.specs.declared.queue.RingQueue.{RingQueue}
 use Rattle.ring_queue.specs.Ring.{machine_of}
 
--- A call of this operation was begun once, as its pass was `begun`. The machine's steps of that pass since then, each an act of its own, led the
--- operation from its first line to this answer, and the pass's count is that of its acts
+-- A call of this operation was begun once, as its pass was `begun`. Since then the machine's steps of that pass, each an act of its own,
+-- led the operation from its first line to this answer. The steps that the pass has counted are these acts
 abbrev pub WasRun : {T : Type 0} → RingQueue T → Operation T → PassView T → Pass T → Answer T → Type 0
 WasRun c o begun back answer = HasRun (machine_of c) o back.pass.seat.me.0 begun (At (ends back.spare.index answer))

@@ -18,7 +18,7 @@ use Rattle.ring_queue.specs.declared.queue.RingQueue.{RingQueue}
 use Rattle.ring_queue.specs.Limits.{laps_at, machine_at}
 
 module _ {T : Type 0} where
-  -- how many slots it has, how often each of them can be filled, and how many passes it is for
+  -- how many slots it has, how often each of them can be filled, and for how many passes it is
   abbrev pub room_of : RingQueue T → ℕ
   room_of c = capacity_of c.table.shared.key
 

@@ -31,7 +31,8 @@ module _ {T : Type 0} where
   abbrev pub underway_in : Runs T (SeatLine T) → Underway T
   underway_in p = record { begun = begun_at p.seat.me.0; now = passes.pass_in p }
 
--- What a step gives: it goes on as the same operation, or the pass is back and has given what it promises; the step was that of its line
+-- What a step gives. Either the same operation is still under way, or the pass is back and has given what it promises. The step was that
+-- of its line
 module _ {T S A : Type 0} (c : RingQueue T) (account : Account T (SeatLine T) (Operation T) S (Answered A)) (Promises : Operation T → PassView T → PassView T → Answered A → Type 0) where
   abbrev pub RingStep : Op T (SeatLine T) (Operation T) S → Stepped (Op T (SeatLine T) (Operation T) S) (Pass T) A → Type 0
   RingStep op r = MatchStepped r
@@ -41,7 +42,8 @@ module _ {T S A : Type 0} (c : RingQueue T) (account : Account T (SeatLine T) (O
       × Promises op.operation (passes.begun_of (machine_of c) op.pass) (pass_in back) (record { spare = back.spare; answer = a })
       × IsLine (machine_of c) op.pass.seat.me.0 back.pass.seat.me.0 (account.line op.at) (account.answer op.operation (record { spare = back.spare; answer = a })))
 
-  -- What n steps give: it goes on as the same operation after exactly so many, or the pass is back and has given what it promises after at most so many
+  -- What n steps give. Either the same operation is still under way after exactly n steps, or the pass is back after at most n steps and
+  -- has given what it promises
   abbrev pub RingRan : ℕ → Op T (SeatLine T) (Operation T) S → Stepped (Op T (SeatLine T) (Operation T) S) (Pass T) A → Type 0
   RingRan n op r = MatchStepped r
       (λ next. IsUnderWay (machine_of c) account c.table.shared.table_id next × (passes.begun_of (machine_of c) next.pass ≡ passes.begun_of (machine_of c) op.pass) × (next.operation ≡ op.operation)

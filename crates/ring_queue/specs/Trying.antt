@@ -1,4 +1,5 @@
--- A call that made a bounded number of steps: it is under way, begun as before, or it gave what the whole call gives.
+-- A call that made a bounded number of steps. Either it is still under way, begun as before, or it gave what the whole
+-- call gives.
 use Rattle.std.specs.Prelude.{◌≡◌, ℕ, Bool, Result}
 use Rattle.bounded_model.specs.declared.answers.PutRefused.{PutRefused}
 use Rattle.bounded_model.specs.declared.answers.Stepped.{Stepped}

@@ -37,7 +37,7 @@ spare_at (LoadHint c) = c
 spare_at (LoadSlot w) = w.spare
 spare_at (MoveHint w) = w.spare
 
--- a position is one of a slot, on a walk that knows how many there are
+-- a position is one of a slot, on a walk that has the number of slots
 abbrev pub IsRead : ℕ → WalkAt → Type 0
 IsRead n (LoadSlot w) = (index_of w.at < n) × (w.gone < stride) × (w.room ≡ n)
 IsRead n at = Unit {0}
@@ -50,12 +50,12 @@ pub record IsEnd (n laps full : ℕ) (f : Found) : Type 0 where
   pub within : tag_of f.slot ≤ 2 * laps
   pub here : tag_of f.slot ≤ 2 * tag_of f.walk.at + full
 
--- a position of a slot, behind which there is another
+-- a position of a slot that another position follows
 abbrev pub MayPass : ℕ → Walk → Type 0
 MayPass n w = (index_of w.at < n) × (tag_of w.at < MAX_TAG)
 
 module _ {T : Type 0} where
-  -- the word that says where the walk begins, and the least tag of a slot at an empty lap 0 that the walk goes beyond, less one
+  -- the word that says where the walk begins, and one less than the least tag of a slot at an empty lap 0 that the walk passes
   abbrev pub hint_of : Aim T → ℕ
   hint_of (to_back s) = tail_at
   hint_of (to_front s) = head_at
@@ -84,7 +84,7 @@ module _ {T : Type 0} where
       (λ at. (l ≡ At (walk_line aim at)) × (has ≡ had) × IsRead (room_of c) at × (spare_at at ≡ spare))
       (λ end. (l ≡ At (end_line (room_of c) (2 * laps_of c) aim end)) × (has ≡ had) × IsEnd (room_of c) (laps_of c) (full_of aim) end × (end.walk.spare ≡ spare))
 
-  -- where a step leads that came to r
+  -- where a step leads that had the outcome r
   abbrev pub WalkedTo : RingQueue T → Aim T → WalkAt → Outcome → List (ℕ × Slot T) → List (ℕ × Slot T) → Next WalkAt Found → Type 0
   WalkedTo c aim at r had has to = Came (machine_of c).core (At (walk_line aim at)) r had has
       → Finding (machine_of c).core (At (walk_line aim at)) r had has (λ found came. Walks c ((machine_of c).core.next (At (walk_line aim at)) found came) aim (spare_at at) had has to)

@@ -1,4 +1,5 @@
-//! Closing a ring: the slot at the back gets the mark, full or empty. By steps, and by a whole call.
+//! Closing a ring: the slot at the back gets the mark, whether it is full or empty. By steps, and
+//! by a whole call.
 ghost use Rattle.std.specs.Prelude.{◌≡◌};
 ghost use Rattle.bounded_model.specs.declared.views.Answered.TheVariants.{Close as CloseAnswered};
 ghost use Rattle.bounded_model.specs.Laws.{Answers, CloseGives};

@@ -104,8 +104,8 @@ impl<T: Drop + Send> Container<T> for RingQueue<T> {
         parent.spares.push_reserved(spare);
     }
 
-    /// In the order of the puts. A value that was out with a pass which stopped in mid-operation is
-    /// not among what is left, and is dropped with the rest.
+    /// The values come in the order of the puts. A value that a pass held when it stopped in
+    /// mid-operation is not among what is left. It is dropped with the rest.
     fn finish(self, parent: Root<T>) -> Rest<T> {
         self.end(parent)
     }

@@ -104,7 +104,7 @@ impl<T> Code<RingQueue<T>, T, SeatLine<T>, Operation<T>, Ringed, Answered<u64>, 
                 }
             },
             LenAt::CheckFront(spare, front, back) => {
-                // Where the front has not been taken, it was the front when the back was seen.
+                // If the front has not been taken, it was the front when the pass saw the back.
                 let slot = Tagged::from_word(outcome.word);
                 if slot.tag() > 2 * front.tag() + 1 {
                     return Next::Lost(LenAt::ToFront(WalkAt::LoadHint(spare)));

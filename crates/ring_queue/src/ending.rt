@@ -10,8 +10,8 @@ use crate::rest::Rest;
 use crate::roots::Root;
 
 impl<T> RingQueue<T> {
-    /// What is left, from the front, as `finish` gives it. A value that was out with a pass which
-    /// stopped in mid-operation is not among it, and is dropped with the rest. The ring has run as
+    /// Returns what is left, from the front, as `finish` gives it. A value that a pass held when it
+    /// stopped in mid-operation is not among it. It is dropped with the rest. The ring has run as
     /// its machine runs.
     pub fn end(self, parent: Root<T>) -> Rest<T>
         requires { IsRootOf self parent }

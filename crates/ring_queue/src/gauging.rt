@@ -37,9 +37,9 @@ pub struct GaugeAt {
 }
 
 impl<T> RingQueue<T> {
-    /// Whether the ring was closed, and how many values were put, both at one time since its pass's last
-    /// step before the call. It walks further while values are put. The call was a run of the machine's
-    /// steps.
+    /// Whether the ring was closed, and how many values were put, both at one time since its pass's
+    /// last step before the call. The gauge walks further while others put values. The call was a
+    /// run of the machine's steps.
     pub fn gauge<R: Wait>(&self, rt: &R, by: Pass<T>) -> (Pass<T>, Gauge)
         requires { IsPassOf self.now by }
         ensures of { IsPassOf self.now result.0 }
@@ -93,8 +93,8 @@ impl<T> Code<RingQueue<T>, T, SeatLine<T>, Operation<T>, Ringed, Answered<Gauge>
         match on.walk_on(0, self.at, outcome) {
             Next::On(at) => Next::On(GaugeAt { at }),
             Next::Lost(at) => Next::Lost(GaugeAt { at }),
-            // One word says both: the slot at the back has the mark of a closed ring, and its position is
-            // the number of values put.
+            // One word says both. The slot at the back has the mark if the ring is closed, and its
+            // position is the number of values put.
             Next::Done(end) => Next::Done(Answered {
                 spare: end.walk.spare,
                 answer: Gauge {

@@ -1,5 +1,5 @@
-//! What a ring is made with: how many slots it has, how often each of them can be filled, and for how
-//! many passes it is.
+//! What a ring is made with: how many slots it has, how often each of them can be filled, and for
+//! how many passes it is.
 ghost use Rattle.std.specs.Prelude.{◌≡◌, ◌↔◌, ◌+◌, ◌≤◌, IsSome, IfSome};
 ghost use Rattle.tagged_index.specs.Limits.{capacity_of, passes_of};
 ghost use Rattle.tagged_index.specs.declared.word.TheConstants.{NULL};
@@ -15,12 +15,15 @@ pub const MIN_LAPS: u64 = 1;
 /// The greatest number of laps: 2,199,023,255,551. Each lap raises the tag of a slot by two.
 pub const MAX_LAPS: u64 = MAX_TAG / 2;
 
-// Clauses say the name; this says the number.
+// Clauses have the name. This proves the number.
 const _: () = prove!(MAX_LAPS == 2_199_023_255_551);
 
-/// How large a ring is, and how long it lasts: its capacity, which is the number of its slots; its
-/// laps, which is how often each slot can be filled; and for how many passes it is, each of which
-/// has a cell of its own. The slots and the passes together are at most 1,048,575.
+/// How large a ring is, and how long it lasts:
+/// - its capacity, which is the number of its slots,
+/// - its laps: how often each slot can be filled,
+/// - for how many passes it is. Each pass has a cell of its own.
+///
+/// The slots and the passes together are at most 1,048,575.
 #[derive(Clone, Copy, PartialEq, Eq, Debug)]
 pub struct RingLimits {
     pub(crate) limits: Limits,
@@ -33,8 +36,8 @@ impl RingLimits {
     ghost use Rattle.tagged_index.specs.declared.limit.TheConstants.{MIN_CAPACITY};
     ghost use Rattle.ring_queue.specs.declared.limits.TheConstants.{MIN_LAPS, MAX_LAPS};
 
-    /// `None` exactly where there is no slot or too many, or a number of laps or of passes is out of
-    /// range.
+    /// `None` exactly if there is no slot, the slots and the passes together are too many, or the
+    /// number of laps or of passes is out of range.
     pub fn of(capacity: u32, laps: u64, passes: u32) -> Option<RingLimits>
         ensures in_range { IsSome result
             ↔ ((MIN_CAPACITY ≤ capacity) × (capacity + passes ≤ NULL)

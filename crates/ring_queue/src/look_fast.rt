@@ -1,6 +1,6 @@
-//! A look's fast path: the load of the hint, and the walk to the front. It repeats what the loop over
-//! steps does, for the reason that `put_fast` has. The count to look at is the instructions of a look
-//! at an empty ring.
+//! A look's fast path: the load of the hint, and the walk to the front. It repeats what the loop
+//! over steps does, for the reason that `put_fast` gives. Its measure is the number of instructions
+//! of a look at an empty ring.
 ghost use Rattle.std.specs.Prelude.{◌≡◌};
 ghost use Rattle.ring_table.specs.declared.operation.Operation.TheVariants.{Look as LookFirst};
 ghost use Rattle.ring_queue.specs.Looking.{LookStands, LookRan, slot_loaded};

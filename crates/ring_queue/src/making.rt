@@ -33,7 +33,7 @@ fn first_words(alloc: Global, capacity: u32) -> Result<Vec<u64>, AllocError>
     Ok(words)
 }
 
-// The spare cells of all passes: those behind the cells that the slots have.
+// The spare cells of all passes: those after the cells that the slots have.
 fn first_spares(alloc: Global, capacity: u32, passes: u32) -> Result<Vec<Spare>, AllocError>
     requires { capacity + passes ≤ NULL }
     ensures cells { IfOk result (λ v. cells_of v.items ≡ cells_from capacity passes) }
@@ -49,8 +49,8 @@ fn first_spares(alloc: Global, capacity: u32, passes: u32) -> Result<Vec<Spare>,
 }
 
 impl<T> RingQueue<T> {
-    /// An empty ring, open and not shut, and its root, which has given no pass. All memory is
-    /// taken here; `NoMemory` where there was none.
+    /// An empty ring, open and not shut, and its root, which has given no pass. This call takes all
+    /// memory. It gives `NoMemory` if there was none.
     pub fn new(alloc: Global, limits: RingLimits) -> Result<(RingQueue<T>, Root<T>), MakeRefused>
         ensures { IfOk result (λ t. IsRootOf t.0 t.1 × (root_in t.1 ≡ fresh)
             × (shape_of t.0 ≡ shape_for T (capacity_of limits.limits) (laps_at limits.limits)

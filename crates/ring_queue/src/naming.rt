@@ -17,7 +17,7 @@ use crate::taking::{TakeAt, TakeOp};
 use crate::walking::WalkAt;
 use step_names::{Location, Named, StepName};
 
-// Of a walk from this hint.
+// The next step of a walk from this hint.
 fn walk_step<T>(hint: Location, at: &WalkAt) -> StepName
     ensures { (aim : Aim T) → hint ≡ hint_at aim → IsNextStep (walk_line aim at.now) result }
 {
@@ -28,7 +28,7 @@ fn walk_step<T>(hint: Location, at: &WalkAt) -> StepName
     }
 }
 
-// Of a put.
+// The next step of a put.
 fn put_name<T>(at: &PutAt<T>) -> StepName
     ensures { IsNextStep (put_line at.now) result }
 {
@@ -44,7 +44,7 @@ fn put_name<T>(at: &PutAt<T>) -> StepName
     }
 }
 
-// Of a take.
+// The next step of a take.
 fn take_name<T>(at: &TakeAt<T>) -> StepName
     ensures { (n : ℕ) → IsNextStep (take_line n at.now) result }
 {
@@ -59,7 +59,7 @@ fn take_name<T>(at: &TakeAt<T>) -> StepName
     }
 }
 
-// Of a close.
+// The next step of a close.
 fn close_name<T>(at: &CloseAt) -> StepName
     ensures { IsNextStep {T = T} (close_line at.now) result }
 {
@@ -72,7 +72,7 @@ fn close_name<T>(at: &CloseAt) -> StepName
     }
 }
 
-// Of a shut.
+// The next step of a shut.
 fn shut_name<T>(at: &ShutAt) -> StepName
     ensures { IsNextStep {T = T} (shut_line at.now) result }
 {

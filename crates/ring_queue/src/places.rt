@@ -1,4 +1,4 @@
-//! That no cell is in two places.
+//! The law that no cell is in two places.
 ghost use Rattle.std.specs.Prelude.{ℕ, ◌+◌, map, Option as Slot};
 ghost use Rattle.atomic_table.specs.Table.{State};
 ghost use Rattle.machine.specs.declared.seats.View.{View};
@@ -9,10 +9,10 @@ ghost use Rattle.ring_table.specs.Seats.{names, passes_of};
 ghost use Rattle.ring_table.proofs.Laws.{ring_on};
 ghost use Rattle.running.specs.Rule.{Rule, line_in};
 
-/// In any table that meets the rule of a ring, as each ring's does between any two atomic steps of
-/// any threads, no cell is in two places: each is that of one slot, or the spare one of one pass, or
-/// of one that the root has for a pass. What a step brings into its pass's hand no pass had: that is
-/// the clause `unheld` of `IsLine`, which the contract of each step has.
+/// No cell is in two places, in any table that meets the rule of a ring. Each ring's table meets it
+/// between any two atomic steps of any threads. Each cell is that of one slot, or the spare one of
+/// one pass, or one that the root has for a pass. The contract of each step has the clause `unheld`
+/// of `IsLine`: no pass had a cell that the step brings into its pass's hand.
 pub fn ring_places<T>()
     ensures { (n laps passes : ℕ) (s : State (Slot T) (View T (SeatLine T))) →
         Rule (ring_on T n laps passes) s →

@@ -1,9 +1,9 @@
-//! A put's fast path: the value goes into the spare cell, the walk to the back follows, and the cell
-//! is exchanged for that of the slot there; or the value is refused. It repeats what the loop over
-//! steps does (`to_the_end`, `run_for`), which holds a put's state in memory and finds out anew before
-//! each step what to do. Between two steps here there are plain words alone, which the compiler keeps
-//! in registers. The counts to look at are the instructions of a put and a take in turn on one thread,
-//! and those of a put to a full ring.
+//! A put's fast path. The value goes into the spare cell, and the walk to the back follows. Then
+//! the put exchanges the cell for that of the slot there, or refuses the value. The path repeats
+//! what the loop over steps does (`to_the_end`, `run_for`). That loop holds a put's state in
+//! memory, and finds out anew before each step what to do. Between two steps here there are only
+//! plain words, which the compiler keeps in registers. Its measure is the number of instructions of
+//! a put and a take in turn on one thread, and of a put to a full ring.
 ghost use Rattle.std.specs.Prelude.{◌≡◌};
 ghost use Rattle.ring_queue.specs.Putting.{PutStands, PutRan, put_of};
 ghost use Rattle.ring_queue.specs.Ring.{IsPassOf};
@@ -18,7 +18,7 @@ use running::{Next, any, aside, fast_step, first_step};
 use std::snapshot::Snapshot;
 
 impl<T> RingQueue<T> {
-    /// A put's steps on its fast path, as long as nobody is faster.
+    /// A put's steps on its fast path, until another pass is faster.
     #[inline(always)]
     pub(crate) fn put_fast(
         &self,
@@ -51,8 +51,8 @@ impl<T> RingQueue<T> {
         self.put_fast_pass(pass, at, put)
     }
 
-    // At the back the exchange, which puts the value; or the way home of the spare cell, if the value
-    // is refused.
+    // At the back: the exchange, which puts the value, or the way home of the spare cell, if the
+    // value is refused.
     #[inline(always)]
     fn put_fast_end(
         &self,

@@ -38,7 +38,7 @@ pub enum PutAt<T> {
     Walking(Snapshot<T>, WalkAt),
     /// Exchange the spare cell, with the value in it, for the cell of the empty slot.
     Exchange(Snapshot<T>, Found),
-    /// The value is put where the walk has come to. Compare-and-swap `TAIL` for the position behind.
+    /// The value is put at the position of the walk. Compare-and-swap `TAIL` for the next position.
     PassTail(Snapshot<T>, Walk),
     /// Load the slot that the walk has come to once more, and lay the spare cell back home.
     Stow(Walk, PutRefused<T>),
@@ -55,7 +55,7 @@ pub(crate) fn put_operation<T>(value: &T) -> Operation<T>
     Operation::Put(Snapshot::of(value))
 }
 
-// Why a value is not put at the back, where there is no room for it.
+// Why a value is not put at the back, if there is no room for it.
 #[inline]
 fn refused<T>(walk: &Walk, slot: Tagged, value: T) -> PutRefused<T>
     ensures { result ≡ refused_at walk.now.at slot value }
@@ -178,8 +178,8 @@ impl<T> Code<RingQueue<T>, T, SeatLine<T>, Operation<T>, Ringed, Answered<Answer
             },
             PutAt::Exchange(shown, end) => {
                 if !outcome.won {
-                    // Another put was faster, so the walk goes on by one slot: a wait would only make
-                    // it longer.
+                    // Another put was faster, so the walk continues by one slot: a wait would only
+                    // make it longer.
                     let again = WalkAt::LoadSlot(end.walk);
                     return Next::On(PutAt::Walking(shown, again));
                 }
@@ -198,7 +198,7 @@ impl<T> Code<RingQueue<T>, T, SeatLine<T>, Operation<T>, Ringed, Answered<Answer
                     answer: Ok(on.place_of(walk.at)),
                 })
             }
-            // Whoever succeeds, the tail is then no longer behind this put.
+            // Whichever pass succeeds, the tail is then no longer behind this put.
             PutAt::PassTail(shown, walk) => {
                 let _ = shown;
                 Next::Done(Answered {

@@ -50,8 +50,8 @@ impl<T> HasTable<T, SeatLine<T>, Operation<T>, Ringed> for RingQueue<T> {
     }
 }
 
-/// Steps on a ring. At run time it is what its calls know of their caller, and which cell is its
-/// spare one.
+/// Steps on a ring. At run time it is what the ring's calls know of their caller, and which cell is
+/// its spare one.
 #[derive(Drop)]
 pub struct Pass<T> {
     pub(crate) pass: running::Pass<T, SeatLine<T>>,

@@ -12,8 +12,8 @@ use ring_table::layout;
 use std::alloc::Global;
 use tagged_index::Tagged;
 
-/// The values that are left in a ring, from the front. They stay where they are: a cell has none
-/// once its value was given.
+/// The values that are left in a ring, from the front. They stay in their cells. A cell is empty
+/// once the rest has given its value.
 pub struct Rest<T> {
     closed: Closed<Option<T>, Global>,
     capacity: u32,
@@ -27,7 +27,7 @@ pub struct Rest<T> {
     ghost low: { slot < capacity },
 }
 
-// The word of that number.
+// The word with that number.
 fn word_at<T>(closed: &Closed<Option<T>, Global>, at: usize) -> Tagged
     requires { (at < slots_len closed.now.words) × IsFull closed.now.words }
     ensures { result ≡ slice_index (slots_items closed.now.words) at }
@@ -35,7 +35,7 @@ fn word_at<T>(closed: &Closed<Option<T>, Global>, at: usize) -> Tagged
     Tagged::from_word(closed.word(at))
 }
 
-// The slot behind that of this lap, with its own lap.
+// The slot after that of this lap, with its own lap.
 fn behind(capacity: u32, slot: u32, lap: u64) -> (u32, u64)
     requires low { slot < capacity }
     requires small { lap ≤ 2 * MAX_TAG }
@@ -51,7 +51,7 @@ fn behind(capacity: u32, slot: u32, lap: u64) -> (u32, u64)
     }
 }
 
-// The slot at the front: the hint names it, or one that is less than a stride before it.
+// The slot at the front. The hint names it, or a position at most a stride before it.
 fn front_of<T>(closed: &Closed<Option<T>, Global>, capacity: u32) -> u32
     requires full { IsFull closed.now.words }
     requires words { slots_len closed.now.words ≡ words_for capacity }

@@ -6,6 +6,6 @@ use ring_table::SeatLine;
 #[derive(Drop)]
 pub struct Root<T> {
     pub(crate) root: running::Root<T, SeatLine<T>>,
-    /// The spare cells of the passes that are not out. The last is given next.
+    /// The spare cells of the passes that are not out. The root gives the last one next.
     pub(crate) spares: Vec<Spare>,
 }

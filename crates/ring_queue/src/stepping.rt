@@ -1,4 +1,5 @@
-//! Steps of a ring's operations, one or several. The pass that comes back has the spare cell of its last line.
+//! Steps of a ring's operations, one or several. A pass comes back with the spare cell of its last
+//! line.
 ghost use Rattle.std.specs.Prelude.{◌≡◌};
 ghost use Rattle.ring_machine.specs.Machine.{resting};
 ghost use Rattle.ring_table.specs.Seats.{names};
@@ -50,8 +51,8 @@ impl<T> RingQueue<T> {
         }
     }
 
-    /// Goes on for at most so many steps, with a wait after each compare-and-swap that failed. Where
-    /// they are used up, the operation comes back as it is.
+    /// Makes at most `steps` steps, with a wait after each compare-and-swap that failed. If the
+    /// steps are used up, the operation comes back as it is.
     #[inline]
     pub fn run_for<S, A>(
         &self,

@@ -1,7 +1,7 @@
 //! A take's fast path: the walk to the front, the exchange of the spare cell for that of the slot
 //! there, and the way of the emptied cell home. It repeats what the loop over steps does, for the
-//! reason that `put_fast` has. The counts to look at are the instructions of a put and a take in turn
-//! on one thread, and those of a take from an empty ring.
+//! reason that `put_fast` gives. Its measure is the number of instructions of a put and a take in
+//! turn on one thread, and of a take from an empty ring.
 ghost use Rattle.std.specs.Prelude.{◌≡◌};
 ghost use Rattle.ring_table.specs.declared.operation.Operation.TheVariants.{Take as TakeFirst};
 ghost use Rattle.ring_queue.specs.Ring.{IsPassOf};
@@ -16,7 +16,7 @@ use ring_table::{Operation, SeatLine};
 use running::{Next, any, aside, fast_step, first_step};
 
 impl<T> RingQueue<T> {
-    /// A take's steps on its fast path, as long as nobody is faster.
+    /// A take's steps on its fast path, until another pass is faster.
     #[inline(always)]
     pub(crate) fn take_fast(
         &self,

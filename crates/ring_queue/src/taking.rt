@@ -33,8 +33,8 @@ pub enum TakeAt<T> {
     Walking(WalkAt),
     /// Exchange the spare cell, which is empty, for the cell of the full slot.
     Exchange(Found),
-    /// The value is taken where the walk has come to. Compare-and-swap `HEAD` for the position
-    /// behind.
+    /// The value is taken at the position of the walk. Compare-and-swap `HEAD` for the next
+    /// position.
     PassHead(Walk, T),
     /// Load the slot that the walk has come to once more, and lay the spare cell back home.
     Stow(Walk, T),
@@ -43,7 +43,7 @@ pub enum TakeAt<T> {
 /// What a take answers.
 pub(crate) type Answer<T> = Result<(T, u64), TakeRefused>;
 
-// Why nothing can be taken at the front; `None` where something can.
+// Why nothing can be taken at the front, or `None` if something can.
 #[inline(always)]
 fn refusal(end: &Found) -> Option<TakeRefused>
     ensures { result ≡ refusal_at end.now.walk.at end.now.slot }
@@ -141,8 +141,8 @@ impl<T> Code<RingQueue<T>, T, SeatLine<T>, Operation<T>, Ringed, Answered<Answer
             },
             TakeAt::Exchange(end) => {
                 if !outcome.won {
-                    // Another take was faster, so the walk goes on by one slot: a wait would only make
-                    // it longer.
+                    // Another take was faster, so the walk continues by one slot: a wait would only
+                    // make it longer.
                     return Next::On(TakeAt::Walking(WalkAt::LoadSlot(end.walk)));
                 }
                 // The take has its effect here; the value moves out with the cell that came.
@@ -157,7 +157,7 @@ impl<T> Code<RingQueue<T>, T, SeatLine<T>, Operation<T>, Ringed, Answered<Answer
                 }
                 Next::On(TakeAt::Stow(walk, value))
             }
-            // Whoever succeeds, the head is then no longer behind this take.
+            // Whichever pass succeeds, the head is then no longer behind this take.
             TakeAt::PassHead(walk, value) => Next::On(TakeAt::Stow(walk, value)),
             TakeAt::Stow(walk, value) => Next::Done(Answered {
                 spare: walk.spare,

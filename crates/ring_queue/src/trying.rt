@@ -1,5 +1,5 @@
-//! Calls that make a bounded number of steps, for callers that may not wait. Once the steps are
-//! used up, the operation comes back as it is, begun as before.
+//! Calls that make a bounded number of steps, for callers that may not wait. If the steps are used
+//! up, the operation comes back as it is, begun as before.
 ghost use Rattle.ring_queue.specs.Ring.{IsPassOf, pass_in};
 ghost use Rattle.ring_queue.specs.Trying.{LookTried, PutTried, TakeTried};
 
@@ -12,7 +12,7 @@ use ring_table::Operation;
 use running::at_once;
 
 impl<T> RingQueue<T> {
-    /// Puts a value on the fast path alone. If that does not end the put, `run_for` goes on with it.
+    /// Puts a value on the fast path alone. If that does not end the put, `run_for` continues it.
     #[inline(always)]
     pub fn put_at_once(
         &self,

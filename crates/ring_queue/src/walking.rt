@@ -1,5 +1,5 @@
-//! Going to the back or to the front, along the positions from one that a hint names: the same steps
-//! for all operations.
+//! Going to the back or to the front, along the positions, from one that a hint names. The steps
+//! are the same for all operations.
 ghost use Rattle.std.specs.Prelude.{◌≡◌, ℕ, ◌<◌, ◌≤◌, List, Option as Slot};
 ghost use Rattle.tagged_index.specs.Fields.{fields_of, index_of, tag_of};
 ghost use Rattle.tagged_index.specs.declared.word.TheConstants.{MAX_TAG};
@@ -17,7 +17,7 @@ use ring_table::layout;
 use running::{Access, Next, Outcome, raised};
 use tagged_index::Tagged;
 
-/// A walk goes on for fewer positions than these, and then moves the hint.
+/// A walk passes fewer positions than this, and then moves the hint.
 pub(crate) const STRIDE: u32 = 8;
 
 /// A walk along the positions: a position's index says which slot, and its tag in which lap.
@@ -29,7 +29,7 @@ pub struct Walk {
     pub(crate) from: Tagged,
     /// The position that the walk has come to.
     pub(crate) at: Tagged,
-    /// How many positions it has gone on.
+    /// How many positions it has passed.
     pub(crate) gone: u32,
     /// How many slots the ring has. The ring knows it too, but after each atomic step the compiler
     /// would read it there anew.
@@ -37,7 +37,7 @@ pub struct Walk {
 }
 
 impl Walk {
-    /// A walk from this hint, in a ring of so many slots.
+    /// A walk from this hint, in a ring of this number of slots.
     #[inline(always)]
     pub(crate) fn from(spare: Spare, hint: Tagged, room: u32) -> Walk
         ensures { result
@@ -80,7 +80,7 @@ impl<T> RingQueue<T> {
         layout::slot(self.limits.capacity(), at.index())
     }
 
-    // The same of a slot on a walk.
+    // Makes the word of a slot on a walk.
     #[inline(always)]
     fn slot_on(&self, room: u32, at: Tagged) -> usize
         requires { room ≡ room_of self.now }
@@ -97,7 +97,7 @@ impl<T> RingQueue<T> {
         at.tag() * self.limits.capacity() as u64 + at.index() as u64
     }
 
-    /// The position behind.
+    /// The next position.
     #[inline(always)]
     pub(crate) fn behind(&self, at: Tagged) -> Tagged
         requires { (index_of at < room_of self.now) × (tag_of at < MAX_TAG) }
@@ -106,7 +106,7 @@ impl<T> RingQueue<T> {
         self.behind_on(self.limits.capacity(), at)
     }
 
-    // The same on a walk.
+    // The next position on a walk.
     #[inline(always)]
     fn behind_on(&self, room: u32, at: Tagged) -> Tagged
         requires room { room ≡ room_of self.now }
@@ -135,8 +135,8 @@ impl<T> RingQueue<T> {
         }
     }
 
-    /// Where it goes on from a step that came to this. It goes beyond a slot whose tag is above that
-    /// of the empty slot at this lap and what `full` adds.
+    /// The walk after a step with this outcome. It passes a slot whose tag is above that of the
+    /// empty slot at this lap plus `full`.
     #[inline(always)]
     pub(crate) fn walk_on(&self, full: u64, at: WalkAt, outcome: Outcome) -> Next<WalkAt, Found>
         requires full { full ≤ 1 }
@@ -165,7 +165,7 @@ impl<T> RingQueue<T> {
                 }
                 Next::On(WalkAt::LoadSlot(further))
             }
-            // Whoever succeeds, the hint has moved: there is nothing to wait for.
+            // Whichever pass succeeds, the hint has moved: there is nothing to wait for.
             WalkAt::MoveHint(walk) => Next::On(WalkAt::LoadHint(walk.spare)),
         }
     }

@@ -1,5 +1,5 @@
--- The machine after the acts that led to a ring's table: its rule, and how many steps an operation under way has made, by the compare-and-swaps by which others
--- succeeded meanwhile.
+-- The machine after the acts that led to a ring's table: its rule, and a bound on the steps of an operation under way. The bound counts
+-- the compare-and-swaps by which others succeeded meanwhile.
 use Rattle.std.specs.Prelude.{◌≡◌, ℕ, ◌+◌, ◌*◌, ◌≤◌, List, [], ◌∷◌, ◌++◌, map, if◌then◌else◌}
 use Rattle.machine.specs.Seats.{Acts}
 use Rattle.machine.specs.Schedule.{after}
@@ -38,17 +38,19 @@ module _ {T : Type 0} where
   in_operation (Stock cs) = Stock []
 
   module _ (n laps passes : ℕ) where
-    -- The rule of the ring holds of the words, of the passes that are in an operation, and of the cells that are free, which are as those of passes that rest
+    -- The rule of the ring holds of the words, of the passes that are in an operation, and of the free cells. A free cell counts as that
+    -- of a pass that rests
     pub record MeetsRule (s : State T) : Type 0 where
       pub free : List ℕ
       pub good : Good T n laps (n + passes) s.memory (passes_of (Stock free ∷ map (λ v. in_operation v.line) s.passes)) s.history
 
-    -- the machine with so many numbers of passes, after these acts
+    -- the machine with this number of passes, after these acts
     abbrev pub state_after : ℕ → Acts (SeatLine T) → State T
     state_after numbers acts = after (cell_ring n laps passes) numbers (schedule_of call_at acts)
 
-    -- Pass x in an operation with this first line, by the acts as it was begun and those by now: since then it has made so many steps, and so many exchanges of others
-    -- have succeeded. The machine that ran as the passes did says which succeeded. The same bound holds of the steps from any point of the operation on
+    -- Pass x is in an operation with this first line. Between the acts as it was begun and those by now, x has made at most 47 steps, and
+    -- 30 for each exchange of another pass that has succeeded. The machine that ran as the passes did says which have. The same bound
+    -- holds of the steps from any point of the operation on
     pub record IsBounded (before now : Acts (SeatLine T)) (x : ℕ) (first : SeatLine T) : Type 0 where
       pub since : Acts (SeatLine T)
       pub is : now ≡ since ++ (x, Begins first) ∷ before

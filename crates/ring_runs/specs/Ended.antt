@@ -7,8 +7,8 @@ use Rattle.runs.specs.Runs.{schedule_of}
 use Rattle.ring_runs.specs.Bounded.{call_at, state_after}
 use Rattle.ring_runs.specs.Machine.{cell_ring}
 
--- Of a ring for so many passes at once: in the acts behind the earlier ones the passes have made at most so many steps, together, for each call that ended in
--- them, and for each of the passes
+-- A ring for `passes` passes at once. In the later acts the passes have made, together, at most 47 + 40 * (passes - 1) steps for each
+-- call that ended in them, and as many for each of the passes
 abbrev pub CallsEnd : {T : Type 0} → ℕ → ℕ → ℕ → ℕ → (later earlier : Acts (SeatLine T)) → Type 0
 CallsEnd n laps passes numbers later earlier =
     let ring = cell_ring n laps passes in

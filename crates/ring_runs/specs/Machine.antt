@@ -1,6 +1,6 @@
--- The ring as a machine of any number of passes, more than it has spare cells. In the machine `ring` each pass has its first spare cell for good. In a running
--- ring the spare cell of a pass that is joined goes to a later pass, with a new number. So here a call is begun from a line of a seat, which has the cell.
--- Otherwise this is `ring`, on the lines of seats.
+-- The ring as a machine of any number of passes, more than it has spare cells. In the machine `ring` each pass keeps its first spare cell
+-- for ever. In a running ring the spare cell of a joined pass goes to a later pass, with a new number. So here a call is begun from a
+-- line of a seat, which has the cell. Apart from that this is `ring`, on the lines of seats.
 use Rattle.std.specs.Prelude.{ℕ, ◌+◌, Bool, false, []}
 use Rattle.bounded_model.specs.declared.history.Event.{Event}
 use Rattle.bounded_model.specs.Machine.{Shape}
@@ -42,8 +42,9 @@ module _ {T : Type 0} where
   wins_at m (At l) = wins_exchange m l
   wins_at m (Stock cs) = false
 
-  -- A ring of n slots, each filled at most so many times, for so many passes at once: it has a cell for each slot and each of these. Any number of passes may
-  -- run on it, one after another. Between two calls the cell in the line of a pass says nothing: the next call brings its own
+  -- A ring of n slots, each of which can be filled `laps` times, for `passes` passes at once. It has a cell for each slot and for each of
+  -- these passes. Any number of passes may run on it, one after another. The cell in the line of a pass between two calls says nothing:
+  -- the next call brings its own
   abbrev pub cell_ring : ℕ → ℕ → ℕ → schedule.Machine (Memory T) (SeatLine T) (From T) (Event T)
   cell_ring n laps passes = record {
     first = first_memory T n laps passes;

@@ -10,7 +10,7 @@ use Rattle.runs.specs.Work.{total_steps, total_answers, total_fees, in_all, pays
 use Rattle.ring_runs.specs.Bounded.{call_in}
 
 module _ {T : Type 0} where
-  -- what a call has cost at most that gave this answer, if k other passes were in a call meanwhile; a ring has no folds. A meeting or a note
+  -- what a call with this answer has cost at most, if k other passes were in a call meanwhile. A ring has no folds. A meeting or a note
   -- heard is one load
   abbrev pub fee : ℕ → Answered T → ℕ
   fee k (Put r) = 14 + 40 * k
@@ -23,8 +23,8 @@ module _ {T : Type 0} where
   fee k (Gauge closed used) = 12
   fee k Heard = 1
 
-  -- Of a ring for so many passes at once, the joined passes have made at most so many steps, together: what the calls cost that these acts begin, with a
-  -- load for each meeting and each note heard; the fees of all that was answered; and so many for each answer
+  -- A ring for `passes` passes at once. The joined passes together have made no more steps than each of these: what the calls cost that
+  -- these acts begin, with a load for each meeting and each note heard; the fees of all answers; 25 + 40 * (passes - 1) for each answer
   pub record TotalWork (passes : ℕ) (r : RootView T) (acts : Acts (SeatLine T)) : Type 0 where
     pub prices : total_steps r.works ≤ in_all (pays (λ l. cost (passes - 1) (call_in l))) acts
     pub fees : total_steps r.works ≤ total_fees (fee (passes - 1)) r.works

@@ -19,12 +19,13 @@ pub fn ring_steps_are_bounded<T>()
         → IsBounded n laps passes before now x first }
 {}
 
-/// The acts that led to a ring's table are a schedule of its machine. Run with enough numbers of passes,
-/// from the words of a new ring, it comes to the same words, history and lines. There may be more
-/// numbers than passes at once, since a pass that is joined leaves its spare cell to a later one, with a
-/// new number. Suppose each pass began its operations with a spare cell that was free: in no slot, and
-/// with no pass that was in an operation. Then the ring's rule holds there of the passes in an operation
-/// and of the free cells, so all that is proved of such states holds of the ring.
+/// The acts that led to a ring's table are a schedule of its machine. With enough numbers of passes
+/// and from the words of a new ring, that schedule leads the machine to the same words, history and
+/// lines. There may be more numbers than passes at once, since a joined pass leaves its spare cell
+/// to a later one with a new number. Suppose each pass began its operations with a spare cell that
+/// was free: in no slot, and with no pass that was in an operation. Then the ring's rule holds
+/// there of the passes in an operation and of the free cells, so all laws that are proved of such
+/// states hold of the ring.
 pub fn ring_acts_are_a_schedule<T>()
     ensures shows { (n laps passes numbers : ℕ) (acts : Acts (SeatLine T)) → Below numbers acts
         → AllByRecursion (λ a. IsAllowed names (core T n laps passes) a.1) acts

@@ -1,10 +1,10 @@
-//! Laws of the acts that led to a running ring's table. They are a schedule of its machine, and their
-//! calls are linearizable. The steps of an operation under way are bounded, by how often others have
-//! succeeded meanwhile. Among a bounded number of steps some call ends. If no pass is out, all passes
-//! together have made no more steps than their calls cost. A joined pass leaves its spare cell to a later one, so in the machine here each
-//! begin says which cell the pass has. The laws hold of acts in which each operation was begun with a
-//! cell that was free; the acts of a running ring are such. No function here makes a step: the contract
-//! of each is a law of what the passes know.
+//! Laws of the acts that led to a running ring's table. They are a schedule of its machine, and
+//! their calls are linearizable. The steps of an operation under way are bounded, by how often
+//! others have succeeded meanwhile. Among a bounded number of steps some call ends. If no pass is
+//! out, all passes together have made no more steps than their calls cost. A joined pass leaves its
+//! spare cell to a later one, so in the machine here each begin says which cell the pass has. The
+//! laws hold of acts in which each operation was begun with a cell that was free, as in a running
+//! ring. No function here makes a step: the contract of each is a law of what the passes know.
 #![tactic(auto)]
 
 mod bounds;

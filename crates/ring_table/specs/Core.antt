@@ -23,7 +23,7 @@ use Rattle.ring_table.specs.Lines.{call_of, reply, Brings, Says}
 use Rattle.ring_table.specs.Seats.{passes_of, cells_from, IsStock, deed_at}
 use Rattle.ring_table.specs.Free.{FreeAt}
 
--- What is said of a line of the machine, said of a line of a seat. Of one that is none of a pass nothing is said, and it makes no step
+-- What holds of a line of the machine, for a line of a seat. For a seat that is not a pass's nothing is claimed, and it makes no step
 module _ {T : Type 0} where
   abbrev pub stopped_at : SeatLine T → SeatLine T
   stopped_at (At l) = At (resting (cell_of l))
@@ -57,7 +57,7 @@ module _ {T : Type 0} where
   WinsUnheldAt n m seats (At l) (At l') = WinsUnheld n m (passes_of seats) l l'
   WinsUnheldAt n m seats s s' = Unit {0}
 
--- a ring of n slots, each filled at most so many times, and for so many passes: it has a cell for each slot and each pass
+-- a ring of n slots, each of which can be filled `laps` times, and for `passes` passes: it has a cell for each slot and each pass
 module _ (T : Type 0) (n laps passes : ℕ) where
   abbrev pub cells : ℕ
   cells = n + passes
@@ -73,7 +73,7 @@ module _ (T : Type 0) (n laps passes : ℕ) where
     Plain = λ at x. ⊥;
   }
 
-  -- the memory that a new table shows; where it has no word or slot, it shows 0 or nothing
+  -- the memory that a new table shows; for a word or cell that it does not have, it shows 0 or nothing
   abbrev pub first_memory : Memory T
   first_memory = record {
     head = start_word 0;

@@ -1,5 +1,5 @@
--- Where the words of a ring lie: the head and the tail, each on cache lines of its own, and then the words of
--- the slots, of a small ring 8 words apart, so that each has a cache line of its own.
+-- Where the words of a ring lie: the head and the tail, each on cache lines of its own, and then the words of the
+-- slots. In a small ring these are 8 words apart, so that each has a cache line of its own.
 use Rattle.std.specs.Prelude.{ℕ, ◌+◌, ◌-◌, ◌*◌, ◌/◌, ◌%◌, ◌==◌, ltb, if◌then◌else◌}
 use Rattle.ring_machine.specs.declared.lines.Place.{Place}
 use Rattle.ring_machine.specs.declared.lines.Place.TheVariants.{Head, Tail, Slot}
@@ -25,7 +25,7 @@ place_at n Head = head_at
 place_at n Tail = tail_at
 place_at n (Slot i) = slot_at n i
 
--- a ring of n slots and so many cells; it has no plain numbers
+-- a ring of n slots and this number of cells; it has no plain numbers
 abbrev pub layout : ℕ → ℕ → Layout Place ⊥
 layout n cells = record { place = place_at n; link = λ q. absurd q; words = words_for n; slots = cells }
 

@@ -1,4 +1,4 @@
--- What the code is told at a line of the ring.
+-- What the code knows at a line of the ring.
 use Rattle.std.specs.Prelude.{◌≡◌, ℕ, ◌*◌, ◌<◌, ◌≤◌, List, [], ◌∷◌, Option as Slot, Some, None}
 use Rattle.tagged_index.specs.Fields.{index_of, tag_of}
 use Rattle.bounded_model.specs.declared.views.Answered.{Answered}
@@ -24,7 +24,7 @@ module _ {T : Type 0} where
   call_of LenFirst = CallLen
   call_of GaugeFirst = CallGauge
 
-  -- what its call has answered, of a pass that is idle at this line
+  -- what the call of a pass that is idle at this line has answered
   abbrev pub answered : Answer T → Answered T
   answered (AnswerPut r) = put_answered r
   answered (AnswerTake r) = TakeAnswered r
@@ -38,14 +38,14 @@ module _ {T : Type 0} where
   reply (Idle c (Some a)) = answered a
   reply l = Heard
 
-  -- which slot a step brings: the spare cell, or the one that is taken
+  -- which slot a step brings: the spare cell, or the cell that it takes
   abbrev pub Brings : Line T → List (ℕ × Slot T) → Type 0
   Brings (FetchTail c v) zs = zs ≡ (c, None) ∷ []
   Brings (TakeCell w x) zs = (v : T) × (zs ≡ (x.index, Some v) ∷ [])
   Brings l zs = Unit {0}
 
-  -- What the word that a line finds tells the code: a hint names a slot, and a slot one of so many cells, with a
-  -- tag that is not above the limit
+  -- What the code knows of the word that it finds at a line: a hint names a slot; a slot names one of the `cells`
+  -- cells, with a tag that is not above the limit
   abbrev pub Says : ℕ → ℕ → ℕ → Line T → ℕ → Type 0
   Says n laps cells (FetchTail c v) y = index_of y < n
   Says n laps cells (LoadTail c s) y = index_of y < n

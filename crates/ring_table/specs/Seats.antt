@@ -1,4 +1,5 @@
--- The lines of the seats of a ring's table: those of the machine for a pass, and for any other seat the spare cells that are with it.
+-- The lines of the seats of a ring's table. The line of a pass is that of the machine. The line of any other seat has the spare cells of
+-- that seat.
 use Rattle.std.specs.Prelude.{◌≡◌, ℕ, zero, suc, ◌+◌, Bool, false, List, [], ◌∷◌, ◌++◌, length}
 use mathlib.Core.Option.{Option, none, some}
 use Rattle.machine.specs.Program.{Then, Won, Deed, stays, returns, brings, rests, loads, checks, follows, fetches, stows, stores, links, attempts, swaps}
@@ -12,7 +13,7 @@ use Rattle.ring_table.specs.declared.operation.Operation.{Operation}
 use Rattle.ring_table.specs.Lines.{call_of}
 
 module _ {T : Type 0} where
-  -- the passes that the seats stand for, as the machine has them: a spare cell that no pass has is that of one that rests
+  -- the passes that the seats stand for, as the machine has them: a spare cell that no pass has counts as that of a pass that rests
   abbrev pub each_resting : List ℕ → List (Line T)
   each_resting [] = []
   each_resting (c ∷ cs) = resting c ∷ each_resting cs
@@ -25,7 +26,7 @@ module _ {T : Type 0} where
   passes_of [] = []
   passes_of (s ∷ ss) = passes_at s ++ passes_of ss
 
-  -- the root gives a pass its first spare cell, and takes a pass's back; two that meet put theirs together
+  -- the root gives a pass its first spare cell, and takes a pass's cell back; two passes that meet put their cells together
   abbrev pub gives : SeatLine T → SeatLine T × SeatLine T
   gives (Stock (c ∷ cs)) = (Stock cs, At (resting c))
   gives s = (s, At (resting 0))
@@ -54,12 +55,12 @@ module _ {T : Type 0} where
   abbrev pub names : Names (SeatLine T) (Operation T)
   names = record { shares = record { none = Stock []; gives = gives; takes = takes; both = both }; is_idle = is_idle; quiet = quiet; first = first }
 
--- the spare cells of so many passes, from the first one's on
+-- the spare cells of this number of passes, from the first one's on
 abbrev pub cells_from : ℕ → ℕ → List ℕ
 cells_from c zero = []
 cells_from c (suc k) = c ∷ cells_from (c + 1) k
 
--- of a ring for so many passes, so many are out, and the root has the cells of the others
+-- in a ring for `passes` passes, `out` are out, and the root has a cell for each pass that is not out
 abbrev pub IsStock : {T : Type 0} → ℕ → ℕ → SeatLine T → Type 0
 IsStock passes out (At l) = ⊥
 IsStock passes out (Stock cs) = length cs + out ≡ passes

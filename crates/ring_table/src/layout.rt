@@ -1,5 +1,5 @@
 //! Where the words of a ring lie: the head and the tail, each on cache lines of its own, and then
-//! the words of the slots, of a small ring 8 words apart.
+//! the words of the slots. In a small ring these are 8 words apart.
 ghost use Rattle.std.specs.Prelude.{◌≡◌, ◌<◌, ◌≤◌};
 ghost use Rattle.tagged_index.specs.declared.word.TheConstants.{NULL};
 ghost use Rattle.ring_table.specs.Layout.{spread, slot_at, words_for, start_at};

@@ -2,7 +2,7 @@
 use std::collections::LinkedList;
 
 /// A pass has a spare cell between its calls too, and its line says which. So each seat says which
-/// spare cells are with it, and they go from seat to seat as passes are given and taken back.
+/// spare cells it has. They move from seat to seat as passes are given and taken back.
 pub enum SeatLine<T> {
     /// A pass, at this line of the machine.
     At(ring_machine::Line<T>),

@@ -1,8 +1,8 @@
 //! Which operation a pass begins.
 use std::snapshot::Snapshot;
 
-/// The operation that a pass makes its first step of. Later steps need no name: the pass's line
-/// says where it is. Of a put it shows the value, for proofs alone.
+/// The operation whose first step a pass makes. Later steps need no name: the pass's line says
+/// where it is. A put's operation has the value, for proofs alone.
 #[derive(Drop)]
 pub enum Operation<T> {
     Put(Snapshot<T>),

@@ -1,4 +1,4 @@
-//! Calls by single steps: so many of them, or all that are left.
+//! Calls by single steps: a given number of them, or all remaining ones.
 
 ghost use Rattle.std.specs.Prelude.{ℕ};
 ghost use Rattle.ring_queue.specs.Closing.{IsClosing};
@@ -13,10 +13,10 @@ use bounded_model::{PutRefused, Stepped, Stepwise, TakeRefused};
 use ring_queue::{CloseOp, LenOp, LookOp, Pass, PutOp, RingQueue, ShutOp, TakeOp};
 use std::process::Abort;
 
-/// More steps than any call makes that nobody interferes with from here on.
+/// More steps than any call makes if nobody interferes from here on.
 pub(crate) const MOST: u32 = 60;
 
-/// Makes so many steps of a put, none of which ends it.
+/// Makes this number of steps of a put, none of which ends it.
 pub(crate) fn put_for<T: Drop + Send, R: Abort>(
     rt: &R,
     ring: &RingQueue<T>,
@@ -36,7 +36,7 @@ pub(crate) fn put_for<T: Drop + Send, R: Abort>(
     op
 }
 
-/// The same of a take.
+/// The same for a take.
 pub(crate) fn take_for<T: Drop + Send, R: Abort>(
     rt: &R,
     ring: &RingQueue<T>,
@@ -56,7 +56,7 @@ pub(crate) fn take_for<T: Drop + Send, R: Abort>(
     op
 }
 
-/// The same of a close.
+/// The same for a close.
 pub(crate) fn close_for<R: Abort>(
     rt: &R,
     ring: &RingQueue<u64>,
@@ -76,7 +76,7 @@ pub(crate) fn close_for<R: Abort>(
     op
 }
 
-/// The same of a shut.
+/// The same for a shut.
 pub(crate) fn shut_for<R: Abort>(
     rt: &R,
     ring: &RingQueue<u64>,
@@ -96,7 +96,7 @@ pub(crate) fn shut_for<R: Abort>(
     op
 }
 
-/// The same of a look.
+/// The same for a look.
 pub(crate) fn look_for<R: Abort>(
     rt: &R,
     ring: &RingQueue<u64>,
@@ -116,7 +116,7 @@ pub(crate) fn look_for<R: Abort>(
     op
 }
 
-/// The same of a count.
+/// The same for a count.
 pub(crate) fn count_for<R: Abort>(
     rt: &R,
     ring: &RingQueue<u64>,
@@ -132,7 +132,7 @@ pub(crate) fn count_for<R: Abort>(
     next
 }
 
-/// Makes all steps that are left of a put.
+/// Makes all remaining steps of a put.
 pub(crate) fn put_to_the_end<R: Abort>(
     rt: &R,
     ring: &RingQueue<u64>,
@@ -151,7 +151,7 @@ pub(crate) fn put_to_the_end<R: Abort>(
     panic!(rt; "the put does not end")
 }
 
-/// The same of a take.
+/// The same for a take.
 pub(crate) fn take_to_the_end<R: Abort>(
     rt: &R,
     ring: &RingQueue<u64>,
@@ -170,7 +170,7 @@ pub(crate) fn take_to_the_end<R: Abort>(
     panic!(rt; "the take does not end")
 }
 
-/// The same of a close.
+/// The same for a close.
 pub(crate) fn close_to_the_end<R: Abort>(
     rt: &R,
     ring: &RingQueue<u64>,
@@ -189,7 +189,7 @@ pub(crate) fn close_to_the_end<R: Abort>(
     panic!(rt; "the close does not end")
 }
 
-/// The same of a shut.
+/// The same for a shut.
 pub(crate) fn shut_to_the_end<R: Abort>(
     rt: &R,
     ring: &RingQueue<u64>,
@@ -208,7 +208,7 @@ pub(crate) fn shut_to_the_end<R: Abort>(
     panic!(rt; "the shut does not end")
 }
 
-/// The same of a look.
+/// The same for a look.
 pub(crate) fn look_to_the_end<R: Abort>(
     rt: &R,
     ring: &RingQueue<u64>,
@@ -227,7 +227,7 @@ pub(crate) fn look_to_the_end<R: Abort>(
     panic!(rt; "the look does not end")
 }
 
-/// The same of a count.
+/// The same for a count.
 pub(crate) fn count_to_the_end<R: Abort>(
     rt: &R,
     ring: &RingQueue<u64>,

@@ -1,5 +1,5 @@
-//! As many passes as a ring was made for, each of which has stopped in the middle of a call: each has a
-//! cell of its own.
+//! All the passes for which a ring was made, each of which has stopped in the middle of a call.
+//! Each has a cell of its own.
 
 ghost use Rattle.ring_queue.specs.Roots.{IsRootOf};
 
@@ -8,8 +8,8 @@ use bounded_model::{Container, Leaving, PutRefused, TakeRefused};
 use ring_queue::{RingLimits, RingQueue, Root};
 use std::process::Abort;
 
-// So many passes each stop in a put, with the value in their cell; there is no pass more. They go on
-// in the other order, until the ring is full.
+// All passes stop in a put, with the value in their cell. The root gives no further pass. They
+// continue in the opposite order, until the ring is full.
 fn all_put<R: Abort>(
     rt: &R,
     ring: &RingQueue<u64>,
@@ -38,7 +38,7 @@ fn all_put<R: Abort>(
     ring.join(root, pass);
 }
 
-// The same of takes: each has seen the first value before it stops.
+// The same for takes: each has seen the first value before it stops.
 fn all_take<R: Abort>(
     rt: &R,
     ring: &RingQueue<u64>,

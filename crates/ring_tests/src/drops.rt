@@ -1,5 +1,5 @@
-//! Each value is dropped once: of a call that is dropped at any of its lines while others go round, of
-//! a put that is refused, and of a rest that is read in part.
+//! Each value is dropped once: that of a call that is dropped at any of its lines while other
+//! passes go round, that of a put that is refused, and those of a rest that is read in part.
 
 ghost use Rattle.ring_queue.specs.Ring.{IsPassOf};
 ghost use Rattle.ring_queue.specs.Roots.{IsRootOf};
@@ -15,7 +15,7 @@ use std::sync::{Arc, Wait};
 /// A value that knows how many owners it has.
 type Owned = Arc<u8>;
 
-// One owner more.
+// One more owner.
 fn clone_of<R: Abort>(rt: &R, value: &Owned) -> Owned {
     Arc::try_clone(value).expect(rt, "a clone")
 }
@@ -33,7 +33,7 @@ fn ring_of<R: Abort>(
     RingQueue::new(alloc, limits).expect(rt, "memory")
 }
 
-// So many clones go in.
+// Puts this number of clones.
 fn fill<R: Abort + Wait>(
     rt: &R,
     ring: &RingQueue<Owned>,
@@ -53,7 +53,7 @@ fn fill<R: Abort + Wait>(
     pass
 }
 
-// So many clones go in and out, one after another.
+// Puts and takes this number of clones, one after another.
 fn go_through<R: Abort + Wait>(
     rt: &R,
     ring: &RingQueue<Owned>,
@@ -95,7 +95,8 @@ fn end<R: Abort + Wait>(
     assert_eq!(rt; Arc::strong_count(value), 1);
 }
 
-// A put is dropped after so many steps. Until its first step it has its value; then a cell has it.
+// A put is dropped after this number of steps. Until its first step it has its value; then a cell
+// has it.
 fn dropped_put<R: Abort + Wait>(rt: &R, alloc: Global, capacity: u32, lag: u64, made: u64) {
     let value = Arc::new(alloc, 7u8).expect(rt, "memory");
     let (ring, mut root) = ring_of(rt, alloc, capacity, 100);
@@ -109,7 +110,7 @@ fn dropped_put<R: Abort + Wait>(rt: &R, alloc: Global, capacity: u32, lag: u64, 
     end(rt, ring, root, other, &value);
 }
 
-// A take is dropped after so many steps. From its exchange on it has its value.
+// A take is dropped after this number of steps. From its exchange on it has its value.
 fn dropped_take<R: Abort + Wait>(rt: &R, alloc: Global, capacity: u32, lag: u64, made: u64) {
     let value = Arc::new(alloc, 7u8).expect(rt, "memory");
     let (ring, mut root) = ring_of(rt, alloc, capacity, 100);
@@ -139,7 +140,8 @@ fn a_call_that_is_dropped_at_any_line_drops_its_value_once(rt: HostRuntime) {
     }
 }
 
-// A put into a full ring is dropped after so many steps. By its refusal it has its value again.
+// A put into a full ring is dropped after this number of steps. Once it is refused it has its value
+// again.
 fn dropped_refused_put<R: Abort + Wait>(rt: &R, alloc: Global, capacity: u32, made: u64) {
     let value = Arc::new(alloc, 7u8).expect(rt, "memory");
     let (ring, mut root) = ring_of(rt, alloc, capacity, 100);
@@ -192,7 +194,7 @@ fn a_put_that_is_refused_has_its_value_once(rt: HostRuntime) {
     refused_puts(&rt, rt.alloc());
 }
 
-// Of the values that are left some are read, and the others are dropped with the rest.
+// Some of the values that are left are read, and the remaining ones are dropped with the rest.
 fn read_in_part<R: Abort + Wait>(rt: &R, alloc: Global, capacity: u32, through: u64, read: u32) {
     let value = Arc::new(alloc, 7u8).expect(rt, "memory");
     let (ring, mut root) = ring_of(rt, alloc, capacity, 100);

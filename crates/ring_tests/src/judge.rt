@@ -1,5 +1,5 @@
 //! Whether the answers of calls that overlap are those of a plain list. Each call has its effect at
-//! once, at some time between its begin and its end: a judge keeps all cases that this leaves.
+//! once, at some time between its begin and its end. A judge keeps all cases that this allows.
 
 use crate::plain::{Asked, Plain, ROOM, Reply};
 use std::alloc::Global;
@@ -8,7 +8,7 @@ use std::process::Abort;
 /// How many passes have calls at most.
 pub(crate) const CREW: usize = 4;
 
-// What a case says of a pass.
+// The state of a pass in a case.
 #[derive(Clone, Copy, PartialEq, Eq)]
 enum Standing {
     // It is in no call.
@@ -19,7 +19,7 @@ enum Standing {
     Told(Reply),
 }
 
-// What may be: the list, and how each pass stands.
+// A possible case: the list, and the state of each pass.
 #[derive(Clone, Copy, PartialEq, Eq)]
 struct Case {
     ring: Plain,
@@ -34,7 +34,7 @@ impl Case {
         }
     }
 
-    // The same, but for how this pass stands.
+    // The same case, except for the state of this pass.
     fn with(self, pass: usize, standing: Standing) -> Case {
         let mut all = self.standing;
         if let Some(place) = all.get_mut(pass) {
@@ -57,7 +57,7 @@ impl Case {
     }
 }
 
-// Adds the cases in which one more call has had its effect than in these, and gives those that are new.
+// Adds the cases that arise if one more call has its effect, and returns those that are new.
 fn with_one_more<R: Abort>(
     rt: &R,
     alloc: Global,
@@ -86,7 +86,7 @@ pub(crate) struct Judge {
 }
 
 impl Judge {
-    /// Of a new ring.
+    /// A judge of a new ring.
     pub(crate) fn new<R: Abort>(rt: &R, alloc: Global, ring: Plain) -> Judge {
         let mut cases = Vec::new(alloc);
         let standing = [Standing::Resting; CREW];
@@ -101,7 +101,7 @@ impl Judge {
         }
     }
 
-    /// A pass ends its call. Whether a plain list may answer so.
+    /// A pass ends its call. Returns whether a plain list may answer so.
     pub(crate) fn allows<R: Abort>(&mut self, rt: &R, pass: usize, reply: Reply) -> bool {
         let mut all = self.cases.to_vec(self.alloc).expect(rt, "memory");
         let mut new = self.cases.to_vec(self.alloc).expect(rt, "memory");

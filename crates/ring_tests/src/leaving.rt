@@ -19,7 +19,7 @@ fn read_all<R: Abort>(rt: &R, rest: Rest<u64>, from: u64, to: u64) {
     assert!(rt; rest.next() == None);
 }
 
-// Of the values from 0 on, so many are taken and so many are left.
+// Puts the values from 0 on, takes some of them, and reads the remaining ones.
 fn left_in_order<R: Abort + Wait>(rt: &R, alloc: Global, capacity: u32, taken: u64, left: u64) {
     let limits = RingLimits::of(capacity, 100, 3).expect(rt, "limits");
     let (ring, mut root) = RingQueue::<u64>::new(alloc, limits).expect(rt, "memory");

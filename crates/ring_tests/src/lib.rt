@@ -1,9 +1,11 @@
-//! Tests of the ring alone: what it may be made with, how many passes it gives, that it goes round and
-//! wears out, what is left, and that each value is dropped once. And of its calls by single steps: a
-//! call, and two threads, that stopped at a line while others went round, and schedules that look
-//! random, whose answers are those of a plain list. What any container has is tested in
-//! `container_tests`. `doing` and `plain` are read without the tests too, since `specs/` names what
-//! they declare.
+//! Tests of the ring alone:
+//! - what it may be made with, and how many passes it gives,
+//! - that it goes round and wears out, what is left, and that each value is dropped once,
+//! - its calls by single steps: calls and threads that stop at a line while others go round, and
+//!   schedules that look random, whose answers are those of a plain list.
+//!
+//! `container_tests` tests what any container has. `doing` and `plain` are read without the tests
+//! too, since `specs/` names what they declare.
 #![tactic(auto)]
 
 #[cfg(test)]

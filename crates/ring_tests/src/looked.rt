@@ -1,5 +1,5 @@
-//! A look and a count that stopped at each of their lines, and go on after others went three laps
-//! round: they answer of the ring as it is then.
+//! A look and a count stop at each of their lines, and continue after others went three laps round.
+//! Their answers are right for the ring as it is then.
 
 use crate::calls::{count_for, count_to_the_end, look_for, look_to_the_end};
 use crate::stopped::{LAGS, go_through, ring_after, steps_before, three_laps};

@@ -44,7 +44,7 @@ fn want_of_memory_refuses_a_ring(rt: HostRuntime) {
     drop(ring);
 }
 
-// Has the root give so many passes, each of which is dropped.
+// Takes this number of passes from the root, and drops each.
 fn dropped_passes<R: Abort>(rt: &R, ring: &RingQueue<u32>, root: &mut Root<u32>, count: u32)
     requires { IsRootOf ring.now root.old }
     ensures { IsRootOf ring.now root.new }

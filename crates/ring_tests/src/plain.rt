@@ -1,4 +1,4 @@
-//! A ring as a plain list: what a call answers if no other overlaps it.
+//! A ring as a plain list: what a call answers if no other call overlaps it.
 
 use bounded_model::{PutRefused, TakeRefused, Word};
 
@@ -31,9 +31,9 @@ pub(crate) enum Reply {
     Taken(u64, u64),
     Empty,
     TakeClosed,
-    /// Nothing is taken of a ring that is shut.
+    /// The ring is shut, and nothing is taken.
     TakeShut,
-    /// A take is never answered so.
+    /// No take answers so.
     TakeSpent,
     /// Whether this call closed the ring.
     Closed(bool),
@@ -81,7 +81,7 @@ pub(crate) struct Plain {
 }
 
 impl Plain {
-    /// An empty ring of at most `ROOM` slots, which lasts for so many laps.
+    /// An empty ring of at most `ROOM` slots, each of which can be filled `laps` times.
     pub(crate) fn new(capacity: u64, laps: u64) -> Plain {
         Plain {
             values: [None; ROOM],
@@ -103,7 +103,7 @@ impl Plain {
         self.puts.saturating_sub(self.takes)
     }
 
-    /// What a call answers now, and the ring behind it.
+    /// What a call answers now, and the ring after it.
     pub(crate) fn after(self, asked: Asked) -> (Plain, Reply) {
         match asked {
             Asked::Put(value) => self.put(value),

@@ -1,4 +1,4 @@
-//! A ring goes round, closes where it is full or empty, and wears out.
+//! A ring goes round, closes when it is full or empty, and wears out.
 
 ghost use Rattle.ring_queue.specs.Ring.{IsPassOf};
 
@@ -99,7 +99,7 @@ fn a_ring_is_spent_after_its_laps(rt: HostRuntime) {
     }
 }
 
-// A ring is closed after so many values went through, with so many in it.
+// A ring is closed after some values went through, with some values in it.
 fn closed_with<R: Abort + Wait>(rt: &R, alloc: Global, capacity: u32, through: u64, there: u64) {
     let (ring, pass) = ring_of(rt, alloc, capacity, 100);
     let pass = pass_through(rt, &ring, pass, through);
@@ -122,7 +122,7 @@ fn closed_with<R: Abort + Wait>(rt: &R, alloc: Global, capacity: u32, through: u
     assert!(rt; gauge.closed && gauge.used == last);
 }
 
-// The same of a ring that is shut: it can be filled and closed, and nothing is taken.
+// The same for a ring that is shut: it can be filled and closed, and nothing is taken.
 fn shut_with<R: Abort + Wait>(rt: &R, alloc: Global, capacity: u32, through: u64, there: u64) {
     let (ring, pass) = ring_of(rt, alloc, capacity, 100);
     let pass = pass_through(rt, &ring, pass, through);
@@ -147,7 +147,8 @@ fn shut_with<R: Abort + Wait>(rt: &R, alloc: Global, capacity: u32, through: u64
     assert!(rt; count == capacity);
 }
 
-// Empty, full, and all between, at the first lap and at later ones, and round the end of the circle.
+// Empty, full, and each state between, at the first lap and at later ones, and round the end of the
+// circle.
 #[test]
 fn a_ring_is_closed_and_shut_with_any_number_of_values(rt: HostRuntime) {
     for capacity in 1..=3 {

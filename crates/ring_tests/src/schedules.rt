@@ -14,11 +14,11 @@ use ring_queue::{Pass, Rest, RingLimits, RingQueue, Root};
 use std::alloc::Global;
 use std::process::Abort;
 
-/// More steps than any call makes that nobody interferes with from here on.
+/// More steps than any call makes if nobody interferes from here on.
 const MOST: u32 = 60;
 
-// What a test runs: how large the ring is and how long it lasts, how many passes have calls, and
-// what the dice begin with, and how many turns it has.
+// The parameters of a test: how large the ring is and how long it lasts, how many passes have
+// calls, the seed of the dice, and the number of turns.
 #[derive(Clone, Copy)]
 struct Plan {
     capacity: u32,
@@ -28,7 +28,7 @@ struct Plan {
     turns: u64,
 }
 
-// What was answered at least once.
+// Which answers came at least once.
 #[derive(Clone, Copy, PartialEq, Eq, Debug)]
 struct Heard {
     put: bool,
@@ -95,7 +95,7 @@ impl Heard {
     }
 }
 
-// What a schedule is played with.
+// The state of a schedule that is played.
 #[derive(Drop)]
 struct Play {
     dice: Dice,
@@ -106,7 +106,7 @@ struct Play {
 }
 
 impl Play {
-    // What a pass asks next. A ring is seldom closed or shut.
+    // The next call of a pass. It seldom closes or shuts the ring.
     fn ask(&mut self, pass: usize) -> Asked {
         let asked = match self.dice.below(128) {
             0 => Asked::Close,
@@ -121,14 +121,14 @@ impl Play {
         asked
     }
 
-    // A call was answered.
+    // A call has answered.
     fn hear<R: Abort>(&mut self, rt: &R, pass: usize, reply: Reply) {
         self.heard.hear(reply);
         assert!(rt; self.judge.allows(rt, pass, reply));
     }
 }
 
-// A pass goes on by one step of its call. One that rests begins a call.
+// A pass makes one step of its call. A pass that rests begins a call.
 fn go_on<R: Abort>(
     rt: &R,
     ring: &RingQueue<u64>,
@@ -151,7 +151,7 @@ fn go_on<R: Abort>(
     }
 }
 
-// A pass makes all steps that are left of its call, and is joined.
+// A pass makes all remaining steps of its call, and is joined.
 fn ended<R: Abort>(
     rt: &R,
     ring: &RingQueue<u64>,
@@ -187,7 +187,7 @@ fn resting<R: Abort>(rt: &R, ring: &RingQueue<u64>, root: &mut Root<u64>) -> Doi
     Doing::Rests(ring.split(root).expect(rt, "a pass"))
 }
 
-// Reads the values that are left, and whether these are all.
+// Reads the values that are left, and returns whether these are all.
 fn read_all(rest: Rest<u64>) -> ([Option<u64>; ROOM], bool) {
     let mut rest = rest;
     let first = rest.next();
@@ -196,8 +196,8 @@ fn read_all(rest: Rest<u64>) -> ([Option<u64>; ROOM], bool) {
     ([first, second, third], rest.next().is_none())
 }
 
-// Plays one schedule to its end, and joins all passes. At each turn a pass that the dice name makes a
-// step; one of them sleeps at a time, if any.
+// Plays one schedule to its end, and joins all passes. At each turn the dice name a pass, and it
+// makes a step. At most one of the passes sleeps at a time.
 fn played<R: Abort>(rt: &R, alloc: Global, plan: Plan, heard: Heard) -> Heard {
     let limits = RingLimits::of(plan.capacity, plan.laps, 4).expect(rt, "limits");
     let (ring, mut root) = RingQueue::<u64>::new(alloc, limits).expect(rt, "memory");
@@ -235,8 +235,8 @@ fn played<R: Abort>(rt: &R, alloc: Global, plan: Plan, heard: Heard) -> Heard {
     play.heard
 }
 
-// Every capacity and number of passes, from two laps on: a schedule is long enough for a ring to be
-// spent. All answers that there are come somewhere.
+// Every capacity and number of passes, from two laps on. A schedule is long enough to spend a ring.
+// Every answer comes at least once.
 #[test]
 fn answers_in_any_schedule_are_those_of_a_plain_list(rt: HostRuntime) {
     let mut heard = Heard::NOTHING;

@@ -1,4 +1,4 @@
-//! A call that stopped at each of its lines, and goes on after others went three laps round.
+//! A call stops at each of its lines, and continues after others went three laps round.
 
 ghost use Rattle.ring_queue.specs.Ring.{IsPassOf};
 
@@ -13,13 +13,13 @@ use std::alloc::Global;
 use std::process::Abort;
 use std::sync::Wait;
 
-/// How many positions lie between a hint and the end that it names at most. A walk that has gone on
-/// by so many moves the hint.
+/// The largest number of positions between a hint and the end that it names. A walk that has passed
+/// this number of positions moves the hint.
 pub(crate) const LAGS: u64 = 8;
 
-/// How many steps a put and a take make before their exchange, and a close and a shut before they
-/// mark a slot: they load the hint, and each slot from there on. A walk that moves the hint then
-/// loads it and a slot once more.
+/// The number of steps that a put and a take make before their exchange, and a close and a shut
+/// before they mark a slot. They load the hint, and each slot from there on. A walk that moves the
+/// hint then loads the hint and a slot once more.
 pub(crate) fn steps_before(lag: u64) -> u64 {
     if lag < LAGS {
         lag.saturating_add(2)
@@ -28,9 +28,9 @@ pub(crate) fn steps_before(lag: u64) -> u64 {
     }
 }
 
-/// A ring, the pass that stops, and one more, after so many values went through. Both hints are so
-/// far behind: after eight values, because a put and a take have stopped for good before they moved
-/// them.
+/// A ring, the pass that stops, and one more, after a number of values went through. Both hints lag
+/// by that number. If it is eight, a put and a take have stopped for good before they moved the
+/// hints.
 pub(crate) fn ring_after<R: Abort + Wait>(
     rt: &R,
     alloc: Global,
@@ -53,7 +53,7 @@ pub(crate) fn ring_after<R: Abort + Wait>(
     (ring, stopped, other)
 }
 
-/// Puts and takes values one after another, the numbers of their calls.
+/// Puts and takes values one after another. The values are the numbers of their calls.
 pub(crate) fn go_through<R: Abort + Wait>(
     rt: &R,
     ring: &RingQueue<u64>,
@@ -80,7 +80,8 @@ pub(crate) fn three_laps(capacity: u32) -> u64 {
     u64::from(capacity).saturating_mul(3)
 }
 
-// A put stops before its exchange, which then fails or meets another slot: it has its effect last.
+// A put stops before its exchange, which then fails or finds another slot: the put has its effect
+// last.
 fn put_stops<R: Abort + Wait>(rt: &R, alloc: Global, capacity: u32, lag: u64, made: u64) {
     let (ring, pass, other) = ring_after(rt, alloc, capacity, lag);
     let put = put_for(rt, &ring, ring.begin_put(pass, 1_000), made);
@@ -103,8 +104,8 @@ fn a_put_that_stops_before_its_exchange_is_the_last(rt: HostRuntime) {
     }
 }
 
-// The eighth put moves the hint behind its exchange. It stops between them: its value is taken, and
-// its number stays.
+// The eighth put moves the hint after its exchange, and stops between the two. Its value is taken,
+// and its number stays.
 #[test]
 fn a_put_that_stops_behind_its_exchange_is_the_first(rt: HostRuntime) {
     for capacity in 1..=3 {
@@ -120,7 +121,7 @@ fn a_put_that_stops_behind_its_exchange_is_the_first(rt: HostRuntime) {
     }
 }
 
-// A put is refused, and stops before it has its value back: the answer stays.
+// A put is refused, and stops before it gets its value back: the answer stays.
 #[test]
 fn a_put_that_stops_behind_its_refusal_is_refused(rt: HostRuntime) {
     for capacity in 1..=3 {
@@ -138,7 +139,8 @@ fn a_put_that_stops_behind_its_refusal_is_refused(rt: HostRuntime) {
     }
 }
 
-// A take stops before its exchange: another takes the value that it has seen, and it takes the last.
+// A take stops before its exchange. Another pass takes the value that it has seen, and it takes the
+// last.
 fn take_stops_before<R: Abort + Wait>(rt: &R, alloc: Global, capacity: u32, lag: u64, made: u64) {
     let (ring, pass, other) = ring_after(rt, alloc, capacity, lag);
     let (other, put) = ring.put(rt, other, 1_000);
@@ -160,7 +162,7 @@ fn take_stops_before<R: Abort + Wait>(rt: &R, alloc: Global, capacity: u32, lag:
     assert!(rt; answer == Ok((2_000, last)));
 }
 
-// A take stops behind its exchange: the value is its own, and nobody else finds one.
+// A take stops after its exchange: the value is its own, and no other pass finds one.
 fn take_stops_behind<R: Abort + Wait>(rt: &R, alloc: Global, capacity: u32, lag: u64, made: u64) {
     let (ring, pass, other) = ring_after(rt, alloc, capacity, lag);
     let (other, put) = ring.put(rt, other, 1_000);
@@ -201,7 +203,7 @@ fn a_take_that_stops_behind_its_exchange_has_its_value(rt: HostRuntime) {
     }
 }
 
-// A close stops at each line, and closes where the ring is then.
+// A close stops at each line, and closes the ring at the back that it has then.
 fn close_stops<R: Abort + Wait>(rt: &R, alloc: Global, capacity: u32, lag: u64, made: u64) {
     let (ring, pass, other) = ring_after(rt, alloc, capacity, lag);
     let close = close_for(rt, &ring, ring.begin_close(pass), made);
@@ -219,7 +221,7 @@ fn close_stops<R: Abort + Wait>(rt: &R, alloc: Global, capacity: u32, lag: u64, 
     assert!(rt; taken == Err(TakeRefused::Closed));
 }
 
-// The same of a shut.
+// The same for a shut.
 fn shut_stops<R: Abort + Wait>(rt: &R, alloc: Global, capacity: u32, lag: u64, made: u64) {
     let (ring, pass, other) = ring_after(rt, alloc, capacity, lag);
     let shut = shut_for(rt, &ring, ring.begin_shut(pass), made);

@@ -1,5 +1,5 @@
-//! A thread that stops in the middle of a put, and one in the middle of a take: others go on, and the
-//! calls end once their threads do.
+//! One thread stops in the middle of a put, and one in the middle of a take. Other passes continue,
+//! and the two calls end once their threads continue.
 
 ghost use Rattle.ring_queue.specs.Ring.{IsPassOf};
 
@@ -16,7 +16,8 @@ use std::thread::Threads;
 /// How many values go through while the two have stopped.
 const THROUGH: u64 = 3_000;
 
-// A put stops after so many steps, until the others have let it go on, and tells that it has ended.
+// A put stops after this number of steps, until the other passes let it continue, and reports its
+// end.
 fn put_between<R: Abort + Wait>(
     rt: &R,
     ring: &RingQueue<u64>,
@@ -34,7 +35,7 @@ fn put_between<R: Abort + Wait>(
     let _ = gate.wait(rt);
 }
 
-// The same of a take.
+// The same for a take.
 fn take_between<R: Abort + Wait>(
     rt: &R,
     ring: &RingQueue<u64>,
@@ -52,8 +53,8 @@ fn take_between<R: Abort + Wait>(
     let _ = gate.wait(rt);
 }
 
-// Both stop before their exchange, the take where it has seen value 0, and a third pass takes that
-// value and goes on. Then the put ends, and then the take, which takes what it has put.
+// Both stop before their exchange. The take has seen value 0 by then. A third pass takes that value
+// and makes further calls. Then the put ends, and then the take, which takes the value of the put.
 fn others_go_on<R: Abort + Threads + Wait + Sync>(
     rt: &R,
     ring: &RingQueue<u64>,
