@@ -1,4 +1,4 @@
--- What a call gives that is tried so many times.
+-- What a call gives that makes a bounded number of tries.
 use Rattle.std.specs.Prelude.{◌≡◌, ℕ, ◌+◌, ◌*◌, ◌-◌, ◌^◌, ◌≤◌, min}
 use Rattle.bounded_model.specs.declared.answers.Stepped.{Stepped}
 use Rattle.bounded_model.specs.declared.answers.Stepped.TheVariants as stepped
@@ -14,7 +14,7 @@ use Rattle.bounded_model.specs.Stepping.{MatchStepped, Underway, no_step}
 use Rattle.bounded_calls.specs.declared.calls.PutMade.{PutMade}
 use Rattle.bounded_calls.specs.declared.calls.PutMade.TheVariants.{Again, Done, NoRoom}
 
--- How many steps so many tries are: each so many, and those of a call that loses no exchange. They fit in 64 bits
+-- How many steps `tries` tries allow: `each` for each try, and `undisturbed`, those of a call that loses no exchange. They fit in 64 bits
 abbrev pub steps_of : ℕ → ℕ → ℕ → ℕ
 steps_of undisturbed each tries = min (min (tries * each) (2 ^ 64 - 1) + undisturbed) (2 ^ 64 - 1)
 
@@ -27,7 +27,7 @@ pub record Reading (T P O : Type 0) : Type 1 where
   pub making : O → Underway T
 
 module _ {T A B C S L : Type 0} where
-  -- of a container with single steps
+  -- the reading of a container with single steps
   abbrev pub by_steps : {P : Type 0} → Shape → (P → Type 0) → (P → PassView T)
       → (T → A → Type 0) → (B → Type 0) → (C → Type 0) → (S → Type 0) → (L → Type 0)
       → (A → Underway T) → (B → Underway T) → (C → Underway T) → (S → Underway T) → (L → Underway T)
@@ -49,28 +49,28 @@ module _ {T P O : Type 0} (r : Reading T P O) where
     pub makes : r.is_making call op
     pub begun : r.making op ≡ no_step (r.pass by)
 
-  -- a call that its pass began as this was tried: it goes on, begun as before, or it gave what the whole call gives
+  -- a call that its pass began as this was tried: it is still under way, begun as before, or it gave what the whole call gives
   abbrev pub TriedFrom : PassView T → Command T → Stepped O P (Reply T) → Type 0
   TriedFrom begun call made = MatchStepped made
       (λ next. r.is_making call next × ((r.making next).begun ≡ begun))
       (λ back said. r.is_pass back × CallGives r.shape begun call (r.pass back) said)
 
-  -- the same of an operation, whichever call it makes
+  -- the same for an operation, whichever call it makes
   abbrev pub Tried : O → Stepped O P (Reply T) → Type 0
   Tried op made = (call : Command T) → r.is_making call op → TriedFrom (r.making op).begun call made
 
-  -- So many steps were to be made of an operation: it goes on after exactly so many, or has ended after at most so many
+  -- An operation was to make n steps: it is still under way after exactly n steps, or has ended after at most n
   abbrev pub TookFor : ℕ → O → Stepped O P (Reply T) → Type 0
   TookFor n op made = MatchStepped made
       (λ next. (r.making next).now.steps ≡ (r.making op).now.steps + n)
       (λ back said. (r.pass back).steps ≤ (r.making op).now.steps + n)
 
-  -- a call that its pass began as this goes on only after so many steps
+  -- if a call that its pass began as this is still under way, it has made at least n steps
   abbrev pub TookAtLeast : ℕ → PassView T → Stepped O P (Reply T) → Type 0
   TookAtLeast n begun made = MatchStepped made (λ next. begun.steps + n ≤ (r.making next).now.steps) (λ back said. Unit {0})
 
-  -- What the first steps of a put of x have come to, that was begun as this; or it has found no room, which `is_refusing` says of a pass that is in
-  -- a put of this value, and `refusing` as what that was begun
+  -- The outcome of the first steps of a put of x that was begun as `begun`. If it has found no room, `is_refusing` holds of the pass in a
+  -- put of this value, and `refusing` gives the pass's view as that put was begun
   abbrev pub PutMadeSo : (T → P → Type 0) → (P → PassView T) → T → PassView T → PutMade O P T → Type 0
   PutMadeSo is_refusing refusing x begun (Done back said) = TriedFrom begun (Put x) (stepped.Done back (reply.Put said))
   PutMadeSo is_refusing refusing x begun (Again next) = TriedFrom begun (Put x) (stepped.Again next) × (begun.steps ≤ (r.making next).now.steps)

@@ -1,4 +1,4 @@
-//! Containers whose calls give up after so many tries.
+//! Containers whose calls give up after a bounded number of tries.
 
 ghost use Rattle.std.specs.Prelude.{◌≡◌, ℕ, MatchOption};
 ghost use Rattle.bounded_model.specs.Laws.{IsFullOfPasses, Leaves, Splits};
@@ -19,7 +19,7 @@ ghost use Rattle.bounded_calls.specs.Calls.{
 
 use bounded_model::{Command, Leaving, PutRefused, Reply, Stepped};
 
-/// What the first steps of a put have come to.
+/// The outcome of the first steps of a put.
 pub enum PutMade<O, P, T> {
     Done(P, Result<u64, PutRefused<T>>),
     /// It is under way: `run_for` continues it.
@@ -28,11 +28,11 @@ pub enum PutMade<O, P, T> {
     NoRoom(P, T),
 }
 
-/// A container whose calls give up after a number of tries; the caller can continue them. It gives
+/// A container whose calls give up after a number of tries. The caller can continue them. It gives
 /// the fast paths of its calls, the steps after them, and two numbers.
 ///
-/// It is no `Container`, whose calls may wait. Code that is generic over this trait links none of
-/// those, so a library for programs without a runtime can have it.
+/// It is no `Container`, whose calls may wait. Code that is generic over this trait links no call
+/// that may wait, so a library for programs without a runtime can use it.
 pub trait BoundedCalls<T>: Drop {
     type Root: Drop;
 
@@ -43,10 +43,10 @@ pub trait BoundedCalls<T>: Drop {
 
     type Rest: Leaving<T> + Drop;
 
-    /// As many steps as any call makes that loses no compare-and-swap.
+    /// The largest number of steps of a call that loses no compare-and-swap.
     const UNDISTURBED: u64;
 
-    /// How many steps lead to a call's next compare-and-swap, if one has failed.
+    /// The number of steps to a call's next compare-and-swap, after one has failed.
     const TO_EXCHANGE: u64;
 
     ghost UNDISTURBED: { ℕ };
@@ -62,13 +62,13 @@ pub trait BoundedCalls<T>: Drop {
     /// What a root has seen, how many passes it has given, and what those joined have done.
     ghost root: { Self.Root → RootView T };
 
-    /// Whether this pass is in a put of this value that has found no room.
+    /// That this pass is in a put of this value that has found no room.
     ghost is_refusing: { Self → T → Self.Pass → Type 0 };
 
     /// What that pass had seen as the put was begun.
     ghost refusing: { Self → Self.Pass → PassView T };
 
-    /// The container's `split`.
+    /// The container's `split`: a pass, or `None` if the largest number of passes is out.
     fn split_off(&self, parent: &mut Self::Root) -> Option<Self::Pass>
         requires { is_root self.now parent.old }
         ensures root { is_root self.now parent.new }
@@ -78,7 +78,7 @@ pub trait BoundedCalls<T>: Drop {
             (λ p. (reading self.now).is_pass p × Splits (reading self.now).shape
             (root parent.old) (root parent.new) ((reading self.now).pass p)) };
 
-    /// The container's `finish`.
+    /// The container's `finish`: ends the container, and returns what is left.
     fn end_with(self, parent: Self::Root) -> Self::Rest
         requires { is_root self parent }
         ensures { Leaves (reading self).shape (root parent) (Self.Rest.left result) };
@@ -88,7 +88,8 @@ pub trait BoundedCalls<T>: Drop {
         requires { (reading self.now).is_pass by }
         ensures { Begins (reading self.now) by command result };
 
-    /// Goes on with a call for at most so many steps.
+    /// Continues a call for at most `steps` steps. If it is still under way then, it was begun as
+    /// before and has made exactly `steps` steps more.
     fn run_for(
         &self,
         operation: Self::Operation,
@@ -104,7 +105,7 @@ pub trait BoundedCalls<T>: Drop {
         ensures { PutMadeSo (reading self.now) (is_refusing self.now) (refusing self.now)
             value ((reading self.now).pass by) result };
 
-    /// Says why nothing can be put, if there is no room.
+    /// Says why nothing can be put, if the put has found no room.
     fn refuse_at_once(
         &self,
         by: Self::Pass,
@@ -126,9 +127,9 @@ pub trait BoundedCalls<T>: Drop {
         ensures tried { TriedFrom (reading self.now) ((reading self.now).pass by) Look result }
         ensures took { TookAtLeast (reading self.now) 0 ((reading self.now).pass by) result };
 
-    /// Continues a call for the steps of this number of tries. If it is still under way then, it was
-    /// begun as before and has made exactly these steps more. If it has ended, it has made at most
-    /// these. A function of its own, so that its caller's code has nothing but the fast path.
+    /// Continues a call for the steps of this number of tries. If it is still under way then, it
+    /// was begun as before and has made exactly these steps more. If it has ended, it has made at
+    /// most these steps. A function of its own, so that its caller's code has only the fast path.
     #[inline(never)]
     fn try_on(
         &self,
@@ -146,10 +147,10 @@ pub trait BoundedCalls<T>: Drop {
     }
 }
 
-/// A call: its fast path, and if that does not end it, the steps that a call makes if nobody
-/// interferes and those of `tries` tries more. Returns what the whole call returns. Or the call is
-/// still under way, and has made at least the steps of its tries. A bound on them from above is
-/// visible in the code only.
+/// A call: its fast path, and if that does not end it, the steps of a call that loses no
+/// compare-and-swap and those of `tries` further tries. Returns what the whole call returns, or the
+/// call under way, which has made at least these steps. An upper bound on its steps is visible in
+/// the code only.
 pub fn try_call<T, C: BoundedCalls<T>>(
     container: &C,
     by: C::Pass,

@@ -21,7 +21,7 @@ impl BoundedCalls<u64> for RingQueue<u64> {
 
     type Rest = Rest<u64>;
 
-    // A take's, if the hint lags as far as it can and has moved meanwhile.
+    // The steps of a take, if the hint lags as far as it can and has moved meanwhile.
     const UNDISTURBED: u64 = 25;
 
     // The hint, eight positions, and the exchange there.
@@ -33,7 +33,8 @@ impl BoundedCalls<u64> for RingQueue<u64> {
 
     ghost reading = { ring_reading };
 
-    // A ring's put says by itself why nothing can be put, so that one is never refused apart.
+    // A ring's put says by itself why nothing can be put, so no ring's put needs a separate
+    // refusal.
     ghost is_refusing = { λ c x p. IsPassOf c p };
 
     ghost refusing = { λ c p. pass_in p };

@@ -39,21 +39,21 @@ module _ {T : Type 0} (c : RingQueue T) (o : Operation T) (p : Pass T (SeatLine 
   abbrev pub now : Acts (SeatLine T)
   now = acts_now p.seat.me.0
 
-  -- What the pass has done of an operation since it was begun at this line: so many steps, which are at most 47, and 30 for each exchange by which another
-  -- pass has succeeded meanwhile
+  -- The steps of the pass in an operation that was begun at this line. They are `count`, and at most 47, and 30 for each exchange by
+  -- which another pass has succeeded meanwhile
   pub record Bounds (first : SeatLine T) (count : ℕ) : Type 0 where
     pub bound : IsBounded (room_of c) (laps_of c) (passes_of c) before now (pass_in p).number first
     pub steps : steps_in (pass_in p).number bound.since ≡ count
 
-  -- The pass has made so many steps of the operation o. Once it has made the first, they are bounded so. Which line is o's first depends on the cell that the
-  -- pass had then
+  -- The pass has made `count` steps of the operation o. Once it has made the first, `Bounds` bounds them. The first line of o depends on
+  -- the cell that the pass had then
   pub record StepsAreBounded : Type 0 where
     pub count : ℕ
     pub made : HasMade names o p.seat.me.0 count
     pub bound : names.is_idle (line_in names p.seat.me.0) ≡ false → (rest : SeatLine T) × Bounds (names.first o rest) count
 
-  -- more than w exchanges of other passes have succeeded since the operation was begun: those of the machine that ran as the passes did, with any numbers
-  -- of passes that are enough
+  -- more than w exchanges of other passes have succeeded since the operation was begun. They are exchanges of the machine that ran as the
+  -- passes did, with any numbers of passes that are enough
   pub record IsOvertaken (w : ℕ) : Type 0 where
     pub rest : SeatLine T
     pub since : Acts (SeatLine T)
@@ -66,14 +66,14 @@ abbrev pub EndsOrOvertaken : {T S A : Type 0} → RingQueue T → Stepped (Op T 
 EndsOrOvertaken c made = MatchStepped made (λ next. IsOvertaken c next.operation next.pass 0) (λ back answer. Unit {0})
 
 module _ {T S A : Type 0} (c : RingQueue T) (account : Account T (SeatLine T) (Operation T) S (Answered A)) (Promises : Operation T → PassView T → PassView T → Answered A → Type 0) where
-  -- The operation goes on, begun as before, after this many steps in all; or its pass is back and has given what it promises
+  -- The operation is still under way, begun as before, after this many steps in all; or its pass is back and has given what it promises
   abbrev pub MadeFor : ℕ → Op T (SeatLine T) (Operation T) S → Stepped (Op T (SeatLine T) (Operation T) S) (RingPass T) A → Type 0
   MadeFor k op r = MatchStepped r
       (λ next. IsAfter (machine_of c) account c.table.shared.table_id k next × (begun_of (machine_of c) next.pass ≡ begun_of (machine_of c) op.pass) × (next.operation ≡ op.operation))
       (λ back a. IsPassOf c back × Promises op.operation (begun_of (machine_of c) op.pass) (ring.pass_in back) (record { spare = back.spare; answer = a }))
 
--- What is left stands for a run of the passes. Their calls are linearizable, and if no pass is out, they have made no more steps together than their
--- calls cost
+-- What is left stands for a run of the passes. Their calls are linearizable. If no pass is out, the passes together have made no more
+-- steps than their calls cost
 pub record IsPaidRun {T : Type 0} (c : RingQueue T) (r : RootView T) (left : List T) : Type 0 where
   pub run : IsRun (machine_of c) r left
   pub linearizable : IsLinearizable names (core T (room_of c) (laps_of c) (passes_of c)) call_in answer_at (object (room_of c) (laps_of c)) run.acts

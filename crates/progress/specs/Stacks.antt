@@ -34,16 +34,17 @@ module _ {T : Type 0} (c : Stack T) (o : Operation T) (p : Pass T (Line T)) wher
   abbrev pub now : Acts (Line T)
   now = acts_now p.seat.me.0
 
-  -- The pass has made so many steps of the operation o. Once it has made the first, they are at most 4 for each node, 6, and 4 for each exchange by which
-  -- another pass has succeeded since the operation was begun; of a put or a take of one value, a close, a shut or a look at most 9 and those 4
+  -- The pass has made `count` steps of the operation o. Once it has made the first, they are at most 4 for each node, 6 more, and 4 for
+  -- each exchange by which another pass has succeeded since the operation was begun. For a put or a take of one value, a close, a shut or
+  -- a look they are at most 9, and 4 for each such exchange
   pub record StepsAreBounded : Type 0 where
     pub count : ℕ
     pub made : HasMade names o p.seat.me.0 count
     pub bound : names.is_idle (line_in names p.seat.me.0) ≡ false
         → (b : IsBounded (room_of c) (limit_of c) before now (pass_in p).number (first_line o)) × (steps_in (pass_in p).number b.since ≡ count)
 
-  -- more than w exchanges of other passes have succeeded since the operation was begun: those of the machine that ran as the passes did, with any number
-  -- of passes that is large enough
+  -- more than w exchanges of other passes have succeeded since the operation was begun. They are exchanges of the machine that ran as the
+  -- passes did, with any number of passes that is large enough
   pub record IsOvertaken (w : ℕ) : Type 0 where
     pub since : Acts (Line T)
     pub is : now ≡ since ++ ((pass_in p).number, Begins (first_line o)) ∷ before
@@ -54,8 +55,8 @@ module _ {T : Type 0} (c : Stack T) (o : Operation T) (p : Pass T (Line T)) wher
 abbrev pub EndsOrOvertaken : {T S A : Type 0} → Stack T → Stepped (Op T (Line T) (Operation T) S) (Pass T (Line T)) A → Type 0
 EndsOrOvertaken c made = MatchStepped made (λ next. IsOvertaken c next.operation next.pass 0) (λ back answer. Unit {0})
 
--- What is left stands for a run of the passes. Their calls are linearizable, and if no pass is out, they have made no more steps together than their
--- calls cost
+-- What is left stands for a run of the passes. Their calls are linearizable. If no pass is out, the passes together have made no more
+-- steps than their calls cost
 pub record IsPaidRun {T : Type 0} (c : Stack T) (r : RootView T) (left : List T) : Type 0 where
   pub run : IsRun (room_of c) (limit_of c) r left
   pub linearizable : IsLinearizable names (core T (room_of c) (limit_of c)) call_at answer (object (room_of c) (limit_of c)) run.acts

@@ -23,8 +23,8 @@ use runs::step_for;
 pub const ALONE: u64 = 20;
 
 /// Puts a value step by step, with no wait, for at most `ALONE + 1` steps. If the put has not ended
-/// then, another pass's compare-and-swap has succeeded since it was begun, and it comes back under
-/// way.
+/// then, it comes back under way, and another pass's compare-and-swap has succeeded since it was
+/// begun.
 pub fn put_or_overtaken<T>(
     queue: &Queue<T>,
     by: Pass<T>,
@@ -49,11 +49,11 @@ pub fn take_or_overtaken<T>(
     step_for(queue, queue.begin_take(by), ALONE + 1)
 }
 
-/// Ends a queue, as `finish` does, and returns what is left: the outcome of a run of the passes whose
-/// calls are linearizable. If no pass is out, all passes together have made at most as many steps as
-/// their calls cost, each by what it has answered. If P passes were given, a put costs `14 * P + 4`, a
-/// take `12 * P + 5`, a close `8 * P`, a shut `6 * P - 4`, a look 3, a count 4, a gauge 8, and a meeting
-/// or a note heard 1.
+/// Ends a queue, as `finish` does, and returns what is left. That is the outcome of a run of the
+/// passes whose calls are linearizable. If no pass is out, all passes together have made at most as
+/// many steps as their calls cost. The answer of a call says its cost. If P passes were given, a
+/// put costs `14 * P + 4`, a take `12 * P + 5`, a close `8 * P`, a shut `6 * P - 4`, a look 3, a
+/// count 4, a gauge 8, and a meeting or a note heard 1.
 pub fn end<T>(queue: Queue<T>, parent: Root<T>) -> Rest<T>
     requires { IsRootOf queue parent }
     ensures leaves { Leaves (shape_of queue) (root_in parent) (left_in result) }
@@ -74,7 +74,7 @@ pub fn put_is_bounded<T>(queue: &Queue<T>, op: &PutOp<T>)
     let _ = op;
 }
 
-/// The same of a take.
+/// The same for a take.
 pub fn take_is_bounded<T>(queue: &Queue<T>, op: &TakeOp<T>)
     requires { IsTaking queue.now op.now }
     ensures { StepsAreBounded queue.now op.now.operation op.now.pass }
@@ -83,7 +83,7 @@ pub fn take_is_bounded<T>(queue: &Queue<T>, op: &TakeOp<T>)
     let _ = op;
 }
 
-/// The same of a close.
+/// The same for a close.
 pub fn close_is_bounded<T>(queue: &Queue<T>, op: &CloseOp<T>)
     requires { IsClosing queue.now op.now }
     ensures { StepsAreBounded queue.now op.now.operation op.now.pass }
@@ -92,7 +92,7 @@ pub fn close_is_bounded<T>(queue: &Queue<T>, op: &CloseOp<T>)
     let _ = op;
 }
 
-/// The same of a shut.
+/// The same for a shut.
 pub fn shut_is_bounded<T>(queue: &Queue<T>, op: &ShutOp<T>)
     requires { IsShutting queue.now op.now }
     ensures { StepsAreBounded queue.now op.now.operation op.now.pass }
@@ -101,7 +101,7 @@ pub fn shut_is_bounded<T>(queue: &Queue<T>, op: &ShutOp<T>)
     let _ = op;
 }
 
-/// The same of a look.
+/// The same for a look.
 pub fn look_is_bounded<T>(queue: &Queue<T>, op: &LookOp<T>)
     requires { IsLooking queue.now op.now }
     ensures { StepsAreBounded queue.now op.now.operation op.now.pass }

@@ -34,8 +34,8 @@ use running::{Call, Op};
 pub const ALONE: u64 = 47;
 
 /// Puts a value step by step, with no wait, for at most `ALONE + 1` steps. If the put has not ended
-/// then, another pass's compare-and-swap has succeeded since it was begun, and it comes back under
-/// way.
+/// then, it comes back under way, and another pass's compare-and-swap has succeeded since it was
+/// begun.
 pub fn put_or_overtaken<T>(
     ring: &RingQueue<T>,
     by: Pass<T>,
@@ -60,7 +60,7 @@ pub fn take_or_overtaken<T>(
     step_for(ring, ring.begin_take(by), ALONE + 1)
 }
 
-// `runs::step_for` for a ring, whose pass comes back with the spare cell of its last line.
+// As `runs::step_for`, for a ring. The pass comes back with the spare cell of its last line.
 fn step_for<T, S, A>(
     ring: &RingQueue<T>,
     op: Op<T, SeatLine<T>, Operation<T>, S>,
@@ -89,11 +89,11 @@ where
     Stepped::Again(op)
 }
 
-/// Ends a ring, as `finish` does, and returns what is left: the outcome of a run of the passes whose
-/// calls are linearizable. If no pass is out, all passes together have made at most as many steps as
-/// their calls cost, each by what it has answered. In a ring for P passes at once, however many there
-/// were, a put costs `40 * P - 26`, a take `35 * P - 20`, a close or a shut `22 * P - 9`, a look or a
-/// gauge 12, a count 25, and a meeting or a note heard 1.
+/// Ends a ring, as `finish` does, and returns what is left. That is the outcome of a run of the
+/// passes whose calls are linearizable. If no pass is out, all passes together have made at most as
+/// many steps as their calls cost. The answer of a call says its cost. In a ring for P passes at
+/// once, for any number of passes in all, a put costs `40 * P - 26`, a take `35 * P - 20`, a close
+/// or a shut `22 * P - 9`, a look or a gauge 12, a count 25, and a meeting or a note heard 1.
 pub fn end<T>(ring: RingQueue<T>, parent: Root<T>) -> Rest<T>
     requires { IsRootOf ring parent }
     ensures leaves { Leaves (shape_of ring) (root_in parent) (left_in result) }
@@ -114,7 +114,7 @@ pub fn put_is_bounded<T>(ring: &RingQueue<T>, op: &PutOp<T>)
     let _ = op;
 }
 
-/// The same of a take.
+/// The same for a take.
 pub fn take_is_bounded<T>(ring: &RingQueue<T>, op: &TakeOp<T>)
     requires { IsTaking ring.now op.now }
     ensures { StepsAreBounded ring.now op.now.operation op.now.pass }
@@ -123,7 +123,7 @@ pub fn take_is_bounded<T>(ring: &RingQueue<T>, op: &TakeOp<T>)
     let _ = op;
 }
 
-/// The same of a close.
+/// The same for a close.
 pub fn close_is_bounded<T>(ring: &RingQueue<T>, op: &CloseOp<T>)
     requires { IsClosing ring.now op.now }
     ensures { StepsAreBounded ring.now op.now.operation op.now.pass }
@@ -132,7 +132,7 @@ pub fn close_is_bounded<T>(ring: &RingQueue<T>, op: &CloseOp<T>)
     let _ = op;
 }
 
-/// The same of a shut.
+/// The same for a shut.
 pub fn shut_is_bounded<T>(ring: &RingQueue<T>, op: &ShutOp<T>)
     requires { IsShutting ring.now op.now }
     ensures { StepsAreBounded ring.now op.now.operation op.now.pass }
@@ -141,7 +141,7 @@ pub fn shut_is_bounded<T>(ring: &RingQueue<T>, op: &ShutOp<T>)
     let _ = op;
 }
 
-/// The same of a look.
+/// The same for a look.
 pub fn look_is_bounded<T>(ring: &RingQueue<T>, op: &LookOp<T>)
     requires { IsLooking ring.now op.now }
     ensures { StepsAreBounded ring.now op.now.operation op.now.pass }
@@ -150,7 +150,7 @@ pub fn look_is_bounded<T>(ring: &RingQueue<T>, op: &LookOp<T>)
     let _ = op;
 }
 
-/// The same of a count.
+/// The same for a count.
 pub fn len_is_bounded<T>(ring: &RingQueue<T>, op: &LenOp<T>)
     requires { IsCounting ring.now op.now }
     ensures { StepsAreBounded ring.now op.now.operation op.now.pass }

@@ -23,8 +23,8 @@ use treiber_stack::{CloseOp, FoldOp, Pass, PutOp, RangeOp, Rest, Root, ShutOp, S
 pub const ALONE: u64 = 9;
 
 /// Puts a value step by step, with no wait, for at most `ALONE + 1` steps. If the put has not ended
-/// then, another pass's compare-and-swap has succeeded since it was begun, and it comes back under
-/// way.
+/// then, it comes back under way, and another pass's compare-and-swap has succeeded since it was
+/// begun.
 pub fn put_or_overtaken<T>(
     stack: &Stack<T>,
     by: Pass<T>,
@@ -49,9 +49,10 @@ pub fn take_or_overtaken<T>(
     step_for(stack, stack.begin_take(by), ALONE + 1)
 }
 
-/// Ends a stack, as `finish` does, and returns what is left: the outcome of a run of the passes whose
-/// calls are linearizable. If no pass is out, all passes together have made at most as many steps as
-/// their calls cost (`stack_total_work`). The loads by which refused ranges are read back come on top.
+/// Ends a stack, as `finish` does, and returns what is left. That is the outcome of a run of the
+/// passes whose calls are linearizable. If no pass is out, all passes together have made at most as
+/// many steps as their calls cost (`stack_total_work`). The loads by which refused ranges are read
+/// back come on top.
 pub fn end<T>(stack: Stack<T>, parent: Root<T>) -> Rest<T>
     requires { IsRootOf stack parent }
     ensures leaves { Leaves (shape_of stack) (root_in parent) (left_in result) }
@@ -70,7 +71,7 @@ pub fn put_is_bounded<T>(stack: &Stack<T>, op: &PutOp<T>)
     let _ = op;
 }
 
-/// The same of a take.
+/// The same for a take.
 pub fn take_is_bounded<T>(stack: &Stack<T>, op: &TakeOp<T>)
     requires { IsTaking stack.now op.now }
     ensures { StepsAreBounded stack.now op.now.operation op.now.pass }
@@ -79,7 +80,7 @@ pub fn take_is_bounded<T>(stack: &Stack<T>, op: &TakeOp<T>)
     let _ = op;
 }
 
-/// The same of a close.
+/// The same for a close.
 pub fn close_is_bounded<T>(stack: &Stack<T>, op: &CloseOp<T>)
     requires { IsClosing stack.now op.now }
     ensures { StepsAreBounded stack.now Close op.now.pass }
@@ -88,7 +89,7 @@ pub fn close_is_bounded<T>(stack: &Stack<T>, op: &CloseOp<T>)
     let _ = op;
 }
 
-/// The same of a shut.
+/// The same for a shut.
 pub fn shut_is_bounded<T>(stack: &Stack<T>, op: &ShutOp<T>)
     requires { IsShutting stack.now op.now }
     ensures { StepsAreBounded stack.now Shut op.now.pass }
@@ -97,8 +98,8 @@ pub fn shut_is_bounded<T>(stack: &Stack<T>, op: &ShutOp<T>)
     let _ = op;
 }
 
-/// A put of a range under way has made at most 4 steps for each node of the stack and 6, and 4 for
-/// each compare-and-swap by which another pass has succeeded since it was begun.
+/// A put of a range under way has made at most 4 steps for each node of the stack, 6 more, and 4
+/// for each compare-and-swap by which another pass has succeeded since it was begun.
 pub fn range_is_bounded<T>(stack: &Stack<T>, op: &RangeOp<T>)
     requires { (vs : List T) × (places : List (Slot T)) × IsRanging stack.now vs places op.now }
     ensures { StepsAreBounded stack.now op.now.operation op.now.pass }
@@ -107,7 +108,7 @@ pub fn range_is_bounded<T>(stack: &Stack<T>, op: &RangeOp<T>)
     let _ = op;
 }
 
-/// The same of a fold.
+/// The same for a fold.
 pub fn fold_is_bounded<T>(stack: &Stack<T>, op: &FoldOp<T>)
     requires { (front : Front) × (values : List T) × IsFolding stack.now front values op.now }
     ensures { StepsAreBounded stack.now (fold_operation op.now.at) op.now.pass }

@@ -1,4 +1,5 @@
-//! With nobody else at work no call is overtaken. And what two passes have done together.
+//! With no other pass at work no call is overtaken. There is also a test of the steps that two
+//! passes have made together.
 ghost use Rattle.std.specs.Prelude.{◌≡◌, ℕ, ◌+◌, ◌≤◌, List, [], ◌∷◌, Result};
 ghost use Rattle.bounded_model.specs.declared.answers.PutRefused.{PutRefused};
 ghost use Rattle.bounded_model.specs.declared.answers.TakeRefused.{TakeRefused};
@@ -60,9 +61,9 @@ fn alone_the_calls_of_a_ring_end(rt: HostRuntime) {
     assert!(rt; matches!(took, Ok((7, 0))));
 }
 
-/// The end of a queue that has given two passes, of which one has made a put and the other a take.
-/// Together they have made at most 61 steps, whatever the other did meanwhile: with two passes a put
-/// costs at most 32, and a take 29.
+/// The end of a queue that has given two passes. One has made a put and the other a take. Together
+/// they have made at most 61 steps, whatever the other did meanwhile: with two passes a put costs
+/// at most 32, and a take 29.
 fn ends_within(queue: Queue<u32>, root: Root<u32>, first: Pass<u32>, second: Pass<u32>)
     requires of { IsRootOf queue root × IsPassOf queue first × IsPassOf queue second }
     requires two { ((root_in root).given ≡ 2) × ((root_in root).account ≡ [])
@@ -90,8 +91,8 @@ fn two_passes_make_no_more_steps_than_their_calls_cost(rt: HostRuntime) {
     ends_within(queue, root, first, second);
 }
 
-/// The same of a ring for two passes at once: at most 104 steps, since a put costs at most 54, and a
-/// take 50.
+/// The same for a ring for two passes at once: at most 104 steps, since a put costs at most 54, and
+/// a take 50.
 fn ring_ends_within(
     held: RingQueue<u32>,
     root: RingRoot<u32>,

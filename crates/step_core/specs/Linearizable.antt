@@ -1,14 +1,16 @@
 -- Linearizability (Herlihy and Wing, Linearizability: A Correctness Condition for Concurrent Objects, 1990) of a
 -- machine with a bounded container's events. Their history, a sequence of invocations and responses, is
--- `concurrent_history` here; "history" alone is the list of the container's events. A history is linearizable if
--- each operation takes effect at one point between its invocation and its response, and the operations in the
--- order of their points are a legal sequential history of the object. Pending operations may have taken effect
+-- `concurrent_history` here. In this file "history" alone is the list of the container's events. A history is
+-- linearizable if each operation takes effect at one point between its invocation and its response, and the operations
+-- in the order of their points are a legal sequential history of the object. Pending operations may have taken effect
 -- (their extension of the history) or not.
 --
--- Their words: a process is a pass; an operation, `Operation`; a sequential specification, `Object`; an invocation and a
--- response, `Invokes` and `Responds`; a pending operation, `Pending`; the completed ones of a process, `completed`; that
--- the sequential history is legal and has the same operations (L1), `IsLinearization`; that it keeps the order of
--- operations that do not overlap (L2), `KeepsRealTimeOrder`; linearizable, `Linearizable`.
+-- Their words and the names here:
+-- - a process: a pass; an operation: `Operation`; a sequential specification: `Object`,
+-- - an invocation and a response: `Invokes` and `Responds`; a pending operation: `Pending`; the completed ones of a
+--   process: `completed`,
+-- - the sequential history is legal and has the same operations (L1): `IsLinearization`,
+-- - it keeps the order of operations that do not overlap (L2): `KeepsRealTimeOrder`; linearizable: `Linearizable`.
 use Rattle.std.specs.Prelude.{◌≡◌, ◌⊎◌, ℕ, ◌==◌, if◌then◌else◌, List, [], ◌∷◌, ◌++◌}
 use mathlib.Core.Option.{Option, none, some}
 use lib.ListN.{get_elem?}
@@ -24,18 +26,19 @@ pub record Operation (C A : Type 0) : Type 0 where
   pub answer : A
 
 -- A sequential specification: the bounded machine of this shape, with its hands, and which answers are right. An
--- operation either updates the object, by one event, or reads it: then it changes nothing, and its answer is right
--- in the state that the history leads to. Cells in hand count: a put may be refused as full while a pending
--- operation has the last cell. Hands say no more than that: without them the operations are a run of one sequential
--- list (`calls_alone_are_a_list` of bounded_model)
+-- operation either updates the object, by one event, or reads it. An operation that reads the object changes nothing,
+-- and its answer is right in the state to which the history leads. Cells in hand count: a put may be refused as full
+-- while a pending operation has the last cell. That is the only use of hands: without them the operations are a run of
+-- one sequential list (`calls_alone_are_a_list` of bounded_model)
 pub record Object (T C A : Type 0) : Type 1 where
   pub shape : Shape
   pub updates : Operation C A → Event T → Type 0
   pub reads : Operation C A → List (Event T) → Type 0
 
--- What stands in a history with linearization points: an invocation of pass p; its response; a pass takes a cell
--- into its hand or gives cells back, an event that is no operation's own; and the point of an operation, with the
--- event by which it updates the object or with none
+-- The entries of a history with linearization points:
+-- - an invocation of pass p, and its response,
+-- - a pass takes a cell into its hand or gives cells back: an event that is no operation's own,
+-- - the point of an operation, with the event by which it updates the object, or with none
 pub data Entry (T C A : Type 0) : Type 0 where
   Invokes : (p : ℕ) (call : C) → Entry T C A
   Responds : (p : ℕ) (answer : Option A) → Entry T C A
@@ -43,7 +46,7 @@ pub data Entry (T C A : Type 0) : Type 0 where
   Updates : (k : Operation C A) (event : Event T) → Entry T C A
   Reads : (k : Operation C A) → Entry T C A
 
--- where a pass is: between two operations, in one that has not taken effect yet, or in one that has, with its
+-- the state of a pass: between two operations, in one that has not taken effect yet, or in one that has, with its
 -- answer
 pub data Stage (C A : Type 0) : Type 0 where
   Rests : Stage C A
@@ -98,7 +101,7 @@ pending_call (Pending call) = some call
 pending_call s = none
 
 -- Real time order: an operation whose response stands before another's invocation takes effect before it (their
--- condition L2). Said of a course, and so of each older part of it
+-- condition L2). It holds of a course, and so of each older part of it
 module _ {T C A : Type 0} where
   -- the operations of pass p that take effect in a course, with call and answer
   abbrev pub effective : ℕ → List (Entry T C A) → List (Option C × Option A)
@@ -113,7 +116,7 @@ module _ {T C A : Type 0} where
   completed p (Responds q answer ∷ heard) = if_by q p (pending_call (stage p heard)) answer ++ completed p heard
   completed p (e ∷ heard) = completed p heard
 
-  -- of pass p, those that have taken effect are those that it has completed, or these and the pending one
+  -- the operations of pass p that have taken effect are those that it has completed, or these and the pending one
   abbrev pub KeepsRealTimeOrder : ℕ → List (Entry T C A) → Type 0
   KeepsRealTimeOrder p course =
       (effective p course ≡ completed p (without_points course))
@@ -121,7 +124,7 @@ module _ {T C A : Type 0} where
 
 -- `answer` says what a pass has answered at a line, if anything
 module _ {M L C T A : Type 0} (x : Machine M L C (Event T)) (answer : L → Option A) where
-  -- the response of pass p, where it is idle after an act of its own
+  -- the response of pass p, if it is idle after an act of its own
   abbrev pub response_of : ℕ → L → List (Entry T C A)
   response_of p l = if x.is_idle l then Responds p (answer l) ∷ [] else []
 

@@ -4,14 +4,16 @@ use mathlib.Core.Option.{Option, none, some}
 use lib.ListN.{get_elem?}
 use Rattle.machine.specs.Schedule.{Machine, Pass, State, Begin, Step, acts_at, start}
 
--- what a line of a script says: a pass makes a whole call, begins one and makes at most so many steps, or makes as many more; at the end, what is left
+-- what a line of a script says: a pass makes a whole call, begins one and makes at most `count` steps, or makes at most `count` further
+-- steps; or the script ends, and what is left is read
 pub data Says (C : Type 0) : Type 0 where
   calls : (p : ℕ) (call : C) → Says C
   begins : (p : ℕ) (call : C) (count : ℕ) → Says C
   steps : (p count : ℕ) → Says C
   finish : Says C
 
--- the reply: the call's answer; it goes on, so many steps after its begin, or has ended after so many; the values left
+-- the reply: the call's answer; the call is under way, `count` steps after its begin; it has ended after `count` steps; the values that
+-- are left; or no call was begun
 pub data Reply (A : Type 0) : Type 0 where
   answers : (answer : A) → Reply A
   again : (count : ℕ) → Reply A
@@ -51,12 +53,12 @@ module _ {M L C A E : Type 0} (x : Player M L C A E) where
   abbrev pub after_step : Stage M L C E → ℕ → Stage M L C E
   after_step s p = record { state = acts_at x.machine s.state p Step (get_elem? s.state.passes p); counts = set s.counts p (suc (count_at s p)) }
 
-  -- at most so many steps, fewer where the call ends
+  -- at most this number of steps, and fewer if the call ends
   abbrev pub after_steps : ℕ → Stage M L C E → ℕ → Stage M L C E
   after_steps zero s p = s
   after_steps (suc k) s p = cond (x.machine.is_idle (line_at s p)) s (after_steps k (after_step s p) p)
 
-  -- a whole call: no call of the scripts makes as many steps
+  -- a whole call: no call of the scripts makes more steps than this
   abbrev pub after_call : Stage M L C E → ℕ → C → Stage M L C E
   after_call s p call = after_steps 40 (after_begin s p call) p
 
@@ -85,6 +87,6 @@ module _ {M L C A E : Type 0} (x : Player M L C A E) where
   abbrev pub Plays : List (Says C × Reply A) → Type 0
   Plays script = replies curtain (map (λ line. line.0) script) ≡ map (λ line. line.1) script
 
-  -- the first k lines of a script get their replies, and the next one gets this reply in place of its own
+  -- the first k lines of a script get their replies, and the next one gets this reply instead of its own
   abbrev pub Fails : List (Says C × Reply A) → ℕ → Reply A → Type 0
   Fails script k other = replies curtain (map (λ line. line.0) (take (suc k) script)) ≡ map (λ line. line.1) (take k script) ++ other ∷ []

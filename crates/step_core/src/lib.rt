@@ -1,8 +1,8 @@
 //! The laws of the pure machines, true of every schedule of any number of passes.
 //!
-//! The functions here make no step. The contract of each is a law. That of `.._exhibits` is a list of
-//! played rows, and that of `.._near_misses` a list of wrong machines, each with a schedule in which it
-//! breaks a law. No container depends on this crate.
+//! The functions here make no step. The contract of each is a law. The contract of `.._exhibits` is
+//! a list of played rows. That of `.._near_misses` is a list of wrong machines, each with a
+//! schedule in which it breaks a law. No container depends on this crate.
 #![tactic(auto)]
 
 mod list_laws;

@@ -39,10 +39,11 @@ pub fn queue_rule<T>()
         MeetsRule n limit s → MeetsRule n limit (next (queue (shape n limit)) s (p, act)) }
 {}
 
-/// No cell and no node of a queue is used again while a pass holds it. Wherever the rule holds, and
-/// so in every schedule, each of them is in one place, and once: free, in the chain, or held by one
-/// pass. And whatever cell or node a step brings into its pass's hand, no pass had it: a put's was
-/// free and not in the chain, a take's was in the chain, and no other step brings any.
+/// No cell and no node of a queue is used again while a pass holds it. In every state that meets
+/// the rule, and so in every schedule, each cell and each node is in one place, and once: free, in
+/// the chain, or held by one pass. No pass had the cell or the node that a step brings into its
+/// pass's hand. A put's was free and not in the chain, and a take's was in the chain. No other step
+/// brings any.
 pub fn queue_nodes<T>()
     ensures wherever_the_rule_holds { (n limit : ℕ) (s : State T) →
         MeetsRule n limit s → NothingTwice n s.memory (lines_of s) }
@@ -67,9 +68,9 @@ pub fn queue_answers<T>()
         AllDone (after (queue (shape n limit)) passes schedule) }
 {}
 
-/// While no other pass's compare-and-swap succeeds, a queue's put, take, close, shut, look, count or
-/// gauge has ended after at most 32 of its own steps: from every state that meets the rule, wherever the call
-/// is in it; and so from every state that a schedule leads to.
+/// While no other pass's compare-and-swap succeeds, a queue's put, take, close, shut, look, count
+/// or gauge has ended after at most 32 of its own steps. This holds from every state that meets the
+/// rule, wherever the call is in it, and so from every state to which a schedule leads.
 pub fn queue_bound<T>()
     ensures wherever_the_rule_holds { (n limit p : ℕ) (s : State T) (stretch : Schedule (Call T)) →
         MeetsRule n limit s → IsStretch (queue (shape n limit)) p stretch s →
@@ -79,17 +80,17 @@ pub fn queue_bound<T>()
         MeetsRule n limit (after (queue (shape n limit)) passes schedule) }
 {}
 
-/// A queue is lock-free (Herlihy 1993, there non-blocking), by number and without any fairness, and no
-/// more than that: a single pass may be overtaken for ever, so it is not wait-free (Herlihy 1991). Where never more than P = 1 + `others`
-/// passes are in a call at once, they make at most 14 * P + 6 steps for each call that ends, and for
-/// each of the P: from every state that meets the rule. So among any P * (14 * P + 6) + 1 steps after
-/// any schedule of P passes, some call ends. And in all, from the start, the passes make no more
-/// steps than the calls cost that they begin: a put 14 * P + 4, a take 12 * P + 5, a close 8 * P, a
-/// shut 6 * P - 4, a look 3, a count 4, a gauge 8.
+/// A queue is lock-free (Herlihy 1993, there non-blocking), by number and without any fairness. It
+/// is not wait-free (Herlihy 1991): a single pass may be overtaken for ever. Suppose never more
+/// than P = 1 + `others` passes are in a call at once, from any state that meets the rule. If E
+/// calls end, the passes make at most (14 * P + 6) * (E + P) steps. So among any
+/// P * (14 * P + 6) + 1 steps after any schedule of P passes, some call ends. From the start, the
+/// passes make in all no more steps than the calls cost that they begin: a put 14 * P + 4, a take
+/// 12 * P + 5, a close 8 * P, a shut 6 * P - 4, a look 3, a count 4, a gauge 8.
 ///
-/// Of each single call: it has ended after at most 20 of its own steps, and 8 for each
-/// compare-and-swap by which another pass succeeds meanwhile. So a step that does not succeed costs
-/// nobody else, and while no other pass's compare-and-swap succeeds, 20 steps are enough.
+/// A single call has ended after at most 20 of its own steps, and 8 for each compare-and-swap by
+/// which another pass succeeds meanwhile. So a step that does not succeed costs no other pass
+/// anything. While no other pass's compare-and-swap succeeds, 20 steps are enough.
 pub fn queue_lock_free<T>()
     ensures wherever_the_rule_holds { (n limit others : ℕ) (s : State T) (schedule : Schedule (Call T)) →
         MeetsRule n limit s → AtOnce (queue (shape n limit)) (suc others) schedule s →
@@ -112,10 +113,10 @@ pub fn queue_lock_free<T>()
         own_steps (queue (shape n limit)) p stretch s ≤ 20 }
 {}
 
-/// In every schedule of a queue, what was put is, in the order of the puts, what was taken and then
-/// what stands in the cells along the chain. Puts and takes are numbered 0, 1, 2, .. each: so the
-/// take numbered k gives the value of the put numbered k, and what is left are the untaken puts in
-/// order.
+/// In every schedule of a queue, the values that were put are, in the order of the puts, those that
+/// were taken and then those in the cells along the chain. Puts and takes are numbered 0, 1, 2, ..
+/// each. So the take numbered k gives the value of the put numbered k, and the values that are left
+/// are the untaken puts in order.
 pub fn queue_order<T>()
     ensures values { (n limit passes : ℕ) (schedule : Schedule (Call T)) → 0 < n → n < NULL
         → 0 < limit →
@@ -133,13 +134,13 @@ pub fn queue_order<T>()
 {}
 
 /// A queue is linearizable (Herlihy and Wing 1990). Linearization points can be put into the
-/// invocations and responses of any schedule: one for each completed operation and for some pending
-/// ones, each between its invocation and its response. In the order of their points the operations are
-/// a legal history of the bounded queue as a sequential object, with the answers that are given. A put,
-/// a take, a close and a shut take effect at the compare-and-swap that makes their event. A refusal, a
-/// look, a count and a gauge take effect at a moment at which they are right. The order of the points
-/// keeps real time. Cut such a history anywhere: the operations of a pass that have taken effect are
-/// those that it has completed by then, or these and its pending one.
+/// invocations and responses of any schedule. Each completed operation and some of the pending ones
+/// have one, between invocation and response. In the order of their points the operations are a
+/// legal history of the bounded queue as a sequential object, with their answers. A put, a take, a
+/// close and a shut take effect at the compare-and-swap that makes their event. A refusal, a look,
+/// a count and a gauge take effect at a moment at which they are right. The order of the points
+/// keeps real time. At each prefix of such a history, the operations of a pass that have taken
+/// effect are those that it has completed, or these and its pending one.
 pub fn queue_linearizable<T>()
     ensures points { (n limit passes : ℕ) (schedule : Schedule (Call T)) → 0 < n → n < NULL → 0 < limit →
         Linearizable (queue (shape n limit)) answer (object n limit) passes schedule }

@@ -22,8 +22,9 @@ ghost use Rattle.step_core.specs.queue.WrongAnswers.{put_another, handed_back, k
 ghost use Rattle.step_core.specs.queue.WrongRuns.{ends_where_it_lost, lost_take, is_always_empty, stale_take, plain_object, full_of_hands, spoils_where_it_lost, starving, in_turn};
 
 /// Rows played by the queue's machine, by single steps of up to three passes, and machines that are
-/// nearly the queue's, each with the scene that it fails: so many lines of it get their replies, and then
-/// one gets another. They show what the comparisons and the order of the tests are for.
+/// nearly the queue's. Each such machine has the scene that it fails: the first lines of it get
+/// their replies, and then one gets another. They show what the comparisons and the order of the
+/// tests are for.
 pub fn queue_exhibits()
     // Played rows.
     ensures smallest { Plays smallest }
@@ -74,7 +75,7 @@ pub fn queue_exhibits()
     ensures gauges { Plays gauges }
     ensures puts_end { PutsEnd }
     ensures takes_end { TakesEnd }
-    // With another order of tests, or without a comparison, a scene is answered otherwise.
+    // With another order of tests, or without a comparison, a scene gets another reply.
     ensures limit_first_fails { Fails limit_first null_before_limit 2 (answers (cells_spent 2 z)) }
     ensures closed_first_fails { Fails closed_first spent_before_closed 4 (answers (put_closed z)) }
     ensures next_limit_last_fails { Fails next_limit_last next_spent_before_closed 5 (ended (put_closed x) 18) }

@@ -37,10 +37,10 @@ pub fn ring_rule<T>()
         MeetsRule n laps cells s → MeetsRule n laps cells (next (ring (shape n laps)) s (p, act)) }
 {}
 
-/// No cell of a ring is used by two passes. Wherever the rule holds, and so in every schedule, each
-/// cell is in one place, and once: in one slot, or the spare one of one pass. And whatever cell a
-/// step brings into its pass's hand, no pass had it: it was in a slot, and only the winning
-/// compare-and-swap of a put or a take brings any.
+/// No cell of a ring is used by two passes. In every state that meets the rule, and so in every
+/// schedule, each cell is in one place, and once: in one slot, or the spare one of one pass. No
+/// pass had the cell that a step brings into its pass's hand: it was in a slot. Only the winning
+/// compare-and-swap of a put or a take brings one.
 pub fn ring_cells<T>()
     ensures wherever_the_rule_holds { (n laps cells : ℕ) (s : State T) →
         MeetsRule n laps cells s → NothingTwice n cells s.memory (lines_of s) }
@@ -64,9 +64,8 @@ pub fn ring_answers<T>()
 {}
 
 /// A ring is linearizable (Herlihy and Wing 1990). A put, a take, a close and a shut take effect at
-/// the compare-and-swap that makes their event, a refusal, a look and a gauge at the load that they answer
-/// by,
-/// and a count at the load that found the back.
+/// the compare-and-swap that makes their event. A refusal, a look and a gauge take effect at the
+/// load by which they answer, and a count at the load that found the back.
 pub fn ring_linearizable<T>()
     ensures points { (n laps passes : ℕ) (schedule : Schedule (Call T)) → 0 < n →
         Linearizable (ring (shape n laps)) answer (object n laps) passes schedule }
@@ -74,9 +73,9 @@ pub fn ring_linearizable<T>()
         IsLinearization (object n laps) (newer ++ older) → KeepsRealTimeOrder p older }
 {}
 
-/// While no other pass's compare-and-swap succeeds, a ring's call has ended after at most 47 of its own
-/// steps: from every state that meets the rule, wherever the call is in it; and so from every state
-/// that a schedule leads to.
+/// While no other pass's compare-and-swap succeeds, a ring's call has ended after at most 47 of its
+/// own steps. This holds from every state that meets the rule, wherever the call is in it, and so
+/// from every state to which a schedule leads.
 pub fn ring_bound<T>()
     ensures wherever_the_rule_holds { (n laps cells p : ℕ) (s : State T) (stretch : Schedule (Call T)) →
         MeetsRule n laps cells s → IsStretch (ring (shape n laps)) p stretch s →
@@ -85,17 +84,17 @@ pub fn ring_bound<T>()
         MeetsRule n laps (n + passes) (after (ring (shape n laps)) passes schedule) }
 {}
 
-/// A ring is lock-free (Herlihy 1993, there non-blocking), by number and without any fairness. Where
-/// never more than P = 1 + `others` passes are in a call at once, they make at most 40 * P + 7 steps
-/// for each call that ends, and for each of the P: from every state that meets the rule. So among any
-/// P * (40 * P + 7) + 1 steps after any schedule of P passes, some call ends. And in all, from the
-/// start, the passes make no more steps than the calls cost that they begin: a put 40 * P - 26, a take
+/// A ring is lock-free (Herlihy 1993, there non-blocking), by number and without any fairness.
+/// Suppose never more than P = 1 + `others` passes are in a call at once, from any state that meets
+/// the rule. If E calls end, the passes make at most (40 * P + 7) * (E + P) steps. So among any
+/// P * (40 * P + 7) + 1 steps after any schedule of P passes, some call ends. From the start, the
+/// passes make in all no more steps than the calls cost that they begin: a put 40 * P - 26, a take
 /// 35 * P - 20, a close or a shut 22 * P - 9, a look or a gauge 12, a count 25.
 ///
-/// Of each single call: it has ended after at most 47 of its own steps, and 30 for each
-/// compare-and-swap by which another pass succeeds meanwhile. So a step that does not succeed costs
-/// nobody else, and while no other pass's compare-and-swap succeeds, 47 steps are enough, however
-/// long its pass had stopped.
+/// A single call has ended after at most 47 of its own steps, and 30 for each compare-and-swap by
+/// which another pass succeeds meanwhile. So a step that does not succeed costs no other pass
+/// anything. While no other pass's compare-and-swap succeeds, 47 steps are enough, however long the
+/// pass had stopped.
 pub fn ring_lock_free<T>()
     ensures wherever_the_rule_holds { (n laps cells others : ℕ) (s : State T) (schedule : Schedule (Call T)) →
         MeetsRule n laps cells s → AtOnce (ring (shape n laps)) (suc others) schedule s →
@@ -117,9 +116,10 @@ pub fn ring_lock_free<T>()
         own_steps (ring (shape n laps)) p stretch s ≤ 47 }
 {}
 
-/// In every schedule of a ring, what was put is, in the order of the puts, what was taken and then
-/// what is left, which stands in the slots from the front to the back (`ring_core`). Puts and takes
-/// are numbered 0, 1, 2, .. each: so the take numbered k gives the value of the put numbered k.
+/// In every schedule of a ring, the values that were put are, in the order of the puts, those that
+/// were taken and then those that are left. These stand in the slots from the front to the back
+/// (`ring_core`). Puts and takes are numbered 0, 1, 2, .. each. So the take numbered k gives the
+/// value of the put numbered k.
 pub fn ring_order<T>()
     ensures values { (n laps passes : ℕ) (schedule : Schedule (Call T)) → 0 < n →
         let h = (after (ring (shape n laps)) passes schedule).history in

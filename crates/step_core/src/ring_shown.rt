@@ -20,8 +20,8 @@ ghost use Rattle.step_core.specs.ring.Rows.{smallest, alone, alone_refused, clos
 ghost use Rattle.step_core.specs.ring.Orders.{limit_first, full_first, shut_last, empty_before_closed};
 
 /// Rows played by the ring's machine, by single steps of up to three passes, and machines that are
-/// nearly the ring's, each with the scene that it fails: so many lines of it get their replies, and then
-/// one gets another. They show what the order of the tests is for.
+/// nearly the ring's. Each such machine has the scene that it fails: the first lines of it get
+/// their replies, and then one gets another. They show what the order of the tests is for.
 pub fn ring_exhibits()
     // Played rows.
     ensures smallest { Plays smallest }
@@ -34,7 +34,7 @@ pub fn ring_exhibits()
     ensures put_overtakes_close { Plays put_overtakes_close }
     ensures stopped_put { Plays stopped_put }
     ensures counts { Plays counts }
-    // With another order of tests, or without the second look, a scene is answered otherwise.
+    // With another order of tests, or without the second look, a scene gets another reply.
     ensures limit_first_fails { Fails limit_first closed_before_spent 3 (answers (slot_spent 0 2 y)) }
     ensures full_first_fails { Fails full_first closed_before_full 2 (answers (full y)) }
     ensures shut_last_fails { Fails shut_last shut_ring 2 (answers (take_is 0 x)) }

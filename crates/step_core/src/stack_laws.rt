@@ -38,10 +38,10 @@ pub fn stack_rule<T>()
         MeetsRule n limit s → MeetsRule n limit (next (stack (shape n limit)) s (p, act)) }
 {}
 
-/// No node of a stack is used again while a pass holds it. Wherever the rule holds, and so in every
-/// schedule, each node is in one place, and once: free, on the stack, or held by one pass. And
-/// whatever node a step brings into its pass's hand, no pass had it: a put's was free and not on
-/// the stack, a take's or a fold's was on the stack, and no other step brings any.
+/// No node of a stack is used again while a pass holds it. In every state that meets the rule, and
+/// so in every schedule, each node is in one place, and once: free, on the stack, or held by one
+/// pass. No pass had the node that a step brings into its pass's hand. A put's was free and not on
+/// the stack, and a take's or a fold's was on the stack. No other step brings any.
 pub fn stack_nodes<T>()
     ensures wherever_the_rule_holds { (n limit : ℕ) (s : State T) →
         MeetsRule n limit s → NoNodeTwice n s.memory (lines_of s) }
@@ -69,27 +69,31 @@ pub fn stack_answers<T>()
 {}
 
 /// While no other pass's compare-and-swap succeeds, a stack's put of one value, take, close, shut,
-/// look or gauge has ended after at most 16 of its own steps: from every state, wherever the call is
-/// in it.
+/// look or gauge has ended after at most 16 of its own steps. This holds from every state, wherever
+/// the call is in it.
 pub fn stack_bound<T>()
     ensures { (c : Shape) (p : ℕ) (s : State T) (stretch : Schedule (Call T)) →
         AtLine IsSingle (get_elem? s.passes p) → IsStretch (stack c) p stretch s →
         own_steps (stack c) p stretch s ≤ 16 }
 {}
 
-/// A stack is lock-free, by number and without any fairness (`queue_lock_free`). Where never more than
-/// P = 1 + `others` passes are in a call at once, and put and take one value a call, close, shut and
-/// look, they make at most 7 * P + 2 steps for each call that ends, and for each of the P. With ranges
-/// and folds, which go over up to n nodes, they make at most (3 * n + 4) * P + n + 2: from every state
-/// that meets the rule. So among any P * (7 * P + 2) + 1 steps after any schedule of P passes some call
-/// ends; with ranges and folds among P * ((3 * n + 4) * P + n + 2) + 1. And in all, from the start, the
-/// passes make no more steps than the calls cost that they begin: a put of one value 7 * P, a take
-/// 7 * P - 1, a close or a shut 4 * P - 2, a look or a gauge 1; a put of r values, up to n, (3 * r + 4) * P + r - 1,
-/// a fold downwards 7 * P + n - 2, one upwards 7 * P + 3 * n - 2.
+/// A stack is lock-free, by number and without any fairness (`queue_lock_free`). Suppose never more
+/// than P = 1 + `others` passes are in a call at once, from any state that meets the rule, and E
+/// calls end.
+/// - If the passes only put and take one value a call, close, shut, look and gauge, they make at
+///   most (7 * P + 2) * (E + P) steps. So among any P * (7 * P + 2) + 1 steps after any schedule of
+///   P passes some call ends.
+/// - With ranges and folds, which go over up to n nodes, the factor is (3 * n + 4) * P + n + 2
+///   instead of 7 * P + 2 in both.
 ///
-/// Of each single call: it has ended after at most 9 of its own steps, with ranges and folds 4 * n
-/// + 6, and 4 for each compare-and-swap by which another pass succeeds meanwhile. So a step that
-/// does not succeed costs nobody else.
+/// From the start, the passes make in all no more steps than the calls cost that they begin: a put
+/// of one value 7 * P, a take 7 * P - 1, a close or a shut 4 * P - 2, a look or a gauge 1, a put of
+/// r values, up to n, (3 * r + 4) * P + r - 1, a fold downwards 7 * P + n - 2, one upwards
+/// 7 * P + 3 * n - 2.
+///
+/// A single call has ended after at most 9 of its own steps, or `4 * n + 6` for a range or a fold,
+/// and 4 for each compare-and-swap by which another pass succeeds meanwhile. So a step that does
+/// not succeed costs no other pass anything.
 pub fn stack_lock_free<T>()
     ensures wherever_the_rule_holds { (n limit others : ℕ) (s : State T) (schedule : Schedule (Call T)) →
         0 < n → MeetsRule n limit s → AtOnce (stack (shape n limit)) (suc others) schedule s →

@@ -49,7 +49,7 @@ pub fn stack_exhibits()
     ensures put_overtakes_shut { Plays put_overtakes_shut }
     ensures close_overtakes_take { Plays close_overtakes_take }
     ensures folds_alone { Plays folds_alone }
-    // With another order of tests, or without a comparison, a scene is answered otherwise.
+    // With another order of tests, or without a comparison, a scene gets another reply.
     ensures limit_before_null_fails { Fails limit_before_null spent_top 2 (answers (free_spent 2 (z ∷ []))) }
     ensures limit_before_closed_fails { Fails limit_before_closed closed_before_spent_top 4 (ended (top_spent 2 (x ∷ [])) 7) }
     ensures limit_before_closed_at_last_fails { Fails limit_before_closed_at_last closed_before_spent_at_last 2 (answers (top_spent 1 (y ∷ []))) }

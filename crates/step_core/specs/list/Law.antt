@@ -14,9 +14,9 @@ giving l = []
 abbrev pub holds : ℕ → At → ℕ
 holds i at = times i (giving at.line) + times i at.hand
 
--- The top and the links stand for a list, each index below n is once in the list or in one hand, and
--- no other index is anywhere. So the list's indexes are distinct, the hands share none with it or
--- with one another, and together they are all
+-- The top and the links stand for a list. Each index below n is once in the list or in one hand, and no other index is
+-- anywhere. So the list's indexes are distinct, the hands share none with it or with one another, and together they are
+-- all the indexes below n
 pub record Lawful (n limit : ℕ) (s : State) : Type 0 where
   pub list : List ℕ
   pub stands : Stands s.memory.link s.memory.top.index list

@@ -12,7 +12,7 @@ pub record Memory : Type 0 where
   pub top : Tagged
   pub link : ℕ → ℕ
 
--- where a pass is, with what it has read: the top w, the link k of its index. A give has index i
+-- the line of a pass, with what it has read: the top w, the link k of its index. A give has index i
 pub data Line : Type 0 where
   Idle : Line
   LoadTopToTake : Line

@@ -1,4 +1,4 @@
--- From which states the number of steps of a queue's call is bounded.
+-- The states from which the number of steps of a queue's call is bounded.
 use Rattle.std.specs.Prelude.{ℕ, map}
 use mathlib.Core.Option.{some}
 use Rattle.queue_machine.specs.Machine.{State}

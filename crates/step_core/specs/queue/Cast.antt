@@ -1,4 +1,4 @@
--- Who plays the scripts of the queue, and the calls and answers that they speak of.
+-- The machines that play the scripts of the queue, and the calls and answers of those scripts.
 use Rattle.std.specs.Prelude.{ℕ, List, Ok, Err}
 use Rattle.bounded_model.specs.declared.answers.Word.TheVariants.{Cells as CellsWord, Next as NextWord}
 use Rattle.bounded_model.specs.declared.answers.PutRefused.TheVariants.{Full, Closed as PutClosed, Spent as PutSpent}

@@ -20,8 +20,8 @@ use Rattle.queue_machine.specs.Deeds.{HasDone}
 abbrev pub lines_of : {T : Type 0} → State T → List (Line T)
 lines_of s = map (λ v. v.line) s.passes
 
--- the free cells and the free nodes; the nodes of the chain behind its first, which is the dummy; and
--- the parts of the whole chain before and after the node that the tail names
+-- the free cells and the free nodes; the nodes of the chain after its first, which is the dummy; the parts of the whole
+-- chain before and after the node that the tail names
 pub record Lists : Type 0 where
   pub cells : List ℕ
   pub nodes : List ℕ
@@ -30,10 +30,9 @@ pub record Lists : Type 0 where
   pub after : List ℕ
 
 module _ {T : Type 0} where
-  -- The chain stands for the bounded queue as it is by now: the head names the dummy, and the cells of
-  -- the nodes behind it have the values in their order. The tail names the last node or the one before.
-  -- The last link has the mark exactly where the queue is closed, and the head the second mark exactly
-  -- where it is shut
+  -- The chain stands for the bounded queue as it is by now. The head names the dummy, and the cells of the nodes after
+  -- it have the values in their order. The tail names the last node or the one before. The last link has the mark
+  -- exactly if the queue is closed, and the head the second mark exactly if it is shut
   pub record Represents (m : Memory T) (g : Lists) (now : bounded.State T) : Type 0 where
     pub chain : Stands (next_of m) m.head.index (m.head.index ∷ g.behind)
     pub values : HasValues m.home (map m.cell g.behind) now.values
@@ -42,9 +41,8 @@ module _ {T : Type 0} where
     pub closed : (m.next (last (m.head.index ∷ g.behind))).mark ≡ now.closed
     pub shut : m.head.second ≡ now.shut
 
-  -- Each of the n cells is free, in the chain or in one hand, and each of the n + 1 nodes too; no other
-  -- cell or node is anywhere, and free cells are empty. A put that has its cell and wants a node finds
-  -- one
+  -- Each of the n cells is free, in the chain or in one hand, and so is each of the n + 1 nodes. No other cell or node
+  -- is anywhere, and free cells are empty. A put that has its cell and wants a node finds one
   pub record EachOnce (n limit : ℕ) (m : Memory T) (g : Lists) (passes : List (Pass T)) : Type 0 where
     pub free_cells : Stands m.clink m.cells.index g.cells
     pub free_nodes : Stands m.nlink m.nodes.index g.nodes
@@ -53,8 +51,8 @@ module _ {T : Type 0} where
     pub nodes : (j : ℕ) → times j g.nodes + times j (m.head.index ∷ g.behind) + total (λ v. times j (held_nodes v.line)) passes ≡ if ltb j (n + 1) then 1 else 0
     pub finds_node : (p : ℕ) (v : Pass T) (put : Placing T) → get_elem? passes p ≡ some v → v.line ≡ LoadNodes put → (m.nodes.index ≢ NULL) × (m.nodes.tag < limit)
 
-  -- The tags count what has happened: those of the free cells the holds, that of the head the takes, and
-  -- that of the tail the puts that it has passed. None is above the limit
+  -- The tags count what has happened. That of the free cells counts the holds, that of the head the takes, and that of
+  -- the tail the puts that it has passed. No tag is above the limit
   pub record Counts (limit : ℕ) (m : Memory T) (g : Lists) (now : bounded.State T) : Type 0 where
     pub cells : m.cells.tag ≡ now.holds
     pub head : m.head.tag ≡ now.takes
@@ -64,8 +62,8 @@ module _ {T : Type 0} where
     pub nodes : m.nodes.tag ≤ limit
     pub next : (j : ℕ) → (m.next j).tag ≤ limit
 
--- The history is one of a bounded queue, with room for n values, and the words and cells are what it
--- says; what each pass holds, has seen and has answered is right
+-- The history is one of a bounded queue, with room for n values, and it says what the words and cells are. What each
+-- pass holds, has seen and has answered is right
 pub record Lawful (T : Type 0) (n limit : ℕ) (s : State T) : Type 0 where
   pub legal : bounded.Legal (shape n limit) s.history
   pub lists : Lists

@@ -27,9 +27,9 @@ hands_with_node j s = total (λ (v : Pass ℕ). times j (held_nodes v.line)) s.p
 abbrev pub WinsHeld : State ℕ → State ℕ → Type 0
 WinsHeld s s' = ¬ WinsUnheld s.memory (lines_of s) (line_of (Idle None) (get_elem? s.passes 1)) (line_of (Idle None) (get_elem? s'.passes 1))
 
--- A cell is taken and `CELLS` keeps its tag: pass 0 has read cell 0 and its link, cell 1; cell 1 goes
--- to pass 2, cell 0 goes out and comes back, and pass 0's exchange wins. So cell 1 is free while pass 2
--- holds it, and pass 1 takes it a second time
+-- A cell is taken and `CELLS` keeps its tag. Pass 0 has read cell 0 and its link, cell 1. Cell 1 goes to pass 2, cell 0
+-- goes out and comes back, and pass 0's exchange wins. So cell 1 is free while pass 2 holds it, and pass 1 takes it a
+-- second time
 abbrev pub takes_cell_with_old_tag : Moves
 takes_cell_with_old_tag s m p (TakeCell v w k) =
     if same m.cells w then (let o = step s m p (TakeCell v w k) in record o { memory = record o.memory { cells = kept w k } })
@@ -43,9 +43,9 @@ cell_held k = after (queue_with takes_cell_with_old_tag (shape 3 15)) 3
 abbrev pub cell_held_twice : State ℕ
 cell_held_twice = cell_held 3
 
--- A node is taken and `NODES` keeps its tag: pass 0 has read node 1 and its link, node 2; node 2 goes
--- to pass 2, node 1 goes out and comes back, and pass 0's exchange wins. So node 2 is free while pass 2
--- holds it, and pass 1 takes it a second time
+-- A node is taken and `NODES` keeps its tag. Pass 0 has read node 1 and its link, node 2. Node 2 goes to pass 2, node 1
+-- goes out and comes back, and pass 0's exchange wins. So node 2 is free while pass 2 holds it, and pass 1 takes it a
+-- second time
 abbrev pub takes_node_with_old_tag : Moves
 takes_node_with_old_tag s m p (TakeNode put w k) = if same m.nodes w then goes_on (record m { nodes = kept w k }) (StoreCell (with_node put w.index)) else goes_on m (LoadNodes put)
 takes_node_with_old_tag s m p l = step s m p l
@@ -68,8 +68,8 @@ takes_with_old_tag s m p l = step s m p l
 abbrev pub number_again : State ℕ
 number_again = after (queue_with takes_with_old_tag (shape 2 15)) 1 (begins 0 (CallPut 10) 14 ++ begins 0 (CallPut 11) 14 ++ begins 0 CallTake 12 ++ begins 0 CallTake 12)
 
--- A link is prepared with tag 0: a put that has read it before its node went out and came back links
--- behind a node that is no longer the last, with an old number
+-- A link is prepared with tag 0: a put that has read it before its node went out and came back links after a node that
+-- is no longer the last, with an old number
 abbrev pub prepares_with_no_tag : Moves
 prepares_with_no_tag s m p (PrepareNext link y) = goes_on (after_next m link.node (null_word 0)) (LoadTail (ToLink link))
 prepares_with_no_tag s m p l = step s m p l

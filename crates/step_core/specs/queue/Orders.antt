@@ -25,7 +25,7 @@ abbrev pub next_limit_last : Moves
 next_limit_last s m p (LoadNext link) = goes_on m (PrepareNext link (m.next link.node))
 next_limit_last s m p l = step s m p l
 
--- who comes to the end of the chain takes null for open before looking at the mark
+-- a pass at the end of the chain that takes null for open before looking at the mark
 abbrev pub null_before_mark : Moves
 null_before_mark s m p (CheckTail seek w n) = goes_on m (if same m.tail w then (if n.index == NULL then back_null seek w n else found_back seek w n) else LoadTail seek)
 null_before_mark s m p l = step s m p l
@@ -68,13 +68,13 @@ abbrev pub mark_before_head : Moves
 mark_before_head s m p (CheckHead h w n) = goes_on m (if n.mark then found_front h w n else if same m.head h then found_front h w n else LoadHead)
 mark_before_head s m p l = step s m p l
 
--- a take that looks where the tail is before it looks for null: it moves the tail to no node
+-- a take that looks at the place of the tail before it looks for null: it moves the tail to no node
 abbrev pub tail_before_null : Moves
 tail_before_null s m p (CheckHead h w n) = goes_on m (if same m.head h then (if w.index == h.index then SwingTailToTake w n else found_front h w n) else LoadHead)
 tail_before_null s m p l = step s m p l
 
--- a take that looks where the tail was before it compares with the head: it makes an exchange that can
--- only lose
+-- a take that looks at the old place of the tail before it compares with the head: it makes an exchange that can only
+-- lose
 abbrev pub tail_before_head : Moves
 tail_before_head s m p (CheckHead h w n) = goes_on m (if n.index == NULL then (if same m.head h then found_front h w n else LoadHead) else if w.index == h.index then SwingTailToTake w n else if same m.head h then found_front h w n else LoadHead)
 tail_before_head s m p l = step s m p l
@@ -89,12 +89,12 @@ abbrev pub count_before_head : Moves
 count_before_head s m p (CheckHeadToCount h w n) = goes_on m (ends (Len (counted h w n)))
 count_before_head s m p l = step s m p l
 
--- and one that does not look behind the tail
+-- and one that does not look at the node after the tail
 abbrev pub count_to_tail : Moves
 count_to_tail s m p (CheckHeadToCount h w n) = goes_on m (if same m.head h then ends (Len (w.tag - h.tag)) else LoadHeadToCount)
 count_to_tail s m p l = step s m p l
 
--- a gauge that leaves a lagging tail where it is: it misses a put
+-- a gauge that does not move a lagging tail: it misses a put
 abbrev pub gauge_to_tail : Moves
 gauge_to_tail s m p (CheckTail ToGauge w n) = goes_on m (if same m.tail w then (if n.index == NULL then found_back ToGauge w n else ends (Gauge false w.tag)) else LoadTail ToGauge)
 gauge_to_tail s m p l = step s m p l

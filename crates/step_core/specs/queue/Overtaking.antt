@@ -23,7 +23,7 @@ look_and_shut = scene 2 7
     ∷ (finish, rest (x ∷ []))
     ∷ [])
 
--- a put overtakes a close, which then closes behind it
+-- a put overtakes a close, which then closes the queue after it
 abbrev pub put_overtakes_close : Scene
 put_overtakes_close = scene 2 7
     ((begins a CloseCall 3, again 3)
@@ -54,7 +54,7 @@ close_overtakes_full = scene 1 7
     ∷ (finish, rest (x ∷ []))
     ∷ [])
 
--- a put that has found no cell moves the tail that another put left behind
+-- a put that has found no cell moves a tail that another put has not moved
 abbrev pub full_helps : Scene
 full_helps = scene 2 9
     ((calls a (put x), answers (put_is 0))
@@ -63,7 +63,7 @@ full_helps = scene 2 9
     ∷ (finish, rest (x ∷ z ∷ []))
     ∷ [])
 
--- a close moves the tail on, and takes go on
+-- a close moves the tail, and takes continue
 abbrev pub close_helps : Scene
 close_helps = scene 3 9
     ((begins a (put x) 13, again 13)
@@ -184,7 +184,7 @@ tail_before_null_link = scene 2 9
     ∷ (steps a 20, ended (Close true) 7)
     ∷ [])
 
--- nor a link to a node: it has nothing to move on
+-- nor a link to a node: it has no tail to move
 abbrev pub tail_before_node : Scene
 tail_before_node = scene 2 9
     ((begins a CloseCall 1, again 1)
@@ -235,7 +235,7 @@ head_before_answer = scene 2 9
     ∷ (steps a 20, ended (Look true) 6)
     ∷ [])
 
--- a count alone, with a tail that a put left behind, and one that begins again since another has taken
+-- a count alone, with a tail that a put has not moved, and a count that begins again since another pass has taken
 abbrev pub counts : Scene
 counts = scene 2 9
     ((begins a LenCall 40, ended (Len 0) 4)
@@ -249,7 +249,8 @@ counts = scene 2 9
     ∷ (steps a 20, ended (Len 1) 8)
     ∷ [])
 
--- a gauge alone, with a tail that a put left behind, and one that begins again since another has put or closed
+-- a gauge alone, with a tail that a put has not moved, and a gauge that begins again since another pass has put or
+-- closed
 abbrev pub gauges : Scene
 gauges = scene 2 9
     ((begins a GaugeCall 40, ended (Gauge false 0) 4)
@@ -265,8 +266,8 @@ gauges = scene 2 9
     ∷ (steps a 20, ended (Gauge true 2) 7)
     ∷ [])
 
--- A put stops after k of its steps while others put, take and close, and a take while others take and
--- put: with 32 steps more each has ended
+-- A put stops after k of its steps while other passes put, take and close; a take stops while other passes take and
+-- put. After 32 further steps each has ended
 abbrev pub has_ended : List (Reply (Answer ℕ)) → Bool
 has_ended (ended answer count ∷ []) = true
 has_ended replies = false

@@ -48,7 +48,7 @@ full_and_empty = scene 1 7
     ∷ (calls b take, answers (take_is 0 x))
     ∷ [])
 
--- a take moves the tail that a put left behind
+-- a take moves a tail that a put has not moved
 abbrev pub helped : Scene
 helped = scene 2 7
     ((begins a (put x) 13, again 13)
@@ -200,7 +200,7 @@ longest = scene 3 15
     ∷ (steps c 1, ended (put_is 1) 14)
     ∷ [])
 
--- A put stops for good after k of its steps: what other calls answer from then on
+-- A put stops for good after k of its steps. These are the answers of other calls from then on
 abbrev pub after_stopped_put : ℕ → List (Reply (Answer ℕ))
 after_stopped_put k = drop 2 (replies (plays (shape 2 7)) (curtain (plays (shape 2 7)))
     (calls b (put v) ∷ begins a (put y) k ∷ calls b (put w) ∷ calls b take ∷ calls b take ∷ calls b take ∷ calls b CloseCall ∷ finish ∷ []))

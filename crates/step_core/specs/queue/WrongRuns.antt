@@ -36,7 +36,7 @@ is_always_empty s m p l = step s m p l
 abbrev pub stale_take : Schedule (Call ℕ)
 stale_take = begins 1 (CallPut 10) 14 ++ begins 0 CallTake 1
 
--- The bounded queue without hands, which is full only where its values are as many as its cells
+-- The bounded queue without hands, which is full only if it has as many values as cells
 abbrev pub plain_object : Object ℕ (Call ℕ) (Answer ℕ)
 plain_object = record (object 1 15) { reads = λ k h. IsSaid 1 15 h k.call k.answer × FillsAll k.answer h }
   where
@@ -58,9 +58,9 @@ spoils_where_it_lost s m p l = step s m p l
 abbrev pub both_have_read : Schedule (Call ℕ)
 both_have_read = begins 0 CallShut 1 ++ begins 1 (CallPut 10) 14 ++ begins 1 CallTake 12 ++ begins 1 CallShut 1
 
--- Each loses to what the other did where it lost, and reads the head again, round after round. So no call ends
--- among as many steps as the law allows two passes; and each has made more steps than a call may that is not
--- overtaken: the other has won nothing
+-- Each loses to what the other did when it lost, and reads the head again, round after round. So no call ends among the
+-- number of steps that the law allows two passes. Each pass has made more steps than a call may make that is not
+-- overtaken, and the other has won nothing
 abbrev pub starving : State ℕ
 starving = after (queue_with spoils_where_it_lost (shape 1 15)) 2 both_have_read
 

@@ -1,4 +1,4 @@
--- Where the rule of a ring holds: its passes, each with a spare cell, share so many cells with the slots.
+-- The states in which the rule of a ring holds. Its passes, each with a spare cell, and its slots share `cells` cells.
 use Rattle.std.specs.Prelude.{ℕ, map}
 use Rattle.ring_machine.specs.Machine.{State}
 use Rattle.ring_machine.specs.Rule.{Good}

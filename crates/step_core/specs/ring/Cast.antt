@@ -1,5 +1,5 @@
--- Machines over the ring's words and lines, who plays the scripts of the ring, and the calls and answers that they
--- speak of.
+-- Machines over the ring's words and lines, which play the scripts of the ring, and the calls and answers of those
+-- scripts.
 use Rattle.std.specs.Prelude.{ℕ, zero, suc, ◌+◌, ◌==◌, if◌then◌else◌, List, [], ◌∷◌, ◌++◌, Option as Slot, Some, Ok, Err}
 use mathlib.Core.Option.{Option, some}
 use Rattle.bounded_model.specs.declared.answers.Word.TheVariants.{Next as NextWord}
@@ -39,7 +39,7 @@ value_in o = []
 abbrev pub value_at : Memory ℕ → Tagged → List ℕ
 value_at m w = if (m.slot w.index).tag == full_at w.tag then value_in (m.home (m.slot w.index).index) else []
 
--- the values at so many positions, from one on
+-- the values at this number of positions, from one on
 abbrev pub values_from : ℕ → Memory ℕ → ℕ → Tagged → List ℕ
 values_from n m zero w = []
 values_from n m (suc k) w = value_at m w ++ values_from n m k (behind n w)

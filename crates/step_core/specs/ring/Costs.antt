@@ -24,6 +24,6 @@ module _ {T : Type 0} where
   harms CallLen = 0
   harms CallGauge = 0
 
-  -- together, where k other passes are in a call
+  -- together, if k other passes are in a call
   abbrev pub cost : ℕ → Call T → ℕ
   cost k call = alone call + harms call * k

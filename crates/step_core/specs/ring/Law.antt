@@ -19,9 +19,9 @@ abbrev pub lines_of : {T : Type 0} → State T → List (Line T)
 lines_of s = map (λ v. v.line) s.passes
 
 module _ {T : Type 0} where
-  -- The slots stand for the bounded queue as it is by now: those of the positions from the front on have its
-  -- values in their order, all others are empty; the hints are less than a stride behind the front and the back,
-  -- and the marks say closed and shut
+  -- The slots stand for the bounded queue as it is by now. Those of the positions from the front to the back have its
+  -- values in their order, and the remaining slots are empty. The hints are at most a stride before the front and the
+  -- back. The marks say closed and shut
   pub record Represents (n laps : ℕ) (m : Memory T) (now : bounded.State T) : Type 0 where
     pub turned : Turned n laps now.puts now.takes m.slot
     pub values : (i lap : ℕ) (v : T) → i < n → now.takes ≤ lap * n + i → get_elem? now.values (lap * n + i - now.takes) ≡ some v → ((m.slot i).tag ≡ full_at lap) × (m.home (m.slot i).index ≡ some (Some v))
@@ -30,9 +30,9 @@ module _ {T : Type 0} where
     pub tail : Hints n now.puts m.tail
     pub head : Hints n now.takes m.head
 
--- The history is one of a bounded queue of n values, and the words and cells are what it says; each of so many
--- cells is in one slot or the spare one of one pass; no pass has anything in hand; and what each pass has seen
--- and has answered is right
+-- The history is one of a bounded queue of n values, and it says what the words and cells are. Each of the `cells`
+-- cells is in one slot or the spare one of one pass. No pass has anything in hand. What each pass has seen and has
+-- answered is right
 pub record Lawful (T : Type 0) (n laps cells : ℕ) (s : State T) : Type 0 where
   pub legal : bounded.Legal (shape n laps) s.history
   pub represents : Represents n laps s.memory (state n laps s.history)

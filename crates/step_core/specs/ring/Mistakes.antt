@@ -26,7 +26,7 @@ hands_with_cell i s = total (λ (v : Pass ℕ). times i (held_cells v.line)) s.p
 abbrev pub WinsHeld : State ℕ → State ℕ → Type 0
 WinsHeld s s' = ¬ WinsUnheld 1 s.memory (lines_of s) (line_of (resting 0) (get_elem? s.passes 1)) (line_of (resting 0) (get_elem? s'.passes 1))
 
--- where the exchange of this word won, another word stands in its slot
+-- in the slot of the exchange of this word that won stands another word
 abbrev pub leaving : Outcome ℕ → Memory ℕ → ℕ → Tagged → Tagged → Outcome ℕ
 leaving o m i x y = if same (m.slot i) x then record o { memory = record o.memory { slot = store_word m.slot i y } } else o
 
@@ -50,8 +50,8 @@ puts_with_old_tag s m p l = step s m p l
 abbrev pub number_again : State ℕ
 number_again = after (ring_with puts_with_old_tag (shape 2 2)) 1 (begins 0 (CallPut 10) 3 ++ begins 0 (CallPut 11) 3)
 
--- A take sets the slot's tag back, so that the tag says full or empty and not in which lap: the slot has the same
--- word again that pass 0 has read, and the exchange of pass 0 wins at a position that was put and taken
+-- A take sets the slot's tag back, so the tag says whether the slot is full and does not say in which lap. The slot has
+-- the same word again that pass 0 has read, and the exchange of pass 0 wins at a position that was put and taken
 abbrev pub takes_with_old_tag : Moves
 takes_with_old_tag s m p (TakeCell w x) = leaving (step s m p (TakeCell w x)) m w.at.index x (record x { index = w.cell; tag = x.tag - 1 })
 takes_with_old_tag s m p l = step s m p l
@@ -78,7 +78,7 @@ passes_back s m p (PassTail w) =
     if same m.tail w.from then goes_on (after_tail m (behind s.capacity (behind s.capacity w.at))) (ends w.cell (put_done s.capacity w)) else step s m p (PassTail w)
 passes_back s m p l = step s m p l
 
--- so many puts
+-- this number of puts
 abbrev pub puts : ℕ → Schedule (Call ℕ)
 puts zero = []
 puts (suc k) = begins 0 (CallPut 10) 11 ++ puts k
@@ -133,7 +133,7 @@ spends_late s m p l = step (record s { limit = s.limit + 2 }) m p l
 abbrev pub above_limit : State ℕ
 above_limit = after (ring_with spends_late (shape 1 1)) 1 (begins 0 (CallPut 10) 5 ++ begins 0 CallTake 5 ++ begins 0 (CallPut 11) 5)
 
--- A put is refused where the slot that `TAIL` names is not empty: `TAIL` names one before the back, and there is
+-- A put is refused if the slot that `TAIL` names is not empty: `TAIL` names a position before the back, and there is
 -- room
 abbrev pub full_by_hint : Moves
 full_by_hint s m p (LoadBack w (ToPut v)) = if (m.slot w.at.index).tag == empty_at w.at.tag then step s m p (LoadBack w (ToPut v)) else goes_on m (Stow w (AnswerPut (Err (Full v))))

@@ -19,7 +19,7 @@ abbrev pub full_first : Moves
 full_first s m p (LoadBack w (ToPut v)) = if (m.slot w.at.index).tag + 1 == empty_at w.at.tag then goes_on m (Stow w (full v)) else step s m p (LoadBack w (ToPut v))
 full_first s m p l = step s m p l
 
--- a take that looks whether the ring is shut only where it has found no value
+-- a take that looks whether the ring is shut only if it has found no value
 abbrev pub shut_last : Moves
 shut_last s m p (LoadFront w ToTake) = if (m.slot w.at.index).tag == full_at w.at.tag then goes_on m (TakeCell w (m.slot w.at.index)) else step s m p (LoadFront w ToTake)
 shut_last s m p l = step s m p l

@@ -21,7 +21,7 @@ smallest = scene 1 2
     ∷ (finish, rest [])
     ∷ [])
 
--- how many steps a put and a take make alone, and one more while `TAIL` and `HEAD` are one position behind
+-- how many steps a put and a take make alone, and one more if `TAIL` and `HEAD` are one position behind
 abbrev pub alone : Scene
 alone = scene 2 2
     ((begins a (put x) 2, again 2)
@@ -64,7 +64,7 @@ closed_before_spent = scene 1 1
     ∷ (calls a (put y), answers (put_closed y))
     ∷ [])
 
--- nothing is taken from a ring that is shut, and puts go on
+-- nothing is taken from a ring that is shut, and puts continue
 abbrev pub shut_ring : Scene
 shut_ring = scene 2 2
     ((calls a (put x), answers (put_is 0))
@@ -104,7 +104,7 @@ stopped_put = scene 1 3
     ∷ (finish, rest (x ∷ []))
     ∷ [])
 
--- a count begins again where a value was taken meanwhile
+-- a count begins again if a value was taken meanwhile
 abbrev pub counts : Scene
 counts = scene 1 2
     ((begins a LenCall 2, again 2)

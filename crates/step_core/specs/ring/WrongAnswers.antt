@@ -1,5 +1,5 @@
--- Machines that are nearly the ring's, and for each a schedule in which a pass answers what it was not called for, or
--- has not done, or what was never so.
+-- Machines that are nearly the ring's. For each there is a schedule in which a pass answers another call than its own,
+-- answers with what it has not done, or answers with what was never so.
 use Rattle.std.specs.Prelude.{ℕ, ◌+◌, ◌-◌, ltb, if◌then◌else◌, ◌++◌, Err}
 use Rattle.bounded_model.specs.declared.answers.PutRefused.TheVariants.{Full}
 use Rattle.machine.specs.Schedule.{after}
@@ -41,8 +41,8 @@ shuts_by_closing s = record (ring s) { starts = λ call l. begins_at call l }
 abbrev pub closed_instead : State ℕ
 closed_instead = after (shuts_by_closing (shape 1 1)) 1 (begins 0 CallShut 3)
 
--- A count that does not look at the front again: a value that it counts was taken before another was put, so it
--- tells more values than there ever were
+-- A count that does not look at the front again: another pass took a value that it counts before a further value was
+-- put, so the count is greater than the number of values was at any time
 abbrev pub counts_once : Moves
 counts_once s m p (LoadBack w (ToCount front)) =
     if ltb (empty_at w.at.tag) (m.slot w.at.index).tag then step s m p (LoadBack w (ToCount front))

@@ -43,9 +43,9 @@ spoils_where_it_lost s m p l = step s m p l
 abbrev pub both_have_read : Schedule (Call ℕ)
 both_have_read = begins 0 CallClose 2 ++ begins 1 CallShut 3 ++ begins 1 CallClose 2
 
--- Each loses to what the other did where it lost, and reads the slot again, round after round. So no call ends
--- among as many steps as the law allows two passes; and each has made more steps than a call may that is not
--- overtaken: the other has won nothing
+-- Each loses to what the other did when it lost, and reads the slot again, round after round. So no call ends among the
+-- number of steps that the law allows two passes. Each pass has made more steps than a call may make that is not
+-- overtaken, and the other has won nothing
 abbrev pub starving : State ℕ
 starving = after (ring_with spoils_where_it_lost (shape 1 1)) 2 both_have_read
 

@@ -5,7 +5,7 @@ use Rattle.stack_machine.specs.declared.lines.Taking.TheVariants.{One, Whole}
 use Rattle.stack_machine.specs.declared.lines.Call.{Call}
 use Rattle.stack_machine.specs.declared.lines.Call.TheVariants.{Put as CallPut, Take as CallTake, Close as CallClose, Shut as CallShut, Look as CallLook, Gauge as CallGauge}
 
--- how many nodes of n a put of r values can take, and whether it looks in vain for one more
+-- how many nodes of n a put of r values can take, and 1 if it looks in vain for one more
 abbrev pub fit : ℕ → ℕ → ℕ
 fit n r = if ltb n r then n else r
 
@@ -33,7 +33,7 @@ module _ {T : Type 0} where
   harms n CallLook = 0
   harms n CallGauge = 0
 
-  -- together, where k other passes are in a call
+  -- together, if k other passes are in a call
   abbrev pub cost : ℕ → ℕ → Call T → ℕ
   cost n k call = alone n call + harms n call * k
 

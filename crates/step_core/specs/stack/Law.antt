@@ -27,10 +27,9 @@ lines_of s = map (λ v. v.line) s.passes
 abbrev pub MeetsRule : {T : Type 0} → ℕ → ℕ → State T → Type 0
 MeetsRule {T} n limit s = Kept T n limit s.memory some (lines_of s) s.history
 
--- The history is one of a bounded stack, with room for n values. The words and slots stand for it: the
--- top for its values, the first mark for closed, the second for shut, the tags for its numbers. Each
--- node below n is once on the free list, on the stack or in one hand, and no other node is anywhere.
--- And what each pass has seen and answered is right
+-- The history is one of a bounded stack, with room for n values. The words and slots stand for it: the top for its
+-- values, the first mark for closed, the second for shut, the tags for its numbers. Each node below n is once on the
+-- free list, on the stack or in one hand, and no other node is anywhere. What each pass has seen and answered is right
 pub record Lawful (T : Type 0) (n limit : ℕ) (s : State T) : Type 0 where
   pub legal : Legal (shape n limit) s.history
   pub frees : List ℕ

@@ -27,9 +27,9 @@ hands_with_node i s = total (λ (v : Pass ℕ). times i (held v.line)) s.passes
 abbrev pub WinsHeld : State ℕ → State ℕ → Type 0
 WinsHeld s s' = ¬ WinsUnheld s.memory (lines_of s) (line_of (Idle None) (get_elem? s.passes 1)) (line_of (Idle None) (get_elem? s'.passes 1))
 
--- A node is taken from the free list and its top keeps the tag: pass 0 has read node 0 and its link, node 1; node 1 goes to
--- pass 2, node 0 goes out and comes back, and pass 0's exchange wins. So node 1 is free while pass 2 holds it, and pass 1
--- takes it a second time
+-- A node is taken from the free list and its top keeps the tag. Pass 0 has read node 0 and its link, node 1. Node 1
+-- goes to pass 2, node 0 goes out and comes back, and pass 0's exchange wins. So node 1 is free while pass 2 holds it,
+-- and pass 1 takes it a second time
 abbrev pub holds_with_old_tag : Moves
 holds_with_old_tag s m p (TakeFree put w k) = if same m.free w then wins (record (after_hold m w k) { free = kept w k }) (at_take_free put w) (Hold p) else goes_on m (LoadFree put)
 holds_with_old_tag s m p l = step s m p l

@@ -17,7 +17,7 @@ use Rattle.stack_machine.specs.Deeds.{in_order, handed_back}
 use Rattle.step_core.specs.Linearizable.{Object}
 
 module _ {T : Type 0} where
-  -- pass p puts values at once, the first ones that it was to put, and leaves the others over
+  -- pass p puts values in one step, the first of those that it was to put, and leaves over those after them
   pub record PutsFirst (p : ℕ) (wanted : List T) (n : ℕ) (left : List T) (e : Event T) : Type 0 where
     pub values : List T
     pub all : values ++ left ≡ wanted
@@ -38,8 +38,8 @@ module _ {T : Type 0} where
   Makes p CallShut (AnswerShut true) e = e ≡ Shut p
   Makes p call a e = ⊥
 
-  -- one that reads it: the answer is right in the state at the end of this history, which does not change; a
-  -- refused put hands its values back
+  -- an operation that reads the stack: the answer is right in the state at the end of this history, which does not
+  -- change; a refused put hands its values back
   abbrev pub IsSaid : ℕ → ℕ → List (Event T) → Call T → Answer T → Type 0
   IsSaid n limit h (CallPut v vs) (AnswerPut (Err why)) = (handed_back why ≡ v ∷ vs) × right.Justifies (shape n limit) h (refusal why)
   IsSaid n limit h (CallTake One) (AnswerTake (Err why)) = right.Justifies (shape n limit) h (right.take_answer why)

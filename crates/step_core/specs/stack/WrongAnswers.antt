@@ -1,5 +1,5 @@
--- Machines that are nearly the stack's, and for each a schedule in which a pass answers what it was not
--- called for, or has not done.
+-- Machines that are nearly the stack's. For each there is a schedule in which a pass answers another call than its own,
+-- or answers with what it has not done.
 use Rattle.std.specs.Prelude.{ℕ, if◌then◌else◌, List, [], ◌∷◌, ◌++◌, Ok}
 use Rattle.bounded_model.specs.declared.history.Event.TheVariants.{Hold, Put}
 use Rattle.machine.specs.Words.{Tagged, same}
