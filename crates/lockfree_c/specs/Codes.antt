@@ -13,7 +13,7 @@ use Rattle.bounded_model.specs.declared.commands.Reply.TheVariants.{Put, Take, C
 use Rattle.lockfree_c.specs.declared.answers.Answer.{Answer}
 use Rattle.lockfree_c.specs.declared.answers.TheConstants.{OK, FULL, EMPTY, CLOSED, SHUT, SPENT}
 
--- a code that says nothing more
+-- a code alone
 abbrev pub bare : ℕ → Answer
 bare code = record { value = 0; code = code }
 
@@ -47,7 +47,7 @@ SaysRange (Err range.Full) a = a ≡ bare FULL
 SaysRange (Err range.Closed) a = a ≡ bare CLOSED
 SaysRange (Err (range.Spent word t)) a = a ≡ saying SPENT t
 
--- of a gauge: whether it was closed, and how many tags were used
+-- what a gauge showed: whether the container was closed, and how many tags were used
 abbrev pub SaysGauge : Bool → ℕ → Answer → Type 0
 SaysGauge true used a = a ≡ saying CLOSED used
 SaysGauge false used a = a ≡ saying OK used

@@ -35,7 +35,7 @@ use Rattle.lockfree_c.specs.Kinds.{StackPass}
 abbrev pub GaugeMade : Type 0
 GaugeMade = Stepped (GaugeOp ℕ) (Pass ℕ (Line ℕ)) Gauge
 
--- it goes on, begun as the pass was v, or has shown how the queue was at one moment since
+-- it is still under way, begun as the pass was v, or has shown how the queue was at one moment since
 abbrev pub GaugeTried : Queue ℕ → PassView ℕ → GaugeMade → Type 0
 GaugeTried c v made = MatchStepped made
     (λ next. IsGauging c next × (queue.begun_of c next.pass ≡ v))
@@ -47,7 +47,7 @@ GaugeLeft c (stepped.Again next) (OfQueueGauge k) a = (k.container.value ≡ c) 
 GaugeLeft c (stepped.Done back shown) (OfQueuePass p) a = (p.container.value ≡ c) × Rests p.stage back 0 × SaysGauge shown.closed shown.used a
 GaugeLeft c made h a = ⊥
 
--- a gauge of a pass that rests is tried, from what the pass had seen; of one in a call nothing is changed
+-- if the pass rests, its gauge is tried, from what it had seen; if it is in a call, nothing changes
 abbrev pub QueueGauged : QueuePass → Held → Answer → Type 0
 QueueGauged p g a = MatchOption p.stage.resting
     (Declined UNDER_WAY (OfQueuePass p) g a)
@@ -63,7 +63,7 @@ GaugeWentOn k g a = (made : GaugeMade) × GaugeTried k.container.value (queue.be
 abbrev pub GaugeShows : Stack ℕ → PassView ℕ → Pass ℕ (of_stack.Line ℕ) → stack_gauge.Gauge → Type 0
 GaugeShows c v back shown = stack.IsPassOf c back × stack_gauging.GaugeGives (stack.room_of c) (stack.limit_of c) v (pass_in back) shown
 
--- a pass that rests makes one, and has no number then; of one in a call nothing is changed
+-- if the pass rests, it makes one, and has no number then; if it is in a call, nothing changes
 abbrev pub StackGauged : StackPass → StackPass → Answer → Type 0
 StackGauged p q a = (q.container.value ≡ p.container.value) × MatchOption p.stage.resting
     ((a ≡ bare UNDER_WAY) × (q.stage ≡ p.stage))

@@ -212,7 +212,7 @@ HeldNumber h a = a ≡ bare (refusal_of h)
 
 -- The begin of a count
 
--- a count of a pass that rests is tried, from what the pass had seen; of one in a call nothing is changed
+-- if the pass rests, its count is tried, from what it had seen; if it is in a call, nothing changes
 abbrev pub QueueCounted : QueuePass → Held → Answer → Type 0
 QueueCounted p g a = MatchOption p.stage.resting
     (Declined UNDER_WAY (OfQueuePass p) g a)
@@ -230,7 +230,7 @@ abbrev pub front_from : Bool → Front
 front_from true = Last
 front_from false = First
 
--- a fold of a pass that rests is tried, from what the pass had seen; of one in a call nothing is changed
+-- if the pass rests, its fold is tried, from what it had seen; if it is in a call, nothing changes
 abbrev pub StackFolded : StackPass → Front → Held → Answer → Type 0
 StackFolded p front g a = MatchOption p.stage.resting
     (Declined UNDER_WAY (OfStackPass p) g a)
@@ -252,7 +252,7 @@ abbrev pub RangeAdded : StackRange → ℕ → StackRange → ℕ → Type 0
 RangeAdded r x s code = (s.container.value ≡ r.container.value) × (s.by ≡ r.by)
     × (((code ≡ OK) × (s.values.items ≡ r.values.items ++ Some x ∷ [])) ⊎ ((code ≡ NO_MEMORY) × (s.values.items ≡ r.values.items)))
 
--- a pass that rests begins a range with this value; of one in a call nothing is changed
+-- if the pass rests, it begins a range with this value; if it is in a call or there is no memory, nothing changes
 abbrev pub RangeBegan : StackPass → ℕ → Held → ℕ → Type 0
 RangeBegan p x g code = MatchOption p.stage.resting
     (Refused UNDER_WAY (OfStackPass p) g code)
@@ -273,7 +273,7 @@ RangePut r g a = (values : List ℕ) × (r.values.items ≡ map Some values)
     × ((places : List (Option ℕ)) × (made : RangeMade)
     × RangeTried r.container.value values (pass_in r.by) places made × RangeLeft r.container.value places made g a)
 
--- no value was added, or the pass is in a call: nothing is changed
+-- C added no value, or the pass is in a call: nothing changes
 abbrev pub NothingPut : StackPass → Held → Answer → Type 0
 NothingPut p g a = MatchOption p.stage.resting
     (Declined UNDER_WAY (OfStackPass p) g a)
@@ -292,7 +292,7 @@ CopyLeft c (stepped.Again next) (OfStackCopy k) a = (k.container.value ≡ c) ×
 CopyLeft c (stepped.Done back said) (OfStackPass p) a = (p.container.value ≡ c) × Rests p.stage back (range_number said) × SaysRange said a
 CopyLeft c made h a = ⊥
 
--- a put of these values is tried, from what the pass had seen; of a pass in a call nothing is changed
+-- if the pass rests, its put of these values is tried, from what it had seen; if it is in a call, nothing changes
 abbrev pub StackCopied : StackPass → List ℕ → Held → Answer → Type 0
 StackCopied p values g a = MatchOption p.stage.resting
     (Declined UNDER_WAY (OfStackPass p) g a)

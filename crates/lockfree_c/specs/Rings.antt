@@ -29,7 +29,7 @@ use Rattle.lockfree_c.specs.Kinds.{RingPass}
 abbrev pub CountMade : Type 0
 CountMade = Stepped (LenOp ℕ) (Pass ℕ) ℕ
 
--- it goes on, begun as the pass was v, or has given how many values there were at one moment since
+-- it is still under way, begun as the pass was v, or has given how many values there were at one moment since
 abbrev pub CountTried : RingQueue ℕ → PassView ℕ → CountMade → Type 0
 CountTried c v made = MatchStepped made
     (λ next. IsCounting c next × (begun_of (machine_of c) next.pass ≡ v))
@@ -41,7 +41,7 @@ CountLeft c (Again next) (OfRingCount k) a = (k.container.value ≡ c) × (k.op 
 CountLeft c (Done back n) (OfRingPass p) a = (p.container.value ≡ c) × Rests p.stage back 0 × (a ≡ saying OK n)
 CountLeft c made h a = ⊥
 
--- a count of a pass that rests is tried, from what the pass had seen; of one in a call nothing is changed
+-- if the pass rests, its count is tried, from what it had seen; if it is in a call, nothing changes
 abbrev pub RingCounted : RingPass → Held → Answer → Type 0
 RingCounted p g a = MatchOption p.stage.resting
     (Declined UNDER_WAY (OfRingPass p) g a)
@@ -56,7 +56,7 @@ CountWentOn k g a = (made : CountMade) × CountTried k.container.value (begun_of
 abbrev pub GaugeMade : Type 0
 GaugeMade = Stepped (GaugeOp ℕ) (Pass ℕ) Gauge
 
--- it goes on, begun as the pass was v, or has shown how the ring was at one moment since
+-- it is still under way, begun as the pass was v, or has shown how the ring was at one moment since
 abbrev pub GaugeTried : RingQueue ℕ → PassView ℕ → GaugeMade → Type 0
 GaugeTried c v made = MatchStepped made
     (λ next. IsGauging c next × (begun_of (machine_of c) next.pass ≡ v))

@@ -80,7 +80,7 @@ SlotFinished s t a = Either s.full
     ((t.full ≡ true) × HeldFinished s.handle.held t.handle.held a)
     (IsEmpty t × (a ≡ bare NO_HANDLE))
 
--- a new root within these limits, of which `IsNew` says what it is; a slot that is full is left as it is
+-- the call writes a new root within these limits, for which `IsNew` holds; it does not change a slot that is full
 abbrev pub SlotNew : (Held → Type 0) → Type 0 → Slot → Slot → ℕ → Type 0
 SlotNew IsNew limits s t code = Either s.full
     ((t ≡ s) × (code ≡ IN_USE))

@@ -36,7 +36,7 @@ module _ {P O : Type 0} where
     abbrev pub Tries : ℕ → PassView ℕ → Command ℕ → Stage P O → Answer → Type 0
     Tries n begun call t a = (made : Stepped O P (Reply ℕ)) × TriedFrom r begun call made × TookAtLeast r n begun made × LeftBy made t a
 
-    -- a call of a pass that rests is tried, from what the pass had seen; of one in a call nothing is changed
+    -- if the pass rests, its call is tried, from what it had seen; if it is in a call, nothing changes
     abbrev pub Called : ℕ → Stage P O → Command ℕ → Stage P O → Answer → Type 0
     Called n s call t a = MatchOption s.resting
         ((a ≡ bare UNDER_WAY) × (t ≡ s))

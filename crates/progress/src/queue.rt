@@ -51,9 +51,10 @@ pub fn take_or_overtaken<T>(
 
 /// Ends a queue, as `finish` does, and returns what is left. That is the outcome of a run of the
 /// passes whose calls are linearizable. If no pass is out, all passes together have made at most as
-/// many steps as their calls cost. The answer of a call says its cost. If P passes were given, a
-/// put costs `14 * P + 4`, a take `12 * P + 5`, a close `8 * P`, a shut `6 * P - 4`, a look 3, a
-/// count 4, a gauge 8, and a meeting or a note heard 1.
+/// many steps as their calls cost. The answer of a call says its cost. If P passes were given, the
+/// costs are:
+/// - a put `14 * P + 4`, a take `12 * P + 5`, a close `8 * P`, a shut `6 * P - 4`,
+/// - a look 3, a count 4, a gauge 8, a meeting or a note heard 1.
 pub fn end<T>(queue: Queue<T>, parent: Root<T>) -> Rest<T>
     requires { IsRootOf queue parent }
     ensures leaves { Leaves (shape_of queue) (root_in parent) (left_in result) }

@@ -92,8 +92,9 @@ where
 /// Ends a ring, as `finish` does, and returns what is left. That is the outcome of a run of the
 /// passes whose calls are linearizable. If no pass is out, all passes together have made at most as
 /// many steps as their calls cost. The answer of a call says its cost. In a ring for P passes at
-/// once, for any number of passes in all, a put costs `40 * P - 26`, a take `35 * P - 20`, a close
-/// or a shut `22 * P - 9`, a look or a gauge 12, a count 25, and a meeting or a note heard 1.
+/// once, for any number of passes in all, the costs are:
+/// - a put `40 * P - 26`, a take `35 * P - 20`, a close or a shut `22 * P - 9`,
+/// - a look or a gauge 12, a count 25, a meeting or a note heard 1.
 pub fn end<T>(ring: RingQueue<T>, parent: Root<T>) -> Rest<T>
     requires { IsRootOf ring parent }
     ensures leaves { Leaves (shape_of ring) (root_in parent) (left_in result) }

@@ -18,8 +18,8 @@ use bounded_model::{PutRefused, Stepped, TakeRefused};
 use runs::step_for;
 use treiber_stack::{CloseOp, FoldOp, Pass, PutOp, RangeOp, Rest, Root, ShutOp, Stack, TakeOp};
 
-/// A put or a take of one value, a close, a shut or a look that is still under way has made at most
-/// this many steps, and 4 more for each compare-and-swap by which another pass has succeeded.
+/// The steps of a put or a take of one value, a close, a shut or a look that is still under way are
+/// at most this number, and 4 more for each compare-and-swap by which another pass has succeeded.
 pub const ALONE: u64 = 9;
 
 /// Puts a value step by step, with no wait, for at most `ALONE + 1` steps. If the put has not ended

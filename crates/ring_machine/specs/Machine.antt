@@ -295,7 +295,7 @@ module _ {T : Type 0} where
   abbrev pub starts : Call T → Line T → Line T
   starts call l = first_of (cell_of l) call
 
--- the words of a new ring: slot i has cell i, and pass p cell n + p; all are empty
+-- the words of a new ring: slot i has cell i, pass p has cell n + p, and all cells are empty
 abbrev pub start : {T : Type 0} → Shape → Memory T
 start c = record {
   head = start_word 0;

@@ -77,7 +77,7 @@ impl<T> RingQueue<T> {
         }
     }
 
-    // One put in eight has to move the tail as well.
+    // One put in eight moves the tail as well.
     #[inline(always)]
     fn put_fast_pass(
         &self,

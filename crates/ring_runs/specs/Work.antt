@@ -23,8 +23,9 @@ module _ {T : Type 0} where
   fee k (Gauge closed used) = 12
   fee k Heard = 1
 
-  -- A ring for `passes` passes at once. The joined passes together have made no more steps than each of these: what the calls cost that
-  -- these acts begin, with a load for each meeting and each note heard; the fees of all answers; 25 + 40 * (passes - 1) for each answer
+  -- A ring for `passes` passes at once. The joined passes together have made no more steps than the calls cost that these acts begin,
+  -- with a load for each meeting and each note heard. Nor have they made more than the fees of all answers, or 25 + 40 * (passes - 1) for
+  -- each answer
   pub record TotalWork (passes : ℕ) (r : RootView T) (acts : Acts (SeatLine T)) : Type 0 where
     pub prices : total_steps r.works ≤ in_all (pays (λ l. cost (passes - 1) (call_in l))) acts
     pub fees : total_steps r.works ≤ total_fees (fee (passes - 1)) r.works

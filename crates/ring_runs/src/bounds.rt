@@ -21,8 +21,8 @@ pub fn ring_steps_are_bounded<T>()
 
 /// The acts that led to a ring's table are a schedule of its machine. With enough numbers of passes
 /// and from the words of a new ring, that schedule leads the machine to the same words, history and
-/// lines. There may be more numbers than passes at once, since a joined pass leaves its spare cell
-/// to a later one with a new number. Suppose each pass began its operations with a spare cell that
+/// lines. A joined pass leaves its spare cell to a later one with a new number, so there may be
+/// more numbers than passes at once. Suppose each pass began its operations with a spare cell that
 /// was free: in no slot, and with no pass that was in an operation. Then the ring's rule holds
 /// there of the passes in an operation and of the free cells, so all laws that are proved of such
 /// states hold of the ring.

@@ -8,11 +8,13 @@ ghost use Rattle.run_ends.specs.Ends.{IsRun};
 ghost use Rattle.ring_runs.specs.Work.{TotalWork};
 
 /// The total work on a ring for P passes at once, if all passes have been joined, for any number of
-/// passes in all. Together they have made at most as many steps as their calls cost: a put
-/// `40 * P - 26`, a take `35 * P - 20`, a close or a shut `22 * P - 9`, a look or a gauge 12, a
-/// count 25, and a meeting or a note heard 1. This bound holds for the calls that the root keeps of
-/// each joined pass by their answers, and for those that the acts of the run begin. So they have
-/// made at most `40 * P - 15` steps for each answer.
+/// passes in all. Together they have made at most as many steps as their calls cost:
+/// - a put `40 * P - 26`, a take `35 * P - 20`, a close or a shut `22 * P - 9`,
+/// - a look or a gauge 12, a count 25, a meeting or a note heard 1.
+///
+/// This bound holds for the calls that the root keeps of each joined pass by their answers, and for
+/// those that the acts of the run begin. So they have made at most `40 * P - 15` steps for each
+/// answer.
 pub fn ring_total_work<T>()
     ensures { (n laps passes : ℕ) (r : RootView T) (left : List T) → 0 < n
         → (ran : IsRun (ring_on T n laps passes) r left)

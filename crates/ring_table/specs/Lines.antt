@@ -44,8 +44,8 @@ module _ {T : Type 0} where
   Brings (TakeCell w x) zs = (v : T) × (zs ≡ (x.index, Some v) ∷ [])
   Brings l zs = Unit {0}
 
-  -- What the code knows of the word that it finds at a line: a hint names a slot; a slot names one of the `cells`
-  -- cells, with a tag that is not above the limit
+  -- What the code knows of the word that it finds at a line. A hint names a slot. A slot names one of the `cells` cells, and its tag is
+  -- not above the limit
   abbrev pub Says : ℕ → ℕ → ℕ → Line T → ℕ → Type 0
   Says n laps cells (FetchTail c v) y = index_of y < n
   Says n laps cells (LoadTail c s) y = index_of y < n

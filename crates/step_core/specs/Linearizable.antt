@@ -1,16 +1,15 @@
--- Linearizability (Herlihy and Wing, Linearizability: A Correctness Condition for Concurrent Objects, 1990) of a
--- machine with a bounded container's events. Their history, a sequence of invocations and responses, is
--- `concurrent_history` here. In this file "history" alone is the list of the container's events. A history is
--- linearizable if each operation takes effect at one point between its invocation and its response, and the operations
--- in the order of their points are a legal sequential history of the object. Pending operations may have taken effect
--- (their extension of the history) or not.
+-- Linearizability (Herlihy and Wing, Linearizability: A Correctness Condition for Concurrent Objects, 1990) of a machine with a bounded
+-- container's events. Their history, a sequence of invocations and responses, is `concurrent_history` here. In this file "history" alone
+-- is the list of the container's events. A history is linearizable if each operation takes effect at one point between its invocation and
+-- its response, and the operations in the order of their points are a legal sequential history of the object. Pending operations may have
+-- taken effect (their extension of the history) or not.
 --
 -- Their words and the names here:
--- - a process: a pass; an operation: `Operation`; a sequential specification: `Object`,
--- - an invocation and a response: `Invokes` and `Responds`; a pending operation: `Pending`; the completed ones of a
---   process: `completed`,
+-- - a process is a pass, an operation is `Operation`, a sequential specification is `Object`,
+-- - an invocation is `Invokes`, a response `Responds`, a pending operation `Pending`; a process's completed ones are `completed`,
 -- - the sequential history is legal and has the same operations (L1): `IsLinearization`,
--- - it keeps the order of operations that do not overlap (L2): `KeepsRealTimeOrder`; linearizable: `Linearizable`.
+-- - it keeps the order of operations that do not overlap (L2): `KeepsRealTimeOrder`,
+-- - linearizable is `Linearizable`.
 use Rattle.std.specs.Prelude.{◌≡◌, ◌⊎◌, ℕ, ◌==◌, if◌then◌else◌, List, [], ◌∷◌, ◌++◌}
 use mathlib.Core.Option.{Option, none, some}
 use lib.ListN.{get_elem?}

@@ -4,16 +4,16 @@ use mathlib.Core.Option.{Option, none, some}
 use lib.ListN.{get_elem?}
 use Rattle.machine.specs.Schedule.{Machine, Pass, State, Begin, Step, acts_at, start}
 
--- what a line of a script says: a pass makes a whole call, begins one and makes at most `count` steps, or makes at most `count` further
--- steps; or the script ends, and what is left is read
+-- What a line of a script says. A pass makes a whole call, begins one and makes at most `count` steps, or makes at most `count` further
+-- steps. Or the script ends, and what is left is read
 pub data Says (C : Type 0) : Type 0 where
   calls : (p : ℕ) (call : C) → Says C
   begins : (p : ℕ) (call : C) (count : ℕ) → Says C
   steps : (p count : ℕ) → Says C
   finish : Says C
 
--- the reply: the call's answer; the call is under way, `count` steps after its begin; it has ended after `count` steps; the values that
--- are left; or no call was begun
+-- The reply: the call's answer, that the call is under way `count` steps after its begin, that it has ended after `count` steps, the
+-- values that are left, or that no call was begun
 pub data Reply (A : Type 0) : Type 0 where
   answers : (answer : A) → Reply A
   again : (count : ℕ) → Reply A

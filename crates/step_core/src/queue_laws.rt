@@ -29,9 +29,9 @@ pub fn queue_core<T>()
         Lawful T n limit (after (queue (shape n limit)) passes schedule) }
 {}
 
-/// The rule of the queue's machine holds before the first act of any number of passes, and whatever a
-/// pass does keeps it: a begin of each call, and the step of each line. The table of a running queue
-/// has to meet the same rule.
+/// The rule of the queue's machine holds before the first act of any number of passes, and whatever
+/// a pass does keeps it: a begin of each call, and the step of each line. The table of a running
+/// queue must meet the same rule.
 pub fn queue_rule<T>()
     ensures at_the_start { (n limit passes : ℕ) → 0 < n → n < NULL → 0 < limit →
         MeetsRule n limit (start (queue {T = T} (shape n limit)) passes) }

@@ -55,12 +55,12 @@ pub fn stack_nodes<T>()
 {}
 
 /// In every schedule of a stack, a call ends with an answer, and each pass answers the call that it
-/// began. From the begin to the answer the call adds exactly the events of its answer. A put takes one
-/// node for each value that it puts, by one compare-and-swap. The values that it puts and those that it
-/// leaves over are the call's, in order. A take takes one value and gives its node back. A fold takes
-/// all values by one compare-and-swap, folds them in the call's direction, and gives all nodes back by
-/// one. A refused put hands back the call's values, and a refusal leaves nothing held. A range leaves
-/// values out only if no node could be had.
+/// began. From the begin to the answer the call adds exactly the events of its answer. A put takes
+/// one node for each value that it puts, by one compare-and-swap. The values that it puts and those
+/// that it leaves over are the call's, in order. A take takes one value and gives its node back. A
+/// fold takes all values by one compare-and-swap, folds them in the call's direction, and gives all
+/// nodes back by one. A refused put hands back the call's values, and a refusal leaves nothing
+/// held. A range leaves values out only if it got no node for them.
 pub fn stack_answers<T>()
     ensures answered { (n limit passes : ℕ) (schedule : Schedule (Call T)) → 0 < n → n ≤ NULL →
         NoneUnanswered (after (stack (shape n limit)) passes schedule) }
@@ -86,10 +86,10 @@ pub fn stack_bound<T>()
 /// - With ranges and folds, which go over up to n nodes, the factor is (3 * n + 4) * P + n + 2
 ///   instead of 7 * P + 2 in both.
 ///
-/// From the start, the passes make in all no more steps than the calls cost that they begin: a put
-/// of one value 7 * P, a take 7 * P - 1, a close or a shut 4 * P - 2, a look or a gauge 1, a put of
-/// r values, up to n, (3 * r + 4) * P + r - 1, a fold downwards 7 * P + n - 2, one upwards
-/// 7 * P + 3 * n - 2.
+/// From the start, the passes make in all no more steps than the calls cost that they begin:
+/// - a put of one value 7 * P, a take 7 * P - 1, a close or a shut 4 * P - 2, a look or a gauge 1,
+/// - a put of r values, up to n, (3 * r + 4) * P + r - 1,
+/// - a fold downwards 7 * P + n - 2, one upwards 7 * P + 3 * n - 2.
 ///
 /// A single call has ended after at most 9 of its own steps, or `4 * n + 6` for a range or a fold,
 /// and 4 for each compare-and-swap by which another pass succeeds meanwhile. So a step that does

@@ -1,5 +1,5 @@
--- One list of n indexes with a tagged top: any number of passes take from it and give to it, a
--- step at a time (Treiber 1986, with tags against a top that changed and came back).
+-- One list of n indexes with a tagged top: any number of passes take from it and give to it, a step at a time (Treiber 1986, with tags
+-- that show whether a top has changed and come back).
 use Rattle.std.specs.Prelude.{ℕ, ◌==◌, leb, ◌||◌, if◌then◌else◌, Bool, true, false, List, [], ◌∷◌, remove}
 use mathlib.Core.Option.{Option, none, some}
 use lib.ListN.{get_elem?}

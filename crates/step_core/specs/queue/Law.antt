@@ -20,8 +20,8 @@ use Rattle.queue_machine.specs.Deeds.{HasDone}
 abbrev pub lines_of : {T : Type 0} → State T → List (Line T)
 lines_of s = map (λ v. v.line) s.passes
 
--- the free cells and the free nodes; the nodes of the chain after its first, which is the dummy; the parts of the whole
--- chain before and after the node that the tail names
+-- the free cells, the free nodes, the nodes of the chain after its first, which is the dummy, and the parts of the whole chain before and
+-- after the node that the tail names
 pub record Lists : Type 0 where
   pub cells : List ℕ
   pub nodes : List ℕ
@@ -89,6 +89,6 @@ abbrev pub NoneUnanswered : {T : Type 0} → State T → Type 0
 NoneUnanswered {T} s = (p : ℕ) (v : Pass T) (call : Call T) → get_elem? s.passes p ≡ some v → v.call ≡ some call → is_idle v.line ≡ true
     → (a : Answer T) × (v.line ≡ Idle (Some a))
 
--- the values in the cells of a queue of n cells, along the chain from the node behind the dummy
+-- the values in the cells of a queue of n cells, along the chain from the node after the dummy
 abbrev pub values_left : {T : Type 0} → ℕ → Memory T → List T
 values_left n m = values_in m.home (map m.cell (chain_from n (next_of m) (next_of m m.head.index)))

@@ -23,8 +23,8 @@ module _ {T : Type 0} where
   Makes p CallShut (AnswerShut true) e = e ≡ Shut p
   Makes p call a e = ⊥
 
-  -- an operation that reads the queue: the answer is right in the state at the end of this history, which does not
-  -- change; a refused put hands its value back
+  -- an operation that reads the queue: the answer is right in the state at the end of this history, which does not change. A refused put
+  -- hands its value back
   abbrev pub IsSaid : ℕ → ℕ → List (Event T) → Call T → Answer T → Type 0
   IsSaid n limit h (CallPut v) (AnswerPut (Err (Full u))) = (u ≡ v) × right.Justifies (shape n limit) h right.PutFull
   IsSaid n limit h (CallPut v) (AnswerPut (Err (Closed u))) = (u ≡ v) × right.Justifies (shape n limit) h right.PutClosed

@@ -41,7 +41,7 @@ abbrev pub null_before_tail : Moves
 null_before_tail s m p (CheckTail seek w n) = goes_on m (if n.mark then back_closed seek w else if n.index == NULL then back_null seek w n else if same m.tail w then found_back seek w n else LoadTail seek)
 null_before_tail s m p l = step s m p l
 
--- and moves the tail on before comparing with it: it makes an exchange that can only lose
+-- and moves the tail before comparing with it: it makes an exchange that can only lose
 abbrev pub node_before_tail : Moves
 node_before_tail s m p (CheckTail seek w n) = goes_on m (if n.index == NULL then (if same m.tail w then found_back seek w n else LoadTail seek) else SwingTail seek w n)
 node_before_tail s m p l = step s m p l

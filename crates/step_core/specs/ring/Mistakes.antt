@@ -26,7 +26,7 @@ hands_with_cell i s = total (λ (v : Pass ℕ). times i (held_cells v.line)) s.p
 abbrev pub WinsHeld : State ℕ → State ℕ → Type 0
 WinsHeld s s' = ¬ WinsUnheld 1 s.memory (lines_of s) (line_of (resting 0) (get_elem? s.passes 1)) (line_of (resting 0) (get_elem? s'.passes 1))
 
--- in the slot of the exchange of this word that won stands another word
+-- if the exchange of this word won, its slot has another word
 abbrev pub leaving : Outcome ℕ → Memory ℕ → ℕ → Tagged → Tagged → Outcome ℕ
 leaving o m i x y = if same (m.slot i) x then record o { memory = record o.memory { slot = store_word m.slot i y } } else o
 

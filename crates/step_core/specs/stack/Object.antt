@@ -38,8 +38,8 @@ module _ {T : Type 0} where
   Makes p CallShut (AnswerShut true) e = e ≡ Shut p
   Makes p call a e = ⊥
 
-  -- an operation that reads the stack: the answer is right in the state at the end of this history, which does not
-  -- change; a refused put hands its values back
+  -- an operation that reads the stack: the answer is right in the state at the end of this history, which does not change. A refused put
+  -- hands its values back
   abbrev pub IsSaid : ℕ → ℕ → List (Event T) → Call T → Answer T → Type 0
   IsSaid n limit h (CallPut v vs) (AnswerPut (Err why)) = (handed_back why ≡ v ∷ vs) × right.Justifies (shape n limit) h (refusal why)
   IsSaid n limit h (CallTake One) (AnswerTake (Err why)) = right.Justifies (shape n limit) h (right.take_answer why)

@@ -20,7 +20,7 @@ alone = scene 1 15
     ∷ (begins a LookCall 40, ended (Look true) 1)
     ∷ [])
 
--- at the lost exchange the top names the old node again, with tag 5 where a had read tag 2
+-- at the lost exchange the top names the old node again, with tag 5, after a had read tag 2
 abbrev pub same_node_other_tag : Scene
 same_node_other_tag = scene 3 15
     ((calls b (put x), answers (put_is 0))
