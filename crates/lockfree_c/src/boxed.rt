@@ -343,7 +343,8 @@ pub fn number_by(held: &Held) -> Answer
     }
 }
 
-// A root ends its container. Any later call hands out the next value that is left.
+// A root ends its container. What is left of an ended one hands out its next value. Any other
+// handle gives `OTHER_HANDLE`.
 fn finish(held: Held) -> (Held, Answer)
     requires { IsHeld held }
     ensures of { IsHeld result.0 }
@@ -381,7 +382,8 @@ fn finish(held: Held) -> (Held, Answer)
     }
 }
 
-/// The root in the box ends its container. Any later call hands out the next value that is left.
+/// The root in the box ends its container, or what is left of an ended one hands out its next
+/// value. Any other handle gives `OTHER_HANDLE`.
 pub fn finish_by(held: &mut Held) -> Answer
     requires { IsHeld held.old }
     ensures of { IsHeld held.new }
