@@ -1,4 +1,4 @@
--- Many values put or taken by one exchange.
+-- A call that puts or takes many values by one exchange.
 use Rattle.std.specs.Prelude.{◌≡◌, ◌⊎◌, ℕ, ◌<◌, ◌≤◌, ◌++◌, List, [], ◌∷◌, length, take, drop, replicate, Option as Slot, Some, None, Result, Ok, Err}
 use Rattle.bounded_model.specs.declared.answers.TakeRefused.{TakeRefused}
 use Rattle.bounded_model.specs.declared.bulk.Ranged.{Ranged}
@@ -23,7 +23,7 @@ abbrev pub HasNoCell : {T : Type 0} → Shape → List (Event T) → Type 0
 HasNoCell c h = IsFull c h ⊎ ((state c h).holds ≡ c.limit)
 
 -- a range was put from the front: these values went in at once, and their places are empty. Values
--- stayed only where no cell could be had for the next
+-- stayed only if no cell could be had for the next
 pub record PutsFront {T : Type 0} (call : Call T) (old new : List (Slot T)) (r : Ranged) : Type 0 where
   pub some_value : 0 < r.count
   pub at_most : r.count ≤ length old
@@ -31,7 +31,7 @@ pub record PutsFront {T : Type 0} (call : Call T) (old new : List (Slot T)) (r :
   pub places : new ≡ replicate r.count None ++ drop r.count old
   pub all : (r.count ≡ length old) ⊎ Sometime call.from.seen call.to.seen (HasNoCell call.shape)
 
--- why a range of up to so many values was refused, and what the pass has done
+-- why a range of up to `most` values was refused, and what the pass has done
 abbrev pub PutsNone : {T : Type 0} → Call T → ℕ → RangeRefused → Type 0
 PutsNone k most Nothing = (most ≡ 0) × (k.to ≡ k.from)
 PutsNone k most Full = (0 < most) × Adds k.from k.to [] × Justified k.shape k.from k.to PutFull

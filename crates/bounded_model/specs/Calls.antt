@@ -1,4 +1,4 @@
--- Any call, by the command that names it: what it gives, by its own kind of reply, and which operations make it.
+-- Any call, by the command that names it. It says what the call gives in its own kind of reply, and which operations make it.
 use Rattle.bounded_model.specs.declared.commands.Command.{Command}
 use Rattle.bounded_model.specs.declared.commands.Command.TheVariants as command
 use Rattle.bounded_model.specs.declared.commands.Reply.{Reply}

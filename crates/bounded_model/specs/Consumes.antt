@@ -1,4 +1,4 @@
--- Takes one after another, their values handed to a function.
+-- Takes one after another that hand their values to a function.
 use Rattle.std.specs.Prelude.{◌≡◌, ℕ, List, [], ◌∷◌, map, Ok, Err}
 use Rattle.bounded_model.specs.declared.answers.TakeRefused.{TakeRefused}
 use Rattle.bounded_model.specs.declared.views.PassView.{PassView}

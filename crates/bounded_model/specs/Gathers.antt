@@ -1,4 +1,4 @@
--- What a history holds of one thing, in the order of time: the values put, the values taken, ..
+-- What a history holds of one kind, in the order of time: the values put, the values taken, ..
 use Rattle.std.specs.Prelude.{◌≡◌, ℕ, suc, ◌<◌, List, [], ◌∷◌, ◌++◌, map, length}
 use Rattle.std.specs.List.{AllByRecursion as Every}
 use Rattle.bounded_model.specs.declared.history.Event.{Event}
@@ -49,7 +49,7 @@ took_of (Shut p) = []
 abbrev pub values_of : {T : Type 0} → List (Moved T) → List T
 values_of ms = map (λ m. m.value) ms
 
--- the number of the call, where it moved values
+-- the number of the call, if it moved values
 abbrev pub number_of : {T : Type 0} → Event T → List ℕ
 number_of (Hold p) = []
 number_of (Put p vs n) = n ∷ []
@@ -59,7 +59,7 @@ number_of (Free p k) = []
 number_of (Close p) = []
 number_of (Shut p) = []
 
--- whose event it is, where it is of one kind
+-- whose event it is, if it is of one kind
 abbrev pub hold_of : {T : Type 0} → Event T → List ℕ
 hold_of (Hold p) = p ∷ []
 hold_of (Put p vs n) = []

@@ -1,5 +1,5 @@
--- When an answer that changes nothing is justified: the container really was so, at some time since
--- the pass's last step before the call.
+-- When an answer that changes nothing is justified: the container was as the answer says at some
+-- time since the pass's last step before the call.
 use Rattle.std.specs.Prelude.{◌≡◌, ℕ, ◌+◌, ◌*◌, ◌<◌, ◌≤◌, Bool, true, false, List, [], length}
 use Rattle.bounded_model.specs.declared.history.Order.{Order}
 use Rattle.bounded_model.specs.declared.history.Order.TheVariants.{Fifo, Lifo}
@@ -54,7 +54,7 @@ abbrev pub StopsTake : Order → Word → Type 0
 StopsTake Lifo Top = Unit {0}
 StopsTake order word = ⊥
 
--- so many cells were taken that some tag may have met the limit: a half of it
+-- some tag may have met the limit: the number of cells taken so far is at least half of it
 abbrev pub IsWorn : {T : Type 0} → Shape → List (Event T) → Type 0
 IsWorn c h = c.limit ≤ 2 * (state c h).holds
 

@@ -177,7 +177,7 @@ pub record Meets {T : Type 0} (v u w : PassView T) : Type 0 where
   pub others : own u.number w.seen ≡ own u.number u.seen
   pub answers : Answers v w Heard
 
--- where there is no seat for it, nothing has changed
+-- if there is no seat for it, nothing has changed
 abbrev pub MeetGives : {T : Type 0} → PassView T → PassView T → PassView T → Bool → Type 0
 MeetGives v u w true = Meets v u w
 MeetGives v u w false = w ≡ v
@@ -189,7 +189,7 @@ pub record Heeds {T : Type 0} (v : PassView T) (told : List (Event T)) (w : Pass
   pub answers : Answers v w Heard
 
 -- finish: the list of a legal history that begins with what the root has seen. It adds no event of
--- a joined pass and none of a pass that was not given, and so, where no pass is out, none at all
+-- a joined pass and none of a pass that was not given. So it adds none at all if no pass is out
 pub record Leaves {T : Type 0} (c : Shape) (r : RootView T) (left : List T) : Type 0 where
   pub history : List (Event T)
   pub legal : Legal c history

@@ -1,4 +1,4 @@
--- A whole call at a machine whose hands are all empty: what it answers, and the events that it adds.
+-- A whole call at a machine whose hands are all empty: its answer and the events that it adds.
 use Rattle.std.specs.Prelude.{ℕ, ◌+◌, nat_le, if◌then◌else◌, Bool, true, false, not, List, [], ◌∷◌, ◌++◌, length, Result, Ok, Err}
 use Rattle.bounded_model.specs.declared.history.Event.{Event}
 use Rattle.bounded_model.specs.declared.history.Event.TheVariants.{Hold, Put, Take, Free, Close, Shut}
@@ -17,8 +17,7 @@ abbrev pub is_nil : {T : Type 0} → List T → Bool
 is_nil [] = true
 is_nil (x ∷ xs) = false
 
--- a put is refused where the machine is closed, then where no cell is free, then where its number would
--- reach the limit
+-- a put is refused if the machine is closed, then if no cell is free, then if its number would reach the limit
 abbrev pub put_reply : {T : Type 0} → Shape → State T → T → Result ℕ (PutRefused T)
 put_reply c s x =
     if s.closed then Err (ClosedToPuts x)
@@ -31,8 +30,7 @@ abbrev pub take_reply_of : {T : Type 0} → Shape → State T → List T → Res
 take_reply_of c s [] = (if s.closed then Err EmptyAndClosed else Err Empty)
 take_reply_of c s (x ∷ xs) = (if nat_le c.limit (next_take c.order s) then Err (SpentTake Count c.limit) else Ok (x, next_take c.order s))
 
--- a take is refused where the machine is shut, then where it has no value, then where its number would
--- reach the limit
+-- a take is refused if the machine is shut, then if it has no value, then if its number would reach the limit
 abbrev pub take_reply : {T : Type 0} → Shape → State T → Result (T × ℕ) TakeRefused
 take_reply c s = (if s.shut then Err ShutToTakes else take_reply_of c s s.values)
 

@@ -20,13 +20,13 @@ pub record OneStep {T : Type 0} (v w : PassView T) : Type 0 where
   pub steps : w.steps ≡ v.steps + 1
   pub seen : Later v.seen w.seen
 
--- an operation goes on: it was begun as before, and its pass has made one step more
+-- an operation continues: it was begun as before, and its pass has made one step more
 pub record GoesOn {T : Type 0} (before after : Underway T) : Type 0 where
   pub begun : after.begun ≡ before.begun
   pub step : OneStep before.now after.now
 
--- what a step answered: `goes` of an operation that goes on, `ends` of a pass that is back and the
--- call's answer
+-- what a step answered: `goes` of an operation that continues, `ends` of a pass that is back and
+-- the call's answer
 abbrev pub MatchStepped : {O P A : Type 0} → Stepped O P A → (O → Type 0) → (P → A → Type 0) → Type 0
 MatchStepped (Again next) goes ends = goes next
 MatchStepped (Done back answer) goes ends = ends back answer

@@ -6,7 +6,7 @@ ghost use Rattle.bounded_model.specs.declared.answers.MakeRefused.TheVariants.{N
 use std::alloc::AllocError;
 use thiserror::Error;
 
-/// The word whose tag has reached the limit.
+/// The word whose tag allows no further rise.
 #[derive(Clone, Copy, Debug, PartialEq, Eq)]
 pub enum Word {
     /// The top of a queue's free cells.
@@ -19,20 +19,20 @@ pub enum Word {
     Free,
     /// The top of a stack.
     Top,
-    /// No word: the count of calls of a sequential list.
+    /// No word: the number of calls of a sequential list.
     Count,
 }
 
-/// Why a put was refused. The value comes back.
+/// Why a put was refused. The refusal hands the value back.
 #[derive(Debug, Drop, Error, PartialEq)]
 pub enum PutRefused<T> {
-    /// Every cell holds a value or is held by a pass.
+    /// The container was open, and each cell held a value or was in a pass's hand.
     #[error("full")]
     Full(T),
     /// The container is closed.
     #[error("closed")]
     Closed(T),
-    /// The tag of this word has reached the limit: the value, the word, and the tag that was read.
+    /// The tag of this word allows no further rise: the value, the word, and the tag that was read.
     #[error("spent")]
     Spent(T, Word, u64),
 }
@@ -40,13 +40,13 @@ pub enum PutRefused<T> {
 /// Why a take was refused.
 #[derive(Debug, Drop, Error, PartialEq)]
 pub enum TakeRefused {
-    /// There is no value, and more may be put.
+    /// The container held no value, and it was neither closed nor shut.
     #[error("empty")]
     Empty,
-    /// There is no value, and the container is closed.
+    /// The container held no value, and it was closed but not shut.
     #[error("closed")]
     Closed,
-    /// The tag of this word has reached the limit: the word, and the tag that was read.
+    /// The tag of this word allows no further rise: the word, and the tag that was read.
     #[error("spent")]
     Spent(Word, u64),
     /// The container is shut.
@@ -54,7 +54,7 @@ pub enum TakeRefused {
     Shut,
 }
 
-/// Why a container could not be made, or its commands not be run.
+/// Why a container could not be made, or its commands could not be run.
 #[derive(Debug, Drop, Error)]
 pub enum MakeRefused {
     /// The allocator had no memory.
@@ -73,8 +73,8 @@ impl From<AllocError> for MakeRefused {
 /// What one step of an operation answers.
 #[derive(Drop)]
 pub enum Stepped<O, P, A> {
-    /// The operation goes on.
+    /// The operation is not ended yet.
     Again(O),
-    /// The operation has ended: its pass comes back, with the call's answer.
+    /// The operation has ended. Its pass comes back with the call's answer.
     Done(P, A),
 }

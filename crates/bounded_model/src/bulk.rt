@@ -9,12 +9,12 @@ use crate::{Stepwise, TakeRefused, Word};
 use std::sync::Wait;
 use thiserror::Error;
 
-/// A range put that put some values.
+/// A range put that put at least one value.
 #[derive(Clone, Copy, Debug, PartialEq, Eq)]
 pub struct Ranged {
     /// The put's number.
     pub number: u64,
-    /// How many values were put, from the front; 1 at least.
+    /// How many values were put, from the front: at least 1.
     pub count: u32,
 }
 
@@ -24,13 +24,13 @@ pub enum RangeRefused {
     /// The range is empty.
     #[error("nothing to put")]
     Nothing,
-    /// Every cell holds a value or is held by a pass.
+    /// The container was open, and each cell held a value or was in a pass's hand.
     #[error("full")]
     Full,
     /// The container is closed.
     #[error("closed")]
     Closed,
-    /// The tag of this word has reached the limit: the word, and the tag that was read.
+    /// The tag of this word allows no further rise: the word, and the tag that was read.
     #[error("spent")]
     Spent(Word, u64),
 }
@@ -46,9 +46,10 @@ pub struct Folded {
 
 /// A container that puts several values, and takes all values, by one compare-and-swap each.
 pub trait Bulk<T>: Stepwise<T> {
-    /// Puts as many values as cells can be had, from the front, by one compare-and-swap; their
-    /// places are then `None`. A refusal leaves every place as it was: `Nothing` for an empty
-    /// range, else as that of a put. Called in `example_stack`.
+    /// Puts values from the front of the range by one compare-and-swap, at least one. Their places
+    /// are then `None`. Values stay in the range only if at some time of the call no cell could be
+    /// had for the next one. A refusal leaves every place as it was. It is `Nothing` if the range
+    /// is empty, and otherwise a refusal of `put`, for the same reason. Called in `example_stack`.
     fn put_range<R: Wait>(
         &self,
         rt: &R,
@@ -63,8 +64,8 @@ pub trait Bulk<T>: Stepwise<T> {
             values.old values.new result.1 };
 
     /// Takes all values by one compare-and-swap, and folds them in the order in which takes would
-    /// give them. Returns the last state; after a refusal, which is as that of a take, it is the
-    /// one that was handed in. Called in `example_buffers`.
+    /// give them. Returns the last state. If the fold is refused, it takes nothing and returns the
+    /// state that was handed in. The refusals are those of `take`. Called in `example_buffers`.
     fn fold_all_atomic<R: Wait, S, F: Fn(S, T) -> S + Drop>(
         &self,
         rt: &R,
@@ -80,7 +81,8 @@ pub trait Bulk<T>: Stepwise<T> {
             (λ values. Folds (λ s x t. F.post f s x t) state values result.1)
             (result.1 ≡ state) result.2 };
 
-    /// The same in the opposite order. Called in `example_stack`.
+    /// Like `fold_all_atomic`, but folds the values in the opposite order. Called in
+    /// `example_stack`.
     fn fold_all_atomic_reversed<R: Wait, S, F: Fn(S, T) -> S + Drop>(
         &self,
         rt: &R,

@@ -15,9 +15,9 @@ pub enum Command<T> {
 /// What that call answered.
 #[derive(Debug, Drop, PartialEq)]
 pub enum Reply<T> {
-    /// The put's number, or why it was refused.
+    /// The put's number, or the refusal with the value.
     Put(Result<u64, PutRefused<T>>),
-    /// The value and the take's number, or why it was refused.
+    /// The value and the take's number, or the refusal.
     Take(Result<(T, u64), TakeRefused>),
     /// Whether this call closed the container.
     Close(bool),
@@ -27,7 +27,7 @@ pub enum Reply<T> {
     Look(bool),
 }
 
-/// A call that was begun, at its next step: one type for the operations of each kind of call.
+/// An operation under way, at its next step. One type for the operations of each kind of call.
 #[derive(Drop)]
 pub enum Operation<P, T, C, S, L> {
     Put(P),

@@ -1,4 +1,4 @@
-//! Takes over any container that hand what they took to a function.
+//! Takes over any container that hand the values to a function.
 
 ghost use Rattle.std.specs.Prelude.{MatchResult};
 ghost use Rattle.bounded_model.specs.Laws.{TakeGives};
@@ -7,8 +7,8 @@ ghost use Rattle.bounded_model.specs.Consumes.{Folds, ConsumesAll};
 use crate::{Container, TakeRefused};
 use std::sync::Wait;
 
-/// One take: `f` is called once, and only where a value was taken. Returns what `f` made of the
-/// value, with the take's number. Called in `example_stack`.
+/// Makes one take, and calls `f` once with the value if the take gave one. Returns the result of
+/// `f` with the take's number, or the take's refusal. Called in `example_stack`.
 pub fn consume_one<T, C: Container<T>, W: Wait, R, F: FnOnce(T) -> R + Drop>(
     c: &C,
     rt: &W,
@@ -31,7 +31,7 @@ pub fn consume_one<T, C: Container<T>, W: Wait, R, F: FnOnce(T) -> R + Drop>(
 }
 
 /// Takes one value after another until a take is refused, and folds them in the order of taking.
-/// Returns the last state, and why it stopped. Called in `example_closing`.
+/// Returns the last state and the refusal. Called in `example_closing`.
 pub fn consume_all<T, C: Container<T>, W: Wait, S, F: Fn(S, T) -> S + Drop>(
     c: &C,
     rt: &W,

@@ -32,45 +32,49 @@ ghost use Rattle.bounded_model.specs.Laws.{
 use crate::{Order, PutRefused, TakeRefused};
 use std::sync::Wait;
 
-/// The fewest passes that may be out at one time of any container.
+/// The fewest passes that a container may allow at one time.
 pub const MIN_PASSES: u32 = 2;
 
-/// The most passes that may be out at one time of any container; of a queue and of a stack as many
-/// may be. A container says in its `shape` how many of its own may be.
+/// The most passes that a container may allow at one time. A queue and a stack each allow this
+/// many. A container's `shape` says how many it allows.
 pub const MAX_PASSES: u32 = 65_535;
 
 // Laws and clauses say the names; this says the numbers.
 const _: () = prove!(MIN_PASSES == 2 && MAX_PASSES == 65_535);
 
-/// The values that are left in a container at its end: a queue's in the order of their puts, a
-/// stack's from the top down.
+/// The values that a container still holds at its end. A queue's come in the order of their puts,
+/// and a stack's from the top down.
 pub trait Leaving<T> {
-    /// What has not been given yet.
+    /// The values that `next` has not given yet.
     ghost left: { Self → List T };
 
-    /// The next value; once there is none, never again one. Called in `example_calls`.
+    /// The next value, or `None` if no value is left. After a `None` it gives no value again.
+    /// Called in `example_calls`.
     fn next(&mut self) -> Option<T>
         ensures { MatchOption result
             ((left self.old ≡ []) × (left self.new ≡ []))
             (λ v. left self.old ≡ v ∷ left self.new) };
 }
 
-/// A bounded container that many threads share, each through passes of its own.
+/// A bounded container that many threads share. Each thread uses passes of its own.
 ///
-/// A root gives passes, one for each thread, and takes them back. What a call promises is said by
-/// what its pass has seen, before and afterwards: a history of the container, legal by the bounded
-/// machine, that only grows.
+/// A root gives passes, one for each thread, and takes them back. The contract of a call compares
+/// what its pass has seen before and after the call. What a pass has seen is a history of the
+/// container. The bounded machine allows this history, and it only grows.
 ///
-/// A pass or a root is used only with the container that it came from. Calls that take `rt` may
-/// retry for as long as others interfere; they promise this if they return. Each call names an
-/// example crate that makes it.
+/// A refusal, and a `false` of `close` or `shut`, was right at some time between the pass's last
+/// step before the call and the end of the call.
+///
+/// A pass or a root is used only with the container that it came from. A call that takes `rt` may
+/// retry as long as others interfere. Its contract holds if it returns. Each method names an
+/// example crate that calls it.
 pub trait Container<T>: Drop {
     type Root: Drop + Send;
 
     type Pass: Drop + Send;
 
-    /// What a pass had seen as it was made. It may be dropped, sent to another thread, or stored
-    /// beside a message.
+    /// What a pass had seen when the note was made. A note may be dropped, sent to another thread,
+    /// or stored beside a message.
     type Note: Drop + Send;
 
     type Rest: Leaving<T> + Drop + Send;
@@ -92,21 +96,24 @@ pub trait Container<T>: Drop {
     /// Whether this is a note of a pass of this container.
     ghost is_note: { Self → Self.Note → Type 0 };
 
-    /// A pass's number, what it has seen, and how many steps it has made.
+    /// A pass's number, what it has seen, how many steps it has made, and what its calls have
+    /// answered.
     ghost pass: { Self.Pass → PassView T };
 
-    /// What a root has seen, how many passes it has given, and what those joined have done.
+    /// What a root has seen, how many passes it has given, and what the joined passes have done.
     ghost root: { Self.Root → RootView T };
 
     /// The history that a note tells.
     ghost told: { Self.Note → List (Event T) };
 
-    /// How many values it has room for, as it was asked for: `relay` looks at it before it starts.
+    /// The capacity that the container was made with: how many values it has room for. Called in
+    /// `relay`, before it starts.
     fn capacity(&self) -> u32
         ensures { result ≡ (shape self.now).capacity };
 
-    /// A new pass; `None` exactly where as many are out as may be at one time, of a queue or a stack
-    /// [`MAX_PASSES`], and then nothing has changed. Called in `example_calls`, and for many
+    /// Gives a new pass, which has seen what the root has. `None` exactly if the number of passes
+    /// that are out is already the most that the container allows. A queue and a stack allow
+    /// [`MAX_PASSES`]. After a `None` nothing has changed. Called in `example_calls`, and for many
     /// threads in `example_jobs`.
     fn split(&self, parent: &mut Self::Root) -> Option<Self::Pass>
         requires { is_root self.now parent.old }
@@ -117,8 +124,14 @@ pub trait Container<T>: Drop {
             (λ p. is_pass self.now p
             × Splits (shape self.now) (root parent.old) (root parent.new) (pass p)) };
 
-    /// Puts one value; returns the put's number. A refusal hands the value back. Called in
-    /// `example_calls`, and again where it is full in `example_jobs`.
+    /// Puts one value. Called in `example_calls`, and again if it is full in `example_jobs`.
+    ///
+    /// - `Ok`: the value is put. This is the put's number.
+    /// - `Full`: the container was open, and each cell held a value or was in a pass's hand.
+    /// - `Closed`: the container was closed.
+    /// - `Spent`: the tag of this word allowed no further rise.
+    ///
+    /// Each refusal hands the value back.
     fn put<R: Wait>(
         &self,
         rt: &R,
@@ -130,32 +143,39 @@ pub trait Container<T>: Drop {
         ensures gives { PutGives (shape self.now) (pass by) value (pass result.0) result.1 }
         ensures answered { Answers (pass by) (pass result.0) (put_answered result.1) };
 
-    /// Takes one value; answers it with the take's number. Called in `example_calls`, and until the
-    /// container is closed in `example_jobs`.
+    /// Takes one value. Called in `example_calls`, and until the container is closed in
+    /// `example_jobs`.
+    ///
+    /// - `Ok`: the value, and the take's number.
+    /// - `Empty`: the container held no value, and it was neither closed nor shut.
+    /// - `Closed`: the container held no value, and it was closed but not shut.
+    /// - `Shut`: the container was shut.
+    /// - `Spent`: the tag of this word allowed no further rise, and the container was not shut.
     fn take<R: Wait>(&self, rt: &R, by: Self::Pass) -> (Self::Pass, Result<(T, u64), TakeRefused>)
         requires { is_pass self.now by }
         ensures of { is_pass self.now result.0 }
         ensures gives { TakeGives (shape self.now) (pass by) (pass result.0) result.1 }
         ensures answered { Answers (pass by) (pass result.0) (TakeAnswered result.1) };
 
-    /// Closes the container: no put follows. Returns whether this call closed it. Called in
-    /// `example_closing`.
+    /// Closes the container: no put follows. Returns true if this call closed it, and false if it
+    /// was closed already. Called in `example_closing`.
     fn close<R: Wait>(&self, rt: &R, by: Self::Pass) -> (Self::Pass, bool)
         requires { is_pass self.now by }
         ensures of { is_pass self.now result.0 }
         ensures gives { CloseGives (shape self.now) (pass by) (pass result.0) result.1 }
         ensures answered { Answers (pass by) (pass result.0) (CloseAnswered result.1) };
 
-    /// Shuts the container: no take follows, and puts go on until it is closed. Returns whether
-    /// this call shut it. Called in `example_stack`.
+    /// Shuts the container: no take follows, but puts may follow until it is closed. Returns true
+    /// if this call shut it, and false if it was shut already. Called in `example_stack`.
     fn shut<R: Wait>(&self, rt: &R, by: Self::Pass) -> (Self::Pass, bool)
         requires { is_pass self.now by }
         ensures of { is_pass self.now result.0 }
         ensures gives { ShutGives (shape self.now) (pass by) (pass result.0) result.1 }
         ensures answered { Answers (pass by) (pass result.0) (ShutAnswered result.1) };
 
-    /// True: the first pass has now seen what either had. False, where there is no seat for that:
-    /// it is as it was. The second pass comes back as it was. Called in `example_stack`.
+    /// Lets the first pass see what the second has seen. True: the first pass has now seen what
+    /// either pass had seen. False: the table has no seat for the meeting, and the first pass is as
+    /// it was. The second pass comes back as it was. Called in `example_stack`.
     fn meet(&self, first: &mut Self::Pass, second: Self::Pass) -> (Self::Pass, bool)
         requires first { is_pass self.now first.old }
         requires second { is_pass self.now second }
@@ -163,35 +183,37 @@ pub trait Container<T>: Drop {
         ensures second { is_pass self.now result.0 × (pass result.0 ≡ pass second) }
         ensures gives { MeetGives (pass first.old) (pass second) (pass first.new) result.1 };
 
-    /// What the pass has seen, as a value of its own; `None` where there is no seat for that. The
+    /// Makes a note of what the pass has seen. `None` if the table has no seat for the note. The
     /// pass is as it was. Called in `example_notes`.
     fn note(&self, by: &mut Self::Pass) -> Option<Self::Note>
         requires { is_pass self.now by.old }
         ensures pass { is_pass self.now by.new × (pass by.new ≡ pass by.old) }
         ensures gives { IfSome result (λ n. is_note self.now n × (told n ≡ (pass by.old).seen)) };
 
-    /// The pass has now seen at least what the note tells: whoever is told of an event by any other
-    /// way, with a note that was made after it, hears no answer that was right only before it.
-    /// Called in `example_notes`.
+    /// The pass has now seen at least what the note tells. So a caller can learn of an event in
+    /// some other way, together with a note that was made after the event. If its pass heeds the
+    /// note, no later call of the pass gives an answer that was right only before the event. Called
+    /// in `example_notes`.
     fn heed(&self, by: &mut Self::Pass, note: Self::Note)
         requires pass { is_pass self.now by.old }
         requires note { is_note self.now note }
         ensures of { is_pass self.now by.new }
         ensures gives { Heeds (pass by.old) (told note) (pass by.new) };
 
-    /// Takes a pass back: the root has now seen what the pass has. Called in `example_calls`.
+    /// Takes a pass back: the root has now seen what the pass has. The root keeps the pass's own
+    /// events, its steps, and what its calls have answered. Called in `example_calls`.
     fn join(&self, parent: &mut Self::Root, by: Self::Pass)
         requires root { is_root self.now parent.old }
         requires pass { is_pass self.now by }
         ensures root { is_root self.now parent.new }
         ensures gives { Joins (root parent.old) (pass by) (root parent.new) };
 
-    /// The end: what is left. Called in `example_calls`.
+    /// Ends the container, and gives the values that it still holds. Called in `example_calls`.
     fn finish(self, parent: Self::Root) -> Self::Rest
         requires { is_root self parent }
         ensures { Leaves (shape self) (root parent) (Self.Rest.left result) };
 
-    /// Its order is the constant's.
+    /// The order in its shape is `ORDER`.
     ghost order_law: { (c : Self) → (shape c).order ≡ ORDER };
 
     /// At least [`MIN_PASSES`] and at most [`MAX_PASSES`] passes may be out at one time.
@@ -203,6 +225,7 @@ pub trait Container<T>: Drop {
     /// What a note tells is legal.
     ghost note_law: { (c : Self) (n : Self.Note) → is_note c n → Legal (shape c) (told n) };
 
-    /// What a root has seen is legal, and its account is right.
+    /// What a root has seen is legal. Its account is right: of each joined pass it has seen exactly
+    /// the events of the account, and it has seen none of a pass that it has not given.
     ghost root_law: { (c : Self) (r : Self.Root) → is_root c r → IsSound (shape c) (root r) };
 }

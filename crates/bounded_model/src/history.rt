@@ -11,8 +11,8 @@ pub enum Order {
     Lifo,
 }
 
-/// What one pass did to a container. The first field is the pass's number. No value of this type is
-/// made at run time: events stand in definitions and proofs.
+/// What one pass did to a container. The first field is the pass's number. A running program makes
+/// no value of this type: only definitions and proofs use events.
 pub enum Event<T> {
     /// The pass took a free cell into its hand.
     Hold(u64),
@@ -22,7 +22,7 @@ pub enum Event<T> {
     Take(u64, T, u64),
     /// The pass took all values, by the call of this number, and holds their cells.
     TakeAll(u64, LinkedList<T>, u64),
-    /// The pass gave so many cells of its hand back.
+    /// The pass gave this number of cells of its hand back.
     Free(u64, u64),
     /// The pass closed the container: no put follows.
     Close(u64),

@@ -1,6 +1,9 @@
-//! What a bounded container is, before any word or thread: its events, the machine that says which
-//! histories are legal, the sequential list that runs that machine, and the laws of every
-//! container.
+//! What a bounded container is, without words or threads:
+//!
+//! - its events
+//! - the machine that says which histories are legal
+//! - the sequential list that runs this machine
+//! - the laws of every container
 #![tactic(auto)]
 
 mod answers;

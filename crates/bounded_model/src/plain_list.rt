@@ -35,20 +35,20 @@ use std::mem;
 /// The largest capacity of a list.
 pub const MAX_LIST_CAPACITY: u32 = 1 << 20;
 
-/// Every number that a list answers is below this one.
+/// Each number that a list answers is below this one.
 pub const COUNT_LIMIT: u64 = (1 << 42) - 1;
 
 const _: () = prove!(MAX_LIST_CAPACITY == 1_048_576 && COUNT_LIMIT == 4_398_046_511_103);
 
-/// A bounded list of values in an order: the machine that the concurrent containers are measured
-/// by, run by one caller at a time.
+/// A bounded list of values in an order, which one caller uses at a time. It runs the machine that
+/// the concurrent containers are compared with.
 ///
-/// Its calls are counted, a queue's puts and takes each from 0, a stack's together. A refusal
+/// A queue counts its puts and its takes each from 0. A stack counts both together. A refusal
 /// leaves the list unchanged and uses no number.
 #[derive(Drop)]
 pub struct PlainList<T> {
-    // A queue's from the front, a stack's from the top: either way the next to be taken stands
-    // first.
+    // A queue's from the front, a stack's from the top. In both, the value that the next take gives
+    // stands first.
     values: VecDeque<T>,
     capacity: u32,
     order: Order,
@@ -85,8 +85,8 @@ impl<T> Model for PlainList<T> {
 }
 
 impl<T> PlainList<T> {
-    /// An empty list for so many values, from 1 to [`MAX_LIST_CAPACITY`]. All its room is taken
-    /// here, so no later put wants memory.
+    /// An empty list with room for `capacity` values, from 1 to [`MAX_LIST_CAPACITY`]. It allocates
+    /// all its memory here, so no later put allocates. `NoMemory` if the allocator has none.
     pub fn new(alloc: Global, capacity: u32, order: Order) -> Result<PlainList<T>, MakeRefused>
         requires some { 0 < capacity }
         requires within { capacity ≤ MAX_LIST_CAPACITY }
@@ -105,9 +105,12 @@ impl<T> PlainList<T> {
         })
     }
 
-    /// Puts a value and answers the put's number. Refused with the value as `Closed` where the list
-    /// is closed, then as `Full` where it holds as many values as it has room for, then as `Spent`
-    /// where the number would reach [`COUNT_LIMIT`].
+    /// Puts a value and returns the put's number. A refusal hands the value back. The first of
+    /// these that applies:
+    ///
+    /// - `Closed`: the list is closed.
+    /// - `Full`: the list holds `capacity` values.
+    /// - `Spent`: the put's number would reach [`COUNT_LIMIT`].
     #[tactic(auto, using(crate::proofs::Showing::put_runs))]
     pub fn put(&mut self, value: T) -> Result<u64, PutRefused<T>>
         ensures answer { result ≡ plain_put self.old value }
@@ -136,10 +139,13 @@ impl<T> PlainList<T> {
         Ok(number)
     }
 
-    /// Takes the oldest value of a queue or the newest of a stack, and answers it with the take's
-    /// number. Refused as `Shut` where the list is shut, then, where it is empty, as `Closed` if it
-    /// is closed and as `Empty` if not, then as `Spent` where the number would reach
-    /// [`COUNT_LIMIT`].
+    /// Takes the oldest value of a queue or the newest of a stack. Returns it with the take's
+    /// number. The first refusal of these that applies:
+    ///
+    /// - `Shut`: the list is shut.
+    /// - `Closed`: the list is empty and closed.
+    /// - `Empty`: the list is empty and open.
+    /// - `Spent`: the take's number would reach [`COUNT_LIMIT`].
     #[tactic(auto, using(crate::proofs::Showing::take_runs))]
     pub fn take(&mut self) -> Result<(T, u64), TakeRefused>
         ensures answer { result ≡ plain_take self.old }
@@ -169,7 +175,7 @@ impl<T> PlainList<T> {
         Ok((value, number))
     }
 
-    /// Closes the list: every later put is refused. True where this call closed it.
+    /// Closes the list: it refuses every later put. True if this call closed it.
     #[tactic(auto, using(crate::proofs::Showing::close_runs))]
     pub fn close(&mut self) -> bool
         ensures answer { IsTrue result ↔ (self.old.closed ≡ false) }
@@ -179,7 +185,7 @@ impl<T> PlainList<T> {
         !mem::replace(&mut self.closed, true)
     }
 
-    /// Shuts the list: every later take is refused. True where this call shut it.
+    /// Shuts the list: it refuses every later take. True if this call shut it.
     #[tactic(auto, using(crate::proofs::Showing::shut_runs))]
     pub fn shut(&mut self) -> bool
         ensures answer { IsTrue result ↔ (self.old.shut ≡ false) }
@@ -189,14 +195,15 @@ impl<T> PlainList<T> {
         !mem::replace(&mut self.shut, true)
     }
 
-    /// Whether there is no value, whatever the list's marks.
+    /// Whether the list holds no value, closed or shut or not.
     pub fn is_empty(&self) -> bool
         ensures { IsTrue result ↔ (self.now.values ≡ []) }
     {
         self.values.is_empty()
     }
 
-    /// The values left in the order in which takes would give them, also of a shut list.
+    /// The values that the list still holds, in the order in which takes would give them. A shut
+    /// list gives them too.
     pub fn into_values(self) -> VecDeque<T>
         ensures { result.items ≡ self.values }
     {
@@ -219,8 +226,9 @@ impl<T> PlainList<T> {
 }
 
 impl<T: Drop> PlainList<T> {
-    /// Does the commands in order and answers each. Room for all replies is taken first: where
-    /// there is none the list is unchanged and the commands are dropped.
+    /// Runs the commands in order and returns the reply to each. It allocates the room for all
+    /// replies first. If there is no memory for it, the answer is `NoMemory`, the list is
+    /// unchanged, and the commands are dropped.
     pub fn run(
         &mut self,
         alloc: Global,

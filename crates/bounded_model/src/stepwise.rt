@@ -7,12 +7,12 @@ ghost use Rattle.bounded_model.specs.Stepping.{Underway, no_step, OneStep, GoesO
 use crate::{Container, PutRefused, Stepped, TakeRefused};
 use std::sync::Wait;
 
-/// A container whose calls are begun and then made step by step. Each step adds one to the steps that
-/// the call's pass has made.
+/// A container whose calls are begun and then made step by step. Each step adds one to the number
+/// of steps that the call's pass has made.
 ///
-/// To begin makes no step. A step either goes on, exactly one step further, or it ends the
-/// operation: then the pass comes back, exactly one step further, with the answer that the whole
-/// call promises from the begin on. An operation that is dropped takes its pass with it.
+/// A begin makes no step. A step either continues the operation or ends it. When the operation
+/// ends, its pass comes back with the answer. The answer keeps the contract of the whole call,
+/// counted from the begin. If an operation is dropped, its pass is dropped with it.
 ///
 /// ```text
 /// let mut op = container.begin_put(pass, value);
@@ -24,7 +24,7 @@ use std::sync::Wait;
 /// }
 /// ```
 ///
-/// So `example_stack` puts a value, and `script_replay` begins and steps every operation.
+/// `example_stack` puts a value in this way. `script_replay` begins and steps every operation.
 pub trait Stepwise<T>: Container<T> {
     type PutOp: Drop + Send;
 
@@ -39,7 +39,7 @@ pub trait Stepwise<T>: Container<T> {
     /// Whether this is a put of this value, under way on this container.
     ghost is_putting: { Self → T → Self.PutOp → Type 0 };
 
-    /// The same of a take, a close, a shut and a look.
+    /// Whether this is a take, a close, a shut or a look, under way on this container.
     ghost is_taking: { Self → Self.TakeOp → Type 0 };
 
     ghost is_closing: { Self → Self.CloseOp → Type 0 };
@@ -48,7 +48,7 @@ pub trait Stepwise<T>: Container<T> {
 
     ghost is_looking: { Self → Self.LookOp → Type 0 };
 
-    /// What the pass of an operation had seen as it was begun, and has seen by now.
+    /// The pass of an operation as the operation was begun, and as it is now.
     ghost putting: { Self.PutOp → Underway T };
 
     ghost taking: { Self.TakeOp → Underway T };
@@ -89,7 +89,7 @@ pub trait Stepwise<T>: Container<T> {
         ensures look { is_looking self.now result }
         ensures begun { looking result ≡ no_step (Self.pass by) };
 
-    /// One step of a put. The answer is a put's.
+    /// Makes one step of a put. The answer is that of `put`.
     fn step_put(
         &self,
         op: Self::PutOp,
@@ -100,7 +100,7 @@ pub trait Stepwise<T>: Container<T> {
             (λ back answer. Self.is_pass self.now back × OneStep (putting op).now (Self.pass back)
             × PutGives (Self.shape self.now) (putting op).begun x (Self.pass back) answer) };
 
-    /// One step of a take. The answer is a take's.
+    /// Makes one step of a take. The answer is that of `take`.
     fn step_take(
         &self,
         op: Self::TakeOp,
@@ -111,7 +111,7 @@ pub trait Stepwise<T>: Container<T> {
             (λ back answer. Self.is_pass self.now back × OneStep (taking op).now (Self.pass back)
             × TakeGives (Self.shape self.now) (taking op).begun (Self.pass back) answer) };
 
-    /// One step of a close. The answer is whether this operation closed the container.
+    /// Makes one step of a close. The answer is whether this operation closed the container.
     fn step_close(&self, op: Self::CloseOp) -> Stepped<Self::CloseOp, Self::Pass, bool>
         requires { is_closing self.now op }
         ensures { MatchStepped result
@@ -119,7 +119,7 @@ pub trait Stepwise<T>: Container<T> {
             (λ back closed. Self.is_pass self.now back × OneStep (closing op).now (Self.pass back)
             × CloseGives (Self.shape self.now) (closing op).begun (Self.pass back) closed) };
 
-    /// One step of a shut. The answer is whether this operation shut the container.
+    /// Makes one step of a shut. The answer is whether this operation shut the container.
     fn step_shut(&self, op: Self::ShutOp) -> Stepped<Self::ShutOp, Self::Pass, bool>
         requires { is_shutting self.now op }
         ensures { MatchStepped result
@@ -127,7 +127,7 @@ pub trait Stepwise<T>: Container<T> {
             (λ back shut. Self.is_pass self.now back × OneStep (shutting op).now (Self.pass back)
             × ShutGives (Self.shape self.now) (shutting op).begun (Self.pass back) shut) };
 
-    /// One step of a look. The answer is whether the container was empty.
+    /// Makes one step of a look. The answer is whether the container was empty.
     fn step_look(&self, op: Self::LookOp) -> Stepped<Self::LookOp, Self::Pass, bool>
         requires { is_looking self.now op }
         ensures { MatchStepped result
@@ -135,8 +135,8 @@ pub trait Stepwise<T>: Container<T> {
             (λ back empty. Self.is_pass self.now back × OneStep (looking op).now (Self.pass back)
             × LookGives (Self.shape self.now) (looking op).begun (Self.pass back) empty) };
 
-    /// Whether the container was empty at some time since its pass's last step before the call.
-    /// Called in `script_replay`.
+    /// Whether the container was empty at some time between the pass's last step before the call
+    /// and the end of the call. Called in `script_replay`.
     fn look<R: Wait>(&self, rt: &R, by: Self::Pass) -> (Self::Pass, bool)
         requires { Self.is_pass self.now by }
         ensures of { Self.is_pass self.now result.0 }

@@ -1,5 +1,5 @@
-//! What every legal history is, whoever made it: the theorems that a container's users rest on. The
-//! functions here do nothing; the contract of each is the theorem.
+//! The theorems about every legal history, whoever made it. A container's users may depend on them.
+//! The functions here do nothing: the contract of each is the theorem.
 ghost use Rattle.std.specs.Prelude.{◌≡◌, ℕ, ◌+◌, ◌≤◌, ◌++◌, ◌∷◌, List, [], length, IsPermutation};
 ghost use Rattle.bounded_model.specs.declared.history.Event.{Event};
 ghost use Rattle.bounded_model.specs.declared.history.Event.TheVariants.{TakeAll};
@@ -20,9 +20,9 @@ ghost use Rattle.bounded_model.specs.Gathers.{
   Counts,
 };
 
-/// A queue is first in, first out: what was put is what was taken and then what is there, in order, and
-/// puts and takes are numbered 0, 1, 2, .. each. So the take numbered k gives the value of the put
-/// numbered k, and each value is taken once.
+/// A queue is first in, first out. The values that were put are, in order, the values that were
+/// taken followed by the values that it holds. Puts are numbered 0, 1, 2, .., and so are takes. So
+/// the take numbered k gives the value of the put numbered k, and each value is taken once.
 pub fn queue_keeps_order<T>()
     ensures values { (c : Shape) (h : List (Event T))
         → c.order ≡ Fifo → Legal c h
@@ -33,10 +33,10 @@ pub fn queue_keeps_order<T>()
         → c.order ≡ Fifo → Legal c h → Counts (λ m. m.number) 0 (gather took_of h) }
 {}
 
-/// A stack is last in, first out: each take gives the value of
-/// the latest put that has not been taken. That value was put, and since then as many values have
-/// been taken as were put after it, and at no time more. A fold takes one value after another so,
-/// and none is left. Puts, takes and folds are numbered 0, 1, 2, .. together.
+/// A stack is last in, first out: each take gives the value of the latest put that has not been
+/// taken. Since this value was put, the number of values taken equals the number of values put
+/// after it. At no time was the number taken greater. A fold takes one value after another in this
+/// way, and leaves none. Puts, takes and folds are numbered 0, 1, 2, .. together.
 pub fn stack_keeps_order<T>()
     ensures values { (c : Shape) (newer : List (Event T)) (e : Event T) (h : List (Event T))
         → c.order ≡ Lifo → Legal c (newer ++ e ∷ h)
@@ -50,17 +50,17 @@ pub fn stack_keeps_order<T>()
         → c.order ≡ Lifo → Legal c h → Counts (λ k. k) 0 (gather number_of h) }
 {}
 
-/// The puts, takes, folds, close and shut of a legal history are by themselves, without the moves of
-/// hands, a run of one sequential list, and that list is the container's at any time. So hands say
-/// no more than when a call may be refused as full or spent.
+/// Leave out the moves of hands from a legal history. Its puts, takes, folds, close and shut are
+/// then a run of one sequential list. That list is the container's at any time. So hands matter
+/// only for when a call may be refused as full or spent.
 pub fn calls_alone_are_a_list<T>()
     ensures run { (c : Shape) (h : List (Event T)) → Legal c h → IsListRun c (without_hands h) }
     ensures list { (c : Shape) (h : List (Event T))
         → SameList (state c h) (state c (without_hands h)) }
 {}
 
-/// In either order nothing is lost and nothing comes twice: what was put is, up to the order, what
-/// was taken and what is there.
+/// In either order nothing is lost and nothing comes twice. Up to the order, the values that were
+/// put are the values that were taken and the values that the container holds.
 pub fn nothing_is_lost<T>()
     ensures { (c : Shape) (h : List (Event T))
         → Legal c h
@@ -80,7 +80,8 @@ pub fn closing_is_final<T>()
         → Legal c h → length (gather shut_of h) ≤ 1 }
 {}
 
-/// The values that are there and the cells held are together never more than the capacity.
+/// The number of values in the container plus the number of cells held is never more than the
+/// capacity.
 pub fn capacity_is_kept<T>()
     ensures { (c : Shape) (h : List (Event T))
         → Legal c h → length (state c h).values + (state c h).held ≤ c.capacity }

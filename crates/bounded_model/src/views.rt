@@ -1,12 +1,12 @@
-//! What a pass and a root know of their container's history. No value of these types is made at run
-//! time: they stand in definitions and proofs.
+//! What a pass and a root know of their container's history. A running program makes no value of
+//! these types: only definitions and proofs use them.
 
 use crate::{Event, PutRefused, TakeRefused};
 use std::collections::LinkedList;
 
-/// What one call of a pass has answered.
+/// What one call of a pass answered.
 pub enum Answered<T> {
-    /// A put of one value or of several: the number, or why it was refused, with the values.
+    /// A put of one value or of several: the number, or the refusal with the values.
     Put(Result<u64, PutRefused<LinkedList<T>>>),
     /// A take: the value and the number.
     Take(Result<(T, u64), TakeRefused>),
@@ -26,8 +26,8 @@ pub enum Answered<T> {
     Heard,
 }
 
-/// A pass: its number, the history that it has seen, how many atomic steps it has made, and what its
-/// calls have answered, the newest first.
+/// A pass: its number, the history that it has seen, how many atomic steps it has made, and the
+/// answers of its calls, the newest first.
 pub struct PassView<T> {
     pub number: u64,
     pub seen: LinkedList<Event<T>>,
@@ -35,16 +35,20 @@ pub struct PassView<T> {
     pub answers: LinkedList<Answered<T>>,
 }
 
-/// What a pass had done when it was joined: how many atomic steps it had made, and what its calls had
-/// answered.
+/// What a pass had done when it was joined: how many atomic steps it had made, and the answers of
+/// its calls.
 pub struct Work<T> {
     pub number: u64,
     pub steps: u64,
     pub answers: LinkedList<Answered<T>>,
 }
 
-/// A root: the history that it has seen, how many passes it has given, numbered from 0, of each
-/// joined pass its number and its own events, and what each of them had done.
+/// A root:
+///
+/// - `seen`: the history that it has seen.
+/// - `given`: how many passes it has given. They are numbered from 0.
+/// - `account`: the number of each joined pass, and that pass's own events.
+/// - `works`: what each joined pass had done.
 pub struct RootView<T> {
     pub seen: LinkedList<Event<T>>,
     pub given: u64,

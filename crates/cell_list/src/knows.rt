@@ -1,4 +1,4 @@
-//! What a seat knows of the list. No value of it is made at run time: it stands in views.
+//! What a seat knows of the list. A running program makes no value of it: only views use it.
 use tagged_index::Fields;
 
 pub enum Knows {

@@ -1,4 +1,4 @@
--- What a host says of its lists, and the laws that it keeps, over plain data.
+-- A host of lists, over plain data: what it tells about its lists, and the laws that it keeps.
 use Rattle.std.specs.Prelude.{◌≡◌, ◌≢◌, ℕ, ◌<◌, Bool, true, false, cond, List, [], length}
 use Rattle.atomic_table.specs.Table.{State}
 use Rattle.tagged_index.specs.Fields.{fields_of}
@@ -9,21 +9,22 @@ use Rattle.index_list.specs.declared.front.Front.{Front}
 use Rattle.index_list.specs.declared.change.Change.{Change}
 use Rattle.index_list.specs.declared.change.Change.TheVariants.{Take, TakeAll, Give, GiveChain, Mark, Shut}
 
--- A host's own words. `held`: which indexes of a list a seat with this view has in hand. `may`: a
--- seat with this view may make this kind of step on a list, under the host's own name of it (a
--- `Line`). `did`: what the seat's view is after the step, by the word found and the slots moved; an
--- exchange that loses finds another word than the one seen, and moves none. `rests`: which slots
--- may go home.
+-- A host's own words:
+-- - `held`: which indexes of a list a seat with this view has in hand.
+-- - `may`: a seat with this view may make this kind of step on a list, under the host's own name of
+--   it (a `Line`).
+-- - `did`: what the seat's view is after the step, by the word found and the slots moved. An
+--   exchange that loses finds another word than the one seen, and moves no slot.
+-- - `rests`: which slots may go home.
 pub record Host (S V Line : Type 0) : Type 1 where
   pub held : ℕ → V → List ℕ
   pub may : Line → ℕ → Kind → V → Type 0
   pub did : Line → ℕ → Kind → ℕ → List (ℕ × S) → V → V → Type 0
   pub rests : Line → ℕ → V → List (ℕ × S) → Type 0
 
--- What a seat may rest on that makes a step, of its hand and of the words that the step finds. One
--- that takes has read the link that the first index still has where the top is still the one seen.
--- One that stores into a link, or gives, has the index in hand; one that gives has stored the seen top
--- in the link of the last index that it gives
+-- What a seat that makes a step may depend on, for its hand and for the words that the step finds. A take has read the link of the first
+-- index: if the top is still the one seen, that link still stands. A store into a link, or a give, has the index in hand. A give has stored
+-- the seen top in the link of the last index that it gives.
 module _ (y : Layout) (l : ℕ) (hand : List ℕ) (word_at : ℕ → ℕ) where
   abbrev pub IsReady : Kind → Type 0
   IsReady (write_link i x) = Holds hand i
@@ -33,7 +34,7 @@ module _ (y : Layout) (l : ℕ) (hand : List ℕ) (word_at : ℕ → ℕ) where
   IsReady kind = Unit {0}
 
 module _ {S V Line : Type 0} (y : Layout) (host : Host S V Line) (holds : State S V → Type 0) where
-  -- slots that go with these indexes, or none where the list carries none
+  -- slots that go with these indexes, or none if the list carries none
   abbrev pub AreSlots : ℕ → List ℕ → List (ℕ × S) → Type 0
   AreSlots l xs zs = numbers zs ≡ cond (y.carries l) xs []
 
@@ -45,7 +46,7 @@ module _ {S V Line : Type 0} (y : Layout) (host : Host S V Line) (holds : State 
     pub home : Each (IsHome s.homes) slots
     pub goes : Goes holds (changed s (y.top l) x (emptied s.homes slots) id) (host.did line l (exchange (fields_of w) c) w slots v)
 
-  -- how an exchange goes on that finds the word it has seen, w, leaves x, and finds the list xs
+  -- what follows if an exchange finds the word it has seen, w, leaves x, and finds the list xs
   abbrev pub Won : Bool → (line : Line) (l id w x : ℕ) → Change → V → State S V → List ℕ → Type 0
   Won false line l id w x c v s xs = Takes line l id w x c v s xs
   Won true line l id w x c v s xs = (zs : List (ℕ × S)) → host.rests line l v zs → AreSlots l (given c (host.held l v)) zs

@@ -13,8 +13,8 @@ pub record Instruction (S : Type 0) : Type 0 where
   pub tells : ℕ → ℕ
 
 module _ {S : Type 0} (slots : ℕ) where
-  -- on a table of so many slots: a load of the word at, a store of new in it, and a compare-and-swap
-  -- of it from seen to new
+  -- on a table of `slots` slots: a load of the word at, a store of new in it, and a
+  -- compare-and-swap of it from seen to new
   abbrev pub load : ℕ → Instruction S
   load at = record { step = step slots at 0 0 none; leaves = λ n. n; tells = λ n. n }
 

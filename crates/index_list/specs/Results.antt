@@ -1,5 +1,5 @@
--- What the step functions tell their callers. Of a table that others change at any time a step
--- can tell how it was at that step alone: there was a table that met the rule.
+-- What the step functions tell their callers. Others change the table at any time, so a step can
+-- tell only how the table was at that step: there was a table that met the rule.
 use Rattle.std.specs.Prelude.{◌≡◌, ◌≢◌, ℕ, Bool, true, false, List, [], ◌++◌}
 use mathlib.Core.Option.{Option}
 use Rattle.atomic_table.specs.Table.{State, Me}

@@ -1,7 +1,8 @@
 //! What a compare-and-swap of a list's top is for.
 use crate::front::Front;
 
-/// A compare-and-swap of a list's top. The contracts of the step functions speak of all six alike.
+/// A compare-and-swap of a list's top. The contracts of the step functions treat all six kinds
+/// alike.
 #[derive(Clone, Copy)]
 pub enum Change {
     /// A take of the first index, whose link names this next one.
@@ -12,8 +13,8 @@ pub enum Change {
     Give(u32),
     /// A give of the whole hand, a chain that begins with this index.
     GiveChain(u32),
-    /// The first mark is set.
+    /// Sets the first mark.
     Mark,
-    /// The second mark is set.
+    /// Sets the second mark.
     Shut,
 }

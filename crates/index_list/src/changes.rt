@@ -1,6 +1,6 @@
 //! Exchanges of a list's top: takes, gives and marks. Each makes one step of the table, and returns
-//! whether it succeeded: where the top was not the one seen, nothing is changed. A list is numbered below
-//! `L`.
+//! whether it succeeded. If the top was not the one seen, the exchange changes nothing. The number
+//! of a list is below `L`.
 ghost use Rattle.std.specs.Prelude.{◌≡◌, ◌<◌, ◌≤◌, true, false, IsTrue, IsFalse};
 ghost use Rattle.tagged_index.specs.Fields.{index_of, tag_of, fields_of, raised};
 ghost use Rattle.tagged_index.specs.declared.word.TheConstants.{MAX_TAG, NULL};
@@ -16,9 +16,9 @@ use atomic_table::{Seat, Shared};
 use std::marker::Brand;
 use tagged_index::{NULL, TAG_UNIT, Tagged};
 
-/// Compare-and-swaps the loaded top for its second index, `next`, under the next tag: where it
-/// succeeds, the first index is the seat's, with its slot. It is the pop of Treiber 1986, with the
-/// tag of Boost.Lockfree; the seen tag is below the greatest, and `next` may be null.
+/// Compare-and-swaps the loaded top for its second index, `next`, under the next tag. If it
+/// succeeds, the seat has the first index, with its slot. It is the pop of Treiber 1986, with the
+/// tag of Boost.Lockfree. The seen tag is below the greatest, and `next` may be null.
 #[inline]
 pub fn try_take<S, V, K, P: ListHost<S, V, K, L>, const L: usize>(
     table: &Shared<S, V, K, P>,
@@ -44,9 +44,9 @@ pub fn try_take<S, V, K, P: ListHost<S, V, K, L>, const L: usize>(
     exchange_top::<S, V, K, P, L>(table, seat, list, seen, new, change, line)
 }
 
-/// Compare-and-swaps the loaded top for null under the next tag: where it succeeds, the whole list
-/// is the seat's, with its slots, the first or the last of the list in front, as Boost.Lockfree's
-/// `consume_all` takes it. The seen tag is below the greatest.
+/// Compare-and-swaps the loaded top for null under the next tag. If it succeeds, the seat has the
+/// whole list, with its slots. The slot of the list's first or of its last index comes in front.
+/// Boost.Lockfree's `consume_all` takes a list in this way. The seen tag is below the greatest.
 #[inline]
 pub fn try_take_all<S, V, K, P: ListHost<S, V, K, L>, const L: usize>(
     table: &Shared<S, V, K, P>,
@@ -72,10 +72,9 @@ pub fn try_take_all<S, V, K, P: ListHost<S, V, K, L>, const L: usize>(
     exchange_top::<S, V, K, P, L>(table, seat, list, seen, new, change, line)
 }
 
-/// Compare-and-swaps the loaded top for a held index: where it succeeds, the index stands before
-/// what the list was, and its slot is home. It is the push of Treiber 1986: the index's link names
-/// the seen top's index, and the tag stays, as in Boost.Lockfree, or rises, as the host says
-/// (`keeps_tag`).
+/// Compare-and-swaps the loaded top for a held index. If it succeeds, the index stands before the
+/// old list, and its slot is home. It is the push of Treiber 1986: the index's link names the seen
+/// top's index. The host says whether the tag stays, as in Boost.Lockfree, or rises (`keeps_tag`).
 #[inline]
 pub fn try_give<S, V, K, P: ListHost<S, V, K, L>, const L: usize>(
     table: &Shared<S, V, K, P>,
@@ -103,9 +102,9 @@ pub fn try_give<S, V, K, P: ListHost<S, V, K, L>, const L: usize>(
     exchange_top::<S, V, K, P, L>(table, seat, list, seen, new, change, line)
 }
 
-/// Compare-and-swaps the loaded top for the first index of the chain that is the seat's whole hand:
-/// where it succeeds, the chain stands before what the list was, and its slots are home. The
-/// chain's last link names the seen top's index. The tag stays or rises as in `try_give`.
+/// Compare-and-swaps the loaded top for the first index of the chain that is the seat's whole hand.
+/// If it succeeds, the chain stands before the old list, and its slots are home. The chain's last
+/// link names the seen top's index. The tag stays or rises as in `try_give`.
 #[inline]
 pub fn try_give_chain<S, V, K, P: ListHost<S, V, K, L>, const L: usize>(
     table: &Shared<S, V, K, P>,
@@ -133,7 +132,7 @@ pub fn try_give_chain<S, V, K, P: ListHost<S, V, K, L>, const L: usize>(
     exchange_top::<S, V, K, P, L>(table, seat, list, seen, new, change, line)
 }
 
-/// Compare-and-swaps the seen top for the same with its mark set: index, second mark and tag stay.
+/// Compare-and-swaps the seen top for the same with its mark set. Index, second mark and tag stay.
 #[inline]
 pub fn try_mark<S, V, K, P: ListHost<S, V, K, L>, const L: usize>(
     table: &Shared<S, V, K, P>,
@@ -156,7 +155,7 @@ pub fn try_mark<S, V, K, P: ListHost<S, V, K, L>, const L: usize>(
     exchange_top::<S, V, K, P, L>(table, seat, list, seen, new, Change::Mark, line)
 }
 
-/// Compare-and-swaps the seen top for the same with its second mark set: index, mark and tag stay.
+/// Compare-and-swaps the seen top for the same with its second mark set. Index, mark and tag stay.
 #[inline]
 pub fn try_shut<S, V, K, P: ListHost<S, V, K, L>, const L: usize>(
     table: &Shared<S, V, K, P>,
@@ -229,8 +228,8 @@ fn given<S, V, K, P: ListHost<S, V, K, L>, const L: usize>(
     }
 }
 
-/// The word with a new index and the next tag. There is no test of the tag, which is known to be
-/// below the greatest.
+/// The word with a new index and the next tag. It does not test the tag, which is below the
+/// greatest.
 #[inline]
 pub fn raised(seen: Tagged, index: u32) -> Tagged
     requires { (index ≤ NULL) × (tag_of seen < MAX_TAG) }

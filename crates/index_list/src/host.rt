@@ -1,4 +1,4 @@
-//! What a host says of its lists, and the laws that it keeps.
+//! A host of lists: where its lists are, and the laws that it keeps.
 ghost use Rattle.std.specs.Prelude.{◌≡◌, ◌<◌, ◌≤◌};
 ghost use Rattle.tagged_index.specs.declared.word.TheConstants.{NULL};
 ghost use Rattle.index_list.specs.Lists.{Layout};
@@ -8,10 +8,12 @@ use atomic_table::TableRule;
 
 /// A table that has `L` lists of indexes among its words.
 ///
-/// `layout` says where the lists are, and of each whether a give keeps the top's tag and whether
-/// its indexes carry a value slot. `host` has the host's own words of what its seats hold and may
-/// do, and `laws` what it keeps: one law of plain data for each kind of step. Both see the table's
-/// key, and so may tell of limits that are set when the table is made.
+/// - `layout` says where the lists are. It also says of each whether a give keeps the top's tag,
+///   and whether its indexes carry a value slot.
+/// - `host` says in the host's own words what its seats hold and may do.
+/// - `laws` has what the host keeps: one law of plain data for each kind of step.
+///
+/// `host` and `laws` see the table's key, so they may tell of limits that are set with the table.
 pub trait ListHost<S, V, K, const L: usize>: TableRule<S, V, K> {
     /// The host's own name of a step: one kind of step can stand at several places of an operation.
     type Line;

@@ -1,14 +1,17 @@
-//! Lists of indexes among the words of a table, as the free lists of Treiber 1986 and of
-//! Boost.Lockfree: a tagged top names the first index, and each index's link names the next.
+//! Lists of indexes among the words of a table, like the free lists of Treiber 1986 and of
+//! Boost.Lockfree. A tagged top names the first index, and each index's link names the next.
 //!
-//! `ListHost` says of a table where its lists are, and has a law over plain data for each kind of
-//! step. The step functions are written once for every host; each makes one step of the table. Promised: a
-//! successful take gives the first of the list, which no pass held; a successful give puts what the
-//! pass held before the list; a successful mark sets the mark and nothing else; a load gives the
-//! word as it was; a store changes the link of a held index alone.
+//! `ListHost` says where a table's lists are, and has a law over plain data for each kind of step.
+//! The step functions are written once for every host. Each makes one step of the table:
 //!
-//! What a step tells its caller, the caller's proof picks (`Telling`). `specs` has the words of
-//! such facts: the homes once slots have left them or come back, the table as a step finds it and
+//! - A successful take gives the first of the list, which no pass held.
+//! - A successful give puts what the pass held before the list.
+//! - A successful mark sets the mark and changes nothing else.
+//! - A load gives the word as it was.
+//! - A store changes only the link of a held index.
+//!
+//! The caller's proof picks what a step tells its caller (`Telling`). `specs` has the words of such
+//! facts: the homes after slots have left them or come back, and the table as a step finds it and
 //! leaves it. `proofs` shows that a step may be made, from what a rule's law says of plain data.
 #![tactic(auto)]
 

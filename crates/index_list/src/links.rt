@@ -1,4 +1,4 @@
-//! Loads of a list's top and of a link, and the store into a link, also by a load.
+//! Loads of a list's top and of a link, and stores into a link. A load can stand for such a store.
 ghost use Rattle.std.specs.Prelude.{◌≡◌, ◌<◌, ◌≤◌, IsTrue, IsFalse};
 ghost use Rattle.tagged_index.specs.declared.word.TheConstants.{NULL};
 ghost use Rattle.index_list.specs.Kinds.{read_top, read_link, write_link};
@@ -29,7 +29,7 @@ pub fn load_top<S, V, K, P: ListHost<S, V, K, L>, const L: usize>(
     Tagged::from_word(word)
 }
 
-/// Loads the link of an index, of one that the seat doesn't hold too.
+/// Loads the link of an index, also of one that the seat doesn't hold.
 #[inline]
 pub fn load_link<S, V, K, P: ListHost<S, V, K, L>, const L: usize>(
     table: &Shared<S, V, K, P>,
@@ -73,9 +73,9 @@ pub fn store_link<S, V, K, P: ListHost<S, V, K, L>, const L: usize>(
     store_as::<S, V, K, P, (usize, u32), P::Line, Brand>(table, seat, word, next, about, line);
 }
 
-/// Loads the link of a held index, and returns whether it is `next`. Where it is, this was the
-/// store of `next`, which would leave the link as it is. Else nothing was done, and the store is
-/// still to be made.
+/// Loads the link of a held index, and returns whether it is `next`. If it is, this load was the
+/// store of `next`, which would leave the link as it is. If it is not, nothing was done, and the
+/// caller must still make the store.
 #[inline]
 pub fn keep_link<S, V, K, P: ListHost<S, V, K, L>, const L: usize>(
     table: &Shared<S, V, K, P>,

@@ -1,4 +1,5 @@
-//! The value in the slot of a held index. Its slot is the seat's own: no atomic step is made.
+//! The value in the slot of a held index. The slot is the seat's own: to move its value is no
+//! atomic step.
 ghost use Rattle.std.specs.Prelude.{◌≡◌, ◌∷◌, Some, None};
 ghost use Rattle.atomic_table.specs.Table.{rest};
 

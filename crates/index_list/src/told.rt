@@ -1,5 +1,5 @@
-//! A table's steps whose telling is picked by the proof of the caller. They cost what the
-//! table's own steps do.
+//! Steps of a table: the caller's proof picks what a step tells. They cost what the table's own
+//! steps cost.
 ghost use Rattle.std.specs.Prelude.{◌≡◌, ◌↔◌, ℕ, ◌<◌, IsTrue};
 ghost use Rattle.atomic_table.specs.Table.{Step, Me};
 ghost use Rattle.index_list.specs.Instructions.{MayMake, compare_and_swap, load, store};
@@ -8,11 +8,11 @@ use atomic_table::{Play, Seat, Shared, TableRule};
 use std::marker::{Brand, PhantomData};
 use tagged_index::Tagged;
 
-/// What a step tells its caller: a fact of the step, the seat before, the word found (of a
-/// store, the word stored) and the seat after.
+/// What a step tells its caller: a fact of the step, the seat before, the word and the seat after.
+/// The word is the one that the step found. For a store it is the one stored.
 ///
-/// A caller passes `Brand` and picks the fact in its proof. A pick sees only the arguments of
-/// the call: `about` and `line` are there for it, and nothing is done with them.
+/// A caller passes `Brand` and picks the fact in its proof. A pick sees only the arguments of the
+/// call. `about` and `line` are arguments for the pick: the call does nothing with them.
 pub trait Telling<S, V> {
     ghost told: { Step S → Me S V → ℕ → Me S V → Type 0 };
 }
@@ -74,8 +74,8 @@ pub fn store_as<S, V, K, P: TableRule<S, V, K>, A: Copy, X, W: Telling<S, V>>(
     table.store::<Told<W>>(seat, at, new)
 }
 
-/// Compares the word at `at` with `seen`, swaps `new` in where they are equal, and returns whether
-/// they were.
+/// Compares the word at `at` with `seen`, and swaps `new` in if they are equal. Returns whether
+/// they were equal.
 #[inline]
 pub fn try_as<S, V, K, P: TableRule<S, V, K>, A: Copy, X, W: Telling<S, V>>(
     table: &Shared<S, V, K, P>,

@@ -1,5 +1,5 @@
--- How many of its own steps a call makes, while no other pass wins an exchange. A call that ends so, whatever
--- steps the others make, ends when it runs alone: obstruction-freedom (Herlihy, Luchangco and Moir 2003).
+-- How many of its own steps a call makes if no other pass wins an exchange. The other passes may make any other steps. A call that ends in
+-- this way also ends when it runs alone: obstruction-freedom (Herlihy, Luchangco and Moir 2003).
 use Rattle.std.specs.Prelude.{◌≡◌, ◌⊎◌, ℕ, ◌+◌, ◌==◌, if◌then◌else◌, Bool, false, not, [], ◌∷◌}
 use mathlib.Core.Option.{Option, none, some}
 use lib.ListN.{get_elem?}
@@ -31,7 +31,7 @@ module _ {M L C E : Type 0} (x : Machine M L C E) where
       then (if a.0 == p then counted a.1 else 0) + own_steps p more (next x s a)
       else 0
 
--- what holds of the line of a pass, where there is one
+-- what holds of the line of a pass, if there is one
 abbrev pub AtLine : {L C E : Type 0} → (L → Type 0) → Option (Pass L C E) → Type 0
 AtLine P none = Unit {0}
 AtLine P (some v) = P v.line

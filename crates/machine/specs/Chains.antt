@@ -1,5 +1,5 @@
--- Chains of nodes: their links, and what their slots have. A slot at home is some None where it is
--- empty, and none while a pass holds it.
+-- Chains of nodes: their links, and what their slots have. A slot at home is `some None` if it is
+-- empty. A slot is `none` while a pass holds it.
 use Rattle.std.specs.Prelude.{◌≡◌, ℕ, zero, suc, ◌==◌, if◌then◌else◌, List, [], ◌∷◌, ◌++◌, map, Option as Slot, Some, None, Bool, true, false, reverse}
 use mathlib.Core.Option.{Option, none, some}
 use Rattle.tagged_index.specs.declared.word.TheConstants.{NULL}
@@ -23,7 +23,7 @@ abbrev pub second : List ℕ → ℕ
 second [] = NULL
 second (i ∷ is) = first is
 
--- the chain that starts at x, of at most so many nodes
+-- the chain that starts at x, of at most this number of nodes
 abbrev pub chain_from : ℕ → (ℕ → ℕ) → ℕ → List ℕ
 chain_from zero link x = []
 chain_from (suc most) link x = if x == NULL then [] else x ∷ chain_from most link (link x)

@@ -20,7 +20,7 @@ module _ {T M P Q L E : Type 0} (list : IndexList P Q) where
   abbrev pub take_top : Tagged → ℕ → Won T M L E → L → Deed T M P Q L E
   take_top w k won lost = swaps list.top w (takes k) won lost
 
-  -- and where each index carries a slot, that of the index comes with it
+  -- and if each index carries a slot, that of the index comes with it
   abbrev pub take_slot : Tagged → ℕ → (List (Option (Slot T)) → Option (Then L E)) → L → Deed T M P Q L E
   take_slot w k reply lost = take_top w k (brings false (λ m. w.index ∷ []) (λ is. reply)) lost
 

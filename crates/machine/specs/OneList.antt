@@ -1,5 +1,6 @@
--- What a pass may rely on that has read the top of a list, and perhaps a link, while others step.
--- All of it is said of the tag and not of the word: a give changes the word and keeps the tag.
+-- What a pass that has read the top of a list, and perhaps a link, may depend on while other passes
+-- step. All of it speaks of the tag and not of the word, since a give changes the word and keeps
+-- the tag.
 use Rattle.std.specs.Prelude.{◌≡◌, ℕ, ◌<◌, ◌≤◌, List}
 use Rattle.machine.specs.Words.{Tagged, times}
 

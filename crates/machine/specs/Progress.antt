@@ -1,6 +1,6 @@
--- Progress without any fairness: a machine is lock-free (Herlihy 1993, there "non-blocking") where some call
--- ends whenever the passes together have made steps enough. Here with a number for "enough". Passes may stop
--- for good anywhere, and a pass that is overtaken for ever may never end its call.
+-- Progress without any fairness. A machine is lock-free (Herlihy 1993, there "non-blocking") if some call ends whenever the passes together
+-- have made enough steps. Here "enough" is a number. Passes may stop for good anywhere, and a pass that is overtaken for ever may never end
+-- its call.
 use Rattle.std.specs.Prelude.{ℕ, ◌+◌, ◌<◌, ◌≤◌, ◌==◌, if◌then◌else◌, [], ◌∷◌}
 use mathlib.Core.Option.{Option, none, some}
 use lib.ListN.{get_elem?}
@@ -63,19 +63,19 @@ module _ {M L C E : Type 0} (x : Machine M L C E) where
   abbrev pub in_call : State M L C E → ℕ
   in_call s = total (λ v. if x.is_idle v.line then 0 else 1) s.passes
 
-  -- never are more than so many passes in a call at once
+  -- never are more than `most` passes in a call at once
   abbrev pub AtOnce : ℕ → Schedule C → State M L C E → Type 0
   AtOnce most [] s = in_call s ≤ most
   AtOnce most (a ∷ more) s = (in_call s ≤ most) × AtOnce most more (next x s a)
 
-  -- where a schedule has more than so many steps, some call ends in it
+  -- if a schedule has more than `most` steps, some call ends in it
   abbrev pub SomeEnds : ℕ → Schedule C → State M L C E → Type 0
   SomeEnds most schedule s = most < steps_made schedule s → 0 < calls_ended schedule s
 
-  -- Lock-free: so it is in every schedule of so many passes after any other
+  -- Lock-free: this holds of every schedule of this number of passes after any other
   abbrev pub LockFree : ℕ → ℕ → Type 0
   LockFree passes most = (before during : Schedule C) → SomeEnds most during (after x passes before)
 
-  -- the same where no calls but these are begun
+  -- the same if no calls but these are begun
   abbrev pub LockFreeOf : (C → Type 0) → ℕ → ℕ → Type 0
   LockFreeOf Q passes most = (before during : Schedule C) → Only Q before → Only Q during → SomeEnds most during (after x passes before)

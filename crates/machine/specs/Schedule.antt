@@ -4,8 +4,8 @@ use Rattle.std.specs.Prelude.{ℕ, zero, suc, ◌+◌, if◌then◌else◌, Bool
 use mathlib.Core.Option.{Option, none, some}
 use lib.ListN.{get_elem?}
 
--- What one step does: it leaves this memory, the pass goes on at this line, and the history grows by
--- these events
+-- What one step does: it leaves this memory, the pass continues at this line, and the history grows
+-- by these events
 pub record Outcome (M L E : Type 0) : Type 0 where
   pub memory : M
   pub line : L
@@ -82,7 +82,7 @@ module _ {M L C E : Type 0} (x : Machine M L C E) where
   abbrev pub first_pass : ℕ → Pass L C E
   first_pass p = record { line = x.rest p; call = none; begun = []; seen = [] }
 
-  -- so many passes, from pass p on
+  -- this number of passes, from pass p on
   abbrev pub first_passes : ℕ → ℕ → List (Pass L C E)
   first_passes p zero = []
   first_passes p (suc k) = first_pass p ∷ first_passes (p + 1) k
@@ -90,6 +90,6 @@ module _ {M L C E : Type 0} (x : Machine M L C E) where
   abbrev pub start : ℕ → State M L C E
   start passes = record { memory = x.first; passes = first_passes 0 passes; history = [] }
 
-  -- the state after a schedule of so many passes
+  -- the state after a schedule of this number of passes
   abbrev pub after : ℕ → Schedule C → State M L C E
   after passes schedule = run schedule (start passes)

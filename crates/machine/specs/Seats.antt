@@ -1,5 +1,5 @@
--- What the seats of a container know together: each pass's events are known to one seat, and no pass
--- is known to two.
+-- What the seats of a container know together. One seat knows the events of each pass, and no two
+-- seats know those of the same pass.
 use Rattle.std.specs.Prelude.{◌≡◌, ◌≢◌, ℕ, ◌+◌, ◌<◌, ◌≤◌, ◌⊎◌, List, [], ◌∷◌, map}
 use Rattle.std.specs.List.{AllByRecursion as Every}
 use mathlib.Core.Option.{some}
@@ -107,7 +107,7 @@ pub record Shares (L : Type 0) : Type 0 where
   -- the line of a seat in which two passes meet
   pub both : L → L → L
 
--- where all passes are alike between their operations
+-- if all passes are alike between their operations
 abbrev pub all_alike : {L : Type 0} → L → Shares L
 all_alike idle = record { none = idle; gives = λ l. (l, idle); takes = λ l k. l; both = λ k l. idle }
 

@@ -1,6 +1,7 @@
-//! What the seats of a container's table know: who answers for which pass's events, and how that is
-//! handed on when passes are split off, meet and are joined. It knows neither words nor steps, so
-//! it serves every container. No value of these types is made at run time: they stand in views.
+//! What the seats of a container's table know: which seat answers for which pass's events, and how
+//! seats hand this on when passes are split off, meet and are joined. This module knows neither
+//! words nor steps, so it serves every container. A running program makes no value of these types:
+//! only views use them.
 
 use bounded_model::{Event, PassView, RootView};
 use std::collections::LinkedList;
@@ -11,21 +12,22 @@ pub enum Doing<L> {
     Begins(L),
     /// It makes the step of its line.
     Steps,
-    /// It loads a word in an operation, and that belongs to no line.
+    /// It loads a word in an operation. The load belongs to no line.
     Looks,
     /// It loads a word between its operations, to see what others have done.
     Hears,
 }
 
-/// What a pass knew as its operation was begun: itself as it was, and what all passes had done by then.
-/// And what they have done by its last step. Of both the newest stands first.
+/// What a pass knew as its operation was begun: the pass as it was, and what all passes had done by
+/// then. It also has what they had done by the pass's last step. In both lists the newest stands
+/// first.
 pub struct Begun<T, L> {
     pub view: PassView<T>,
     pub before: LinkedList<(u64, Doing<L>)>,
     pub now: LinkedList<(u64, Doing<L>)>,
 }
 
-/// What one seat knows; `L` is what the passes of this container are at between two steps.
+/// What one seat knows. `L` is where a pass of this container is between two steps.
 pub enum View<T, L> {
     /// The root, what the pass that it has just joined had seen, and its line.
     AtRoot(RootView<T>, LinkedList<Event<T>>, L),

@@ -57,10 +57,11 @@ pub record Takes {T : Type 0} (v w : PassView T) (taken : List T) : Type 0 where
   pub closes : did close_of w ≡ did close_of v
   pub shuts : did shut_of w ≡ did shut_of v
 
--- of so many items some were not put only where there was no room for all, or a tag met its limit
+-- some of `count` items were not put only if `count` is above the capacity, or at least half of the
+-- tag limit
 abbrev pub WhyUnsent : {T : Type 0} → Shape → ℕ → List T → Type 0
 WhyUnsent c count unsent = (unsent ≡ []) ⊎ ((c.capacity < count) ⊎ (c.limit ≤ 2 * count))
 
--- some were not taken only where a tag met its limit
+-- some were left only if `count` is at least half of the tag limit
 abbrev pub WhyLeft : {T : Type 0} → Shape → ℕ → List T → Type 0
 WhyLeft c count left = (left ≡ []) ⊎ (c.limit ≤ 2 * count)

@@ -40,7 +40,7 @@ pub fn carry_all<T: Drop, C: Container<T>, W: Wait>(
     ensures each_once { IfOk result
         (λ r. IsPermutation items.items (all_of r.taken.items r.left.items r.unsent.items)) }
 
-    // Over a queue, in their order.
+    // Over a queue the items keep their order.
     ensures in_order { C.ORDER ≡ Fifo
         → IfOk result (λ r. all_of r.taken.items r.left.items r.unsent.items ≡ items.items) }
     ensures unsent { IfOk result (λ r. WhyUnsent (C.shape c) (length items.items) r.unsent.items) }

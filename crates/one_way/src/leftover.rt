@@ -1,4 +1,4 @@
-//! What is left.
+//! The values that a finished container still holds.
 
 ghost use Rattle.std.specs.Prelude.{◌≡◌, IfOk};
 

@@ -1,9 +1,10 @@
-//! A client of any bounded container: one pass puts the items in order and closes, another takes
-//! until nothing will follow, both are joined, and the container is finished.
+//! A client of any bounded container. One pass puts the items in order and closes. Another takes
+//! until nothing will follow. Then both are joined, and the container is finished.
 //!
-//! Only the laws of `Container` are known here. From them alone it is proved that nothing is lost
-//! and nothing comes twice, over a queue in the order of the items, and that something stays behind
-//! only where the container was too small, or a tag met its limit.
+//! This crate knows only the laws of `Container`. From them alone its proofs show that nothing is
+//! lost and nothing comes twice. Over a queue the items come in their order. Some items stay unsent
+//! only if the number of items is above the capacity or at least half of the tag limit. Values stay
+//! left in the container only if the number of items is at least half of the tag limit.
 #![tactic(auto)]
 
 mod carry;

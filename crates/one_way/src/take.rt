@@ -8,7 +8,7 @@ use std::alloc::{AllocError, Global};
 use std::sync::Wait;
 use waiting::take_all_until_closed;
 
-// The values with one more at the end. Where there was no memory for one, none is kept any more.
+// The values with one more at the end. If there was no memory for one of them, none is kept.
 fn with_value<T: Drop>(taken: Result<Vec<T>, AllocError>, value: T) -> Result<Vec<T>, AllocError>
     ensures { IfOk result (λ all. MatchResult taken
         (λ before. all.items ≡ before.items ++ value ∷ [])

@@ -1,5 +1,5 @@
--- A pure machine as any number of passes run it, each with its own line: the acts that led to a state, the newest first. What a
--- container's table stands for is such a state (`Led`).
+-- A pure machine that any number of passes run, each with its own line. A state comes with the acts that led to it, the newest first. A
+-- container's table stands for such a state (`Led`).
 use Rattle.std.specs.Prelude.{◌≡◌, ℕ, ◌+◌, ◌≤◌, ◌==◌, if◌then◌else◌, true, false, List, [], ◌∷◌, ◌++◌}
 use Rattle.std.specs.List.{AllByRecursion as Every}
 use mathlib.Core.Option.{some}
@@ -126,7 +126,7 @@ module _ {T L O : Type 0} (names : Names L O) (c : Core T L O) where
   answers_in x [] = []
   answers_in x (a ∷ older) = if x == a.0 then answers_after (played older) a.0 a.1 (answers_in x older) else answers_in x older
 
-  -- pass x has made so many steps in these acts, and its calls have answered this
+  -- pass x has made this number of steps in these acts, and its calls have answered this
   pub record HasDone (acts : Acts L) (x steps : ℕ) (answers : List (Answered T)) : Type 0 where
     pub steps_are : steps ≡ made x acts
     pub answers_are : answers ≡ answers_in x acts
@@ -166,7 +166,7 @@ module _ {T L O : Type 0} (names : Names L O) (c : Core T L O) where
   IsAt by_steps (AtPass p begun l) = IsSame by_steps l
   IsAt by_steps v = names.is_idle by_steps ≡ true
 
-  -- Of each number that a seat answers for, the pass is at the seat's line, and idle where the seat is not a pass's
+  -- For each number that a seat answers for, the pass is at the seat's line. It is idle if the seat is not a pass's
   pub record Follows (line : ℕ → L) (acts : Acts L) (v : View T L) : Type 0 where
     pub lines : (x : ℕ) → Owns v x → IsAt (line x) v
     pub counts : Counts acts v

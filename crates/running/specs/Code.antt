@@ -1,4 +1,4 @@
--- What the code of an operation has to do with its machine.
+-- How the code of an operation follows its machine.
 use Rattle.std.specs.Prelude.{◌≡◌, ℕ, ◌<◌, ◌≤◌, Bool, false, true, List, [], ◌++◌, Option as Slot}
 use mathlib.Core.Option.{some}
 use Rattle.tagged_index.specs.Fields.{fields_of, index_of, tag_of}
@@ -68,7 +68,7 @@ module _ {T L O : Type 0} (c : Core T L O) where
   FoundBy (stows at) l r had has found came = (found ≡ r.word) × (has ≡ []) × (came ≡ had)
   FoundBy deed l r had has found came = (found ≡ r.word) × (has ≡ had) × (came ≡ [])
 
-  -- what an operation is told that goes on
+  -- what an operation that continues is told
   abbrev pub CameBy : Deed → L → Outcome → List (ℕ × Slot T) → List (ℕ × Slot T) → Type 0
   CameBy (swaps at old new side) l r had has = (found : ℕ) × (came : List (ℕ × Slot T)) × FoundBy (swaps at old new side) l r had has found came × c.Says l found
   CameBy (fetches at) l r had has = (found : ℕ) × (came : List (ℕ × Slot T)) × FoundBy (fetches at) l r had has found came × c.Says l found
@@ -114,7 +114,7 @@ abbrev pub to_answer : {T L O S A : Type 0} → (S → O) → (S → L) → (S �
 to_answer operation line slots knows answer = record { operation = operation; line = line; slots = slots; knows = knows; answer = answer; rest = λ a. []; told = λ s a. Unit {0} }
 
 module _ {T L O S A : Type 0} (names : Names L O) (c : Account T L O S A) where
-  -- it goes on at s', as the machine at l
+  -- it continues at s', as the machine at l
   pub record GoesTo (s : S) (l : L) (has : List (ℕ × Slot T)) (s' : S) : Type 0 where
     pub same : c.operation s' ≡ c.operation s
     pub is : l ≡ c.line s'
@@ -122,7 +122,7 @@ module _ {T L O S A : Type 0} (names : Names L O) (c : Account T L O S A) where
     pub hand : has ≡ c.slots s'
     pub knows : c.knows s'
 
-  -- or stops: its machine has answered too, or is at a line at which the caller has to act
+  -- or stops: its machine has answered too, or is at a line at which the caller must act
   pub record Answers (s : S) (l : L) (has : List (ℕ × Slot T)) (a : A) : Type 0 where
     pub is : l ≡ c.answer (c.operation s) a
     pub hand : has ≡ left (names.is_idle (c.answer (c.operation s) a)) (c.rest a)
@@ -130,6 +130,6 @@ module _ {T L O S A : Type 0} (names : Names L O) (c : Account T L O S A) where
   abbrev pub Leads : S → L → List (ℕ × Slot T) → Next S A → Type 0
   Leads s l has r = MatchNext r (GoesTo s l has) (Answers s l has)
 
--- What is told of an operation that was at s: what it has stopped with, or whatever is told of where it goes on
+-- What is told of an operation that was at s: what it has stopped with, or what is told of the state in which it continues
 abbrev pub Tells : {S A : Type 0} → (S → A → Type 0) → S → Next S A → Type 0
 Tells {A = A} Told s r = MatchNext r (λ s'. (a : A) → Told s' a → Told s a) (Told s)

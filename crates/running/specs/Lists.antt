@@ -1,4 +1,4 @@
--- A machine some of whose lines are steps on lists of indexes.
+-- A machine that has lines which are steps on lists of indexes.
 use Rattle.std.specs.Prelude.{◌≡◌, ℕ, ◌<◌, Bool, true, false, List, [], ◌∷◌, length, slice_index, Option as Slot}
 use mathlib.Core.Option.{Option, none, some}
 use lib.ListN.{get_elem?}
@@ -83,7 +83,7 @@ module _ {L : Type 0} (y : Lists L) where
   step_access a none = a
   step_access a (some z) = kind_access y.layout z.0 z.1
 
-  -- what its pass may rest on
+  -- what its pass may depend on
   abbrev pub Ready : List ℕ → L → Option (ℕ × Kind) → Type 0
   Ready words line none = Unit {0}
   Ready words line (some z) = IsReady y.layout z.0 (y.held z.0 line) (λ at. slice_index words at) z.1
@@ -95,7 +95,7 @@ module _ {L : Type 0} (y : Lists L) where
     pub free : (q : ℕ) (line : L) → get_elem? lines q ≡ some line → Disjoint xs (y.held l line)
 
 module _ {T L : Type 0} (y : Lists L) where
-  -- the slots that an exchange brings, where the list carries slots, are those of the indexes that it takes
+  -- the slots that an exchange brings, if the list carries slots, are those of the indexes that it takes
   abbrev pub Bringing : Bool → List ℕ → List (ℕ × Slot T) → ℕ → Kind → Type 0
   Bringing true words zs l (exchange w (Take k)) = numbers zs ≡ w.index ∷ []
   Bringing true words zs l (exchange w (TakeAll front)) = fields_of (slice_index words (y.layout.top l)) ≡ w → (xs : List ℕ) → Leads (λ i. slice_index words (y.layout.link l i)) (index_of (slice_index words (y.layout.top l))) xs NULL → numbers zs ≡ in_order front xs

@@ -30,7 +30,7 @@ module _ {T L O S A : Type 0} {names : Names L O} (m : Machine T L O names) (c :
     pub stands : Stands m c id op.pass op.at
 
   module _ (Promises : O → PassView T → PassView T → A → Type 0) where
-    -- what a step gives: it goes on as the same operation, or has given what it promises; the step was that of its line
+    -- what a step gives: it continues as the same operation, or has given what it promises; the step was that of its line
     abbrev pub OpStep : Op T L O S → Stepped (Op T L O S) (Pass T L) A → Type 0
     OpStep op r = MatchStepped r
         (λ next. IsUnderWay next × GoesOn (underway_of m op.pass) (underway_of m next.pass) × (next.operation ≡ op.operation)
@@ -38,7 +38,7 @@ module _ {T L O S A : Type 0} {names : Names L O} (m : Machine T L O names) (c :
         (λ back a. IsPassOn m id back × OneStep (pass_in op.pass) (pass_in back) × Promises op.operation (begun_of m op.pass) (pass_in back) a
         × IsLine m op.pass.seat.me.0 back.seat.me.0 (c.line op.at) (c.answer op.operation a))
 
-    -- What n steps give: it goes on as the same operation after exactly so many, or has given what it promises after at most so many
+    -- What n steps give: it continues as the same operation after exactly n, or has given what it promises after at most n
     abbrev pub OpRan : ℕ → Op T L O S → Stepped (Op T L O S) (Pass T L) A → Type 0
     OpRan n op r = MatchStepped r
         (λ next. IsUnderWay next × (begun_of m next.pass ≡ begun_of m op.pass) × (next.operation ≡ op.operation)

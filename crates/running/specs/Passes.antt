@@ -74,6 +74,6 @@ module _ {T L O : Type 0} {names : Names L O} (m : Machine T L O names) where
   abbrev pub OneLine : Pass T L → Pass T L → L → L → Type 0
   OneLine p q l l' = IsLine m p.seat.me.0 q.seat.me.0 l l' × OneStep (pass_in p) (pass_in q)
 
-  -- and its operation goes on
+  -- and its operation continues
   abbrev pub WentOn : Pass T L → Pass T L → L → L → Type 0
   WentOn p q l l' = (begun_of q ≡ begun_of p) × OneLine p q l l'

@@ -28,7 +28,8 @@ module _ {T L O : Type 0} {names : Names L O} (m : Machine T L O names) where
       pub at : IsAtOn m id (c.operation s) p (c.line s) (c.slots s)
       pub knows : c.knows s
 
-    -- The operation o, begun as the pass was `begun`, has stopped with a: its machine has answered too, or is at a line at which the caller has to act
+    -- The operation o, begun as the pass was `begun`, has stopped with a: its machine has answered too, or is at a line at which the caller
+    -- must act
     abbrev pub StopsAt : Bool → O → PassView T → Pass T L → A → Type 0
     StopsAt true o begun q a = IsPassOn m id q × Ended m o q.seat.me.0 begun (c.answer o a)
     StopsAt false o begun q a = IsAtOn m id o q (c.answer o a) (c.rest a) × (begun_of m q ≡ begun)
@@ -56,7 +57,7 @@ module _ {T L O : Type 0} {names : Names L O} (m : Machine T L O names) where
     RanFor o p (Again next) = Ran o p next.0 (On next.1)
     RanFor o p (Done' back a) = Ran o p back (Done a)
 
--- So many steps were to be made: the operation goes on after exactly so many, or has stopped after at most so many
+-- n steps were to be made: the operation continues after exactly n, or has stopped after at most n
 abbrev pub TookFor : {T L S A : Type 0} → ℕ → Pass T L → Stepped (Pass T L × S) (Pass T L) A → Type 0
 TookFor n p (Again next) = (pass_in next.0).steps ≡ (pass_in p).steps + n
 TookFor n p (Done' back a) = (pass_in back).steps ≤ (pass_in p).steps + n

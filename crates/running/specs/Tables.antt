@@ -1,4 +1,4 @@
--- A machine that is given as data, on a table: where its words lie, and what follows of it for each line.
+-- A machine that is given as data, on a table: where its words lie, and what follows from this for each line.
 use Rattle.std.specs.Prelude.{◌≡◌, ◌≢◌, ◌⊎◌, ℕ, ◌<◌, ◌≤◌, Bool, true, false, if◌then◌else◌, List, [], ◌∷◌, map, length, slice_index, Option as Slot}
 use mathlib.Core.Option.{Option, none, some}
 use lib.ListN.{get_elem?}
@@ -22,7 +22,7 @@ pub record Layout (P Q : Type 0) : Type 0 where
   pub words : ℕ
   pub slots : ℕ
 
--- what a slot's place has: its value where it is at home, else nothing
+-- what a slot's place has: its value if it is at home, else nothing
 abbrev pub at_home : {S : Type 0} → Option (Option S) → Option S
 at_home none = none
 at_home (some x) = x

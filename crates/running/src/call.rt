@@ -1,4 +1,4 @@
-//! What an operation promises that ends with its answer.
+//! Operations that stop only with an answer, and what that answer promises.
 ghost use Rattle.std.specs.Prelude.{◌≡◌, ◌<◌, true};
 ghost use Rattle.bounded_model.specs.declared.views.PassView.{PassView};
 ghost use Rattle.machine.specs.declared.seats.View.{View};
@@ -13,7 +13,7 @@ use atomic_table::Shared;
 use machine::View;
 use tagged_index::Limits;
 
-/// What lends its table.
+/// A container that lends its table.
 pub trait HasTable<T, L, O, M: Machine<T, L, O>>: OnTable {
     /// Its table.
     fn table(&self) -> &Shared<Option<T>, View<T, L>, Limits, Running<O, M>>
@@ -31,15 +31,15 @@ pub trait Call<C: OnTable, T, L, O, M: ListMachine<T, L, O, N>, A, const N: usiz
     A,
     N,
 > {
-    /// What its answer tells: of which operation, what its pass had seen as it was begun, and has
-    /// seen by now.
+    /// What its answer tells. It speaks of the operation, of the pass as the operation was begun,
+    /// and of the pass as it is now.
     ghost promises: { Limits → O → PassView T → PassView T → A → Type 0 };
 
-    /// Its answer is its machine's.
+    /// The machine is idle at the line of its answer.
     ghost idle: { (key : Limits) (o : O) (a : A) → M.names.is_idle ((Self.account key).answer o a)
         ≡ true };
 
-    /// And tells that.
+    /// When it has ended, its answer tells what `promises` says.
     ghost keeps: { (key : Limits) (at : Self) (v : View T L) (begun : PassView T) (a : A)
         → Ended (M.machine key) ((Self.account key).operation at) v begun
         ((Self.account key).answer ((Self.account key).operation at) a)

@@ -17,8 +17,8 @@ use machine::View;
 use std::sync::Wait;
 use tagged_index::Limits;
 
-/// Goes on from the first steps of an operation until it stops, with a wait wherever another was
-/// faster.
+/// Continues from the first steps of an operation until it stops, with a wait whenever another pass
+/// was faster.
 #[inline(always)]
 pub fn to_the_end<
     R: Wait,
@@ -52,8 +52,8 @@ pub fn to_the_end<
     }
 }
 
-// The same where it has not stopped in its first steps. A function of its own, so that a caller's code
-// has nothing but the fast path.
+// Like `to_the_end`, for an operation that has not stopped in its first steps. It is a function of
+// its own, so that a caller's code has only the fast path.
 #[inline(never)]
 fn go_on<
     R: Wait,
@@ -148,8 +148,8 @@ fn run_on<
     unreachable!()
 }
 
-/// Leaves an operation under way after its first steps, with a wait where another was faster. Where
-/// they have ended it, there is nothing to go on with.
+/// Leaves an operation under way after its first steps, with a wait if another pass was faster. If
+/// the first steps have ended it, the answer comes back.
 #[inline(always)]
 pub fn at_once<
     C: OnTable,
@@ -179,8 +179,8 @@ pub fn at_once<
     }
 }
 
-/// Goes on from the first steps of an operation, for at most so many more, with a wait wherever
-/// another was faster. Where they are used up, the operation comes back as it is.
+/// Continues from the first steps of an operation, for at most `steps` more, with a wait whenever
+/// another pass was faster. If it has not stopped after `steps` more, it comes back as it is.
 #[inline(always)]
 pub fn try_for<
     C: OnTable,
@@ -220,7 +220,7 @@ pub fn try_for<
     }
 }
 
-// Makes at most so many steps of an operation that is under way.
+// Makes at most `steps` steps of an operation that is under way.
 #[inline(never)]
 fn run_for<
     C: OnTable,

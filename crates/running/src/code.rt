@@ -9,32 +9,33 @@ use crate::lists::ListMachine;
 use atomic_table::Seat;
 use machine::View;
 
-/// Where an operation goes on.
+/// What an operation does after a step.
 pub enum Next<S, A> {
-    /// At this.
+    /// It continues in this state.
     On(S),
-    /// At this, since another was faster.
+    /// It continues in this state, and another pass was faster.
     Lost(S),
-    /// It has stopped with this: it has answered, or the caller has to act before it goes on.
+    /// It has stopped with this: it has answered, or its caller must act before it continues.
     Done(A),
 }
 
-/// What has a table of atomic words.
+/// A container, with its table of atomic words.
 pub trait OnTable {
-    /// What it is made with, and which table it is.
+    /// The limits that it was made with, and which table it is.
     ghost key: { Self → Limits };
 
     ghost id: { Self → TableId };
 }
 
-/// The states of an operation on a container `C` of a machine `M` with `N` lists, between two of its
-/// atomic steps: `access` says what the next step does, `next` where it goes on. Its answer is an `A`.
+/// The states of an operation between two of its atomic steps, on a container `C` of a machine `M`
+/// with `N` lists. `access` says what the next step does, and `next` says where it leads. The
+/// answer is an `A`.
 pub trait Code<C: OnTable, T, L, O, M: ListMachine<T, L, O, N>, A, const N: usize>: Sized {
-    /// How it is read.
+    /// How proofs read its states.
     ghost account: { Limits → Account T L O Self A };
 
-    /// Whether this answer refuses what was asked for. Its caller then does something else before
-    /// it asks again.
+    /// Whether this answer refuses what the caller asked for. The caller then does something else
+    /// before it asks again.
     #[inline]
     fn is_refusal(answer: &A) -> bool {
         let _ = answer;
@@ -47,8 +48,8 @@ pub trait Code<C: OnTable, T, L, O, M: ListMachine<T, L, O, N>, A, const N: usiz
         ensures { IsAccess (M.machine (C.key on.now)).core M.lists N (C.id on.now).words
             ((account (C.key on.now)).line self.now) ((account (C.key on.now)).slots self.now) result };
 
-    /// Where it goes on from a step that came to this. The value in a slot that came may be moved
-    /// out here, and one be moved in; nothing else is done to the table.
+    /// Where a step with this outcome leads. It may move the value out of a slot that came, or a
+    /// value in. It does nothing else to the table.
     fn next(self, on: &C, seat: &mut Seat<Option<T>, View<T, L>>, outcome: Outcome) -> Next<Self, A>
         requires table { seat.old.table_id ≡ C.id on.now }
         requires knows { (account (C.key on.now)).knows self }

@@ -1,7 +1,8 @@
 //! How a whole call goes from one step to the next on its fast path.
 
-/// What the operation is at next; or what it has there, if its step leads where it is said to.
-/// Where the step leads elsewhere, the function returns what it gave.
+/// The state that the operation continues in. If the caller names a line, it is what the operation
+/// has read at that line. If the step leads elsewhere, the calling function returns what the step
+/// gave.
 #[macro_export]
 macro_rules! fast_step {
     ($step:expr) => {

@@ -1,7 +1,7 @@
-//! The layer between a pure machine and a table of atomic words, written once for all containers:
-//! what access each line of the machine makes, how a step of it is made on the table, and what that
-//! tells the pass. A container shows its machine (`Machine`), and makes its operations of the step
-//! functions here.
+//! The layer between a pure machine and a table of atomic words, written once for all containers.
+//! It says what access each line of the machine makes, how the table makes a step of it, and what
+//! the step tells the pass. A container gives its machine (`Machine`), and builds its operations
+//! from the step functions here.
 #![tactic(auto)]
 
 mod access;

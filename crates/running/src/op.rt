@@ -1,4 +1,4 @@
-//! An operation that was begun, on any container: one type for all that a machine has.
+//! An operation that was begun, on any container: one type for all operations of a machine.
 ghost use Rattle.std.specs.Prelude.{◌≡◌, ◌<◌};
 ghost use Rattle.running.specs.Ops.{IsFirst, IsUnderWay, OpStep, OpRan, underway_of};
 ghost use Rattle.bounded_model.specs.Stepping.{no_step};
@@ -22,7 +22,7 @@ pub struct Op<T, L, O, S> {
 }
 
 impl<T, L, O: Drop, S> Op<T, L, O, S> {
-    /// An operation that makes no step yet, at its first.
+    /// Begins an operation in its first state. It makes no step yet.
     #[inline]
     pub fn begin<C: OnTable, M: ListMachine<T, L, O, N>, A, const N: usize>(
         on: &C,
@@ -48,7 +48,7 @@ impl<T, L, O: Drop, S> Op<T, L, O, S> {
         }
     }
 
-    /// One step of the machine, which is one act of its pass.
+    /// Makes one step of the machine, which is one act of its pass.
     #[inline]
     pub fn step<C: HasTable<T, L, O, M>, M: ListMachine<T, L, O, N>, A, const N: usize>(
         self,
@@ -76,7 +76,7 @@ impl<T, L, O: Drop, S> Op<T, L, O, S> {
         }
     }
 
-    /// Goes on for at most so many steps, with a wait after each compare-and-swap that failed.
+    /// Makes at most `steps` steps, with a wait after each compare-and-swap that failed.
     #[inline]
     pub fn run_for<C: HasTable<T, L, O, M>, M: ListMachine<T, L, O, N>, A, const N: usize>(
         self,

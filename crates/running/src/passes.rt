@@ -20,14 +20,15 @@ use atomic_table::{Seat, Shared};
 use machine::seats::View;
 use tagged_index::Limits;
 
-/// Steps on a container. At run time it is the four bytes that it knows of its caller.
+/// A pass: it makes steps on a container. At run time it is the four bytes that it knows of its
+/// caller.
 #[derive(Drop)]
 pub struct Pass<T, L> {
     pub seat: Seat<Option<T>, View<T, L>>,
     pub(crate) density: Density,
 }
 
-/// Gives passes and takes them back.
+/// A root: it gives passes and takes them back.
 #[derive(Drop)]
 pub struct Root<T, L> {
     pub seat: Seat<Option<T>, View<T, L>>,
@@ -35,14 +36,14 @@ pub struct Root<T, L> {
     pub out: u32,
 }
 
-/// What a pass had seen as it was made. It has no bytes.
+/// A note: what a pass had seen when the note was made. It has no bytes.
 #[derive(Drop)]
 pub struct Note<T, L> {
     pub seat: Seat<Option<T>, View<T, L>>,
 }
 
-/// A new pass, which has seen what the root has; `None` exactly where `most` are out, which is as
-/// many as may be at one time.
+/// Gives a new pass, which has seen what the root has. `None` exactly if `most` passes are out, the
+/// most that the container allows at one time.
 pub fn split<T, L, O, M: Machine<T, L, O>>(
     table: &Shared<Option<T>, View<T, L>, Limits, Running<O, M>>,
     parent: &mut Root<T, L>,
@@ -73,8 +74,9 @@ pub fn split<T, L, O, M: Machine<T, L, O>>(
     })
 }
 
-/// The first pass has now seen what either had; the second comes back as it was. The answer is
-/// always true, since the table never lacks a seat.
+/// Lets the first pass see what the second has seen. The second comes back as it was. This code
+/// always answers true, since the table never lacks a seat. The contract also allows false, with
+/// the first pass as it was.
 pub fn meet<T, L, O, M: Machine<T, L, O>>(
     table: &Shared<Option<T>, View<T, L>, Limits, Running<O, M>>,
     first: &mut Pass<T, L>,
@@ -97,8 +99,8 @@ pub fn meet<T, L, O, M: Machine<T, L, O>>(
     (Pass { seat, density }, true)
 }
 
-/// What the pass has seen, as a value of its own. The answer is always some note, since the table
-/// never lacks a seat.
+/// Makes a note of what the pass has seen. This code always makes one, since the table never lacks
+/// a seat. The contract also allows `None`.
 pub fn make_note<T, L, O, M: Machine<T, L, O>>(
     table: &Shared<Option<T>, View<T, L>, Limits, Running<O, M>>,
     by: &mut Pass<T, L>,
@@ -131,7 +133,7 @@ pub fn heed<T, L, O, M: Machine<T, L, O>>(
     let Note { seat } = note;
     join_seats::<T, L, O, M>(table, &mut by.seat, seat);
     look_round::<T, L, O, M>(table, &mut by.seat);
-    // What is cut off is the note again.
+    // The seat that is cut off is the note again.
     let _ = split_seat::<T, L, O, M>(table, &mut by.seat);
 }
 

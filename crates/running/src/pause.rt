@@ -1,6 +1,6 @@
-//! Waiting after a failed compare-and-swap. A thread that waits lets the one that succeeded keep
-//! its cache lines: that serves threads which do nothing but put and take, and hurts where callers
-//! are away between their calls, at other work. So a pass remembers which of the two its caller is.
+//! Waiting after a failed compare-and-swap. If a thread waits, the thread that succeeded keeps its
+//! cache lines. This helps threads that do nothing but put and take. It hurts if callers do other
+//! work between their calls. So a pass remembers which of the two its caller does.
 ghost use Rattle.std.specs.Prelude.{◌≡◌, ◌≢◌, ◌<◌, ◌≤◌};
 ghost use Rattle.running.specs.Density.{evidence_of};
 ghost use Rattle.running.specs.declared.pause.TheConstants.{DENSE, MOST_HINTS};
@@ -12,43 +12,43 @@ use machine::View;
 use std::hint;
 use tagged_index::{Limits, Tagged};
 
-/// The word that is looked at. In every table it is the top of the free cells or nodes, which each
-/// put and each take of a value changes.
+/// The word that a pass looks at. In every table it is the top of the free cells or nodes. Each put
+/// and each take of a value changes it.
 const WATCHED: usize = 0;
 
-/// One of so many calls in which a compare-and-swap failed makes the pass look: that costs two
-/// loads.
+/// How many calls with a failed compare-and-swap come to one look. A look costs two loads.
 const CALLS_A_LOOK: u8 = 4;
 
-/// The evidence from which on a pass waits. Each look that finds the word unchanged adds one.
+/// A pass waits if its evidence is at least this. Each look that finds the word unchanged adds one.
 const DENSE: u8 = 8;
 
-/// The most evidence that a pass has, so that a caller who goes to work is soon found out.
+/// The most evidence that a pass has. With this bound a pass soon notices that its caller does
+/// other work.
 const MOST_EVIDENCE: u8 = 24;
 
-/// What a look takes away that finds the word changed. One that finds it unchanged says less, since
-/// the others too may have been away.
+/// How much evidence a look takes away if it finds the word changed. An unchanged word adds less,
+/// since the other threads may have been away too.
 const CHANGE: u8 = 4;
 
-/// How many spin hints the first wait of a call gives the processor. It is short: of two threads at
-/// a small container each soon needs what the other takes or puts.
+/// How many spin hints the first wait of a call gives the processor. It is short: if two threads
+/// share a small container, each soon needs what the other takes or puts.
 const FIRST_HINTS: u32 = 80;
 
-/// The second wait's. A call that fails again keeps out of the others' way.
+/// How many the second wait gives. A call that fails again keeps out of the other threads' way.
 const SECOND_HINTS: u32 = 320;
 
-/// Each further wait's, which takes some microseconds. No wait is longer.
+/// How many each further wait gives. It takes some microseconds, and no wait is longer.
 const MOST_HINTS: u32 = 640;
 
 /// What a pass knows of its caller: whether its calls follow one another closely. It is one number,
-/// so that it is moved as one: the evidence, then the failures, then the hash, and then the mark
-/// that says that a call has something to look at, or has failed.
+/// so that it moves as one. It holds the evidence, then the failures, then the hash, and then the
+/// mark. The mark says that a call has something to look at, or that a compare-and-swap has failed.
 #[derive(Clone, Copy)]
 pub struct Density {
     number: u32,
 }
 
-/// How many values the evidence may have in a number.
+/// How many values the evidence can have in a number.
 const EVIDENCES: u32 = 32;
 
 /// What each failure adds to a number, and what each unit of the hash adds.
@@ -56,13 +56,13 @@ const FAILURE: u32 = EVIDENCES;
 
 const HASH: u32 = 256;
 
-/// What the mark adds where a compare-and-swap of the call that is under way has failed.
+/// What the mark adds if a compare-and-swap of the call under way has failed.
 const FAILED: u32 = 65_536;
 
-/// And where the hash is that of the watched word as the last call left it.
+/// What the mark adds if the hash is that of the watched word as the last call left it.
 const LEFT: u32 = 131_072;
 
-/// The same taken apart.
+/// A `Density` taken apart.
 #[derive(Clone, Copy)]
 struct Known {
     evidence: u8,
@@ -81,7 +81,7 @@ enum Sight {
     Left(u8),
 }
 
-// A hash of a tagged word, which differs after most changes.
+// A hash of a tagged word. It differs after most changes.
 #[inline]
 fn hash_of(word: u64) -> u8 {
     let word = Tagged::from_word(word);
@@ -121,7 +121,7 @@ impl Known {
         }
     }
 
-    // After a look that found this word.
+    // The knowledge after a look that found this word.
     #[inline]
     fn after_look(self, word: u64) -> Known {
         let evidence = match self.sight {
@@ -143,7 +143,7 @@ impl Known {
         }
     }
 
-    // After a call with a failed compare-and-swap that left this word.
+    // The knowledge after a call with a failed compare-and-swap that left this word.
     #[inline]
     fn after_failure(self, word: u64) -> Known {
         if self.failures < CALLS_A_LOOK - 1 {
@@ -168,8 +168,8 @@ impl Density {
         Density { number: 0 }
     }
 
-    /// As a call begins. Where the last one kept a hash, this one looks whether the others got
-    /// something done while the caller was away.
+    /// The density when a call begins. If the last call kept a hash, this call looks whether other
+    /// threads got something done while the caller was away.
     #[inline(always)]
     pub(crate) fn at_begin<T, L, O, M: Machine<T, L, O>>(
         self,
@@ -185,8 +185,8 @@ impl Density {
         }
     }
 
-    /// As a call ends that has waited like this. One that was refused tells nothing: what is done
-    /// before the next is no work of its caller's.
+    /// The density when a call ends with this pause. A refused call tells nothing: what happens
+    /// before the next call is not its caller's work.
     #[inline]
     pub(crate) fn at_end<T, L, O, M: Machine<T, L, O>>(
         self,
@@ -204,7 +204,7 @@ impl Density {
         }
     }
 
-    /// As a call that has waited like this is left under way.
+    /// The density when a call with this pause is left under way.
     #[inline]
     pub(crate) fn under_way(self, pause: Pause) -> Density {
         if !pause.failed {
@@ -218,8 +218,8 @@ impl Density {
     }
 }
 
-// Cold, so that a call that does not look has one test for it; and on the bare number, which is
-// handed over in a register.
+// Cold, so that a call that does not look has only one test for it. It takes the bare number, which
+// the caller passes in a register.
 #[cold]
 #[inline(never)]
 fn look<T, L, O, M: Machine<T, L, O>>(
@@ -233,7 +233,7 @@ fn look<T, L, O, M: Machine<T, L, O>>(
     known.together().number
 }
 
-/// How long a call waits after its next failed compare-and-swap. It is handed on by value, so that a
+/// How long a call waits after its next failed compare-and-swap. It is passed by value, so that a
 /// call whose every compare-and-swap succeeds keeps it in a register.
 #[derive(Drop)]
 pub struct Pause {
@@ -245,7 +245,8 @@ pub struct Pause {
 }
 
 impl Pause {
-    /// Of a call by this pass. It waits only where its calls follow one another closely.
+    /// The first pause of a call by this pass. It is a wait only if the pass's calls follow one
+    /// another closely: if its evidence is at least `DENSE`.
     #[inline]
     pub fn of<T, L>(by: &Pass<T, L>) -> Pause
         ensures dense { DENSE ≤ evidence_of by.now.density → 0 < result.hints }
@@ -269,8 +270,8 @@ impl Pause {
         }
     }
 
-    /// Waits, and returns the next wait, which is longer until the longest is reached. Where the
-    /// pass does not wait, it is none again.
+    /// Waits, and returns the next pause. It is longer, until the longest is reached. If this pause
+    /// is no wait, the next is none either.
     #[inline(never)]
     pub fn wait(self) -> Pause
         ensures grows { self.hints ≢ 0 → self.hints ≢ MOST_HINTS → self.hints < result.hints }
@@ -341,8 +342,8 @@ mod tests {
 
     #[test]
     fn a_look_counts_what_it_found(rt: HostRuntime) {
-        // The evidence before, the tag and the index that were left and that were found, and the
-        // evidence after.
+        // Each line: the evidence before, the tag and the index that the last call left, the tag
+        // and the index that the look found, and the evidence after.
         let looks = [
             (0u8, 5u64, 3u64, 5u64, 3u64, 1u8),
             (15, 5, 3, 5, 3, 16),

@@ -7,7 +7,7 @@ use machine::View;
 use std::marker::PhantomData;
 use tagged_index::Limits;
 
-/// A container for values `T`, whose passes are at lines `L` of operations `O`.
+/// The machine of a container for values `T`. Its passes are at lines `L` of operations `O`.
 pub trait Machine<T, L, O> {
     ghost names: { Names L O };
 

@@ -171,7 +171,7 @@ fn make<
     }
 }
 
-// Makes this access of an operation that is at this, and goes on from what it came to.
+// Makes this access for an operation in the state `at`, and continues from its outcome.
 #[inline(always)]
 fn advance<
     C: OnTable,
@@ -204,7 +204,7 @@ fn advance<
     (pass, next)
 }
 
-// The same of one access alone.
+// Like `advance`, for one access alone.
 #[inline(always)]
 fn advance_single<
     C: OnTable,
@@ -234,7 +234,7 @@ fn advance_single<
     advance::<C, T, L, O, M, A, S, N>(table, on, by, at, operation, single.access)
 }
 
-/// Makes the next atomic step of an operation that is at this.
+/// Makes the next atomic step of an operation in the state `at`.
 #[inline(always)]
 pub fn step<
     C: OnTable,
@@ -262,9 +262,11 @@ pub fn step<
     advance::<C, T, L, O, M, A, S, N>(table, on, by, at, operation, access)
 }
 
-/// The same by one access alone, for a caller to whom it is one that an operation goes on. That the
-/// pass's seat makes one access is a clause, since each is an act of the pass; a load that no seat
-/// makes would change nothing and be counted nowhere, so that there is none stands in the code alone.
+/// Like `step`, but by one access alone, and for a caller that treats `On` and `Lost` alike.
+///
+/// The contract says that the pass's seat makes one access, since each access of a seat is an act
+/// of its pass. A load that no seat makes would change nothing, and nothing would count it. So only
+/// the code shows that there is no such load.
 #[inline(always)]
 pub fn single_step<
     C: OnTable,
@@ -295,7 +297,7 @@ pub fn single_step<
     }
 }
 
-/// The same as a step of a whole call, and what that has to know of it.
+/// Like `step`, but promises only what a whole call needs of a step.
 #[inline(always)]
 pub fn any<
     C: OnTable,
@@ -322,7 +324,7 @@ pub fn any<
     step::<C, T, L, O, M, A, S, N>(table, on, by, at, operation)
 }
 
-/// The same, for a caller that counts its steps.
+/// Like `any`, for a caller that counts its steps.
 #[inline(always)]
 pub(crate) fn counted_step<
     C: OnTable,
@@ -350,8 +352,8 @@ pub(crate) fn counted_step<
     step::<C, T, L, O, M, A, S, N>(table, on, by, at, operation)
 }
 
-/// The same as the first step of a whole call. Before it the pass may look whether the others got
-/// something done while its caller was away, by a load that tells nothing of the operation.
+/// Like `any`, for the first step of a whole call. Before this step the pass may look whether other
+/// threads got something done while its caller was away. This load tells nothing of the operation.
 #[inline(always)]
 pub fn first_step<
     C: OnTable,

@@ -34,7 +34,7 @@ module _ {T L O S A : Type 0} {names : Names L O} (m : Machine T L O names) (c :
     pub made : HasMade names op.operation op.pass.seat.me.0 k
 
   module _ (Promises : O → PassView T → PassView T → A → Type 0) where
-    -- The operation goes on, begun as before, after this many steps in all; or it has given what it promises
+    -- The operation continues, begun as before, after this many steps in all, or it has given what it promises
     abbrev pub MadeFor : ℕ → Op T L O S → Stepped (Op T L O S) (Pass T L) A → Type 0
     MadeFor k op r = MatchStepped r
         (λ next. IsAfter k next × (begun_of m next.pass ≡ begun_of m op.pass) × (next.operation ≡ op.operation))

@@ -42,8 +42,9 @@ module _ {L : Type 0} where
   pays price Looks = 1
   pays price Hears = 1
 
--- Where a call that begins at a line has its price, and each answer its fee: the joined passes have made at most so many steps as these acts pay for,
--- and at most the fees of what they have answered, which are `most` for each answer. Loads that belong to no line are counted beside
+-- If a call that begins at a line has its price, and each answer its fee: the joined passes have made at most the number of steps that
+-- these acts pay for. Their steps are also at most the fees of what the passes have answered, which are `most` for each answer. Loads that
+-- belong to no line are counted beside
 pub record IsPaid {T L : Type 0} (acts : Acts L) (works : List (Work T)) (price : L → ℕ) (fee : Answered T → ℕ) (most : ℕ) : Type 0 where
   pub prices : total_steps works ≤ in_all (pays price) acts
   pub fees : total_steps works ≤ total_fees fee works + in_all is_look acts

@@ -1,4 +1,4 @@
-//! An operation that its caller makes step by step, with each step counted.
+//! An operation that its caller makes step by step, and whose steps are counted.
 ghost use Rattle.std.specs.Prelude.{◌≡◌, ◌+◌, ℕ};
 ghost use Rattle.running.specs.Ops.{IsUnderWay};
 ghost use Rattle.runs.specs.Made.{IsAfter, MadeFor};
@@ -6,8 +6,9 @@ ghost use Rattle.runs.specs.Made.{IsAfter, MadeFor};
 use bounded_model::Stepped;
 use running::{Call, HasTable, ListMachine, Op, Pass};
 
-/// Makes at most so many steps of an operation, each one atomic access and one act of its pass, and
-/// waits for nobody. If the operation has not ended then, it comes back after exactly so many more.
+/// Makes at most `steps` steps of an operation, and waits for nobody. Each step is one atomic
+/// access and one act of its pass. If the operation has not ended by then, it comes back after
+/// exactly `steps` more.
 pub fn step_for<
     C: HasTable<T, L, O, M>,
     T,

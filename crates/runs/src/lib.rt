@@ -1,5 +1,5 @@
-//! The acts that led to a running container's table, as a schedule of its pure machine: for all
-//! machines. And operations that are made step by step while their steps are counted.
+//! The acts that led to a running container's table, as a schedule of its pure machine, for all
+//! machines. Also operations whose caller makes each step and counts it.
 #![tactic(auto)]
 
 mod counting;

@@ -1,11 +1,15 @@
-//! Tagged words: an index, two marks and a tag packed into one `u64`, so that one compare-and-swap
-//! changes them together and a stale word is told from a fresh one by its tag (the cure for ABA of
-//! IBM System/370's Principles of Operation, used by Treiber 1986, Michael and Scott 1996 and
-//! Boost.Lockfree).
+//! Tagged words: an index, two marks and a tag packed into one `u64`. One compare-and-swap changes
+//! them together, and the tag tells a stale word from a fresh one. This is the cure for ABA of IBM
+//! System/370's Principles of Operation. Treiber 1986, Michael and Scott 1996 and Boost.Lockfree
+//! use it.
 //!
-//! Promised: every `u64` is a tagged word, a word's fields read back as they were put in,
-//! each change alters the fields that it names and keeps the others, and a tag never wraps:
-//! a rise past the limit is refused. `Limits` holds what a container is made with, in range.
+//! The contracts promise:
+//!
+//! - Every `u64` is a tagged word, and its fields read back as they were put in.
+//! - Each change alters the fields that it names and keeps the other fields.
+//! - A tag never wraps: `raised` gives `None` instead of a rise past the limit.
+//!
+//! `Limits` holds what a container is made with. Its capacity and its tag limit are in range.
 #![tactic(auto)]
 
 mod limit;

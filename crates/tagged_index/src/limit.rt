@@ -9,13 +9,13 @@ use crate::word::{MAX_TAG, NULL};
 pub const MIN_CAPACITY: u32 = 1;
 
 /// The greatest capacity of a container: 1,048,573. A queue has one node more than its capacity,
-/// and the index of none of them is `NULL`.
+/// and no node's index is `NULL`.
 pub const MAX_CAPACITY: u32 = NULL - 2;
 
 /// The least tag limit. The greatest is `MAX_TAG`.
 pub const MIN_TAG_LIMIT: u64 = 2;
 
-/// How many passes may be out at one time, if nothing else is said.
+/// How many passes may be out at one time, unless `for_passes` sets another number.
 pub const USUAL_PASSES: u32 = 65_535;
 
 // Clauses say the names; this says the numbers.
@@ -23,9 +23,12 @@ const _: () = prove!(MIN_CAPACITY == 1 && MAX_CAPACITY == 1_048_573 && MIN_TAG_L
 
 const _: () = prove!(USUAL_PASSES == 65_535);
 
-/// How large a container is and how far its tags may rise: a capacity from `MIN_CAPACITY` to
-/// `MAX_CAPACITY`, and a tag limit from `MIN_TAG_LIMIT` to `MAX_TAG`. And for how many passes it is
-/// made: a ring has a cell for each. A queue and a stack are always made for `USUAL_PASSES`.
+/// What a container is made with:
+///
+/// - a capacity from `MIN_CAPACITY` to `MAX_CAPACITY`
+/// - a tag limit from `MIN_TAG_LIMIT` to `MAX_TAG`, to which its tags may rise
+/// - a number of passes. A ring has a cell for each. A queue and a stack are always made for
+///   `USUAL_PASSES`.
 #[derive(Clone, Copy, PartialEq, Eq, Debug)]
 pub struct Limits {
     capacity: u32,
@@ -40,7 +43,8 @@ pub struct Limits {
 impl Limits {
     ghost use Rattle.tagged_index.specs.Limits.{capacity_of, tag_limit_of, passes_of};
 
-    /// `None` exactly where the capacity or the tag limit is out of range.
+    /// Limits for `USUAL_PASSES` passes. `None` exactly if the capacity or the tag limit is out of
+    /// range.
     #[inline]
     pub fn of(capacity: u32, tag_limit: u64) -> Option<Limits>
         ensures in_range { IsSome result
@@ -63,7 +67,7 @@ impl Limits {
         })
     }
 
-    /// The same for so many passes.
+    /// The same capacity and tag limit, for this number of passes.
     #[inline]
     pub fn for_passes(self, passes: u32) -> Limits
         ensures kept { (capacity_of result ≡ capacity_of self)
@@ -82,7 +86,7 @@ impl Limits {
         }
     }
 
-    /// How many values the container holds at most.
+    /// The greatest number of values that the container holds.
     #[inline]
     pub fn capacity(self) -> u32
         ensures { result ≡ capacity_of self }
@@ -90,7 +94,7 @@ impl Limits {
         self.capacity
     }
 
-    /// The tag at which a rise is refused.
+    /// The tag limit: a tag that has reached it cannot rise.
     #[inline]
     pub fn tag_limit(self) -> u64
         ensures { result ≡ tag_limit_of self }

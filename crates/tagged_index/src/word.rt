@@ -4,10 +4,10 @@ ghost use Rattle.tagged_index.specs.Fields.{fields_of, index_of, mark_of, second
 
 use std::marker::Model;
 
-/// The width of the index, which is the lowest field.
+/// The width of the index in bits. The index is the lowest field.
 pub const INDEX_BITS: u32 = 20;
 
-/// The width of the tag, which is the highest field.
+/// The width of the tag in bits. The tag is the highest field.
 pub const TAG_BITS: u32 = 42;
 
 /// The place of the mark, right above the index.
@@ -50,7 +50,8 @@ pub struct Fields {
 
 /// An index from 0 to `NULL`, a mark, a second mark and a tag from 0 to `MAX_TAG`.
 ///
-/// What the marks say is the user's; the tag counts the changes of the atomic word that holds it.
+/// The user decides what the marks mean. The tag counts the changes of the atomic word that holds
+/// it.
 #[derive(Clone, Copy, PartialEq, Eq, Debug)]
 pub struct Tagged {
     word: u64,
@@ -66,8 +67,8 @@ impl Model for Tagged {
 }
 
 impl Tagged {
-    /// The word with these four fields; `None` exactly where `index` is above `NULL` or
-    /// `tag` is above `MAX_TAG`.
+    /// The word with these four fields. `None` exactly if `index` is above `NULL` or `tag` is above
+    /// `MAX_TAG`.
     #[inline]
     pub fn of(index: u32, mark: bool, second: bool, tag: u64) -> Option<Tagged>
         ensures in_range { IsSome result ↔ ((index ≤ NULL) × (tag ≤ MAX_TAG)) }
@@ -137,7 +138,7 @@ impl Tagged {
         self.word >> TAG_SHIFT
     }
 
-    /// The new index, with the tag and both marks kept.
+    /// The word with the new index. The tag and both marks stay.
     #[inline]
     pub fn kept(self, index: u32) -> Tagged
         requires { index ≤ NULL }
@@ -149,7 +150,7 @@ impl Tagged {
         }
     }
 
-    /// The new index and the next tag, with both marks kept; `None` exactly where the tag has
+    /// The word with the new index and the next tag. Both marks stay. `None` exactly if the tag has
     /// reached `limit`, so that no tag ever wraps.
     #[inline]
     pub fn raised(self, limit: u64, index: u32) -> Option<Tagged>
@@ -166,7 +167,7 @@ impl Tagged {
         })
     }
 
-    /// The mark set, with all else kept.
+    /// The word with the mark set. Its other fields stay.
     #[inline]
     #[tactic(auto, using(crate::proofs::Words::fields_of_or_mark))]
     pub fn marked(self) -> Tagged
@@ -177,7 +178,7 @@ impl Tagged {
         }
     }
 
-    /// The second mark set, with all else kept.
+    /// The word with the second mark set. Its other fields stay.
     #[inline]
     #[tactic(auto, using(crate::proofs::Words::fields_of_or_second))]
     pub fn with_second(self) -> Tagged

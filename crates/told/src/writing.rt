@@ -9,7 +9,7 @@ use std::io::{ErrorKind, Write};
 pub enum Told {
     /// All of it.
     Whole,
-    /// A front of it: a write failed.
+    /// A front of it, which may be all: a write failed or took nothing, or the flush failed.
     InPart,
 }
 

@@ -34,7 +34,7 @@ IsAskedFor words (Traced file) = Contains words (codes "--trace")
 IsAskedFor words (Relay args files) = Unit {0}
 IsAskedFor words (Measured args files) = Contains words (codes "--stats")
 
--- a relay, measured only where this says so
+-- a relay, measured only if this says so
 abbrev pub IsRelay : Bool → Chosen → Type 0
 IsRelay is_measured (Relay args files) = Unit {0}
 IsRelay is_measured (Measured args files) = IsTrue is_measured

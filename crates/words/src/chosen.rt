@@ -30,8 +30,8 @@ pub enum WordsRefused {
     /// They ask for help or for the version, which is this error's text.
     #[error("{0}")]
     Help(clap::Error),
-    /// They are not understood, a value is out of its range, or memory ran out: which of these, this
-    /// error's text says.
+    /// They are not understood, a value is out of its range, or memory ran out. This error's text
+    /// says which.
     #[error("bad command line")]
     Bad(clap::Error),
 }
@@ -68,7 +68,7 @@ impl From<clap::Error> for WordsRefused {
     }
 }
 
-// A mistake that the parser leaves to this crate, in the form of the parser's own.
+// The error for a mistake that this crate finds and the parser does not, in the parser's own form.
 fn mistake(alloc: Global, message: &str) -> WordsRefused {
     let error = match command_line(alloc) {
         Ok(mut command) => command.error(ErrorKind::InvalidValue, message),
@@ -86,12 +86,12 @@ fn out_of_range(alloc: Global) -> WordsRefused {
 
 /// Reads the arguments of the command line, the program's name first.
 ///
-/// `Help` where they ask for it or for the version; `Bad` where they are not understood, a value is
-/// not in its range, or memory ran out.
+/// - `Help`: they ask for the help or for the version.
+/// - `Bad`: they are not understood, a value is not in its range, or memory ran out.
 pub fn read_words<'a>(alloc: Global, words: &'a [&'a str]) -> Result<Chosen, WordsRefused>
     // Every value lies in its range, and a relay has 1 to 16 files.
     ensures ranges { IfOk result AreInRange }
-    // A relay is measured, and a script traced, only where the arguments ask for it.
+    // A relay is measured, and a script traced, only if the arguments ask for it.
     ensures asked { IfOk result (IsAskedFor (map (λ word. word.now) words.now)) }
 {
     let matches = command_line(alloc)?.try_get_matches_from(words)?;

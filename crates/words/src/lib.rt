@@ -1,7 +1,7 @@
 //! What the arguments of the command line ask for: a script to replay, or files to relay.
 //!
-//! Each value that is read lies in its range, and a relay has 1 to 16 files; all other arguments
-//! are refused, with the help or the version where they ask for it (`read_words`).
+//! Each value that is read lies in its range, and a relay has 1 to 16 files. `read_words` refuses
+//! all other arguments. If they ask for the help or the version, the refusal has that text.
 #![tactic(auto)]
 
 mod chosen;
