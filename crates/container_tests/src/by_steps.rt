@@ -6,11 +6,11 @@ use ring_queue::{RingLimits, RingQueue};
 use tagged_index::{Limits, MAX_TAG};
 use treiber_stack::Stack;
 
-/// More steps than a call makes that nobody interferes with.
+/// More steps than a call makes if no other call interferes.
 const MOST_STEPS: u64 = 20;
 
-/// A put by steps, and how many steps it made. The law of the steps makes it a whole put. `None`
-/// where it is not over after the most steps.
+/// A put by steps, and how many steps it made. The law of the steps makes it a whole put. `None` if
+/// it is not over after `MOST_STEPS` steps.
 fn put_by_steps<C: Stepwise<u32>>(
     container: &C,
     by: C::Pass,
@@ -30,7 +30,7 @@ fn put_by_steps<C: Stepwise<u32>>(
     None
 }
 
-/// The same of a take.
+/// A take by steps, and how many steps it made. `None` if it is not over after `MOST_STEPS` steps.
 fn take_by_steps<C: Stepwise<u32>>(
     container: &C,
     by: C::Pass,
@@ -64,8 +64,8 @@ fn steps_of_any_container_are_counted(rt: HostRuntime) {
     assert_eq!(rt; (answer, steps), (Err(TakeRefused::Empty), 1));
 }
 
-// A refused put lays its cell back by one step more, and each position that was put or taken already
-// is one load more.
+// A refused put makes one step more, which lays its cell back. Each position that was put or taken
+// already is one load more.
 #[test]
 fn steps_of_a_ring_are_counted(rt: HostRuntime) {
     let limits = RingLimits::of(1, 9, 2).expect(&rt, "limits");

@@ -8,7 +8,7 @@ use std::sync::Wait;
 use tagged_index::{Limits, MAX_TAG};
 use treiber_stack::Stack;
 
-/// The items 0, 1, .., so many.
+/// The first `count` of the items 0, 1, ..
 fn items<R: Abort>(rt: &R, alloc: Global, count: u32) -> VecDeque<u32> {
     let mut items = VecDeque::new(alloc);
     for item in 0..count {
@@ -17,7 +17,7 @@ fn items<R: Abort>(rt: &R, alloc: Global, count: u32) -> VecDeque<u32> {
     items
 }
 
-/// So many items carried over a stack with this much room.
+/// `count` items carried over a stack with room for `capacity` of them.
 fn carried<R: Abort + AllocGlobal + Wait>(rt: &R, capacity: u32, count: u32) -> Carried<u32> {
     let alloc = rt.alloc();
     let limits = Limits::of(capacity, MAX_TAG).expect(rt, "limits");
@@ -26,7 +26,7 @@ fn carried<R: Abort + AllocGlobal + Wait>(rt: &R, capacity: u32, count: u32) -> 
     carry_all(rt, alloc, stack, root, items).expect(rt, "memory")
 }
 
-/// The same over a queue.
+/// `count` items carried over a queue with room for `capacity` of them.
 fn carried_in_order<R: Abort + AllocGlobal + Wait>(
     rt: &R,
     capacity: u32,
@@ -39,7 +39,7 @@ fn carried_in_order<R: Abort + AllocGlobal + Wait>(
     carry_all(rt, alloc, queue, root, items).expect(rt, "memory")
 }
 
-/// The same over a ring, each of whose slots can be filled so many times.
+/// `count` items carried over a ring, each of whose slots can be filled `laps` times.
 fn carried_round<R: Abort + AllocGlobal + Wait>(
     rt: &R,
     capacity: u32,

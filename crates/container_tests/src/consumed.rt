@@ -128,8 +128,8 @@ impl<T, C: Container<T>> Container<T> for Counting<C> {
     }
 }
 
-/// Each value costs one take, and each refusal one more: of an empty container, of one that is
-/// closed, and of one that is shut.
+/// Each value costs one take, and each refusal one more: by an empty container, by a closed one,
+/// and by one that is shut.
 fn tries_no_take_after_a_refusal<C: Container<u32>, R: Abort + Wait>(
     rt: &R,
     inner: C,

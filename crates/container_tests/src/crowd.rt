@@ -8,7 +8,7 @@ use std::thread;
 use std::thread::Threads;
 use waiting::{Shared, put_waiting, take_all_until_closed};
 
-// Puts so many values from the first on.
+// Puts `count` values from the first on.
 fn put_from<C: Shared<u64>, R: Wait>(
     rt: &R,
     container: &C,
@@ -45,7 +45,7 @@ fn take_until_closed<C: Shared<u64>, R: Wait>(rt: &R, container: &C, by: C::Pass
     let _ = take_all_until_closed(container, rt, by, None, note);
 }
 
-// Starts the producers; they have ended when this returns. `false` where one was not started.
+// Starts the producers, and returns after they have ended: `false` if one was not started.
 fn put_at_once<C: Shared<u64> + Sync, R: Threads + Wait + Sync>(
     rt: &R,
     container: &C,
@@ -80,8 +80,8 @@ where
     )
 }
 
-/// The producers put each their own values, the first 0, 1, 2, .., the next from `each` on; the
-/// consumers take until all are out. `false` where a thread was not started.
+/// The producers put each their own values: the first 0, 1, 2, .., the next from `each` on. The
+/// consumers take until all are out. `false` if a thread was not started.
 pub(crate) fn exchange<C: Shared<u64> + Sync, R: Threads + Wait + Sync>(
     rt: &R,
     container: &C,
@@ -123,7 +123,7 @@ where
     )
 }
 
-// Puts a value and takes one, in turn, so many times.
+// Puts a value and takes one, in turn, `times` times.
 fn put_then_take<C: Shared<u64>, R: Wait>(rt: &R, container: &C, by: C::Pass, times: u64, log: &Log)
     requires { C.is_pass container.now by }
 {
@@ -138,8 +138,8 @@ fn put_then_take<C: Shared<u64>, R: Wait>(rt: &R, container: &C, by: C::Pass, ti
     }
 }
 
-/// Each pass puts and takes in turn, in a thread of its own. As many values have been put as are
-/// taken at any time of a take, so that none is refused. `false` where a thread was not started.
+/// Each pass puts and takes in turn, in a thread of its own. At the time of a take no fewer values
+/// have been put than are taken, so that no take is refused. `false` if a thread was not started.
 pub(crate) fn take_after_own_put<C: Shared<u64> + Sync, R: Threads + Wait + Sync>(
     rt: &R,
     container: &C,

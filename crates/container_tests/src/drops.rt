@@ -27,7 +27,7 @@ impl Dice {
     }
 }
 
-// So many clones of a value go in.
+// Puts `count` clones of a value.
 fn fill<C: Container<Arc<u8>>, R: Abort + Wait>(
     rt: &R,
     container: &C,
@@ -73,7 +73,7 @@ fn in_and_out<C: Made<Arc<u8>>, R: Abort + Wait>(rt: &R, alloc: Global, dice: &m
     assert_eq!(rt; Arc::strong_count(value), 1);
 }
 
-/// So many values, and so many that stay, as the dice say: a hundred times.
+/// Does this a hundred times, for numbers that the dice give: of values, and of those that stay.
 pub(crate) fn each_value_once<C: Made<Arc<u8>>, R: Abort + Wait>(rt: &R, alloc: Global) {
     let mut dice = Dice::new();
     for _ in 0..100 {
@@ -81,7 +81,7 @@ pub(crate) fn each_value_once<C: Made<Arc<u8>>, R: Abort + Wait>(rt: &R, alloc: 
     }
 }
 
-/// A refused put hands its value back, and a take hands one out: each is dropped where it is. The
+/// A refused put hands its value back, and a take hands one out. Each is dropped where it is. The
 /// container has room for two.
 pub(crate) fn in_use<C: Made<Arc<u8>>, R: Abort + Wait>(rt: &R, alloc: Global) {
     let value = Arc::new(alloc, 7u8).expect(rt, "memory");
@@ -102,7 +102,7 @@ pub(crate) fn in_use<C: Made<Arc<u8>>, R: Abort + Wait>(rt: &R, alloc: Global) {
     assert_eq!(rt; Arc::strong_count(value), 1);
 }
 
-/// Of three values that are left one is read, and the rest is dropped with the others.
+/// Reads one of three values that are left. The other two are dropped with the rest.
 pub(crate) fn half_read<C: Made<Arc<u8>>, R: Abort + Wait>(rt: &R, alloc: Global) {
     let value = Arc::new(alloc, 7u8).expect(rt, "memory");
     let value = &value;

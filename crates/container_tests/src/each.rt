@@ -1,4 +1,4 @@
-//! The tests of every container, each at the queue, at the stack and at the ring.
+//! The tests of every container: each test runs for the queue, for the stack and for the ring.
 
 use crate::drops::{self, half_read, in_use};
 use crate::fills::{
@@ -28,7 +28,7 @@ fn numbers_go_through_one_thread<C: Made<u64>, R: Abort + Wait>(rt: &R, alloc: G
     assert!(rt; consumed::<C, R>(rt, alloc) == wanted);
 }
 
-// Threads that put and threads that take, how many values each of the former puts, and the room.
+// Threads that put and threads that take, how many values each putting thread puts, and the room.
 const CROWDS: [(u32, u32, u64, u32); 6] = [
     (1, 1, 20_000, 1),
     (1, 1, 20_000, 3),

@@ -11,7 +11,7 @@ use std::process::Abort;
 use std::sync::Wait;
 use std::thread::Threads;
 
-/// Threads that put and threads that take, and how many values each of the former puts.
+/// Threads that put and threads that take, and how many values each putting thread puts.
 #[derive(Clone, Copy)]
 pub(crate) struct Crowd {
     pub(crate) producers: u32,
@@ -19,7 +19,7 @@ pub(crate) struct Crowd {
     pub(crate) each: u64,
 }
 
-// So many passes.
+// `count` passes.
 fn passes<C: Container<u64>, R: Abort>(
     rt: &R,
     alloc: Global,
@@ -57,7 +57,7 @@ pub(crate) fn one_value_at_a_time<C: Made<u64>, R: Abort + Wait>(rt: &R, alloc: 
     assert!(rt; empty == Err(TakeRefused::Empty));
 }
 
-// Fills an empty container: it has room for so many values and for no other.
+// Fills an empty container. It has room for `capacity` values and for no more.
 fn fill<C: Container<u64>, R: Abort + Wait>(rt: &R, container: &C, by: C::Pass) -> C::Pass
     requires { C.is_pass container.now by }
     ensures { C.is_pass container.now result }
@@ -90,8 +90,8 @@ fn empty<C: Container<u64>, R: Abort + Wait>(rt: &R, container: &C, by: C::Pass)
     pass
 }
 
-/// A container takes exactly as many values as it has room for, and has that room again when they
-/// are out.
+/// A container takes exactly the number of values that it has room for, and has that room again
+/// when they are out.
 pub(crate) fn room_for_its_capacity<C: Made<u64>, R: Abort + Wait>(
     rt: &R,
     alloc: Global,
@@ -105,8 +105,8 @@ pub(crate) fn room_for_its_capacity<C: Made<u64>, R: Abort + Wait>(
     let _ = empty(rt, &container, pass);
 }
 
-/// Of 1, 2 and 3 one is consumed and then all others: answers twice the first with its number, and
-/// the digits of the others.
+/// Of 1, 2 and 3 one is consumed and then the two that are left. Answers twice the first with its
+/// number, and the digits of these two.
 pub(crate) fn consumed<C: Made<u64>, R: Abort + Wait>(rt: &R, alloc: Global) -> ((u64, u64), u64) {
     let (container, mut root) = with_room::<u64, C, R>(rt, alloc, 3);
     let pass = container.split(&mut root).expect(rt, "a pass");
@@ -120,9 +120,9 @@ pub(crate) fn consumed<C: Made<u64>, R: Abort + Wait>(rt: &R, alloc: Global) -> 
     (doubled.ok().expect(rt, "a value to take"), folded)
 }
 
-/// Producers and consumers at once. Each value comes out once, the calls are numbered without a
-/// gap, in the order of their numbers they are those of a container of one thread, and each
-/// producer's values are put in its order.
+/// Producers and consumers at once. Each value comes out once, and the calls are numbered without a
+/// gap. In the order of their numbers they are those of a container of one thread. Each producer's
+/// values are put in its order.
 pub(crate) fn each_value_once<C: Made<u64> + Sync, R: Abort + Threads + Wait + Sync>(
     rt: &R,
     alloc: Global,

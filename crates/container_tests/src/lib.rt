@@ -1,11 +1,15 @@
-//! Tests of any container, run over each: what a value must go through as in the test suites of
-//! crossbeam-queue's `ArrayQueue` and of Boost.Lockfree, in our own words; how many steps a put and a
-//! take make, and what becomes of the values of a call that is dropped between two steps.
+//! Tests of any container, run over each:
+//! - what a value must go through as in the test suites of crossbeam-queue's `ArrayQueue` and of
+//!   Boost.Lockfree, in our own words;
+//! - how many steps a put and a take make;
+//! - what becomes of the values of a call that is dropped between two steps.
 //!
-//! And of code that knows a container by its traits alone: ranges and folds, run over the stack; calls
-//! made by single steps, run over the stack and the ring; the carry of items from one pass to another
-//! (`one_way`), run over each. How many takes a consuming call tries, a container counts that is made
-//! for it.
+//! Tests of code that knows a container by its traits alone:
+//! - ranges and folds, run over the stack;
+//! - calls made by single steps, run over the stack and the ring;
+//! - the carry of items from one pass to another (`one_way`), run over each.
+//!
+//! A container made for it counts how many takes a consuming call tries.
 #![tactic(auto)]
 
 #[cfg(test)]

@@ -3,12 +3,12 @@
 use std::alloc::{AllocError, AllocFailed, Global};
 use std::sync::atomic::{AtomicU64, Ordering};
 
-/// Which value was put and which was taken under each number of a run.
+/// Which value a put or a take had under each number of a run.
 #[derive(Drop)]
 pub(crate) struct Log {
-    /// One more than the value that was put under this number; 0 where none was.
+    /// One more than the value that was put under this number; 0 if none was.
     puts: Vec<AtomicU64>,
-    /// The same of the value that was taken.
+    /// One more than the value that was taken under this number; 0 if none was.
     takes: Vec<AtomicU64>,
     /// How many answers had a number that the run can't have, or that another answer had.
     strange: AtomicU64,
@@ -16,7 +16,7 @@ pub(crate) struct Log {
     faults: AtomicU64,
 }
 
-// So many words, each 0.
+// `count` words, each 0.
 fn zeros(alloc: Global, count: u64) -> Result<Vec<AtomicU64>, AllocFailed<AtomicU64>> {
     let mut words = Vec::new(alloc);
     for _ in 0..count {
@@ -26,7 +26,7 @@ fn zeros(alloc: Global, count: u64) -> Result<Vec<AtomicU64>, AllocFailed<Atomic
 }
 
 impl Log {
-    /// Of a run whose calls have numbers below this.
+    /// The log of a run whose calls have numbers below this.
     pub(crate) fn of(alloc: Global, numbers: u64) -> Result<Log, AllocFailed<AtomicU64>> {
         Ok(Log {
             puts: zeros(alloc, numbers)?,
@@ -95,8 +95,8 @@ impl Log {
         Ok(stack.is_empty())
     }
 
-    /// Whether each of so many producers put `each` values in rising order, the first 0, 1, 2, ..,
-    /// the next from `each` on.
+    /// Whether each of `producers` producers put `each` values in rising order: the first 0, 1, 2,
+    /// .., the next from `each` on.
     pub(crate) fn has_puts_of(
         &self,
         alloc: Global,

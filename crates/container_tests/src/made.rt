@@ -46,7 +46,7 @@ impl<T: Drop + Send> Made<T> for RingQueue<T> {
     }
 }
 
-/// A container with room for so many values, and its root.
+/// A container with room for `capacity` values, and its root.
 pub(crate) fn with_room<T, C: Made<T>, R: Abort>(
     rt: &R,
     alloc: Global,

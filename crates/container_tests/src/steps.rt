@@ -7,18 +7,18 @@ use std::alloc::Global;
 use std::process::Abort;
 use std::sync::{Arc, Wait};
 
-/// How many steps the calls of a container make where nobody interferes.
+/// How many steps the calls of a container make if no other call interferes.
 #[derive(Clone, Copy)]
 pub(crate) struct Steps {
-    /// Those of a put, ..
+    /// The steps of a put, ..
     pub(crate) put: u32,
     /// .. and of these, those until its value is in a cell.
     pub(crate) kept: u32,
-    /// Those of a take, ..
+    /// The steps of a take, ..
     pub(crate) take: u32,
     /// .. and of these, those until it has its value.
     pub(crate) taken: u32,
-    /// Those of a put until its container is closed, ..
+    /// The steps of a put until its container is closed, ..
     pub(crate) closed: u32,
     /// .. from there on until it has its value again, ..
     pub(crate) back: u32,
@@ -26,7 +26,7 @@ pub(crate) struct Steps {
     pub(crate) refused: u32,
 }
 
-// Makes so many steps of a put, none of which ends it.
+// Makes `steps` steps of a put. None of them ends it.
 fn go_on_putting<T: Drop, C: Stepwise<T>, R: Abort>(
     rt: &R,
     container: &C,
@@ -46,7 +46,7 @@ fn go_on_putting<T: Drop, C: Stepwise<T>, R: Abort>(
     op
 }
 
-// The same of a take.
+// Makes `steps` steps of a take. None of them ends it.
 fn go_on_taking<T: Drop, C: Stepwise<T>, R: Abort>(
     rt: &R,
     container: &C,
@@ -87,7 +87,7 @@ pub(crate) fn ended_at_their_last<C: Made<u32>, R: Abort>(rt: &R, alloc: Global,
     assert_eq!(rt; taken, (7, number));
 }
 
-// A put is dropped after so many steps.
+// Drops a put after `made` steps.
 fn dropped_put<C: Made<Arc<u8>>, R: Abort>(rt: &R, alloc: Global, steps: Steps, made: u32) {
     let value = Arc::new(alloc, 7u8).expect(rt, "memory");
     let (container, mut root) = with_room::<Arc<u8>, C, R>(rt, alloc, 2);
@@ -101,7 +101,7 @@ fn dropped_put<C: Made<Arc<u8>>, R: Abort>(rt: &R, alloc: Global, steps: Steps, 
     assert_eq!(rt; Arc::strong_count(&value), 1);
 }
 
-// A take is dropped after so many steps.
+// Drops a take after `made` steps.
 fn dropped_take<C: Made<Arc<u8>>, R: Abort + Wait>(rt: &R, alloc: Global, steps: Steps, made: u32) {
     let value = Arc::new(alloc, 7u8).expect(rt, "memory");
     let (container, mut root) = with_room::<Arc<u8>, C, R>(rt, alloc, 2);
@@ -116,7 +116,7 @@ fn dropped_take<C: Made<Arc<u8>>, R: Abort + Wait>(rt: &R, alloc: Global, steps:
     assert_eq!(rt; Arc::strong_count(&value), 1);
 }
 
-// A put that a close overtakes is dropped after so many more steps.
+// Drops a put that a close overtakes, `made` steps after the close.
 fn dropped_late_put<C: Made<Arc<u8>>, R: Abort + Wait>(
     rt: &R,
     alloc: Global,
@@ -145,7 +145,7 @@ pub(crate) fn dropped_puts<C: Made<Arc<u8>>, R: Abort>(rt: &R, alloc: Global, st
     }
 }
 
-/// The same of a take.
+/// A take that is dropped between any two steps drops its value once.
 pub(crate) fn dropped_takes<C: Made<Arc<u8>>, R: Abort + Wait>(
     rt: &R,
     alloc: Global,
@@ -156,7 +156,8 @@ pub(crate) fn dropped_takes<C: Made<Arc<u8>>, R: Abort + Wait>(
     }
 }
 
-/// The same of a put that a close overtakes: it has its value again once it has met the mark.
+/// A put that a close overtakes drops its value once too. It has the value again when it has met
+/// the mark.
 pub(crate) fn dropped_late_puts<C: Made<Arc<u8>>, R: Abort + Wait>(
     rt: &R,
     alloc: Global,

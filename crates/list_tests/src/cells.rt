@@ -128,7 +128,7 @@ pub(crate) fn take<R: Abort>(
     try_take::<(), Knows, u64, Cells, 1>(table, seat, 0, top, next, &())
 }
 
-/// Takes the first cell, where no other seat steps. Returns its index.
+/// Takes the first cell, if no other seat steps. Returns its index.
 pub(crate) fn take_first<R: Abort>(
     rt: &R,
     table: &Shared<(), Knows, u64, Cells>,
@@ -147,7 +147,7 @@ pub(crate) fn take_first<R: Abort>(
     top.index()
 }
 
-/// Gives a cell held back, where no other seat steps.
+/// Gives a cell held back, if no other seat steps.
 pub(crate) fn give<R: Abort>(
     rt: &R,
     table: &Shared<(), Knows, u64, Cells>,

@@ -1,5 +1,6 @@
-//! Tests of the list steps alone, over a list of three cells that is no container: what a take and
-//! a failed compare-and-swap leave, and that a word which comes back (ABA) is told by its tag.
+//! Tests of the list steps alone, over a list of three cells that is no container. They check what
+//! a take and a failed compare-and-swap leave, and that the tag of a word that comes back (ABA)
+//! tells it apart.
 #![tactic(auto)]
 
 #[cfg(test)]

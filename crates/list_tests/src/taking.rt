@@ -54,8 +54,8 @@ fn a_lost_exchange_changes_nothing(rt: HostRuntime) {
     assert_eq!(rt; (before.index(), before.tag()), (1, 1));
 }
 
-// The first cell is back on top when the late compare-and-swap comes, and its link is another: by
-// the index alone it would succeed, and put a cell on top that is held.
+// The first cell is back on top when the late compare-and-swap comes, and its link is another. If
+// only the index counted, it would succeed, and put a held cell on top.
 #[test]
 fn a_late_exchange_loses_though_its_cell_is_back(rt: HostRuntime) {
     let (table, mut late) = made(&rt);

@@ -1,5 +1,5 @@
-//! Tests from above of what stands on no table: words and limits, and the sequential list. They stand
-//! apart so that those crates are not proved a second time for them.
+//! Tests from above of what is on no table: words and limits, and the sequential list. They are a crate of
+//! their own, so that those crates are not proved a second time for them.
 #![tactic(auto)]
 
 #[cfg(test)]

@@ -100,8 +100,8 @@ fn a_shut_list_takes_puts_alone(rt: HostRuntime) {
     assert_eq!(rt; left.pop_front(), None);
 }
 
-// Holds whichever allocation is refused: `rt try --test --fail-alloc N` refuses the list's room,
-// the commands' and the replies' as N is 1, 2 and 3.
+// This holds whichever allocation is refused. `rt try --test --fail-alloc N` refuses the list's
+// room for N = 1, the commands' for N = 2 and the replies' for N = 3.
 #[test]
 fn a_run_without_room_changes_nothing(rt: HostRuntime) {
     let alloc = rt.alloc();

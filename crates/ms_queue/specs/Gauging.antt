@@ -24,8 +24,8 @@ use Rattle.ms_queue.specs.declared.queue.Queue.{Queue}
 use Rattle.ms_queue.specs.Queue.{machine_of}
 use Rattle.ms_queue.specs.Seeking.{seek_line, IsRead}
 
--- of a queue of n cells with this limit: it changes nothing, and shows how it was at some time between what its
--- pass had seen as it was begun, v, and as it ended, w
+-- A gauge of a queue of n cells with this limit changes nothing. It shows how the queue was at some time
+-- between what its pass had seen as the gauge was begun, v, and as it ended, w
 abbrev pub GaugeGives : {T : Type 0} → ℕ → ℕ → PassView T → PassView T → Gauge → Type 0
 GaugeGives n limit v w g = Adds v w [] × Sometime v.seen w.seen (IsGauged n limit g.closed g.used)
 

@@ -1,4 +1,4 @@
--- What the answers of a take, a close, a shut, a look and a count tell: the laws of their operations.
+-- What the answers of a take, a close, a shut, a look and a count promise: the laws of their operations.
 use Rattle.std.specs.Prelude.{◌≡◌, ℕ, Bool, true, false, List, [], ◌∷◌, Result, Ok, Err}
 use Rattle.std.proofs.Common.{sym, ap, ◌∙◌}
 use Rattle.tagged_index.specs.Limits.{capacity_of, tag_limit_of}

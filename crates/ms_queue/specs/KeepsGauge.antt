@@ -1,4 +1,4 @@
--- What the answer of a gauge tells: the law of its operation.
+-- What the answer of a gauge promises: the law of its operation.
 use Rattle.std.specs.Prelude.{ℕ}
 use Rattle.std.proofs.Common.{sym, ap, ◌∙◌}
 use Rattle.tagged_index.specs.Limits.{capacity_of, tag_limit_of}

@@ -7,7 +7,7 @@ use Rattle.tagged_index.specs.Fields.{index_of}
 use Rattle.queue_table.specs.Layout.{next_at, cell_at}
 use Rattle.ms_queue.specs.declared.rest.Rest.{Rest}
 
--- the node behind a node, and a node's cell
+-- the node after a node, and a node's cell
 abbrev pub node_behind : List ℕ → ℕ → ℕ
 node_behind words j = index_of (slice_index words (next_at j))
 
@@ -25,13 +25,15 @@ module _ {T : Type 0} where
   abbrev pub slot_of : List ℕ → List (Slot T) → ℕ → Option (Slot T)
   slot_of words slots j = if ltb (length slots) j then none else get_elem? slots (cell_of words j)
 
-  -- the value in a slot in front of the others; where there is no slot the values end
+  -- the value in a slot in front of the other values; the values end if there is no such slot, or
+  -- if it is empty
   abbrev pub in_front : Option (Slot T) → List T → List T
   in_front none others = []
   in_front (some None) others = []
   in_front (some (Some v)) others = v ∷ others
 
-  -- the values from node j on, at most so many, each moved out of its slot
+  -- the values from node j on, each moved out of its slot; the second argument bounds how many
+  -- there are
   abbrev pub values_from : List ℕ → ℕ → List (Slot T) → ℕ → List T
   values_from words zero slots j = []
   values_from words (suc most) slots j = in_front (slot_of words slots j) (values_from words most (slice_set slots (cell_of words j) None) (node_behind words j))

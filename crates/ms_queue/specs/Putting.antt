@@ -132,7 +132,7 @@ module _ {T : Type 0} where
     pub of : call_of op.operation ≡ CallPut x
     pub under_way : IsUnderWay (machine_of c) (put_account c.table.shared.key) c.table.shared.table_id op
 
-  -- what it promises: that it is a put of whichever value it is a put of
+  -- if the operation is a put of x, it promises the law of a put of x
   abbrev pub put_promises : Limits → Operation T → PassView T → PassView T → Result ℕ (PutRefused T) → Type 0
   put_promises k o begun now r = (x : T) → call_of o ≡ CallPut x → PutGives (shape (capacity_of k) (tag_limit_of k)) begun x now r
 

@@ -17,7 +17,7 @@ use Rattle.ms_queue.specs.Queue.{machine_of}
 abbrev pub IsRun : {T : Type 0} → ℕ → ℕ → RootView T → List T → Type 0
 IsRun {T} n limit r left = at_end.IsRun (queue T n limit) r left
 
--- A call of this operation was begun once, as its pass was `begun`. The machine's steps of that pass since then, each an act of its own, led the
--- operation from its first line to this answer, and the pass's count is that of its acts
+-- A call of this operation was begun once, when its pass was `begun`. The machine's steps of that pass since then, each an act of its own,
+-- led the operation from its first line to this answer. The pass's count is that of its acts
 abbrev pub WasRun : {T : Type 0} → Queue T → Operation T → PassView T → Pass T (Line T) → Answer T → Type 0
 WasRun c o begun back answer = HasRun (machine_of c) o back.seat.me.0 begun (ends answer)

@@ -44,8 +44,8 @@ impl<T> Queue<T> {
         Op::begin(self, by, Operation::Close, CloseAt::Seeking(Seek::LoadTail))
     }
 
-    /// Closes the queue by a whole call, as `close` of `Container`, and returns whether it did. The
-    /// call was a run of the machine's steps.
+    /// Closes the queue by a whole call, as `close` of `Container`. Returns whether this call
+    /// closed it. The call was a run of the machine's steps.
     #[inline]
     pub fn close_whole<R: Wait>(&self, rt: &R, by: Pass<T>) -> (Pass<T>, bool)
         requires { IsPassOf self.now by }

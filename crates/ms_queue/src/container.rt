@@ -93,8 +93,8 @@ impl<T: Drop + Send> Container<T> for Queue<T> {
         running::join(&self.table.shared, parent, by)
     }
 
-    /// In the order of the puts. A value that was out with a pass which stopped in mid-operation is
-    /// not among what is left, and is dropped with the rest.
+    /// In the order of the puts. If a pass stopped in mid-operation with a value in hand, this
+    /// value is not among what is left, and is dropped with the rest.
     fn finish(self, parent: Root<T>) -> Rest<T> {
         self.end(parent)
     }

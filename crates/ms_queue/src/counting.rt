@@ -38,9 +38,8 @@ pub enum LenAt {
 }
 
 impl<T> Queue<T> {
-    /// How many values the queue held at some time since its pass's last step before the call, from
-    /// 0 to the capacity. It retries while takes change the head. The call was a run of the machine's
-    /// steps.
+    /// How many values the queue held at some time since its pass's last step before the call, from 0 to the
+    /// capacity. The call retries while takes change the head. It was a run of the machine's steps.
     pub fn len<R: Wait>(&self, rt: &R, by: Pass<T>) -> (Pass<T>, u32)
         requires { IsPassOf self.now by }
         ensures of { IsPassOf self.now result.0 }
@@ -64,7 +63,7 @@ impl<T> Queue<T> {
         Op::begin(self, by, Operation::Len, LenAt::LoadHead)
     }
 
-    /// A count's four loads, as long as nobody changes the head.
+    /// A count's four loads, as long as no other pass changes the head.
     #[inline]
     pub(crate) fn len_fast(&self, by: Pass<T>, len: &Operation<T>) -> (Pass<T>, Next<LenAt, u64>)
         requires named { len.now ≡ LenFirst }
@@ -116,7 +115,7 @@ impl<T> Code<Queue<T>, T, Line<T>, Operation<T>, Queued, u64, 2> for LenAt {
             LenAt::LoadTail(head) => Next::On(LenAt::LoadNext(head, found)),
             LenAt::LoadNext(head, tail) => Next::On(LenAt::CheckHead(head, tail, found)),
             LenAt::CheckHead(head, tail, link) => {
-                // Where no take was made, the node of the tail was in the queue all the time.
+                // If no take was made, the node of the tail was in the queue all the time.
                 if outcome.word != head.word() {
                     return Next::Lost(LenAt::LoadHead);
                 }

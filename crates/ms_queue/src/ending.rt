@@ -9,9 +9,9 @@ use crate::queue::{Queue, Root};
 use crate::rest::Rest;
 
 impl<T> Queue<T> {
-    /// What is left, from the front, as `finish` gives it. A value that was out with a pass which
-    /// stopped in mid-operation is not among it, and is dropped with the rest. The queue has run as
-    /// its machine runs.
+    /// What is left, from the front, as `finish` gives it. If a pass stopped in mid-operation with
+    /// a value in hand, this value is not among it, and is dropped with the rest. The queue has run
+    /// as its machine runs.
     pub fn end(self, parent: Root<T>) -> Rest<T>
         requires { IsRootOf self parent }
         ensures leaves { Leaves (shape_of self) (root_in parent) (left_in result) }

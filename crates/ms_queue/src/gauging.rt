@@ -28,7 +28,7 @@ pub type GaugeOp<T> = Op<T, Line<T>, Operation<T>, GaugeAt>;
 pub struct Gauge {
     /// Whether the queue was closed.
     pub closed: bool,
-    /// How many tags were used, of those that the queue's limit allows: as many values were put.
+    /// How many of the tags that the queue's limit allows were used: the number of values put.
     pub used: u64,
 }
 
@@ -43,7 +43,7 @@ pub enum GaugeAt {
 
 impl<T> Queue<T> {
     /// Whether the queue was closed, and how many tags were used, both at one time since its pass's
-    /// last step before the call. It retries while values are put. The call was a run of the
+    /// last step before the call. The call retries while others put values. It was a run of the
     /// machine's steps. Called in `queue_tests`.
     pub fn gauge<R: Wait>(&self, rt: &R, by: Pass<T>) -> (Pass<T>, Gauge)
         requires { IsPassOf self.now by }
@@ -95,7 +95,7 @@ impl<T> Code<Queue<T>, T, Line<T>, Operation<T>, Queued, Gauge, 2> for GaugeAt {
                 Next::On(at) => Next::On(GaugeAt::Seeking(at)),
                 Next::Lost(at) => Next::Lost(GaugeAt::Seeking(at)),
                 Next::Done(end) => match end {
-                    // Nothing is put any more: the tail's tag stays.
+                    // No put follows any more: the tail's tag stays.
                     End::Closed(tail) => Next::Done(Gauge {
                         closed: true,
                         used: tail.tag(),
@@ -104,7 +104,7 @@ impl<T> Code<Queue<T>, T, Line<T>, Operation<T>, Queued, Gauge, 2> for GaugeAt {
                 },
             },
             GaugeAt::CheckNext(tail, link) => {
-                // Where the link is still the same, the tail's node is the last one now.
+                // If the link is still the same, the tail's node is the last one now.
                 if outcome.word != link.word() {
                     return Next::Lost(GaugeAt::Seeking(Seek::LoadTail));
                 }

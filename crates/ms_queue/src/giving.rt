@@ -1,5 +1,5 @@
-//! Giving a node and then a cell back to their free lists: the same steps for a take and for a put
-//! that is refused.
+//! Giving a node and then a cell back to their free lists. A take and a put that is refused make
+//! the same steps.
 ghost use Rattle.std.specs.Prelude.{ℕ, List, Option as Slot};
 ghost use Rattle.queue_machine.specs.declared.lines.Answer.{Answer};
 ghost use Rattle.queue_table.specs.Lists.{lists};
@@ -57,7 +57,7 @@ impl<T> Queue<T> {
         }
     }
 
-    /// Where it goes on from a step that came to this.
+    /// Where the operation continues after a step that came to this.
     #[inline(always)]
     pub(crate) fn give_on(&self, at: Give, outcome: Outcome) -> Next<Give, ()>
         ensures { (a : Answer T) (held : Held) (has : List (ℕ × Slot T))

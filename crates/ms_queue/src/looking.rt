@@ -36,8 +36,8 @@ pub enum LookAt {
 }
 
 impl<T> Queue<T> {
-    /// Whether the queue was empty at some time since its pass's last step before the call. It
-    /// retries while takes change the head. The call was a run of the machine's steps. Called in
+    /// Whether the queue was empty at some time since its pass's last step before the call. The
+    /// call retries while takes change the head. It was a run of the machine's steps. Called in
     /// `queue_tests`.
     pub fn look<R: Wait>(&self, rt: &R, by: Pass<T>) -> (Pass<T>, bool)
         requires { IsPassOf self.now by }
@@ -61,7 +61,7 @@ impl<T> Queue<T> {
         Op::begin(self, by, Operation::Look, LookAt::LoadHead)
     }
 
-    /// A look's three loads, as long as nobody changes the head.
+    /// A look's three loads, as long as no other pass changes the head.
     #[inline(always)]
     pub(crate) fn look_fast(
         &self,
@@ -112,7 +112,7 @@ impl<T> Code<Queue<T>, T, Line<T>, Operation<T>, Queued, bool, 2> for LookAt {
                 Next::On(LookAt::CheckHead(head, Tagged::from_word(outcome.word)))
             }
             LookAt::CheckHead(head, link) => {
-                // Where the head is still the same, the link was that of the dummy.
+                // If the head is still the same, the link was that of the dummy.
                 if outcome.word != head.word() {
                     return Next::Lost(LookAt::LoadHead);
                 }

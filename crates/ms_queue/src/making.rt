@@ -30,8 +30,8 @@ fn first_words(alloc: Global, capacity: u32) -> Result<Vec<u64>, AllocError>
 }
 
 impl<T> Queue<T> {
-    /// An empty queue, open and not shut, and its root, which has given no pass. All memory is
-    /// taken here; `NoMemory` where there was none. Called in `example_jobs`.
+    /// An empty queue, open and not shut, and its root, which has given no pass. The call takes all
+    /// memory of the queue; `NoMemory` if there is none. Called in `example_jobs`.
     pub fn new(alloc: Global, limits: Limits) -> Result<(Queue<T>, Root<T>), MakeRefused>
         ensures { IfOk result (λ t. IsRootOf t.0 t.1 × (root_in t.1 ≡ fresh)
             × (shape_of t.0 ≡ shape (capacity_of limits) (tag_limit_of limits))) }

@@ -9,10 +9,10 @@ ghost use Rattle.queue_table.specs.Memories.{memory_of};
 ghost use Rattle.queue_table.proofs.Laws.{queue};
 ghost use Rattle.running.specs.Rule.{Rule, line_in};
 
-/// In any table that meets the rule of a queue for `n` values, as each queue's does between any two
-/// atomic steps of any threads, no cell and no node is in two places: each is free, in the chain,
-/// or held by one pass. What a step brings into its pass's hand no pass had: that is the clause
-/// `unheld` of `IsLine`, which the contract of each step has.
+/// No cell and no node is in two places: each is free, in the chain, or held by one pass. This
+/// holds in any table that meets the rule of a queue for `n` values, as each queue's does between
+/// any two atomic steps of any threads. A step brings into its pass's hand only what no pass had:
+/// that is the clause `unheld` of `IsLine`, which the contract of each step has.
 pub fn queue_places<T>()
     ensures { (n limit : ℕ) (s : State (Slot T) (View T (Line T))) →
         Rule (queue T n limit) s →

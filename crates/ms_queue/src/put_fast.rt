@@ -1,4 +1,4 @@
-//! A put's fast path, in parts of three steps: longer chains the compiler would not keep in their caller.
+//! A put's fast path, in parts of three steps. The compiler would not keep longer chains in their caller.
 ghost use Rattle.std.specs.Prelude.{◌≡◌};
 ghost use Rattle.ms_queue.specs.Putting.{PutStands, PutRan, put_of};
 ghost use Rattle.ms_queue.specs.Queue.{IsPassOf};
@@ -12,7 +12,7 @@ use queue_table::Operation;
 use running::{Next, any, aside, fast_step, first_step};
 
 impl<T> Queue<T> {
-    /// A put's steps on its fast path, as long as nobody is faster.
+    /// A put's steps on its fast path, as long as no other pass is faster.
     #[inline(always)]
     pub(crate) fn put_fast(
         &self,
@@ -31,7 +31,7 @@ impl<T> Queue<T> {
         self.put_fast_link(pass, at, put)
     }
 
-    // First those that take a cell.
+    // First the steps that take a cell.
     #[inline]
     fn put_fast_cell(
         &self,
@@ -55,7 +55,7 @@ impl<T> Queue<T> {
         any(table, self, pass, PutAt::TakeCell(value, cells, link), put)
     }
 
-    // Then those that take a node.
+    // Then the steps that take a node.
     #[inline]
     fn put_fast_node(
         &self,
@@ -84,7 +84,7 @@ impl<T> Queue<T> {
         any(table, self, pass, at, put)
     }
 
-    /// Those that say why nothing can be put, where no cell is free.
+    /// The steps that say why nothing can be put, if no cell is free.
     #[inline(always)]
     pub(crate) fn put_fast_refuse(
         &self,
@@ -102,7 +102,7 @@ impl<T> Queue<T> {
         any(table, self, pass, at, put)
     }
 
-    // Those that prepare the node.
+    // The steps that prepare the node.
     #[inline]
     fn put_fast_prepare(
         &self,
@@ -131,7 +131,7 @@ impl<T> Queue<T> {
         )
     }
 
-    // Those that go to the end of the chain.
+    // The steps that go to the end of the chain.
     #[inline]
     fn put_fast_seek(
         &self,
@@ -152,7 +152,7 @@ impl<T> Queue<T> {
         any(table, self, pass, at, put)
     }
 
-    // And those that link the node there and swing the tail.
+    // The steps that link the node there and swing the tail.
     #[inline]
     fn put_fast_link(
         &self,

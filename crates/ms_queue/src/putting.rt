@@ -253,7 +253,7 @@ impl<T> Code<Queue<T>, T, Line<T>, Operation<T>, Queued, Answer<T>, 2> for PutAt
                 // The put has had its effect.
                 Next::On(PutAt::SwingTail(shown, tail, raised(link, held.node)))
             }
-            // Whoever succeeds, the tail is then no longer behind this put.
+            // Whichever pass succeeds, the tail then no longer lags behind this put.
             PutAt::SwingTail(_, tail, _) => Next::Done(Ok(tail.tag())),
             PutAt::GiveBack(why, held, at) => match on.give_on(at, outcome) {
                 Next::On(at) => Next::On(PutAt::GiveBack(why, held, at)),

@@ -34,7 +34,7 @@ impl<T> Rest<T> {
     ghost use Rattle.queue_table.specs.Layout.{head_at};
     ghost use Rattle.ms_queue.specs.Left.{left_in, left_along, node_behind};
 
-    // What stands in the chain behind the dummy, which `HEAD` names.
+    // The values in the chain after the dummy, which `HEAD` names.
     pub(crate) fn of(closed: Closed<Option<T>, Global>) -> Rest<T>
         requires full { IsFull closed.words × IsFull closed.slots }
         requires words { slots_len closed.words ≡ words_for (slots_len closed.slots) }

@@ -1,5 +1,5 @@
-//! Going to the end of the chain, to link a node there, to mark it, to see why nothing can be put, or
-//! to gauge the queue: the same steps for all four.
+//! Going to the end of the chain. Four callers make the same steps: to link a node there, to mark it, to see
+//! why nothing can be put, or to gauge the queue.
 ghost use Rattle.std.specs.Prelude.{ℕ, List, Option as Slot};
 ghost use Rattle.queue_machine.specs.declared.lines.Seeking.{Seeking};
 ghost use Rattle.queue_table.specs.Lists.{lists};
@@ -51,7 +51,7 @@ impl<T> Queue<T> {
         }
     }
 
-    /// Where it goes on from a step that came to this.
+    /// Where the operation continues after a step that came to this.
     #[inline(always)]
     pub(crate) fn seek_on(&self, at: Seek, outcome: Outcome) -> Next<Seek, End>
         requires { IsRead (room_of self.now) (limit_of self.now) at }
@@ -64,7 +64,7 @@ impl<T> Queue<T> {
                 Next::On(Seek::CheckTail(tail, Tagged::from_word(outcome.word)))
             }
             Seek::CheckTail(tail, link) => {
-                // Where the tail is still the same, the link was that of its node.
+                // If the tail is still the same, the link was that of its node.
                 if outcome.word != tail.word() {
                     return Next::Lost(Seek::LoadTail);
                 }
@@ -76,7 +76,7 @@ impl<T> Queue<T> {
                 }
                 Next::On(Seek::SwingTail(tail, link))
             }
-            // Whoever succeeds, the tail is then no longer the same.
+            // Whichever pass succeeds, the tail is then no longer the same.
             Seek::SwingTail(_, _) => {
                 if outcome.won {
                     Next::On(Seek::LoadTail)

@@ -43,7 +43,7 @@ impl<T> Queue<T> {
         Op::begin(self, by, Operation::Shut, ShutAt::LoadHead)
     }
 
-    /// Shuts the queue by a whole call, as `shut` of `Container`, and returns whether it did. The call
+    /// Shuts the queue by a whole call, as `shut` of `Container`. Returns whether this call shut it. The call
     /// was a run of the machine's steps.
     #[inline]
     pub fn shut_whole<R: Wait>(&self, rt: &R, by: Pass<T>) -> (Pass<T>, bool)

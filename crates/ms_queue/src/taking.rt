@@ -39,7 +39,7 @@ pub enum TakeAt<T> {
     LoadNext(Tagged, Tagged),
     /// Load `HEAD` again.
     CheckHead(Tagged, Tagged, Tagged),
-    /// The tail is at the dummy and a node stands behind it: compare-and-swap `TAIL` for that node.
+    /// The tail is at the dummy, which links a node: compare-and-swap `TAIL` for that node.
     SwingTail(Tagged, Tagged),
     /// Load the cell of the first node.
     LoadCell(Tagged, Tagged),
@@ -85,7 +85,7 @@ impl<T> Queue<T> {
         to_the_end(rt, &self.table.shared, self, first, &take)
     }
 
-    /// A take's steps on its fast path, as long as nobody is faster.
+    /// A take's steps on its fast path, as long as no other pass is faster.
     #[inline(always)]
     pub(crate) fn take_fast(
         &self,
@@ -102,7 +102,7 @@ impl<T> Queue<T> {
         self.take_fast_cell(pass, at, take)
     }
 
-    // First those that read the head, the tail and the first node.
+    // First the steps that read the head, the tail and the first node.
     #[inline]
     fn take_fast_read(
         &self,
@@ -125,7 +125,7 @@ impl<T> Queue<T> {
         any(table, self, pass, TakeAt::LoadNext(head, tail), take)
     }
 
-    // Then those that take the first value.
+    // Then the steps that take the first value.
     #[inline]
     fn take_fast_head(
         &self,
@@ -152,7 +152,7 @@ impl<T> Queue<T> {
         any(table, self, pass, TakeAt::TakeHead(head, link, cell), take)
     }
 
-    // Those that give the old dummy back.
+    // The steps that give the old dummy back.
     #[inline]
     fn take_fast_node(
         &self,
@@ -174,7 +174,7 @@ impl<T> Queue<T> {
         any(table, self, pass, at, take)
     }
 
-    // And those that give the cell back.
+    // The steps that give the cell back.
     #[inline]
     fn take_fast_cell(
         &self,
@@ -247,7 +247,7 @@ impl<T> Code<Queue<T>, T, Line<T>, Operation<T>, Queued, Answer<T>, 2> for TakeA
                 Next::On(TakeAt::CheckHead(head, tail, link))
             }
             TakeAt::CheckHead(head, tail, link) => {
-                // Where the head is still the same, the link was that of the dummy.
+                // If the head is still the same, the link was that of the dummy.
                 if outcome.word != head.word() {
                     return Next::Lost(TakeAt::LoadHead);
                 }
@@ -262,7 +262,7 @@ impl<T> Code<Queue<T>, T, Line<T>, Operation<T>, Queued, Answer<T>, 2> for TakeA
                 }
                 Next::On(TakeAt::LoadCell(head, link))
             }
-            // Whoever succeeds, the tail is then no longer at the dummy.
+            // Whichever pass succeeds, the tail is then no longer at the dummy.
             TakeAt::SwingTail(_, _) => {
                 if outcome.won {
                     Next::On(TakeAt::LoadHead)

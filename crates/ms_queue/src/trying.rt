@@ -1,4 +1,4 @@
-//! Calls that make a bounded number of steps, for callers that may not wait. Where the steps are
+//! Calls that make a bounded number of steps, for callers that may not wait. When the steps are
 //! used up, the operation comes back as it is, begun as before.
 ghost use Rattle.std.specs.Prelude.{◌≡◌};
 ghost use Rattle.queue_machine.specs.declared.lines.Line.{Line};
@@ -23,15 +23,15 @@ use running::{Next, at_once};
 /// What the first steps of a put have come to.
 pub enum PutMade<T> {
     Done(Pass<T>, Result<u64, PutRefused<T>>),
-    /// It is under way: `run_for` goes on with it.
+    /// It is under way: `run_for` continues it.
     Again(PutOp<T>),
     /// No cell is free: `refuse_at_once` says why nothing can be put.
     NoCell(Pass<T>, T),
 }
 
 impl<T> Queue<T> {
-    /// Puts a value on the fast path alone, with a wait where a compare-and-swap failed. Where that
-    /// does not end the put, `run_for` goes on with it.
+    /// Puts a value on the fast path alone, with a wait if a compare-and-swap failed. If this does
+    /// not end the put, the call returns it under way, and `run_for` continues it.
     #[inline(always)]
     pub fn put_at_once(
         &self,
@@ -48,8 +48,8 @@ impl<T> Queue<T> {
         }
     }
 
-    /// The same where a cell is free. Where none is, the caller has to say so: a put that takes one does
-    /// not pass over that code.
+    /// As `put_at_once` if a cell is free. If none is, it returns `NoCell`, and the caller calls
+    /// `refuse_at_once`: so a put that takes a cell does not pass over that code.
     #[inline(always)]
     pub fn put_if_room(&self, by: Pass<T>, value: T) -> PutMade<T>
         requires { IsPassOf self.now by }
@@ -77,7 +77,7 @@ impl<T> Queue<T> {
         PutMade::NoCell(by, value)
     }
 
-    /// Says why nothing can be put, where no cell is free.
+    /// Says why nothing can be put, if no cell is free.
     #[inline]
     pub fn refuse_at_once(
         &self,
@@ -114,7 +114,7 @@ impl<T> Queue<T> {
         }
     }
 
-    /// Takes a value, in the same way.
+    /// Takes a value on the fast path alone, as `put_at_once` puts one.
     #[inline(always)]
     pub fn take_at_once(
         &self,
@@ -135,7 +135,7 @@ impl<T> Queue<T> {
         }
     }
 
-    /// Looks whether the queue is empty, in the same way.
+    /// Looks whether the queue is empty, on the fast path alone, as `put_at_once` puts.
     #[inline(always)]
     pub fn look_at_once(&self, by: Pass<T>) -> Stepped<LookOp<T>, Pass<T>, bool>
         requires { IsPassOf self.now by }
@@ -153,7 +153,7 @@ impl<T> Queue<T> {
         }
     }
 
-    /// Counts the values, in the same way.
+    /// Counts the values on the fast path alone, as `put_at_once` puts one.
     #[inline]
     pub fn len_at_once(&self, by: Pass<T>) -> Stepped<LenOp<T>, Pass<T>, u64>
         requires { IsPassOf self.now by }

@@ -1,4 +1,5 @@
--- The bounded queue that the machine's history is one of, and which answers of its passes are right.
+-- The bounded queue whose history the machine's history is, and which answers of its passes are
+-- right.
 use Rattle.std.specs.Prelude.{◌≡◌, ℕ, ◌≤◌, Bool, true, false, List, Ok, Err}
 use Rattle.bounded_model.specs.declared.history.Order.TheVariants.{Fifo}
 use Rattle.bounded_model.specs.declared.history.Event.{Event}
@@ -17,13 +18,13 @@ shape n limit = record { order = Fifo; capacity = n; limit = limit; passes = MAX
 abbrev pub state : {T : Type 0} → ℕ → ℕ → List (Event T) → bounded.State T
 state n limit history = bounded.state (shape n limit) history
 
--- whether the queue is closed at the end of a history, and how many values were put: so many tags of the tail
--- are used, of those that the limit allows
+-- Whether the queue is closed at the end of a history, and how many values were put. That is the number of
+-- used tags of the tail, which the limit bounds
 abbrev pub IsGauged : {T : Type 0} → ℕ → ℕ → Bool → ℕ → List (Event T) → Type 0
 IsGauged n limit closed used h = ((state n limit h).closed ≡ closed) × ((state n limit h).puts ≡ used) × (used ≤ limit)
 
--- some history between those seen at the begin and at the end of an operation justifies its answer,
--- where that is one that changes nothing
+-- if an answer changes nothing, some history between those seen at the begin and at the end of its
+-- operation justifies it
 abbrev pub IsRight : {T : Type 0} → ℕ → ℕ → List (Event T) → List (Event T) → Answer T → Type 0
 IsRight n limit begun seen (AnswerPut (Ok done)) = Unit {0}
 IsRight n limit begun seen (AnswerPut (Err (Full v))) = right.Sometime begun seen (λ h. right.Justifies (shape n limit) h right.PutFull)

@@ -19,7 +19,7 @@ use Rattle.queue_machine.specs.declared.lines.Line.{Line}
 use Rattle.queue_machine.specs.declared.lines.Line.TheVariants.{Idle, LoadCells, LoadCellLink, TakeCell, LoadNodes, LoadNodeLink, TakeNode, StoreCell, LoadNext, PrepareNext, LoadTail, LoadTailNext, CheckTail, SwingTail, LinkNext, SwingToLinked, MarkNext, LoadHead, LoadTailToTake, LoadHeadNext, CheckHead, SwingTailToTake, LoadCell, TakeHead, LoadNodesToGive, LinkToNodes, GiveNode, LoadCellsToGive, LinkToCells, GiveCell, LoadHeadToLook, LoadNextToLook, CheckHeadToLook, LoadHeadToCount, LoadTailToCount, LoadNextToCount, CheckHeadToCount, CheckNextToGauge, LoadHeadToShut, ShutHead}
 
 module _ {T : Type 0} (p : ℕ) where
-  -- All the events of pass p from begin to answer, the newest first, are these
+  -- These are all the events of pass p from begin to answer, the newest first
 
   -- a put of v takes a cell and puts v. A refusal hands v back, and no cell is kept
   abbrev pub MakesPut : T → Result ℕ (PutRefused T) → List (Event T) → Type 0
@@ -36,7 +36,7 @@ module _ {T : Type 0} (p : ℕ) where
   MakesTake (Err (TakeSpent word t)) events = ⊥
   MakesTake (Err why) events = events ≡ []
 
-  -- the answer is one of the call, and the events are those that it speaks of
+  -- the answer is one of the call, and the events are those of the answer
   abbrev pub Makes : Call T → Answer T → List (Event T) → Type 0
   Makes (CallPut v) (AnswerPut r) events = MakesPut v r events
   Makes CallTake (AnswerTake r) events = MakesTake r events

@@ -29,8 +29,8 @@ use Rattle.queue_machine.specs.declared.lines.Line.TheVariants.{Idle, LoadCells,
 use Rattle.queue_machine.specs.declared.lines.Call.{Call}
 use Rattle.queue_machine.specs.declared.lines.Call.TheVariants.{Put as CallPut, Take as CallTake, Close as CallClose, Shut as CallShut, Look as CallLook, Len as CallLen, Gauge as CallGauge}
 
--- The words, and what each value cell has: none while a pass holds it, some None where it is empty at
--- home. `clink` and `nlink` link the free cells and the free nodes, `next` the nodes of the chain;
+-- The words, and what each value cell has. A cell that a pass holds has none; a cell that is empty at home
+-- has some None. `clink` and `nlink` link the free cells and the free nodes, `next` the nodes of the chain;
 -- `cell` says which cell has a node's value
 pub record Memory (T : Type 0) : Type 0 where
   pub cells : Tagged
@@ -51,15 +51,15 @@ store_word next i x j = if j == i then x else next j
 abbrev pub null_word : ℕ → Tagged
 null_word t = record { index = NULL; mark = false; second = false; tag = t }
 
--- which node is linked behind node j
+-- which node is linked after node j
 abbrev pub next_of : {T : Type 0} → Memory T → ℕ → ℕ
 next_of m j = (m.next j).index
 
--- the values behind the head h where the tail was w, whose node had the link n
+-- the number of values after the head h, if the tail was w and its node had the link n
 abbrev pub counted : Tagged → Tagged → Tagged → ℕ
 counted h w n = (if n.index == NULL then w.tag else w.tag + 1) - h.tag
 
--- node 0 is the dummy, the others are free
+-- node 0 is the dummy, the other nodes are free
 abbrev pub start_nlink : ℕ → ℕ → ℕ
 start_nlink n j = if j == 0 then NULL else start_link (n + 1) j
 
@@ -89,7 +89,7 @@ module _ {T : Type 0} where
   abbrev pub after_next : Memory T → ℕ → Tagged → Memory T
   after_next m j x = record m { next = store_word m.next j x }
 
-  -- node j is linked behind the one that w names, and its cell c comes home with a value
+  -- node j is linked after the one that w names, and its cell c comes home with a value
   abbrev pub after_link_of : Memory T → Tagged → Tagged → ℕ → ℕ → T → Memory T
   after_link_of m w n j c v = record m { next = store_word m.next w.index (raised n j); home = with_home m.home c (some (Some v)) }
 
@@ -108,7 +108,7 @@ module _ {T : Type 0} where
   abbrev pub after_shut : Memory T → Tagged → Memory T
   after_shut m h = record m { head = with_second h }
 
-  -- Where a pass goes on, from its line and the word that it found
+  -- Where a pass continues, from its line and the word that it found
   abbrev pub ends : Answer T → Line T
   ends a = Idle (Some a)
 
@@ -137,7 +137,7 @@ module _ {T : Type 0} where
   abbrev pub with_node : Placing T → ℕ → Linking T
   with_node put j = record { value = put.value; cell = put.cell; node = j }
 
-  -- both the preparation and the link raise the tag
+  -- the preparation and the link each raise the tag
   abbrev pub found_next : ℕ → Linking T → Tagged → Line T
   found_next limit link n =
       if leb limit (n.tag + 1) then gives link (AnswerPut (Err (PutSpent link.value (NextWord link.node) n.tag)))
@@ -278,7 +278,7 @@ module _ {T : Type 0} where
   table limit (StoreCell link) = links (CellOf link.node) link.cell (LoadNext link)
   table limit (LoadNext link) = loads (AtNext link.node) (found_next limit link)
   table limit (PrepareNext link n) = stores (AtNext link.node) (null_word (n.tag + 1)) (LoadTail (ToLink link))
-  -- .. and linked behind the last one
+  -- .. and linked after the last one
   table limit (LoadTail s) = loads AtTail (LoadTailNext s)
   table limit (LoadTailNext s w) = loads (AtNext w.index) (CheckTail s w)
   table limit (CheckTail s w n) = checks AtTail w (found_back s w n) (LoadTail s)
@@ -382,8 +382,8 @@ module _ {T : Type 0} where
   starts CallLen = LoadHeadToCount
   starts CallGauge = LoadTail ToGauge
 
--- The words and slots of a new queue: as many of each kind as it has nodes. A number that is no index
--- has 0 for a word, and no slot
+-- The words and slots of a new queue for n values: n cells and n + 1 nodes. A number that is no index has 0
+-- for a word, and no slot
 abbrev pub start : {T : Type 0} → Shape → Memory T
 start c = record {
   cells = start_word 0;

@@ -1,4 +1,4 @@
--- Where the cells and nodes of a queue are, and from where a step brings one into a hand.
+-- Where the cells and nodes of a queue are, and from where a step takes one into a pass's hand.
 use Rattle.std.specs.Prelude.{ℕ, ◌+◌, ◌⊎◌, List, ◌∷◌, map}
 use Rattle.machine.specs.Words.{Stands}
 use Rattle.machine.specs.Places.{Has, InOnePlace, IsFree, IsInside}
@@ -7,7 +7,7 @@ use Rattle.queue_machine.specs.declared.lines.Line.TheVariants.{TakeCell, TakeNo
 use Rattle.queue_machine.specs.Machine.{Memory, next_of, held_cells, held_nodes}
 
 module _ {T : Type 0} where
-  -- the free cells, the free nodes, and the nodes of the chain behind the dummy, as the words have them
+  -- the free cells, the free nodes, and the nodes of the chain after the dummy, as the words have them
   pub record Listed (m : Memory T) : Type 0 where
     pub cells : List ℕ
     pub nodes : List ℕ
@@ -29,8 +29,8 @@ module _ {T : Type 0} where
     pub cells : InOnePlace held_cells n lists.cells (chained_cells m lists) lines
     pub nodes : InOnePlace held_nodes (n + 1) lists.nodes (chained_nodes m lists) lines
 
-  -- where the cell, and the node, was that the next step of a line brings into its pass's hand: a put's
-  -- was free, a take's in the chain, and no other line brings any
+  -- Where the cell, and the node, was that the next step of a line brings into its pass's hand. A put's was
+  -- free, and a take's was in the chain. No other line brings one
   module _ (m : Memory T) (g : Listed m) (lines : List (Line T)) where
     abbrev pub CellWas : Line T → ℕ → Type 0
     CellWas (TakeCell v w k) c = IsFree held_cells g.cells (chained_cells m g) lines c
@@ -42,8 +42,8 @@ module _ {T : Type 0} where
     NodeWas (TakeHead h x k) j = IsInside held_nodes g.nodes (chained_nodes m g) lines j
     NodeWas l j = ⊥
 
-  -- A step from l to l' wins only what no pass had: each cell and each node in its pass's hand was in
-  -- that hand before, or in nobody's and where the line takes it from
+  -- A step from l to l' wins only what no pass had. Each cell and each node in its pass's hand was already in
+  -- that hand, or it was in no hand, at the place that the line takes it from
   pub record WinsUnheld (m : Memory T) (lines : List (Line T)) (l l' : Line T) : Type 0 where
     pub lists : Listed m
     pub cells : (c : ℕ) → Has (held_cells l') c → Has (held_cells l) c ⊎ CellWas m lists lines l c

@@ -18,7 +18,7 @@ use Rattle.queue_machine.specs.declared.lines.Line.TheVariants.{Idle, LoadCells,
 use Rattle.queue_machine.specs.Machine.{Memory, held_cells, held_nodes, counted}
 use Rattle.queue_machine.specs.Answers.{IsRight, shape, state}
 
--- the free cells; the free nodes; the nodes of the chain, and the parts of it before and behind the
+-- the free cells; the free nodes; the nodes of the chain, and the parts of it before and after the
 -- node that the tail names; the cells of its nodes without the first
 pub record Lists : Type 0 where
   pub cells : List ℕ
@@ -28,8 +28,8 @@ pub record Lists : Type 0 where
   pub after : List ℕ
   pub queued : List ℕ
 
--- Of what passes have read. All of it is said of tags: whoever changes the head to another node, the
--- tail, or a link of the chain raises its tag
+-- What passes have read. All of these depend on tags: a pass that changes the head to another node,
+-- the tail, or a link of the chain raises its tag
 
 -- w was the head, or the tail: since then its tag has risen, or it still names the same node
 pub record Past (now w : Tagged) : Type 0 where
@@ -49,13 +49,13 @@ Follows top next w n = w.tag ≡ top.tag → n.index ≢ NULL → next w.index �
 abbrev pub HasPassed : Tagged → Tagged → Tagged → Type 0
 HasPassed head h w = h.tag ≡ head.tag → w.index ≢ h.index → h.tag < w.tag
 
--- w was the tail after h had been the head: until a take is made, its node is in the chain, and it is the tail's where none stands behind it
+-- w was the tail after h had been the head. Until a take is made, its node is in the chain, and it is the tail's if no node stands after it
 pub record Spans (head tail : Tagged) (next : ℕ → Tagged) (chain : List ℕ) (h w : Tagged) : Type 0 where
   pub past : Past tail w
   pub there : h.tag ≡ head.tag → 0 < times w.index chain
   pub last : h.tag ≡ head.tag → (next w.index).index ≡ NULL → w.tag ≡ tail.tag
 
--- the tail was w, and n was the link of its node and names another: the tail can be moved on
+-- the tail was w, and n was the link of its node and names another: the tail can be moved to it
 pub record Lags (tail : Tagged) (next : ℕ → Tagged) (w n : Tagged) : Type 0 where
   pub node : n.index ≢ NULL
   pub past : Past tail w
@@ -68,7 +68,8 @@ pub record Ends (tail : Tagged) (next : ℕ → Tagged) (w n : Tagged) : Type 0 
   pub was : Was (next w.index) n
   pub last : n.tag ≡ (next w.index).tag → (w.tag ≡ tail.tag) × (w.index ≡ tail.index)
 
--- a link that a node can be put behind: null, with room for its tag to rise. k is the tag of `NODES`
+-- a link to which a node can be linked: null, with room for its tag to rise. k is the tag of
+-- `NODES`
 pub record IsFresh (limit k : ℕ) (x : Tagged) : Type 0 where
   pub null : x.index ≡ NULL
   pub unmarked : x.mark ≡ false
@@ -80,7 +81,7 @@ pub record IsPrepared {T : Type 0} (limit : ℕ) (m : Memory T) (link : Linking 
   pub fresh : IsFresh limit m.nodes.tag (m.next link.node)
   pub cell : m.cell link.node ≡ link.cell
 
--- of what a pass has read and holds
+-- what a pass has read and holds
 module _ {T : Type 0} (limit : ℕ) (m : Memory T) (g : Lists) where
   abbrev pub Seeks : Seeking T → Type 0
   Seeks (ToLink link) = IsPrepared limit m link
@@ -141,9 +142,9 @@ module _ {T : Type 0} (limit : ℕ) (m : Memory T) (g : Lists) where
   IsFine LoadHeadToShut = Unit {0}
   IsFine (ShutHead h) = h.second ≡ false
 
--- The chain stands: the head names its first node, each link the next, and the last link is null. The
--- tail names its last node or the one before, and its tag says how many were taken and how many stand
--- before it. Only a null link has the mark
+-- The chain stands: the head names its first node, each link the next, and the last link is null. The tail
+-- names its last node or the one before. The tail's tag is the number of takes plus the number of nodes
+-- before its node. Only a null link has the mark
 pub record IsChained (head tail : Tagged) (next : ℕ → Tagged) (cell : ℕ → ℕ) (g : Lists) : Type 0 where
   pub stands : Stands (λ j. (next j).index) head.index g.chain
   pub split : g.chain ≡ g.before ++ tail.index ∷ g.after
@@ -153,8 +154,8 @@ pub record IsChained (head tail : Tagged) (next : ℕ → Tagged) (cell : ℕ �
   pub tidy : (j : ℕ) → (next j).mark ≡ true → (next j).index ≡ NULL
 
 module _ (T : Type 0) where
-  -- The words and the links: both free lists and the chain stand; each cell below n is once free, in
-  -- the chain or in one hand, each node below n + 1 too, and no other cell or node is anywhere. Whatever
+  -- The words and the links. Both free lists and the chain stand. Each cell below n is once free, in the
+  -- chain or in one hand, and so is each node below n + 1. No other cell or node is in any of these. Whatever
   -- link a pass reads, of whatever node, names a node or is null
   pub record Linked (n limit : ℕ) (m : Memory T) (g : Lists) (lines : List (Line T)) : Type 0 where
     pub small : n < NULL
@@ -166,7 +167,7 @@ module _ (T : Type 0) where
     pub nodes_once : (j : ℕ) → times j g.nodes + times j g.chain + total (λ l. times j (held_nodes l)) lines ≡ if ltb j (n + 1) then 1 else 0
     pub fine : (q : ℕ) (l : Line T) → get_elem? lines q ≡ some l → IsFine limit m g l
 
--- The cells at home: those of the free list are empty, those of the chain have its values
+-- The cells at home: those of the free list are empty, and those of the chain have its values
 pub record Filled (T : Type 0) (m : Memory T) (g : Lists) (values : List T) : Type 0 where
   pub empty : (i : ℕ) → 0 < times i g.cells → m.home i ≡ some None
   pub stored : HasValues m.home g.queued values
@@ -207,8 +208,8 @@ putting (SwingTail s w n) = seeks_link s
 putting (LinkNext link w n) = 1
 putting l = 0
 
--- No tag passes the limit. A node is taken for each cell that was, and a node's link is written at most
--- twice for each time that a node was taken: so its tag at the limit means half as many holds
+-- No tag passes the limit. At most one node is taken for each cell taken. A node's link is written at most
+-- twice for each node taken. So if its tag is at the limit, the history has at least limit / 2 holds
 pub record Numbered (T : Type 0) (limit : ℕ) (m : Memory T) (g : Lists) (lines : List (Line T)) : Type 0 where
   pub cells_limit : m.cells.tag ≤ limit
   pub nodes_tag : m.nodes.tag + total wanting lines ≤ m.cells.tag
@@ -216,9 +217,9 @@ pub record Numbered (T : Type 0) (limit : ℕ) (m : Memory T) (g : Lists) (lines
   pub next_small : (j : ℕ) → (m.next j).tag ≤ 2 * m.nodes.tag + 1
   pub fresh : (m.next (last (m.tail.index ∷ g.after))).mark ≡ false → IsFresh limit m.nodes.tag (m.next (last (m.tail.index ∷ g.after)))
 
--- The history is legal, and the words, lists and hands are what it says. `who` says which pass a line
--- is of, if of any. `spare` is why a pass that has a cell and wants a node always finds one; `ahead` is
--- why no tag of the head or the tail meets the limit
+-- The history is legal, and the words, lists and hands are as it says. `who` says which pass a line belongs
+-- to, if any. `spare` is why a pass that has a cell and wants a node always finds one. `ahead` is why no tag
+-- of the head or the tail meets the limit
 pub record Told (T : Type 0) (n limit : ℕ) (m : Memory T) (g : Lists) (who : ℕ → Option ℕ) (lines : List (Line T)) (history : List (Event T)) : Type 0 where
   pub legal : bounded.Legal (shape n limit) history
   pub room : length g.cells + length g.queued + (state n limit history).held ≡ n
@@ -246,9 +247,9 @@ pub record Kept (T : Type 0) (n limit : ℕ) (m : Memory T) (who : ℕ → Optio
   pub lists : Lists
   pub good : Good T n limit m lists who lines history
 
--- What the history that a pass has seen by now says of the words that it has read. It speaks of no
--- word that is there now: where it depends on whether the head or the tail is still the one that was
--- read, it says so by the numbers of takes and puts, which their tags are
+-- What the history that a pass has seen by now says about the words that it has read. It speaks of
+-- no word that is there now. A claim that needs the head or the tail to be still the one read is
+-- made by the numbers of takes and puts, which are their tags
 module _ {T : Type 0} (n limit : ℕ) (seen : List (Event T)) where
   -- what the link x of the tail's node told, w having been the tail
   pub record EndTells (w x : Tagged) : Type 0 where
@@ -262,7 +263,7 @@ module _ {T : Type 0} (n limit : ℕ) (seen : List (Event T)) where
     pub null : (state n limit seen).takes ≡ h.tag → x.index ≡ NULL → IsEmpty (shape n limit) seen × (x.mark ≡ (state n limit seen).closed)
     pub node : (state n limit seen).takes ≡ h.tag → x.index ≢ NULL → IsEmpty (shape n limit) seen → ⊥
 
--- What a line says of the histories that its pass had seen at the begin and has seen by now
+-- What a line says about the histories that its pass had seen at the begin and has seen by now
 module _ {T : Type 0} (n limit : ℕ) (begun seen : List (Event T)) where
   -- a put that found no cell had found all of them taken
   abbrev pub SeeksFor : Seeking T → Type 0
@@ -271,7 +272,7 @@ module _ {T : Type 0} (n limit : ℕ) (begun seen : List (Event T)) where
   SeeksFor ToClose = Unit {0}
   SeeksFor ToGauge = Unit {0}
 
-  -- what the link x of the node of w told of the values, w having been the tail after h had been the head
+  -- what the link x of the node of w told about the values, w having been the tail after h had been the head
   pub record CountTells (h w x : Tagged) : Type 0 where
     pub since : h.tag ≤ (state n limit seen).takes
     pub held : (state n limit seen).takes ≡ h.tag → Sometime begun seen (λ k. Justifies (shape n limit) k (Counted (counted h w x)))

@@ -1,6 +1,6 @@
-//! What a pass of the queue is at between two of its atomic steps: the queue of Michael and Scott
-//! (PODC 1996) over an array of nodes, with tagged words, a free list of nodes, a free list of
-//! value cells, closing and shutting. No value of these types is made at run time: they stand in
+//! What a pass of the queue is at between two of its atomic steps. The queue is that of Michael and
+//! Scott (PODC 1996) over an array of nodes, with tagged words, a free list of nodes, a free list
+//! of value cells, closing and shutting. No value of these types is made at run time. They stand in
 //! definitions, proofs and views.
 
 use bounded_model::{Event, PutRefused, TakeRefused};
@@ -17,7 +17,7 @@ pub enum Place {
     Head,
     /// The last one, or the last but one.
     Tail,
-    /// The node behind a node of the chain.
+    /// The node after a node of the chain.
     Next(u32),
 }
 
@@ -46,7 +46,7 @@ pub struct Linking<T> {
 
 /// Why a pass goes to the end of the chain.
 pub enum Seeking<T> {
-    /// To link its node behind the last one.
+    /// To link its node after the last one.
     ToLink(Linking<T>),
     /// To say why this value cannot be put: no cell is free.
     ToRefuse(T),
@@ -70,26 +70,26 @@ pub enum Answer<T> {
     Look(bool),
     /// How many values it held.
     Len(u64),
-    /// Whether it was closed, and how many of its tail's tags were used: as many values were put.
+    /// Whether it was closed, and how many of its tail's tags were used: the number of values put.
     Gauge(bool, u64),
 }
 
-/// A node and a cell whose value has been moved out are to be given back, the node first; then the
-/// operation answers.
+/// A node and a cell whose value has been moved out. The pass gives them back, the node first, and
+/// then the operation answers.
 pub struct Giving<T> {
     pub cell: u32,
     pub node: u32,
     pub answer: Answer<T>,
 }
 
-/// The cell alone is still to be given back.
+/// The pass still gives the cell alone back.
 pub struct Freeing<T> {
     pub cell: u32,
     pub answer: Answer<T>,
 }
 
-/// The next atomic step of a pass, with what it has read and what it holds. A word that was read
-/// last stands behind the others.
+/// The next atomic step of a pass, with what it has read and what it holds. The word that it read
+/// last is the last field.
 pub enum Line<T> {
     /// No operation. The answer is that of the last one.
     Idle(Option<Answer<T>>),
@@ -134,7 +134,7 @@ pub enum Line<T> {
     LoadHeadNext(Fields, Fields),
     /// Load `HEAD` again.
     CheckHead(Fields, Fields, Fields),
-    /// The tail is at the dummy and a node stands behind it: compare-and-swap `TAIL` for that node.
+    /// The tail is at the dummy, which links a node: compare-and-swap `TAIL` for that node.
     SwingTailToTake(Fields, Fields),
     /// Load the cell of the first node.
     LoadCell(Fields, Fields),
@@ -166,8 +166,8 @@ pub enum Line<T> {
     LoadNextToCount(Fields, Fields),
     /// Load `HEAD` again.
     CheckHeadToCount(Fields, Fields, Fields),
-    /// Load the last node's `next` again: while it is the same, nothing was put since, and the queue
-    /// is open.
+    /// Load the last node's `next` again. While it is the same, no put was made since, and the
+    /// queue is open.
     CheckNextToGauge(Fields, Fields),
     /// Load `HEAD`.
     LoadHeadToShut,

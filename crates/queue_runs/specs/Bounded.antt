@@ -1,4 +1,4 @@
--- How many steps an operation under way has made, by the compare-and-swaps by which others succeeded meanwhile.
+-- How many steps an operation under way has made, by the number of compare-and-swaps by which other passes succeeded meanwhile.
 use Rattle.std.specs.Prelude.{◌≡◌, ℕ, ◌+◌, ◌*◌, ◌≤◌, ◌∷◌, ◌++◌}
 use Rattle.machine.specs.Seats.{Acts}
 use Rattle.machine.specs.Schedule.{after}
@@ -25,12 +25,13 @@ module _ {T : Type 0} where
   call_at l = CallTake
 
   module _ (n limit : ℕ) where
-    -- the machine with so many passes, after these acts
+    -- the machine with `passes` passes, after these acts
     abbrev pub state_after : ℕ → Acts (Line T) → State T
     state_after passes acts = after (queue (shape n limit)) passes (schedule_of call_at acts)
 
-    -- Pass x in an operation with this first line, by the acts as it was begun and those by now: since then it has made so many steps, and so many exchanges of others
-    -- have succeeded. The machine that ran as the passes did says which succeeded. The same bound holds of the steps from any point of the operation on
+    -- Pass x is in an operation with this first line, begun after the acts `before`. Since then it has made at most 20 steps, and 8 for
+    -- each exchange by which another pass succeeded. The machine run as the passes did says which. The bound holds too from any point of
+    -- the operation on
     pub record IsBounded (before now : Acts (Line T)) (x : ℕ) (first : Line T) : Type 0 where
       pub since : Acts (Line T)
       pub is : now ≡ since ++ (x, Begins first) ∷ before

@@ -10,8 +10,8 @@ use Rattle.runs.specs.Work.{total_steps, total_answers, total_fees, in_all, pays
 use Rattle.queue_runs.specs.Bounded.{call_at}
 
 module _ {T : Type 0} where
-  -- what a call has cost at most that gave this answer, if k other passes were in a call meanwhile; a queue has no folds. A meeting or a note heard
-  -- is one load
+  -- What a call that gave this answer has cost at most, if k other passes were in a call meanwhile. A queue has no folds. A meeting or a
+  -- note heard is one load
   abbrev pub fee : ℕ → Answered T → ℕ
   fee k (Put r) = 18 + 14 * k
   fee k (Take r) = 17 + 12 * k
@@ -23,12 +23,14 @@ module _ {T : Type 0} where
   fee k (Gauge closed used) = 8
   fee k Heard = 1
 
-  -- the passes but one
+  -- the number of passes but one
   abbrev pub others_of : RootView T → ℕ
   others_of r = r.given - 1
 
-  -- The joined passes have made at most so many steps, together: what the calls cost that these acts begin, with a load for each meeting and each note
-  -- heard; the fees of all that was answered; and so many for each answer
+  -- Three bounds on the number of steps that the joined passes have made together:
+  -- - the sum of what the calls cost that these acts begin, with one load for each meeting and each note heard;
+  -- - the sum of the fees of all answers;
+  -- - 18 + 14 * others for each answer
   pub record TotalWork (r : RootView T) (acts : Acts (Line T)) : Type 0 where
     pub prices : total_steps r.works ≤ in_all (pays (λ l. cost (others_of r) (call_at l))) acts
     pub fees : total_steps r.works ≤ total_fees (fee (others_of r)) r.works

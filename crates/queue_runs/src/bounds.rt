@@ -15,17 +15,18 @@ ghost use Rattle.running.specs.Acts.{Course, IsAllowed, played};
 ghost use Rattle.runs.specs.Runs.{Below, Shows};
 ghost use Rattle.queue_runs.specs.Bounded.{IsBounded, call_at, state_after};
 
-/// An operation of a queue that is under way has made at most 20 steps, and 8 for each
-/// compare-and-swap by which another pass has succeeded since it was begun.
+/// An operation of a queue that is under way has made at most 20 steps since it was begun, and 8
+/// for each compare-and-swap by which another pass has succeeded since. The same bound holds of the
+/// steps from any point of the operation on.
 pub fn queue_steps_are_bounded<T>()
     ensures { (n limit x : ℕ) (before now : Acts (Line T)) (first l : Line T) → 0 < n → n < NULL → 0 < limit
         → Course names (core T n limit) before now x first l → is_idle l ≡ false
         → IsBounded n limit before now x first }
 {}
 
-/// The acts that led to a queue's table are a schedule of its machine. Run with any number of passes
-/// that is large enough, from the words of a new queue, it comes to the same words, history and lines.
-/// The machine's rule holds there, so all that is proved of such states holds of the queue.
+/// The acts that led to a queue's table are a schedule of its machine. Run with any number of passes that is
+/// above the number of each pass, from the words of a new queue, it comes to the same words, history and
+/// lines. The machine's rule holds there, so all that is proved of such states holds of the queue.
 pub fn queue_acts_are_a_schedule<T>()
     ensures shows { (n limit passes : ℕ) (acts : Acts (Line T)) → Below passes acts
         → AllByRecursion (λ a. IsAllowed names (core T n limit) a.1) acts

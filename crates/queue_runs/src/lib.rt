@@ -1,7 +1,7 @@
-//! Laws of the acts that led to a running queue's table. They are a schedule of its machine, and their
-//! calls are linearizable. The steps of an operation under way are bounded, by how often others have
-//! succeeded meanwhile. If no pass is out, all passes together have made no more steps than their calls
-//! cost. No function here makes a step: the contract of each is a law of what the passes know.
+//! Laws of the acts that led to a running queue's table. They are a schedule of its machine, and their calls
+//! are linearizable. The number of steps of an operation under way is bounded by how often other passes have
+//! succeeded meanwhile. If no pass is out, all passes together have made no more steps than their calls cost.
+//! No function here makes a step: the contract of each is a law of what the passes know.
 #![tactic(auto)]
 
 mod bounds;

@@ -14,12 +14,12 @@ ghost use Rattle.running.specs.Acts.{IsAllowed};
 ghost use Rattle.runs.specs.Heard.{IsLinearizable};
 ghost use Rattle.queue_runs.specs.Bounded.{call_at};
 
-/// The calls of a run of threads on a queue are linearizable (Herlihy and Wing 1990), refusals among
-/// them. Whatever acts led to a queue's table, linearization points can be put into their invocations
-/// and responses, in the order of the acts. In the order of the points the operations are a legal
-/// history of the bounded queue, with the answers that were given and the events that the acts have
-/// made. The order of the points keeps real time. Cut such a history anywhere: the operations of a pass
-/// that have taken effect are those that it has completed by then, or these and its pending one.
+/// The calls of a run of threads on a queue are linearizable (Herlihy and Wing 1990), refusals included.
+/// Whatever acts led to a queue's table, linearization points can be put into their invocations and
+/// responses, in the order of the acts. In the order of the points the operations are a legal history of the
+/// bounded queue, with the answers that were given and the events that the acts have made. The order of the
+/// points keeps real time. If such a history is cut anywhere, the operations of a pass that have taken effect
+/// are those that it has completed by then, with or without its pending one.
 pub fn queue_acts_are_linearizable<T>()
     ensures points { (n limit : ℕ) (acts : Acts (Line T)) → 0 < n → n < NULL → 0 < limit
         → AllByRecursion (λ a. IsAllowed names (core T n limit) a.1) acts

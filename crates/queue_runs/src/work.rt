@@ -8,10 +8,11 @@ ghost use Rattle.queue_table.proofs.Laws.{queue};
 ghost use Rattle.run_ends.specs.Ends.{IsRun};
 ghost use Rattle.queue_runs.specs.Work.{TotalWork};
 
-/// The total work on a queue of P passes that have all been joined. Together they have made at most as
-/// many steps as their calls cost: a put `14 * P + 4`, a take `12 * P + 5`, a close `8 * P`, a shut
-/// `6 * P - 4`, a look 3, a count 4, a gauge 8, and a meeting or a note heard 1. The calls are those
-/// that the root keeps of each joined pass by their answers, and those that the acts of the run begin.
+/// The total work on a queue of P passes that have all been joined. Together they have made at most the
+/// sum of the steps that their calls cost. This holds of the calls that the root keeps of each joined
+/// pass, by their answers, and of the calls that the acts of the run begin. The costs:
+/// - a put `14 * P + 4`, a take `12 * P + 5`, a close `8 * P`, a shut `6 * P - 4`;
+/// - a look 3, a count 4, a gauge 8, a meeting or a note heard 1.
 pub fn queue_total_work<T>()
     ensures { (n limit : ℕ) (r : RootView T) (left : List T) → 0 < n → n < NULL → 0 < limit
         → (ran : IsRun (queue T n limit) r left) → IsSound (shape n limit) r → NoneOut r

@@ -16,7 +16,7 @@ use Rattle.queue_table.specs.declared.operation.Operation.{Operation}
 use Rattle.queue_table.specs.Layout.{next_at, layout}
 use Rattle.queue_table.specs.Lines.{call_of, reply, Brings, Says}
 
--- what is stored in a word that is no link of the chain is an index or null
+-- a word that is no link of the chain has an index or null
 abbrev pub Plain : ℕ → ℕ → Type 0
 Plain at x = ((j : ℕ) → at ≢ next_at j) → x ≤ NULL
 

@@ -1,4 +1,4 @@
--- What the code is told at a line of the queue.
+-- What the code knows at a line of the queue.
 use Rattle.std.specs.Prelude.{◌≡◌, ◌≢◌, ℕ, ◌+◌, ◌<◌, ◌≤◌, List, [], ◌∷◌, Option as Slot, Some, None}
 use Rattle.tagged_index.specs.Fields.{fields_of, index_of}
 use Rattle.tagged_index.specs.declared.word.TheConstants.{NULL}
@@ -69,8 +69,8 @@ module _ {T : Type 0} where
   HasRoom limit (TakeHead h x k) = h.tag < limit
   HasRoom limit l = Unit {0}
 
-  -- What the word that a line finds tells the code: it names a cell, or one of the n + 1 nodes, or it is a plain link; and the
-  -- exchange that comes next has room
+  -- What the word that a line finds tells the code. It names a cell, or one of the n + 1 nodes, or it is a plain link. The exchange that
+  -- comes next has room
   abbrev pub Says : ℕ → ℕ → Line T → ℕ → Type 0
   Says n limit (LoadCells v) y = index_of y ≢ NULL → index_of y < n
   Says n limit (LoadCellLink v w) y = y ≤ NULL

@@ -1,6 +1,6 @@
 //! Where the words of a queue lie. The tops of the two free lists, the head and the tail are 16
-//! words apart, so that each has cache lines of its own; then four words follow for each index: the
-//! link of the free cell, that of the free node, and the node's link in the chain and its cell.
+//! words apart, so that each has cache lines of its own. Four words follow for each index: the link
+//! of the free cell, that of the free node, and the node's link in the chain and its cell.
 ghost use Rattle.std.specs.Prelude.{◌≡◌, ◌+◌, ◌*◌, ◌<◌, ◌≤◌};
 ghost use Rattle.tagged_index.specs.declared.word.TheConstants.{NULL};
 ghost use Rattle.machine.specs.Words.{start_link};
@@ -14,7 +14,7 @@ pub const CELLS: usize = 0;
 /// The top of the free nodes.
 pub const NODES: usize = 16;
 
-/// It names the dummy, behind which the first node stands.
+/// It names the dummy, which the first node follows.
 pub const HEAD: usize = 32;
 
 /// It names the last node, or the one before.
@@ -75,7 +75,7 @@ pub fn words(capacity: u32) -> usize
     FIRST_LINK + WORDS_OF_AN_INDEX * (capacity as usize + 1)
 }
 
-// The next of so many indexes; null behind the last.
+// The next of `count` indexes; null after the last.
 fn after(index: usize, count: usize) -> u64
     requires { index ≤ 4 * NULL }
     ensures { result ≡ start_link count index }
@@ -87,7 +87,7 @@ fn after(index: usize, count: usize) -> u64
     }
 }
 
-/// A word of a new queue. All cells are free, and all nodes but node 0, which is the dummy; each
+/// A word of a new queue. All cells are free, and all nodes but node 0, which is the dummy. Each
 /// free one is linked to the next.
 pub fn start(capacity: u32, at: usize) -> u64
     requires { (capacity ≤ NULL) × (at < words_for capacity) }

@@ -26,10 +26,10 @@ const TAKE_STEPS: u32 = 12;
 
 const TAKEN_AT: u32 = 6;
 
-// How many steps of another call are made before each of a count's four.
+// How many steps of another call come before each of a count's four.
 type Schedule = [u32; 4];
 
-// A queue with room for so many values, and two passes.
+// A queue with room for `room` values, and two passes.
 fn queue_of<R: Abort>(rt: &R, alloc: Global, room: u32) -> (Queue<u32>, Pass<u32>, Pass<u32>)
     ensures { IsPassOf result.0 result.1 × IsPassOf result.0 result.2 }
 {
@@ -40,7 +40,7 @@ fn queue_of<R: Abort>(rt: &R, alloc: Global, room: u32) -> (Queue<u32>, Pass<u32
     (queue, first, second)
 }
 
-// Makes so many steps of a put, none of which ends it.
+// Makes `steps` steps of a put. None of them ends it.
 fn go_on_putting<R: Abort>(rt: &R, queue: &Queue<u32>, op: PutOp<u32>, steps: u32) -> PutOp<u32>
     requires { (x : ℕ) × IsPutting queue.now x op }
     ensures { (x : ℕ) × IsPutting queue.now x result }
@@ -55,7 +55,7 @@ fn go_on_putting<R: Abort>(rt: &R, queue: &Queue<u32>, op: PutOp<u32>, steps: u3
     op
 }
 
-// The same of a take.
+// Makes `steps` steps of a take. None of them ends it.
 fn go_on_taking<R: Abort>(rt: &R, queue: &Queue<u32>, op: TakeOp<u32>, steps: u32) -> TakeOp<u32>
     requires { IsTaking queue.now op }
     ensures { IsTaking queue.now result }
@@ -70,7 +70,7 @@ fn go_on_taking<R: Abort>(rt: &R, queue: &Queue<u32>, op: TakeOp<u32>, steps: u3
     op
 }
 
-// The same of a count.
+// Makes `steps` steps of a count. None of them ends it.
 fn go_on_counting<R: Abort>(rt: &R, queue: &Queue<u32>, op: LenOp<u32>, steps: u32) -> LenOp<u32>
     requires { IsCounting queue.now op }
     ensures { IsCounting queue.now result }
@@ -85,8 +85,8 @@ fn go_on_counting<R: Abort>(rt: &R, queue: &Queue<u32>, op: LenOp<u32>, steps: u
     op
 }
 
-// Counts in this schedule beside a put into an empty queue: the value is counted where it was in the
-// queue before the third step.
+// Counts in this schedule beside a put into an empty queue. The count includes the value if it was
+// in the queue before the third step.
 fn counted_beside_a_put<R: Abort>(rt: &R, alloc: Global, schedule: Schedule) {
     let [first, second, third, fourth] = schedule;
     let (queue, putter, counter) = queue_of(rt, alloc, 1);
@@ -104,8 +104,8 @@ fn counted_beside_a_put<R: Abort>(rt: &R, alloc: Global, schedule: Schedule) {
     assert_eq!(rt; found, held);
 }
 
-// The same beside a take of the only value: where it is taken between the first and the last step,
-// the count begins again.
+// Counts in this schedule beside a take of the only value. If the take gets it between the first
+// and the last step, the count begins again.
 fn counted_beside_a_take<R: Abort + Wait>(rt: &R, alloc: Global, schedule: Schedule) {
     let [first, second, third, fourth] = schedule;
     let (queue, taker, counter) = queue_of(rt, alloc, 1);
@@ -157,7 +157,7 @@ fn a_count_beside_a_take_tells_what_was_there(rt: HostRuntime) {
     }
 }
 
-// Puts so many values.
+// Puts `count` values.
 fn put_many<R: Wait>(rt: &R, queue: &Queue<u32>, by: Pass<u32>, count: u32)
     requires { IsPassOf queue.now by }
 {
@@ -168,7 +168,7 @@ fn put_many<R: Wait>(rt: &R, queue: &Queue<u32>, by: Pass<u32>, count: u32)
     }
 }
 
-// Takes so many.
+// Takes `count` values.
 fn take_many<R: Wait>(rt: &R, queue: &Queue<u32>, by: Pass<u32>, count: u32)
     requires { IsPassOf queue.now by }
 {
@@ -179,7 +179,7 @@ fn take_many<R: Wait>(rt: &R, queue: &Queue<u32>, by: Pass<u32>, count: u32)
     }
 }
 
-// The greatest of so many counts, and the pass.
+// The greatest of `times` counts, and the pass.
 fn greatest<R: Wait>(rt: &R, queue: &Queue<u32>, by: Pass<u32>, times: u32) -> (Pass<u32>, u32)
     requires { IsPassOf queue.now by }
     ensures { IsPassOf queue.now result.0 }

@@ -7,10 +7,10 @@ use ms_queue::{Gauge, GaugeOp, Queue};
 use std::process::Abort;
 use tagged_index::{Limits, MAX_TAG};
 
-// A gauge makes four steps where nothing is put meanwhile.
+// A gauge makes four steps if nothing is put meanwhile.
 const GAUGE_STEPS: u32 = 4;
 
-// Makes so many steps of a gauge, none of which ends it.
+// Makes `steps` steps of a gauge. None of them ends it.
 fn go_on<R: Abort>(rt: &R, queue: &Queue<u32>, op: GaugeOp<u32>, steps: u32) -> GaugeOp<u32>
     requires { IsGauging queue.now op }
     ensures { IsGauging queue.now result }
@@ -25,7 +25,8 @@ fn go_on<R: Abort>(rt: &R, queue: &Queue<u32>, op: GaugeOp<u32>, steps: u32) -> 
     op
 }
 
-// Whole calls, and one by single steps: it begins again, since a value was put before its last step.
+// Whole calls, and one by single steps. It begins again, since a value was put before its last
+// step.
 #[test]
 fn a_gauge_counts_what_was_put(rt: HostRuntime) {
     let limits = Limits::of(2, MAX_TAG).expect(&rt, "limits");

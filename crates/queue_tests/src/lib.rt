@@ -1,5 +1,5 @@
-//! Tests of the queue alone: how a queue is made, looks, counts and gauges. What any container has is tested in
-//! `container_tests`; all other calls and their steps are played by the program (`tests/cases`).
+//! Tests of the queue alone: how a queue is made, looks, counts and gauges. `container_tests` tests what any
+//! container has. The program (`tests/cases`) plays all other calls and their steps.
 #![tactic(auto)]
 
 #[cfg(test)]

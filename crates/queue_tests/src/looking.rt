@@ -4,7 +4,7 @@ use bounded_model::Container;
 use ms_queue::Queue;
 use tagged_index::{Limits, MAX_TAG};
 
-// What was put is seen at once by a look, which is the queue's own call too.
+// A look sees at once what was put. It is the queue's own call too.
 #[test]
 fn a_look_finds_what_was_put(rt: HostRuntime) {
     let limits = Limits::of(1, MAX_TAG).expect(&rt, "limits");

@@ -18,8 +18,8 @@ shape n limit = record { order = Lifo; capacity = n; limit = limit; passes = MAX
 abbrev pub state : {T : Type 0} → ℕ → ℕ → List (Event T) → bounded.State T
 state n limit history = bounded.state (shape n limit) history
 
--- whether the stack is closed at the end of a history, and how many tags of its top are used, of those that the
--- limit allows: one for each put and each take, of one value or of many
+-- Whether the stack is closed at the end of a history, and how many tags of its top are used, which the limit
+-- bounds. Each put uses one and each take one, whether of one value or of many
 abbrev pub IsGauged : {T : Type 0} → ℕ → ℕ → Bool → ℕ → List (Event T) → Type 0
 IsGauged n limit closed used h = ((state n limit h).closed ≡ closed) × ((state n limit h).puts + (state n limit h).takes ≡ used) × (used ≤ limit)
 

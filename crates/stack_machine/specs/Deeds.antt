@@ -26,10 +26,10 @@ use Rattle.stack_machine.specs.declared.lines.Line.{Line}
 use Rattle.stack_machine.specs.Machine.{is_up}
 use Rattle.stack_machine.specs.declared.lines.Line.TheVariants.{Idle, LoadFree, LoadFreeLink, TakeFree, LinkTaken, LoadTop, LinkToTop, SwapTop, LoadTopToRefuse, LoadTopToTake, LoadTopLink, TakeTop, TakeChain, LoadLinkToTurn, TurnLink, LoadLinkToFold, LoadFreeToGive, LinkToFree, GiveBack, LoadTopToClose, MarkTop, LoadTopToShut, ShutTop, LoadTopToLook, LoadTopToGauge}
 
--- All the events of pass p from the begin of a call to its answer are these, the newest first
+-- These are all the events of pass p from the begin of a call to its answer, the newest first
 
--- it put values by one exchange, each in a node that it had taken, and left others over: together they
--- are those of the call
+-- The pass put values by one exchange, each in a node that it had taken, and left other values over. Together
+-- they are those of the call
 pub record PutAtOnce {T : Type 0} (p : ℕ) (wanted : List T) (n : ℕ) (left : List T) (events : List (Event T)) : Type 0 where
   pub values : List T
   pub some_value : 0 < length values
@@ -47,7 +47,7 @@ abbrev pub in_order : {T : Type 0} → Direction → List T → List T
 in_order d values = turned (is_up d) values
 
 -- it took all values by one exchange, folded them in this direction, and gave their nodes back by
--- another
+-- another exchange
 pub record FoldedAll {T : Type 0} (p : ℕ) (d : Direction) (n : ℕ) (folded : List T) (events : List (Event T)) : Type 0 where
   pub values : List T
   pub is : events ≡ Free p (length values) ∷ TakeAll p values n ∷ []
@@ -60,7 +60,7 @@ handed_back (Closed values) = values
 handed_back (Spent values word tag) = values
 
 module _ {T : Type 0} (p : ℕ) where
-  -- a put hands back all that it was to put. One that found no node has taken none
+  -- A refused put hands all its values back. A put that found no node has taken none
   abbrev pub MakesRefusal : PutRefused (List T) → List (Event T) → Type 0
   MakesRefusal (Full values) events = events ≡ []
   MakesRefusal (Closed values) events = BackedOut p (length values) events
@@ -86,7 +86,7 @@ module _ {T : Type 0} (p : ℕ) where
   MakesFold d (Ok r) events = FoldedAll p d r.1 r.0 events
   MakesFold d (Err why) events = MakesNothing why events
 
-  -- the answer is one of the call, and the events are those that it speaks of
+  -- the answer is one of the call, and the events are those of the answer
   abbrev pub Makes : Call T → Answer T → List (Event T) → Type 0
   Makes (CallPut v vs) (AnswerPut r) events = MakesPut (v ∷ vs) r events
   Makes (CallTake One) (AnswerTake r) events = MakesTake r events
@@ -139,8 +139,8 @@ module _ {T : Type 0} (p : ℕ) where
   HasMade call LoadTopToLook events = (call ≡ CallLook) × (events ≡ [])
   HasMade call LoadTopToGauge events = (call ≡ CallGauge) × (events ≡ [])
 
--- A range leaves values out only where no node could be had. The histories are those that the pass
--- had seen as its operation was begun, and has seen by now
+-- A range leaves values out only if no node could be had. The histories are those that the pass had
+-- seen at the begin of its operation, and has seen by now
 
 module _ {T : Type 0} where
   -- a put goes to the top with all its values, or no further node could be had
@@ -171,8 +171,8 @@ pub record Deeds {T : Type 0} (c : Shape) (p : ℕ) (call : Call T) (l : Line T)
   pub made : HasMade p call l (own p between)
   pub all : IsAll c begun seen l
 
--- what pass p has done once its call is answered: the answer is one of the call, and its own events are
--- exactly those that the answer speaks of
+-- What pass p has done once its call is answered. The answer is one of the call. The pass's own events are
+-- exactly those of the answer
 pub record HasDone {T : Type 0} (c : Shape) (p : ℕ) (call : Call T) (a : Answer T) (begun seen : List (Event T)) : Type 0 where
   pub between : List (Event T)
   pub is : seen ≡ between ++ begun

@@ -32,8 +32,8 @@ use Rattle.stack_machine.specs.declared.lines.Line.TheVariants.{Idle, LoadFree, 
 use Rattle.stack_machine.specs.declared.lines.Call.{Call}
 use Rattle.stack_machine.specs.declared.lines.Call.TheVariants.{Put as CallPut, Take as CallTake, Close as CallClose, Shut as CallShut, Look as CallLook, Gauge as CallGauge}
 
--- The words, and what each node's slot has: none while a pass holds it, some None where it is empty
--- at home
+-- The words, and what each node's slot has. A slot that a pass holds has none; a slot that is empty
+-- at home has some None
 pub record Memory (T : Type 0) : Type 0 where
   pub free : Tagged
   pub top : Tagged
@@ -41,7 +41,7 @@ pub record Memory (T : Type 0) : Type 0 where
   pub home : ℕ → Option (Slot T)
 
 module _ {T : Type 0} where
-  -- the values that have a node, the lowest first, and the others
+  -- the values that have a node, the lowest first, and the values that have none
   abbrev pub placed : Putting T → List T
   placed put = take (length put.chain) put.values
 
@@ -80,7 +80,7 @@ module _ {T : Type 0} where
   abbrev pub after_store : Memory T → ℕ → ℕ → Memory T
   after_store m i x = record m { link = store m.link i x }
 
-  -- Where a pass goes on, from its line and the word that it found
+  -- Where a pass continues, from its line and the word that it found
   abbrev pub ends : Answer T → Line T
   ends a = Idle (Some a)
 
@@ -91,7 +91,7 @@ module _ {T : Type 0} where
   abbrev pub next_node : Putting T → Line T
   next_node put = if ltb (length put.chain) (length put.values) then LoadFree put else LoadTop put
 
-  -- no node can be had: what is in hand is put, and with nothing in hand the put is refused
+  -- No node can be had. The pass puts what it has in hand. With nothing in hand, the put is refused
   abbrev pub no_node : Putting T → Line T → Line T
   no_node put refused = if length put.chain == 0 then refused else LoadTop put
 
@@ -237,7 +237,7 @@ module _ {T : Type 0} where
   table c (LoadTopToTake taking) = load_top stacked (at_load_top_to_take c.limit taking)
   table c (LoadTopLink w) = follow_link stacked w (TakeTop w)
   table c (TakeTop w k) = take_slot stacked w k (took w) (LoadTopToTake One)
-  -- fold: the whole chain, turned round where it is wanted from the bottom up, then its values
+  -- fold: the whole chain, turned round if the fold goes from the bottom up, then its values
   table c (TakeChain d w) = take_all stacked w (is_up d) (λ m. chain_from c.capacity m.link w.index) (took_all d w) (LoadTopToTake (Whole d))
   table c (LoadLinkToTurn give above i) = follows (stacked.link i) (TurnLink give above i)
   table c (TurnLink give above i k) = links (stacked.link i) above (at_turn_link give i k)

@@ -1,4 +1,4 @@
--- Where the nodes of a stack are, and from where a step brings one into a hand.
+-- Where the nodes of a stack are, and from where a step takes one into a pass's hand.
 use Rattle.std.specs.Prelude.{ℕ, ◌⊎◌, List}
 use Rattle.machine.specs.Words.{Stands}
 use Rattle.machine.specs.Places.{Has, InOnePlace, IsFree, IsInside}
@@ -19,16 +19,16 @@ module _ {T : Type 0} where
     pub lists : Listed m
     pub nodes : InOnePlace held n lists.frees lists.stack lines
 
-  -- where the node was that the next step of a line brings into its pass's hand: a put's was free, a take's
-  -- and a fold's on the stack, and no other line brings any
+  -- Where the node was that the next step of a line brings into its pass's hand. A put's was free, and a
+  -- take's or a fold's was on the stack. No other line brings one
   abbrev pub NodeWas : (m : Memory T) → Listed m → List (Line T) → Line T → ℕ → Type 0
   NodeWas m g lines (TakeFree put w k) i = IsFree held g.frees g.stack lines i
   NodeWas m g lines (TakeTop w k) i = IsInside held g.frees g.stack lines i
   NodeWas m g lines (TakeChain d w) i = IsInside held g.frees g.stack lines i
   NodeWas m g lines l i = ⊥
 
-  -- A step from l to l' wins only what no pass had: each node in its pass's hand was in that hand before, or
-  -- in nobody's and where the line takes it from
+  -- A step from l to l' wins only what no pass had. Each node in its pass's hand was already in that hand, or
+  -- it was in no hand, at the place that the line takes it from
   pub record WinsUnheld (m : Memory T) (lines : List (Line T)) (l l' : Line T) : Type 0 where
     pub lists : Listed m
     pub nodes : (i : ℕ) → Has (held l') i → Has (held l) i ⊎ NodeWas m lists lines l i

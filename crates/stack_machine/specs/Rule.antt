@@ -63,7 +63,7 @@ pub record Turns (link : ℕ → ℕ) (chain : List ℕ) (lowest i : ℕ) : Type
   pub downwards : Stands link i left
   pub here : i ≢ NULL
 
--- of what a pass has read and holds
+-- what a pass has read and holds
 module _ {T : Type 0} (limit : ℕ) (m : Memory T) (g : Lists) where
   abbrev pub IsFine : Line T → Type 0
   IsFine (Idle a) = Unit {0}
@@ -93,8 +93,8 @@ module _ {T : Type 0} (limit : ℕ) (m : Memory T) (g : Lists) where
   IsFine LoadTopToGauge = Unit {0}
 
 module _ (T : Type 0) where
-  -- The words and the links: both lists stand, and each node below n is once on one of them or in
-  -- one hand, and no other node is anywhere
+  -- The words and the links. Both lists stand, and each node below n is once on one of them or in
+  -- one hand. No other node is in any of these
   pub record Linked (n limit : ℕ) (m : Memory T) (g : Lists) (lines : List (Line T)) : Type 0 where
     pub small : n ≤ NULL
     pub free_stands : Stands m.link m.free.index g.frees
@@ -124,8 +124,8 @@ values_put [] = 0
 values_put (Put p vs k ∷ h) = length vs + values_put h
 values_put (e ∷ h) = values_put h
 
--- The history is legal, and the words, lists and hands are what it says. `who` says which pass a line
--- is of, if of any. `spare` is why a tag at the limit means half as many holds at least
+-- The history is legal, and the words, lists and hands are as it says. `who` says which pass a line belongs
+-- to, if any. `spare` is why a tag at the limit means at least limit / 2 holds
 pub record Told (T : Type 0) (n limit : ℕ) (free top : Tagged) (g : Lists) (who : ℕ → Option ℕ) (lines : List (Line T)) (history : List (Event T)) : Type 0 where
   pub legal : bounded.Legal (shape n limit) history
   pub room : length g.frees + length g.stack + (state n limit history).held ≡ n
@@ -151,8 +151,8 @@ pub record Kept (T : Type 0) (n limit : ℕ) (m : Memory T) (who : ℕ → Optio
   pub lists : Lists
   pub good : Good T n limit m lists who lines history
 
--- What a line says of the histories that its pass had seen at the begin and has seen by now: a put that
--- found no node had found all of them taken, and the answer that is on its way is right
+-- What a line says about the histories that its pass had seen at the begin and has seen by now. A put that
+-- found no node had found all of them taken. The answer that is on its way is right
 module _ {T : Type 0} (n limit : ℕ) (begun seen : List (Event T)) where
   abbrev pub Tells : Line T → Type 0
   Tells (Idle None) = Unit {0}

@@ -1,6 +1,7 @@
-//! What a pass of the stack is at between two of its atomic steps: Treiber's stack (IBM RJ 5118,
-//! 1986) over an array of nodes, with tagged words, a free list, closing, shutting, range puts and
-//! folds. No value of these types is made at run time: they stand in definitions, proofs and views.
+//! What a pass of the stack is at between two of its atomic steps. The stack is Treiber's (IBM RJ
+//! 5118, 1986) over an array of nodes, with tagged words, a free list, closing, shutting, range
+//! puts and folds. No value of these types is made at run time. They stand in definitions, proofs
+//! and views.
 
 use bounded_model::{PutRefused, TakeRefused};
 use std::collections::LinkedList;
@@ -14,13 +15,13 @@ pub enum Top {
     Stack,
 }
 
-/// The link of a node, where it is on this list.
+/// The link of a node on this list.
 pub struct Link {
     pub top: Top,
     pub index: u32,
 }
 
-/// A put of one value or of a range, which is the same operation: the first value is put lowest.
+/// A put of one value or of a range: both are the same operation. The first value is put lowest.
 pub struct Putting<T> {
     /// All values of the operation, the lowest first.
     pub values: LinkedList<T>,
@@ -65,16 +66,16 @@ pub enum Answer<T> {
     Gauge(bool, u64),
 }
 
-/// What is to be done with a chain of nodes whose values have been moved out: it is given to the
-/// free list, and then the operation answers.
+/// A chain of nodes whose values have been moved out. The pass gives it to the free list, and then
+/// the operation answers.
 pub struct Giving<T> {
     /// The nodes held, each linked to the next.
     pub chain: LinkedList<u32>,
     pub answer: Answer<T>,
 }
 
-/// The next atomic step of a pass, with what it has read and what it holds. A word that was read
-/// last stands behind the others: first a top, then a link.
+/// The next atomic step of a pass, with what it has read and what it holds. The word that it read
+/// last is the last field: first a top, then a link.
 pub enum Line<T> {
     /// No operation. The answer is that of the last one.
     Idle(Option<Answer<T>>),
@@ -102,7 +103,7 @@ pub enum Line<T> {
     TakeTop(Fields, u32),
     /// Compare-and-swap `TOP` for null: the whole chain is held.
     TakeChain(Direction, Fields),
-    /// Load the link of a node of the chain, whose upper neighbour is the first index.
+    /// Load the link of a node of the chain. The first index is its upper neighbour.
     LoadLinkToTurn(Giving<T>, u32, u32),
     /// Link this node to its upper neighbour.
     TurnLink(Giving<T>, u32, u32, u32),

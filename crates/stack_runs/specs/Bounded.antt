@@ -1,4 +1,4 @@
--- How many steps an operation under way has made, by the compare-and-swaps by which others succeeded meanwhile.
+-- How many steps an operation under way has made, by the number of compare-and-swaps by which other passes succeeded meanwhile.
 use Rattle.std.specs.Prelude.{◌≡◌, ℕ, ◌+◌, ◌*◌, ◌≤◌, List, [], ◌∷◌, ◌++◌}
 use Rattle.machine.specs.Seats.{Acts}
 use Rattle.machine.specs.Schedule.{after}
@@ -28,13 +28,13 @@ module _ {T : Type 0} where
   call_at l = CallLook
 
   module _ (n limit : ℕ) where
-    -- the machine with so many passes, after these acts
+    -- the machine with `passes` passes, after these acts
     abbrev pub state_after : ℕ → Acts (Line T) → State T
     state_after passes acts = after (stack (shape n limit)) passes (schedule_of call_at acts)
 
-    -- Pass x in an operation with this first line, by the acts as it was begun and those by now: since then it has made so many steps, and so many exchanges of others
-    -- have succeeded. The machine that ran as the passes did says which succeeded. Fewer are those of an operation of one value. The same bounds hold
-    -- of the steps from any point of the operation on
+    -- Pass x is in an operation with this first line, by the acts as it was begun and those by now. Since then it has made at most 4 * n +
+    -- 6 steps, and 4 for each exchange by which another pass succeeded. For an operation of one value the first number is 9. The machine
+    -- that ran as the passes did says which succeeded. The same bounds hold of the steps from any point of the operation on
     pub record IsBounded (before now : Acts (Line T)) (x : ℕ) (first : Line T) : Type 0 where
       pub since : Acts (Line T)
       pub is : now ≡ since ++ (x, Begins first) ∷ before

@@ -12,8 +12,8 @@ use Rattle.runs.specs.Work.{total_steps, total_answers, total_fees, in_all, pays
 use Rattle.stack_runs.specs.Bounded.{call_at}
 
 module _ {T : Type 0} where
-  -- What a call of a stack of n nodes has cost at most that gave this answer, if k other passes were in a call meanwhile; a stack has no counts. A put
-  -- may be one of up to n values. A meeting or a note heard is one load
+  -- What a call of a stack of n nodes that gave this answer has cost at most, if k other passes were in a call meanwhile. A stack has no
+  -- counts. A put may be one of any number of values. A meeting or a note heard is one load
   abbrev pub fee : ℕ → ℕ → Answered T → ℕ
   fee n k (Put r) = 4 * n + 4 + (3 * n + 4) * k
   fee n k (Take r) = 6 + 7 * k
@@ -25,7 +25,7 @@ module _ {T : Type 0} where
   fee n k (Gauge closed used) = 1
   fee n k Heard = 1
 
-  -- the same where each put and each take is of one value
+  -- the fee if each put and each take is of one value
   abbrev pub single_fee : ℕ → Answered T → ℕ
   single_fee k (Put r) = 7 + 7 * k
   single_fee k (Take r) = 6 + 7 * k
@@ -43,13 +43,17 @@ module _ {T : Type 0} where
   BeginsSingle Looks = Unit {0}
   BeginsSingle Hears = Unit {0}
 
-  -- the passes but one
+  -- the number of passes but one
   abbrev pub others_of : RootView T → ℕ
   others_of r = r.given - 1
 
-  -- The joined passes of a stack of n nodes have made at most so many steps, together: what the calls cost that these acts begin, with a load for each
-  -- meeting and each note heard; the fees of all that was answered; and so many for each answer. The loads by which refused ranges are read back are
-  -- counted beside
+  -- Bounds on the number of steps that the joined passes of a stack of n nodes have made together. The last two hold if each put and each
+  -- take is of one value. Each bound adds 1 for each load that reads a refused range back:
+  -- - the sum of what the calls cost that these acts begin, with one load for each meeting and each note heard;
+  -- - the sum of the fees of all answers;
+  -- - 4 * n + 4 + (3 * n + 4) * others for each answer;
+  -- - the sum of the single fees of all answers;
+  -- - 7 + 7 * others for each answer
   pub record TotalWork (n : ℕ) (r : RootView T) (acts : Acts (Line T)) : Type 0 where
     pub prices : total_steps r.works ≤ in_all (pays (λ l. cost n (others_of r) (call_at l))) acts
     pub fees : total_steps r.works ≤ total_fees (fee n (others_of r)) r.works + in_all is_look acts

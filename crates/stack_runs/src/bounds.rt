@@ -15,18 +15,19 @@ ghost use Rattle.running.specs.Acts.{Course, IsAllowed, played};
 ghost use Rattle.runs.specs.Runs.{Below, Shows};
 ghost use Rattle.stack_runs.specs.Bounded.{IsBounded, call_at, state_after};
 
-/// An operation of a stack of `n` nodes that is under way has made at most `4 * n + 6` steps, and 4
-/// for each compare-and-swap by which another pass has succeeded since it was begun; one of one value,
-/// or a close, a shut or a look, at most 9 in place of the first number.
+/// An operation of a stack of `n` nodes that is under way has made at most `4 * n + 6` steps since it was
+/// begun, and 4 for each compare-and-swap by which another pass has succeeded since. For an operation of one
+/// value, a close, a shut, a look or a gauge, the first number is 9. The same bounds hold of the steps from
+/// any point of the operation on.
 pub fn stack_steps_are_bounded<T>()
     ensures { (n limit x : ℕ) (before now : Acts (Line T)) (first l : Line T) → 0 < n → n ≤ NULL
         → Course names (core T n limit) before now x first l → is_idle l ≡ false
         → IsBounded n limit before now x first }
 {}
 
-/// The acts that led to a stack's table are a schedule of its machine. Run with any number of passes
-/// that is large enough, from the words of a new stack, it comes to the same words, history and lines.
-/// The machine's rule holds there, so all that is proved of such states holds of the stack.
+/// The acts that led to a stack's table are a schedule of its machine. Run with any number of passes that is
+/// above the number of each pass, from the words of a new stack, it comes to the same words, history and
+/// lines. The machine's rule holds there, so all that is proved of such states holds of the stack.
 pub fn stack_acts_are_a_schedule<T>()
     ensures shows { (n limit passes : ℕ) (acts : Acts (Line T)) → Below passes acts
         → AllByRecursion (λ a. IsAllowed names (core T n limit) a.1) acts

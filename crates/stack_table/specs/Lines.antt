@@ -1,4 +1,4 @@
--- What the code is told at a line of the stack.
+-- What the code knows at a line of the stack.
 use Rattle.std.specs.Prelude.{◌≡◌, ◌≢◌, ℕ, ◌<◌, ◌≤◌, List, [], ◌∷◌, Option as Slot, Some, None, Ok, Err, map}
 use Rattle.tagged_index.specs.Fields.{index_of}
 use Rattle.tagged_index.specs.declared.word.TheConstants.{NULL}
@@ -30,7 +30,7 @@ use Rattle.stack_machine.specs.Answers.{shape}
 use Rattle.running.specs.Tables.{next_of, line_of, values}
 use Rattle.stack_table.specs.Slots.{Links, IsWhole}
 
--- a fold that begins with the first node goes down, one that begins with the last goes up
+-- a fold that begins with the first node goes down, one that begins with the last node goes up
 abbrev pub direction : Front → Direction
 direction First = Down
 direction Last = Up

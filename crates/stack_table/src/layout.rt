@@ -1,5 +1,5 @@
 //! Where the words of a stack lie. The tops of the free list and of the stack are 16 words apart,
-//! so that each has cache lines of its own; one link for each node follows, and serves whichever
+//! so that each has cache lines of its own. One link for each node follows, and serves whichever
 //! list the node is on.
 ghost use Rattle.std.specs.Prelude.{◌≡◌, ◌<◌, ◌≤◌};
 ghost use Rattle.tagged_index.specs.declared.word.TheConstants.{NULL};

@@ -1,6 +1,6 @@
-//! The machine of Treiber's stack (IBM RJ 5118, 1986) on a table of atomic words: where its words
-//! lie, which access each of its lines makes, and that each access does to the table what the
-//! machine's step does to its memory.
+//! The machine of Treiber's stack (IBM RJ 5118, 1986) on a table of atomic words. It says where the
+//! words lie, and which access each line of the machine makes. Each access does to the table what
+//! the machine's step does to its memory.
 #![tactic(auto)]
 
 pub mod layout;

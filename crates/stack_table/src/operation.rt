@@ -6,7 +6,7 @@ ghost use Rattle.stack_table.specs.Lines.{listed};
 use index_list::Front;
 use std::snapshot::Snapshot;
 
-/// The operation that a pass makes its steps of. Of a put it shows the values, for proofs alone.
+/// The operation that a pass makes its steps of. For proofs alone, a put shows its values.
 #[derive(Drop)]
 pub enum Operation<T> {
     /// A put of a value, and of further ones above it.
@@ -20,8 +20,8 @@ pub enum Operation<T> {
     Gauge,
 }
 
-/// Which values stand in some places. It has none of them, and is for proofs alone: a put that is
-/// to say what it puts would have to own the values.
+/// The values that are in some places. It holds none of them, and is for proofs alone: a put that
+/// says what it puts would else have to own the values.
 #[derive(Drop)]
 pub enum Listed<T> {
     End,

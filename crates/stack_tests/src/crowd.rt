@@ -11,7 +11,7 @@ use tagged_index::{Limits, MAX_TAG};
 use treiber_stack::{Pass, Stack};
 use waiting::{put_waiting, take_all_until_closed, take_waiting};
 
-/// How many ranges of three values each of the two putting threads has.
+/// How many ranges of three values each of the two putting threads puts.
 const RANGES: u64 = 3_000;
 
 /// How often each of the values 0, 1, 2, .. came out.
@@ -23,7 +23,7 @@ struct Tally {
 }
 
 impl Tally {
-    /// Of so many values.
+    /// A tally of `values` values.
     fn of(alloc: Global, values: u64) -> Result<Tally, AllocFailed<AtomicU64>> {
         let mut found = Vec::new(alloc);
         for _ in 0..values {
@@ -35,7 +35,7 @@ impl Tally {
         })
     }
 
-    /// Whether each value came out once, and nothing else did.
+    /// Whether each value came out once, and no strange value did.
     fn is_each_once(&self) -> bool {
         self.strange.load(Ordering::SeqCst) == 0
             && self
@@ -54,7 +54,7 @@ impl Tally {
     }
 }
 
-// Puts three values by one compare-and-swap where there is room, and those that found none one by
+// Puts three values by one compare-and-swap if there is room. Values that found none go in one by
 // one, however often the stack is full.
 fn put_three<R: Wait>(rt: &R, stack: &Stack<u64>, by: Pass<u64>, first: u64) -> Pass<u64>
     requires { IsPassOf stack.now by }
@@ -96,8 +96,8 @@ fn take_each<R: Wait>(rt: &R, stack: &Stack<u64>, by: Pass<u64>, tally: &Tally)
     let _ = take_all_until_closed(stack, rt, by, (), count);
 }
 
-// Waits for a value and then takes all others at a time, until the stack is closed and empty. Each
-// turn takes a value, so that there are no more turns than values.
+// Takes one value and then all the rest by one fold, until the stack is closed and empty. Each turn
+// takes a value, so there are no more turns than values.
 fn fold_each<R: Wait>(rt: &R, stack: &Stack<u64>, by: Pass<u64>, tally: &Tally)
     requires { IsPassOf stack.now by }
 {

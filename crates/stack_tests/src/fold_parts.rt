@@ -53,8 +53,8 @@ fn fold_in_parts<R: Abort + AllocGlobal>(
     panic!(rt; "it has not ended")
 }
 
-// Steps are used up by two parts that take all, and by two of the three that give the nodes back;
-// from the bottom up by two more for each value, which turn the chain round.
+// Two parts that take all use up their steps, and two of the three that give the nodes back. From
+// the bottom up, two more for each value do: they turn the chain round.
 #[test]
 fn a_fold_in_parts_hands_out_all_or_is_refused(rt: HostRuntime) {
     let limits = Limits::of(3, MAX_TAG).expect(&rt, "limits");

@@ -1,6 +1,6 @@
 //! Tests of the stack alone: ranges and folds in a crowd, ranges and folds in parts, how a stack is
-//! made, and how many passes it gives. What any container has is tested in `container_tests`; all
-//! other calls and their steps are played by the program (`tests/cases`).
+//! made, and how many passes it gives. `container_tests` tests what any container has. The program
+//! (`tests/cases`) plays all other calls and their steps.
 #![tactic(auto)]
 
 #[cfg(test)]

@@ -36,8 +36,8 @@ fn put_in_parts<R: Abort>(
     panic!(rt; "it has not ended")
 }
 
-// A part in which the range stops makes the first step after the stop too: three values take a node
-// each in seven parts, and go onto the top in three more.
+// A part in which the range stops also makes the first step after the stop. Three values take a
+// node each in seven parts, and go onto the top in three more.
 #[test]
 fn a_range_in_parts_is_put_or_refused(rt: HostRuntime) {
     let limits = Limits::of(3, MAX_TAG).expect(&rt, "limits");

@@ -1,4 +1,4 @@
--- A range of values that are copied from a slice: where it stands between its parts, and what a part of it has come to.
+-- A range whose values are copied from a slice: where it is between its parts, and what one part of it gives.
 use Rattle.std.specs.Prelude.{◌≡◌, ℕ, List, Option as Slot, Result}
 use Rattle.bounded_model.specs.declared.answers.Stepped.{Stepped}
 use Rattle.bounded_model.specs.declared.bulk.Ranged.{Ranged}
@@ -14,11 +14,13 @@ use Rattle.treiber_stack.specs.RangeTrying.{IsRanging, gives_back, places_at}
 use Rattle.treiber_stack.specs.Stack.{pass_in, begun_of}
 
 module _ {T : Type 0} (c : Stack T) (vs : List T) where
-  -- a put of these values is under way; the places that it would have are those of the values without a node
+  -- a put of these values is under way. If it had places, the values in nodes would have left theirs; once it
+  -- gives nodes back, all would be there
   abbrev pub IsCopying : RangeOp T → Type 0
   IsCopying op = IsRanging c vs (places_at (gives_back op.at) op.held.count vs) op
 
-  -- begun as the pass was v, it is under way, or gave what the whole put of a range gives; the places are those of the values that were not put
+  -- the put, begun as the pass was v, is under way, or gave what the whole put of a range gives. The places are those of the values that
+  -- were not put
   abbrev pub CopyTried : PassView T → Stepped (RangeOp T) (Pass T (Line T)) (Result Ranged RangeRefused) → Type 0
   CopyTried v made = MatchStepped made
       (λ next. IsCopying next × (begun_of c next.pass ≡ v))

@@ -12,7 +12,7 @@ use Rattle.treiber_stack.specs.declared.stack.Stack.{Stack}
 use Rattle.treiber_stack.specs.Folding.{front_of, gone, fold_operation, fold_line, fold_slots, HasReadToFold}
 use Rattle.treiber_stack.specs.Stack.{room_of, limit_of, shape_of, pass_in, begun_of, IsPassOf, IsAt}
 
--- So many steps were to be made: the fold goes on after exactly so many, or has handed out a value or ended after at most so many
+-- n steps were allowed. A fold that continues has made exactly n. A fold that handed out a value or ended has made at most n
 abbrev pub FoldSteps : {T : Type 0} → ℕ → PassView T → FoldMade T → Type 0
 FoldSteps n v (Again op) = (pass_in op.pass).steps ≡ v.steps + n
 FoldSteps n v (Value x op) = (pass_in op.pass).steps ≤ v.steps + n
@@ -27,8 +27,8 @@ module _ {T : Type 0} (c : Stack T) (front : Front) where
     pub handed : gone op.at ≡ values
     pub counted : length values ≡ op.count
 
-  -- What some steps of it give, where it had handed out these values: it goes on, begun as before, with one value more
-  -- where that is handed out; or they were all that it took, or none since it was refused, by the law of a whole fold
+  -- What some steps of it give, if it had handed out these values. Either it continues, begun as before, and has handed out one value more
+  -- or none. Or it has ended by the law of a whole fold: these values were all that it took, or none since it was refused
   abbrev pub FoldTried : List T → PassView T → FoldMade T → Type 0
   FoldTried values begun (Again op) = IsFolding values op × (begun_of c op.pass ≡ begun)
   FoldTried values begun (Value x op) = IsFolding (values ++ x ∷ []) op × (begun_of c op.pass ≡ begun)

@@ -1,4 +1,4 @@
--- Folds: what each state of one is, and what is told of the values that it hands out.
+-- Folds: what each state of a fold is, and which values it hands out.
 use Rattle.std.specs.Prelude.{◌≡◌, ℕ, ◌<◌, ◌≤◌, List, [], ◌∷◌, ◌++◌, length, reverse, take, map, Option as Slot, Ok, Err}
 use Rattle.tagged_index.specs.Limits.{capacity_of, tag_limit_of}
 use Rattle.tagged_index.specs.declared.limit.Limits.{Limits}
@@ -121,7 +121,8 @@ module _ {T : Type 0} where
   fold_rest (Yields v at) = fold_slots at
   fold_rest stop = []
 
-  -- and what is told of it, where these values were handed out before: one more is, or they were all
+  -- what holds at a stop, if these values were handed out before: one value more is handed out,
+  -- these were all, or a refusal finds that there were none
   abbrev pub FoldTold : ℕ → ℕ → Front → List T → FoldStop T → Type 0
   FoldTold n limit front before (Yields v at) = HasReadToFold n limit at × (front_of at ≡ front) × (gone at ≡ before ++ v ∷ [])
   FoldTold n limit front before (Ended b) = before ≡ folded_of b

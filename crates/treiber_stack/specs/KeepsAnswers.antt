@@ -1,4 +1,4 @@
--- What the answers of a put and a take tell: the laws of their operations.
+-- What the answers of a put and a take promise: the laws of their operations.
 use Rattle.std.proofs.Common.{◌≡◌, ℕ, ◌≤◌, List, [], ◌∷◌, length, true, refl, sym, ap, ◌∙◌, subst, append-nil}
 use Rattle.std.specs.Prelude.{Result, Ok, Err}
 use Rattle.tagged_index.specs.Limits.{capacity_of, tag_limit_of}
@@ -44,7 +44,7 @@ module _ {T : Type 0} (k : Limits) where
   abbrev pub take_promises : Operation T → PassView T → PassView T → Result (T × ℕ) TakeRefused → Type 0
   take_promises o begun now r = TakeGives (shape_at k) begun now r
 
-  -- a put promises that it is one of whichever value it is a put of
+  -- if the operation is a put of x, a put promises the law of a put of x
   abbrev pub put_promises : Operation T → PassView T → PassView T → Result ℕ (PutRefused T) → Type 0
   put_promises o begun now r = (x : T) → o ≡ put_of x → PutGives (shape_at k) begun x now r
 

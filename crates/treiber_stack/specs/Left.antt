@@ -14,13 +14,15 @@ module _ {T : Type 0} where
   count_full (None ∷ slots) = count_full slots
   count_full (Some v ∷ slots) = suc (count_full slots)
 
-  -- the value in a slot above the others; null is no slot, and there the values end
+  -- the value in a slot above the other values. The values end if there is no such slot, as for
+  -- null, or if it is empty
   abbrev pub on_top : Option (Slot T) → List T → List T
   on_top none others = []
   on_top (some None) others = []
   on_top (some (Some v)) others = v ∷ others
 
-  -- the values from node i on, at most so many, each moved out of its slot
+  -- the values from node i on, each moved out of its slot; the second argument bounds how many
+  -- there are
   abbrev pub values_from : List ℕ → ℕ → List (Slot T) → ℕ → List T
   values_from words zero slots i = []
   values_from words (suc most) slots i = on_top (get_elem? slots i) (values_from words most (slice_set slots i None) (index_of (slice_index words (link_at i))))

@@ -31,8 +31,8 @@ abbrev pub IsRun : {T : Type 0} → ℕ → ℕ → RootView T → List T → Ty
 IsRun {T} n limit r left = at_end.IsRun (stack T n limit) r left
 
 module _ {T : Type 0} (c : Stack T) (o : Operation T) (begun : PassView T) (back : Pass T (Line T)) where
-  -- A call of this operation was begun once, as its pass was `begun`. The machine's steps of that pass since then, each an act of its own, led the
-  -- operation from its first line to this answer, and the pass's count is that of its acts
+  -- A call of this operation was begun once, when its pass was `begun`. The machine's steps of that pass since then, each an act of its
+  -- own, led the operation from its first line to this answer. The pass's count is that of its acts
   abbrev pub WasRun : Answer T → Type 0
   WasRun answer = HasRun (machine_of c) o back.seat.me.0 begun (ends answer)
 
@@ -41,7 +41,8 @@ module _ {T : Type 0} (c : Stack T) (o : Operation T) (begun : PassView T) (back
   WasFolded (Ok folded) = (values : List T) × WasRun (Fold (Ok (values, folded.number)))
   WasFolded (Err why) = WasRun (Fold (Err why))
 
--- A fold's pass, which was v and is w, keeps one answer more: the values of its take, in the order in which they were folded, or its refusal
+-- A fold's pass, which was v and is w, keeps one answer more. That is the refusal, or the values of the fold's take in the order in which
+-- it folded them
 abbrev pub FoldAnswers : {T : Type 0} → Front → Result Folded TakeRefused → PassView T → PassView T → Type 0
 FoldAnswers {T} front (Ok folded) v w = (values : List T) × FoldGives v w values folded.number × Answers v w (FoldAnswered (Ok (in_order (direction front) values, folded.number)))
 FoldAnswers front (Err why) v w = Answers v w (FoldAnswered (Err why))
@@ -51,8 +52,8 @@ abbrev pub IsRange : {T : Type 0} → Operation T → List T → Type 0
 IsRange o [] = ⊥
 IsRange o (v ∷ vs) = call_of o ≡ CallPut v vs
 
--- Whether a put of these values, in the order of a range, was a call of the machine, by what it came to. That of an empty range is none; any other has
--- answered with its number and the values that stayed, or with why none went in and all values
+-- Whether a put of these values, in the order of a range, was a call of the machine, by its answer. An empty range is no call. Any other
+-- range answered its number and the values that stayed, or a refusal and all its values
 abbrev pub MatchCall : {T : Type 0} → List T → Result Ranged RangeRefused → Type 0 → (Answer T → Type 0) → Type 0
 MatchCall vs (Ok r) none Call = Call (Put (Ok (r.number, drop r.count vs)))
 MatchCall vs (Err Nothing) none Call = none

@@ -1,4 +1,4 @@
--- A range that is put in parts: where it stands between them, and what a part of it has come to.
+-- A range that is put in parts: where it is between them, and what one part of it gives.
 use Rattle.std.specs.Prelude.{◌≡◌, ℕ, ◌+◌, ◌*◌, ◌<◌, ◌≤◌, Bool, true, false, List, map, length, Option as Slot, Some, Result, Ok, Err}
 use Rattle.bounded_model.specs.declared.answers.Stepped.{Stepped}
 use Rattle.bounded_model.specs.declared.bulk.Ranged.{Ranged}
@@ -34,19 +34,20 @@ module _ {T : Type 0} where
   places_at false k vs = places_from k vs
   places_at true k vs = map Some vs
 
-  -- What a stop came to, of a range that was at this with these nodes: it goes on to put the values back, or after one step at most with a node more;
-  -- or it has ended
+  -- What a stop came to, of a range that was at this with these nodes. It has ended, or it continues: on its way to put the values back, or
+  -- with one node more after one step at most
   abbrev pub StoppedAt : RangeAt → ℕ → Pass T (Line T) → Stepped (RangeOp T) (Pass T (Line T)) (Result Ranged RangeRefused) → Type 0
   StoppedAt at count p made = MatchStepped made
       (λ next. (gives_back at ≡ false) × (gives_back next.at ≡ false → (next.held.count ≡ count + 1) × ((pass_in next.pass).steps ≤ (pass_in p).steps + 1)))
       (λ back answer. (back ≡ p) × PutSoMany at count answer)
 
-  -- With so many nodes more: so many steps to take each and one to link it, and so many after the last
+  -- The steps of a part that took `more` nodes: n to take each and one to link it, and n after the last
   abbrev pub MadeWith : ℕ → ℕ → PassView T → PassView T → Type 0
   MadeWith n more v w = w.steps ≤ v.steps + (more * (n + 1) + n)
 
-  -- So many steps were allowed for each node, for the top and for the way back. A range that goes on and is not newly on its way back has made exactly
-  -- so many if it has no node more, and not too many for those that it has; the same bound holds if it was put, or was on its way back before
+  -- n steps were allowed for each node, n for the top and n for the way back. MadeWith bounds the steps of a range that continues, unless
+  -- it is newly on its way back. Such a range has made exactly n if it has no node more. MadeWith also bounds the steps of a range that was
+  -- put, or was on its way back before
   abbrev pub RangeEnds : ℕ → RangeOp T → Pass T (Line T) → Result Ranged RangeRefused → Type 0
   RangeEnds n op back (Ok r) = (more : ℕ) × (more + op.held.count ≡ r.count) × MadeWith n more (pass_in op.pass) (pass_in back)
   RangeEnds n op back (Err why) = gives_back op.at ≡ true → MadeWith n 0 (pass_in op.pass) (pass_in back)
@@ -58,7 +59,7 @@ module _ {T : Type 0} where
       (λ back answer. RangeEnds n op back answer)
 
 module _ {T : Type 0} (c : Stack T) (o : Operation T) where
-  -- a range of these values is at this; where it takes a node, there is a value for it
+  -- a range of these values is at this; if it takes a node, there is a value for it
   pub record IsRangeOf (p : Pass T (Line T)) (vs : List T) (held : Held) (at : RangeAt) : Type 0 where
     pub chain : List ℕ
     pub has : HasNodes c vs chain held

@@ -63,7 +63,8 @@ takes (Link w) = true
 takes (Hold w k) = true
 takes at = false
 
--- What is told of what it stops with, by where it was, and how many nodes it held
+-- What holds at the end of a range, and at each stop, by the range's line before and by how many
+-- nodes it held
 abbrev pub ToldEnd : ℕ → RangeEnd → Type 0
 ToldEnd k (Put number) = 0 < k
 ToldEnd k (IsBarred why) = 0 < k
@@ -208,7 +209,7 @@ module _ {T : Type 0} where
   abbrev pub places_from : ℕ → List T → List (Slot T)
   places_from k vs = replicate k None ++ map Some (drop k vs)
 
-  -- the value behind the first k
+  -- the value after the first k
   abbrev pub value_at : List T → ℕ → Slot T
   value_at [] k = None
   value_at (v ∷ vs) zero = Some v
@@ -221,7 +222,7 @@ module _ {T : Type 0} where
   abbrev pub putting : List T → List ℕ → Putting T
   putting vs chain = record { values = vs; chain = chain }
 
-  -- the put goes on with the next value, or to the top
+  -- the put continues with the next value, or with the top
   pub record IsFilling (c : Stack T) (o : Operation T) (p : Pass T (Line T)) (vs : List T) (held : Held) : Type 0 where
     pub chain : List ℕ
     pub has : HasNodes c vs chain held

@@ -52,7 +52,7 @@ module _ {T : Type 0} where
   abbrev pub begun_of : Stack T → Pass T (Line T) → PassView T
   begun_of c p = passes.begun_of (machine_of c) p
 
-  -- a step was the machine's line l, exactly one more, and led to l'; and its operation goes on
+  -- a step was the machine's line l, exactly one more, and led to l'; and its operation continues
   abbrev pub OneLine : Stack T → Pass T (Line T) → Pass T (Line T) → Line T → Line T → Type 0
   OneLine c p q l l' = passes.OneLine (machine_of c) p q l l'
 

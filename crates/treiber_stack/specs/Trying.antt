@@ -20,7 +20,7 @@ use Rattle.treiber_stack.specs.declared.trying.PutMade.TheVariants as made
 use Rattle.treiber_stack.specs.Stack.{shape_of, pass_in, begun_of, IsPassOf}
 use Rattle.treiber_stack.specs.Taking.{IsTaking, TakeOp}
 
--- So many steps were to be made: the operation goes on after exactly so many, or has ended after at most so many
+-- n steps were allowed. An operation that continues has made exactly n. An operation that has ended has made at most n
 module _ {T : Type 0} where
   abbrev pub StepsFor : {O A : Type 0} → (O → Pass T (Line T)) → ℕ → PassView T → Stepped O (Pass T (Line T)) A → Type 0
   StepsFor pass n v made = MatchStepped made (λ next. (pass_in (pass next)).steps ≡ v.steps + n) (λ back answer. (pass_in back).steps ≤ v.steps + n)

@@ -101,8 +101,8 @@ impl<T: Drop + Send> Container<T> for Stack<T> {
         running::join(&self.table.shared, parent, by)
     }
 
-    /// From the top down. A value that was out with a pass which stopped in mid-operation is not
-    /// among what is left, and is dropped with the rest.
+    /// From the top down. If a pass stopped in mid-operation with a value in hand, this value is
+    /// not among what is left, and is dropped with the rest.
     fn finish(self, parent: Root<T>) -> Rest<T> {
         self.end(parent)
     }

@@ -1,5 +1,5 @@
-//! Ranges of values that are copied from a slice, so that they take no place for each value. They are
-//! put in parts of a bounded number of steps, for callers that may not wait.
+//! Ranges whose values are copied from a slice, so that they need no place for each value. They are put in
+//! parts of a bounded number of steps, for callers that may not wait.
 ghost use Rattle.std.specs.Prelude.{◌≡◌, List, [], map, Some, MatchOption};
 ghost use Rattle.bounded_model.specs.declared.views.PassView.{PassView};
 ghost use Rattle.stack_table.specs.Lines.{listed};
@@ -43,7 +43,7 @@ fn name_of<T>(values: &[T]) -> Option<Operation<T>>
 }
 
 impl<T: Copy> Stack<T> {
-    /// A put of these values that makes no step yet. An empty range is refused at once, as `Nothing`.
+    /// A put of these values that makes no step yet. It refuses an empty range at once, as `Nothing`.
     pub fn begin_copies(
         &self,
         by: Pass<T>,
@@ -67,8 +67,8 @@ impl<T: Copy> Stack<T> {
         })
     }
 
-    // What a range does that has stopped. With a node it copies the next value into its slot, and goes
-    // on with a node for the one after it, or with all of them to the top.
+    // Continues a range that has stopped. With a node it copies the next value into its slot. Then it takes a
+    // node for the value after it, or goes to the top if all values have one.
     fn copy_on(
         &self,
         by: Pass<T>,
@@ -108,8 +108,8 @@ impl<T: Copy> Stack<T> {
         })
     }
 
-    // Says what a range that is over has put. Where nothing can be put onto the top, the nodes are
-    // emptied, and go back to the free list.
+    // Says what a range that is over has put. If nothing can be put onto the top, it empties the
+    // nodes, and gives them back to the free list.
     fn end_copies(
         &self,
         by: Pass<T>,
@@ -145,8 +145,8 @@ impl<T: Copy> Stack<T> {
         }
     }
 
-    // Takes the copies of a refused range out of its nodes, the last first. The links of the nodes are
-    // read by loads that belong to no line.
+    // Takes the copies of a refused range out of its nodes, the last first. It reads the links of the nodes
+    // by loads that belong to no line.
     fn empty_nodes(&self, by: Pass<T>, held: Held) -> Pass<T>
         requires { (o : Operation T) × (vs : List T) × (why : Barred)
             × IsRefused self.now o by vs held why }
@@ -168,9 +168,10 @@ impl<T: Copy> Stack<T> {
 }
 
 impl<T: Copy> RangeOp<T> {
-    /// Goes on, with the values that it was begun with: for at most so many steps to take each node,
-    /// as many to put them onto the top, and as many to give them back, with a wait after each
-    /// compare-and-swap that failed. A node that is linked, or emptied, is a step more.
+    /// Continues the put with the values that it was begun with. It makes at most `steps` steps to
+    /// take each node, `steps` to put them onto the top and `steps` to give them back; a node that
+    /// is linked, or emptied, is one more. It waits after each compare-and-swap that failed. The
+    /// contract does not bound the steps.
     pub fn copy_for(
         self,
         stack: &Stack<T>,
@@ -181,7 +182,7 @@ impl<T: Copy> RangeOp<T> {
         ensures { CopyTried stack.now values.now (begun_of stack.now self.pass) result }
     {
         let mut range = self;
-        // It stops with each node, where the nodes are emptied, and at its end.
+        // The range stops with each node, when it has emptied the nodes, and at its end.
         for _ in 0..values.len().saturating_add(2) {
             let RangeOp {
                 pass,

@@ -1,7 +1,7 @@
-//! How a whole call goes on from one step to the next on its fast path.
+//! How a whole call continues from one step to the next on its fast path.
 
-/// What the operation is at next; or what it has there, if its step leads where it is said to.
-/// Where the step leads elsewhere, the function returns what it gave.
+/// What the operation is at next; or what it has there, if its step leads to the line given. If the
+/// step leads elsewhere, the function returns what the step gave.
 macro_rules! fast_step {
     ($step:expr) => {
         match $step {

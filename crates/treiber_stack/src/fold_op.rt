@@ -1,5 +1,5 @@
-//! Folds of all values for callers that may not wait: a fold is run for a bounded number of steps at
-//! a time, and hands out each value by itself.
+//! Folds of all values for callers that may not wait: a fold makes a bounded number of steps at a
+//! time, and hands out each value by itself.
 ghost use Rattle.std.specs.Prelude.{◌≡◌, List, []};
 ghost use Rattle.index_list.specs.declared.front.Front.{Front};
 ghost use Rattle.index_list.specs.declared.front.Front.TheVariants.{First, Last};
@@ -14,25 +14,25 @@ use index_list::Front;
 use running::{Next, try_for};
 use stack_table::Operation;
 
-/// A fold under way, between two of its steps. One that is dropped keeps the nodes that it holds for
-/// good.
+/// A fold under way, between two of its steps. If it is dropped, the nodes that it holds are never
+/// free again.
 #[derive(Drop)]
 pub struct FoldOp<T> {
     pub(crate) pass: Pass<T>,
     pub(crate) at: FoldAt<T>,
-    /// How many values were handed out.
+    /// How many values it has handed out.
     pub(crate) count: u32,
 }
 
 /// What a fold that was run for some steps has come to.
 #[derive(Drop)]
 pub enum FoldMade<T> {
-    /// The steps are used up, and the fold goes on.
+    /// The steps are used up, and the fold is under way.
     Again(FoldOp<T>),
-    /// The next value, and the fold goes on.
+    /// The next value, and the fold is under way.
     Value(T, FoldOp<T>),
-    /// All values were handed out, and their nodes are free; or the fold was refused, as a take is,
-    /// and handed out none.
+    /// The fold has handed out all values, and their nodes are free; or it was refused, as a take
+    /// is, and has handed out none.
     Done(Pass<T>, Result<Folded, TakeRefused>),
 }
 
@@ -51,7 +51,7 @@ impl<T> Stack<T> {
         }
     }
 
-    /// The same, from the bottom up.
+    /// A fold from the bottom up that makes no step yet.
     #[inline]
     pub fn begin_fold_reversed(&self, by: Pass<T>) -> FoldOp<T>
         requires { IsPassOf self.now by }
@@ -67,9 +67,9 @@ impl<T> Stack<T> {
 }
 
 impl<T> FoldOp<T> {
-    /// Goes on for at most so many steps, with a wait after each compare-and-swap that failed, until
-    /// the next value or the end. All values are taken by one compare-and-swap, so that a value that
-    /// is put after it is not among them.
+    /// Continues the fold until the next value or the end, for at most `steps` steps. It waits
+    /// after each compare-and-swap that failed. One compare-and-swap takes all values, so a value
+    /// that is put after it is not among them.
     #[inline]
     pub fn run_for(self, stack: &Stack<T>, steps: u64) -> FoldMade<T>
         requires { (front : Front) × (values : List T) × IsFolding stack.now front values self }
@@ -98,7 +98,7 @@ impl<T> FoldOp<T> {
 }
 
 impl<T> FoldAt<T> {
-    // Which end its values are handed out from.
+    // From which end it hands out its values.
     #[inline]
     fn front(&self) -> Front
         ensures { result ≡ front_of self.now }

@@ -1,5 +1,5 @@
-//! Folds: all values are taken by one compare-and-swap of the top, and handed out one after another
-//! on a walk along their chain; one more compare-and-swap gives the whole chain to the free list.
+//! Folds: one compare-and-swap of the top takes all values, and a walk along their chain hands them
+//! out one after another. One more compare-and-swap gives the whole chain to the free list.
 ghost use Rattle.std.specs.Prelude.{◌≡◌, ◌++◌, [], ◌∷◌, reverse, Some, None};
 ghost use Rattle.atomic_table.specs.Table.{rest};
 ghost use Rattle.bounded_model.specs.Bulk.{FoldsAll};
@@ -45,7 +45,7 @@ pub(crate) struct Walk<T> {
     pub(crate) first: u32,
     /// The node whose value is handed out next.
     pub(crate) index: u32,
-    /// How many values were handed out.
+    /// How many values it has handed out.
     pub(crate) count: u32,
     pub(crate) held: Hand<T>,
 }
@@ -57,7 +57,7 @@ pub(crate) enum FoldAt<T> {
     Load(Front),
     /// Compare-and-swap `TOP` for null.
     TakeAll(Front, Tagged),
-    /// From the bottom up: load the link of a node, behind the one above it.
+    /// From the bottom up: load the link of a node. The index before it is the node above it.
     LoadToTurn(Batch<T>, u32, u32),
     /// Link the node to the one above it. The one below it comes next.
     TurnLink(Batch<T>, u32, u32, u32),
@@ -70,17 +70,17 @@ pub(crate) enum FoldAt<T> {
 /// What a fold stops with.
 #[derive(Drop)]
 pub(crate) enum FoldStop<T> {
-    /// The next value is for the caller, and then the fold goes on.
+    /// The next value is for the caller, and then the fold continues.
     Yields(T, FoldAt<T>),
-    /// All values were handed out, and their nodes are free.
+    /// The fold has handed out all values, and their nodes are free.
     Ended(Batch<T>),
     Refused(TakeRefused),
 }
 
 impl<T> Stack<T> {
     /// Takes all values by one compare-and-swap, and folds them from the top down. Returns the last
-    /// state; after a refusal, which is as that of a take, it is the one that was handed in. Called
-    /// in `example_buffers`.
+    /// state. A refusal is as that of a take, and returns the state that was handed in. Called in
+    /// `example_buffers`.
     pub fn fold_all_atomic<R: Wait, S, F: Fn(S, T) -> S + Drop>(
         &self,
         rt: &R,
@@ -100,7 +100,7 @@ impl<T> Stack<T> {
         self.fold(rt, by, Front::First, state, f)
     }
 
-    /// The same, from the bottom up. Called in `example_stack`.
+    /// As `fold_all_atomic`, from the bottom up. Called in `example_stack`.
     pub fn fold_all_atomic_reversed<R: Wait, S, F: Fn(S, T) -> S + Drop>(
         &self,
         rt: &R,
@@ -163,7 +163,7 @@ impl<T> Stack<T> {
         unreachable!()
     }
 
-    // Moves the value out of the front slot held, which goes behind the others.
+    // Moves the value out of the front slot held, which becomes the last one.
     #[inline]
     pub(crate) fn take_out(&self, by: &mut Pass<T>, index: u32) -> T
         requires table { by.old.seat.table_id ≡ self.now.table.shared.table_id }
@@ -254,7 +254,7 @@ impl<T> Code<Stack<T>, T, Line<T>, Operation<T>, Stacked, FoldStop<T>, 2> for Fo
                 Next::On(FoldAt::LoadToTurn(batch, index, below))
             }
             FoldAt::LoadToFold(batch, walk) => {
-                // The node's value is handed out, and its slot goes behind the others.
+                // The step hands out the node's value, and its slot becomes the last one.
                 let value = move_out(&on.table.shared, seat, walk.index);
                 seat.turn();
                 let next = outcome.word as u32;

@@ -15,14 +15,14 @@ use stack_table::layout::STACK_LIST;
 pub struct Gauge {
     /// Whether the stack was closed.
     pub closed: bool,
-    /// How many tags were used, of those that the stack's limit allows: one for each put and each
-    /// take, of one value or of many.
+    /// How many of the tags that the stack's limit allows were used. Each put uses one and each
+    /// take one, whether of one value or of many.
     pub used: u64,
 }
 
 impl<T> Stack<T> {
-    /// Whether the stack is closed, and how many tags are used: one load of its top. Called in
-    /// `example_stack`.
+    /// Whether the stack was closed, and how many tags were used, both at one time since its pass's
+    /// last step before the call. The call is one load of the top. Called in `example_stack`.
     #[inline]
     pub fn gauge(&self, by: Pass<T>) -> (Pass<T>, Gauge)
         requires { IsPassOf self.now by }

@@ -59,7 +59,7 @@ impl<T> Stack<T> {
         }
     }
 
-    /// Where it goes on from a step that came to this.
+    /// Where the operation continues after a step that came to this.
     #[inline(always)]
     pub(crate) fn give_next(&self, at: Give, outcome: Outcome) -> Next<Give, ()>
         ensures { (giving : Giving T) (has : List (ℕ × Slot T))

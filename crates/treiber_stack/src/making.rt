@@ -29,8 +29,8 @@ fn first_words(alloc: Global, capacity: u32) -> Result<Vec<u64>, AllocError>
 }
 
 impl<T> Stack<T> {
-    /// An empty stack, open and not shut, and its root, which has given no pass. All memory is
-    /// taken here; `NoMemory` where there was none. Called in `example_calls`.
+    /// An empty stack, open and not shut, and its root, which has given no pass. The call takes all
+    /// memory of the stack; `NoMemory` if there is none. Called in `example_calls`.
     pub fn new(alloc: Global, limits: Limits) -> Result<(Stack<T>, Root<T>), MakeRefused>
         ensures { IfOk result (λ t. IsRootOf t.0 t.1 × (root_in t.1 ≡ fresh)
             × (shape_of t.0 ≡ shape (capacity_of limits) (tag_limit_of limits))) }

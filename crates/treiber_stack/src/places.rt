@@ -9,10 +9,10 @@ ghost use Rattle.stack_table.specs.Lines.{names};
 ghost use Rattle.stack_table.specs.Memories.{memory_of};
 ghost use Rattle.stack_table.proofs.Laws.{stack};
 
-/// In any table that meets the rule of a stack of `n` nodes, as each stack's does between any two
-/// atomic steps of any threads, no node is in two places: each is free, on the stack, or held by
-/// one pass. What a step brings into its pass's hand no pass had: that is the clause `unheld` of
-/// `IsLine`, which the contract of each step has.
+/// No node is in two places: each is free, on the stack, or held by one pass. This holds in any
+/// table that meets the rule of a stack of `n` nodes, as each stack's does between any two atomic
+/// steps of any threads. A step brings into its pass's hand only what no pass had: that is the
+/// clause `unheld` of `IsLine`, which the contract of each step has.
 pub fn stack_places<T>()
     ensures { (n limit : ℕ) (s : State (Slot T) (View T (Line T))) →
         Rule (stack T n limit) s →

@@ -87,7 +87,7 @@ impl<T> Stack<T> {
         to_the_end(rt, &self.table.shared, self, first, &put)
     }
 
-    /// A put's steps on its fast path, as long as nobody is faster.
+    /// A put's steps on its fast path, as long as no other pass is faster.
     #[inline(always)]
     pub(crate) fn put_on_fast_path(
         &self,
@@ -103,7 +103,7 @@ impl<T> Stack<T> {
         self.put_fast_top(pass, at, put)
     }
 
-    // First those that take a node.
+    // First the steps that take a node.
     #[inline]
     fn put_fast_node(
         &self,
@@ -127,7 +127,7 @@ impl<T> Stack<T> {
         any(table, self, pass, PutAt::Hold(value, free, below), put)
     }
 
-    // Then those that put it onto the top.
+    // Then the steps that put it onto the top.
     #[inline]
     fn put_fast_top(
         &self,
@@ -245,9 +245,10 @@ impl<T> Code<Stack<T>, T, Line<T>, Operation<T>, Stacked, Answer<T>, 2> for PutA
     }
 }
 
-// The answer is the put's number, or a refusal, which hands the value back. With a free node:
-// `Closed`, then `Spent` where the tag of the top is at its limit. Without one: `Closed`, then
-// `Spent`, then `Full`. And `Spent` where the tag of the free nodes' top is at its limit.
+// The answer is the put's number, or a refusal, which hands the value back:
+// - with a free node: `Closed`, else `Spent` if the tag of the top is at its limit;
+// - without one: `Closed`, else `Spent`, else `Full`;
+// - `Spent` if the tag of the free nodes' top is at its limit.
 impl<T> Call<Stack<T>, T, Line<T>, Operation<T>, Stacked, Answer<T>, 2> for PutAt<T> {
     ghost use Rattle.treiber_stack.specs.KeepsAnswers.{put_promises, put_keeps, put_idle};
 

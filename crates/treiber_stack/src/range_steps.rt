@@ -1,5 +1,5 @@
-//! The steps of a range. It stops with each node that it takes, whose slot wants the next value;
-//! where it has put all values that have nodes; and where nothing can be put.
+//! The steps of a range. It stops with each node that it takes, whose slot wants the next value. It
+//! also stops when it has put all values that have nodes, and when nothing can be put.
 ghost use Rattle.std.specs.Prelude.{List};
 ghost use Rattle.bounded_model.specs.Stepping.{MatchStepped};
 ghost use Rattle.running.specs.Steps.{TookFor};
@@ -43,7 +43,7 @@ pub(crate) enum RangeAt {
     LinkTo(Tagged),
     /// Compare-and-swap `TOP` for the first node held.
     Exchange(Tagged),
-    /// No node is free, and none held: load `TOP`, to say why nothing can be put.
+    /// No node is free, and the range holds none: load `TOP`, to say why nothing can be put.
     Refuse,
     /// Nothing could be put, and the values are back in their places: give the nodes back.
     GiveBack(Barred, Give),
@@ -71,15 +71,15 @@ pub(crate) enum RangeStop {
 pub(crate) enum RangeEnd {
     /// The values held were put, with this number.
     Put(u64),
-    /// No node is free, and none held.
+    /// No node is free, and the range holds none.
     Full,
-    /// The same, and nothing can be put onto the top.
+    /// No node is free, the range holds none, and nothing can be put onto the top.
     Refused(Barred),
-    /// No node can be had, and none is held: the tag of the free nodes' top is at the limit.
+    /// The range holds no node, and can get none: the tag of the free nodes' top is at the limit.
     Spent(u64),
-    /// Nothing can be put onto the top: the nodes are held, with their values.
+    /// Nothing can be put onto the top. The range holds its nodes, with their values.
     Barred(Barred),
-    /// The same, and the nodes were given back.
+    /// Nothing can be put onto the top, and the range has given its nodes back.
     GaveBack(Barred),
 }
 
@@ -112,7 +112,7 @@ impl<T> Stack<T> {
         (pass, stop)
     }
 
-    /// The same for at most so many steps.
+    /// Makes a range's steps until it stops, or until it has made `steps` steps.
     pub(crate) fn run_range_for(
         &self,
         by: Pass<T>,

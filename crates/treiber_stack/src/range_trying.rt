@@ -1,4 +1,4 @@
-//! Ranges that are put in parts of a bounded number of steps, for callers that may not wait. Where
+//! Ranges that are put in parts of a bounded number of steps, for callers that may not wait. When
 //! the steps are used up, the range comes back as it is, begun as before.
 ghost use Rattle.std.specs.Prelude.{List, IsSome};
 ghost use Rattle.std.specs.List.{AllByRecursion as Every};
@@ -24,7 +24,7 @@ pub struct RangeOp<T> {
 }
 
 impl<T> Stack<T> {
-    /// A put of the values in these places that makes no step yet. An empty range is refused at
+    /// A put of the values in these places that makes no step yet. It refuses an empty range at
     /// once, as `Nothing`.
     pub fn begin_range(
         &self,
@@ -52,10 +52,11 @@ impl<T> Stack<T> {
 }
 
 impl<T> RangeOp<T> {
-    /// Goes on, with the places as it left them: for at most so many steps to take each node, as
-    /// many to put them onto the top, and as many to give them back, with a wait after each
-    /// compare-and-swap that failed. A node that is linked, or whose value goes back, is a step
-    /// more. Where that ends the range, it returns what `put_range` does, and leaves the places so.
+    /// Continues the put with the places as it left them, and waits after each compare-and-swap
+    /// that failed. It makes at most `steps` steps to take each node, `steps` to put them onto the
+    /// top and `steps` to give them back. A node that is linked, or whose value goes back, is one
+    /// step more. If the range ends, it returns what `put_range` does, and leaves the places so.
+    /// The contract does not bound a part in which the range is first refused or turns back.
     pub fn run_for(
         self,
         stack: &Stack<T>,
@@ -68,7 +69,7 @@ impl<T> RangeOp<T> {
         ensures took { RangeSteps steps self result }
     {
         let mut range = self;
-        // It stops with each node, where the values go back to their places, and at its end.
+        // The range stops with each node, when the values go back to their places, and at its end.
         for round in 0..values.len().saturating_add(2) {
             let RangeOp {
                 pass,

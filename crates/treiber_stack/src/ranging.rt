@@ -1,5 +1,6 @@
-//! Putting a range of values by one compare-and-swap of the top. A node is taken for each value,
-//! from the front, until there is none for the next; each is linked to the one taken before it.
+//! Putting a range of values by one compare-and-swap of the top. It takes a node for each value,
+//! from the front, until there is none for the next. Each node is linked to the one taken before
+//! it.
 ghost use Rattle.std.specs.Prelude.{◌≡◌, ◌<◌, List, [], ◌∷◌, map, Some, None, IsSome, MatchOption};
 ghost use Rattle.std.specs.List.{AllByRecursion as Every};
 ghost use Rattle.atomic_table.specs.Table.{rest};
@@ -40,10 +41,10 @@ pub(crate) fn name_of<T>(values: &[Option<T>]) -> Option<Operation<T>>
 }
 
 impl<T> Stack<T> {
-    /// Puts as many values as nodes can be had, from the front, by one compare-and-swap; the last
-    /// of them is the new top, and their places are then `None`. A refusal leaves every place as it
-    /// was: `Nothing` for an empty range, else as that of a put. The call, if the range is not empty,
-    /// was one run of the machine's steps. Called in `example_stack`.
+    /// Puts a value for each node that it gets, from the front, by one compare-and-swap. The last of them is
+    /// the new top, and their places are then `None`. A refusal leaves every place as it was: it is `Nothing`
+    /// for an empty range, else as that of a put. The call, if the range is not empty, was one run of the
+    /// machine's steps. Called in `example_stack`.
     pub fn put_range<R: Wait>(
         &self,
         rt: &R,
@@ -91,8 +92,8 @@ impl<T> Stack<T> {
         unreachable!()
     }
 
-    /// What a range does that has stopped. With a node it moves the next value into its slot, and
-    /// goes on with a node for the one after it, or with all of them to the top.
+    /// Continues a range that has stopped. With a node it moves the next value into its slot. Then
+    /// it takes a node for the value after it, or goes to the top if all values have one.
     pub(crate) fn after_stop(
         &self,
         by: Pass<T>,
@@ -137,7 +138,7 @@ impl<T> Stack<T> {
         })
     }
 
-    // Says what a range that is over has put. Where nothing can be put onto the top, the values go
+    // Says what a range that is over has put. If nothing can be put onto the top, the values go
     // back to their places, and then the nodes to the free list.
     fn end_range(
         &self,
@@ -228,8 +229,8 @@ impl<T> Stack<T> {
         }
     }
 
-    // Moves the values of a refused range back to their places, the last first. The links of the
-    // nodes are read by loads that belong to no line.
+    // Moves the values of a refused range back to their places, the last first. It reads the links
+    // of the nodes by loads that belong to no line.
     fn restore(&self, by: Pass<T>, held: Held, values: &mut [Option<T>]) -> Pass<T>
         requires { (o : Operation T) × (vs : List T) × (why : Barred)
             × IsRefused self.now o by vs held why × (values.old ≡ places_from held.count vs) }
@@ -253,7 +254,7 @@ impl<T> Stack<T> {
         pass
     }
 
-    // Reads a link of the chain that is given back next, by a load that belongs to no line.
+    // Reads a link of the chain that it gives back next, by a load that belongs to no line.
     #[inline]
     pub(crate) fn read_again(&self, by: &mut Pass<T>, index: u32) -> u32
         requires { (by.old.seat.table_id ≡ self.now.table.shared.table_id)

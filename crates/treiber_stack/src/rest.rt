@@ -34,7 +34,7 @@ impl<T> Rest<T> {
     ghost use Rattle.stack_table.specs.Layout.{top_at};
     ghost use Rattle.treiber_stack.specs.Left.{left_in, left_along};
 
-    // What stands in the list under `TOP`.
+    // The values in the list under `TOP`.
     pub(crate) fn of(closed: Closed<Option<T>, Global>) -> Rest<T>
         requires full { IsFull closed.words × IsFull closed.slots }
         requires words { slots_len closed.words ≡ words_for (slots_len closed.slots) }

@@ -75,7 +75,7 @@ impl<T> Stack<T> {
         to_the_end(rt, &self.table.shared, self, first, &take)
     }
 
-    /// A take's steps on its fast path, as long as nobody is faster.
+    /// A take's steps on its fast path, as long as no other pass is faster.
     #[inline(always)]
     pub(crate) fn take_on_fast_path(
         &self,
@@ -90,7 +90,7 @@ impl<T> Stack<T> {
         self.take_fast_back(pass, at, take)
     }
 
-    // First those that take the top node.
+    // First the steps that take the top node.
     #[inline]
     fn take_fast_top(
         &self,
@@ -113,7 +113,7 @@ impl<T> Stack<T> {
         any(table, self, pass, TakeAt::Exchange(top, below), take)
     }
 
-    // Then those that give it back.
+    // Then the steps that give it back.
     #[inline]
     fn take_fast_back(
         &self,
@@ -201,8 +201,8 @@ impl<T> Code<Stack<T>, T, Line<T>, Operation<T>, Stacked, Answer<T>, 2> for Take
     }
 }
 
-// The answer is the value with its number, or why none was taken: `Shut`, then `Closed` or `Empty`
-// where there is none, then `Spent`.
+// The answer is the value with its number, or why the take took none: `Shut`, else `Closed` or
+// `Empty` if there is no value, else `Spent`.
 impl<T> Call<Stack<T>, T, Line<T>, Operation<T>, Stacked, Answer<T>, 2> for TakeAt<T> {
     ghost use Rattle.std.specs.Prelude.{refl};
     ghost use Rattle.treiber_stack.specs.KeepsAnswers.{take_promises, take_keeps};

@@ -1,4 +1,4 @@
-//! Calls that make a bounded number of steps, for callers that may not wait. Where the steps are
+//! Calls that make a bounded number of steps, for callers that may not wait. When the steps are
 //! used up, the operation comes back as it is, begun as before.
 ghost use Rattle.std.specs.Prelude.{◌≡◌};
 ghost use Rattle.stack_machine.specs.declared.lines.Line.{Line};
@@ -20,15 +20,15 @@ use stack_table::Operation;
 /// What the first steps of a put have come to.
 pub enum PutMade<T> {
     Done(Pass<T>, Result<u64, PutRefused<T>>),
-    /// It is under way: `run_for` goes on with it.
+    /// It is under way: `run_for` continues it.
     Again(PutOp<T>),
     /// No node is free: `refuse_at_once` says why nothing can be put.
     NoNode(Pass<T>, T),
 }
 
 impl<T> Stack<T> {
-    /// Puts a value on the fast path alone, with a wait where a compare-and-swap failed. Where that
-    /// does not end the put, `run_for` goes on with it.
+    /// Puts a value on the fast path alone, with a wait if a compare-and-swap failed. If this does
+    /// not end the put, the call returns it under way, and `run_for` continues it.
     #[inline(always)]
     pub fn put_at_once(
         &self,
@@ -45,8 +45,8 @@ impl<T> Stack<T> {
         }
     }
 
-    /// The same where a node is free. Where none is, the caller has to say so: a put that takes one does
-    /// not pass over that code.
+    /// As `put_at_once` if a node is free. If none is, it returns `NoNode`, and the caller calls
+    /// `refuse_at_once`: so a put that takes a node does not pass over that code.
     #[inline(always)]
     pub fn put_if_room(&self, by: Pass<T>, value: T) -> PutMade<T>
         requires { IsPassOf self.now by }
@@ -72,7 +72,7 @@ impl<T> Stack<T> {
         PutMade::NoNode(by, value)
     }
 
-    /// Says why nothing can be put, where no node is free.
+    /// Says why nothing can be put, if no node is free.
     #[inline]
     pub fn refuse_at_once(
         &self,
@@ -110,7 +110,7 @@ impl<T> Stack<T> {
         }
     }
 
-    /// Takes a value, in the same way.
+    /// Takes a value on the fast path alone, as `put_at_once` puts one.
     #[inline(always)]
     pub fn take_at_once(
         &self,
@@ -133,7 +133,8 @@ impl<T> Stack<T> {
 }
 
 impl<T> CloseOp<T> {
-    /// Goes on for at most so many steps, with a wait after each compare-and-swap that failed.
+    /// Continues the close for at most `steps` steps, with a wait after each compare-and-swap that
+    /// failed.
     #[inline]
     pub fn run_for(self, stack: &Stack<T>, steps: u64) -> Stepped<CloseOp<T>, Pass<T>, bool>
         requires { IsClosing stack.now self }
@@ -154,7 +155,8 @@ impl<T> CloseOp<T> {
 }
 
 impl<T> ShutOp<T> {
-    /// Goes on for at most so many steps, with a wait after each compare-and-swap that failed.
+    /// Continues the shut for at most `steps` steps, with a wait after each compare-and-swap that
+    /// failed.
     #[inline]
     pub fn run_for(self, stack: &Stack<T>, steps: u64) -> Stepped<ShutOp<T>, Pass<T>, bool>
         requires { IsShutting stack.now self }
