@@ -6,7 +6,7 @@ use Rattle.relay.specs.declared.outcome.Relayed.{Relayed}
 use Rattle.relay.specs.Messages.{CountsFrom, IsInput}
 use Rattle.audit.specs.Senders.{sent_by, messages_of}
 
--- of each sender, from this one on, the messages that were put and then the unsent ones are its input
+-- for each sender, from this one on, the messages that were put and then the unsent ones are its input
 abbrev pub AllSent : List Message → ℕ → List (Vec Message Global) → Type 0
 AllSent put sender [] = Unit {0}
 AllSent put sender (unsent ∷ more) = IsInput sender (sent_by sender put ++ unsent.items) × AllSent put (sender + 1) more

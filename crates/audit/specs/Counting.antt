@@ -1,4 +1,4 @@
--- How many messages of whom ended up where.
+-- How many messages of each sender ended up where.
 use Rattle.std.specs.Prelude.{◌≡◌, ℕ, ◌+◌, ◌<◌, ◌^◌, ◌==◌, List, [], ◌∷◌, length, count_by, sum_by, cond, slice_index_or, Vec}
 use Rattle.std.specs.declared.alloc.Global.{Global}
 use Rattle.relay.specs.declared.messages.Message.{Message}

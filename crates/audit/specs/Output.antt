@@ -5,7 +5,7 @@ use Rattle.std.specs.Io.Iter.{u64_saturate}
 use Rattle.audit.specs.declared.faults.AuditFault.{AuditFault}
 use Rattle.audit.specs.declared.faults.AuditFault.TheVariants.{Write}
 
--- what has gone out: the writer's bytes, where they are known, and how many of them this call wrote
+-- what has gone out: the writer's bytes, if they are known, and how many of them this call wrote
 pub record Sent : Type 0 where
   pub bytes : Option (List ℕ)
   pub count : ℕ

@@ -13,13 +13,13 @@ use crate::tallies::Tallies;
 use relay::Relayed;
 use std::io::Write;
 
-/// Writes a line for each sender, in order, and then one for all of them: how many messages were
-/// read, and of these how many were delivered, left in the container, and never put. The senders
-/// are the places of `unsent`.
+/// Writes a line for each sender, in order, and then one for all of them. A line says how many
+/// messages were read, and how many of these were delivered, left in the container, and never put.
+/// The senders are the places of `unsent`.
 ///
-/// The writer has failed where a write returns an error other than an interruption, where it takes
-/// no byte, and where it is interrupted for the [`MAX_INTERRUPTIONS`](crate::MAX_INTERRUPTIONS)th
-/// time. Then so many bytes of the audit went out; the count stays at `u64::MAX`.
+/// The call fails if a write returns an error other than an interruption, if a write takes no byte,
+/// and if the writer is interrupted for the [`MAX_INTERRUPTIONS`](crate::MAX_INTERRUPTIONS)th time.
+/// The fault says how many bytes of the audit went out; the count stays at `u64::MAX`.
 pub fn write_audit<W: Write>(relayed: &Relayed, writer: &mut W) -> Result<(), AuditFault>
     ensures { Writes (audit_text relayed.now) (W.contents writer.old)
         (W.contents writer.new) result }

@@ -9,10 +9,11 @@ ghost use Rattle.audit.specs.Checks.{AllSent, HasKnownSenders, IsQueueOutcome};
 
 use relay::{Message, Relayed, Taken};
 
-/// Whether a queue allows this outcome: the numbers of the delivered messages are 0, 1, 2, .., each
-/// message's sender is a place of `unsent` (for an unsent message the place where it stands), and
-/// each sender's seqs are 0, 1, 2, .. in the delivered messages, then in those left, then in its
-/// unsent ones.
+/// Whether a queue allows this outcome:
+/// - The numbers of the delivered messages are 0, 1, 2, ..
+/// - Each message's sender is a place of `unsent`. An unsent message's sender is its list's place.
+/// - Each sender's seqs are 0, 1, 2, .. in the delivered messages, then in those left, then in its
+///   unsent ones.
 pub fn check_queue(relayed: &Relayed) -> bool
     ensures { IsTrue result ↔ IsQueueOutcome relayed.now }
 {
@@ -101,7 +102,7 @@ fn seq_after_delivered(delivered: &[Taken], sender: usize) -> Option<u64>
     Some(next)
 }
 
-// The seq that follows those of the sender's messages left, which go on from `first`.
+// The seq that follows those of the sender's messages left, which continue from `first`.
 fn seq_after_left(left: &[Message], sender: usize, first: u64) -> Option<u64>
     requires { first ≤ 2 ^ 32 }
     ensures small { IfSome result (λ next. next ≤ 2 ^ 32) }
@@ -115,8 +116,8 @@ fn seq_after_left(left: &[Message], sender: usize, first: u64) -> Option<u64>
     Some(next)
 }
 
-// The seq that is wanted after this message, where `next` was wanted of the sender's next one. A
-// seq is below 2^32, so what is wanted after it fits.
+// The seq that is wanted after this message, if `next` was wanted of the sender's next one. A seq
+// is below 2^32, so the seq wanted after it fits.
 fn seq_after(message: &Message, sender: usize, next: u64) -> Option<u64>
     requires { next ≤ 2 ^ 32 }
     ensures small { IfSome result (λ after. after ≤ 2 ^ 32) }

@@ -1,9 +1,10 @@
 //! The files that a relay reads, the texts that tell what it did, and checks of its outcome.
 //!
-//! [`read_messages`] accepts exactly the message files, and names the first fault of any other.
-//! [`write_audit`] and [`write_list`] write exactly the audit and the list of an outcome; where the
-//! writer fails, they say how many bytes of that text went out. [`check_queue`] and [`check_stack`]
-//! say whether an outcome is one that a queue, or a stack, allows.
+//! [`read_messages`] accepts exactly the message files, unless memory, the reader or the count of
+//! reads is at fault. It names the first fault of any other file. [`write_audit`] and
+//! [`write_list`] write exactly the audit and the list of an outcome. If the writer fails, they say
+//! how many bytes of that text went out. [`check_queue`] and [`check_stack`] say whether an outcome
+//! is one that a queue, or a stack, allows.
 #![tactic(auto)]
 
 mod audit_text;

@@ -13,7 +13,7 @@ use std::io::Write;
 /// Writes a line for each message: the delivered ones in their order, then those left in the
 /// container in theirs, then the unsent ones, sender by sender.
 ///
-/// When the writer has failed is said at [`write_audit`](crate::write_audit). Then so many bytes of
+/// The call fails when [`write_audit`](crate::write_audit) would. The fault says how many bytes of
 /// the list went out; the count stays at `u64::MAX`.
 pub fn write_list<W: Write>(relayed: &Relayed, writer: &mut W) -> Result<(), AuditFault>
     ensures { Writes (list_text relayed.now) (W.contents writer.old)

@@ -24,12 +24,12 @@ pub const MAX_READS: u32 = 1 << 27;
 
 const LINE_FEED: u8 = b'\n';
 
-/// Reads a message file: lines of at most [`MAX_LINE`] bytes, each ended by a line feed, at most
-/// [`MAX_LINES`] of them. Line `j`, counted from 0, is the message with seq `j`. An interrupted
-/// read is tried again.
+/// Reads a message file: at most [`MAX_LINES`] lines of at most [`MAX_LINE`] bytes, each ended by a
+/// line feed. Line `j`, counted from 0, is the message with seq `j`. An interrupted read is tried
+/// again.
 ///
-/// A fault is the first that is met in the order of the bytes. The reader has then given the bytes
-/// up to it, and perhaps some more. `Device` comes only where a read failed.
+/// The fault is the first that the call meets in the order of the bytes. The reader has then given
+/// the bytes up to it, and perhaps some more. `Device` comes only if a read failed.
 pub fn read_messages<R: Read>(
     alloc: Global,
     reader: &mut R,
@@ -39,10 +39,10 @@ pub fn read_messages<R: Read>(
     ensures bytes { (bytes : List ℕ)
         × Consumes (R.remaining reader.old) (R.remaining reader.new) bytes
         × Answers sender bytes result }
-    // A file is read to its end, and so is one that ends within a line.
+    // The call reads a file to its end, and so one that ends within a line.
     ensures end { ReachesEnd result → IsAtEnd (R.remaining reader.new) }
-    // Each message file is accepted, with its own lines, but where memory, the reader or the count
-    // of reads is at fault.
+    // Each message file is accepted, with its own lines, unless memory, the reader or the count of
+    // reads is at fault.
     ensures accepts { (lines : List (List ℕ))
         → IfSome (R.remaining reader.old)
         (λ text. IsMessageFile text lines → ReadsAll lines result) }

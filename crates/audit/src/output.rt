@@ -7,7 +7,7 @@ ghost use Rattle.audit.specs.Output.{Puts, sent};
 use crate::AuditFault;
 use std::io::{ErrorKind, Write};
 
-/// A writer has failed at this interrupted write of a call.
+/// A call fails at this interrupted write.
 pub const MAX_INTERRUPTIONS: u32 = 1 << 27;
 
 /// How far a call has come with its text.
@@ -48,9 +48,8 @@ pub(crate) fn put_all<W: Write>(
     Ok(())
 }
 
-// Writes these bytes. The writer has failed where a write returns an error other than an
-// interruption, where it takes nothing, and where it is interrupted for the `MAX_INTERRUPTIONS`th
-// time.
+// Writes these bytes. The writer has failed if a write returns an error other than an interruption,
+// if it takes nothing, and if it is interrupted for the `MAX_INTERRUPTIONS`th time.
 fn put<W: Write>(writer: &mut W, progress: &mut Progress, bytes: &[u8]) -> Result<(), AuditFault>
     ensures { Puts bytes.now
         (sent (W.contents writer.old) progress.old.written)

@@ -9,8 +9,8 @@ use std::alloc::{AllocError, Global};
 use std::sync::Wait;
 use std::sync::atomic::{AtomicBool, Ordering};
 
-/// An array queue with a flag beside it, since it cannot be closed. It numbers no calls: each answers
-/// 0.
+/// An array queue with a flag beside it, since it cannot be closed. It numbers no calls: each call
+/// answers 0.
 #[derive(Drop)]
 pub struct ArrayPool {
     items: ArrayQueue<u64>,
@@ -50,7 +50,7 @@ impl Pool for ArrayPool {
         }
     }
 
-    // No put follows the flag: an item that is there when it is read is still found.
+    // No put follows the flag, so an item that is there when the flag is read is still found.
     #[inline(always)]
     fn take<W: Wait>(&self, rt: &W, by: AnyThread) -> (AnyThread, Result<(u64, u64), TakeRefused>) {
         let closed = self.closed.load(Ordering::SeqCst);

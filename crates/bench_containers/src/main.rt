@@ -1,7 +1,8 @@
-//! Measures how long an item takes through a container, from its put to its take, how many come out
-//! in a second, and how long a call takes: each producer puts its items, and the consumers take them
-//! all, with work between their calls if it is asked for. With no producer one thread puts and takes
-//! in turn. `--help` tells the words; without words it makes short runs and prints no time.
+//! Measures how long an item takes through a container, from its put to its take, how many items
+//! come out in a second, and how long a call takes. Each producer puts its items, and the consumers
+//! take them all, with work between their calls if it is asked for. With no producer one thread
+//! puts and takes in turn. `--help` tells the words. Without words it makes short runs and prints
+//! no time.
 #![tactic(auto)]
 
 mod array_queue;
@@ -86,7 +87,7 @@ fn main(rt: HostRuntime) -> ExitCode {
             }
         }
         Err(fault) => {
-            // Nothing is left to do where standard error fails too.
+            // If standard error fails too, nothing is left to do.
             let _ = eprintln!(rt; "bench_containers: {fault}");
             ExitCode::FAILURE
         }

@@ -24,8 +24,8 @@ pub struct Measured {
     pub taken: u64,
     /// How long that took. The container is made before, and dropped afterwards.
     pub nanoseconds: u64,
-    /// How long a call took, in nanoseconds, in a second run through a new container; `None` where
-    /// no call was made.
+    /// How long a call took, in nanoseconds, in a second run through a new container; `None` if no
+    /// call was made.
     pub call: Option<Percentiles>,
 }
 
@@ -49,7 +49,7 @@ struct Team<P, M> {
     last: Worker<P, M>,
 }
 
-// So many workers, each with a pass of its own.
+// `count` workers, each with a pass of its own.
 fn workers<C: Container<u64>, M: Meter>(
     alloc: Global,
     container: &C,
@@ -85,7 +85,7 @@ fn free_workers<M: Meter>(
     Ok(all)
 }
 
-// Sends the items of a load through this container. `None` where a thread was not started.
+// Sends the items of a load through this container. `None` if a thread was not started.
 fn work_as_team<C: Pool + Sync, M: Meter + Send, R: Threads + Wait + Clock + Sync>(
     rt: &R,
     alloc: Global,
@@ -177,7 +177,8 @@ fn send_freely<M: Meter + Send, R: Threads + Wait + Clock + Sync>(
     send(rt, alloc, &array, team, load, work)
 }
 
-// A ring of the run's capacity, with as many laps as may be, and a pass for each thread and one more.
+// A ring of the run's capacity, with the most laps that may be, and a pass for each thread and one
+// more.
 fn ring_limits(run: &Run) -> Result<RingLimits, BenchFault> {
     let passes = run
         .load

@@ -19,7 +19,7 @@ pub enum Kind {
 }
 
 impl Kind {
-    /// The container of this name. `Range` where none is called so.
+    /// The container of this name. `Range` if none is called so.
     pub fn of(name: &str) -> Result<Kind, BenchFault> {
         match name {
             "stack" => Ok(Kind::Stack),
@@ -61,13 +61,13 @@ impl Run {
         })
     }
 
-    /// What these words ask for. `Range` where a value is not in its range.
+    /// What these words ask for. `Range` if a value is not in its range.
     pub fn of(found: &ArgMatches<'_>) -> Result<Run, BenchFault> {
         let kind = Kind::of(found.get_str("kind").unwrap_or("stack"))?;
         Run::sized(kind, found).ok_or(BenchFault::Range)
     }
 
-    // A run through this container. `None` where a value is not in its range.
+    // A run through this container. `None` if a value is not in its range.
     fn sized(kind: Kind, found: &ArgMatches<'_>) -> Option<Run> {
         let limits = Limits::of(found.get_one("capacity")?, TAG_LIMIT)?;
         let producers = found.get_one("producers")?;

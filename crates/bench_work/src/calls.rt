@@ -10,7 +10,7 @@ use std::sync::Wait;
 use std::time::Clock;
 use waiting::wait_a_little;
 
-// Tries until the item is in; `false` where none can be put any more.
+// Tries until the item is in; `false` if none can be put any more.
 #[inline(always)]
 fn put_one<C: Pool, M: Meter, R: Wait + Clock>(
     rt: &R,

@@ -1,12 +1,14 @@
-//! What the threads of a benchmark's run do: each producer puts its items into a container, the
-//! consumers take them all, and with no producer one thread puts and takes in turn. It is generic
-//! over the container, and over what is noted of each call. Of clocks it knows only that they can
-//! be read.
+//! What the threads of a benchmark's run do: each producer puts its items into a container, and the
+//! consumers take them all. With no producer one thread puts and takes in turn. It is generic over
+//! the container, and over what is noted of each call. It knows of clocks only that they can be
+//! read.
 //!
-//! Promised: a load with producers has a consumer (`Load::of`), no more is counted as put or as
-//! taken in turn than there are items (`put_all`, `put_and_take`), work is as long as it was asked
-//! to be by the clock's word (`turns_for`), and percentiles are those of the times given
-//! (`Percentiles::of`).
+//! Promised:
+//! - A load with producers has a consumer (`Load::of`).
+//! - No more is counted as put or as taken in turn than there are items (`put_all`,
+//!   `put_and_take`).
+//! - By the clock's word, work is as long as it was asked to be (`turns_for`).
+//! - Percentiles are those of the times given (`Percentiles::of`).
 #![tactic(auto)]
 
 mod calls;

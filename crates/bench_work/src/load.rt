@@ -14,7 +14,7 @@ pub struct Load {
 }
 
 impl Load {
-    /// A load of so many items a producer; `None` where nobody would take what is put.
+    /// A load of `items` items a producer; `None` if nobody would take what is put.
     pub fn of(producers: u32, consumers: u32, items: u32) -> Option<Load>
         ensures { MatchOption result
             ((0 < producers) × (consumers ≡ 0))

@@ -60,7 +60,7 @@ pub struct Timed {
     times: Vec<u64>,
 }
 
-// The clock's nanoseconds; 0 where it fails.
+// The clock's nanoseconds; 0 if it fails.
 #[inline(always)]
 fn nanoseconds<R: Clock>(rt: &R) -> u64 {
     match rt.monotonic() {
@@ -88,7 +88,7 @@ impl Meter for Timed {
     fn end<R: Clock>(&mut self, rt: &R, begun: u64) {
         let spent = nanoseconds(rt).saturating_sub(begun);
         if self.times.len() < MOST_TIMED {
-            // There is room for so many: nothing is allocated here.
+            // There is room for this time: nothing is allocated here.
             let _ = self.times.push(spent);
         }
     }

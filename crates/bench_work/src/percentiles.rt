@@ -4,7 +4,7 @@ ghost use Rattle.std.specs.Prelude.{◌≡◌, ◌<◌, ◌≤◌, ◌+◌, ◌*
 ghost use Rattle.std.specs.List.Sorted.{IsNonDecreasing};
 ghost use Rattle.bench_work.specs.Percentiles.{IsPercentile, ArePercentiles};
 
-/// Three percentiles: each is the least of the values at or below which so many of them lie.
+/// Three percentiles. Each is the least value at or below which its share of the values lies.
 #[derive(Clone, Copy)]
 pub struct Percentiles {
     /// At or below it lie at least half of the values.
@@ -15,7 +15,7 @@ pub struct Percentiles {
     pub p99_9: u64,
 }
 
-// How many values make up so many thousandths of `count`, at the least.
+// The least number of values that make up `thousandths` thousandths of `count`.
 fn share(count: usize, thousandths: usize) -> usize
     requires { (0 < count) × (0 < thousandths) × (thousandths ≤ 1000) }
     ensures within { (0 < result) × (result ≤ count) }
@@ -25,7 +25,7 @@ fn share(count: usize, thousandths: usize) -> usize
     count / 1000 * thousandths + (count % 1000 * thousandths).div_ceil(1000)
 }
 
-// The value at or below which so many thousandths of these lie.
+// The value at or below which `thousandths` thousandths of these lie.
 fn percentile(sorted: &[u64], thousandths: usize) -> u64
     requires share { (0 < thousandths) × (thousandths ≤ 1000) }
     requires some { 0 < length sorted.now }
@@ -52,7 +52,7 @@ impl Percentiles {
         })
     }
 
-    /// The percentiles of these values, which are put in order; `None` exactly where there are none.
+    /// The percentiles of these values, which are put in order; `None` exactly if there are none.
     pub fn of(values: &mut [u64]) -> Option<Percentiles>
         ensures values { IsPermutation values.old values.new }
         ensures gives { MatchOption result (values.old ≡ []) (ArePercentiles values.old) }

@@ -4,8 +4,8 @@ use bounded_model::{Container, PutRefused, TakeRefused};
 use std::sync::Wait;
 
 /// The calls that a measurement makes. They promise nothing of what is done, since the kit's ring
-/// has them too; and there is one associated type, where `Container` has four, since what a thread
-/// is started with may name no more than one.
+/// has them too. There is one associated type, and `Container` has four: what a thread is started
+/// with may name no more than one.
 pub trait Pool: Drop {
     type Pass: Drop + Send;
 

@@ -55,7 +55,7 @@ fn consume<C: Pool, M: Meter, R: Wait + Clock>(
     all.add(taken, meter.times());
 }
 
-// Starts the producers; they have ended when this returns. `false` where one was not started.
+// Starts the producers; they have ended when this returns. `false` if one was not started.
 fn put_at_once<C: Pool + Sync, M: Meter + Send, R: Threads + Wait + Clock + Sync>(
     rt: &R,
     pool: &C,
@@ -86,9 +86,9 @@ fn put_at_once<C: Pool + Sync, M: Meter + Send, R: Threads + Wait + Clock + Sync
     )
 }
 
-/// Starts the consumers, then the producers, and closes the container when these have ended. A
-/// producer works before each put, a consumer after each take. Returns what they have done; `None`
-/// where a thread was not started.
+/// Starts the consumers, then the producers, and closes the container when the producers have
+/// ended. A producer works before each put, a consumer after each take. Returns what they have
+/// done; `None` if a thread was not started.
 pub fn send_through<C: Pool + Sync, M: Meter + Send, R: Threads + Wait + Clock + Sync>(
     rt: &R,
     alloc: Global,

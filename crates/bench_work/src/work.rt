@@ -15,14 +15,14 @@ const TRIALS: u32 = 30;
 // An odd number, so that no turn loses what was there before.
 const FACTOR: u64 = 6_364_136_223_846_793_005;
 
-/// A loop of so many turns, in which each multiplies what the one before has made.
+/// A loop of turns, in which each multiplies what the one before has made.
 #[derive(Clone, Copy)]
 pub struct Work {
     pub turns: u32,
 }
 
-/// The most turns that take no longer than so many nanoseconds, where `trial` of them took `spent`;
-/// no more than a `u32` holds.
+/// The most turns that take no longer than `nanoseconds`, if `trial` of them took `spent`; at most
+/// what a `u32` holds.
 pub fn turns_for(nanoseconds: u32, trial: u32, spent: u64) -> u32
     requires { 0 < spent }
     ensures no_longer { result * spent ≤ nanoseconds * trial }
@@ -45,7 +45,7 @@ impl Work {
         Work { turns: 0 }
     }
 
-    /// Work of about so many nanoseconds, by what the clock says of some trials.
+    /// Work of about `nanoseconds` nanoseconds, by what the clock says of some trials.
     pub fn lasting<R: Clock>(rt: &R, nanoseconds: u32) -> io::Result<Work> {
         let trial = Work { turns: TRIAL };
         let mut shortest = u64::MAX;

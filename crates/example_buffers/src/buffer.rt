@@ -41,7 +41,7 @@ impl Buffer {
     }
 }
 
-/// Gives a buffer to the pool, however often that is full; returns whether it went in.
+/// Gives a buffer to the pool, and waits while the pool is full; returns whether it went in.
 pub fn give<C: Container<Buffer>, R: Wait>(
     rt: &R,
     pool: &C,
@@ -58,7 +58,7 @@ pub fn give<C: Container<Buffer>, R: Wait>(
     }
 }
 
-/// Borrows a buffer, fills it and gives it back, so many times.
+/// Borrows a buffer, fills it and gives it back, `times` times.
 pub fn use_pool<C: Container<Buffer>, R: Wait>(rt: &R, pool: &C, by: C::Pass, times: u32) -> C::Pass
     requires { C.is_pass pool.now by }
     ensures { C.is_pass pool.now result }

@@ -58,8 +58,7 @@ fn passes(
     Ok(all)
 }
 
-// Threads use the pool at once; they have ended when this returns. `false` where one was not
-// started.
+// Threads use the pool at once; they have ended when this returns. `false` if one was not started.
 fn use_at_once<R: Threads + Wait + Sync>(
     rt: &R,
     pool: &Stack<Buffer>,
@@ -90,8 +89,8 @@ fn use_at_once<R: Threads + Wait + Sync>(
     )
 }
 
-/// Lends so many buffers to so many threads, so many times to each, and takes them all back at
-/// once.
+/// Lends `buffers` buffers to `threads` threads, `times` times to each thread, and takes all
+/// buffers back at once.
 pub fn lend<R: Threads + Wait + Sync>(
     rt: &R,
     alloc: Global,

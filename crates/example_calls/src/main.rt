@@ -1,4 +1,5 @@
-//! The calls of the first page: one pass puts and takes, and what is left comes out at the end.
+//! The calls of the first page: one pass puts and takes, and the values that are left come out at
+//! the end.
 #![tactic(auto)]
 
 use bounded_model::{Container, Leaving, MakeRefused};
@@ -41,7 +42,7 @@ fn main(rt: HostRuntime) -> ExitCode {
     match calls(&rt) {
         Ok(()) => ExitCode::SUCCESS,
         Err(fault) => {
-            // Nothing is left to do where standard error fails too.
+            // If standard error fails too, nothing is left to do.
             let _ = eprintln!(rt; "example_calls: {fault}");
             ExitCode::FAILURE
         }

@@ -30,7 +30,7 @@ pub struct Tally {
     pub left: u64,
 }
 
-// One thread puts while this one takes, closes and drains. `None` where there was no thread.
+// One thread puts while this one takes, closes and drains. `None` if there was no thread.
 fn two_ends<R: Threads + Wait + Sync>(
     rt: &R,
     stack: &Stack<u64>,
@@ -68,7 +68,7 @@ fn two_ends<R: Threads + Wait + Sync>(
     )
 }
 
-/// Puts until the stack is closed, which another thread does after so many takes, and counts.
+/// One thread puts until this one closes the stack after `wanted` takes. Counts the values.
 pub fn close_down<R: Threads + Wait + Sync>(
     rt: &R,
     alloc: Global,

@@ -16,7 +16,7 @@ pub struct Moved<P> {
     pub count: u64,
 }
 
-// Puts a value, however often the container is full; returns whether it went in.
+// Puts a value, and waits while the container is full; returns whether it went in.
 fn put_one<C: Container<u64>, R: Wait>(
     rt: &R,
     container: &C,
@@ -33,8 +33,8 @@ fn put_one<C: Container<u64>, R: Wait>(
     }
 }
 
-/// Puts 0, 1, 2, .. until the container is closed, and counts. The value that comes back with the
-/// last refusal was not put.
+/// Puts 0, 1, 2, .. until a put is refused for good or the count is `u64::MAX`; returns the count.
+/// The value that comes back with the last refusal was not put.
 pub fn put_until_closed<C: Container<u64>, R: Wait>(
     rt: &R,
     container: &C,
@@ -58,7 +58,7 @@ pub fn put_until_closed<C: Container<u64>, R: Wait>(
     Moved { pass, count }
 }
 
-// Takes so many values.
+// Takes `wanted` values, or fewer if a take is refused for good.
 fn take_some<C: Container<u64>, R: Wait>(
     rt: &R,
     container: &C,
@@ -81,7 +81,8 @@ fn take_some<C: Container<u64>, R: Wait>(
     Moved { pass, count }
 }
 
-/// Takes so many values, closes the container, and takes what is left in it.
+/// Takes `wanted` values, or fewer if a take is refused for good. Then closes the container, and
+/// takes the values that are left in it.
 pub fn take_and_close<C: Container<u64>, R: Wait>(
     rt: &R,
     container: &C,

@@ -1,5 +1,6 @@
-//! Closing down cleanly: one thread closes the container and takes what is left in it, the other
-//! learns it from its next put; then both passes are joined, and the container is finished.
+//! Closing down cleanly: one thread closes the container and takes the values that are left in it.
+//! The other learns it from its next put. Then both passes are joined, and the container is
+//! finished.
 #![tactic(auto)]
 
 mod close;
@@ -12,7 +13,7 @@ use std::process::ExitCode;
 use std::sync::Wait;
 use std::thread::Threads;
 
-/// So many values are taken before the container is closed.
+/// How many values are taken before the container is closed.
 const WANTED: u64 = 10_000;
 
 fn report<R: Print + AllocGlobal + Threads + Wait + Sync>(rt: &R) -> Result<(), Fault> {
@@ -26,7 +27,7 @@ fn main(rt: HostRuntime) -> ExitCode {
     match report(&rt) {
         Ok(()) => ExitCode::SUCCESS,
         Err(fault) => {
-            // Nothing is left to do where standard error fails too.
+            // If standard error fails too, nothing is left to do.
             let _ = eprintln!(rt; "example_closing: {fault}");
             ExitCode::FAILURE
         }

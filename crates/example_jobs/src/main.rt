@@ -1,5 +1,5 @@
 //! Jobs among threads: one thread puts jobs into a container, workers take and do them, and the
-//! container is closed when all are in.
+//! thread closes the container when all jobs are in.
 #![tactic(auto)]
 
 mod fault;
@@ -27,7 +27,7 @@ fn main(rt: HostRuntime) -> ExitCode {
     match report(&rt) {
         Ok(()) => ExitCode::SUCCESS,
         Err(fault) => {
-            // Nothing is left to do where standard error fails too.
+            // If standard error fails too, nothing is left to do.
             let _ = eprintln!(rt; "example_jobs: {fault}");
             ExitCode::FAILURE
         }

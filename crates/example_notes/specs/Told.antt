@@ -13,6 +13,6 @@ pub record TellsOfPut {T : Type 0} (c : Shape) (v : PassView T) (x : T) (told : 
   pub gives : PutGives c v x after (Ok number)
   pub is : told ≡ after.seen
 
--- the answer was right at a time at which all that was told had happened
+-- the answer was right at a time at which everything that was told had happened
 abbrev pub RightSince : {T : Type 0} → Shape → List (Event T) → PassView T → Answer → Type 0
 RightSince c told w answer = Sometime told w.seen (λ h. Justifies c h answer)

@@ -22,7 +22,7 @@ fn main(rt: HostRuntime) -> ExitCode {
     match report(&rt) {
         Ok(()) => ExitCode::SUCCESS,
         Err(fault) => {
-            // Nothing is left to do where standard error fails too.
+            // If standard error fails too, nothing is left to do.
             let _ = eprintln!(rt; "example_notes: {fault}");
             ExitCode::FAILURE
         }

@@ -7,14 +7,15 @@ ghost use Rattle.example_notes.specs.Told.{TellsOfPut, RightSince};
 use bounded_model::{Container, TakeRefused};
 use std::sync::Wait;
 
-/// What the other end is told: there is this job, and the note goes along.
+/// The message to the other end: there is this job, and the note goes along.
 #[derive(Drop)]
 pub struct Message<N> {
     pub job: u32,
     pub note: N,
 }
 
-/// Puts a job, and makes the message that tells of it; `None` where it was not put.
+/// Puts a job, and makes the message that tells of it; `None` if no job was put, or no note could
+/// be had.
 pub fn put_and_tell<C: Container<u32>, R: Wait>(
     rt: &R,
     container: &C,
@@ -36,8 +37,8 @@ pub fn put_and_tell<C: Container<u32>, R: Wait>(
     }
 }
 
-/// Takes a job after the note was heard: a refusal was right at a time at which all that the note
-/// tells had happened.
+/// Takes a job after the note was heard. A refusal was right at a time at which everything that the
+/// note tells had happened.
 pub fn take_as_told<C: Container<u32>, R: Wait>(
     rt: &R,
     container: &C,

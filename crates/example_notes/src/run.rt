@@ -1,4 +1,4 @@
-//! One thread puts a job, the other is told of it and takes it.
+//! One thread puts a job and tells the other, which takes it.
 
 ghost use Rattle.std.specs.Prelude.{IfOk, IfSome};
 ghost use Rattle.ms_queue.specs.Queue.{IsPassOf, IsNoteOf};
@@ -22,7 +22,7 @@ impl Promise<Option<Message<Note<u32>>>> for NoteOf {
     ghost kept_by = { λ p told. IfSome told (λ m. IsNoteOf p.0.value m.note) };
 }
 
-// The message of a thread that puts the job; `None` where there was no thread, or no job was put.
+// The message of a thread that puts the job; `None` if there was no thread, or no job was put.
 fn told_by_thread<R: Threads + Wait + Sync>(
     rt: &R,
     queue: &Queue<u32>,
@@ -55,8 +55,8 @@ fn told_by_thread<R: Threads + Wait + Sync>(
     )
 }
 
-/// Has a thread put the job and takes it here; returns the job that was told of, and what the take
-/// was answered.
+/// Has a thread put the job, and takes a job here. Returns the job that the message tells of, and
+/// the take's answer.
 pub fn hand_over<R: Threads + Wait + Sync>(
     rt: &R,
     alloc: Global,

@@ -24,7 +24,7 @@ enum Fault {
     Output(#[from] io::Error),
 }
 
-/// So many numbers go through the queue, from 0 on.
+/// How many numbers go through the queue, from 0 on.
 const COUNT: u64 = 100_000;
 
 fn produce<R: Wait>(rt: &R, queue: &Queue<u64>, by: Pass<u64>)
@@ -42,7 +42,7 @@ fn consume<R: Wait>(rt: &R, queue: &Queue<u64>, by: Pass<u64>) -> u64
     sum
 }
 
-// Starts the producer, and consumes here. `None` where there was no thread.
+// Starts the producer, and consumes here. `None` if there was no thread.
 fn run_both<R: Threads + Wait + Sync>(
     rt: &R,
     queue: &Queue<u64>,
@@ -88,7 +88,7 @@ fn main(rt: HostRuntime) -> ExitCode {
     match report(&rt) {
         Ok(()) => ExitCode::SUCCESS,
         Err(fault) => {
-            // Nothing is left to do where standard error fails too.
+            // If standard error fails too, nothing is left to do.
             let _ = eprintln!(rt; "example_pair: {fault}");
             ExitCode::FAILURE
         }

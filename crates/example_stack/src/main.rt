@@ -13,7 +13,7 @@ use tagged_index::{Limits, MAX_TAG};
 use thiserror::Error;
 use treiber_stack::{Pass, Stack};
 
-/// No put makes so many steps where its pass is the only one.
+/// No put makes this many steps if its pass is the only one.
 const ENOUGH: u64 = 16;
 
 #[derive(Debug, Drop, Error)]
@@ -57,8 +57,8 @@ fn steps<R: Print + Wait>(
     Ok((pass, other))
 }
 
-// Puts a value by single steps; `None` where it is not done after so many. Then it is dropped, and
-// its pass and its value with it.
+// Puts a value by single steps; `None` if it is not done after `ENOUGH` steps. Then the operation
+// is dropped, with its pass and its value.
 fn put_by_steps(
     stack: &Stack<u64>,
     by: Pass<u64>,
@@ -121,7 +121,7 @@ fn main(rt: HostRuntime) -> ExitCode {
     match calls(&rt) {
         Ok(()) => ExitCode::SUCCESS,
         Err(fault) => {
-            // Nothing is left to do where standard error fails too.
+            // If standard error fails too, nothing is left to do.
             let _ = eprintln!(rt; "example_stack: {fault}");
             ExitCode::FAILURE
         }

@@ -8,7 +8,7 @@ use Rattle.audit.specs.declared.faults.ReadFault.TheVariants.{NoFinalNewline}
 use Rattle.audit.specs.MessageFile.{IsMessageFile, IsFirstFault}
 use Rattle.audit.specs.Reading.{texts, ReadsAll}
 
--- the reader's bytes, where it tells them, are the file of these messages, and the messages are this sender's input
+-- if the reader's bytes are known, they are the file of these messages, and the messages are this sender's input
 pub record IsRead {R : Type 0} (remaining : R → Option (List ℕ)) (sender : ℕ) (reader : R) (messages : List Message) : Type 0 where
   pub text : List ℕ
   pub told : IfSome (remaining reader) (λ bytes. bytes ≡ text)
@@ -22,8 +22,9 @@ AreRead remaining sender [] (messages ∷ inputs) = ⊥
 AreRead remaining sender (reader ∷ readers) [] = ⊥
 AreRead remaining sender (reader ∷ readers) (messages ∷ inputs) = IsRead remaining sender reader messages.items × AreRead remaining (sender + 1) readers inputs
 
--- the fault is the first of the bytes that the reader gave; where they end within a line, it gave all that it had;
--- and it is none of the file's where the reader had a message file
+-- the fault is the first of the bytes that the reader gave; if they end within a line, it gave all
+-- that it had
+-- the fault is none of the file's if the reader had a message file
 pub record HasFault {R : Type 0} (remaining : R → Option (List ℕ)) (reader : R) (fault : ReadFault) : Type 0 where
   pub front : List ℕ
   pub rest : List ℕ

@@ -12,7 +12,7 @@ use Rattle.told.specs.declared.writing.Told.{Told}
 use Rattle.file_relay.specs.Relaying.{IsRelayed, RelaysInputs}
 use Rattle.file_relay.specs.Stats.{IsStatsOf, stats_text}
 
--- the stats of this outcome were told to a writer, whole or up to a write that failed; of how many tries is not said
+-- the stats of this outcome were told to a writer, whole or up to a write that failed; no number of tries is stated
 pub record Tells (args : RelayArgs) (relayed : Relayed) (said : Told) (errors : Written) : Type 0 where
   pub puts : ℕ
   pub takes : ℕ

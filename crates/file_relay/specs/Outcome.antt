@@ -4,7 +4,7 @@ use Rattle.std.specs.Io.KnownBytes.{Appends}
 use Rattle.relay.specs.declared.outcome.Relayed.{Relayed}
 use Rattle.audit.specs.Texts.{audit_text, list_text}
 
--- the audit, and then the list where it is wanted
+-- the audit, and then the list if it is wanted
 abbrev pub outcome_text : Bool → Relayed → List ℕ
 outcome_text true relayed = audit_text relayed ++ list_text relayed
 outcome_text false relayed = audit_text relayed

@@ -58,21 +58,21 @@ pub record StopsNowhere (args : RelayArgs) : Type 0 where
   pub close_after : args.close_after ≡ None
   pub shut_after : args.shut_after ≡ None
 
--- inputs that a relay takes: from sender 0 on, no more of them than files are taken, with no more messages than these hold
+-- inputs that a relay takes: from sender 0 on, at most the most files, with at most the most messages that these hold
 pub record AreReady (inputs : Lists) : Type 0 where
   pub numbered : AreInputsFrom 0 inputs
   pub files : length inputs ≤ MAX_FILES
   pub few : total inputs ≤ MAX_FILES * MAX_LINES
 
--- these inputs were relayed, with this outcome; where no worker was to stop early, each line of its audit says that
--- all that was read was delivered
+-- these inputs were relayed, with this outcome; if no worker was to stop early, each line of its audit says that all
+-- messages read were delivered
 pub record IsRelayed (args : RelayArgs) (inputs : Lists) (relayed : Relayed) : Type 0 where
   pub relays : Relays (shape_for args) (plan_of args) inputs relayed
   pub fits : ¬ (IsTooSmall (plan_of args) args.capacity (total inputs))
   pub all : StopsNowhere args → audit_text relayed ≡ full_audit inputs
 
--- why a relay of these inputs has no outcome: it is called too small exactly where it is, unless memory ran out,
--- and a pass is never refused
+-- why a relay of these inputs has no outcome: unless memory ran out, `TooSmall` comes exactly if it is too small, and a
+-- pass is never refused
 abbrev pub IsCause : RelayArgs → Lists → RelayFault → Type 0
 IsCause args inputs TooSmall = IsTooSmall (plan_of args) args.capacity (total inputs)
 IsCause args inputs NoThread = ¬ (IsTooSmall (plan_of args) args.capacity (total inputs))
@@ -90,7 +90,7 @@ RelaysInputs args writer inputs (Err Output) =
 RelaysInputs args writer inputs (Err (Relay cause)) = IsCause args inputs cause
 RelaysInputs args writer inputs (Err (File number cause)) = ⊥
 
--- what comes of readers: that of the inputs that they gave, or one of them is at fault
+-- what comes of readers: what comes of the inputs that they gave, or one of them is at fault
 abbrev pub FromReaders : {R A : Type 0} → (R → Option (List ℕ)) → List R
     → (Lists → Result A ToolFault → Type 0) → Result A ToolFault → Type 0
 FromReaders remaining readers Comes (Ok done) =

@@ -1,4 +1,4 @@
--- What is told of a relay beside its outcome.
+-- The stats of a relay beside its outcome.
 use Rattle.std.specs.Prelude.{◌≡◌, ℕ, ◌+◌, ◌-◌, ◌*◌, ◌/◌, ◌==◌, ◌&&◌, max, Bool, false, not, cond, is_some, List, [], ◌∷◌, ◌++◌, length, map, codes, count_by, decimal, Option, None, Some, Vec}
 use Rattle.std.specs.List.{range_with_len}
 use Rattle.std.specs.declared.alloc.Global.{Global}
@@ -17,7 +17,7 @@ took_each consumers delivered = map (λ k. count_by (λ t. t.consumer == k) deli
 abbrev pub has_some : Vec Message Global → Bool
 has_some messages = not (length messages.items == 0)
 
--- 1 where the first producer stopped since it closed the container, and not at a refused put
+-- 1 if the first producer stopped because it closed the container, and not at a refused put
 abbrev pub first_closed : Option ℕ → List (Vec Message Global) → ℕ
 first_closed close_after [] = 0
 first_closed close_after (messages ∷ others) = cond (is_some close_after && has_some messages) 1 0
@@ -30,7 +30,7 @@ abbrev pub is_met : Option ℕ → ℕ → Bool
 is_met None count = false
 is_met (Some most) count = most == count
 
--- 1 where the first consumer stopped since it shut the container, and not at a refused take
+-- 1 if the first consumer stopped because it shut the container, and not at a refused take
 abbrev pub first_shut : RelayArgs → List ℕ → ℕ
 first_shut args [] = 0
 first_shut args (count ∷ others) = cond (is_met args.shut_after count && not (is_met args.take count)) 1 0
@@ -39,8 +39,8 @@ first_shut args (count ∷ others) = cond (is_met args.shut_after count && not (
 abbrev pub ended_takes : RelayArgs → List ℕ → ℕ
 ended_takes args took = count_by (λ count. not (is_met args.take count)) took - first_shut args took
 
--- of a relay of which so many puts and takes were tried: a put that was tried was made, or it ended its producer, or the
--- container was full; and so for takes
+-- the stats of a relay in which these puts and takes were tried: a put that was tried was made, or it ended its
+-- producer, or the container was full; and so for takes
 pub record IsStatsOf (args : RelayArgs) (relayed : Relayed) (puts takes : ℕ) (stats : Stats) : Type 0 where
   pub delivered : stats.delivered ≡ length relayed.delivered.items
   pub took : stats.took.items ≡ took_each args.consumers relayed.delivered.items

@@ -15,7 +15,8 @@ use std::io::Read;
 
 /// Reads all readers, in order: reader `k`, counted from 0, gives the messages of sender `k`.
 ///
-/// `File` has the number, from 1, of the first reader whose bytes are no message file, or that fails.
+/// The only fault is `File`: the number, from 1, of the first reader that could not be read as a
+/// message file, and why.
 pub(crate) fn read_inputs<R: Read + Drop>(
     alloc: Global,
     readers: Vec<R>,

@@ -1,8 +1,9 @@
 //! Files relayed through a queue, a stack or a ring. Each reader gives the messages of one sender.
 //!
-//! Promised: what is written is the outcome of a relay of the messages that were read (`relay_main`),
-//! also where stats of that very relay are then written on standard error (`relay_measured`, `Stats`).
-//! After a fault of a file, of a relay or of memory nothing was written.
+//! Promised: the output is the outcome of a relay of the messages that were read (`relay_main`).
+//! That also holds if stats of that very relay are then written on standard error
+//! (`relay_measured`, `Stats`). After a fault of a file, of a relay or of memory nothing was
+//! written.
 #![tactic(auto)]
 
 mod inputs;

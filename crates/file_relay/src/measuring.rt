@@ -23,13 +23,14 @@ use std::thread::Threads;
 use std::time::{Clock, Instant};
 use told::{Told, tell};
 
-/// Relays as [`relay_main`](crate::relay_main) does, and then writes stats of the relay on `errors`:
-/// its time and messages a second, how many messages each consumer took, and the refusals that were
-/// met. Returns how much of the stats went out.
+/// Relays as [`relay_main`](crate::relay_main) does, and then writes stats of the relay on
+/// `errors`: its time and messages a second, how many messages each consumer took, and the refusals
+/// that were met. Returns how much of the stats went out.
 ///
-/// The faults are those of `relay_main`; after a fault no stats are written. They are made before
-/// the outcome is written, so that `Relay(NoMemory)` also comes if there is no memory for them.
-/// That they cannot be written is no fault. How many tries there were is counted by words that
+/// The faults are those of `relay_main`. After a fault no stats are written. The stats are made
+/// before the outcome is written, so `Relay(NoMemory)` also comes if there is no memory for them.
+/// Stats that cannot be written are no fault. Words that threads share count the tries. No clause
+/// says how many there were, and so none says how many were refused.
 /// threads share: no clause says it, and so none says how many were refused.
 pub fn relay_measured<T: Threads + Wait + Clock + Sync, R: Read + Drop, W: Write, E: Write>(
     rt: &T,
@@ -42,8 +43,8 @@ pub fn relay_measured<T: Threads + Wait + Clock + Sync, R: Read + Drop, W: Write
     requires args { IsInRange args.now }
     requires some { 1 ≤ length readers.items }
     requires few { length readers.items ≤ MAX_FILES }
-    // What is written is the outcome of a relay of the messages that were read, and the stats are
-    // those of that relay.
+    // The output is the outcome of a relay of the messages that were read, and the stats are those
+    // of that relay.
     ensures measures { let streams : Streams = record {
       output = written W.contents writer.old writer.new;
       errors = written E.contents errors.old errors.new;
@@ -64,7 +65,7 @@ pub fn relay_measured<T: Threads + Wait + Clock + Sync, R: Read + Drop, W: Write
     Ok(said)
 }
 
-// How long ago that was, where the clock could be read then and now.
+// How long ago that was, if the clock could be read then and now.
 fn nanoseconds_since<T: Clock>(rt: &T, start: io::Result<Instant>) -> Option<u128> {
     Some(start.ok()?.elapsed(rt).ok()?.as_nanos())
 }

@@ -12,7 +12,7 @@ use std::io::Write;
 
 /// Writes the audit of an outcome, then its list if that is wanted, and flushes the writer.
 ///
-/// `Output` if a write fails; then a front of the text went out.
+/// `Output` if a write or the flush fails; then a prefix of the text went out.
 pub(crate) fn write_outcome<W: Write>(
     relayed: &Relayed,
     list: bool,

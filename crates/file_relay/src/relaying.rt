@@ -31,14 +31,18 @@ use std::thread::Threads;
 use tagged_index::{Limits, MAX_TAG};
 use treiber_stack::Stack;
 
-/// Relays what the readers give, reader `k`, counted from 0, as sender `k`, and writes the outcome:
-/// the audit, and then the list where that is wanted.
+/// Relays what the readers give, reader `k`, counted from 0, as sender `k`. Writes the outcome: the
+/// audit, and then the list if `args` asks for it.
 ///
-/// All readers are read, in order, before the container is made; `File` has the number, from 1, of
-/// the first that is no message file, or fails. `Relay(NoMemory)` also comes where the container
-/// cannot be made. `Output` comes where a write fails, and then a front of the text went out. After
-/// any other fault nothing was written. The memory of what was relayed is not given back, since the
-/// process is about to end.
+/// All readers are read, in order, before the container is made. The faults:
+/// - `File`: the number, from 1, of the first reader that could not be read as a message file, and
+///   why.
+/// - `Relay`: why the relay has no outcome; `NoMemory` also comes if the container cannot be made,
+///   and `NoPass` never comes.
+/// - `Output`: a write or the flush failed. Then a prefix of the text went out.
+///
+/// After any fault but `Output` nothing was written. The memory of what was relayed is not given
+/// back, since the process is about to end.
 pub fn relay_main<T: Threads + Wait + Sync, R: Read + Drop, W: Write>(
     rt: &T,
     alloc: Global,
@@ -49,7 +53,7 @@ pub fn relay_main<T: Threads + Wait + Sync, R: Read + Drop, W: Write>(
     requires args { IsInRange args.now }
     requires some { 1 ≤ length readers.items }
     requires few { length readers.items ≤ MAX_FILES }
-    // What is written is the outcome of a relay of the messages that were read.
+    // The output is the outcome of a relay of the messages that were read.
     ensures relays { let output = written W.contents writer.old writer.new in
         FromReaders R.remaining readers.items (RelaysInputs args.now output) result }
     ensures untouched { IfErr result (λ fault. fault ≢ Output → writer.new ≡ writer.old) }
@@ -57,13 +61,13 @@ pub fn relay_main<T: Threads + Wait + Sync, R: Read + Drop, W: Write>(
     let inputs = read_inputs(alloc, readers)?;
     let relayed = relay_inputs(rt, alloc, args, inputs, &FreeGate)?;
     let written = write_outcome(&relayed, args.list, writer);
-    // The process ends behind it: to free each message by itself would take a seventh of its time.
+    // The process ends after this: to free each message by itself would take a seventh of its time.
     mem::forget(relayed);
     written
 }
 
-/// The outcome of a relay of these inputs through a container of the kind that is asked for, at
-/// whose gate each try is made.
+/// The outcome of a relay of these inputs through a container of the kind that `args` names. Each
+/// try passes the gate.
 pub(crate) fn relay_inputs<T: Threads + Wait + Sync, G: Gate + Sync>(
     rt: &T,
     alloc: Global,
@@ -93,7 +97,7 @@ pub(crate) fn relay_inputs<T: Threads + Wait + Sync, G: Gate + Sync>(
     }
 }
 
-// The limits that are asked for.
+// The limits that `args` asks for.
 fn limits_for(args: &RelayArgs) -> Limits
     requires { IsInRange args.now }
     ensures { (capacity_of result ≡ args.now.capacity) × (tag_limit_of result ≡ MAX_TAG) }
@@ -104,7 +108,8 @@ fn limits_for(args: &RelayArgs) -> Limits
     }
 }
 
-// The same of a ring, which has as many laps as may be, and a cell for each pass that a relay needs.
+// The same for a ring, which has the most laps that may be, and a cell for each pass that a relay
+// needs.
 fn ring_limits_for(args: &RelayArgs) -> RingLimits
     requires range { IsInRange args.now }
     requires ring { args.now.kind ≡ Ring }

@@ -1,4 +1,4 @@
-//! What is written of a relay beside its outcome.
+//! What the program writes about a relay beside its outcome.
 
 ghost use Rattle.std.specs.Prelude.{◌≡◌, ◌==◌, ◌++◌, IfOk, OnOk, count_by, string_bytes};
 ghost use Rattle.file_relay.specs.Stats.{IsStatsOf, consumer_lines, ended_puts, ended_takes, is_met, stats_text, time_line, took_each};
@@ -8,23 +8,24 @@ use relay_args::RelayArgs;
 use std::alloc::{AllocError, Global};
 use std::fmt::Write;
 
-/// What is written of a relay beside its outcome.
+/// What the program writes about a relay beside its outcome.
 #[derive(Debug, Drop, PartialEq, Eq)]
 pub struct Stats {
-    /// How long it took in nanoseconds, threads and all; `None` where no clock could be read.
+    /// How long it took in nanoseconds, threads and all; `None` if no clock could be read.
     pub nanoseconds: Option<u128>,
     /// How many messages were delivered.
     pub delivered: u64,
     /// How many messages each consumer took.
     pub took: Vec<u64>,
-    /// How many puts were refused since the container was full.
+    /// How many puts were refused because the container was full.
     pub full: u64,
-    /// How many takes were refused since it was empty.
+    /// How many takes were refused because it was empty.
     pub empty: u64,
 }
 
 impl Stats {
-    /// The stats of a relay that took so long, and of which so many puts and takes were tried.
+    /// The stats of a relay that took `nanoseconds` and in which `puts` puts and `takes` takes were
+    /// tried.
     pub fn of(
         alloc: Global,
         args: &RelayArgs,
@@ -55,7 +56,7 @@ impl Stats {
         })
     }
 
-    /// A line of the time and the messages a second, one for each consumer, and one of the
+    /// A line for the time and the messages a second, a line for each consumer, and a line for the
     /// refusals.
     pub fn text(&self, alloc: Global) -> Result<String, AllocError>
         ensures { IfOk result (λ text. string_bytes text ≡ stats_text self.now) }
@@ -68,7 +69,7 @@ impl Stats {
     }
 }
 
-// How many messages each of so many consumers took.
+// How many messages each of the `consumers` consumers took.
 fn took_by_each(alloc: Global, consumers: u32, delivered: &[Taken]) -> Result<Vec<u64>, AllocError>
     ensures { IfOk result (λ took. took.items ≡ took_each consumers delivered.now) }
 {

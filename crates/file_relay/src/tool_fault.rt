@@ -10,8 +10,8 @@ use relay::RelayFault;
 use std::alloc::AllocError;
 use thiserror::Error;
 
-/// Why files were not relayed, or the outcome not written. The message is what the program prints
-/// behind its name.
+/// Why files were not relayed, or the outcome not written. The program prints the message after its
+/// name.
 #[derive(Clone, Copy, Debug, PartialEq, Eq, Error)]
 pub enum ToolFault {
     /// The file of this number, from 1, was not read.

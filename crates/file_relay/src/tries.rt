@@ -4,8 +4,8 @@ use relay::Gate;
 use std::alloc::{AllocError, Global};
 use std::sync::atomic::{AtomicU64, Ordering};
 
-/// For each producer how many puts it tried, and for each consumer how many takes. No contract says
-/// what a word holds that threads share: that it holds these is tested.
+/// How many puts each producer tried, and how many takes each consumer tried. No contract says what
+/// a word holds that threads share. Tests show that these words hold these counts.
 #[derive(Drop)]
 pub struct Tries {
     puts: Vec<AtomicU64>,
@@ -13,7 +13,7 @@ pub struct Tries {
 }
 
 impl Tries {
-    /// No tries of so many workers.
+    /// A count of 0 for each of these producers and consumers.
     pub fn new(alloc: Global, producers: usize, consumers: usize) -> Result<Tries, AllocError> {
         Ok(Tries {
             puts: zeros(alloc, producers)?,

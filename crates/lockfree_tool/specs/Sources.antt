@@ -7,7 +7,7 @@ use Rattle.lockfree_tool.specs.declared.failure.Failure.TheVariants.{File as Fil
 use Rattle.lockfree_tool.specs.declared.source.Source.{Source}
 use Rattle.lockfree_tool.specs.declared.source.Source.TheVariants.{File, Input}
 
--- what a source still gives, where that is known
+-- what a source still gives, if that is known
 abbrev pub source_bytes : {F I : Type 0} → (F → Option (List ℕ)) → (I → Option (List ℕ)) → Source F I → Option (List ℕ)
 source_bytes file input (File f) = file f
 source_bytes file input (Input i) = input i
@@ -26,7 +26,7 @@ abbrev pub IsSourceOf : {F I : Type 0} → (List ℕ → F → Type 0) → List 
 IsSourceOf is_file name (File f) = (name ≢ codes "-") × is_file name f
 IsSourceOf is_file name (Input i) = name ≡ codes "-"
 
--- a source for each name, in order, and the standard input once at most
+-- a source for each name, in order, and the standard input at most once
 pub record AreSourcesOf {F I : Type 0} (is_file : List ℕ → F → Type 0) (names : List (List ℕ)) (sources : List (Source F I)) : Type 0 where
   pub each : AllZip (IsSourceOf is_file) names sources
   pub once : count_by is_input sources ≤ 1
@@ -35,7 +35,7 @@ pub record AreSourcesOf {F I : Type 0} (is_file : List ℕ → F → Type 0) (na
 abbrev pub HasNoSource : (List ℕ → Type 0) → List ℕ → ℕ → Type 0
 HasNoSource cannot_open name left = ((name ≡ codes "-") × (left ≡ 0)) ⊎ ((name ≢ codes "-") × cannot_open name)
 
--- the names before the one of this number, from 1, have their sources, and there is none of that one
+-- the names before the one of this number, from 1, have their sources, and that one has none
 pub record IsUnopened {F I : Type 0} (is_file : List ℕ → F → Type 0) (cannot_open : List ℕ → Type 0) (input : Option I) (names : List (List ℕ)) (number : ℕ) : Type 0 where
   pub before : List (List ℕ)
   pub name : List ℕ

@@ -12,7 +12,7 @@ use relay::RelayFault;
 use script_replay::ReplayFault;
 use thiserror::Error;
 
-/// Why the program failed. The message is what the program prints behind its name.
+/// Why the program failed. The program prints the message after its name.
 #[derive(Clone, Copy, Debug, PartialEq, Eq, Error)]
 pub enum Failure {
     /// The arguments of the command line are refused.

@@ -1,7 +1,7 @@
 //! The program `lockfree`: it replays a script of calls on a container, or relays the lines of
-//! files through one, as the arguments of its command line ask (`run`). What it does stands in the
-//! crates `script_replay` and `file_relay`, and what the arguments ask for in `words`; here are the
-//! arguments, files and streams of a process.
+//! files through one, as the arguments of its command line ask (`run`). The crates `script_replay`
+//! and `file_relay` do the work, and `words` reads the arguments. This crate has the arguments,
+//! files and streams of a process.
 //!
 //! The name `-` stands for the standard input, once (`Source`, `open_sources`). The status and the line
 //! on standard error follow from the fault (`Failure`). If nobody reads the output any more, nothing
@@ -25,7 +25,7 @@ use std::process::ExitCode;
 use std::rt::Files;
 use std::{env, fs};
 
-/// How many bytes one write to standard output has, but for the last. Where there is no memory for
+/// How many bytes one write to standard output has, except the last. If there is no memory for
 /// them, each write goes out by itself.
 const OUTPUT_BUFFER: usize = 65_536;
 

@@ -27,7 +27,7 @@ pub trait OpenFiles {
         ensures none { IfErr result (λ _. cannot_open self.now name.now) };
 }
 
-/// The source of this name: the standard input for `-`, once. `None` where it was given before, or
+/// The source of this name: the standard input for `-`, once. `None` if it was given before, or if
 /// the file cannot be opened.
 pub fn open_source<F: OpenFiles, I: Read + Drop>(
     files: &F,
@@ -49,9 +49,9 @@ pub fn open_source<F: OpenFiles, I: Read + Drop>(
     }
 }
 
-/// Opens the sources of these names, in order. `FileUnopened` has the number, from 1,
-/// of the first that cannot be opened, or that names the standard input again; `File` that of one
-/// for which there is no memory.
+/// Opens the sources of these names, in order. `FileUnopened` has the number, from 1, of the first
+/// that cannot be opened, or that names the standard input again. `File` has the number of the
+/// first for which there is no memory.
 pub fn open_sources<F: OpenFiles, I: Read + Drop>(
     alloc: Global,
     files: &F,

@@ -5,7 +5,7 @@ ghost use Rattle.std.specs.Prelude.{◌≡◌};
 use std::cell::Cell;
 use std::io::{self, ErrorKind, IsTerminal, Write};
 
-/// Standard output. It notes where a write finds that its reader has gone.
+/// Standard output. It notes when a write finds that its reader has gone.
 #[derive(Drop)]
 pub struct Output<'a, W> {
     writer: W,
@@ -13,7 +13,7 @@ pub struct Output<'a, W> {
 }
 
 impl<'a, W: Write + Drop> Output<'a, W> {
-    /// An output to this writer, which notes there whether it is read.
+    /// An output to this writer. It notes in `is_read` whether the output is read.
     pub fn new(writer: W, is_read: &'a Cell<bool>) -> Output<'a, W>
         ensures { result.writer ≡ writer }
     {
@@ -39,8 +39,8 @@ impl<W: Write + Drop> Write for Output<'_, W> {
     }
 }
 
-/// Standard error, as long as the output is read. That nobody reads the output is no failure that
-/// its user has to hear of, so from then on nothing goes out.
+/// Standard error, as long as the output is read. If nobody reads the output, that is no failure
+/// that the user must hear of. From then on nothing goes out.
 #[derive(Drop)]
 pub struct Errors<'a, W> {
     writer: W,
@@ -48,7 +48,7 @@ pub struct Errors<'a, W> {
 }
 
 impl<'a, W: Write + Drop> Errors<'a, W> {
-    /// Errors that go to this writer as long as it is noted there that the output is read.
+    /// Errors that go to this writer as long as `is_read` says that the output is read.
     pub fn new(writer: W, is_read: &'a Cell<bool>) -> Errors<'a, W>
         ensures { result.writer ≡ writer }
     {

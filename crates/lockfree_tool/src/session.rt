@@ -17,15 +17,15 @@ use std::thread::Threads;
 use std::time::Clock;
 use words::{Chosen, WordsRefused, read_words};
 
-/// Does what the arguments of the command line ask for, the program's name first, and returns the
-/// status that the program ends with. `words` are these arguments, or why they could not be read:
+/// Does what the arguments of the command line ask for, and returns the status that the program
+/// ends with. `words` are these arguments, the program's name first, or why they could not be read:
 /// one is not UTF-8, or memory ran out. A script without a name, and the name `-`, come from
 /// `input`.
 ///
-/// The output is flushed before the status is known. A failure is one line on `errors`, by one write
-/// if there is memory for it. If `errors` is a terminal, what is wrong with arguments that are
-/// refused follows their line. If the arguments ask for them, the stats of a relay or the trace of a
-/// script are written on `errors`.
+/// The output is flushed before the status is known. A failure is one line on `errors`, by one
+/// write if there is memory for it. If `errors` is a terminal and the arguments are refused, an
+/// explanation follows their line. If the arguments ask for them, the stats of a relay or the trace
+/// of a script are written on `errors`.
 pub(crate) fn run<
     T: Threads + Wait + Clock + Sync,
     F: OpenFiles,
@@ -45,9 +45,9 @@ pub(crate) fn run<
     ensures silent { result ≡ 0
         → ¬ (IfOk words (λ all. AskForDetails (map string_bytes all.items)))
         → errors.new ≡ errors.old }
-    // Nothing is written where the arguments, a text, a file or a relay failed.
+    // Nothing is written if the arguments, a text, a file or a relay failed.
     ensures unwritten { result ≢ 0 → result ≢ 5 → output.new ≡ output.old }
-    // Of a run that is done no output is left in the buffer.
+    // After a run that is done no output is left in the buffer.
     ensures flushed { result ≡ 0 → writer_buffer output.new ≡ [] }
 {
     let chosen = match choose(alloc, words) {
@@ -78,8 +78,8 @@ fn choose(alloc: Global, words: io::Result<Vec<String>>) -> Result<Chosen, Words
     read_words(alloc, &texts)
 }
 
-// Writes the help or the version, or that the arguments are refused, and on a terminal what is wrong
-// with them. Returns the status.
+// Writes the help or the version, or that the arguments are refused. On a terminal it also writes
+// what is wrong with them. Returns the status.
 fn refuse<O: Write + Drop, E: Write + IsTerminal>(
     alloc: Global,
     refused: &WordsRefused,
@@ -106,7 +106,7 @@ fn refuse<O: Write + Drop, E: Write + IsTerminal>(
 }
 
 // Flushes the output of a run that is done, and returns the status. The calls that write have
-// flushed it too; here it is known of its buffer.
+// flushed it too. Only here does the proof show that the buffer is empty.
 fn finish<O: Write + Drop, E: Write>(alloc: Global, output: &mut BufWriter<O>, errors: &mut E) -> u8
     ensures silent { result ≡ 0 → errors.new ≡ errors.old }
     ensures flushed { result ≡ 0 → writer_buffer output.new ≡ [] }
@@ -118,7 +118,8 @@ fn finish<O: Write + Drop, E: Write>(alloc: Global, output: &mut BufWriter<O>, e
     }
 }
 
-// Writes the failure in a line, and returns its status. Nothing is left to do where that fails too.
+// Writes the failure in a line, and returns its status. If the write fails too, nothing is left to
+// do.
 fn fail<E: Write>(alloc: Global, failure: Failure, errors: &mut E) -> u8
     ensures failed { result ≢ 0 }
     ensures output { failure ≡ Output → result ≡ 5 }
@@ -156,7 +157,7 @@ fn attempt<T: Threads + Wait + Clock + Sync, F: OpenFiles, I: Read + Drop, O: Wr
         Chosen::Traced(name) => {
             let source = open_source(files, name.as_str(), &mut input);
             let mut source = source.ok_or(Failure::ScriptUnopened)?;
-            // That the trace or the stats cannot be written is no failure.
+            // A trace or stats that cannot be written are no failure.
             let _ = replay_traced(rt, alloc, &mut source, output, errors)?;
             Ok(())
         }

@@ -2,7 +2,7 @@
 
 use std::io::{self, Read};
 
-/// The name that stands for the standard input, in place of a file's.
+/// The name that stands for the standard input, instead of a file's.
 pub const STANDARD_INPUT: &str = "-";
 
 /// A file, or the standard input.

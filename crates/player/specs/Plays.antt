@@ -74,20 +74,21 @@ FoldTold c reversed v w (Err why) = TakesNothing c v w why
 abbrev pub steps_since : PassView (List ℕ) → PassView (List ℕ) → ℕ
 steps_since v w = u64_saturate (w.steps - v.steps)
 
--- a pass has made so many steps more
+-- a pass has made this many steps more
 pub record MakesSteps (count : ℕ) (v w : PassView (List ℕ)) : Type 0 where
   pub number : w.number ≡ v.number
   pub steps : w.steps ≡ v.steps + count
   pub seen : Later v.seen w.seen
 
--- some of so many steps were made
+-- some of these steps were made
 pub record MakesUpTo (count : ℕ) (v w : PassView (List ℕ)) : Type 0 where
   pub made : ℕ
   pub some : 1 ≤ made
   pub at_most : made ≤ count
   pub makes : MakesSteps made v w
 
--- steps of a call under way: all that the line names where it goes on; where it ends, the call's law from its begin
+-- steps of a call under way: all that the line names if it is still under way; if it ends, the call's law from its
+-- begin
 abbrev pub StepsTold : Shape → Command (List ℕ) → Underway (List ℕ) → ℕ → Answer → Named → Type 0
 StepsTold c call u count (answer.Again told) (Acting same w) = (same ≡ call) × (w.begun ≡ u.begun) × MakesSteps count u.now w.now × (told ≡ steps_since w.begun w.now)
 StepsTold c call u count (answer.Ended said told) (Resting w) = MakesUpTo count u.now w × CallGives c u.begun call w said × (told ≡ steps_since u.begun w)
@@ -102,7 +103,7 @@ IsFor order Fold = order ≡ Lifo
 IsFor order ReversedFold = order ≡ Lifo
 IsFor order act = Unit {0}
 
--- of a pass between its calls
+-- a line of a pass between its calls
 abbrev pub RestingTold : Shape → PassView (List ℕ) → Act → Answer → Named → Type 0
 RestingTold c v (Call call) (answer.Call said) (Resting w) = CallGives c v call w said
 RestingTold c v (Begin call) answer.Begun (Acting begun u) = (begun ≡ call) × (u ≡ no_step v)
@@ -113,13 +114,13 @@ RestingTold c v ReversedFold (answer.ReversedFold said) (Resting w) = FoldTold c
 RestingTold c v Drop answer.NothingBegun (Resting w) = w ≡ v
 RestingTold c v act said after = ⊥
 
--- of a pass in the middle of a call
+-- a line of a pass in the middle of a call
 abbrev pub ActingTold : Shape → Command (List ℕ) → Underway (List ℕ) → Act → Answer → Named → Type 0
 ActingTold c call u (Step count) said after = StepsTold c call u count said after
 ActingTold c call u Drop said after = (said ≡ answer.Dropped) × (after ≡ Nobody)
 ActingTold c call u act said after = (said ≡ answer.Busy) × (after ≡ Acting call u)
 
--- of what a letter names, which is nobody only where no pass could be had
+-- a line of what a letter names, which is nobody only if no pass could be had
 abbrev pub Told : Shape → Named → Act → Answer → Named → Type 0
 Told c Nobody act said after = (said ≡ answer.NoPass) × (after ≡ Nobody)
 Told c (Resting v) act said after = RestingTold c v act said after
@@ -127,7 +128,7 @@ Told c (Acting call u) act said after = ActingTold c call u act said after
 
 -- ---- one line
 
--- a letter that names nobody gets a pass, split off the root, where it can be had
+-- a letter that names nobody gets a pass, split off the root, if one can be had
 abbrev pub Finds : Shape → RootView (List ℕ) → Named → RootView (List ℕ) → Named → Type 0
 Finds c r Nobody s Nobody = IsFullOfPasses c r × (s ≡ r)
 Finds c r Nobody s (Resting v) = Splits c r s v
@@ -149,7 +150,7 @@ pub record Does (c : Shape) (old : World) (letter : ℕ) (act : Act) (said : Ans
   pub told : Told c found act said after
   pub names : new.names ≡ renamed old.names letter after
 
--- two passes meet, where both are there and between their calls
+-- two passes meet, if both are there and between their calls
 abbrev pub MeetTold : Named → Named → Answer → Named → Type 0
 MeetTold Nobody other said after = (said ≡ answer.NoPass) × (after ≡ Nobody)
 MeetTold first Nobody said after = (said ≡ answer.NoPass) × (after ≡ first)
@@ -158,7 +159,7 @@ MeetTold (Resting v) (Resting u) answer.NoPass (Resting w) = MeetGives v u w fal
 MeetTold (Resting v) (Resting u) said after = ⊥
 MeetTold first other said after = (said ≡ answer.Busy) × (after ≡ first)
 
--- the other letter is looked for only where the first has a pass
+-- the other letter is looked for only if the first has a pass
 abbrev pub FindsOther : Shape → Named → RootView (List ℕ) → Named → RootView (List ℕ) → Named → Type 0
 FindsOther c Nobody r other s found = (found ≡ other) × (s ≡ r)
 FindsOther c (Resting v) r other s found = Finds c r other s found

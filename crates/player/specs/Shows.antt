@@ -27,7 +27,7 @@ pub record Reading (R P O : Type 0) : Type 1 where
   pub made : O → Underway (List ℕ)
 
 module _ {R P O : Type 0} (r : Reading R P O) where
-  -- what a split of a root gives: a new pass, or none where no more can be had
+  -- what a split of a root gives: a new pass, or none if no more can be had
   abbrev pub SplitGives : R → R → Option P → Type 0
   SplitGives before after got = MatchOption got ((r.root after ≡ r.root before) × IsFullOfPasses r.shape (r.root before)) (λ p. r.is_pass p × Splits r.shape (r.root before) (r.root after) (r.pass p))
 
@@ -35,7 +35,7 @@ module _ {R P O : Type 0} (r : Reading R P O) where
   abbrev pub CallBy : P → Command (List ℕ) → P × Reply (List ℕ) → Type 0
   CallBy by command done = CallGives r.shape (r.pass by) command (r.pass done.0) done.1
 
-  -- what one step of an operation gives that makes this call: it goes on, or it ends with the call's reply
+  -- what one step of an operation gives that makes this call: it is still under way, or it ends with the call's reply
   abbrev pub StepOf : Command (List ℕ) → O → Stepped O P (Reply (List ℕ)) → Type 0
   StepOf call operation stepped = MatchStepped stepped (λ next. r.is_making call next × GoesOn (r.made operation) (r.made next)) (λ back reply. r.is_pass back × OneStep (r.made operation).now (r.pass back) × CallGives r.shape (r.made operation).begun call (r.pass back) reply)
 

@@ -43,7 +43,7 @@ with_line (Some lines) line = Some (lines ++ line)
 abbrev pub step_line : PassName → MadeStep → List ℕ
 step_line pass made = encode_utf8 pass.0 ++ codes " " ++ decimal made.number ++ codes " " ++ name_text made.name ++ outcome_text made.outcome ++ codes "\n"
 
--- of a call that is made whole, and not by steps
+-- the line of a call that is made whole, and not by steps
 abbrev pub whole_line : PassName → List ℕ → List ℕ
 whole_line pass call = encode_utf8 pass.0 ++ codes " whole " ++ call ++ codes "\n"
 
@@ -62,7 +62,7 @@ pub record Traces (old new : Trace) (traced : List (List ℕ) → Type 0) : Type
 -- ---- the steps of a call
 
 module _ {R P O : Type 0} (r : Reading R P O) where
-  -- the pass of a call that goes on, and of one that has ended
+  -- the pass of a call that is under way, and of one that has ended
   abbrev pub pass_after : Stepped O P (Reply (List ℕ)) → PassView (List ℕ)
   pass_after (Again operation) = (r.made operation).now
   pass_after (Done back reply) = r.pass back
@@ -108,7 +108,7 @@ module _ {R P O : Type 0} (r : Reading R P O) (is_step : O → StepName → Type
 
   -- ---- one line of one pass
 
-  -- of a pass between its calls: ranges and folds are made whole
+  -- for a pass between its calls: ranges and folds are made whole
   abbrev pub RestingLines : PassName → P → Act → Answer → List (List ℕ) → Place P O → Type 0
   RestingLines by pass (Call call) (answer.Call reply) lines (Resting back) = CallLines by call pass back reply lines
   RestingLines by pass (Range values) said lines after = lines ≡ whole_line by (codes "range") ∷ []
@@ -116,7 +116,7 @@ module _ {R P O : Type 0} (r : Reading R P O) (is_step : O → StepName → Type
   RestingLines by pass ReversedFold said lines after = lines ≡ whole_line by (codes "rfold") ∷ []
   RestingLines by pass act said lines after = lines ≡ []
 
-  -- of a pass in the middle of a call: it keeps its operation, unless it makes steps or is dropped
+  -- for a pass in the middle of a call: it keeps its operation, unless it makes steps or is dropped
   abbrev pub ActingLines : PassName → Command (List ℕ) → Begun O → Act → Answer → List (List ℕ) → Place P O → Type 0
   ActingLines by call begun (Step count) (answer.Again told) lines (Acting after) = StepLines by call (Again begun.operation) lines (Again after.operation)
   ActingLines by call begun (Step count) (answer.Ended reply told) lines (Resting back) = StepLines by call (Again begun.operation) lines (Done back reply)
@@ -124,7 +124,7 @@ module _ {R P O : Type 0} (r : Reading R P O) (is_step : O → StepName → Type
   ActingLines by call begun Drop said lines after = (lines ≡ []) × (after ≡ Nobody)
   ActingLines by call begun act said lines after = (lines ≡ []) × (after ≡ Acting begun)
 
-  -- of whatever the letter names, once it was looked for
+  -- for whatever the letter names, once it was looked for
   abbrev pub PlaceLines : PassName → Place P O → Act → Answer → List (List ℕ) → Place P O → Type 0
   PlaceLines by Nobody act said lines after = lines ≡ []
   PlaceLines by (Resting pass) act said lines after = RestingLines by pass act said lines after

@@ -18,7 +18,7 @@ use script::{Act, Answer, Value};
 use std::alloc::{AllocError, Global};
 use std::sync::Wait;
 
-/// Does what a line other than a meet says at what its letter names. Returns what it names then.
+/// Does what a line other than a meet says, with what its letter names. Returns what it names then.
 pub fn act_at<'a, C: Played<'a>, R: Wait>(
     container: &C,
     rt: &R,
@@ -44,7 +44,7 @@ pub fn act_at<'a, C: Played<'a>, R: Wait>(
     }
 }
 
-/// Does it by a pass between its calls.
+/// Does the same with a pass between its calls.
 fn act_resting<'a, C: Played<'a>, R: Wait>(
     container: &C,
     rt: &R,
@@ -159,7 +159,7 @@ fn make_step<'a, C: Played<'a>>(
     Ok(stepped)
 }
 
-/// Does it by a pass in the middle of a call. A pass that is dropped takes its operation with it.
+/// Does the same with a pass in the middle of a call. If the pass is dropped, so is its operation.
 fn act_begun<'a, C: Played<'a>>(
     container: &C,
     begun: Begun<C::Operation>,
@@ -185,7 +185,7 @@ fn act_begun<'a, C: Played<'a>>(
     }
 }
 
-/// Makes so many steps of a call, or fewer where it ends.
+/// Makes `count` steps of a call, or fewer if it ends.
 fn make_steps<'a, C: Played<'a>>(
     container: &C,
     begun: Begun<C::Operation>,

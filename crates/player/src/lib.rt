@@ -1,12 +1,14 @@
 //! Scripts played over a container, by single steps.
 //!
-//! Promised (`play`, `specs/Plays.antt`): each line of a script gets a reply of one line, which is the
-//! text of what the call returned that the line names, made on the container by the line's pass, under
-//! the container's own laws. `busy`, `nothing begun` and `no pass` come exactly where the formats say,
-//! and then no more was done than to split passes off. If a trace is kept, it gains one line for each
-//! step, in their order, with the name that the operation gave the step before it was made
-//! (`specs/Traces.antt`). All is kept in memory, so that it runs out before anything is written, if it
-//! does.
+//! Promised (`play`, `specs/Plays.antt`):
+//! - Each line of a script gets a reply of one line: the text of what its call returned. The line's
+//!   pass makes the call on the container, under the container's own laws.
+//! - `busy`, `nothing begun` and `no pass` come exactly when the formats say. Then the line did
+//!   nothing but split passes off.
+//! - If a trace is kept, it gains one line for each step, in their order, with the name that the
+//!   operation gave the step before it was made (`specs/Traces.antt`).
+//!
+//! All output is kept in memory. If memory runs out, nothing was written yet.
 #![tactic(auto)]
 
 mod acts;

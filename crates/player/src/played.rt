@@ -14,8 +14,8 @@ use std::alloc::{AllocError, Global};
 use std::sync::Wait;
 use step_names::StepName;
 
-/// A container of values, by the calls that a script's lines name. Its operations have one type,
-/// where a container has one for each kind of call.
+/// A container of values, by the calls that a script's lines name. Its operations have one type. A
+/// container has one for each kind of call.
 pub trait Played<'a>: Drop {
     type Root: Drop;
 
@@ -23,8 +23,8 @@ pub trait Played<'a>: Drop {
 
     type Operation: Drop;
 
-    /// What its passes can tell. No line of a script asks for it, but an impl for all containers has
-    /// to name each type of theirs.
+    /// What its passes can tell. No line of a script asks for it, but an impl for all containers
+    /// must name each type of theirs.
     type Note: Drop;
 
     type Rest: Leaving<Value<'a>> + Drop;
@@ -57,8 +57,8 @@ pub trait Played<'a>: Drop {
         ensures making { (reading self.now).is_making command.entry result }
         ensures begun { (reading self.now).made result ≡ no_step ((reading self.now).pass by) };
 
-    /// One step of a call. Its pass has made exactly one step more afterwards, and the call goes on or
-    /// has ended.
+    /// One step of a call. Its pass has made exactly one step more afterwards, and the call is
+    /// still under way or has ended.
     fn step(
         &self,
         operation: Self::Operation,
@@ -71,8 +71,8 @@ pub trait Played<'a>: Drop {
     fn step_name(operation: &Self::Operation) -> StepName
         ensures { is_step operation.now result };
 
-    /// Puts a range of values by one compare-and-swap, where it is a stack. Returns the values that
-    /// were not put, too.
+    /// If the container is a stack, puts a range of values by one compare-and-swap. Returns the
+    /// values that were not put, too.
     fn range<R: Wait>(
         &self,
         rt: &R,
@@ -85,8 +85,8 @@ pub trait Played<'a>: Drop {
         ensures gives { (reading self.now).shape.order ≡ Lifo
             → IfOk result (RangeBy (reading self.now) by values.entry) };
 
-    /// Takes all values by one compare-and-swap, where it is a stack, and returns them from the top
-    /// down, or the other way round.
+    /// If the container is a stack, takes all values by one compare-and-swap, and returns them from
+    /// the top down, or the other way round.
     fn fold<R: Wait>(
         &self,
         rt: &R,

@@ -19,13 +19,14 @@ use std::collections::VecDeque;
 use std::sync::Wait;
 
 /// Plays the lines of a script over a container from which no pass is out, and adds the steps that
-/// are made to the trace. Returns the text of the replies, a line for each line of the script, or
-/// that memory ran out for it, for the values of a range or a fold, or for the trace.
+/// are made to the trace. Returns the text of the replies, a line for each line of the script. The
+/// error means that memory ran out for that text, for the values of a range or a fold, or for the
+/// trace.
 ///
-/// If a trace is kept, whole calls are made by steps, but for ranges and folds, which are made whole.
-/// The trace gains a line for each step, in their order, with the step's name and its number in the
-/// call, and a line for each range and fold, and no other line. What a line says of a
-/// compare-and-swap's outcome is told by the names of this step and the next (`StepName::outcome`).
+/// If a trace is kept, whole calls are made by steps, except ranges and folds, which are made
+/// whole. The trace gains a line for each step, in their order, with the step's name and its number
+/// in the call. It gains a line for each range and fold, and no other line. A line tells a
+/// compare-and-swap's outcome by the names of this step and the next (`StepName::outcome`).
 pub fn play<'a, C: Played<'a>, R: Wait>(
     rt: &R,
     alloc: Global,

@@ -40,8 +40,8 @@ impl<R: Drop, P: Drop, O: Drop> Stage<R, P, O> {
     }
 }
 
-/// Takes what a letter names out of its place. A letter that names nobody gets a new pass, where
-/// one can be had.
+/// Takes what a letter names out of its place. A letter that names nobody gets a new pass, if one
+/// can be had.
 fn find<'a, C: Played<'a>>(
     container: &C,
     stage: &mut Stage<C::Root, C::Pass, C::Operation>,
@@ -133,7 +133,7 @@ fn act_alone<'a, C: Played<'a>, R: Wait>(
     Ok(answer)
 }
 
-/// Two passes meet, where both are there and between their calls.
+/// Two passes meet, if both are there and between their calls.
 fn meet<'a, C: Played<'a>>(
     container: &C,
     stage: &mut Stage<C::Root, C::Pass, C::Operation>,
@@ -207,8 +207,7 @@ fn answer_to_meet<'a>(has_met: bool) -> Answer<'a>
     if has_met { Answer::Met } else { Answer::NoPass }
 }
 
-/// Joins the passes that are between their calls, in the order of the letters. The others are
-/// dropped.
+/// Joins the passes that are between their calls, in the order of the letters, and drops the rest.
 fn join_all<'a, C: Played<'a>>(
     container: &C,
     root: &mut C::Root,

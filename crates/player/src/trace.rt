@@ -55,7 +55,7 @@ impl Trace {
         self.lines.is_some()
     }
 
-    /// The lines so far, and none if no trace is kept.
+    /// The lines so far. The text is empty if no trace is kept.
     pub fn text(&self) -> &str
         ensures { result.now ≡ text_in self.now }
     {

@@ -1,6 +1,7 @@
-//! Tests of the program's calls from above: `replay` over rows of scripts with their replies, worked
-//! out by hand, `relay_main` over rows of files with their outcomes, and `read_words` over rows of
-//! words. And what no clause says of the counts of a relay's tries, and no process shows.
+//! Tests of the program's calls from above: `replay` over rows of scripts with their replies,
+//! worked out by hand, `relay_main` over rows of files with their outcomes, and `read_words` over
+//! rows of words. They also show what no clause says of the counts of a relay's tries, and no
+//! process shows.
 #![tactic(auto)]
 
 #[cfg(test)]

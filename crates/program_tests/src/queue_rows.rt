@@ -37,7 +37,7 @@ pub(crate) const QUEUE: &[(&str, &str)] = &[
         "queue 2 7\na begin put x\na step 12\nb close\na step 1\na step 20\nb take\nfinish\n",
         "begun\nagain 12\nclose true\nagain 13\nclosed x steps 22\nclosed\nrest\n",
     ),
-    // Spent cells refuse a put, and takes go on.
+    // Spent cells refuse a put, and takes continue.
     (
         "queue 4 2\na put x\na put y\na begin put z\na step 1\na take\na take\na take\n",
         "put 0\nput 1\nbegun\nspent cells 2 z steps 1\ntake 0 x\ntake 1 y\nempty\n",
@@ -77,7 +77,7 @@ pub(crate) const QUEUE: &[(&str, &str)] = &[
         "queue 2 2\na put x\na put y\na take\na close\na put z\na take\na take\n",
         "put 0\nput 1\ntake 0 x\nclose true\nspent cells 2 z\ntake 1 y\nclosed\n",
     ),
-    // A head that came back is told by its tag.
+    // The tag tells a head that came back.
     (
         "queue 1 15\nb put x\na begin take\na step 5\nb take\nb put y\nb take\nb put z\na step 1\na step 20\nb take\n",
         "put 0\nbegun\nagain 5\ntake 0 x\nput 1\ntake 1 y\nput 2\nagain 6\ntake 2 z steps 18\nempty\n",
@@ -87,7 +87,7 @@ pub(crate) const QUEUE: &[(&str, &str)] = &[
         "queue 2 15\na begin put x\na step 12\nb put y\nb take\nb put u\na step 1\na step 20\nb take\nb take\n",
         "begun\nagain 12\nput 0\ntake 0 y\nput 1\nagain 13\nput 2 steps 18\ntake 1 u\ntake 2 x\n",
     ),
-    // A free node that came back is told by its tag.
+    // The tag tells a free node that came back.
     (
         "queue 3 15\na begin put x\na step 5\nb put y\nc begin put z\nc step 6\nb take\nb put w\nb take\na step 1\na step 20\nc step 20\n",
         "begun\nagain 5\nput 0\nbegun\nagain 6\ntake 0 y\nput 1\ntake 1 w\nagain 6\nput 2 steps 17\nput 3 steps 14\n",

@@ -2,7 +2,7 @@
 
 /// Scripts of a stack, each with its replies.
 pub(crate) const STACK: &[(&str, &str)] = &[
-    // An old top is told from a new one by its tag.
+    // The tag tells an old top from a new one.
     (
         "stack 3 15\nb put x\nb put y\na begin take\na step 2\nb take\nb take\nc begin put z\nc step 3\nb put w\na step 1\na step 6\nc step 3\n",
         "put 0\nput 1\nbegun\nagain 2\ntake 2 y\ntake 3 x\nbegun\nagain 3\nput 4\nagain 3\ntake 5 w steps 9\nput 6 steps 6\n",

@@ -1,4 +1,5 @@
-//! What is counted of a worker that a relay does not have, and of more tries than a count holds.
+//! What the stats count for a worker that a relay does not have, and for more tries than a count
+//! holds.
 
 use file_relay::Tries;
 use relay::Gate;

@@ -1,4 +1,4 @@
--- That a list of messages goes on is a fact with at most one proof, so that a struct can keep it.
+-- The fact that a list of messages continues has at most one proof, so a struct can keep it.
 use Rattle.std.specs.Prelude.{ℕ, ◌+◌, List, [], ◌∷◌}
 use mathlib.Core.HLevel.{Unit-prop}
 use Rattle.std.proofs.Props.{props}

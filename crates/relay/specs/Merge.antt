@@ -12,7 +12,7 @@ all_of lists = flat_map (λ l. l.items) lists
 abbrev pub IsUp : Vec Taken Global → Type 0
 IsUp l = IsNonDecreasingBy (λ t. t.number) l.items
 
--- one above the last number of the list, or 0 where it is empty
+-- one above the last number of the list, or 0 if it is empty
 pub record IsHeight (l : Vec Taken Global) (h : ℕ) : Type 0 where
   pub last : (front : List Taken) (t : Taken) → l.items ≡ front ++ t ∷ [] → h ≡ t.number + 1
   pub none : l.items ≡ [] → h ≡ 0
@@ -31,7 +31,7 @@ IsAbove l lists = (front : List Taken) (t : Taken) → l.items ≡ front ++ t �
 abbrev pub Falls : List Taken → Type 0
 Falls ts = (i j : ℕ) (d : Taken) → i ≤ j → j < length ts → (get_or ts j d).number ≤ (get_or ts i d).number
 
--- of what was there at the start these are moved, the greatest first, and those lists hold the rest
+-- these were moved from what was there at the start, the greatest first, and those lists hold the rest
 pub record Merging (start moved : List Taken) (lists : List (Vec Taken Global)) : Type 0 where
   pub same : IsPermutation start (moved ++ all_of lists)
   pub falls : Falls moved

@@ -47,7 +47,7 @@ module _ {P : Type 0} (pool : PoolView P) where
     pub number : (pool.view done.pass).number ≡ orders.producers + job.place
     pub did : HasTaken orders done
 
-  -- the same pass, with which the container was closed where it was used, and otherwise nothing done
+  -- the same pass; the container was closed with it if it was used, and otherwise it did nothing
   pub record DidClose (pass : P) (done : P) (used : Bool) : Type 0 where
     pub of : pool.is_pass done
     pub number : (pool.view done).number ≡ (pool.view pass).number
@@ -67,6 +67,6 @@ module _ {P : Type 0} (pool : PoolView P) where
     pub closed : DidClose team.closer ended.closer ended.used
     pub used : All (λ s. NotMet ended.used s.end) ended.sent.items
 
--- the closing pass was not used where this producer met the close
+-- the closing pass was not used if this producer met the close
 abbrev pub MayUse : {P : Type 0} → Bool → Sent P → Type 0
 MayUse used done = NotMet used done.end

@@ -18,13 +18,13 @@ abbrev pub total : Lists → ℕ
 total [] = 0
 total (l ∷ ls) = length l.items + total ls
 
--- the list of one sender; there is nothing in it where there is no such sender
+-- the list of one sender; it is empty if there is no such sender
 abbrev pub list_of : ℕ → Lists → List Message
 list_of s [] = []
 list_of zero (l ∷ ls) = l.items
 list_of (suc s) (l ∷ ls) = list_of s ls
 
--- of some messages those of one sender, in the same order
+-- the messages of one sender among these, in the same order
 abbrev pub sent_by : ℕ → List Message → List Message
 sent_by s ms = filter (λ m. m.sender == s) ms
 
@@ -45,23 +45,23 @@ IsAmple c inputs = 2 * total inputs < c.limit
 
 -- The promises
 
--- of each sender all that was given is there, each message once, and nothing else
+-- exactly the messages that each sender gave are there, each once
 abbrev pub LosesNothing : Lists → Relayed → Type 0
 LosesNothing inputs r = (s : ℕ) → IsPermutation (list_of s inputs) (ended_up s r)
 
--- over a queue in its order too
+-- over a queue they are in its order too
 abbrev pub KeepsOrder : Shape → Lists → Relayed → Type 0
 KeepsOrder c inputs r = c.order ≡ Fifo → (s : ℕ) → ended_up s r ≡ list_of s inputs
 
--- all is sent where no close was asked for
+-- all messages are sent if no close was asked for
 abbrev pub SendsAll : Shape → Plan → Lists → Relayed → Type 0
 SendsAll c plan inputs r = IsAmple c inputs → plan.close_after ≡ None → Every (λ l. l.items ≡ []) r.unsent.items
 
--- with a close after m puts, sender 0 sent its first m messages and no others
+-- with a close after m puts, sender 0 sent exactly its first m messages
 abbrev pub SendsFirst : Shape → Plan → Lists → Relayed → Type 0
 SendsFirst c plan inputs r = IsAmple c inputs → (m : ℕ) → plan.close_after ≡ Some m → list_of 0 r.unsent.items ≡ drop m (list_of 0 inputs)
 
--- nothing is left where consumers were to take all
+-- nothing is left if consumers were to take all
 abbrev pub LeavesNothing : Shape → Plan → Lists → Relayed → Type 0
 LeavesNothing c plan inputs r = IsAmple c inputs → plan.take ≡ None → plan.shut_after ≡ None → r.left.items ≡ []
 
@@ -83,11 +83,11 @@ TakesNoMore plan r = (k : ℕ) → plan.take ≡ Some k → (n : ℕ) → taken_
 abbrev pub FirstTakesNoMore : Plan → Relayed → Type 0
 FirstTakesNoMore plan r = (m : ℕ) → plan.shut_after ≡ Some m → taken_by 0 r.delivered.items ≤ m
 
--- where something is left and no shut was asked for, each consumer took its share
+-- if something is left and no shut was asked for, each consumer took its share
 abbrev pub TakesShares : Shape → Plan → Lists → Relayed → Type 0
 TakesShares c plan inputs r = IsAmple c inputs → (r.left.items ≡ [] → ⊥) → plan.shut_after ≡ None → (k : ℕ) → plan.take ≡ Some k → (n : ℕ) → n < plan.consumers → taken_by n r.delivered.items ≡ k
 
--- where something is left and consumer 0 was to shut after m, it took m, or its share where that is less
+-- if something is left and consumer 0 was to shut after m, it took m, or its share if that is less
 abbrev pub FirstTakesShare : Shape → Plan → Lists → Relayed → Type 0
 FirstTakesShare c plan inputs r =
     IsAmple c inputs → (r.left.items ≡ [] → ⊥) → (m : ℕ) → plan.shut_after ≡ Some m
@@ -111,7 +111,7 @@ pub record Relays (c : Shape) (plan : Plan) (inputs : Lists) (r : Relayed) : Typ
 
 -- Faults
 
--- a limit is set, and so many taken and a full container are fewer than there are messages
+-- a limit is set, and the takers' messages and a full container are fewer than there are messages
 abbrev pub HasNoPlace : Option ℕ → ℕ → ℕ → ℕ → Type 0
 HasNoPlace None takers capacity messages = ⊥
 HasNoPlace (Some most) takers capacity messages = capacity + takers * most < messages

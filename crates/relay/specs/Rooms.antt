@@ -15,14 +15,14 @@ abbrev pub most_taken : Option ℕ → ℕ → ℕ
 most_taken None messages = messages + 1
 most_taken (Some share) messages = min share (messages + 1)
 
--- room for the threads of so many workers, and for what they give back
+-- room for the threads of these workers, and for what they give back
 pub record IsThreadRoom {C Pass : Type 0} (producers consumers : ℕ) (r : Room C Pass) : Type 0 where
   pub senders : IsRoomFor producers r.senders
   pub takers : IsRoomFor consumers r.takers
   pub sent : IsRoomFor producers r.sent
   pub took : IsRoomFor consumers r.took
 
--- room for so many workers, and for each consumer for `most` messages
+-- room for these workers, and for each consumer room for `most` messages
 pub record IsWorkRoom {C Root Pass Note Rest : Type 0} (producers consumers most : ℕ) (r : WorkRoom C Root Pass Note Rest) : Type 0 where
   pub senders : IsRoomFor producers r.senders
   pub takers : IsRoomFor consumers r.takers
@@ -30,7 +30,7 @@ pub record IsWorkRoom {C Root Pass Note Rest : Type 0} (producers consumers most
   pub taken : All (IsRoomFor most) r.taken.items
   pub threads : IsThreadRoom producers consumers r.threads
 
--- room for what comes of so many messages
+-- room for the outcome of these messages
 pub record IsOutcomeRoom (producers consumers messages : ℕ) (r : OutcomeRoom) : Type 0 where
   pub delivered : IsRoomFor messages r.delivered
   pub left : IsRoomFor messages r.left

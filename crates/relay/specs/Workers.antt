@@ -96,7 +96,7 @@ taken_of (Producer items unsent end) = []
 taken_of (Consumer taken end) = taken
 taken_of (Closer used) = []
 
--- the closer wasn't used where a producer met the close
+-- the closer wasn't used if a producer met the close
 abbrev pub NotMet : Bool → ProducerEnd → Type 0
 NotMet used MetClosed = used ≡ false
 NotMet used SentAll = Unit {0}
@@ -153,7 +153,7 @@ AtMostFirst plan m s (Producer items unsent end) = Unit {0}
 AtMostFirst plan m s (Consumer taken end) = s ≡ plan.producers → length taken ≤ m
 AtMostFirst plan m s (Closer used) = Unit {0}
 
--- consumer 0 took m, or fewer where that was enough
+-- consumer 0 took m, or fewer if that was enough
 abbrev pub FirstTook : {T : Type 0} → Orders → ℕ → ℕ → Worker T → Type 0
 FirstTook plan m s (Producer items unsent end) = Unit {0}
 FirstTook plan m s (Consumer taken end) = s ≡ plan.producers → (length taken ≡ m) ⊎ ((plan.take ≡ Some (length taken)) × (length taken < m))

@@ -15,7 +15,7 @@ pub enum RelayFault {
     /// The consumers were to take so little that some message could never be put.
     #[error("too small")]
     TooSmall,
-    /// There was no pass for some worker: as many as may be were out.
+    /// There was no pass for some worker: the most passes that may be out were out.
     #[error("no pass")]
     NoPass,
     /// A worker's thread could not be started. Those that were started have ended.

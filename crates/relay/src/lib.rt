@@ -1,20 +1,22 @@
 //! A relay: producer threads put the messages of their inputs into a bounded container, consumer
 //! threads take them out, and nothing is lost, doubled, or put out of a sender's order.
 //!
-//! [`run`] promises, from the laws of a container alone: every message of every input is delivered,
-//! left in the container, or unsent, each once; over a queue each sender's messages keep their
-//! order; numbers rise, over a queue 0, 1, 2, ..; no consumer takes more than its share. While no tag
-//! can reach its limit, nothing is unsent or left that the plan did not ask for, and where something
-//! is left each consumer took its share. A relay that is too small for its messages is refused
-//! before anything starts.
+//! [`run`] promises, from the laws of a container alone:
+//! - Every message of every input is delivered, left in the container, or unsent, each once.
+//! - Over a queue each sender's messages keep their order.
+//! - Numbers rise. Over a queue they are 0, 1, 2, ..
+//! - No consumer takes more than its share.
+//! - While no tag can reach its limit, nothing is unsent or left that the plan did not ask for. If
+//!   something is left then and the plan asks for no shut, each consumer took its share.
+//! - A relay that is too small for its messages is refused before anything starts.
+//!
 //! [`run_freely`] promises the same, and holds no thread at a gate.
 //!
 //! [`numbered`] says whether inputs are numbered as a relay wants them, and a [`Gate`] lets a test
 //! hold threads where it wants them.
 //!
-//! `running` makes a relay: its `plan` and its `memory` are looked at first, then `threads`
-//! start the `workers`, whose puts and takes wait, and `merge` puts together what they
-//! took.
+//! `running` makes a relay. It first looks at its `plan` and its `memory`. Then `threads` start the
+//! `workers`, whose puts and takes wait, and `merge` puts together what they took.
 #![tactic(auto)]
 
 mod faults;

@@ -14,7 +14,7 @@ use std::alloc::{AllocError, Global};
 pub(crate) struct WorkRoom<C: Container<Message>> {
     pub(crate) senders: Vec<Sender<C::Pass>>,
     pub(crate) takers: Vec<Taker<C::Pass>>,
-    /// For each consumer room for what it takes.
+    /// For each consumer, room for what it takes.
     pub(crate) taken: Vec<Vec<Taken>>,
     pub(crate) threads: Room<C>,
 }
@@ -25,11 +25,11 @@ pub(crate) struct OutcomeRoom {
     pub(crate) delivered: Vec<Taken>,
     pub(crate) left: Vec<Message>,
     pub(crate) unsent: Vec<Vec<Message>>,
-    /// For each consumer its list, before they are put together.
+    /// For each consumer, its list before the lists are put together.
     pub(crate) taken: Vec<Vec<Taken>>,
 }
 
-// For each consumer room for so many messages.
+// Room for `most` messages for each consumer.
 fn room_each(alloc: Global, consumers: u32, most: usize) -> Result<Vec<Vec<Taken>>, AllocError>
     ensures len { IfOk result (λ v. vec_len v ≡ consumers) }
     ensures each { IfOk result (λ v. All (IsRoomFor most) v.items) }
@@ -42,7 +42,7 @@ fn room_each(alloc: Global, consumers: u32, most: usize) -> Result<Vec<Vec<Taken
 }
 
 impl<C: Container<Message>> WorkRoom<C> {
-    /// Room for so many workers, and for each consumer room for `most` messages.
+    /// Room for the workers, and for each consumer room for `most` messages.
     pub(crate) fn new(
         alloc: Global,
         producers: usize,
@@ -61,7 +61,7 @@ impl<C: Container<Message>> WorkRoom<C> {
 }
 
 impl OutcomeRoom {
-    /// Room for so many messages of so many producers and consumers.
+    /// Room for the outcome of these numbers of producers, consumers and messages.
     pub(crate) fn new(
         alloc: Global,
         producers: usize,
@@ -79,8 +79,8 @@ impl OutcomeRoom {
     }
 }
 
-// How many messages a consumer needs room for. It has room for one message more than there are,
-// since it cannot know that it takes no more, and for no more than its share.
+// How many messages a consumer needs room for. It needs room for one message more than there are,
+// since it cannot know that it takes no more, but not for more than its share.
 fn most_each(take: Option<u32>, messages: usize) -> Option<usize>
     ensures most { IfSome result (λ most. most ≡ most_taken take messages) }
     ensures none { IfNone result (2 ^ 64 ≤ messages + 1) }
@@ -92,7 +92,7 @@ fn most_each(take: Option<u32>, messages: usize) -> Option<usize>
     }
 }
 
-/// All the room that a relay of so many workers and messages needs.
+/// All the room that a relay of these workers and messages needs.
 pub(crate) fn make_room<C: Container<Message>>(
     alloc: Global,
     producers: usize,

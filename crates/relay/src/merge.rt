@@ -1,4 +1,4 @@
-//! What came through and what is left, put together.
+//! The messages that came through and those that are left, put together.
 
 ghost use Rattle.std.specs.Prelude.{◌≡◌, ◌≤◌, ◌<◌, ◌+◌, ◌++◌, ◌∷◌, [], List, length, vec_len, vec_capacity, All, IsPermutation, IfSome, IfNone, slice_index_or, Vec};
 ghost use Rattle.std.specs.List.Sorted.{IsNonDecreasingBy};
@@ -10,7 +10,7 @@ ghost use Rattle.relay.specs.Merge.{all_of, IsUp, IsHeight, IsTop, IsAbove, Merg
 use crate::{Message, Taken};
 use bounded_model::Leaving;
 
-/// All that is left, in order.
+/// All messages that are left, in order.
 pub(crate) fn drain<L: Leaving<Message> + Drop>(rest: L, room: Vec<Message>) -> Vec<Message>
     requires { IsRoomFor (length (L.left rest)) room }
     ensures { result.items ≡ L.left rest }
@@ -40,7 +40,7 @@ pub(crate) fn merge(lists: Vec<Vec<Taken>>, room: Vec<Taken>) -> Vec<Taken>
     merge_many(lists, room)
 }
 
-// Puts lists together by their numbers: the greatest first, and in the end the whole is turned
+// Puts lists together by their numbers, the greatest first. In the end it turns the whole list
 // round.
 fn merge_many(lists: Vec<Vec<Taken>>, room: Vec<Taken>) -> Vec<Taken>
     requires some { 0 < vec_len lists }
@@ -60,7 +60,7 @@ fn merge_many(lists: Vec<Vec<Taken>>, room: Vec<Taken>) -> Vec<Taken>
     all
 }
 
-// Takes the list with the greatest number out of the lists; `None` where they are empty.
+// Takes the list with the greatest number out of the lists; `None` if they are empty.
 fn take_greatest(lists: &mut Vec<Vec<Taken>>) -> Option<Vec<Taken>>
     requires some { 0 < vec_len lists.old }
     requires up { All IsUp lists.old.items }
@@ -80,7 +80,7 @@ fn take_greatest(lists: &mut Vec<Vec<Taken>>) -> Option<Vec<Taken>>
 }
 
 // Moves the messages at the list's end, the last first, while no other list has a greater number,
-// and until memory can be given back. Returns what is left of the list, and all that was moved.
+// and until memory can be given back. Returns the rest of the list, and all messages moved.
 fn move_run(list: Vec<Taken>, others: &[Vec<Taken>], moved: Vec<Taken>) -> (Vec<Taken>, Vec<Taken>)
     requires some { 0 < vec_len list }
     requires up { IsUp list × All IsUp others.now }
@@ -154,7 +154,7 @@ fn bound(lists: &[Vec<Taken>]) -> u128
     most
 }
 
-// One above the list's last number, or 0 where it is empty.
+// One above the list's last number, or 0 if the list is empty.
 fn height(list: &Vec<Taken>) -> u128
     requires up { IsUp list.now }
     ensures is { IsHeight list.now result }

@@ -2,16 +2,16 @@
 
 use crate::Message;
 
-/// How many consumers there are, and where producers and consumers stop early.
+/// How many consumers there are, and when producers and consumers stop early.
 #[derive(Clone, Copy, Debug, PartialEq, Eq)]
 pub struct Plan {
     /// At least 1.
     pub consumers: u32,
-    /// Each consumer ends after so many messages.
+    /// Each consumer ends after this many messages.
     pub take: Option<u32>,
-    /// Producer 0 closes the container after so many puts.
+    /// Producer 0 closes the container after this many puts.
     pub close_after: Option<u32>,
-    /// Consumer 0 shuts the container after so many messages.
+    /// Consumer 0 shuts the container after this many messages.
     pub shut_after: Option<u32>,
 }
 

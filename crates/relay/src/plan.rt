@@ -46,7 +46,7 @@ pub(crate) fn count(inputs: &[Vec<Message>]) -> u128
     messages
 }
 
-/// Whether a limit is set under which the takers and a full container hold fewer messages than
+/// Whether a limit is set and the takers and a full container together hold fewer messages than
 /// there are.
 fn has_no_place(limit: Option<u32>, takers: u32, capacity: u32, messages: u128) -> bool
     ensures { Decides result (HasNoPlace limit takers capacity messages) }

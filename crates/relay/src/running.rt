@@ -90,16 +90,20 @@ fn work<C: Container<Message> + Sync, G: Gate + Sync, R: Threads + Wait + Sync>(
 /// Relays all messages: one thread for each input puts its messages in their order, and each
 /// consumer takes messages in a thread of its own. Returns where each message ended up.
 ///
-/// The promises hold if it returns. A container whose tags may rise to no more than twice the
-/// number of messages can refuse a put or a take for good; only then may messages stay unsent or
-/// left that the plan did not ask to stay.
+/// The promises hold if it returns. If the tag limit is at most twice the number of messages, the
+/// container can refuse a put or a take for good. Only then may messages stay unsent or left that
+/// the plan did not ask to stay.
 ///
-/// `TooSmall` comes exactly where some message could never be put, and is looked for first; then
-/// `NoMemory`, where there is no room for the outcome; `NoPass`, exactly where more passes would be
-/// needed than may be out at one time, of a queue or a stack
-/// [`MAX_PASSES`](bounded_model::MAX_PASSES): one for each worker and one to close; `NoThread`,
-/// where a worker's thread could not be started. A fault consumes the container and the
-/// inputs, and no worker runs on. Called in `file_relay`, with a gate that counts the tries.
+/// The faults, in the order in which the call looks for them:
+/// - `TooSmall`: comes exactly if some message could never be put.
+/// - `NoMemory`: there is no room for the outcome.
+/// - `NoPass`: the workers and the closing pass need more passes than may be out at one time, which
+///   is [`MAX_PASSES`](bounded_model::MAX_PASSES) for a queue or a stack. Without an earlier fault,
+///   it comes exactly then.
+/// - `NoThread`: a worker's thread could not be started.
+///
+/// A fault consumes the container and the inputs, and no worker runs on. Called in `file_relay`,
+/// with a gate that counts the tries.
 pub fn run<C: Container<Message> + Sync, G: Gate + Sync, R: Threads + Wait + Sync>(
     rt: &R,
     alloc: Global,
@@ -171,7 +175,7 @@ pub fn run<C: Container<Message> + Sync, G: Gate + Sync, R: Threads + Wait + Syn
     })
 }
 
-/// Relays all messages as [`run`] does, and holds nobody. Called in `relay_tests`.
+/// Relays all messages as [`run`] does, and holds no worker. Called in `relay_tests`.
 pub fn run_freely<C: Container<Message> + Sync, R: Threads + Wait + Sync>(
     rt: &R,
     alloc: Global,
@@ -197,8 +201,8 @@ pub fn run_freely<C: Container<Message> + Sync, R: Threads + Wait + Sync>(
     run(rt, alloc, container, root, inputs, plan, &FreeGate)
 }
 
-/// A job for each list, in order, with the passes after those given. `None` where there are not so
-/// many passes.
+/// A job for each list, in order, with the passes after those given. `None` if there are too few
+/// passes.
 pub(crate) fn split_jobs<C: Container<Message>, T: Drop>(
     container: &C,
     root: &mut C::Root,
@@ -228,7 +232,7 @@ pub(crate) fn split_jobs<C: Container<Message>, T: Drop>(
     Some(jobs)
 }
 
-/// Takes the passes of workers that have ended back; returns their lists.
+/// Joins the passes of workers that have ended; returns their lists.
 pub(crate) fn join_done<C: Container<Message>, T: Drop, E: Drop>(
     container: &C,
     root: &mut C::Root,

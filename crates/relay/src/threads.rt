@@ -18,7 +18,7 @@ use std::thread::{Promise, PromisedHandle, Scope, Threads};
 use waiting::Shared;
 
 /// What a worker of either kind does in a thread of its own. Its result is a parameter, since what
-/// a thread is started with may name no more than one associated type, and `Shared` has that.
+/// a thread is started with may name at most one associated type, and `Shared` has one.
 pub(crate) trait Works<C: Shared<Message>, Did> {
     /// When it can begin: by what it sees of the container, and its orders.
     ghost is_ready: { PoolView C.Pass → Orders → Self → Type 0 };
@@ -93,7 +93,7 @@ pub(crate) struct Room<C: Shared<Message>> {
 }
 
 impl<C: Shared<Message>> Room<C> {
-    /// Room for so many of each kind.
+    /// Room for this many workers of each kind.
     pub(crate) fn new(
         alloc: Global,
         producers: usize,
@@ -138,7 +138,7 @@ fn some_met_closed<P>(sent: &[Sent<P>]) -> bool
     false
 }
 
-/// Joins the producers, closes the container where none of them found it closed, and joins the
+/// Joins the producers, closes the container if none of them found it closed, and joins the
 /// consumers.
 fn join_workers<C: Shared<Message>, R: Threads + Wait>(
     rt: &R,
@@ -179,7 +179,7 @@ fn join_workers<C: Shared<Message>, R: Threads + Wait>(
     }
 }
 
-// Starts a thread for each worker; `None` where one could not be started.
+// Starts a thread for each worker; `None` if one could not be started.
 fn start_each<'s, E, C: Shared<Message> + Sync, G: Gate + Sync, R: Wait + Sync, Did, J>(
     scope: &Scope<'s, E>,
     rt: &'s R,
@@ -260,8 +260,8 @@ where
 }
 
 /// Does each worker's part in a thread of its own, and closes the container when the producers have
-/// ended. `None` where a thread could not be started: the container is closed at once, so those
-/// that were started have ended.
+/// ended. `None` if a thread could not be started. Then the container is closed at once, so the
+/// threads that were started have ended.
 pub(crate) fn run_workers<C: Shared<Message> + Sync, G: Gate + Sync, R: Threads + Wait + Sync>(
     rt: &R,
     site: &Site<C>,

@@ -26,7 +26,7 @@ pub(crate) enum ProducerEnd {
 /// How a consumer ended.
 #[derive(Clone, Copy, Debug, PartialEq, Eq)]
 pub(crate) enum ConsumerEnd {
-    /// It took as many messages as planned.
+    /// It took the planned number of messages.
     TookEnough,
     /// It shut the container, as planned.
     ShutIt,
@@ -47,8 +47,8 @@ pub(crate) struct Site<C: Drop> {
     pub(crate) orders: Orders,
 }
 
-/// What a worker is to do: its pass, its place among those of its kind, and its list: the messages
-/// that a producer is to put, or the room for those that a consumer takes.
+/// What a worker is to do: its pass, its place among those of its kind, and its list. A producer's
+/// list is the messages that it is to put. A consumer's list is the room for those that it takes.
 #[derive(Drop)]
 pub(crate) struct Job<P, T> {
     pub(crate) pass: P,
@@ -134,7 +134,7 @@ pub(crate) fn send<C: Shared<Message>, G: Gate, W: Wait>(
     stopped(pass, rest, ProducerEnd::ClosedIt)
 }
 
-// The messages; where they fill less than half of their memory, the rest is given back.
+// The messages. If they fill less than half of their memory, the rest is given back.
 fn shrunk(messages: VecDeque<Message>) -> VecDeque<Message>
     ensures { result.items ≡ messages.items }
 {
@@ -158,7 +158,7 @@ fn stopped<P>(pass: P, rest: VecDeque<Message>, end: ProducerEnd) -> Sent<P>
     Done { pass, list, end }
 }
 
-/// Does a consumer's part: takes messages, as many as planned.
+/// Does a consumer's part: takes messages, up to the planned number.
 pub(crate) fn receive<C: Shared<Message>, G: Gate, W: Wait>(
     rt: &W,
     site: &Site<C>,

@@ -13,7 +13,7 @@ pub enum Kind {
     Queue,
     /// The last message in is the first out.
     Stack,
-    /// As of a queue, from a circle of slots.
+    /// The order of a queue, from a circle of slots.
     Ring,
 }
 
@@ -21,15 +21,15 @@ pub enum Kind {
 #[derive(Clone, Copy, Debug, PartialEq, Eq)]
 pub struct RelayArgs {
     pub kind: Kind,
-    /// The most messages that the container holds: 1 to 1,048,573, of a ring to 1,048,542.
+    /// The most messages that the container holds: 1 to 1,048,573, for a ring to 1,048,542.
     pub capacity: u32,
     /// How many threads take messages out: 1 to 16.
     pub consumers: u32,
-    /// Each consumer ends after so many messages: 0 to 65,535.
+    /// Each consumer ends after this many messages: 0 to 65,535.
     pub take: Option<u32>,
-    /// The first producer closes the container after so many messages: 0 to 65,535.
+    /// The first producer closes the container after this many messages: 0 to 65,535.
     pub close_after: Option<u32>,
-    /// The first consumer shuts the container after so many messages: 0 to 65,535.
+    /// The first consumer shuts the container after this many messages: 0 to 65,535.
     pub shut_after: Option<u32>,
     /// Whether the messages are listed.
     pub list: bool,

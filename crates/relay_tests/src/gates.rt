@@ -10,21 +10,21 @@ use std::sync::atomic::{AtomicU64, Ordering};
 use std::thread;
 use std::thread::Threads;
 
-/// How often a gate looks before it lets a worker go on in vain.
+/// How often a gate looks before it gives up and lets a worker continue.
 const TURNS: u64 = 1_000_000_000;
 
 /// A try, by the number of its worker and its own.
 pub(crate) type Try = (u64, u64);
 
-/// How many tries the workers have entered; workers beyond the eighth are not looked at. Of each
-/// pair of tries that it holds, the first waits until the second was entered.
+/// How many tries each of the first eight workers has entered. The gate holds pairs of tries: the
+/// first of a pair waits until the second was entered.
 #[derive(Drop)]
 pub(crate) struct Counting {
     counts: [AtomicU64; 8],
     holds: &'static [(Try, Try)],
     /// Whether a worker entered a try out of turn.
     wrong: AtomicU64,
-    /// Whether a worker was let go in vain.
+    /// Whether the gate gave up and let a worker continue.
     late: AtomicU64,
 }
 
@@ -66,7 +66,7 @@ impl Counting {
         self.late.store(1, Ordering::SeqCst);
     }
 
-    /// Whether each worker entered its tries in turn, and none was held in vain.
+    /// Whether each worker entered its tries in turn, and the gate never gave up.
     pub(crate) fn was_in_turn(&self) -> bool {
         self.wrong.load(Ordering::SeqCst) == 0 && self.late.load(Ordering::SeqCst) == 0
     }
@@ -121,8 +121,9 @@ fn each_worker_enters_each_try_under_its_own_number(rt: HostRuntime) {
     }
 }
 
-// Two messages of one producer, or one of each of two, through a gate that holds two workers until
-// the other one has entered a try: a relay whose workers took turns on one thread would not end.
+// Two messages of one producer, or one message of each of two, through a gate that holds two
+// workers until the other one has entered a try. If the workers took turns on one thread, the relay
+// would not end.
 fn runs_at_once<R: Abort + AllocGlobal + Threads + Wait + Sync>(
     rt: &R,
     kind: Kind,

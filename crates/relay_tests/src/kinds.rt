@@ -26,7 +26,7 @@ pub(crate) enum Kind {
 /// Each kind.
 pub(crate) const KINDS: [Kind; 3] = [Kind::Queue, Kind::Stack, Kind::Ring];
 
-/// So many consumers, and nothing else asked for.
+/// A plan with this many consumers that asks for nothing else.
 pub(crate) fn plan(consumers: u32) -> Plan {
     Plan {
         consumers,
@@ -36,7 +36,7 @@ pub(crate) fn plan(consumers: u32) -> Plan {
     }
 }
 
-/// An input for each length, with so many messages, which have no text.
+/// For each length an input with that many messages, which have no text.
 fn inputs<R: Abort + AllocGlobal>(rt: &R, lengths: &[u32]) -> Vec<Vec<Message>> {
     let mut inputs = Vec::new(rt.alloc());
     let mut sender: u32 = 0;

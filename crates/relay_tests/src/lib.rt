@@ -1,6 +1,6 @@
-//! Tests of what `relay` and `audit` promise and no run of the program shows: a gate that holds
-//! workers, containers whose tags end early, more workers than there are passes, checks of inputs
-//! and outcomes, and how much of a text went out.
+//! Tests of what `relay` and `audit` promise and no run of the program shows. They use a gate that
+//! holds workers, containers whose tags end early, and more workers than there are passes. They
+//! check inputs and outcomes, and how much of a text went out.
 #![tactic(auto)]
 
 #[cfg(test)]

@@ -29,7 +29,7 @@ pub(crate) fn taken<R: Abort>(
     }
 }
 
-/// So many senders that sent nothing.
+/// The outcome of `senders` senders that sent nothing.
 pub(crate) fn nothing_of<R: Abort>(rt: &R, alloc: Global, senders: u32) -> Relayed {
     let mut unsent = Vec::new(alloc);
     for _ in 0..senders {

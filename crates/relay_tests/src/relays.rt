@@ -28,7 +28,7 @@ fn keeps<R: Abort + AllocGlobal>(rt: &R, relayed: &Relayed, left: &[u32]) {
     have_seqs(rt, unsent, &[2]);
 }
 
-// The tags allow two puts. What is left and unsent shows that the messages go through the
+// The tags allow two puts. The messages left and unsent show that messages go through the
 // container.
 fn keeps_what_it_has<R: Abort + AllocGlobal + Threads + Wait + Sync>(
     rt: &R,
@@ -68,8 +68,8 @@ fn a_spent_ring_keeps_what_it_has(rt: HostRuntime) {
 }
 
 // The tags allow two puts and a take. Two messages fill the stack, and the producer has met that
-// twice, before each consumer's first try. One message is taken: then the other consumer, and the
-// producer, find the tags spent.
+// twice, before each consumer's first try. One message is taken. Then the remaining consumer and
+// the producer find the tags spent.
 #[test]
 fn consumers_meet_a_spent_stack(rt: HostRuntime) {
     let gate = Counting::new(&[((1, 0), (0, 3)), ((2, 0), (0, 3))]);
@@ -106,7 +106,7 @@ fn a_relay_without_a_gate_delivers_all(rt: HostRuntime) {
     assert!(rt; check_queue(&relayed));
 }
 
-// 2,000 messages of four producers by three consumers, and little room.
+// Relays 2,000 messages of four producers to three consumers, with little room.
 fn delivers_many<R: Abort + AllocGlobal + Threads + Wait + Sync>(rt: &R, kind: Kind) {
     let lengths = [500, 500, 500, 500];
     let relayed = relay_over(rt, kind, (8, MOST), &lengths, plan(3), &FreeGate).expect(
@@ -128,8 +128,8 @@ fn many_messages_are_delivered(rt: HostRuntime) {
     }
 }
 
-// Of the second sender, which may be stopped anywhere, none is left: the consumer ends where it
-// finds the queue closed and empty.
+// The second sender may be stopped anywhere. None of its messages is left: the consumer ends when
+// it finds the queue closed and empty.
 #[test]
 fn a_queue_closed_after_one_message_is_taken_empty(rt: HostRuntime) {
     let plan = Plan {

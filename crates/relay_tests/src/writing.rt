@@ -7,8 +7,8 @@ use std::io;
 use std::io::{Error, ErrorKind, Write};
 use std::process::Abort;
 
-/// Takes at most three bytes a write, is interrupted before each, and after `left` bytes fails, or
-/// takes nothing.
+/// Takes at most three bytes a write, and is interrupted before each. After `left` bytes it fails,
+/// or takes nothing.
 #[derive(Drop)]
 struct Short {
     left: usize,

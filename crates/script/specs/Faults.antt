@@ -8,7 +8,7 @@ use Rattle.script.specs.declared.line.Line.TheVariants.{Finish}
 use Rattle.script.specs.Reading.{split_lines}
 use Rattle.script.specs.Script.{Head, IsHead, IsLine, IsScript, head_text, line_text, is_allowed}
 
--- something stands behind the last newline
+-- something stands after the last newline
 abbrev pub IsUnended : List ℕ → Type 0
 IsUnended text = (front : List ℕ) × (last : ℕ) × (text ≡ front ++ last ∷ []) × (last ≢ 10)
 
@@ -25,13 +25,13 @@ pub record Stands (order : Order) (text : List ℕ) (after : List (List ℕ)) (l
 abbrev pub StandsBefore : Order → List ℕ → List (List ℕ) → Type 0
 StandsBefore order text after = (line : Line) × Stands order text after line
 
--- of the lines behind the first, the one at this place, from 0, is the first that cannot stand there
+-- the line at this place, from 0, of the lines after the first, is the first that cannot stand there
 abbrev pub IsWrongAt : Order → List (List ℕ) → ℕ → Type 0
 IsWrongAt order [] place = ⊥
 IsWrongAt order (text ∷ after) zero = ¬ (StandsBefore order text after)
 IsWrongAt order (text ∷ after) (suc place) = StandsBefore order text after × IsWrongAt order after place
 
--- a first line and those behind it, of which one is the first that cannot stand there
+-- a first line and the lines after it, one of which is the first that cannot stand there
 pub record IsBadBehind (first : List ℕ) (after : List (List ℕ)) (number : ℕ) : Type 0 where
   pub head : Head
   pub is : IsHead head

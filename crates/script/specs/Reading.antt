@@ -30,7 +30,7 @@ pass_of _ = None
 
 -- ---- calls
 
--- the call that a verb with one word behind it is
+-- the call that a verb with one word after it is
 abbrev pub call_with : List ℕ → List ℕ → Option (Command (List ℕ))
 call_with verb word = if bytes_eq verb (codes "put") then option_map (λ value. command.Put value) (value_of word) else None
 
@@ -102,7 +102,7 @@ is_ended [] = true
 is_ended (b ∷ []) = b == 10
 is_ended (b ∷ c ∷ bs) = is_ended (c ∷ bs)
 
--- the first line, and what stands behind the newline at its end
+-- the first line, and the text after the newline at its end
 abbrev pub line_and_rest : List ℕ → Option (List ℕ × List ℕ)
 line_and_rest text = cut_at 10 text
 
@@ -129,7 +129,7 @@ placed order line after = if stands order line after then Some line else None
 abbrev pub line_before : Order → List ℕ → List (List ℕ) → Option Line
 line_before order text after = option_and_then (λ line. placed order line after) (line_of text)
 
--- a line and those after it, or the place of the first that cannot stand where it stands
+-- a line and those after it, or the place of the first line that cannot stand in its place
 abbrev pub with_line : Option Line → Result (List Line) ℕ → Result (List Line) ℕ
 with_line None rest = Err 0
 with_line (Some line) (Ok lines) = Ok (line ∷ lines)
@@ -159,7 +159,7 @@ unfoldable pub head_of : List ℕ → Option Head
 head_of text =
     option_and_then (λ parts. option_and_then (λ order. option_map (λ limits. record { order = order; capacity = limits.0; tag_limit = limits.1 }) (limits_in parts.1)) (order_of parts.0)) (word_and_rest text)
 
--- the lines behind the first, whose first fault is said by its line's number
+-- the lines after the first, whose first fault is named by its line's number
 abbrev pub numbered : Result (List Line) ℕ → Result (List Line) ScriptFault
 numbered (Ok lines) = Ok lines
 numbered (Err place) = Err (BadLine (place + 2))

@@ -41,11 +41,11 @@ spaced words = flat_map (λ word. codes " " ++ word) words
 unfoldable pub number_of : List ℕ → Option ℕ
 number_of word = if nat_lt (digits_value 10 word) (2 ^ 64) && bytes_eq (decimal (digits_value 10 word)) word then Some (digits_value 10 word) else None
 
--- what stands before the first `byte`, and what stands behind it
+-- the bytes before the first `byte`, and the bytes after it
 abbrev pub cut_at : ℕ → List ℕ → Option (List ℕ × List ℕ)
 cut_at byte [] = None
 cut_at byte (b ∷ bs) = if b == byte then Some ([], bs) else option_map (λ parts. (b ∷ parts.0, parts.1)) (cut_at byte bs)
 
--- the first word, and what stands behind the space after it
+-- the first word, and the text after the space that follows it
 abbrev pub word_and_rest : List ℕ → Option (List ℕ × List ℕ)
 word_and_rest text = cut_at 32 text

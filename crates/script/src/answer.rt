@@ -30,15 +30,15 @@ pub enum Answer<'a> {
     Call(Reply<Value<'a>>),
     /// A call was begun.
     Begun,
-    /// A call has made so many steps since it was begun, and has not ended.
+    /// A call has made this many steps since it was begun, and has not ended.
     Again(u64),
-    /// A call has ended with this reply, after so many steps.
+    /// A call has ended with this reply, after this many steps.
     Ended(Reply<Value<'a>>, u64),
     /// The reply to a range, and the values that were not put.
     Range(RangeReply, ValueList<'a>),
     /// The number of a fold and its values, or why nothing was taken.
     Fold(Result<(u64, ValueList<'a>), TakeRefused>),
-    /// The same of a fold from the bottom up.
+    /// The same for a fold from the bottom up.
     ReversedFold(Result<(u64, ValueList<'a>), TakeRefused>),
     /// The pass has seen what the other has seen.
     Met,
@@ -48,7 +48,7 @@ pub enum Answer<'a> {
     Busy,
     /// The pass has begun no call.
     NothingBegun,
-    /// There is no pass of this name to be had, or it could not meet the other.
+    /// No pass of this name could be had, or the pass could not meet the other.
     NoPass,
     /// The values that were left at the end.
     Rest(ValueList<'a>),
@@ -127,7 +127,7 @@ fn write_range(
     kept.write(output)
 }
 
-/// Adds the words of a fold's reply to a text, where `name` says which fold it was.
+/// Adds the words of a fold's reply to a text. `name` says which fold it was.
 fn write_fold(
     output: &mut String,
     name: &str,

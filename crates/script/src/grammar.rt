@@ -9,8 +9,8 @@ use crate::number::number_of;
 use crate::value::{Value, Values};
 use bounded_model::Command;
 
-/// The first word of a text and what stands behind the space after it, or `None` where there is
-/// no space.
+/// The first word of a text and the text after the space that follows it. `None` if there is no
+/// space.
 pub fn word_and_rest(text: &str) -> Option<(&str, &str)>
     ensures { option_map (λ parts. (parts.0.now, parts.1.now)) result ≡ word_and_rest text.now }
 {

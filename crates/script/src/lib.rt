@@ -1,8 +1,8 @@
 //! The grammar of scripts: a container's capacity and tag limit, and lines that use it.
 //!
-//! Promised: `parse` accepts exactly the texts of the grammar (`specs/Script.antt`), and gives the
-//! script that the text is. Of any other text it names what is wrong: the newline that its last
-//! line lacks, or the first line that a script cannot have there.
+//! Promised: unless memory runs out, `parse` accepts exactly the texts of the grammar
+//! (`specs/Script.antt`), and gives the script that the text is. For any other text it names the
+//! fault: a missing newline after the last line, or the first line that a script cannot have there.
 #![tactic(auto)]
 
 mod answer;

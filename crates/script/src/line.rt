@@ -11,7 +11,7 @@ impl PassName {
     ghost use Rattle.std.specs.Prelude.{◌≡◌};
     ghost use Rattle.script.specs.Reading.{pass_of};
 
-    /// The pass that a word names, or `None` where it names none.
+    /// The pass that a word names, or `None` if it names none.
     pub fn of(word: &str) -> Option<PassName>
         ensures { result ≡ pass_of word.now }
     {
@@ -29,13 +29,13 @@ pub enum Act<'a> {
     Call(Command<Value<'a>>),
     /// A call is begun. It makes no step yet.
     Begin(Command<Value<'a>>),
-    /// The call that was begun makes so many steps, or fewer where it ends.
+    /// The call that was begun makes this many steps, or fewer if it ends.
     Step(u16),
-    /// As many of the values as there is room for are put at once.
+    /// The pass puts all the values for which there is room, at once.
     Range(Values<'a>),
-    /// All values are taken at once, and listed from the top down.
+    /// The pass takes all values at once, and lists them from the top down.
     Fold,
-    /// All values are taken at once, and listed from the bottom up.
+    /// The pass takes all values at once, and lists them from the bottom up.
     ReversedFold,
     /// The pass sees what the other has seen.
     Meet(PassName),
@@ -56,8 +56,8 @@ impl<'a> Line<'a> {
     ghost use Rattle.std.specs.Prelude.{◌≡◌};
     ghost use Rattle.script.specs.Script.{is_allowed};
 
-    /// Whether the script of a container of this order may have the line. Ranges and folds are a
-    /// stack's, a stack's look has no steps, and no pass meets itself.
+    /// Whether the script of a container of this order may have the line. Only a stack has ranges
+    /// and folds, a stack's look has no steps, and no pass meets itself.
     pub fn is_allowed(&self, order: Order) -> bool
         ensures { result ≡ is_allowed order self.now }
     {

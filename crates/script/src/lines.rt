@@ -22,8 +22,8 @@ fn first_newline(text: &[u8]) -> Option<usize>
     text.iter().position(|byte| *byte == b'\n')
 }
 
-/// The first line of a text, without the newline at its end, and what stands behind that newline,
-/// or `None` where there is no newline.
+/// The first line of a text, without the newline at its end, and the text after that newline.
+/// `None` if there is no newline.
 pub fn line_and_rest(text: &[u8]) -> Option<(&[u8], &[u8])>
     ensures { option_map (λ parts. (parts.0.now, parts.1.now)) result ≡ line_and_rest text.now }
 {

@@ -3,7 +3,7 @@
 ghost use Rattle.std.specs.Prelude.{◌≡◌};
 ghost use Rattle.script.specs.Words.{number_of};
 
-/// The number below 2^64 that a word spells without leading zeros, or `None` where it spells none.
+/// The number below 2^64 that a word spells without leading zeros, or `None` if it spells none.
 pub fn number_of(word: &str) -> Option<u64>
     ensures { result ≡ number_of word.now }
 {

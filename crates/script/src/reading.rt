@@ -36,7 +36,7 @@ fn first_line(text: &[u8]) -> Option<Header>
     header_of(text)
 }
 
-/// Whether the line is in its place before what is left of the script: `finish` stands last.
+/// Whether the line may stand before the rest of the script: `finish` must be the last line.
 fn is_in_place(line: &Line<'_>, after: &[u8]) -> bool
     ensures { result ≡ is_in_place line.now (split_lines after.now) }
 {
@@ -46,7 +46,7 @@ fn is_in_place(line: &Line<'_>, after: &[u8]) -> bool
     }
 }
 
-/// The line that has this text and may stand before what is left of the script.
+/// The line that has this text and may stand before the rest of the script.
 fn line_before<'a>(order: Order, text: &'a [u8], after: &[u8]) -> Option<Line<'a>>
     ensures { result ≡ line_before order text.now (split_lines after.now) }
 {
@@ -102,14 +102,16 @@ fn read_script(alloc: Global, text: &[u8]) -> Result<Script<'_>, ScriptFault>
 
 /// The script that has this text.
 ///
-/// `NoMemory` where there was no room for the lines, then `NoFinalNewline` where the last line has
-/// no newline, then `BadLine` with the number of the first line that a script cannot have there.
+/// - `NoMemory`: there was no room for the lines.
+/// - `NoFinalNewline`: the last line has no newline.
+/// - `BadLine`: the last line has a newline. The number is that of the first line that a script
+///   cannot have there.
 pub fn parse(alloc: Global, text: &[u8]) -> Result<Script<'_>, ScriptFault>
     requires { length text.now ≤ MAX_SCRIPT_LEN }
-    // What is read is the text's script.
+    // The script that is read is the text's.
     ensures script { IfOk result
         (λ script. IsScript text.now (head_view script.header) script.lines.items) }
-    // A fault of the text is in the text, and a script has none.
+    // The fault is in the text. A script gives no fault but `NoMemory`.
     ensures fault { IfErr result (λ fault. IsTextFault fault text.now) }
     ensures only { IfErr result (λ fault. IsAccepted text.now → fault ≡ NoMemory) }
 {

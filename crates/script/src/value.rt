@@ -31,7 +31,7 @@ impl<'a> Value<'a> {
     ghost use Rattle.std.specs.Prelude.{◌≡◌};
     ghost use Rattle.script.specs.Words.{value_of};
 
-    /// The value that a word spells, or `None` where it spells none.
+    /// The value that a word spells, or `None` if it spells none.
     pub fn of(word: &'a str) -> Option<Value<'a>>
         ensures { result ≡ value_of word.now }
     {
@@ -52,7 +52,7 @@ impl<'a> Value<'a> {
 /// The values of a range, which may be none. They stay in the script's text.
 #[derive(Debug, Drop)]
 pub struct Values<'a> {
-    /// The values with a space between each two, where there is one.
+    /// The values with a space between each two, if there are any.
     text: Option<&'a str>,
 }
 
@@ -77,7 +77,7 @@ impl<'a> Values<'a> {
         Values { text: None }
     }
 
-    /// The values that these words spell, or `None` where one of them spells none.
+    /// The values that these words spell, or `None` if one of them spells none.
     pub fn of(words: &'a str) -> Option<Values<'a>>
         ensures { result ≡ values_of words.now }
     {
@@ -106,7 +106,7 @@ fn is_value(word: &[u8]) -> bool
     (1..=MAX_VALUE_LEN).contains(&word.len()) && is_alphanumeric(word)
 }
 
-/// Whether a word has ASCII letters and digits alone.
+/// Whether a word has only ASCII letters and digits.
 fn is_alphanumeric(word: &[u8]) -> bool
     ensures { result ≡ list_all is_ascii_alphanumeric word.now }
 {

@@ -14,7 +14,7 @@ IsNextStep put take close shut look (Close op) name = close op name
 IsNextStep put take close shut look (Shut op) name = shut op name
 IsNextStep put take close shut look (Look op) name = look op name
 
--- a fold's number with the values that it told
+-- a fold's number with the values that it gave
 abbrev pub numbered : List (List ℕ) → Result Folded TakeRefused → Result (ℕ × List (List ℕ)) TakeRefused
 numbered values (Ok folded) = Ok (folded.number, values)
 numbered values (Err refused) = Err refused

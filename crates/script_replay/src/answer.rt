@@ -16,8 +16,8 @@ use script::Script;
 use std::alloc::Global;
 use std::sync::Wait;
 
-/// What is written for a script, which is played on a container of its own, and its steps in the
-/// trace. All memory is reserved here, so that no writer is touched before the whole output stands.
+/// Plays a script on a new container. Returns what is to be written for it, and adds its steps to
+/// the trace. All memory is reserved here, so the output is complete before a writer is touched.
 pub(crate) fn answer<S: Wait>(
     rt: &S,
     alloc: Global,

@@ -1,10 +1,16 @@
 //! Scripts replayed through a queue or a stack.
 //!
-//! Promised: what is accepted as a script is exactly a text of the grammar; a refused text's fault is
-//! its first bad line or its missing last newline, and what is written is a reply to each line, after
-//! the script was read and checked whole (`replay`): what the calls of a new queue or stack return,
-//! each under the container's own laws. `replay_traced` then writes a line for each step that was made,
-//! with the name that its operation gave it. After a fault of a text or of memory nothing was written.
+//! Promised (`replay`):
+//! - A text is accepted only if it is a script. A script is refused only for a fault outside the
+//!   text.
+//! - The fault of a refused text is its missing last newline or its first bad line.
+//! - The script is read and checked whole before anything is written.
+//! - Each line after the first gets a reply: what the calls of a new queue or stack return, under
+//!   the container's own laws.
+//! - After any fault but `Output` nothing was written.
+//!
+//! `replay_traced` then writes a line for each step that was made, with the name that its operation
+//! gave it.
 #![tactic(auto)]
 
 mod answer;

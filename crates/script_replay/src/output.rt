@@ -11,8 +11,8 @@ use told::{Told, tell};
 
 /// Writes all of the bytes and flushes the writer.
 ///
-/// `Output` if a write fails or takes nothing, or if the writer cannot be flushed; then a front of the
-/// bytes went out.
+/// `Output` if a write fails or takes nothing, or if the writer cannot be flushed. Then a prefix of
+/// the bytes went out.
 pub(crate) fn write_all<W: Write>(writer: &mut W, bytes: &[u8]) -> Result<(), ReplayFault>
     ensures all { OnOk result (Appends (W.contents writer.old) (W.contents writer.new) bytes.now) }
     ensures fault { IfErr result (λ fault. fault ≡ Output) }

@@ -18,8 +18,8 @@ use script::{RangeReply, Script, Value, ValueList, Values};
 use std::alloc::{AllocError, Global};
 use std::sync::Wait;
 
-/// A queue has no ranges and no folds, and no line of its script asks for one: the values come
-/// back, and nothing is taken.
+/// A queue has no ranges and no folds, and no line of its script asks for one. `range` hands the
+/// values back, and `fold` takes nothing.
 impl<'a> Ranges<'a> for Queue<Value<'a>> {
     fn range<R: Wait>(
         &self,
@@ -43,7 +43,7 @@ impl<'a> Ranges<'a> for Queue<Value<'a>> {
     }
 }
 
-/// Plays a queue's script, and adds its steps to the trace. `NoMemory` where memory ran out for the
+/// Plays a queue's script, and adds its steps to the trace. `NoMemory` if memory ran out for the
 /// queue or for the lines.
 pub(crate) fn play_queue<R: Wait>(
     rt: &R,

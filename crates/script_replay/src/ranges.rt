@@ -10,8 +10,8 @@ use std::alloc::{AllocError, Global};
 use std::sync::Wait;
 use step_names::Named;
 
-/// A container of values whose calls are made by single steps, with the ranges and folds that a
-/// script's lines name where it is a stack. No line of a queue's script asks for one.
+/// A container of values whose calls are made by single steps. A stack also has the ranges and
+/// folds that a script's lines name. No line of a queue's script asks for one.
 pub trait Ranges<'a>: Named<Value<'a>> {
     /// Puts a range of values by one compare-and-swap. Returns the values that were not put, too.
     fn range<R: Wait>(

@@ -19,7 +19,7 @@ use std::io::{Read, Write};
 use std::sync::Wait;
 use told::{Told, tell};
 
-/// What is to be written for the script that the reader gives, all of it, and its steps in the trace.
+/// Returns the whole output for the script that the reader gives, and adds its steps to the trace.
 fn output_for<S: Wait, R: Read>(
     rt: &S,
     alloc: Global,
@@ -45,33 +45,37 @@ fn output_for<S: Wait, R: Read>(
 }
 
 /// Reads a script to its end, checks it whole, runs it on a container, and writes a reply for each
-/// line after the first.
+/// line after the first. Nothing is written before the replies are complete.
 ///
-/// Reading faults (`NoMemory`, `Device`, `TooLong`) come as they are met, then `NoFinalNewline`,
-/// then `BadLine` with the number of the first line that a script cannot have there, then
-/// `NoMemory` of the container and its replies. The writer is touched after all of that;
-/// `Output` comes where a write fails.
+/// The faults, in the order in which they come:
+/// - `NoMemory`, `Device`, `TooLong`: reading failed.
+/// - `NoFinalNewline`: the last line has no newline.
+/// - `BadLine`: the number is that of the first line that a script cannot have there.
+/// - `NoMemory`: there was no memory for the container or its replies.
+/// - `Output`: a write failed, or the flush. Then a prefix of the replies went out.
+///
+/// `NoMemory` can also come for the lines, before a bad line is found.
 pub fn replay<S: Wait, R: Read, W: Write>(
     rt: &S,
     alloc: Global,
     reader: &mut R,
     writer: &mut W,
 ) -> Result<(), ReplayFault>
-    // What is accepted is a script.
+    // A text that is accepted is a script.
     ensures accepted { OnOk result (IfSome (R.remaining reader.old) IsAccepted) }
     ensures short { OnOk result
         (IfSome (R.remaining reader.old) (λ text. length text ≤ MAX_SCRIPT_LEN)) }
-    // What is written is a line for each line of it after the first, and nothing else.
+    // The output is a line for each line of the script after the first, and nothing else.
     ensures replies { OnOk result (IfSome (R.remaining reader.old)
         (λ text. Wrote text (W.contents writer.old) (W.contents writer.new))) }
-    // A fault of the text is in the text, and a script has none.
+    // The fault is in the text. A script gives no fault of the text.
     ensures fault { IfErr result
         (λ fault. IfSome (R.remaining reader.old) (λ text. IsFaultOf fault text)) }
     ensures only { IfErr result (λ fault. IfSome (R.remaining reader.old)
         (λ text. IsAccepted text → IsOutside fault)) }
-    // Nothing is written before the script was read and checked whole, nor where memory runs out.
+    // Nothing is written before the script was read and checked whole, nor if memory runs out.
     ensures untouched { IfErr result (λ fault. fault ≢ Output → writer.new ≡ writer.old) }
-    // After a failed write a front of that went out.
+    // After a failed write a prefix of that output went out.
     ensures front { IfErr result (λ fault. fault ≡ Output → IfSome (R.remaining reader.old)
         (λ text. WroteFront text (W.contents writer.old) (W.contents writer.new))) }
 {
@@ -79,15 +83,15 @@ pub fn replay<S: Wait, R: Read, W: Write>(
     write_all(writer, output.as_bytes())
 }
 
-/// Replays as [`replay`] does, with whole calls made by steps, but for ranges and folds, and then
-/// writes the trace on `errors`: a line for each step that was made, in their order, with the name
-/// that the operation gave the step before it was made, and its number in the call. A range and a
-/// fold have one line each. Returns how much of the trace went out.
+/// Replays as [`replay`] does, and then writes the trace on `errors`. Whole calls are made by
+/// steps, except ranges and folds. The trace has a line for each step, in the order of the steps:
+/// the name that the operation gave the step before it was made, and its number in the call. A
+/// range and a fold have one line each. Returns how much of the trace went out.
 ///
-/// The faults are those of `replay`; after a fault no trace is written. `NoMemory` also comes if
-/// there is no memory for the trace. That it cannot be written is no fault. The names of a step and of
-/// the next one give what its line says of a compare-and-swap's outcome (`StepName::outcome`). Tests
-/// show that it is what happened.
+/// The faults are those of `replay`, and `NoMemory` also comes if there is no memory for the trace.
+/// After a fault no trace is written. A trace that cannot be written is no fault. A line tells a
+/// compare-and-swap's outcome by the names of this step and the next one (`StepName::outcome`).
+/// Tests show that it is what happened.
 pub fn replay_traced<S: Wait, R: Read, W: Write, E: Write>(
     rt: &S,
     alloc: Global,
@@ -95,7 +99,7 @@ pub fn replay_traced<S: Wait, R: Read, W: Write, E: Write>(
     writer: &mut W,
     errors: &mut E,
 ) -> Result<Told, ReplayFault>
-    // What is written is what `replay` writes.
+    // The output is what `replay` writes.
     ensures replays { Replays (R.remaining reader.old)
         (written W.contents writer.old writer.new) result }
     ensures untouched { IfErr result (λ fault. fault ≢ Output → writer.new ≡ writer.old) }

@@ -141,7 +141,7 @@ fn fold_up<'a, R: Wait>(
     Ok((pass, numbered(values?, answer)))
 }
 
-/// Plays a stack's script, and adds its steps to the trace. `NoMemory` where memory ran out for the
+/// Plays a stack's script, and adds its steps to the trace. `NoMemory` if memory ran out for the
 /// stack, for the values of a range or a fold, or for the lines.
 pub(crate) fn play_stack<R: Wait>(
     rt: &R,

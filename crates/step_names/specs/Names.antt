@@ -23,7 +23,7 @@ module _ {T M P Q L E : Type 0} (naming : Naming T M P Q L E) where
   LoadsWord (stows at slots to) location = location ≡ naming.word at
   LoadsWord deed location = ⊥
 
-  -- a step has this name; that of a compare-and-swap tells the word that is loaded where it failed, too
+  -- a step has this name; the name of a compare-and-swap also tells the word that is loaded if it failed
   abbrev pub IsDeedNamed : Deed T M P Q L E → StepName → Type 0
   IsDeedNamed deed (Load location) = LoadsWord deed location
   IsDeedNamed (stores at word to) (Store location) = location ≡ naming.word at

@@ -1,9 +1,10 @@
 //! The names of atomic steps, for those who watch a container's calls step by step.
 //!
 //! Promised: the name that a container gives the next step of an operation under way is that of its
-//! machine's step, by the table of steps (`Named`, `specs/Names.antt`): whether it loads, stores or
-//! compare-and-swaps, and which word. A compare-and-swap is said to have failed exactly where its
-//! operation then goes on as the table has it go on after a failure (`StepName::outcome`).
+//! machine's step, by the table of steps (`Named`, `specs/Names.antt`). The name says whether the
+//! step loads, stores or compare-and-swaps, and which word. A compare-and-swap is said to have
+//! failed exactly if its operation's next step has the name that the table gives after a failure
+//! (`StepName::outcome`).
 #![tactic(auto)]
 
 mod location;

@@ -13,7 +13,7 @@ pub enum Location {
     Head,
     /// Which node of a queue's chain is the last, or the last but one; a position near a ring's back.
     Tail,
-    /// Which node of a queue stands behind this one.
+    /// Which node of a queue follows this one.
     Next(u32),
     /// Which cell has the value of this node of a queue.
     Cell(u32),

@@ -10,7 +10,7 @@ pub trait Named<T>: Stepwise<T> {
     /// Whether this is the name of the next step of a put.
     ghost is_put_step: { Self.PutOp → StepName → Type 0 };
 
-    /// The same of a take, a close, a shut and a look.
+    /// The same for a take, a close, a shut and a look.
     ghost is_take_step: { Self.TakeOp → StepName → Type 0 };
 
     ghost is_close_step: { Self.CloseOp → StepName → Type 0 };

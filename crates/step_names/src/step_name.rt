@@ -12,11 +12,11 @@ pub enum StepName {
     Load(Location),
     /// A store into this word.
     Store(Location),
-    /// A compare-and-swap of the first word. Where it fails, its operation goes on with a load of
+    /// A compare-and-swap of the first word. If it fails, its operation continues with a load of
     /// the second.
     CompareAndSwap(Location, Location),
-    /// A compare-and-swap of this word, after which its operation goes on alike whether it succeeded
-    /// or failed.
+    /// A compare-and-swap of this word, after which its operation continues alike, whether it
+    /// succeeded or failed.
     Attempt(Location),
 }
 
@@ -34,10 +34,10 @@ pub enum Outcome {
 }
 
 impl StepName {
-    /// What a step of this name did, where `next` is the name of the step that its operation is to
-    /// make after it, and `None` where the operation has ended. No step that follows the success of a
-    /// compare-and-swap loads the word that is loaded after its failure: that is so in each
-    /// container's table, and is not proved.
+    /// What a step of this name did. `next` is the name of the step that its operation is to make
+    /// after it, or `None` if the operation has ended. `Failed` means that `next` loads the word
+    /// that is loaded after a failure. In each container's table no step that follows a success
+    /// loads that word. This is not proved.
     pub fn outcome(self, next: Option<StepName>) -> Outcome
         ensures { IsOutcome self next result }
     {

@@ -17,12 +17,12 @@ abbrev pub JoinsEach : {T : Type 0} → RootView T → List (PassView T) → Roo
 JoinsEach r [] s = r ≡ s
 JoinsEach {T} r (v ∷ vs) s = (q : RootView T) × Joins r v q × JoinsEach q vs s
 
--- so many passes
+-- this many passes were split off
 pub record SplitsMany {T : Type 0} (c : Shape) (count : ℕ) (r : RootView T) (passes : List (PassView T)) (s : RootView T) : Type 0 where
   pub many : length passes ≡ count
   pub splits : SplitsEach c r passes s
 
--- fewer were split off until as many were out as there may be, and these were joined again
+-- fewer were split off until no more could be out, and these were joined again
 pub record SplitsFew {T : Type 0} (c : Shape) (count : ℕ) (r s : RootView T) : Type 0 where
   pub passes : List (PassView T)
   pub few : length passes < count

@@ -38,7 +38,7 @@ pub record PutsFront {T I : Type 0} (c : Shape) (v w : PassView T) (gives : I �
   pub puts : PutsEach c v put w
   pub given : YieldsThen gives values (map (λ x. x.0) put) next rest
 
--- all values were put; or all before one, that one was refused for good, and the iterator goes on behind it
+-- all values were put; or all before one, that one was refused for good, and the iterator continues after it
 abbrev pub PutsAll : {T I : Type 0} → Call T → (I → Option T → I → Type 0) → I → Result ⊤ (Unsent T I) → Type 0
 PutsAll {T} {I} k gives values (Ok _) = (end : I) × PutsFront k.shape k.from k.to gives values None end
 PutsAll {T} {I} k gives values (Err unsent) =

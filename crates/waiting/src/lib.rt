@@ -1,11 +1,13 @@
-//! Calls that wait, over any bounded container: a put that tries again where the container is full,
-//! a take that tries again where it is empty, many of either, and passes for many threads.
+//! Calls that wait, over any bounded container: a put that tries again while the container is full,
+//! a take that tries again while it is empty, many of either, and passes for many threads.
 //!
-//! Each is written once and proved from the laws of `Container` alone. A waiting put promises what
-//! a put does, and never answers that the container is full; a waiting take promises what a take
-//! does, and never answers that it is empty. They return when another thread has made room, put a
-//! value, closed the container or shut it: nothing is promised of how long that takes, nor that it
-//! happens.
+//! Each call is written once and proved from the laws of `Container` alone. A waiting put promises
+//! what a put does, and never answers that the container is full. A waiting take promises what a
+//! take does, and never answers that it is empty.
+//!
+//! A put returns when another thread has made room or closed the container. A take returns when
+//! another thread has put a value, closed the container or shut it. Either stops if a tag is at its
+//! limit. Nothing is promised of how long that takes, nor that it happens.
 //!
 //! [`Shared`] is a container as the threads that share it see it. Every `Container` is one.
 #![tactic(auto)]

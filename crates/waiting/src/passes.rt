@@ -7,20 +7,20 @@ use bounded_model::Container;
 use std::alloc::{AllocError, Global};
 use thiserror::Error;
 
-/// Why not so many passes were split off.
+/// Why fewer passes were split off than were asked for.
 #[derive(Debug, Drop, Error)]
 pub enum SplitRefused {
     /// The allocator had no memory for the list of passes.
     #[error("no memory")]
     NoMemory,
-    /// More passes would be out at one time than may be, of a queue or a stack
-    /// [`MAX_PASSES`](bounded_model::MAX_PASSES).
+    /// More passes would be out at one time than may be, which is
+    /// [`MAX_PASSES`](bounded_model::MAX_PASSES) for a queue or a stack.
     #[error("no pass")]
     NoPass,
 }
 
-/// Splits off so many passes. `NoMemory`: nothing was split off. `NoPass`: those that there were are
-/// joined again. Called in `example_jobs`.
+/// Splits off `count` passes. `NoMemory`: nothing was split off. `NoPass`: fewer were split off
+/// until no more could be, and these are joined again. Called in `example_jobs`.
 pub fn split_many<T, C: Container<T>>(
     c: &C,
     alloc: Global,
@@ -49,7 +49,7 @@ pub fn split_many<T, C: Container<T>>(
     Ok(passes)
 }
 
-/// Takes passes back, the first one first: the root has then seen what each of them has. Called in
+/// Takes passes back, the first one first. The root has then seen what each of them has. Called in
 /// `waiting_tests`.
 pub fn join_all<T, C: Container<T>>(c: &C, root: &mut C::Root, passes: Vec<C::Pass>)
     requires root { C.is_root c.now root.old }

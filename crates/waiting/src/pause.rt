@@ -2,11 +2,11 @@
 
 use std::{hint, thread};
 
-/// How many hints of the processor a wait gives before it yields. They take as long as another
-/// thread's call does; a wait that only yields makes a small container a fifth to a third slower.
+/// How many spin hints a wait gives the processor before it yields. They take as long as another
+/// thread's call does. A wait that only yields makes a small container a fifth to a third slower.
 const HINTS: u32 = 50;
 
-/// Lets the other threads go on between two tries: 50 hints of the processor, and then a yield. For
+/// Lets the other threads run between two tries: 50 hints of the processor, and then a yield. For
 /// calls that are tried again by hand. Called in `bench_work`.
 #[inline]
 pub fn wait_a_little() {

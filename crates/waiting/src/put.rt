@@ -10,11 +10,11 @@ use bounded_model::PutRefused;
 use std::sync::Wait;
 
 /// Puts one value, and tries again while the container is full; returns the put's number. What is
-/// done and seen is what one put does: a stop hands the value back. `Closed` comes where the
-/// container is closed, `Spent` where a tag is at its limit.
+/// done and seen is what one put does, but it never answers `Full`. A stop hands the value back:
+/// `Closed` if the container is closed, `Spent` if a tag is at its limit.
 ///
-/// How long it waits is not promised, nor that it returns: where nobody takes and nobody closes, it
-/// waits for ever. Called in `waiting_tests`.
+/// It is promised neither that the call returns, nor how soon. If the container stays full and
+/// nobody closes it, the call may wait forever. Called in `waiting_tests`.
 pub fn put_waiting<T, C: Shared<T>, W: Wait>(
     c: &C,
     rt: &W,
@@ -65,10 +65,10 @@ pub fn put_waiting_with<T, C: Shared<T>, W: Wait, F: FnMut() + Drop>(
 }
 
 /// Puts the values that an iterator gives, each once and in their order, and waits for each while
-/// the container is full. The first value that is refused for good comes back with the iterator of
-/// the others. An iterator without an end is put until the container is closed.
+/// the container is full. `Unsent` has the first value that is refused for good, and the iterator
+/// of the values after it. An iterator without an end is put until a put is refused for good.
 ///
-/// How long it waits is not promised, nor that it returns, as at [`put_waiting`]. Called in
+/// It is promised neither that the call returns, nor how soon, as at [`put_waiting`]. Called in
 /// `example_pair`.
 pub fn put_all<T, C: Shared<T>, W: Wait, I: Iterator<Item = T>>(
     c: &C,

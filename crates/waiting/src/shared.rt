@@ -9,9 +9,9 @@ use std::sync::Wait;
 
 /// The calls of a container that take a pass, with the laws of `Container`.
 ///
-/// It has one associated type, where `Container` has four, since what a thread is started with may
-/// name no more than one: functions that are run as threads over any container are generic over
-/// this. Where threads are started, ask for `C::Pass: Send` there.
+/// It has one associated type, and `Container` has four. What a thread is started with may name no
+/// more than one, so functions that run as threads over any container are generic over `Shared`. If
+/// such a function starts threads, ask for `C::Pass: Send` there.
 pub trait Shared<T>: Drop {
     type Pass: Drop;
 

@@ -33,6 +33,6 @@ pub enum TakeStopped {
 pub struct Unsent<T, I> {
     /// The first of the values, and why it was refused.
     pub first: PutStopped<T>,
-    /// What gives the others.
+    /// The iterator of the values after it.
     pub rest: I,
 }

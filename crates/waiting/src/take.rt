@@ -12,7 +12,7 @@ use crate::stopped::TakeStopped;
 use bounded_model::TakeRefused;
 use std::sync::Wait;
 
-// Why a take stops at this refusal; `None` where it tries again.
+// Why a take stops at this refusal; `None` if it tries again.
 fn stop_of(refused: TakeRefused) -> Option<TakeStopped>
     ensures { MatchOption result (refused ≡ Empty) (λ why. refused_take why ≡ refused) }
 {
@@ -25,11 +25,11 @@ fn stop_of(refused: TakeRefused) -> Option<TakeStopped>
 }
 
 /// Takes one value, and tries again while the container is empty; returns the value with the take's
-/// number. What is done and seen is what one take does. `Closed` comes where the container is empty
-/// and closed, `Shut` where it is shut, `Spent` where a tag is at its limit.
+/// number. What is done and seen is what one take does, but it never answers `Empty`. `Closed` if
+/// the container is empty and closed, `Shut` if it is shut, `Spent` if a tag is at its limit.
 ///
-/// How long it waits is not promised, nor that it returns: where nobody puts and nobody closes, it
-/// waits for ever. Called in `waiting_tests`.
+/// It is promised neither that the call returns, nor how soon. If the container stays empty and
+/// nobody closes or shuts it, the call may wait forever. Called in `waiting_tests`.
 pub fn take_waiting<T, C: Shared<T>, W: Wait>(
     c: &C,
     rt: &W,
@@ -77,10 +77,10 @@ pub fn take_waiting_with<T, C: Shared<T>, W: Wait, F: FnMut() + Drop>(
 }
 
 /// Takes one value after another until a take is refused for good, and waits while the container is
-/// empty. Folds the values, each with its take's number, in the order of taking; returns the last
+/// empty. Folds the values, each with its take's number, in the order of taking. Returns the last
 /// state, and why it stopped.
 ///
-/// How long it waits is not promised, nor that it returns, as at [`take_waiting`]. Called in
+/// It is promised neither that the call returns, nor how soon, as at [`take_waiting`]. Called in
 /// `example_pair`.
 pub fn take_all_until_closed<T, C: Shared<T>, W: Wait, S, F: Fn(S, (T, u64)) -> S + Drop>(
     c: &C,

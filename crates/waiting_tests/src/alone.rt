@@ -5,7 +5,7 @@ use std::process::Abort;
 use std::sync::Wait;
 use waiting::{PutStopped, TakeStopped, put_all, put_waiting, take_all_until_closed, take_waiting};
 
-// The number that a take has here, after so many puts and so many takes.
+// The number that a take has here, after `puts` puts and `takes` takes.
 fn number_of_take<C: Container<u32>>(puts: u64, takes: u64) -> u64 {
     match C::ORDER {
         Order::Fifo => takes,

@@ -52,7 +52,7 @@ impl Made for RingQueue<u32> {
     }
 }
 
-/// A container with room for so many values, whose tags end there, and its root.
+/// A container of this capacity and this tag limit, and its root.
 fn with_room<C: Made, R: Abort>(
     rt: &R,
     alloc: Global,
@@ -68,7 +68,7 @@ fn with_room<C: Made, R: Abort>(
 /// How many numbers go through a container with room for three.
 const COUNT: u32 = 20_000;
 
-/// What the calls that wait do, at one kind of container; returns what the put and the take were
+/// What the calls that wait do, at one kind of container. Returns what the put and the take
 /// answered that waited for each other, and what came through.
 fn calls_wait<C: Made + Sync, R: Abort + Threads + Wait + Sync>(rt: &R, alloc: Global) -> Through {
     let (container, mut root) = with_room::<C, R>(rt, alloc, 1, MAX_TAG);

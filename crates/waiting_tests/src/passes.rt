@@ -6,7 +6,7 @@ use std::process::Abort;
 use std::sync::Wait;
 use waiting::{SplitRefused, join_all, put_waiting, split_many};
 
-/// As many passes as there may be are split off, and are all: one more is refused, and once they are
+/// Splits off the most passes that may be out, and no more: one more is refused. Once they are
 /// joined a pass can be had again, whose value is left.
 pub(crate) fn all_passes<C: Container<u32>, R: Abort + Wait>(
     rt: &R,

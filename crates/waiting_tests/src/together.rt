@@ -10,7 +10,7 @@ use waiting::{
     take_waiting, take_waiting_with,
 };
 
-/// What a put and a take were answered.
+/// What a put and a take answered.
 type Both = (
     Result<u64, PutStopped<u32>>,
     Result<(u32, u64), TakeStopped>,
@@ -88,7 +88,7 @@ where
     )
 }
 
-// Puts so many numbers, and closes.
+// Puts `count` numbers, and closes.
 fn put_and_close<C: Shared<u32>, R: Wait>(rt: &R, shared: &C, by: C::Pass, count: u32) -> bool
     requires { C.is_pass shared.now by }
 {

@@ -23,7 +23,7 @@ impl Tries {
         self.begun.fetch_add(1, Ordering::SeqCst);
     }
 
-    /// Waits until two were begun, so that the first was refused; `false` where they never were.
+    /// Waits until two were begun, so that the first was refused; `false` if they never were.
     pub(crate) fn are_two(&self) -> bool {
         for _ in 0..LOOKS {
             if self.begun.load(Ordering::SeqCst) >= 2 {
