@@ -5,10 +5,9 @@
  * half the memory and lasts longer, but is made for a number of passes. So take the ring if you know how many passes there will be,
  * and the queue if you do not.
  *
- * What the library keeps in your memory is a handle: a root or a pass of one container. All zero
- * bytes are an empty handle. A root gives passes, one to each thread; a pass makes the calls. Each
- * handle has a share of its container, so that no pass is used with another one, and the last of a
- * container's handles that is freed frees it.
+ * The library keeps a handle in your memory: a root or a pass of one container. All zero bytes are an empty handle. A
+ * root gives passes, one to each thread. A pass makes the calls. Each handle has a share of its container, so no pass is
+ * used with another container. The last handle of a container that is freed frees the container.
  *
  * Five rules that no check can enforce:
  *   - Zero a handle before its first use. Then only the functions below write it. It may be moved in memory between
@@ -21,8 +20,10 @@
  *   - Make no call in a signal handler, or in the child of a fork of a process with threads.
  *
  * A code answers any other misuse of a handle, and any other failure of a call. Then nothing has changed but what is
- * said here. Only the calls that make a container, _split, _free, the first _finish of a container, _range_add and
- * _range_put take or give back memory. No call waits for another thread: it is proved that each ends. A bound on its
+ * said here. Everything that a thread wrote before a put is visible to the thread that takes the value. Everything that
+ * it wrote before a close is visible to a thread that is answered CLOSED.
+ * Only the calls that make a container, _split, _free, the first _finish of a container, _range_add and _range_put take
+ * or give back memory. No call waits for another thread: it is proved that each ends. A bound on its
  * steps is visible in the code, and not proved. The inline functions at the end continue until they have another answer
  * than BUSY.
  */
@@ -62,7 +63,7 @@ enum {
                                    pass. count: or a stack's */
     LOCKFREE_NO_HANDLE = 13,    /* the handle is empty: never made, or freed */
     LOCKFREE_IN_USE = 14,       /* the handle to be made is not empty */
-    LOCKFREE_VALUE = 15,        /* fold: value is the next one, and the fold is under way: go on with lockfree_go_on.
+    LOCKFREE_VALUE = 15,        /* fold: value is the next one, and the fold is under way: continue it by lockfree_go_on.
                                    finish: value is the next one of what is left */
     LOCKFREE_SHARED = 16        /* finish: another handle of the container is still out */
 };
@@ -72,10 +73,16 @@ typedef struct lockfree_handle {
     bool full;
 } lockfree_handle;
 
-/* A code, and what it says. value is, of a put that is OK, its number. Of a take it is the value. Of a fold or a count it is
- * how many values there were, and of a range_put or a put_range how many were put. Of a gauge, OK or CLOSED, it is how many
- * tags were used; of a ring, how many values were put. Of a fold or a finish that is VALUE it is the next value, and of what is
- * SPENT the tag. What is not said is 0. It comes back in two registers. */
+/* A code, and a value that belongs to it. An answer comes back in two registers. The value is
+ *   put, OK:                   its number
+ *   take, OK:                  the value that was taken
+ *   fold, count, OK:           how many values there were
+ *   range_put, put_range, OK:  how many values were put
+ *   gauge, OK or CLOSED:       how many tags were used; of a ring, how many values were put
+ *   number, OK:                the number of the call that ended last
+ *   fold, finish, VALUE:       the next value
+ *   SPENT:                     the tag
+ * It is 0 with any other code. */
 typedef struct lockfree_answer {
     uint64_t value;
     uint32_t code;

@@ -32,12 +32,19 @@ pub type RingPass<T> = Pass<T, kind::Ring>;
 
 /// One thread's way to a container: a [`QueuePass`], a [`StackPass`] or a [`RingPass`].
 ///
-/// Its calls take it by `&mut`, so that one thread uses it at a time; it may be sent to another one. No call waits for
-/// another thread, but those whose names say `wait`; none asks for memory, but a stack's `push_range`; and none takes a lock,
-/// as long as no more than 64 passes were out at one time. A pass keeps what it needs if its container is dropped, and goes
-/// back to it, under a lock, when it is dropped itself.
+/// Its calls take it by `&mut`, so that one thread uses it at a time. It is `Send`: it may be sent to another thread. It is
+/// not `Sync`:
 ///
-/// Where a call says that something is so, it was so at one moment of the call: other threads may have changed it since.
+/// ```compile_fail
+/// fn shared<T: Sync>() {}
+/// shared::<lockfree::QueuePass<u64>>();
+/// ```
+///
+/// Calls whose names say `wait` wait for another thread; no other call does. A stack's `push_range` asks for memory; no other
+/// call does. None takes a lock, as long as no more than 64 passes were out at one time. A pass keeps what it needs if its
+/// container is dropped. It goes back to the container, under a lock, when it is dropped itself.
+///
+/// If a call says that something is so, it was so at one moment of the call: other threads may have changed it since.
 pub struct Pass<T, K> {
     pub(crate) core: Arc<Core<T>>,
     pub(crate) seat: Seat<T>,

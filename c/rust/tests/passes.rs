@@ -1,5 +1,13 @@
 //! A pass that is dropped goes back to its container: the limit counts those that are out at one time.
-use lockfree::{MakeError, Queue, Stack};
+use lockfree::{MakeError, Queue, QueuePass, Ring, RingPass, Stack, StackPass};
+
+#[test]
+fn containers_are_shared_and_passes_are_sent() {
+    fn shared<T: Send + Sync>() {}
+    fn sent<T: Send>() {}
+    (shared::<Queue<Box<u8>>>(), shared::<Stack<Box<u8>>>(), shared::<Ring<Box<u8>>>());
+    (sent::<QueuePass<Box<u8>>>(), sent::<StackPass<Box<u8>>>(), sent::<RingPass<Box<u8>>>());
+}
 
 #[test]
 fn more_passes_than_the_limit_one_after_another() {
