@@ -6,9 +6,8 @@ use Rattle.bounded_model.specs.declared.commands.Command.{Command}
 use Rattle.bounded_model.specs.declared.commands.Command.TheVariants.{Put}
 use Rattle.bounded_model.specs.declared.commands.Reply.{Reply}
 use Rattle.bounded_model.specs.declared.commands.Reply.TheVariants as reply
-use Rattle.bounded_model.specs.declared.commands.Operation.{Operation}
 use Rattle.bounded_model.specs.declared.views.PassView.{PassView}
-use Rattle.bounded_model.specs.Calls.{CallGives, IsMaking, making_in}
+use Rattle.bounded_model.specs.Calls.{CallGives}
 use Rattle.bounded_model.specs.Machine.{Shape}
 use Rattle.bounded_model.specs.Stepping.{MatchStepped, Underway, no_step}
 use Rattle.bounded_calls.specs.declared.calls.PutMade.{PutMade}
@@ -25,20 +24,6 @@ pub record Reading (T P O : Type 0) : Type 1 where
   pub pass : P → PassView T
   pub is_making : Command T → O → Type 0
   pub making : O → Underway T
-
-module _ {T A B C S L : Type 0} where
-  -- the reading of a container with single steps
-  abbrev pub by_steps : {P : Type 0} → Shape → (P → Type 0) → (P → PassView T)
-      → (T → A → Type 0) → (B → Type 0) → (C → Type 0) → (S → Type 0) → (L → Type 0)
-      → (A → Underway T) → (B → Underway T) → (C → Underway T) → (S → Underway T) → (L → Underway T)
-      → Reading T P (Operation A B C S L)
-  by_steps c is_pass pass is_putting is_taking is_closing is_shutting is_looking putting taking closing shutting looking = record {
-    shape = c;
-    is_pass = is_pass;
-    pass = pass;
-    is_making = IsMaking is_putting is_taking is_closing is_shutting is_looking;
-    making = making_in putting taking closing shutting looking;
-  }
 
 module _ {T P O : Type 0} (r : Reading T P O) where
   abbrev pub MakesSome : O → Type 0

@@ -6,12 +6,8 @@
 #![tactic(auto)]
 
 mod calls;
-mod kinds;
 mod queue;
 mod ring;
 mod stack;
 
 pub use calls::{BoundedCalls, PutMade, try_call};
-pub use queue::QueueOperation;
-pub use ring::RingOperation;
-pub use stack::StackOperation;

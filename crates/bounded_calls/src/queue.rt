@@ -1,17 +1,7 @@
 //! A queue's calls: each makes its fast path and then a bounded number of steps.
 use crate::calls::{BoundedCalls, PutMade};
-use crate::kinds::of_kind;
-use bounded_model::{Command, Container, Operation, Reply, Stepped, Stepwise};
-use ms_queue::{CloseOp, LookOp, Pass, PutOp, Queue, Rest, Root, ShutOp, TakeOp};
-
-/// A call of a queue's pass that was begun.
-pub type QueueOperation = Operation<
-    PutOp<u64>,
-    TakeOp<u64>,
-    CloseOp<u64>,
-    ShutOp<u64>,
-    LookOp<u64>,
->;
+use bounded_model::{Command, Container, Operation, Reply, Stepped, Stepwise, of_kind};
+use ms_queue::{AnyOp, Pass, Queue, Rest, Root};
 
 impl BoundedCalls<u64> for Queue<u64> {
     ghost use Rattle.bounded_calls.specs.Calls.{Begins};
@@ -24,7 +14,7 @@ impl BoundedCalls<u64> for Queue<u64> {
 
     type Pass = Pass<u64>;
 
-    type Operation = QueueOperation;
+    type Operation = AnyOp<u64>;
 
     type Rest = Rest<u64>;
 
@@ -57,36 +47,24 @@ impl BoundedCalls<u64> for Queue<u64> {
     }
 
     #[inline(always)]
-    fn begin(&self, by: Pass<u64>, command: Command<u64>) -> QueueOperation
+    fn begin(&self, by: Pass<u64>, command: Command<u64>) -> AnyOp<u64>
         requires { IsPassOf self.now by }
         ensures { Begins (queue_reading self.now) by command result }
     {
-        match command {
-            Command::Put(value) => Operation::Put(Stepwise::begin_put(self, by, value)),
-            Command::Take => Operation::Take(Stepwise::begin_take(self, by)),
-            Command::Close => Operation::Close(Stepwise::begin_close(self, by)),
-            Command::Shut => Operation::Shut(Stepwise::begin_shut(self, by)),
-            Command::Look => Operation::Look(Stepwise::begin_look(self, by)),
-        }
+        Stepwise::begin(self, by, command)
     }
 
     #[inline]
     fn run_for(
         &self,
-        operation: QueueOperation,
+        operation: AnyOp<u64>,
         steps: u64,
-    ) -> Stepped<QueueOperation, Pass<u64>, Reply<u64>> {
-        match operation {
-            Operation::Put(op) => of_kind!(Put, op.run_for(self, steps)),
-            Operation::Take(op) => of_kind!(Take, op.run_for(self, steps)),
-            Operation::Close(op) => of_kind!(Close, op.run_for(self, steps)),
-            Operation::Shut(op) => of_kind!(Shut, op.run_for(self, steps)),
-            Operation::Look(op) => of_kind!(Look, op.run_for(self, steps)),
-        }
+    ) -> Stepped<AnyOp<u64>, Pass<u64>, Reply<u64>> {
+        Stepwise::run_for(self, operation, steps)
     }
 
     #[inline(always)]
-    fn put_if_room(&self, by: Pass<u64>, value: u64) -> PutMade<QueueOperation, Pass<u64>, u64> {
+    fn put_if_room(&self, by: Pass<u64>, value: u64) -> PutMade<AnyOp<u64>, Pass<u64>, u64> {
         match self.put_if_room(by, value) {
             ms_queue::PutMade::Done(back, said) => PutMade::Done(back, said),
             ms_queue::PutMade::Again(op) => PutMade::Again(Operation::Put(op)),
@@ -99,17 +77,17 @@ impl BoundedCalls<u64> for Queue<u64> {
         &self,
         by: Pass<u64>,
         value: u64,
-    ) -> Stepped<QueueOperation, Pass<u64>, Reply<u64>> {
+    ) -> Stepped<AnyOp<u64>, Pass<u64>, Reply<u64>> {
         of_kind!(Put, self.refuse_at_once(by, value))
     }
 
     #[inline(always)]
-    fn take_at_once(&self, by: Pass<u64>) -> Stepped<QueueOperation, Pass<u64>, Reply<u64>> {
+    fn take_at_once(&self, by: Pass<u64>) -> Stepped<AnyOp<u64>, Pass<u64>, Reply<u64>> {
         of_kind!(Take, self.take_at_once(by))
     }
 
     #[inline(always)]
-    fn look_at_once(&self, by: Pass<u64>) -> Stepped<QueueOperation, Pass<u64>, Reply<u64>> {
+    fn look_at_once(&self, by: Pass<u64>) -> Stepped<AnyOp<u64>, Pass<u64>, Reply<u64>> {
         of_kind!(Look, self.look_at_once(by))
     }
 }

@@ -1,11 +1,7 @@
 //! A ring's calls: each makes its fast path and then a bounded number of steps.
 use crate::calls::{BoundedCalls, PutMade};
-use crate::kinds::of_kind;
-use bounded_model::{Command, Container, Operation, Reply, Stepped, Stepwise};
-use ring_queue::{CloseOp, LookOp, Pass, PutOp, Rest, RingQueue, Root, ShutOp, TakeOp};
-
-/// A call of a ring's pass that was begun.
-pub type RingOperation = Operation<PutOp<u64>, TakeOp<u64>, CloseOp<u64>, ShutOp<u64>, LookOp<u64>>;
+use bounded_model::{Command, Container, Operation, Reply, Stepped, Stepwise, of_kind};
+use ring_queue::{AnyOp, Pass, Rest, RingQueue, Root};
 
 impl BoundedCalls<u64> for RingQueue<u64> {
     ghost use Rattle.bounded_calls.specs.Calls.{Begins};
@@ -17,7 +13,7 @@ impl BoundedCalls<u64> for RingQueue<u64> {
 
     type Pass = Pass<u64>;
 
-    type Operation = RingOperation;
+    type Operation = AnyOp<u64>;
 
     type Rest = Rest<u64>;
 
@@ -54,36 +50,24 @@ impl BoundedCalls<u64> for RingQueue<u64> {
     }
 
     #[inline(always)]
-    fn begin(&self, by: Pass<u64>, command: Command<u64>) -> RingOperation
+    fn begin(&self, by: Pass<u64>, command: Command<u64>) -> AnyOp<u64>
         requires { IsPassOf self.now by }
         ensures { Begins (ring_reading self.now) by command result }
     {
-        match command {
-            Command::Put(value) => Operation::Put(Stepwise::begin_put(self, by, value)),
-            Command::Take => Operation::Take(Stepwise::begin_take(self, by)),
-            Command::Close => Operation::Close(Stepwise::begin_close(self, by)),
-            Command::Shut => Operation::Shut(Stepwise::begin_shut(self, by)),
-            Command::Look => Operation::Look(Stepwise::begin_look(self, by)),
-        }
+        Stepwise::begin(self, by, command)
     }
 
     #[inline]
     fn run_for(
         &self,
-        operation: RingOperation,
+        operation: AnyOp<u64>,
         steps: u64,
-    ) -> Stepped<RingOperation, Pass<u64>, Reply<u64>> {
-        match operation {
-            Operation::Put(op) => of_kind!(Put, self.run_for(op, steps)),
-            Operation::Take(op) => of_kind!(Take, self.run_for(op, steps)),
-            Operation::Close(op) => of_kind!(Close, self.run_for(op, steps)),
-            Operation::Shut(op) => of_kind!(Shut, self.run_for(op, steps)),
-            Operation::Look(op) => of_kind!(Look, self.run_for(op, steps)),
-        }
+    ) -> Stepped<AnyOp<u64>, Pass<u64>, Reply<u64>> {
+        Stepwise::run_for(self, operation, steps)
     }
 
     #[inline(always)]
-    fn put_if_room(&self, by: Pass<u64>, value: u64) -> PutMade<RingOperation, Pass<u64>, u64> {
+    fn put_if_room(&self, by: Pass<u64>, value: u64) -> PutMade<AnyOp<u64>, Pass<u64>, u64> {
         match self.put_at_once(by, value) {
             Stepped::Done(back, said) => PutMade::Done(back, said),
             Stepped::Again(op) => PutMade::Again(Operation::Put(op)),
@@ -95,17 +79,17 @@ impl BoundedCalls<u64> for RingQueue<u64> {
         &self,
         by: Pass<u64>,
         value: u64,
-    ) -> Stepped<RingOperation, Pass<u64>, Reply<u64>> {
+    ) -> Stepped<AnyOp<u64>, Pass<u64>, Reply<u64>> {
         of_kind!(Put, self.put_at_once(by, value))
     }
 
     #[inline(always)]
-    fn take_at_once(&self, by: Pass<u64>) -> Stepped<RingOperation, Pass<u64>, Reply<u64>> {
+    fn take_at_once(&self, by: Pass<u64>) -> Stepped<AnyOp<u64>, Pass<u64>, Reply<u64>> {
         of_kind!(Take, self.take_at_once(by))
     }
 
     #[inline(always)]
-    fn look_at_once(&self, by: Pass<u64>) -> Stepped<RingOperation, Pass<u64>, Reply<u64>> {
+    fn look_at_once(&self, by: Pass<u64>) -> Stepped<AnyOp<u64>, Pass<u64>, Reply<u64>> {
         of_kind!(Look, self.look_at_once(by))
     }
 }

@@ -1,17 +1,7 @@
-//! A stack's calls: each makes its fast path and then a bounded number of steps. A look has one step.
+//! A stack's calls: each makes its fast path and then a bounded number of steps.
 use crate::calls::{BoundedCalls, PutMade};
-use crate::kinds::of_kind;
-use bounded_model::{Command, Container, Operation, Reply, Stepped, Stepwise};
-use treiber_stack::{CloseOp, LookOp, Pass, PutOp, Rest, Root, ShutOp, Stack, TakeOp};
-
-/// A call of a stack's pass that was begun.
-pub type StackOperation = Operation<
-    PutOp<u64>,
-    TakeOp<u64>,
-    CloseOp<u64>,
-    ShutOp<u64>,
-    LookOp<u64>,
->;
+use bounded_model::{Command, Container, Operation, Reply, Stepped, Stepwise, of_kind};
+use treiber_stack::{AnyOp, Pass, Rest, Root, Stack};
 
 impl BoundedCalls<u64> for Stack<u64> {
     ghost use Rattle.bounded_calls.specs.Calls.{Begins};
@@ -24,7 +14,7 @@ impl BoundedCalls<u64> for Stack<u64> {
 
     type Pass = Pass<u64>;
 
-    type Operation = StackOperation;
+    type Operation = AnyOp<u64>;
 
     type Rest = Rest<u64>;
 
@@ -57,42 +47,24 @@ impl BoundedCalls<u64> for Stack<u64> {
     }
 
     #[inline(always)]
-    fn begin(&self, by: Pass<u64>, command: Command<u64>) -> StackOperation
+    fn begin(&self, by: Pass<u64>, command: Command<u64>) -> AnyOp<u64>
         requires { IsPassOf self.now by }
         ensures { Begins (stack_reading self.now) by command result }
     {
-        match command {
-            Command::Put(value) => Operation::Put(Stepwise::begin_put(self, by, value)),
-            Command::Take => Operation::Take(Stepwise::begin_take(self, by)),
-            Command::Close => Operation::Close(Stepwise::begin_close(self, by)),
-            Command::Shut => Operation::Shut(Stepwise::begin_shut(self, by)),
-            Command::Look => Operation::Look(Stepwise::begin_look(self, by)),
-        }
+        Stepwise::begin(self, by, command)
     }
 
     #[inline]
     fn run_for(
         &self,
-        operation: StackOperation,
+        operation: AnyOp<u64>,
         steps: u64,
-    ) -> Stepped<StackOperation, Pass<u64>, Reply<u64>> {
-        match operation {
-            Operation::Put(op) => of_kind!(Put, op.run_for(self, steps)),
-            Operation::Take(op) => of_kind!(Take, op.run_for(self, steps)),
-            Operation::Close(op) => of_kind!(Close, op.run_for(self, steps)),
-            Operation::Shut(op) => of_kind!(Shut, op.run_for(self, steps)),
-            Operation::Look(op) => {
-                if steps == 0 {
-                    return Stepped::Again(Operation::Look(op));
-                }
-                let (back, is_empty) = op.end(self);
-                Stepped::Done(back, Reply::Look(is_empty))
-            }
-        }
+    ) -> Stepped<AnyOp<u64>, Pass<u64>, Reply<u64>> {
+        Stepwise::run_for(self, operation, steps)
     }
 
     #[inline(always)]
-    fn put_if_room(&self, by: Pass<u64>, value: u64) -> PutMade<StackOperation, Pass<u64>, u64> {
+    fn put_if_room(&self, by: Pass<u64>, value: u64) -> PutMade<AnyOp<u64>, Pass<u64>, u64> {
         match self.put_if_room(by, value) {
             treiber_stack::PutMade::Done(back, said) => PutMade::Done(back, said),
             treiber_stack::PutMade::Again(op) => PutMade::Again(Operation::Put(op)),
@@ -105,17 +77,17 @@ impl BoundedCalls<u64> for Stack<u64> {
         &self,
         by: Pass<u64>,
         value: u64,
-    ) -> Stepped<StackOperation, Pass<u64>, Reply<u64>> {
+    ) -> Stepped<AnyOp<u64>, Pass<u64>, Reply<u64>> {
         of_kind!(Put, self.refuse_at_once(by, value))
     }
 
     #[inline(always)]
-    fn take_at_once(&self, by: Pass<u64>) -> Stepped<StackOperation, Pass<u64>, Reply<u64>> {
+    fn take_at_once(&self, by: Pass<u64>) -> Stepped<AnyOp<u64>, Pass<u64>, Reply<u64>> {
         of_kind!(Take, self.take_at_once(by))
     }
 
     #[inline(always)]
-    fn look_at_once(&self, by: Pass<u64>) -> Stepped<StackOperation, Pass<u64>, Reply<u64>> {
+    fn look_at_once(&self, by: Pass<u64>) -> Stepped<AnyOp<u64>, Pass<u64>, Reply<u64>> {
         let (back, is_empty) = self.is_empty(by);
         Stepped::Done(back, Reply::Look(is_empty))
     }

@@ -12,6 +12,7 @@ mod commands;
 mod consume;
 mod container;
 mod history;
+mod kinds;
 mod plain_list;
 mod stepwise;
 mod theorems;

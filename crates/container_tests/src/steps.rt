@@ -1,8 +1,10 @@
 //! Calls by single steps: how many a put and a take make, and what becomes of the values of a call
 //! that is dropped between two steps.
 
+ghost use Rattle.bounded_model.specs.declared.commands.Command.{Command};
+
 use crate::made::{Made, with_room};
-use bounded_model::{Container, Order, Stepped, Stepwise};
+use bounded_model::{Command, Container, Order, Reply, Stepped, Stepwise};
 use std::alloc::Global;
 use std::process::Abort;
 use std::sync::{Arc, Wait};
@@ -26,40 +28,20 @@ pub(crate) struct Steps {
     pub(crate) refused: u32,
 }
 
-// Makes `steps` steps of a put. None of them ends it.
-fn go_on_putting<T: Drop, C: Stepwise<T>, R: Abort>(
+// Makes `steps` steps of a call. None of them ends it.
+fn continued<T: Drop, C: Stepwise<T>, R: Abort>(
     rt: &R,
     container: &C,
-    op: C::PutOp,
+    op: C::Op,
     steps: u32,
-) -> C::PutOp
-    requires { (x : T) × C.is_putting container.now x op }
-    ensures { (x : T) × C.is_putting container.now x result }
+) -> C::Op
+    requires { (call : Command T) × C.is_making container.now call op }
+    ensures { (call : Command T) × C.is_making container.now call result }
 {
     let mut op = op;
     for _ in 0..steps {
-        let Stepped::Again(next) = container.step_put(op) else {
-            panic!(rt; "the put ended early")
-        };
-        op = next;
-    }
-    op
-}
-
-// Makes `steps` steps of a take. None of them ends it.
-fn go_on_taking<T: Drop, C: Stepwise<T>, R: Abort>(
-    rt: &R,
-    container: &C,
-    op: C::TakeOp,
-    steps: u32,
-) -> C::TakeOp
-    requires { C.is_taking container.now op }
-    ensures { C.is_taking container.now result }
-{
-    let mut op = op;
-    for _ in 0..steps {
-        let Stepped::Again(next) = container.step_take(op) else {
-            panic!(rt; "the take ended early")
+        let Stepped::Again(next) = container.step(op) else {
+            panic!(rt; "the call ended early")
         };
         op = next;
     }
@@ -70,14 +52,14 @@ fn go_on_taking<T: Drop, C: Stepwise<T>, R: Abort>(
 pub(crate) fn ended_at_their_last<C: Made<u32>, R: Abort>(rt: &R, alloc: Global, steps: Steps) {
     let (container, mut root) = with_room::<u32, C, R>(rt, alloc, 1);
     let pass = container.split(&mut root).expect(rt, "a pass");
-    let begun = container.begin_put(pass, 7);
-    let put = go_on_putting(rt, &container, begun, steps.put.saturating_sub(1));
-    let Stepped::Done(pass, Ok(0)) = container.step_put(put) else {
+    let begun = container.begin(pass, Command::Put(7));
+    let put = continued(rt, &container, begun, steps.put.saturating_sub(1));
+    let Stepped::Done(pass, Reply::Put(Ok(0))) = container.step(put) else {
         panic!(rt; "the put ended late")
     };
-    let begun = container.begin_take(pass);
-    let take = go_on_taking(rt, &container, begun, steps.take.saturating_sub(1));
-    let Stepped::Done(_, Ok(taken)) = container.step_take(take) else {
+    let begun = container.begin(pass, Command::Take);
+    let take = continued(rt, &container, begun, steps.take.saturating_sub(1));
+    let Stepped::Done(_, Reply::Take(Ok(taken))) = container.step(take) else {
         panic!(rt; "the take ended late")
     };
     let number = match C::ORDER {
@@ -92,8 +74,9 @@ fn dropped_put<C: Made<Arc<u8>>, R: Abort>(rt: &R, alloc: Global, steps: Steps, 
     let value = Arc::new(alloc, 7u8).expect(rt, "memory");
     let (container, mut root) = with_room::<Arc<u8>, C, R>(rt, alloc, 2);
     let pass = container.split(&mut root).expect(rt, "a pass");
-    let begun = container.begin_put(pass, Arc::try_clone(&value).expect(rt, "a clone"));
-    drop(go_on_putting(rt, &container, begun, made));
+    let clone = Arc::try_clone(&value).expect(rt, "a clone");
+    let begun = container.begin(pass, Command::Put(clone));
+    drop(continued(rt, &container, begun, made));
     let owners = if made < steps.kept { 1 } else { 2 };
     assert_eq!(rt; Arc::strong_count(&value), owners);
     drop(root);
@@ -108,8 +91,8 @@ fn dropped_take<C: Made<Arc<u8>>, R: Abort + Wait>(rt: &R, alloc: Global, steps:
     let pass = container.split(&mut root).expect(rt, "a pass");
     let (pass, put) = container.put(rt, pass, Arc::try_clone(&value).expect(rt, "a clone"));
     assert!(rt; put.is_ok());
-    let begun = container.begin_take(pass);
-    drop(go_on_taking(rt, &container, begun, made));
+    let begun = container.begin(pass, Command::Take);
+    drop(continued(rt, &container, begun, made));
     let owners = if made < steps.taken { 2 } else { 1 };
     assert_eq!(rt; Arc::strong_count(&value), owners);
     drop(container.finish(root));
@@ -127,11 +110,12 @@ fn dropped_late_put<C: Made<Arc<u8>>, R: Abort + Wait>(
     let (container, mut root) = with_room::<Arc<u8>, C, R>(rt, alloc, 2);
     let pass = container.split(&mut root).expect(rt, "a pass");
     let closer = container.split(&mut root).expect(rt, "a pass");
-    let begun = container.begin_put(pass, Arc::try_clone(&value).expect(rt, "a clone"));
-    let put = go_on_putting(rt, &container, begun, steps.closed);
+    let clone = Arc::try_clone(&value).expect(rt, "a clone");
+    let begun = container.begin(pass, Command::Put(clone));
+    let put = continued(rt, &container, begun, steps.closed);
     let (_, closed) = container.close(rt, closer);
     assert!(rt; closed);
-    drop(go_on_putting(rt, &container, put, made));
+    drop(continued(rt, &container, put, made));
     let owners = if made < steps.back { 2 } else { 1 };
     assert_eq!(rt; Arc::strong_count(&value), owners);
     drop(container.finish(root));

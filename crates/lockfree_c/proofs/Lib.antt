@@ -2,10 +2,8 @@ pub mod AsBox
 pub mod New
 pub mod NoRoom
 pub mod Stays
-pub mod CopyStays
-pub mod CountStays
-pub mod FoldStays
-pub mod GaugeStays
-pub mod RangeStays
+pub mod Rests
+pub mod QueueStays
 pub mod RingStays
+pub mod StackStays
 pub mod Shared

@@ -6,7 +6,7 @@ use crate::answers::{Answer, BUSY, UNDER_WAY, number_of_range};
 use crate::held::{Held, StackCopy, StackPass};
 use crate::pass::PassOf;
 use crate::stage::Stage;
-use crate::steps::steps_for;
+use crate::steps::{STACK_BULK, steps_for};
 use bounded_model::{RangeRefused, Ranged, Stepped};
 use std::alloc::Global;
 use std::sync::Arc;
@@ -39,24 +39,16 @@ pub fn put_copies_of(pass: StackPass, values: &[u64], tries: u64) -> (Held, Answ
     ensures of { IsHeld result.0 }
     ensures gives { StackCopied pass values.now result.0 result.1 }
 {
-    let PassOf { container, stage } = pass;
-    let Stage {
-        resting,
-        under_way,
-        number,
-    } = stage;
-    let Some(by) = resting else {
-        let stage = Stage {
-            resting: None,
-            under_way,
-            number,
-        };
-        let pass = PassOf { container, stage };
-        return (Held::StackPass(pass), Answer::of(UNDER_WAY));
-    };
-    match container.begin_copies(by, values) {
-        Stepped::Again(op) => StackCopy { container, op }.go_on(values, tries),
-        Stepped::Done(by, said) => left(container, Stepped::Done(by, said)),
+    let mut pass = pass;
+    match pass.stage.resting.take() {
+        Some(by) => match pass.container.begin_copies(by, values) {
+            Stepped::Again(op) => {
+                let container = pass.container;
+                StackCopy { container, op }.go_on(values, tries)
+            }
+            Stepped::Done(by, said) => left(pass.container, Stepped::Done(by, said)),
+        },
+        None => (Held::StackPass(pass), Answer::of(UNDER_WAY)),
     }
 }
 
@@ -68,7 +60,7 @@ impl StackCopy {
         ensures gives { CopyWentOn self values.now result.0 result.1 }
     {
         let StackCopy { container, op } = self;
-        let made = op.copy_for(&container, values, steps_for(tries));
+        let made = op.copy_for(&container, values, steps_for(STACK_BULK, tries));
         left(container, made)
     }
 }

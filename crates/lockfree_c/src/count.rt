@@ -13,18 +13,11 @@ use crate::answers::{Answer, BUSY, OK, UNDER_WAY};
 use crate::held::{Held, QueueCount, QueuePass};
 use crate::pass::PassOf;
 use crate::stage::Stage;
+use crate::steps::{QUEUE_COUNT, steps_for};
 use bounded_model::Stepped;
 use ms_queue::{LenOp, Pass, Queue};
 use std::alloc::Global;
 use std::sync::Arc;
-
-// How many steps a count makes if nobody takes a value, and after each look that found one taken.
-const LOADS: u64 = 4;
-
-// How many steps this number of tries allows.
-fn steps_for(tries: u64) -> u64 {
-    tries.saturating_mul(LOADS).saturating_add(LOADS)
-}
 
 // What the handle holds after a count was tried, and the answer.
 fn left(
@@ -53,24 +46,16 @@ pub fn begin_count(pass: QueuePass, tries: u64) -> (Held, Answer)
     ensures of { IsHeld result.0 }
     ensures gives { QueueCounted pass result.0 result.1 }
 {
-    let PassOf { container, stage } = pass;
-    let Stage {
-        resting,
-        under_way,
-        number,
-    } = stage;
-    let Some(by) = resting else {
-        let stage = Stage {
-            resting: None,
-            under_way,
-            number,
-        };
-        let pass = PassOf { container, stage };
-        return (Held::QueuePass(pass), Answer::of(UNDER_WAY));
-    };
-    match container.len_at_once(by) {
-        Stepped::Done(by, count) => left(container, Stepped::Done(by, count)),
-        Stepped::Again(op) => QueueCount { container, op }.go_on(tries),
+    let mut pass = pass;
+    match pass.stage.resting.take() {
+        Some(by) => match pass.container.len_at_once(by) {
+            Stepped::Done(by, count) => left(pass.container, Stepped::Done(by, count)),
+            Stepped::Again(op) => {
+                let container = pass.container;
+                QueueCount { container, op }.go_on(tries)
+            }
+        },
+        None => (Held::QueuePass(pass), Answer::of(UNDER_WAY)),
     }
 }
 
@@ -82,7 +67,7 @@ impl QueueCount {
         ensures gives { CountWentOn self result.0 result.1 }
     {
         let QueueCount { container, op } = self;
-        let made = op.run_for(&container, steps_for(tries));
+        let made = op.run_for(&container, steps_for(QUEUE_COUNT, tries));
         left(container, made)
     }
 }

@@ -5,8 +5,6 @@ use crate::held::{
     QueueCount, QueueGauge, QueuePass, QueueRoot, RingCount, RingGauge, RingPass, RingRoot,
     StackCopy, StackFold, StackPass, StackRange, StackRangePut, StackRoot,
 };
-use bounded_calls::{QueueOperation, RingOperation, StackOperation};
-use bounded_model::Operation;
 
 // Requires that its type may cross threads, and does nothing.
 fn crosses<T: Send>(_part: &T) {}
@@ -24,14 +22,8 @@ pub fn queue_pass_crosses(pass: &QueuePass) {
 }
 
 /// A call that a queue's pass is in.
-pub fn queue_operation_crosses(operation: &QueueOperation) {
-    match operation {
-        Operation::Put(put) => crosses(put),
-        Operation::Take(take) => crosses(take),
-        Operation::Close(close) => crosses(close),
-        Operation::Shut(shut) => crosses(shut),
-        Operation::Look(look) => crosses(look),
-    }
+pub fn queue_operation_crosses(operation: &ms_queue::AnyOp<u64>) {
+    crosses(operation);
 }
 
 /// The parts of a queue's pass that is in a count.
@@ -59,7 +51,7 @@ pub fn stack_pass_crosses(pass: &StackPass) {
 }
 
 /// A call that a stack's pass is in.
-pub fn stack_operation_crosses(operation: &StackOperation) {
+pub fn stack_operation_crosses(operation: &treiber_stack::AnyOp<u64>) {
     crosses(operation);
 }
 
@@ -112,14 +104,8 @@ pub fn ring_pass_crosses(pass: &RingPass) {
 }
 
 /// A call that a ring's pass is in.
-pub fn ring_operation_crosses(operation: &RingOperation) {
-    match operation {
-        Operation::Put(put) => crosses(put),
-        Operation::Take(take) => crosses(take),
-        Operation::Close(close) => crosses(close),
-        Operation::Shut(shut) => crosses(shut),
-        Operation::Look(look) => crosses(look),
-    }
+pub fn ring_operation_crosses(operation: &ring_queue::AnyOp<u64>) {
+    crosses(operation);
 }
 
 /// The parts of a ring's pass that is in a count.

@@ -17,7 +17,7 @@ use crate::answers::{Answer, BUSY, UNDER_WAY, VALUE, number_of_fold};
 use crate::held::{Held, StackFold, StackPass};
 use crate::pass::PassOf;
 use crate::stage::Stage;
-use crate::steps::steps_for;
+use crate::steps::{STACK_BULK, steps_for};
 use std::alloc::Global;
 use std::sync::Arc;
 use treiber_stack::{FoldMade, FoldOp, Pass, Stack};
@@ -63,26 +63,14 @@ pub fn begin_fold(pass: StackPass, reversed: bool, tries: u64) -> (Held, Answer)
     ensures of { IsHeld result.0 }
     ensures gives { StackFolded pass (front_from reversed) result.0 result.1 }
 {
-    let PassOf { container, stage } = pass;
-    let Stage {
-        resting,
-        under_way,
-        number,
-    } = stage;
-    match resting {
+    let mut pass = pass;
+    match pass.stage.resting.take() {
         Some(by) => {
-            let op = first(&container, by, reversed);
+            let op = first(&pass.container, by, reversed);
+            let container = pass.container;
             StackFold { container, op }.go_on(tries)
         }
-        None => {
-            let stage = Stage {
-                resting: None,
-                under_way,
-                number,
-            };
-            let pass = PassOf { container, stage };
-            (Held::StackPass(pass), Answer::of(UNDER_WAY))
-        }
+        None => (Held::StackPass(pass), Answer::of(UNDER_WAY)),
     }
 }
 
@@ -94,7 +82,7 @@ impl StackFold {
         ensures gives { FoldWentOn self result.0 result.1 }
     {
         let StackFold { container, op } = self;
-        let made = op.run_for(&container, steps_for(tries));
+        let made = container.run_fold_for(op, steps_for(STACK_BULK, tries));
         left(container, made)
     }
 }

@@ -14,23 +14,12 @@ use crate::held::{Held, QueueGauge, QueuePass, StackPass};
 use crate::pass::PassOf;
 use crate::ring::begin_ring_gauge;
 use crate::stage::Stage;
+use crate::steps::{QUEUE_GAUGE, steps_for};
 use bounded_model::Stepped;
 use ms_queue::{Gauge, GaugeOp, Pass, Queue};
 use std::alloc::Global;
 use std::mem;
 use std::sync::Arc;
-
-// How many steps a queue's gauge makes if nobody puts a value meanwhile. It may have to move the
-// tail.
-const UNDISTURBED: u64 = 8;
-
-// How many loads a gauge makes from its begin to its end, if the tail names the last node.
-const LOADS: u64 = 4;
-
-// How many steps this number of tries allows.
-fn steps_for(tries: u64) -> u64 {
-    tries.saturating_mul(LOADS).saturating_add(UNDISTURBED)
-}
 
 // What the handle holds after a queue's gauge was tried, and the answer.
 fn left(
@@ -62,26 +51,14 @@ pub fn begin_gauge(pass: QueuePass, tries: u64) -> (Held, Answer)
     ensures of { IsHeld result.0 }
     ensures gives { QueueGauged pass result.0 result.1 }
 {
-    let PassOf { container, stage } = pass;
-    let Stage {
-        resting,
-        under_way,
-        number,
-    } = stage;
-    match resting {
+    let mut pass = pass;
+    match pass.stage.resting.take() {
         Some(by) => {
-            let op = container.begin_gauge(by);
+            let op = pass.container.begin_gauge(by);
+            let container = pass.container;
             QueueGauge { container, op }.go_on(tries)
         }
-        None => {
-            let stage = Stage {
-                resting: None,
-                under_way,
-                number,
-            };
-            let pass = PassOf { container, stage };
-            (Held::QueuePass(pass), Answer::of(UNDER_WAY))
-        }
+        None => (Held::QueuePass(pass), Answer::of(UNDER_WAY)),
     }
 }
 
@@ -93,7 +70,7 @@ impl QueueGauge {
         ensures gives { GaugeWentOn self result.0 result.1 }
     {
         let QueueGauge { container, op } = self;
-        let made = op.run_for(&container, steps_for(tries));
+        let made = op.run_for(&container, steps_for(QUEUE_GAUGE, tries));
         left(container, made)
     }
 }

@@ -5,7 +5,6 @@ ghost use Rattle.lockfree_c.specs.Refusals.{refusal_of};
 use crate::answers::{OTHER_HANDLE, UNDER_WAY};
 use crate::pass::PassOf;
 use crate::root::RootOf;
-use bounded_calls::{QueueOperation, RingOperation, StackOperation};
 use ms_queue::{GaugeOp, LenOp, Queue};
 use ring_queue::RingQueue;
 use std::alloc::Global;
@@ -16,19 +15,19 @@ use treiber_stack::{FoldOp, RangeOp, Stack};
 pub type QueueRoot = RootOf<Queue<u64>, ms_queue::Root<u64>>;
 
 /// A queue's pass, with a share of the queue.
-pub type QueuePass = PassOf<Queue<u64>, ms_queue::Pass<u64>, QueueOperation>;
+pub type QueuePass = PassOf<Queue<u64>, ms_queue::Pass<u64>, ms_queue::AnyOp<u64>>;
 
 /// A stack's root, with a share of the stack.
 pub type StackRoot = RootOf<Stack<u64>, treiber_stack::Root<u64>>;
 
 /// A stack's pass, with a share of the stack.
-pub type StackPass = PassOf<Stack<u64>, treiber_stack::Pass<u64>, StackOperation>;
+pub type StackPass = PassOf<Stack<u64>, treiber_stack::Pass<u64>, treiber_stack::AnyOp<u64>>;
 
 /// A ring's root, with a share of the ring.
 pub type RingRoot = RootOf<RingQueue<u64>, ring_queue::Root<u64>>;
 
 /// A ring's pass, with a share of the ring.
-pub type RingPass = PassOf<RingQueue<u64>, ring_queue::Pass<u64>, RingOperation>;
+pub type RingPass = PassOf<RingQueue<u64>, ring_queue::Pass<u64>, ring_queue::AnyOp<u64>>;
 
 /// A queue's pass in a count of the values, with a share of the queue. It is a variant of its own,
 /// so that the puts and takes of the pass need not check for it.

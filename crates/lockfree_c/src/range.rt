@@ -17,7 +17,7 @@ use crate::answers::{Answer, BUSY, EMPTY, NO_MEMORY, OK, UNDER_WAY, number_of_ra
 use crate::held::{Held, StackPass, StackRange, StackRangePut};
 use crate::pass::PassOf;
 use crate::stage::Stage;
-use crate::steps::steps_for;
+use crate::steps::{STACK_BULK, steps_for};
 use bounded_model::{RangeRefused, Ranged, Stepped};
 use std::alloc::Global;
 use std::sync::Arc;
@@ -55,37 +55,23 @@ pub fn begin_range_of(alloc: Global, pass: StackPass, value: u64) -> (Held, u32)
     ensures of { IsHeld result.0 }
     ensures gives { RangeBegan pass value result.0 result.1 }
 {
-    let PassOf { container, stage } = pass;
-    let Stage {
-        resting,
-        under_way,
-        number,
-    } = stage;
-    let Some(by) = resting else {
-        let stage = Stage {
-            resting: None,
-            under_way,
-            number,
-        };
-        return (Held::StackPass(PassOf { container, stage }), UNDER_WAY);
+    let mut pass = pass;
+    let Some(by) = pass.stage.resting.take() else {
+        return (Held::StackPass(pass), UNDER_WAY);
     };
     let mut values = Vec::new(alloc);
     match values.push(Some(value)) {
         Ok(()) => {
             let range = StackRange {
-                container,
+                container: pass.container,
                 by,
                 values,
             };
             (Held::StackRange(range), OK)
         }
         Err(_) => {
-            let stage = Stage {
-                resting: Some(by),
-                under_way,
-                number,
-            };
-            (Held::StackPass(PassOf { container, stage }), NO_MEMORY)
+            pass.stage.resting = Some(by);
+            (Held::StackPass(pass), NO_MEMORY)
         }
     }
 }
@@ -155,7 +141,7 @@ impl StackRangePut {
             values,
         } = self;
         let mut values = values;
-        let made = op.run_for(&container, &mut values, steps_for(tries));
+        let made = op.run_for(&container, &mut values, steps_for(STACK_BULK, tries));
         left(container, values, made)
     }
 }

@@ -13,22 +13,11 @@ use crate::answers::{Answer, BUSY, OK, UNDER_WAY};
 use crate::held::{Held, RingCount, RingGauge, RingPass};
 use crate::pass::PassOf;
 use crate::stage::Stage;
+use crate::steps::{RING_COUNT, RING_GAUGE, steps_for};
 use bounded_model::Stepped;
 use ring_queue::{Gauge, GaugeOp, LenOp, Pass, RingQueue};
 use std::alloc::Global;
 use std::sync::Arc;
-
-// How many steps a count makes if no other pass succeeds meanwhile: from its begin, and after each
-// look that found a value taken.
-const COUNTS: u64 = 25;
-
-// How many steps a gauge makes from its begin, if no other pass succeeds meanwhile.
-const GAUGES: u64 = 12;
-
-// How many steps this number of tries allows, if each try has `each` steps.
-fn steps_for(tries: u64, each: u64) -> u64 {
-    tries.saturating_mul(each).saturating_add(each)
-}
 
 // What the handle holds after a count was tried, and the answer.
 fn count_left(
@@ -73,65 +62,6 @@ fn gauge_left(
     }
 }
 
-/// Counts the values. If the pass is in a call already, nothing changes, and the code is
-/// `UNDER_WAY`.
-pub fn begin_ring_count(pass: RingPass, tries: u64) -> (Held, Answer)
-    requires { IsRingPass pass }
-    ensures of { IsHeld result.0 }
-    ensures gives { RingCounted pass result.0 result.1 }
-{
-    let PassOf { container, stage } = pass;
-    let Stage {
-        resting,
-        under_way,
-        number,
-    } = stage;
-    match resting {
-        Some(by) => {
-            let op = container.begin_len(by);
-            RingCount { container, op }.go_on(tries)
-        }
-        None => {
-            let stage = Stage {
-                resting: None,
-                under_way,
-                number,
-            };
-            let pass = PassOf { container, stage };
-            (Held::RingPass(pass), Answer::of(UNDER_WAY))
-        }
-    }
-}
-
-/// Gauges the ring. If the pass is in a call already, nothing changes, and the code is `UNDER_WAY`.
-pub fn begin_ring_gauge(pass: RingPass, tries: u64) -> (Held, Answer)
-    requires { IsRingPass pass }
-    ensures of { IsHeld result.0 }
-    ensures gives { RingGauged pass result.0 result.1 }
-{
-    let PassOf { container, stage } = pass;
-    let Stage {
-        resting,
-        under_way,
-        number,
-    } = stage;
-    match resting {
-        Some(by) => {
-            let op = container.begin_gauge(by);
-            RingGauge { container, op }.go_on(tries)
-        }
-        None => {
-            let stage = Stage {
-                resting: None,
-                under_way,
-                number,
-            };
-            let pass = PassOf { container, stage };
-            (Held::RingPass(pass), Answer::of(UNDER_WAY))
-        }
-    }
-}
-
 impl RingCount {
     /// Continues the count until it ends, or until the tries are used up.
     pub fn go_on(self, tries: u64) -> (Held, Answer)
@@ -140,7 +70,7 @@ impl RingCount {
         ensures gives { CountWentOn self result.0 result.1 }
     {
         let RingCount { container, op } = self;
-        let made = container.run_for(op, steps_for(tries, COUNTS));
+        let made = container.run_for(op, steps_for(RING_COUNT, tries));
         count_left(container, made)
     }
 }
@@ -153,7 +83,42 @@ impl RingGauge {
         ensures gives { GaugeWentOn self result.0 result.1 }
     {
         let RingGauge { container, op } = self;
-        let made = container.run_for(op, steps_for(tries, GAUGES));
+        let made = container.run_for(op, steps_for(RING_GAUGE, tries));
         gauge_left(container, made)
+    }
+}
+
+/// Counts the values. If the pass is in a call already, nothing changes, and the code is
+/// `UNDER_WAY`.
+pub fn begin_ring_count(pass: RingPass, tries: u64) -> (Held, Answer)
+    requires { IsRingPass pass }
+    ensures of { IsHeld result.0 }
+    ensures gives { RingCounted pass result.0 result.1 }
+{
+    let mut pass = pass;
+    match pass.stage.resting.take() {
+        Some(by) => {
+            let op = pass.container.begin_len(by);
+            let container = pass.container;
+            RingCount { container, op }.go_on(tries)
+        }
+        None => (Held::RingPass(pass), Answer::of(UNDER_WAY)),
+    }
+}
+
+/// Gauges the ring. If the pass is in a call already, nothing changes, and the code is `UNDER_WAY`.
+pub fn begin_ring_gauge(pass: RingPass, tries: u64) -> (Held, Answer)
+    requires { IsRingPass pass }
+    ensures of { IsHeld result.0 }
+    ensures gives { RingGauged pass result.0 result.1 }
+{
+    let mut pass = pass;
+    match pass.stage.resting.take() {
+        Some(by) => {
+            let op = pass.container.begin_gauge(by);
+            let container = pass.container;
+            RingGauge { container, op }.go_on(tries)
+        }
+        None => (Held::RingPass(pass), Answer::of(UNDER_WAY)),
     }
 }

@@ -1,17 +1,49 @@
-//! How many steps a fold and a put of a range make at a time.
+//! The steps of a number of tries, for each operation that `bounded_calls` does not run.
 
-// How many steps are enough, if nobody interferes:
-// - for a fold, to come to its next value or its end, unless it turns values round,
-// - for a put of a range, to take its next cell, to put the range, or to give its cells back.
-const UNDISTURBED: u64 = 10;
+/// The two numbers of an operation.
+pub(crate) struct Steps {
+    /// As many steps as it makes from its begin to its end, if no other pass disturbs it.
+    undisturbed: u64,
+    /// How many steps lead to its next chance to end, once another pass has taken one.
+    again: u64,
+}
 
-// How many steps lead to the next compare-and-swap after one has failed.
-const TO_EXCHANGE: u64 = 3;
+/// A queue's count has four loads. It makes them again after a look that found a value taken.
+pub(crate) const QUEUE_COUNT: Steps = Steps {
+    undisturbed: 4,
+    again: 4,
+};
+
+/// A queue's gauge has four loads, if the tail is that of the last node. Else it moves the tail first.
+pub(crate) const QUEUE_GAUGE: Steps = Steps {
+    undisturbed: 8,
+    again: 4,
+};
+
+/// A stack's fold makes at most ten steps to its next value or its end, if no values are turned
+/// round. A put of a range takes its next cell, puts it, or gives its cells back in as many. Three
+/// steps lead to the next compare-and-swap once one has failed.
+pub(crate) const STACK_BULK: Steps = Steps {
+    undisturbed: 10,
+    again: 3,
+};
+
+/// A ring's count makes at most 25 steps from its begin, and again after a look that found a value
+/// taken, if no other pass succeeds meanwhile.
+pub(crate) const RING_COUNT: Steps = Steps {
+    undisturbed: 25,
+    again: 25,
+};
+
+/// The same of a ring's gauge.
+pub(crate) const RING_GAUGE: Steps = Steps {
+    undisturbed: 12,
+    again: 12,
+};
 
 /// How many steps this number of tries allows.
 #[inline]
-pub(crate) fn steps_for(tries: u64) -> u64 {
-    tries
-        .saturating_mul(TO_EXCHANGE)
-        .saturating_add(UNDISTURBED)
+pub(crate) fn steps_for(of: Steps, tries: u64) -> u64 {
+    let Steps { undisturbed, again } = of;
+    tries.saturating_mul(again).saturating_add(undisturbed)
 }

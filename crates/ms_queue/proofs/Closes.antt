@@ -29,7 +29,7 @@ use Rattle.ms_queue.specs.declared.closing.CloseAt.TheVariants.{Seeking, Mark}
 use Rattle.ms_queue.specs.declared.seeking.Seek.{Seek}
 use Rattle.ms_queue.specs.declared.seeking.End.{End}
 use Rattle.ms_queue.specs.declared.seeking.End.TheVariants.{Closed as EndClosed, Open}
-use Rattle.ms_queue.specs.Closing.{close_account, close_line, HasReadToClose}
+use Rattle.ms_queue.specs.Closing.{close_account, close_line}
 use Rattle.ms_queue.specs.Queue.{room_of, limit_of, machine_of, shape_of}
 use Rattle.ms_queue.specs.Seeking.{Seeks, SoughtTo}
 use Rattle.ms_queue.proofs.Seeks.{busy, sought_within}

@@ -1,22 +1,47 @@
--- What is left may cross threads, where the values may, and so may a put that is under way.
+-- What is left may cross threads, where the values may, and so may a call that is under way.
 use denote.RattleType.{RattleType}
 use denote.Param.Send.{IsSend, sendable}
-use denote.Param.SendFields.{declared_send, variants_send}
+use denote.Param.SendFields.{as_row_send, declared_send, variants_send}
+use denote.Struct.Field.{row_field}
 use Rattle.std.proofs.Crossing.{send as heap_send}
 use Rattle.atomic_table.proofs.shared.Seat.TheSendSync.{the_send as seat_send}
 use Rattle.running.proofs.Crossing.{row_send, lease_send}
-use Rattle.ms_queue.specs.contracts.putting.PutAt as at
+use Rattle.bounded_model.specs.contracts.commands.Operation as any
 use Rattle.running.specs.contracts.op.Op as op
 use Rattle.queue_machine.specs.contracts.lines.Line as line
 use Rattle.queue_table.specs.contracts.operation.Operation as operation
+use Rattle.ms_queue.specs.contracts.closing.CloseAt as close_at
+use Rattle.ms_queue.specs.contracts.looking.LookAt as look_at
+use Rattle.ms_queue.specs.contracts.putting.PutAt as put_at
 use Rattle.ms_queue.specs.contracts.rest.Rest as rest
+use Rattle.ms_queue.specs.contracts.shutting.ShutAt as shut_at
+use Rattle.ms_queue.specs.contracts.taking.TakeAt as take_at
 
 pub rest_send : (T : RattleType) → IsSend T → IsSend (rest.the_row T)
 rest_send T s = search (sendable, row_send, lease_send, heap_send) depth 20
 
--- field by field, since it has too many states for one search
-at_send : (T : RattleType) → IsSend T → IsSend (at.the_row T)
-at_send T s = variants_send (at.enum T) (search sendable depth 30, (search sendable depth 30, (search sendable depth 30, (search sendable depth 30, (search sendable depth 30, (search sendable depth 30, (search sendable depth 30, (search sendable depth 30, (search sendable depth 30, (search sendable depth 30, (search sendable depth 30, (search sendable depth 30, (search sendable depth 30, (search sendable depth 30, tt))))))))))))))
+-- field by field, since a put and a take have too many states for one search
+put_at_send : (T : RattleType) → IsSend T → IsSend (put_at.the_row T)
+put_at_send T s = variants_send (put_at.enum T) (search sendable depth 30, (search sendable depth 30, (search sendable depth 30, (search sendable depth 30, (search sendable depth 30, (search sendable depth 30, (search sendable depth 30, (search sendable depth 30, (search sendable depth 30, (search sendable depth 30, (search sendable depth 30, (search sendable depth 30, (search sendable depth 30, (search sendable depth 30, tt))))))))))))))
 
-pub put_send : (T : RattleType) → IsSend T → IsSend (op.the_row T (line.the_row T) (operation.the_row T) (at.the_row T))
-put_send T s = declared_send (op.the_type T (line.the_row T) (operation.the_row T) (at.the_row T)) (search (sendable, seat_send) depth 30, (search sendable depth 20, (search (sendable, at_send) depth 30, tt)))
+take_at_send : (T : RattleType) → IsSend T → IsSend (take_at.the_row T)
+take_at_send T s = variants_send (take_at.enum T) (search sendable depth 30, (search sendable depth 30, (search sendable depth 30, (search sendable depth 30, (search sendable depth 30, (search sendable depth 30, (search sendable depth 30, (search sendable depth 30, tt))))))))
+
+-- an operation with these states
+abbrev op_in : RattleType → RattleType → RattleType
+op_in T A = op.the_row T (line.the_row T) (operation.the_row T) A
+
+in_send : (T A : RattleType) → IsSend T → IsSend A → IsSend (op_in T A)
+in_send T A s a = declared_send (op.the_type T (line.the_row T) (operation.the_row T) A) (search (sendable, seat_send) depth 30, (search sendable depth 20, (as_row_send (row_field A) a, tt)))
+
+pub op_send : (T : RattleType) → IsSend T → IsSend (any.the_row (op_in T (put_at.the_row T)) (op_in T (take_at.the_row T)) (op_in T close_at.the_row) (op_in T shut_at.the_row) (op_in T look_at.the_row))
+op_send T s = variants_send (any.enum (op_in T (put_at.the_row T)) (op_in T (take_at.the_row T)) (op_in T close_at.the_row) (op_in T shut_at.the_row) (op_in T look_at.the_row)) (
+  (in_send T (put_at.the_row T) s (put_at_send T s), tt),
+  (
+    (in_send T (take_at.the_row T) s (take_at_send T s), tt),
+    (
+      (in_send T close_at.the_row s (search sendable depth 30), tt),
+      ((in_send T shut_at.the_row s (search sendable depth 30), tt), ((in_send T look_at.the_row s (search sendable depth 30), tt), tt)),
+    ),
+  ),
+)

@@ -40,7 +40,7 @@ use Rattle.ms_queue.specs.declared.seeking.Seek.{Seek}
 use Rattle.ms_queue.specs.declared.seeking.End.{End}
 use Rattle.ms_queue.specs.declared.seeking.End.TheVariants.{Closed as AtMark, Open as AtNull}
 use Rattle.ms_queue.specs.Giving.{AreHeld, Gives, GaveTo}
-use Rattle.ms_queue.specs.Putting.{put_account, linking, refused, put_of, put_value, put_line, put_slots, full_slot, HasReadToPut}
+use Rattle.ms_queue.specs.Putting.{put_account, linking, refused, put_of, put_line, put_slots, full_slot, HasReadToPut}
 use Rattle.ms_queue.specs.Queue.{room_of, limit_of, machine_of, shape_of}
 use Rattle.ms_queue.specs.Seeking.{Seeks, SoughtTo}
 use Rattle.ms_queue.proofs.Gives.{busy_giving, gave_within}

@@ -7,22 +7,18 @@ use Rattle.running.specs.Code.{Account, to_answer}
 use Rattle.running.specs.Ops.{IsUnderWay}
 use Rattle.running.specs.Steps.{Stands}
 use Rattle.queue_table.specs.declared.operation.Operation.{Operation}
-use Rattle.bounded_model.specs.declared.answers.Stepped.{Stepped}
-use Rattle.bounded_model.specs.declared.answers.Stepped.TheVariants.{Again, Done}
-use Rattle.bounded_model.specs.Laws.{CloseGives}
 use Rattle.queue_machine.specs.declared.lines.Seeking.TheVariants.{ToClose}
 use Rattle.queue_machine.specs.declared.lines.Answer.TheVariants.{Close as AnswerClose}
 use Rattle.queue_machine.specs.declared.lines.Line.{Line}
 use Rattle.queue_machine.specs.declared.lines.Line.TheVariants.{MarkNext}
 use Rattle.queue_machine.specs.Machine.{ends}
 use Rattle.queue_table.specs.declared.operation.Operation.TheVariants.{Close as CloseFirst}
-use Rattle.running.specs.Passes.{pass_in}
 use Rattle.running.specs.declared.passes.Pass.{Pass}
 use Rattle.running.specs.declared.op.Op.{Op}
 use Rattle.ms_queue.specs.declared.closing.CloseAt.{CloseAt}
 use Rattle.ms_queue.specs.declared.closing.CloseAt.TheVariants.{Seeking, Mark}
 use Rattle.ms_queue.specs.declared.queue.Queue.{Queue}
-use Rattle.ms_queue.specs.Queue.{machine_of, room_of, limit_of, shape_of, begun_of, IsPassOf, IsAt, OneLine, WentOn}
+use Rattle.ms_queue.specs.Queue.{machine_of}
 use Rattle.ms_queue.specs.Seeking.{seek_line, IsRead}
 
 -- what was read names a node, and the tag has room to rise

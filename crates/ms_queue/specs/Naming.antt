@@ -1,5 +1,6 @@
 -- The names of a queue's steps, from its machine's table.
 use Rattle.std.specs.Prelude.{ℕ}
+use Rattle.bounded_model.specs.declared.commands.Operation.TheVariants.{Put, Take, Close, Shut, Look}
 use Rattle.bounded_model.specs.declared.history.Event.{Event}
 use Rattle.queue_machine.specs.declared.lines.Line.{Line}
 use Rattle.queue_machine.specs.declared.lines.Place.{Place}
@@ -11,6 +12,12 @@ use Rattle.step_names.specs.declared.location.Location.{Location}
 use Rattle.step_names.specs.declared.location.Location.TheVariants as location
 use Rattle.step_names.specs.declared.step_name.StepName.{StepName}
 use Rattle.step_names.specs.Names.{IsNamed, Naming}
+use Rattle.ms_queue.specs.Closing.{close_line}
+use Rattle.ms_queue.specs.Looking.{look_line}
+use Rattle.ms_queue.specs.Putting.{put_line}
+use Rattle.ms_queue.specs.Shutting.{shut_line}
+use Rattle.ms_queue.specs.Stepwise.{AnyOp}
+use Rattle.ms_queue.specs.Taking.{take_line}
 
 abbrev pub word_at : Place → Location
 word_at Cells = location.Cells
@@ -31,3 +38,11 @@ module _ {T : Type 0} where
   -- the next step of an operation at this line has this name, whatever the limit of the tags
   abbrev pub IsNextStep : Line T → StepName → Type 0
   IsNextStep line name = (limit : ℕ) → IsNamed (naming limit) line name
+
+  -- the next step of an operation has this name
+  abbrev pub IsStep : AnyOp T → StepName → Type 0
+  IsStep (Put op) name = IsNextStep (put_line op.at) name
+  IsStep (Take op) name = IsNextStep (take_line op.at) name
+  IsStep (Close op) name = IsNextStep (close_line op.at) name
+  IsStep (Shut op) name = IsNextStep (shut_line op.at) name
+  IsStep (Look op) name = IsNextStep (look_line op.at) name

@@ -5,8 +5,6 @@ use Rattle.tagged_index.specs.declared.word.TheConstants.{NULL}
 use Rattle.tagged_index.specs.Limits.{capacity_of, tag_limit_of}
 use Rattle.tagged_index.specs.declared.limit.Limits.{Limits}
 use Rattle.running.specs.Code.{Account, to_answer}
-use Rattle.bounded_model.specs.declared.answers.Stepped.{Stepped}
-use Rattle.bounded_model.specs.declared.answers.Stepped.TheVariants.{Again, Done}
 use Rattle.bounded_model.specs.declared.answers.PutRefused.{PutRefused}
 use Rattle.bounded_model.specs.declared.answers.PutRefused.TheVariants.{Full, Closed, Spent}
 use Rattle.bounded_model.specs.Laws.{PutGives}
@@ -23,7 +21,6 @@ use Rattle.queue_table.specs.declared.operation.Operation.TheVariants.{Put as Pu
 use Rattle.queue_table.specs.Lines.{call_of}
 use Rattle.running.specs.Steps.{Stands, Ran}
 use Rattle.running.specs.declared.code.Next.{Next}
-use Rattle.running.specs.Passes.{pass_in}
 use Rattle.running.specs.declared.passes.Pass.{Pass}
 use Rattle.ms_queue.specs.declared.queue.Queue.{Queue}
 use Rattle.ms_queue.specs.declared.giving.Held.{Held}
@@ -33,7 +30,7 @@ use Rattle.bounded_model.specs.declared.views.PassView.{PassView}
 use Rattle.queue_machine.specs.Answers.{shape}
 use Rattle.ms_queue.specs.declared.putting.PutAt.{PutAt}
 use Rattle.ms_queue.specs.declared.putting.PutAt.TheVariants.{LoadCells as AtCells, LoadCellLink as AtCellLink, TakeCell as AtTakeCell, Refusing, LoadNodes as AtNodes, LoadNodeLink as AtNodeLink, TakeNode as AtTakeNode, StoreCell as AtStoreCell, LoadNext as AtNext, PrepareNext as AtPrepare, Seeking, LinkNext as AtLink, SwingTail, GiveBack}
-use Rattle.ms_queue.specs.Queue.{room_of, limit_of, machine_of, shape_of, begun_of, IsPassOf, IsAt, OneLine, WentOn}
+use Rattle.ms_queue.specs.Queue.{machine_of}
 use Rattle.ms_queue.specs.Giving.{give_line, held_slot, AreHeld}
 use Rattle.ms_queue.specs.Seeking.{seek_line, IsRead}
 

@@ -1,27 +1,22 @@
 -- Shuts made by steps.
 use Rattle.std.specs.Prelude.{Bool, []}
 use Rattle.tagged_index.specs.Fields.{fields_of}
-use Rattle.tagged_index.specs.Limits.{capacity_of, tag_limit_of}
 use Rattle.tagged_index.specs.declared.limit.Limits.{Limits}
 use Rattle.running.specs.Code.{Account, to_answer}
 use Rattle.running.specs.Ops.{IsUnderWay}
 use Rattle.running.specs.Steps.{Stands}
 use Rattle.queue_table.specs.declared.operation.Operation.{Operation}
-use Rattle.bounded_model.specs.declared.answers.Stepped.{Stepped}
-use Rattle.bounded_model.specs.declared.answers.Stepped.TheVariants.{Again, Done}
-use Rattle.bounded_model.specs.Laws.{ShutGives}
 use Rattle.queue_machine.specs.declared.lines.Answer.TheVariants.{Shut as AnswerShut}
 use Rattle.queue_machine.specs.declared.lines.Line.{Line}
 use Rattle.queue_machine.specs.declared.lines.Line.TheVariants.{LoadHeadToShut, ShutHead}
 use Rattle.queue_machine.specs.Machine.{ends}
 use Rattle.queue_table.specs.declared.operation.Operation.TheVariants.{Shut as ShutFirst}
-use Rattle.running.specs.Passes.{pass_in}
 use Rattle.running.specs.declared.passes.Pass.{Pass}
 use Rattle.running.specs.declared.op.Op.{Op}
 use Rattle.ms_queue.specs.declared.shutting.ShutAt.{ShutAt}
 use Rattle.ms_queue.specs.declared.shutting.ShutAt.TheVariants.{LoadHead, Mark}
 use Rattle.ms_queue.specs.declared.queue.Queue.{Queue}
-use Rattle.ms_queue.specs.Queue.{machine_of, shape_of, begun_of, IsPassOf, IsAt, OneLine, WentOn}
+use Rattle.ms_queue.specs.Queue.{machine_of}
 
 abbrev pub ShutOp : Type 0 → Type 0
 ShutOp T = Op T (Line T) (Operation T) ShutAt

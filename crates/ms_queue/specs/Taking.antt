@@ -5,10 +5,7 @@ use Rattle.tagged_index.specs.declared.word.TheConstants.{NULL}
 use Rattle.tagged_index.specs.Limits.{capacity_of, tag_limit_of}
 use Rattle.tagged_index.specs.declared.limit.Limits.{Limits}
 use Rattle.running.specs.Code.{Account, to_answer}
-use Rattle.bounded_model.specs.declared.answers.Stepped.{Stepped}
-use Rattle.bounded_model.specs.declared.answers.Stepped.TheVariants.{Again, Done}
 use Rattle.bounded_model.specs.declared.answers.TakeRefused.{TakeRefused}
-use Rattle.bounded_model.specs.Laws.{TakeGives}
 use Rattle.queue_machine.specs.declared.lines.Answer.{Answer}
 use Rattle.queue_machine.specs.declared.lines.Answer.TheVariants.{Take as AnswerTake}
 use Rattle.queue_machine.specs.declared.lines.Line.{Line}
@@ -16,7 +13,6 @@ use Rattle.queue_machine.specs.declared.lines.Line.TheVariants.{LoadHead, LoadTa
 use Rattle.queue_machine.specs.Machine.{ends}
 use Rattle.queue_table.specs.declared.operation.Operation.{Operation}
 use Rattle.queue_table.specs.declared.operation.Operation.TheVariants.{Take as TakeFirst}
-use Rattle.running.specs.Passes.{pass_in}
 use Rattle.running.specs.Ops.{IsUnderWay}
 use Rattle.running.specs.Steps.{Stands, Ran}
 use Rattle.running.specs.declared.code.Next.{Next}
@@ -26,7 +22,7 @@ use Rattle.ms_queue.specs.declared.taking.Taken.{Taken}
 use Rattle.running.specs.declared.op.Op.{Op}
 use Rattle.ms_queue.specs.declared.taking.TakeAt.{TakeAt}
 use Rattle.ms_queue.specs.declared.taking.TakeAt.TheVariants.{LoadHead as LoadHeadFirst, LoadTail, LoadNext, CheckHead as CheckHeadAgain, SwingTail, LoadCell as LoadFirstCell, TakeHead as TakeFirstNode, GiveBack}
-use Rattle.ms_queue.specs.Queue.{room_of, limit_of, machine_of, shape_of, begun_of, IsPassOf, IsAt, OneLine, WentOn}
+use Rattle.ms_queue.specs.Queue.{machine_of}
 use Rattle.ms_queue.specs.Giving.{give_line, held_slot, AreHeld}
 
 abbrev pub TakeOp : Type 0 → Type 0

@@ -46,5 +46,6 @@ pub use queue::{Note, Pass, Queue, Root};
 pub use rest::Rest;
 pub use rule::Queued;
 pub use shutting::ShutOp;
+pub use stepwise::AnyOp;
 pub use taking::TakeOp;
 pub use trying::PutMade;

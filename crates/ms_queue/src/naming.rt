@@ -4,20 +4,22 @@ ghost use Rattle.queue_machine.specs.declared.lines.Seeking.{Seeking};
 ghost use Rattle.ms_queue.specs.Closing.{close_line};
 ghost use Rattle.ms_queue.specs.Giving.{give_line};
 ghost use Rattle.ms_queue.specs.Looking.{look_line};
-ghost use Rattle.ms_queue.specs.Naming.{IsNextStep};
+ghost use Rattle.ms_queue.specs.Naming.{IsNextStep, IsStep};
 ghost use Rattle.ms_queue.specs.Putting.{put_line};
 ghost use Rattle.ms_queue.specs.Seeking.{seek_line};
 ghost use Rattle.ms_queue.specs.Shutting.{shut_line};
 ghost use Rattle.ms_queue.specs.Taking.{take_line};
 
-use crate::closing::{CloseAt, CloseOp};
+use crate::closing::CloseAt;
 use crate::giving::{Give, Held};
-use crate::looking::{LookAt, LookOp};
-use crate::putting::{PutAt, PutOp};
+use crate::looking::LookAt;
+use crate::putting::PutAt;
 use crate::queue::Queue;
 use crate::seeking::Seek;
-use crate::shutting::{ShutAt, ShutOp};
-use crate::taking::{TakeAt, TakeOp};
+use crate::shutting::ShutAt;
+use crate::stepwise::AnyOp;
+use crate::taking::TakeAt;
+use bounded_model::Operation;
 use step_names::{Location, Named, StepName};
 
 // Of the way to the end of the chain.
@@ -120,33 +122,15 @@ fn look_name<T>(at: &LookAt) -> StepName
 }
 
 impl<T: Drop + Send> Named<T> for Queue<T> {
-    ghost is_put_step = { λ op name. IsNextStep (put_line op.at) name };
+    ghost is_step = { IsStep };
 
-    ghost is_take_step = { λ op name. IsNextStep (take_line op.at) name };
-
-    ghost is_close_step = { λ op name. IsNextStep {T = T} (close_line op.at) name };
-
-    ghost is_shut_step = { λ op name. IsNextStep {T = T} (shut_line op.at) name };
-
-    ghost is_look_step = { λ op name. IsNextStep {T = T} (look_line op.at) name };
-
-    fn put_step(op: &PutOp<T>) -> StepName {
-        put_name::<T>(&op.at)
-    }
-
-    fn take_step(op: &TakeOp<T>) -> StepName {
-        take_name::<T>(&op.at)
-    }
-
-    fn close_step(op: &CloseOp<T>) -> StepName {
-        close_name::<T>(&op.at)
-    }
-
-    fn shut_step(op: &ShutOp<T>) -> StepName {
-        shut_name::<T>(&op.at)
-    }
-
-    fn look_step(op: &LookOp<T>) -> StepName {
-        look_name::<T>(&op.at)
+    fn step_name(op: &AnyOp<T>) -> StepName {
+        match op {
+            Operation::Put(op) => put_name::<T>(&op.at),
+            Operation::Take(op) => take_name::<T>(&op.at),
+            Operation::Close(op) => close_name::<T>(&op.at),
+            Operation::Shut(op) => shut_name::<T>(&op.at),
+            Operation::Look(op) => look_name::<T>(&op.at),
+        }
     }
 }

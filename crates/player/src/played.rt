@@ -14,8 +14,7 @@ use std::alloc::{AllocError, Global};
 use std::sync::Wait;
 use step_names::StepName;
 
-/// A container of values, by the calls that a script's lines name. Its operations have one type. A
-/// container has one for each kind of call.
+/// A container of values, by the calls that a script's lines name.
 pub trait Played<'a>: Drop {
     type Root: Drop;
 

@@ -2,14 +2,13 @@
 ghost use Rattle.std.specs.Prelude.{◌≡◌, ◌+◌, ◌-◌, ◌≤◌, ℕ};
 ghost use Rattle.bounded_model.specs.Laws.{Leaves, NoneOut};
 ghost use Rattle.ring_machine.specs.Machine.{resting};
-ghost use Rattle.ring_queue.specs.Closing.{IsClosing};
+ghost use Rattle.ring_queue.specs.Closing.{IsClosing, IsShutting};
 ghost use Rattle.ring_queue.specs.Counting.{IsCounting};
 ghost use Rattle.ring_queue.specs.Leaving.{left_in};
 ghost use Rattle.ring_queue.specs.Looking.{IsLooking};
 ghost use Rattle.ring_queue.specs.Putting.{IsPutting};
 ghost use Rattle.ring_queue.specs.Ring.{IsPassOf, machine_of, pass_in, passes_of, shape_of};
 ghost use Rattle.ring_queue.specs.Roots.{IsRootOf, root_in};
-ghost use Rattle.ring_queue.specs.Shutting.{IsShutting};
 ghost use Rattle.ring_queue.specs.Taking.{IsTaking};
 ghost use Rattle.ring_queue.specs.Trying.{PutTried, TakeTried};
 ghost use Rattle.ring_queue.specs.declared.queue.Answered.{Answered as HasAnswered};

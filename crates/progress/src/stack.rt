@@ -7,6 +7,7 @@ ghost use Rattle.treiber_stack.specs.Closing.{IsClosing, IsShutting};
 ghost use Rattle.treiber_stack.specs.FoldOp.{IsFolding};
 ghost use Rattle.treiber_stack.specs.Folding.{fold_operation};
 ghost use Rattle.treiber_stack.specs.Left.{left_in};
+ghost use Rattle.treiber_stack.specs.Looking.{IsLooking};
 ghost use Rattle.treiber_stack.specs.Putting.{IsPutting};
 ghost use Rattle.treiber_stack.specs.RangeTrying.{IsRanging};
 ghost use Rattle.treiber_stack.specs.Stack.{IsPassOf, IsRootOf, pass_in, root_in, shape_of};
@@ -16,7 +17,9 @@ ghost use Rattle.progress.specs.Stacks.{StepsAreBounded, EndsOrOvertaken, IsPaid
 
 use bounded_model::{PutRefused, Stepped, TakeRefused};
 use runs::step_for;
-use treiber_stack::{CloseOp, FoldOp, Pass, PutOp, RangeOp, Rest, Root, ShutOp, Stack, TakeOp};
+use treiber_stack::{
+    CloseOp, FoldOp, LookOp, Pass, PutOp, RangeOp, Rest, Root, ShutOp, Stack, TakeOp,
+};
 
 /// The steps of a put or a take of one value, a close, a shut or a look that is still under way are
 /// at most this number, and 4 more for each compare-and-swap by which another pass has succeeded.
@@ -93,6 +96,15 @@ pub fn close_is_bounded<T>(stack: &Stack<T>, op: &CloseOp<T>)
 pub fn shut_is_bounded<T>(stack: &Stack<T>, op: &ShutOp<T>)
     requires { IsShutting stack.now op.now }
     ensures { StepsAreBounded stack.now Shut op.now.pass }
+{
+    let _ = stack;
+    let _ = op;
+}
+
+/// The same for a look.
+pub fn look_is_bounded<T>(stack: &Stack<T>, op: &LookOp<T>)
+    requires { IsLooking stack.now op.now }
+    ensures { StepsAreBounded stack.now op.now.operation op.now.pass }
 {
     let _ = stack;
     let _ = op;

@@ -1,73 +1,107 @@
--- Where a close and a shut go on.
-use Rattle.std.proofs.Common.{◌≡◌, ℕ, Bool, true, false, cond, List, [], refl, ap, ◌∙◌}
+-- Where a close or a shut goes on.
+use Rattle.std.proofs.Common.{◌≡◌, ℕ, ◌*◌, Bool, true, false, cond, List, [], refl, sym, ap, ◌∙◌, subst}
 use Rattle.std.specs.Prelude.{Option as Slot}
-use Rattle.tagged_index.specs.Fields.{fields_of, mark_of, second_of}
-use Rattle.ring_machine.specs.declared.lines.Answer.TheVariants.{Close as AnswerClose, Shut as AnswerShut}
-use Rattle.ring_machine.specs.declared.lines.Back.TheVariants.{ToClose}
-use Rattle.ring_machine.specs.declared.lines.Front.TheVariants.{ToShut}
-use Rattle.ring_machine.specs.declared.lines.Line.TheVariants.{MarkBack, ShutFront}
-use Rattle.ring_machine.specs.Machine.{ends}
+use Rattle.ring_machine.specs.declared.lines.Line.{Line}
+use Rattle.ring_machine.specs.Machine.{ends, is_idle}
 use Rattle.running.specs.Code.{Came, Leads}
+use Rattle.running.specs.Passes.{begun_of}
+use Rattle.running.specs.Steps.{Stops}
+use Rattle.running.specs.declared.passes.Pass.{Pass as Runs}
 use Rattle.running.specs.declared.access.Outcome.{Outcome}
 use Rattle.running.specs.declared.code.Next.{Next}
-use Rattle.running.specs.declared.code.Next.TheVariants.{On, Done}
+use Rattle.running.specs.declared.code.Next.TheVariants.{On, Lost, Done}
 use Rattle.ring_table.specs.Seats.{names}
 use Rattle.ring_table.specs.declared.line.SeatLine.{SeatLine}
 use Rattle.ring_table.specs.declared.line.SeatLine.TheVariants.{At}
-use Rattle.ring_queue.specs.declared.closing.CloseAt.{CloseAt}
-use Rattle.ring_queue.specs.declared.closing.CloseAt.TheVariants as Close
+use Rattle.ring_table.specs.declared.operation.Operation.{Operation}
+use Rattle.ring_queue.specs.declared.closing.Mark.{Mark}
+use Rattle.ring_queue.specs.declared.closing.Mark.TheVariants.{Closed, Shut}
+use Rattle.ring_queue.specs.declared.closing.MarkAt.{MarkAt}
+use Rattle.ring_queue.specs.declared.closing.MarkAt.TheVariants.{Walking, Setting}
 use Rattle.ring_queue.specs.declared.queue.Answered.{Answered}
+use Rattle.ring_queue.specs.declared.queue.Pass.{Pass}
 use Rattle.ring_queue.specs.declared.queue.RingQueue.{RingQueue}
-use Rattle.ring_queue.specs.declared.shutting.ShutAt.{ShutAt}
-use Rattle.ring_queue.specs.declared.shutting.ShutAt.TheVariants as Shut
 use Rattle.ring_queue.specs.declared.walking.Found.{Found}
 use Rattle.ring_queue.specs.declared.walking.WalkAt.{WalkAt}
-use Rattle.ring_queue.specs.Closing.{close_account, close_line}
-use Rattle.ring_queue.specs.Shutting.{shut_account, shut_line}
-use Rattle.ring_queue.specs.Ring.{room_of, laps_of, machine_of}
-use Rattle.ring_queue.specs.Walking.{to_back, to_front, walk_line, line_of, IsEnd, WalkedTo}
+use Rattle.ring_queue.specs.declared.walking.WalkAt.TheVariants.{LoadSlot}
+use Rattle.ring_queue.specs.Closing.{HasReadToMark, aim_of, answer_of, is_set, mark_account, mark_line, mark_of_step, operation_of}
+use Rattle.ring_queue.specs.Ring.{IsPassOf, room_of, laps_of, machine_of}
+use Rattle.ring_queue.specs.Walking.{end_line, full_of, walk_line, IsEnd, IsRead, WalkedTo}
+use Rattle.ring_queue.proofs.Passes.{Back, back}
 use Rattle.ring_queue.proofs.Walks.{busy, LeadsTo, walk_goes, walk_ends}
 
-module _ {T : Type 0} (c : RingQueue T) {s : CloseAt} {at : WalkAt} (is : s ≡ Close.Walking at) (r : Outcome) (has : List (ℕ × Slot T)) (came : Came (machine_of c).core (At (close_line s)) r [] has) where
-  abbrev pub Closing : Next CloseAt (Answered Bool) → Type 0
-  Closing next = LeadsTo c (close_account c.table.shared.key) s r has has next
+module _ {T : Type 0} where
+  -- the line at the end of the walk, by whether the mark is set there
+  abbrev by_test : Mark → Found → Bool → Line T
+  by_test mark end b = cond b (ends end.walk.spare.index (answer_of (operation_of mark) false)) (mark_line (Setting mark end))
 
-  close_walks : At (close_line {T = T} s) ≡ At (walk_line (to_back ToClose) at)
-  close_walks = ap (λ (u : CloseAt). At (close_line u)) is
+  at_end : (n limit : ℕ) (mark : Mark) (end : Found) → end_line n limit (aim_of mark) end ≡ by_test mark end (is_set mark end.slot)
+  at_end n limit Closed end = refl
+  at_end n limit Shut end = refl
 
-  pub close_goes : (to : WalkAt) → WalkedTo c (to_back ToClose) at r [] has (On to) → Closing (On (Close.Walking to))
-  close_goes to walked = walk_goes c (close_account c.table.shared.key) s (to_back ToClose) at close_walks r has has came to walked (Close.Walking to)
-      (λ l e. record { same = refl; is = e.0; busy = busy {T = T} (to_back ToClose) to; hand = e.1; knows = e.2 })
+setting_busy : (T : Type 0) (mark : Mark) (end : Found) → is_idle (mark_line {T = T} (Setting mark end)) ≡ false
+setting_busy T Closed end = refl
+setting_busy T Shut end = refl
 
-  module _ (end : Found) (walked : WalkedTo c (to_back ToClose) at r [] has (Done end)) where
-    close_ends : (b : Bool) → mark_of end.slot ≡ b → (next : Next CloseAt (Answered Bool)) → ((l : SeatLine T) → l ≡ At (cond b (ends end.walk.spare.index (AnswerClose false)) (MarkBack (line_of end.walk) (fields_of end.slot))) → has ≡ [] → IsEnd (room_of c) (laps_of c) 0 end → Leads names (close_account c.table.shared.key) s l has next) → Closing next
-    close_ends b e next follows = walk_ends c (close_account c.table.shared.key) s (to_back ToClose) at close_walks r has has came end walked next
-        (λ l to. follows l (to.0 ∙ ap (λ (b : Bool). At (cond b (ends end.walk.spare.index (AnswerClose false)) (MarkBack (line_of end.walk) (fields_of end.slot)))) e) to.1 to.2)
+module _ {T : Type 0} (c : RingQueue T) {s : MarkAt} {mark : Mark} {at : WalkAt} (is : s ≡ Walking mark at) (r : Outcome) (has : List (ℕ × Slot T)) (came : Came (machine_of c).core (At (mark_line s)) r [] has) where
+  abbrev pub Marking : Next MarkAt (Answered Bool) → Type 0
+  Marking next = LeadsTo c (mark_account c.table.shared.key) s r has has next
 
-    pub close_false : mark_of end.slot ≡ true → Closing (Done (record { spare = end.walk.spare; answer = false }))
-    close_false e = close_ends true e (Done (record { spare = end.walk.spare; answer = false })) (λ l to hand known. record { is = to; hand = hand })
+  walks : At (mark_line {T = T} s) ≡ At (walk_line (aim_of mark) at)
+  walks = ap (λ (u : MarkAt). At (mark_line u)) is
 
-    pub close_marks : mark_of end.slot ≡ false → Closing (On (Close.Mark end))
-    close_marks e = close_ends false e (On (Close.Mark end)) (λ l to hand known. record { same = refl; is = to; busy = refl; hand = hand; knows = known })
+  named : operation_of {T = T} (mark_of_step s) ≡ operation_of mark
+  named = ap (λ (u : MarkAt). operation_of (mark_of_step u)) is
 
-module _ {T : Type 0} (c : RingQueue T) {s : ShutAt} {at : WalkAt} (is : s ≡ Shut.Walking at) (r : Outcome) (has : List (ℕ × Slot T)) (came : Came (machine_of c).core (At (shut_line s)) r [] has) where
-  abbrev pub Shutting : Next ShutAt (Answered Bool) → Type 0
-  Shutting next = LeadsTo c (shut_account c.table.shared.key) s r has has next
+  pub mark_goes : (to : WalkAt) → WalkedTo c (aim_of mark) at r [] has (On to) → Marking (On (Walking mark to))
+  mark_goes to walked = walk_goes c (mark_account c.table.shared.key) s (aim_of mark) at walks r has has came to walked (Walking mark to)
+      (λ l e. record { same = sym named; is = e.0; busy = busy {T = T} (aim_of mark) to; hand = e.1; knows = e.2 })
 
-  shut_walks : At (shut_line {T = T} s) ≡ At (walk_line (to_front ToShut) at)
-  shut_walks = ap (λ (u : ShutAt). At (shut_line u)) is
+  module _ (end : Found) (walked : WalkedTo c (aim_of mark) at r [] has (Done end)) where
+    mark_ends : (b : Bool) → is_set mark end.slot ≡ b → (next : Next MarkAt (Answered Bool)) → ((l : SeatLine T) → l ≡ At (by_test mark end b) → has ≡ [] → IsEnd (room_of c) (laps_of c) (full_of (aim_of {T = T} mark)) end → Leads names (mark_account c.table.shared.key) s l has next) → Marking next
+    mark_ends b e next follows = walk_ends c (mark_account c.table.shared.key) s (aim_of mark) at walks r has has came end walked next
+        (λ l to. follows l (to.0 ∙ ap At (at_end (room_of c) (2 * laps_of c) mark end ∙ ap (by_test mark end) e)) to.1 to.2)
 
-  pub shut_goes : (to : WalkAt) → WalkedTo c (to_front ToShut) at r [] has (On to) → Shutting (On (Shut.Walking to))
-  shut_goes to walked = walk_goes c (shut_account c.table.shared.key) s (to_front ToShut) at shut_walks r has has came to walked (Shut.Walking to)
-      (λ l e. record { same = refl; is = e.0; busy = busy {T = T} (to_front ToShut) to; hand = e.1; knows = e.2 })
+    pub mark_refused : is_set mark end.slot ≡ true → Marking (Done (record { spare = end.walk.spare; answer = false }))
+    mark_refused e = mark_ends true e (Done (record { spare = end.walk.spare; answer = false }))
+        (λ l to hand known. record { is = to ∙ ap (λ (o : Operation T). At (ends end.walk.spare.index (answer_of o false))) (sym named); hand = hand })
 
-  module _ (end : Found) (walked : WalkedTo c (to_front ToShut) at r [] has (Done end)) where
-    shut_ends : (b : Bool) → second_of end.slot ≡ b → (next : Next ShutAt (Answered Bool)) → ((l : SeatLine T) → l ≡ At (cond b (ends end.walk.spare.index (AnswerShut false)) (ShutFront (line_of end.walk) (fields_of end.slot))) → has ≡ [] → IsEnd (room_of c) (laps_of c) 1 end → Leads names (shut_account c.table.shared.key) s l has next) → Shutting next
-    shut_ends b e next follows = walk_ends c (shut_account c.table.shared.key) s (to_front ToShut) at shut_walks r has has came end walked next
-        (λ l to. follows l (to.0 ∙ ap (λ (b : Bool). At (cond b (ends end.walk.spare.index (AnswerShut false)) (ShutFront (line_of end.walk) (fields_of end.slot)))) e) to.1 to.2)
+    pub mark_meets : is_set mark end.slot ≡ false → Marking (On (Setting mark end))
+    mark_meets e = mark_ends false e (On (Setting mark end)) (λ l to hand known. record { same = sym named; is = to; busy = setting_busy T mark end; hand = hand; knows = (known.slot, known.short, known.room) })
 
-    pub shut_false : second_of end.slot ≡ true → Shutting (Done (record { spare = end.walk.spare; answer = false }))
-    shut_false e = shut_ends true e (Done (record { spare = end.walk.spare; answer = false })) (λ l to hand known. record { is = to; hand = hand })
+-- Where the compare-and-swap leads it that was to set the mark
+module _ {T : Type 0} (c : RingQueue T) (end : Found) (r : Outcome) (has : List (ℕ × Slot T)) where
+  abbrev SetTo : Mark → Next MarkAt (Answered Bool) → Type 0
+  SetTo mark next = LeadsTo c (mark_account c.table.shared.key) (Setting mark end) r has has next
 
-    pub shut_marks : second_of end.slot ≡ false → Shutting (On (Shut.Mark end))
-    shut_marks e = shut_ends false e (On (Shut.Mark end)) (λ l to hand known. record { same = refl; is = to; busy = refl; hand = hand; knows = known })
+  abbrev by_win : Mark → Bool → SeatLine T
+  by_win mark b = cond b (At (ends end.walk.spare.index (answer_of (operation_of mark) true))) (At (walk_line (aim_of mark) (LoadSlot end.walk)))
+
+  mark_lost : (mark : Mark) → IsRead (room_of c) (LoadSlot end.walk) → r.won ≡ false → SetTo mark (Lost (Walking mark (LoadSlot end.walk)))
+  mark_lost Closed known e = λ found came f. record { same = refl; is = ap (by_win Closed) (f.0 ∙ e); busy = refl; hand = (f.2 e).0; knows = known }
+  mark_lost Shut known e = λ found came f. record { same = refl; is = ap (by_win Shut) (f.0 ∙ e); busy = refl; hand = (f.2 e).0; knows = known }
+
+  mark_set : (mark : Mark) → r.won ≡ true → SetTo mark (Done (record { spare = end.walk.spare; answer = true }))
+  mark_set Closed e = λ found came f. record { is = ap (by_win Closed) (f.0 ∙ e); hand = (f.1 e).0 }
+  mark_set Shut e = λ found came f. record { is = ap (by_win Shut) (f.0 ∙ e); hand = (f.1 e).0 }
+
+  -- of what was at this state
+  module _ {s : MarkAt} {mark : Mark} (is : s ≡ Setting mark end) where
+    abbrev SetFrom : Next MarkAt (Answered Bool) → Type 0
+    SetFrom next = LeadsTo c (mark_account c.table.shared.key) s r has has next
+
+    from : (next : Next MarkAt (Answered Bool)) → SetTo mark next → SetFrom next
+    from next leads = subst (λ (u : MarkAt). LeadsTo c (mark_account c.table.shared.key) u r has has next) (sym is) leads
+
+    pub mark_loses : HasReadToMark (room_of c) s → r.won ≡ false → SetFrom (Lost (Walking mark (LoadSlot end.walk)))
+    mark_loses known e = from (Lost (Walking mark (LoadSlot end.walk))) (mark_lost mark (subst (HasReadToMark (room_of c)) is known) e)
+
+    pub mark_wins : r.won ≡ true → SetFrom (Done (record { spare = end.walk.spare; answer = true }))
+    mark_wins e = from (Done (record { spare = end.walk.spare; answer = true })) (mark_set mark e)
+
+-- its pass is back from a whole call
+pub mark_back : {T : Type 0} (c : RingQueue T) (mark : Mark) (o : Operation T) → o ≡ operation_of mark → (from : Pass T) → IsPassOf c from → (q : Runs T (SeatLine T)) (a : Answered Bool)
+    → Stops (machine_of c) (mark_account c.table.shared.key) c.table.shared.table_id o (begun_of (machine_of c) from.pass) q a → Back c (operation_of mark) from (record { pass = q; spare = a.spare }) (answer_of (operation_of mark) a.answer)
+mark_back {T} c mark o is from of q a stops =
+    let named = subst (λ (o : Operation T). Stops (machine_of c) (mark_account c.table.shared.key) c.table.shared.table_id o (begun_of (machine_of c) from.pass) q a) is stops in
+    back c from q a.spare (answer_of (operation_of mark) a.answer) of named

@@ -1,9 +1,55 @@
--- What is left may cross threads, where the values may.
+-- What is left, and a call that is under way, may cross threads, if the values may.
 use denote.RattleType.{RattleType}
 use denote.Param.Send.{IsSend, sendable}
+use denote.Param.SendFields.{as_row_send, declared_send, variants_send}
+use denote.Struct.Field.{row_field}
 use Rattle.std.proofs.Crossing.{send as heap_send}
+use Rattle.atomic_table.proofs.shared.Seat.TheSendSync.{the_send as seat_send}
+use Rattle.bounded_model.specs.contracts.commands.Operation as call
 use Rattle.running.proofs.Crossing.{row_send, lease_send}
+use Rattle.running.specs.contracts.op.Op as op
+use Rattle.ring_table.specs.contracts.line.SeatLine as line
+use Rattle.ring_table.specs.contracts.operation.Operation as operation
+use Rattle.ring_queue.specs.contracts.closing.MarkAt as mark
+use Rattle.ring_queue.specs.contracts.looking.LookAt as look
+use Rattle.ring_queue.specs.contracts.putting.PutAt as put
 use Rattle.ring_queue.specs.contracts.rest.Rest as rest
+use Rattle.ring_queue.specs.contracts.taking.TakeAt as take
 
 pub rest_send : (T : RattleType) → IsSend T → IsSend (rest.the_row T)
 rest_send T s = search (sendable, row_send, lease_send, heap_send) depth 20
+
+-- state by state, since they are too many for one search
+put_at_send : (T : RattleType) → IsSend T → IsSend (put.the_row T)
+put_at_send T s = variants_send (put.enum T) (search sendable depth 30, (search sendable depth 30, (search sendable depth 30, (search sendable depth 30, (search sendable depth 30, tt)))))
+
+take_at_send : (T : RattleType) → IsSend T → IsSend (take.the_row T)
+take_at_send T s = variants_send (take.enum T) (search sendable depth 30, (search sendable depth 30, (search sendable depth 30, (search sendable depth 30, tt))))
+
+mark_at_send : IsSend mark.the_row
+mark_at_send = search sendable depth 30
+
+look_at_send : IsSend look.the_row
+look_at_send = search sendable depth 30
+
+-- an operation may cross, if its values and its state may
+at_send : (T S : RattleType) → IsSend T → IsSend S → IsSend (op.the_row T (line.the_row T) (operation.the_row T) S)
+at_send T S s at = declared_send (op.the_type T (line.the_row T) (operation.the_row T) S) (search (sendable, seat_send) depth 30, (search sendable depth 20, (as_row_send (row_field S) at, tt)))
+
+abbrev of : RattleType → RattleType → RattleType
+of T S = op.the_row T (line.the_row T) (operation.the_row T) S
+
+pub op_send : (T : RattleType) → IsSend T → IsSend (call.the_row (of T (put.the_row T)) (of T (take.the_row T)) (of T mark.the_row) (of T mark.the_row) (of T look.the_row))
+op_send T s = variants_send (call.enum (of T (put.the_row T)) (of T (take.the_row T)) (of T mark.the_row) (of T mark.the_row) (of T look.the_row)) (
+  (at_send T (put.the_row T) s (put_at_send T s), tt),
+  (
+    (at_send T (take.the_row T) s (take_at_send T s), tt),
+    (
+      (at_send T mark.the_row s mark_at_send, tt),
+      (
+        (at_send T mark.the_row s mark_at_send, tt),
+        ((at_send T look.the_row s look_at_send, tt), tt),
+      ),
+    ),
+  ),
+)

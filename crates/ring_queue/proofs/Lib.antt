@@ -1,7 +1,7 @@
 pub mod Spares
 pub mod Front
 pub mod Crossing
-pub mod PutSteps
+pub mod Steps
 pub mod Leftover
 pub mod Walks
 pub mod Passes

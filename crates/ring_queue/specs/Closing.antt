@@ -1,12 +1,17 @@
--- Closes made by steps.
-use Rattle.std.specs.Prelude.{ℕ, Bool, []}
-use Rattle.tagged_index.specs.Fields.{fields_of}
+-- Closes and shuts made by steps: each sets a mark of a slot.
+use Rattle.std.specs.Prelude.{◌≡◌, ℕ, Bool, []}
+use Rattle.tagged_index.specs.Fields.{fields_of, mark_of, second_of}
 use Rattle.tagged_index.specs.Limits.{capacity_of}
 use Rattle.tagged_index.specs.declared.limit.Limits.{Limits}
-use Rattle.ring_machine.specs.declared.lines.Answer.TheVariants.{Close as AnswerClose}
+use Rattle.bounded_model.specs.Laws.{CloseGives, ShutGives}
+use Rattle.bounded_model.specs.Machine.{Shape}
+use Rattle.bounded_model.specs.declared.views.PassView.{PassView}
+use Rattle.ring_machine.specs.declared.lines.Answer.{Answer}
+use Rattle.ring_machine.specs.declared.lines.Answer.TheVariants.{Close as AnswerClose, Shut as AnswerShut}
 use Rattle.ring_machine.specs.declared.lines.Back.TheVariants.{ToClose}
+use Rattle.ring_machine.specs.declared.lines.Front.TheVariants.{ToShut}
 use Rattle.ring_machine.specs.declared.lines.Line.{Line}
-use Rattle.ring_machine.specs.declared.lines.Line.TheVariants.{MarkBack}
+use Rattle.ring_machine.specs.declared.lines.Line.TheVariants.{MarkBack, ShutFront}
 use Rattle.ring_machine.specs.Machine.{ends}
 use Rattle.running.specs.Code.{Account, to_answer}
 use Rattle.running.specs.Ops.{IsUnderWay}
@@ -14,32 +19,74 @@ use Rattle.running.specs.declared.op.Op.{Op}
 use Rattle.ring_table.specs.declared.line.SeatLine.{SeatLine}
 use Rattle.ring_table.specs.declared.line.SeatLine.TheVariants.{At}
 use Rattle.ring_table.specs.declared.operation.Operation.{Operation}
-use Rattle.ring_table.specs.declared.operation.Operation.TheVariants.{Close as CloseFirst}
+use Rattle.ring_table.specs.declared.operation.Operation.TheVariants.{Close as CloseFirst, Shut as ShutFirst}
 use Rattle.ring_queue.specs.declared.queue.Answered.{Answered}
 use Rattle.ring_queue.specs.declared.queue.RingQueue.{RingQueue}
-use Rattle.ring_queue.specs.declared.closing.CloseAt.{CloseAt}
-use Rattle.ring_queue.specs.declared.closing.CloseAt.TheVariants.{Walking, Mark}
-use Rattle.ring_queue.specs.Limits.{laps_at}
+use Rattle.ring_queue.specs.declared.closing.Mark.{Mark}
+use Rattle.ring_queue.specs.declared.closing.Mark.TheVariants.{Closed, Shut}
+use Rattle.ring_queue.specs.declared.closing.MarkAt.{MarkAt}
+use Rattle.ring_queue.specs.declared.closing.MarkAt.TheVariants.{Walking, Setting}
+use Rattle.ring_queue.specs.declared.walking.WalkAt.TheVariants.{LoadSlot}
 use Rattle.ring_queue.specs.Ring.{machine_of}
-use Rattle.ring_queue.specs.Walking.{to_back, walk_line, line_of, IsRead, IsEnd}
+use Rattle.ring_queue.specs.Walking.{Aim, to_back, to_front, walk_line, line_of, IsRead}
 
 abbrev pub CloseOp : Type 0 → Type 0
-CloseOp T = Op T (SeatLine T) (Operation T) CloseAt
+CloseOp T = Op T (SeatLine T) (Operation T) MarkAt
+
+abbrev pub ShutOp : Type 0 → Type 0
+ShutOp T = CloseOp T
+
+-- is the mark set in this word
+abbrev pub is_set : Mark → ℕ → Bool
+is_set Closed w = mark_of w
+is_set Shut w = second_of w
+
+abbrev pub mark_of_step : MarkAt → Mark
+mark_of_step (Walking mark at) = mark
+mark_of_step (Setting mark end) = mark
 
 -- what was read is of a slot
-abbrev pub HasReadToClose : ℕ → ℕ → CloseAt → Type 0
-HasReadToClose n laps (Walking at) = IsRead n at
-HasReadToClose n laps (Mark end) = IsEnd n laps 0 end
+abbrev pub HasReadToMark : ℕ → MarkAt → Type 0
+HasReadToMark n (Walking mark at) = IsRead n at
+HasReadToMark n (Setting mark end) = IsRead n (LoadSlot end.walk)
 
 module _ {T : Type 0} where
+  abbrev pub operation_of : Mark → Operation T
+  operation_of Closed = CloseFirst
+  operation_of Shut = ShutFirst
+
+  -- where its walk goes, and why
+  abbrev pub aim_of : Mark → Aim T
+  aim_of Closed = to_back ToClose
+  aim_of Shut = to_front ToShut
+
+  -- what a shut answers, or else a close
+  abbrev pub answer_of : Operation T → Bool → Answer T
+  answer_of ShutFirst done = AnswerShut done
+  answer_of o done = AnswerClose done
+
+  -- and gives
+  abbrev pub MarkGives : Operation T → Shape → PassView T → PassView T → Bool → Type 0
+  MarkGives ShutFirst c v w done = ShutGives c v w done
+  MarkGives o c v w done = CloseGives c v w done
+
   -- the machine's line
-  abbrev pub close_line : CloseAt → Line T
-  close_line (Walking at) = walk_line (to_back ToClose) at
-  close_line (Mark end) = MarkBack (line_of end.walk) (fields_of end.slot)
+  abbrev pub mark_line : MarkAt → Line T
+  mark_line (Walking mark at) = walk_line (aim_of mark) at
+  mark_line (Setting Closed end) = MarkBack (line_of end.walk) (fields_of end.slot)
+  mark_line (Setting Shut end) = ShutFront (line_of end.walk) (fields_of end.slot)
 
   -- how it is read
-  abbrev pub close_account : Limits → Account T (SeatLine T) (Operation T) CloseAt (Answered Bool)
-  close_account k = to_answer (λ s. CloseFirst) (λ s. At (close_line s)) (λ s. []) (λ s. HasReadToClose (capacity_of k) (laps_at k) s) (λ o a. At (ends a.spare.index (AnswerClose a.answer)))
+  abbrev pub mark_account : Limits → Account T (SeatLine T) (Operation T) MarkAt (Answered Bool)
+  mark_account k = to_answer (λ s. operation_of (mark_of_step s)) (λ s. At (mark_line s)) (λ s. []) (λ s. HasReadToMark (capacity_of k) s) (λ o a. At (ends a.spare.index (answer_of o a.answer)))
+
+  -- it is the operation of this mark, under way
+  pub record IsMarking (c : RingQueue T) (mark : Mark) (op : CloseOp T) : Type 0 where
+    pub of : op.operation ≡ operation_of mark
+    pub under_way : IsUnderWay (machine_of c) (mark_account c.table.shared.key) c.table.shared.table_id op
 
   abbrev pub IsClosing : RingQueue T → CloseOp T → Type 0
-  IsClosing c op = IsUnderWay (machine_of c) (close_account c.table.shared.key) c.table.shared.table_id op
+  IsClosing c op = IsMarking c Closed op
+
+  abbrev pub IsShutting : RingQueue T → ShutOp T → Type 0
+  IsShutting c op = IsMarking c Shut op

@@ -5,12 +5,11 @@ pub mod Left
 pub mod Leaving
 pub mod Walking
 pub mod Ran
-pub mod Stepwise
 pub mod Putting
 pub mod Taking
 pub mod Closing
-pub mod Shutting
 pub mod Looking
+pub mod Stepwise
 pub mod Counting
 pub mod Gauging
 pub mod KeepsAnswers

@@ -1,6 +1,9 @@
 -- An operation of a ring that is made step by step.
 use Rattle.std.specs.Prelude.{◌≡◌, ℕ, ◌+◌, ◌≤◌}
+use Rattle.bounded_model.specs.Calls.{IsMaking, making_in}
 use Rattle.bounded_model.specs.declared.answers.Stepped.{Stepped}
+use Rattle.bounded_model.specs.declared.commands.Command.{Command}
+use Rattle.bounded_model.specs.declared.commands.Operation as calls
 use Rattle.bounded_model.specs.declared.views.PassView.{PassView}
 use Rattle.bounded_model.specs.Stepping.{Underway, GoesOn, MatchStepped, OneStep}
 use Rattle.machine.specs.declared.seats.View.{View}
@@ -19,7 +22,15 @@ use Rattle.ring_table.specs.declared.operation.Operation.{Operation}
 use Rattle.ring_queue.specs.declared.queue.Answered.{Answered}
 use Rattle.ring_queue.specs.declared.queue.Pass.{Pass}
 use Rattle.ring_queue.specs.declared.queue.RingQueue.{RingQueue}
+use Rattle.ring_queue.specs.Closing.{CloseOp, IsClosing, IsShutting, ShutOp}
+use Rattle.ring_queue.specs.Looking.{IsLooking, LookOp}
+use Rattle.ring_queue.specs.Putting.{IsPutting, PutOp}
 use Rattle.ring_queue.specs.Ring.{IsPassOf, machine_of, pass_in}
+use Rattle.ring_queue.specs.Taking.{IsTaking, TakeOp}
+
+-- an operation of a ring, whichever call it makes
+abbrev pub AnyOp : Type 0 → Type 0
+AnyOp T = calls.Operation (PutOp T) (TakeOp T) (CloseOp T) (ShutOp T) (LookOp T)
 
 module _ {T : Type 0} where
   -- the pass as it was when its operation was begun
@@ -30,6 +41,14 @@ module _ {T : Type 0} where
   -- its pass as it was then, and as it is now
   abbrev pub underway_in : Runs T (SeatLine T) → Underway T
   underway_in p = record { begun = begun_at p.seat.me.0; now = passes.pass_in p }
+
+  -- an operation that makes this call
+  abbrev pub IsMakingCall : RingQueue T → Command T → AnyOp T → Type 0
+  IsMakingCall c = IsMaking (IsPutting c) (IsTaking c) (IsClosing c) (IsShutting c) (IsLooking c)
+
+  -- its pass as it was begun, and as it is now
+  abbrev pub making : AnyOp T → Underway T
+  making = making_in (λ op. underway_in op.pass) (λ op. underway_in op.pass) (λ op. underway_in op.pass) (λ op. underway_in op.pass) (λ op. underway_in op.pass)
 
 -- What a step gives. Either the same operation is still under way, or the pass is back and has given what it promises. The step was that
 -- of its line

@@ -1,20 +1,18 @@
 //! The names of the next steps of operations under way.
 ghost use Rattle.std.specs.Prelude.{◌≡◌, ℕ};
-ghost use Rattle.ring_queue.specs.Closing.{close_line};
-ghost use Rattle.ring_queue.specs.Naming.{IsNextStep, hint_at};
+ghost use Rattle.ring_queue.specs.Closing.{mark_line};
+ghost use Rattle.ring_queue.specs.Naming.{IsNextStep, IsStep, hint_at};
 ghost use Rattle.ring_queue.specs.Putting.{put_line};
-ghost use Rattle.ring_queue.specs.Shutting.{shut_line};
 ghost use Rattle.ring_queue.specs.Taking.{take_line};
-ghost use Rattle.ring_queue.specs.Walking.{Aim, to_front, walk_line};
-ghost use Rattle.ring_machine.specs.declared.lines.Front.TheVariants.{ToLook};
+ghost use Rattle.ring_queue.specs.Walking.{Aim, walk_line};
 
-use crate::closing::{CloseAt, CloseOp};
-use crate::looking::LookOp;
-use crate::putting::{PutAt, PutOp};
+use crate::closing::{Mark, MarkAt};
+use crate::putting::PutAt;
 use crate::queue::RingQueue;
-use crate::shutting::{ShutAt, ShutOp};
-use crate::taking::{TakeAt, TakeOp};
+use crate::stepwise::AnyOp;
+use crate::taking::TakeAt;
 use crate::walking::WalkAt;
+use bounded_model::Operation;
 use step_names::{Location, Named, StepName};
 
 // The next step of a walk from this hint.
@@ -59,26 +57,16 @@ fn take_name<T>(at: &TakeAt<T>) -> StepName
     }
 }
 
-// The next step of a close.
-fn close_name<T>(at: &CloseAt) -> StepName
-    ensures { IsNextStep {T = T} (close_line at.now) result }
+// The next step of a close or a shut.
+fn mark_name<T>(at: &MarkAt) -> StepName
+    ensures { IsNextStep {T = T} (mark_line at.now) result }
 {
     match at {
-        CloseAt::Walking(at) => walk_step::<T>(Location::Tail, at),
-        CloseAt::Mark(end) => {
-            let slot = Location::Slot(end.walk.at.index());
-            StepName::CompareAndSwap(slot, slot)
-        }
-    }
-}
-
-// The next step of a shut.
-fn shut_name<T>(at: &ShutAt) -> StepName
-    ensures { IsNextStep {T = T} (shut_line at.now) result }
-{
-    match at {
-        ShutAt::Walking(at) => walk_step::<T>(Location::Head, at),
-        ShutAt::Mark(end) => {
+        MarkAt::Walking(mark, at) => match mark {
+            Mark::Closed => walk_step::<T>(Location::Tail, at),
+            Mark::Shut => walk_step::<T>(Location::Head, at),
+        },
+        MarkAt::Setting(_, end) => {
             let slot = Location::Slot(end.walk.at.index());
             StepName::CompareAndSwap(slot, slot)
         }
@@ -86,33 +74,15 @@ fn shut_name<T>(at: &ShutAt) -> StepName
 }
 
 impl<T: Drop + Send> Named<T> for RingQueue<T> {
-    ghost is_put_step = { λ op name. IsNextStep (put_line op.at) name };
+    ghost is_step = { IsStep };
 
-    ghost is_take_step = { λ op name. (n : ℕ) → IsNextStep (take_line n op.at) name };
-
-    ghost is_close_step = { λ op name. IsNextStep {T = T} (close_line op.at) name };
-
-    ghost is_shut_step = { λ op name. IsNextStep {T = T} (shut_line op.at) name };
-
-    ghost is_look_step = { λ op name. IsNextStep {T = T} (walk_line (to_front ToLook) op.at.at) name };
-
-    fn put_step(op: &PutOp<T>) -> StepName {
-        put_name::<T>(&op.at)
-    }
-
-    fn take_step(op: &TakeOp<T>) -> StepName {
-        take_name::<T>(&op.at)
-    }
-
-    fn close_step(op: &CloseOp<T>) -> StepName {
-        close_name::<T>(&op.at)
-    }
-
-    fn shut_step(op: &ShutOp<T>) -> StepName {
-        shut_name::<T>(&op.at)
-    }
-
-    fn look_step(op: &LookOp<T>) -> StepName {
-        walk_step::<T>(Location::Head, &op.at.at)
+    fn step_name(op: &AnyOp<T>) -> StepName {
+        match op {
+            Operation::Put(op) => put_name::<T>(&op.at),
+            Operation::Take(op) => take_name::<T>(&op.at),
+            Operation::Close(op) => mark_name::<T>(&op.at),
+            Operation::Shut(op) => mark_name::<T>(&op.at),
+            Operation::Look(op) => walk_step::<T>(Location::Head, &op.at.at),
+        }
     }
 }

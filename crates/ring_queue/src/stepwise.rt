@@ -1,102 +1,62 @@
 //! A ring's calls by single steps, as every such container has them.
-ghost use Rattle.ring_queue.specs.Closing.{IsClosing};
-ghost use Rattle.ring_queue.specs.Looking.{IsLooking};
-ghost use Rattle.ring_queue.specs.Putting.{IsPutting};
-ghost use Rattle.ring_queue.specs.Shutting.{IsShutting};
-ghost use Rattle.ring_queue.specs.Stepwise.{underway_in};
-ghost use Rattle.ring_queue.specs.Taking.{IsTaking};
+ghost use Rattle.std.specs.Prelude.{◌≡◌};
+ghost use Rattle.bounded_model.specs.Stepping.{no_step};
+ghost use Rattle.ring_queue.specs.Ring.{IsPassOf, pass_in};
+ghost use Rattle.ring_queue.specs.Stepwise.{IsMakingCall, making};
 
-use crate::closing::CloseOp;
+use crate::closing::{CloseOp, ShutOp};
 use crate::looking::LookOp;
 use crate::putting::PutOp;
 use crate::queue::{Pass, RingQueue};
-use crate::shutting::ShutOp;
 use crate::taking::TakeOp;
-use bounded_model::{PutRefused, Stepped, Stepwise, TakeRefused};
+use bounded_model::{Command, Operation, Reply, Stepped, Stepwise, of_kind};
 use std::sync::Wait;
 
+/// A call of a ring that was begun.
+pub type AnyOp<T> = Operation<PutOp<T>, TakeOp<T>, CloseOp<T>, ShutOp<T>, LookOp<T>>;
+
 impl<T: Drop + Send> Stepwise<T> for RingQueue<T> {
-    type PutOp = PutOp<T>;
+    type Op = AnyOp<T>;
 
-    type TakeOp = TakeOp<T>;
+    ghost is_making = { IsMakingCall };
 
-    type CloseOp = CloseOp<T>;
-
-    type ShutOp = ShutOp<T>;
-
-    type LookOp = LookOp<T>;
-
-    ghost is_putting = { IsPutting };
-
-    ghost is_taking = { IsTaking };
-
-    ghost is_closing = { IsClosing };
-
-    ghost is_shutting = { IsShutting };
-
-    ghost is_looking = { IsLooking };
-
-    ghost putting = { λ op. underway_in op.pass };
-
-    ghost taking = { λ op. underway_in op.pass };
-
-    ghost closing = { λ op. underway_in op.pass };
-
-    ghost shutting = { λ op. underway_in op.pass };
-
-    ghost looking = { λ op. underway_in op.pass };
+    ghost making = { making };
 
     #[inline]
-    fn begin_put(&self, by: Pass<T>, value: T) -> PutOp<T> {
-        self.begin_put(by, value)
+    fn begin(&self, by: Pass<T>, command: Command<T>) -> AnyOp<T>
+        requires { IsPassOf self.now by }
+        ensures call { IsMakingCall self.now command result }
+        ensures begun { making result ≡ no_step (pass_in by) }
+    {
+        match command {
+            Command::Put(value) => Operation::Put(self.begin_put(by, value)),
+            Command::Take => Operation::Take(self.begin_take(by)),
+            Command::Close => Operation::Close(self.begin_close(by)),
+            Command::Shut => Operation::Shut(self.begin_shut(by)),
+            Command::Look => Operation::Look(self.begin_look(by)),
+        }
     }
 
     #[inline]
-    fn begin_take(&self, by: Pass<T>) -> TakeOp<T> {
-        self.begin_take(by)
+    fn step(&self, op: AnyOp<T>) -> Stepped<AnyOp<T>, Pass<T>, Reply<T>> {
+        match op {
+            Operation::Put(op) => of_kind!(Put, self.step_op(op)),
+            Operation::Take(op) => of_kind!(Take, self.step_op(op)),
+            Operation::Close(op) => of_kind!(Close, self.step_op(op)),
+            Operation::Shut(op) => of_kind!(Shut, self.step_op(op)),
+            Operation::Look(op) => of_kind!(Look, self.step_op(op)),
+        }
     }
 
     #[inline]
-    fn begin_close(&self, by: Pass<T>) -> CloseOp<T> {
-        self.begin_close(by)
-    }
-
-    #[inline]
-    fn begin_shut(&self, by: Pass<T>) -> ShutOp<T> {
-        self.begin_shut(by)
-    }
-
-    #[inline]
-    fn begin_look(&self, by: Pass<T>) -> LookOp<T> {
-        self.begin_look(by)
-    }
-
-    #[inline]
-    fn step_put(&self, op: PutOp<T>) -> Stepped<PutOp<T>, Pass<T>, Result<u64, PutRefused<T>>> {
-        self.step_op(op)
-    }
-
-    #[inline]
-    fn step_take(
-        &self,
-        op: TakeOp<T>,
-    ) -> Stepped<TakeOp<T>, Pass<T>, Result<(T, u64), TakeRefused>> {
-        self.step_op(op)
-    }
-
-    #[inline]
-    fn step_close(&self, op: CloseOp<T>) -> Stepped<CloseOp<T>, Pass<T>, bool> {
-        self.step_op(op)
-    }
-
-    #[inline]
-    fn step_shut(&self, op: ShutOp<T>) -> Stepped<ShutOp<T>, Pass<T>, bool> {
-        self.step_op(op)
-    }
-
-    #[inline]
-    fn step_look(&self, op: LookOp<T>) -> Stepped<LookOp<T>, Pass<T>, bool> {
-        self.step_op(op)
+    fn run_for(&self, op: AnyOp<T>, steps: u64) -> Stepped<AnyOp<T>, Pass<T>, Reply<T>> {
+        match op {
+            Operation::Put(op) => of_kind!(Put, self.run_for(op, steps)),
+            Operation::Take(op) => of_kind!(Take, self.run_for(op, steps)),
+            Operation::Close(op) => of_kind!(Close, self.run_for(op, steps)),
+            Operation::Shut(op) => of_kind!(Shut, self.run_for(op, steps)),
+            Operation::Look(op) => of_kind!(Look, self.run_for(op, steps)),
+        }
     }
 
     fn look<R: Wait>(&self, rt: &R, by: Pass<T>) -> (Pass<T>, bool) {

@@ -3,8 +3,8 @@
 
 ghost use Rattle.ring_queue.specs.Roots.{IsRootOf};
 
-use crate::calls::{put_for, put_to_the_end, take_for, take_to_the_end};
-use bounded_model::{Container, Leaving, PutRefused, TakeRefused};
+use crate::calls::{call_for, call_to_the_end};
+use bounded_model::{Command, Container, Leaving, PutRefused, Reply, TakeRefused};
 use ring_queue::{RingLimits, RingQueue, Root};
 use std::process::Abort;
 
@@ -25,16 +25,16 @@ fn all_put<R: Abort>(
         return;
     }
     let pass = ring.split(root).expect(rt, "a pass");
-    let put = put_for(rt, ring, ring.begin_put(pass, passes), 1);
+    let put = call_for(rt, ring, pass, Command::Put(passes), 1);
     let number = passes - 1;
     all_put(rt, ring, root, number, capacity);
-    let (pass, answer) = put_to_the_end(rt, ring, put);
+    let (pass, said) = call_to_the_end(rt, ring, put);
     let wanted = if number < capacity {
         Ok(number)
     } else {
         Err(PutRefused::Full(passes))
     };
-    assert!(rt; answer == wanted);
+    assert!(rt; said == Reply::Put(wanted));
     ring.join(root, pass);
 }
 
@@ -54,16 +54,16 @@ fn all_take<R: Abort>(
         return;
     }
     let pass = ring.split(root).expect(rt, "a pass");
-    let take = take_for(rt, ring, ring.begin_take(pass), 2);
+    let take = call_for(rt, ring, pass, Command::Take, 2);
     let number = passes - 1;
     all_take(rt, ring, root, number, capacity);
-    let (pass, answer) = take_to_the_end(rt, ring, take);
+    let (pass, said) = call_to_the_end(rt, ring, take);
     let wanted = if number < capacity {
         Ok((passes, number))
     } else {
         Err(TakeRefused::Empty)
     };
-    assert!(rt; answer == wanted);
+    assert!(rt; said == Reply::Take(wanted));
     ring.join(root, pass);
 }
 

@@ -4,18 +4,14 @@ ghost use Rattle.ring_queue.specs.Ring.{IsPassOf};
 ghost use Rattle.ring_tests.specs.Doing.{IsDoing};
 
 use crate::plain::{Asked, Reply};
-use bounded_model::{Stepped, Stepwise};
-use ring_queue::{CloseOp, LenOp, LookOp, Pass, PutOp, RingQueue, ShutOp, TakeOp};
+use bounded_model::{Command, Stepped, Stepwise};
+use ring_queue::{AnyOp, LenOp, Pass, RingQueue};
 
 /// A pass between its calls, or its call under way.
 #[derive(Drop)]
 pub(crate) enum Doing {
     Rests(Pass<u64>),
-    Puts(PutOp<u64>),
-    Takes(TakeOp<u64>),
-    Closes(CloseOp<u64>),
-    Shuts(ShutOp<u64>),
-    Looks(LookOp<u64>),
+    Calls(AnyOp<u64>),
     Counts(LenOp<u64>),
 }
 
@@ -24,14 +20,15 @@ pub(crate) fn begun(ring: &RingQueue<u64>, pass: Pass<u64>, asked: Asked) -> Doi
     requires { IsPassOf ring.now pass }
     ensures { IsDoing ring.now result }
 {
-    match asked {
-        Asked::Put(value) => Doing::Puts(Stepwise::begin_put(ring, pass, value)),
-        Asked::Take => Doing::Takes(Stepwise::begin_take(ring, pass)),
-        Asked::Close => Doing::Closes(Stepwise::begin_close(ring, pass)),
-        Asked::Shut => Doing::Shuts(Stepwise::begin_shut(ring, pass)),
-        Asked::Look => Doing::Looks(Stepwise::begin_look(ring, pass)),
-        Asked::Count => Doing::Counts(ring.begin_len(pass)),
-    }
+    let command = match asked {
+        Asked::Put(value) => Command::Put(value),
+        Asked::Take => Command::Take,
+        Asked::Close => Command::Close,
+        Asked::Shut => Command::Shut,
+        Asked::Look => Command::Look,
+        Asked::Count => return Doing::Counts(ring.begin_len(pass)),
+    };
+    Doing::Calls(ring.begin(pass, command))
 }
 
 /// Makes one step of a call. If it ends the call, the answer comes too.
@@ -41,25 +38,9 @@ pub(crate) fn stepped(ring: &RingQueue<u64>, doing: Doing) -> (Doing, Option<Rep
 {
     match doing {
         Doing::Rests(pass) => (Doing::Rests(pass), None),
-        Doing::Puts(op) => match ring.step_put(op) {
-            Stepped::Again(next) => (Doing::Puts(next), None),
-            Stepped::Done(pass, answer) => (Doing::Rests(pass), Some(Reply::of_put(answer))),
-        },
-        Doing::Takes(op) => match ring.step_take(op) {
-            Stepped::Again(next) => (Doing::Takes(next), None),
-            Stepped::Done(pass, answer) => (Doing::Rests(pass), Some(Reply::of_take(answer))),
-        },
-        Doing::Closes(op) => match ring.step_close(op) {
-            Stepped::Again(next) => (Doing::Closes(next), None),
-            Stepped::Done(pass, closed) => (Doing::Rests(pass), Some(Reply::Closed(closed))),
-        },
-        Doing::Shuts(op) => match ring.step_shut(op) {
-            Stepped::Again(next) => (Doing::Shuts(next), None),
-            Stepped::Done(pass, shut) => (Doing::Rests(pass), Some(Reply::Shut(shut))),
-        },
-        Doing::Looks(op) => match ring.step_look(op) {
-            Stepped::Again(next) => (Doing::Looks(next), None),
-            Stepped::Done(pass, empty) => (Doing::Rests(pass), Some(Reply::Looked(empty))),
+        Doing::Calls(op) => match ring.step(op) {
+            Stepped::Again(next) => (Doing::Calls(next), None),
+            Stepped::Done(pass, said) => (Doing::Rests(pass), Some(Reply::of(said))),
         },
         Doing::Counts(op) => match ring.run_for(op, 1) {
             Stepped::Again(next) => (Doing::Counts(next), None),

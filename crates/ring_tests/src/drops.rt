@@ -4,9 +4,9 @@
 ghost use Rattle.ring_queue.specs.Ring.{IsPassOf};
 ghost use Rattle.ring_queue.specs.Roots.{IsRootOf};
 
-use crate::calls::{put_for, take_for};
+use crate::calls::call_for;
 use crate::stopped::{LAGS, steps_before, three_laps};
-use bounded_model::{Container, Leaving, PutRefused};
+use bounded_model::{Command, Container, Leaving, PutRefused};
 use ring_queue::{Pass, RingLimits, RingQueue, Root};
 use std::alloc::Global;
 use std::process::Abort;
@@ -103,8 +103,8 @@ fn dropped_put<R: Abort + Wait>(rt: &R, alloc: Global, capacity: u32, lag: u64, 
     let pass = ring.split(&mut root).expect(rt, "a pass");
     let other = ring.split(&mut root).expect(rt, "a pass");
     let other = go_through(rt, &ring, other, &value, lag);
-    let put = ring.begin_put(pass, clone_of(rt, &value));
-    drop(put_for(rt, &ring, put, made));
+    let put = Command::Put(clone_of(rt, &value));
+    drop(call_for(rt, &ring, pass, put, made));
     let owners = if made == 0 { 1 } else { 2 };
     assert_eq!(rt; Arc::strong_count(&value), owners);
     end(rt, ring, root, other, &value);
@@ -118,7 +118,7 @@ fn dropped_take<R: Abort + Wait>(rt: &R, alloc: Global, capacity: u32, lag: u64,
     let other = ring.split(&mut root).expect(rt, "a pass");
     let other = go_through(rt, &ring, other, &value, lag);
     let other = fill(rt, &ring, other, &value, 1);
-    drop(take_for(rt, &ring, ring.begin_take(pass), made));
+    drop(call_for(rt, &ring, pass, Command::Take, made));
     let owners = if made > steps_before(lag) { 1 } else { 2 };
     assert_eq!(rt; Arc::strong_count(&value), owners);
     end(rt, ring, root, other, &value);
@@ -149,8 +149,8 @@ fn dropped_refused_put<R: Abort + Wait>(rt: &R, alloc: Global, capacity: u32, ma
     let other = ring.split(&mut root).expect(rt, "a pass");
     let there = u64::from(capacity);
     let other = fill(rt, &ring, other, &value, there);
-    let put = ring.begin_put(pass, clone_of(rt, &value));
-    drop(put_for(rt, &ring, put, made));
+    let put = Command::Put(clone_of(rt, &value));
+    drop(call_for(rt, &ring, pass, put, made));
     let in_a_cell = made > 0 && made < there.saturating_add(2);
     let owners = there.saturating_add(if in_a_cell { 2 } else { 1 });
     assert_eq!(rt; Arc::strong_count(&value) as u64, owners);

@@ -1,21 +1,21 @@
 //! A look and a count stop at each of their lines, and continue after others went three laps round.
 //! Their answers are right for the ring as it is then.
 
-use crate::calls::{count_for, count_to_the_end, look_for, look_to_the_end};
+use crate::calls::{call_for, call_to_the_end, count_for, count_to_the_end};
 use crate::stopped::{LAGS, go_through, ring_after, steps_before, three_laps};
-use bounded_model::Container;
+use bounded_model::{Command, Container, Reply};
 use std::alloc::Global;
 use std::process::Abort;
 use std::sync::Wait;
 
 fn look_stops<R: Abort + Wait>(rt: &R, alloc: Global, capacity: u32, lag: u64, made: u64) {
     let (ring, pass, other) = ring_after(rt, alloc, capacity, lag);
-    let look = look_for(rt, &ring, ring.begin_look(pass), made);
+    let look = call_for(rt, &ring, pass, Command::Look, made);
     let other = go_through(rt, &ring, other, lag, three_laps(capacity));
     let (_, put) = ring.put(rt, other, 1_000);
     assert!(rt; put.is_ok());
-    let (_, is_empty) = look_to_the_end(rt, &ring, look);
-    assert!(rt; !is_empty);
+    let (_, said) = call_to_the_end(rt, &ring, look);
+    assert!(rt; said == Reply::Look(false));
 }
 
 // One that stops before its second look at the front begins again.

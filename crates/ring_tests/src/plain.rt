@@ -1,6 +1,6 @@
 //! A ring as a plain list: what a call answers if no other call overlaps it.
 
-use bounded_model::{PutRefused, TakeRefused, Word};
+use bounded_model::{PutRefused, Reply as Said, TakeRefused, Word};
 
 /// The largest capacity of a plain list.
 pub(crate) const ROOM: usize = 3;
@@ -46,8 +46,19 @@ pub(crate) enum Reply {
 }
 
 impl Reply {
-    /// What a put answered.
-    pub(crate) fn of_put(answer: Result<u64, PutRefused<u64>>) -> Reply {
+    /// What a call answered.
+    pub(crate) fn of(said: Said<u64>) -> Reply {
+        match said {
+            Said::Put(answer) => Reply::of_put(answer),
+            Said::Take(answer) => Reply::of_take(answer),
+            Said::Close(closed) => Reply::Closed(closed),
+            Said::Shut(shut) => Reply::Shut(shut),
+            Said::Look(is_empty) => Reply::Looked(is_empty),
+        }
+    }
+
+    // What a put answered.
+    fn of_put(answer: Result<u64, PutRefused<u64>>) -> Reply {
         match answer {
             Ok(number) => Reply::Put(number),
             Err(PutRefused::Full(value)) => Reply::Full(value),
@@ -56,8 +67,8 @@ impl Reply {
         }
     }
 
-    /// What a take answered.
-    pub(crate) fn of_take(answer: Result<(u64, u64), TakeRefused>) -> Reply {
+    // What a take answered.
+    fn of_take(answer: Result<(u64, u64), TakeRefused>) -> Reply {
         match answer {
             Ok((value, number)) => Reply::Taken(value, number),
             Err(TakeRefused::Empty) => Reply::Empty,

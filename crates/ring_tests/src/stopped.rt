@@ -2,12 +2,9 @@
 
 ghost use Rattle.ring_queue.specs.Ring.{IsPassOf};
 
-use crate::calls::{
-    close_for, close_to_the_end, put_for, put_to_the_end, shut_for, shut_to_the_end, take_for,
-    take_to_the_end,
-};
+use crate::calls::{call_for, call_to_the_end};
 use crate::rounds::{put_all, take_all};
-use bounded_model::{Container, PutRefused, TakeRefused};
+use bounded_model::{Command, Container, PutRefused, Reply, TakeRefused};
 use ring_queue::{Pass, RingLimits, RingQueue};
 use std::alloc::Global;
 use std::process::Abort;
@@ -47,8 +44,8 @@ pub(crate) fn ring_after<R: Abort + Wait>(
     if lag == LAGS {
         let putter = ring.split(&mut root).expect(rt, "a pass");
         let taker = ring.split(&mut root).expect(rt, "a pass");
-        drop(put_for(rt, &ring, ring.begin_put(putter, 7), 10));
-        drop(take_for(rt, &ring, ring.begin_take(taker), 10));
+        drop(call_for(rt, &ring, putter, Command::Put(7), 10));
+        drop(call_for(rt, &ring, taker, Command::Take, 10));
     }
     (ring, stopped, other)
 }
@@ -84,11 +81,11 @@ pub(crate) fn three_laps(capacity: u32) -> u64 {
 // last.
 fn put_stops<R: Abort + Wait>(rt: &R, alloc: Global, capacity: u32, lag: u64, made: u64) {
     let (ring, pass, other) = ring_after(rt, alloc, capacity, lag);
-    let put = put_for(rt, &ring, ring.begin_put(pass, 1_000), made);
+    let put = call_for(rt, &ring, pass, Command::Put(1_000), made);
     let other = go_through(rt, &ring, other, lag, three_laps(capacity));
     let number = lag.saturating_add(three_laps(capacity));
-    let (_, answer) = put_to_the_end(rt, &ring, put);
-    assert!(rt; answer == Ok(number));
+    let (_, said) = call_to_the_end(rt, &ring, put);
+    assert!(rt; said == Reply::Put(Ok(number)));
     let (_, taken) = ring.take(rt, other);
     assert!(rt; taken == Ok((1_000, number)));
 }
@@ -110,12 +107,12 @@ fn a_put_that_stops_before_its_exchange_is_the_last(rt: HostRuntime) {
 fn a_put_that_stops_behind_its_exchange_is_the_first(rt: HostRuntime) {
     for capacity in 1..=3 {
         let (ring, pass, other) = ring_after(&rt, rt.alloc(), capacity, 7);
-        let put = put_for(&rt, &ring, ring.begin_put(pass, 1_000), 10);
+        let put = call_for(&rt, &ring, pass, Command::Put(1_000), 10);
         let (other, taken) = ring.take(&rt, other);
         assert!(rt; taken == Ok((1_000, 7)));
         let other = go_through(&rt, &ring, other, 8, three_laps(capacity));
-        let (_, answer) = put_to_the_end(&rt, &ring, put);
-        assert!(rt; answer == Ok(7));
+        let (_, said) = call_to_the_end(&rt, &ring, put);
+        assert!(rt; said == Reply::Put(Ok(7)));
         let (_, taken) = ring.take(&rt, other);
         assert!(rt; taken == Err(TakeRefused::Empty));
     }
@@ -130,11 +127,11 @@ fn a_put_that_stops_behind_its_refusal_is_refused(rt: HostRuntime) {
             let full = lag.saturating_add(u64::from(capacity));
             let other = put_all(&rt, &ring, other, lag, full);
             let refused = (full % LAGS).saturating_add(2);
-            let put = put_for(&rt, &ring, ring.begin_put(pass, 1_000), refused);
+            let put = call_for(&rt, &ring, pass, Command::Put(1_000), refused);
             let other = take_all(&rt, &ring, other, lag, full);
             let _ = go_through(&rt, &ring, other, full, three_laps(capacity));
-            let (_, answer) = put_to_the_end(&rt, &ring, put);
-            assert!(rt; answer == Err(PutRefused::Full(1_000)));
+            let (_, said) = call_to_the_end(&rt, &ring, put);
+            assert!(rt; said == Reply::Put(Err(PutRefused::Full(1_000))));
         }
     }
 }
@@ -145,7 +142,7 @@ fn take_stops_before<R: Abort + Wait>(rt: &R, alloc: Global, capacity: u32, lag:
     let (ring, pass, other) = ring_after(rt, alloc, capacity, lag);
     let (other, put) = ring.put(rt, other, 1_000);
     assert!(rt; put == Ok(lag));
-    let take = take_for(rt, &ring, ring.begin_take(pass), made);
+    let take = call_for(rt, &ring, pass, Command::Take, made);
     let (other, taken) = ring.take(rt, other);
     assert!(rt; taken == Ok((1_000, lag)));
     let other = go_through(
@@ -158,8 +155,8 @@ fn take_stops_before<R: Abort + Wait>(rt: &R, alloc: Global, capacity: u32, lag:
     let last = lag.saturating_add(1).saturating_add(three_laps(capacity));
     let (_, put) = ring.put(rt, other, 2_000);
     assert!(rt; put == Ok(last));
-    let (_, answer) = take_to_the_end(rt, &ring, take);
-    assert!(rt; answer == Ok((2_000, last)));
+    let (_, said) = call_to_the_end(rt, &ring, take);
+    assert!(rt; said == Reply::Take(Ok((2_000, last))));
 }
 
 // A take stops after its exchange: the value is its own, and no other pass finds one.
@@ -167,7 +164,7 @@ fn take_stops_behind<R: Abort + Wait>(rt: &R, alloc: Global, capacity: u32, lag:
     let (ring, pass, other) = ring_after(rt, alloc, capacity, lag);
     let (other, put) = ring.put(rt, other, 1_000);
     assert!(rt; put == Ok(lag));
-    let take = take_for(rt, &ring, ring.begin_take(pass), made);
+    let take = call_for(rt, &ring, pass, Command::Take, made);
     let (other, taken) = ring.take(rt, other);
     assert!(rt; taken == Err(TakeRefused::Empty));
     let _ = go_through(
@@ -177,8 +174,8 @@ fn take_stops_behind<R: Abort + Wait>(rt: &R, alloc: Global, capacity: u32, lag:
         lag.saturating_add(1),
         three_laps(capacity),
     );
-    let (_, answer) = take_to_the_end(rt, &ring, take);
-    assert!(rt; answer == Ok((1_000, lag)));
+    let (_, said) = call_to_the_end(rt, &ring, take);
+    assert!(rt; said == Reply::Take(Ok((1_000, lag))));
 }
 
 #[test]
@@ -206,13 +203,13 @@ fn a_take_that_stops_behind_its_exchange_has_its_value(rt: HostRuntime) {
 // A close stops at each line, and closes the ring at the back that it has then.
 fn close_stops<R: Abort + Wait>(rt: &R, alloc: Global, capacity: u32, lag: u64, made: u64) {
     let (ring, pass, other) = ring_after(rt, alloc, capacity, lag);
-    let close = close_for(rt, &ring, ring.begin_close(pass), made);
+    let close = call_for(rt, &ring, pass, Command::Close, made);
     let other = go_through(rt, &ring, other, lag, three_laps(capacity));
     let number = lag.saturating_add(three_laps(capacity));
     let (other, put) = ring.put(rt, other, 1_000);
     assert!(rt; put == Ok(number));
-    let (_, closed) = close_to_the_end(rt, &ring, close);
-    assert!(rt; closed);
+    let (_, said) = call_to_the_end(rt, &ring, close);
+    assert!(rt; said == Reply::Close(true));
     let (other, put) = ring.put(rt, other, 2_000);
     assert!(rt; put == Err(PutRefused::Closed(2_000)));
     let (other, taken) = ring.take(rt, other);
@@ -224,10 +221,10 @@ fn close_stops<R: Abort + Wait>(rt: &R, alloc: Global, capacity: u32, lag: u64, 
 // The same for a shut.
 fn shut_stops<R: Abort + Wait>(rt: &R, alloc: Global, capacity: u32, lag: u64, made: u64) {
     let (ring, pass, other) = ring_after(rt, alloc, capacity, lag);
-    let shut = shut_for(rt, &ring, ring.begin_shut(pass), made);
+    let shut = call_for(rt, &ring, pass, Command::Shut, made);
     let other = go_through(rt, &ring, other, lag, three_laps(capacity));
-    let (_, is_shut) = shut_to_the_end(rt, &ring, shut);
-    assert!(rt; is_shut);
+    let (_, said) = call_to_the_end(rt, &ring, shut);
+    assert!(rt; said == Reply::Shut(true));
     let number = lag.saturating_add(three_laps(capacity));
     let (other, put) = ring.put(rt, other, 1_000);
     assert!(rt; put == Ok(number));

@@ -3,10 +3,10 @@
 
 ghost use Rattle.ring_queue.specs.Ring.{IsPassOf};
 
-use crate::calls::{put_for, put_to_the_end, take_for, take_to_the_end};
+use crate::calls::{call_for, call_to_the_end};
 use crate::rounds::{put_all, take_all};
 use crate::stopped::go_through;
-use bounded_model::{Container, TakeRefused};
+use bounded_model::{Command, Container, Reply, TakeRefused};
 use ring_queue::{Pass, RingLimits, RingQueue};
 use std::process::Abort;
 use std::sync::{Barrier, Wait};
@@ -27,11 +27,11 @@ fn put_between<R: Abort + Wait>(
 )
     requires { IsPassOf ring.now by }
 {
-    let put = put_for(rt, ring, ring.begin_put(by, 1_000), made);
+    let put = call_for(rt, ring, by, Command::Put(1_000), made);
     let _ = gate.wait(rt);
     let _ = gate.wait(rt);
-    let (_, answer) = put_to_the_end(rt, ring, put);
-    assert!(rt; answer == Ok(THROUGH.saturating_add(1)));
+    let (_, said) = call_to_the_end(rt, ring, put);
+    assert!(rt; said == Reply::Put(Ok(THROUGH.saturating_add(1))));
     let _ = gate.wait(rt);
 }
 
@@ -45,11 +45,11 @@ fn take_between<R: Abort + Wait>(
 )
     requires { IsPassOf ring.now by }
 {
-    let take = take_for(rt, ring, ring.begin_take(by), made);
+    let take = call_for(rt, ring, by, Command::Take, made);
     let _ = gate.wait(rt);
     let _ = gate.wait(rt);
-    let (_, answer) = take_to_the_end(rt, ring, take);
-    assert!(rt; answer == Ok((1_000, THROUGH.saturating_add(1))));
+    let (_, said) = call_to_the_end(rt, ring, take);
+    assert!(rt; said == Reply::Take(Ok((1_000, THROUGH.saturating_add(1)))));
     let _ = gate.wait(rt);
 }
 

@@ -1,7 +1,7 @@
 //! Every container whose calls are made by single steps, as the player sees it.
 
 use crate::ranges::Ranges;
-use bounded_model::{Command, Container, Operation, Reply, Stepped, TakeRefused};
+use bounded_model::{Command, Container, Reply, Stepped, Stepwise, TakeRefused};
 use player::Played;
 use script::{RangeReply, Value, ValueList, Values};
 use std::alloc::{AllocError, Global};
@@ -15,14 +15,11 @@ pub struct Scripted<C> {
 }
 
 impl<'a, C: Ranges<'a>> Played<'a> for Scripted<C> {
-    ghost use Rattle.bounded_model.specs.Calls.{IsMaking, making_in};
-    ghost use Rattle.script_replay.specs.Calls.{IsNextStep};
-
     type Root = <C as Container<Value<'a>>>::Root;
 
     type Pass = <C as Container<Value<'a>>>::Pass;
 
-    type Operation = Operation<C::PutOp, C::TakeOp, C::CloseOp, C::ShutOp, C::LookOp>;
+    type Operation = <C as Stepwise<Value<'a>>>::Op;
 
     type Note = <C as Container<Value<'a>>>::Note;
 
@@ -34,13 +31,11 @@ impl<'a, C: Ranges<'a>> Played<'a> for Scripted<C> {
       root = C.root;
       is_pass = C.is_pass s.container;
       pass = C.pass;
-      is_making = IsMaking (C.is_putting s.container) (C.is_taking s.container)
-          (C.is_closing s.container) (C.is_shutting s.container) (C.is_looking s.container);
-      made = making_in C.putting C.taking C.closing C.shutting C.looking;
+      is_making = C.is_making s.container;
+      made = C.making;
     } };
 
-    ghost is_step = { IsNextStep C.is_put_step C.is_take_step C.is_close_step C.is_shut_step
-        C.is_look_step };
+    ghost is_step = { C.is_step };
 
     fn split(&self, parent: &mut Self::Root) -> Option<Self::Pass> {
         self.container.split(parent)
@@ -77,51 +72,18 @@ impl<'a, C: Ranges<'a>> Played<'a> for Scripted<C> {
     }
 
     fn begin(&self, by: Self::Pass, command: Command<Value<'a>>) -> Self::Operation {
-        match command {
-            Command::Put(value) => Operation::Put(self.container.begin_put(by, value)),
-            Command::Take => Operation::Take(self.container.begin_take(by)),
-            Command::Close => Operation::Close(self.container.begin_close(by)),
-            Command::Shut => Operation::Shut(self.container.begin_shut(by)),
-            Command::Look => Operation::Look(self.container.begin_look(by)),
-        }
+        self.container.begin(by, command)
     }
 
     fn step(
         &self,
         operation: Self::Operation,
     ) -> Stepped<Self::Operation, Self::Pass, Reply<Value<'a>>> {
-        match operation {
-            Operation::Put(op) => match self.container.step_put(op) {
-                Stepped::Again(op) => Stepped::Again(Operation::Put(op)),
-                Stepped::Done(pass, answer) => Stepped::Done(pass, Reply::Put(answer)),
-            },
-            Operation::Take(op) => match self.container.step_take(op) {
-                Stepped::Again(op) => Stepped::Again(Operation::Take(op)),
-                Stepped::Done(pass, answer) => Stepped::Done(pass, Reply::Take(answer)),
-            },
-            Operation::Close(op) => match self.container.step_close(op) {
-                Stepped::Again(op) => Stepped::Again(Operation::Close(op)),
-                Stepped::Done(pass, closed) => Stepped::Done(pass, Reply::Close(closed)),
-            },
-            Operation::Shut(op) => match self.container.step_shut(op) {
-                Stepped::Again(op) => Stepped::Again(Operation::Shut(op)),
-                Stepped::Done(pass, shut) => Stepped::Done(pass, Reply::Shut(shut)),
-            },
-            Operation::Look(op) => match self.container.step_look(op) {
-                Stepped::Again(op) => Stepped::Again(Operation::Look(op)),
-                Stepped::Done(pass, is_empty) => Stepped::Done(pass, Reply::Look(is_empty)),
-            },
-        }
+        self.container.step(operation)
     }
 
     fn step_name(operation: &Self::Operation) -> StepName {
-        match operation {
-            Operation::Put(op) => C::put_step(op),
-            Operation::Take(op) => C::take_step(op),
-            Operation::Close(op) => C::close_step(op),
-            Operation::Shut(op) => C::shut_step(op),
-            Operation::Look(op) => C::look_step(op),
-        }
+        C::step_name(operation)
     }
 
     fn range<R: Wait>(

@@ -38,7 +38,7 @@ fn fold_in_parts<R: Abort + AllocGlobal>(
     let mut values = Vec::new(rt.alloc());
     let mut used_up: u64 = 0;
     for _ in 0..MOST_PARTS {
-        match fold.run_for(stack, 1) {
+        match stack.run_fold_for(fold, 1) {
             FoldMade::Again(next) => {
                 used_up = used_up.saturating_add(1);
                 fold = next;
@@ -90,7 +90,7 @@ fn a_fold_leaves_what_is_put_after_it_took_all(rt: HostRuntime) {
     let pass = stack.split(&mut root).expect(&rt, "a pass");
     let other = stack.split(&mut root).expect(&rt, "a pass");
     let pass = put_three(&rt, &stack, pass);
-    let FoldMade::Again(fold) = stack.begin_fold(pass).run_for(&stack, 2) else {
+    let FoldMade::Again(fold) = stack.run_fold_for(stack.begin_fold(pass), 2) else {
         panic!(rt; "it has come to a value")
     };
     let (other, put) = stack.put(&rt, other, 'd');

@@ -1,5 +1,5 @@
 -- What a fold gives, and where its first steps and its last lead.
-use Rattle.std.proofs.Common.{◌≡◌, ℕ, ◌+◌, ◌≤◌, Bool, false, List, [], ◌∷◌, ◌++◌, length, refl, sym, ap, ◌∙◌, subst, length-append, arith}
+use Rattle.std.proofs.Common.{◌≡◌, ℕ, ◌≤◌, Bool, false, List, [], ◌∷◌, ◌++◌, length, refl, sym, ap, ◌∙◌, subst, length-append, arith}
 use Rattle.std.specs.Prelude.{take, Option as Slot, Ok, Err}
 use Rattle.bounded_model.specs.declared.answers.TakeRefused.{TakeRefused}
 use Rattle.bounded_model.specs.declared.answers.TakeRefused.TheVariants.{Shut}
@@ -31,7 +31,6 @@ use Rattle.running.specs.declared.access.Outcome.{Outcome}
 use Rattle.running.specs.declared.code.Next.{Next}
 use Rattle.running.specs.declared.code.Next.TheVariants.{Done}
 use Rattle.treiber_stack.specs.declared.stack.Stack.{Stack}
-use Rattle.treiber_stack.specs.declared.fold_op.FoldOp.{FoldOp}
 use Rattle.treiber_stack.specs.declared.fold_op.FoldMade.TheVariants.{Value, Done as Done'}
 use Rattle.treiber_stack.specs.declared.folding.Batch.{Batch}
 use Rattle.treiber_stack.specs.declared.folding.FoldAt.{FoldAt}
@@ -41,7 +40,7 @@ use Rattle.treiber_stack.specs.declared.folding.FoldStop.TheVariants.{Yields, En
 use Rattle.treiber_stack.specs.declared.giving.Chain.{Chain}
 use Rattle.treiber_stack.specs.declared.giving.Give.{Give}
 use Rattle.treiber_stack.specs.Folding.{fold_account, nodes_of, folded_of, folding, front_of, gone, fold_line, fold_slots, HasReadToFold, FoldTold}
-use Rattle.treiber_stack.specs.FoldOp.{IsFolding, FoldTried}
+use Rattle.treiber_stack.specs.FoldOp.{FoldOp, IsFolding, FoldTried}
 use Rattle.treiber_stack.specs.Giving.{GaveTo}
 use Rattle.treiber_stack.specs.Ran.{FoldAnswers, WasRun}
 use Rattle.treiber_stack.specs.Refusing.{RefusesTake}
@@ -82,7 +81,7 @@ fold_busy (TakeAll front w) = refl
 fold_busy (LoadToTurn b above i) = refl
 fold_busy (TurnLink b above i below) = refl
 fold_busy (LoadToFold b walk) = refl
-fold_busy (GiveBack b chain at) = busy_giving (folding b (nodes_of b)) at
+fold_busy (GiveBack b chain n at) = busy_giving (folding b (nodes_of b)) at
 
 -- where the code of a fold goes on
 module _ {T : Type 0} (c : Stack T) where
@@ -97,9 +96,9 @@ module _ {T : Type 0} (c : Stack T) where
       (λ kept. record { is = subst (λ (x : ℕ). RefusesTake T (limit_of c) x why) read refuses (Whole (direction front)); hand = kept })
 
   -- by the give inside it
-  pub gave_fold : {s : FoldAt T} {b : Batch T} {chain : Chain} {at : Give} → s ≡ GiveBack b chain at → HasReadToFold (room_of c) (limit_of c) s → (r : Outcome) (has : List (ℕ × Slot T)) (to : Next Give (Unit {0})) → GaveTo c (folding b (nodes_of b)) at r has to → Folding s r has has (within (GiveBack b chain) (AllGone b) to)
-  gave_fold {s} {b} {chain} {at} is knows r has to gave = subst (λ (k : FoldAt T). Folding k r has has (within (GiveBack b chain) (AllGone b) to)) (sym is)
-      (gave_within c (fold_account c.table.shared.key) (folding b (nodes_of b)) (GiveBack b chain) (AllGone b) (GiveBack b chain at)
+  pub gave_fold : {s : FoldAt T} {b : Batch T} {chain : Chain} {n : ℕ} {at : Give} → s ≡ GiveBack b chain n at → HasReadToFold (room_of c) (limit_of c) s → (r : Outcome) (has : List (ℕ × Slot T)) (to : Next Give (Unit {0})) → GaveTo c (folding b (nodes_of b)) at r has to → Folding s r has has (within (GiveBack b chain n) (AllGone b n) to)
+  gave_fold {s} {b} {chain} {n} {at} is knows r has to gave = subst (λ (k : FoldAt T). Folding k r has has (within (GiveBack b chain n) (AllGone b n) to)) (sym is)
+      (gave_within c (fold_account c.table.shared.key) (folding b (nodes_of b)) (GiveBack b chain n) (AllGone b n) (GiveBack b chain n at)
       (λ at'. refl) (λ at'. refl) (λ at'. refl) (λ at'. subst (HasReadToFold (room_of c) (limit_of c)) is knows) refl at r has to gave)
 
 module _ {T : Type 0} (c : Stack T) where
@@ -109,27 +108,29 @@ module _ {T : Type 0} (c : Stack T) where
   -- what a fold gives that was at `op` and has stopped
   module _ (front : Front) (values : List T) (op : FoldOp T) (is : IsFolding c front values op) (q : Pass T (Line T)) (stop : FoldStop T) (stops : FoldStops front (begun_of c op.pass) q stop)
       (told : FoldTold (room_of c) (limit_of c) (front_of op.at) (gone op.at) stop) where
-    pub hands_on : (v : T) (at : FoldAt T) → stop ≡ Yields v at → FoldTried c front values (begun_of c op.pass) (Value v (record { pass = q; at = at; count = op.count + 1 }))
+    pub hands_on : (v : T) (at : FoldAt T) → stop ≡ Yields v at → FoldTried c front values (begun_of c op.pass) (Value v (record { pass = q; operation = op.operation; at = at }))
     hands_on v at e =
         let t = subst (FoldTold (room_of c) (limit_of c) (front_of op.at) (gone op.at)) e told in
         let from = t.1 ∙ is.from in
         let r = subst (λ (b : Bool). StopsAt (machine_of c) (fold_account c.table.shared.key) c.table.shared.table_id b (FoldFirst front) (begun_of c op.pass) q (Yields v at)) (fold_busy at) (subst (FoldStops front (begun_of c op.pass) q) e stops) in (
           record {
-            line = subst (λ (f : Front). IsAt c (FoldFirst f) q (fold_line at) (fold_slots at)) (sym from) r.0;
-            read = t.0;
+            under_way = record {
+              named = is.under_way.named ∙ ap FoldFirst (is.from ∙ sym from);
+              stands = record { at = subst (λ (f : Front). IsAt c (FoldFirst f) q (fold_line at) (fold_slots at)) (sym from) r.0; knows = t.0 };
+            };
             from = from;
             handed = t.2 ∙ ap (λ (vs : List T). vs ++ v ∷ []) is.handed;
-            counted = length-append values (v ∷ []) ∙ ap (λ (k : ℕ). k + 1) is.counted;
           },
           r.1,
         )
 
-    pub all_gone : (b : Batch T) → stop ≡ AllGone b → FoldTried c front values (begun_of c op.pass) (Done' q (Ok (record { number = b.number; count = op.count })))
-    all_gone b e =
+    pub all_gone : (b : Batch T) (n : ℕ) → stop ≡ AllGone b n → FoldTried c front values (begun_of c op.pass) (Done' q (Ok (record { number = b.number; count = n })))
+    all_gone b n e =
         let r = subst (FoldStops front (begun_of c op.pass) q) e stops in
         let made = r.1.deeds.made in
-        let order = sym is.handed ∙ subst (FoldTold (room_of c) (limit_of c) (front_of op.at) (gone op.at)) e told ∙ made.order in
-        (r.0, (made.values, fold_gives c front (folded_of b) b.number r.1, sym is.counted ∙ ap length order ∙ length_in_order (direction front) made.values, order))
+        let t = subst (FoldTold (room_of c) (limit_of c) (front_of op.at) (gone op.at)) e told in
+        let order = sym is.handed ∙ t.0 ∙ made.order in
+        (r.0, (made.values, fold_gives c front (folded_of b) b.number r.1, sym t.1 ∙ ap length is.handed ∙ ap length order ∙ length_in_order (direction front) made.values, order))
 
     pub none_taken : (why : TakeRefused) → stop ≡ Refused why → FoldTried c front values (begun_of c op.pass) (Done' q (Err why))
     none_taken why e =
@@ -137,11 +138,11 @@ module _ {T : Type 0} (c : Stack T) where
         (r.0, (takes_nothing c front why r.1, sym is.handed ∙ subst (FoldTold (room_of c) (limit_of c) (front_of op.at) (gone op.at)) e told))
 
     -- it was run, as one call
-    pub all_ran : (b : Batch T) → stop ≡ AllGone b → WasRun c (FoldFirst front) (begun_of c op.pass) q (AnswerFold (Ok (folded_of b, b.number)))
-    all_ran b e = (subst (FoldStops front (begun_of c op.pass) q) e stops).1.ran refl
+    pub all_ran : (b : Batch T) (n : ℕ) → stop ≡ AllGone b n → WasRun c (FoldFirst front) (begun_of c op.pass) q (AnswerFold (Ok (folded_of b, b.number)))
+    all_ran b n e = (subst (FoldStops front (begun_of c op.pass) q) e stops).1.ran refl
 
-    pub all_answered : (b : Batch T) → stop ≡ AllGone b → FoldAnswers front (Ok (record { number = b.number; count = op.count })) (begun_of c op.pass) (pass_in q)
-    all_answered b e =
+    pub all_answered : (b : Batch T) (n : ℕ) → stop ≡ AllGone b n → FoldAnswers front (Ok (record { number = b.number; count = n })) (begun_of c op.pass) (pass_in q)
+    all_answered b n e =
         let r = (subst (FoldStops front (begun_of c op.pass) q) e stops).1 in
         let made = r.deeds.made in
         (made.values, fold_gives c front (folded_of b) b.number r, subst (λ (vs : List T). Answers (begun_of c op.pass) (pass_in q) (FoldAnswered (Ok (vs, b.number)))) made.order r.answered)
@@ -158,8 +159,8 @@ module _ {T : Type 0} (c : Stack T) where
       let done = take walk.count (folded_of b) in
       let part : Batch T = record b { taken = record b.taken { value = record b.taken.value { me = (b.taken.value.me.0, full w.done done) } } } in
       let same : done ≡ folded_of part = sym (values_full false w.done done (w.counted ∙ sym w.as_many)) in
-      same ∙ sym (told (AllGone part) same)
-  same_gone at (GiveBack b chain give) is told = sym (told (AllGone b) refl)
+      same ∙ sym (told (AllGone part (length done)) (same, refl)).0
+  same_gone at (GiveBack b chain n give) is told = sym (told (AllGone b (length (folded_of b))) (refl, refl)).0
   same_gone at (Load front) is told = sym (told (Refused Shut) refl)
   same_gone at (TakeAll front w) is told = sym (told (Refused Shut) refl)
   same_gone at (LoadToTurn b above i) is told = sym (told (Refused Shut) refl)
@@ -173,7 +174,7 @@ module _ {T : Type 0} (c : Stack T) where
       let k = w.counted in
       let l = w.as_many in
       omega (arith, few, long, k, l, length-append w.done (walk.index ∷ w.others))
-  gone_few (GiveBack b chain at) is = let few = is.0.hand.few in let many = is.0.hand.as_many in omega arith
+  gone_few (GiveBack b chain n at) is = let few = is.0.hand.few in let many = is.0.hand.as_many in omega arith
   gone_few (Load front) is = omega arith
   gone_few (TakeAll front w) is = omega arith
   gone_few (LoadToTurn b above i) is = omega arith

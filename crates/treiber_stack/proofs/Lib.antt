@@ -7,7 +7,6 @@ pub mod Gives
 pub mod Takes
 pub mod RangeSteps
 pub mod Puts
-pub mod Stepping
 pub mod Folds
 pub mod Walking
 pub mod Turning

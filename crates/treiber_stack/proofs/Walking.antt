@@ -158,7 +158,7 @@ module _ {T : Type 0} (c : Stack T) (b : Batch T) (walk : Walk T) (W : IsWalking
     tells_more = (walks_on, refl, ap (λ (k : ℕ). take k (folded_of b)) counts ∙ gone_more ∙ ap (λ (v : T). gone ++ v ∷ []) (sym same_value))
 
   -- or that was the last one
-  module _ (e : r.word ≡ NULL) (chain : Chain) (is : chain ≡ record { first = walk.first; last = index }) where
+  module _ (e : r.word ≡ NULL) (chain : Chain) (is : chain ≡ record { first = walk.first; last = index }) (k : ℕ) (counts : k ≡ walk.count + 1) where
     none : W.others ≡ []
     none =
         let most = c.table.shared.key.capacity_in_range in
@@ -180,11 +180,14 @@ module _ {T : Type 0} (c : Stack T) (b : Batch T) (walk : Walk T) (W : IsWalking
           last_low = W.low;
         })
 
-    pub yields_last : Folding c (LoadToFold b walk) r had has (Done (Yields x (GiveBack b chain Load)))
+    pub yields_last : Folding c (LoadToFold b walk) r had has (Done (Yields x (GiveBack b chain k Load)))
     yields_last = λ same. record {
       is = ap (λ t. cond t (LoadFreeToGive (folding b (nodes_of b))) (LoadLinkToFold (folding b (nodes_of b)) r.word)) (eq-eqb r.word NULL e);
       hand = slots_are ∙ (λ t. full (none t) (nothing t) ++ vacant (W.done ++ index ∷ [])) ∙ ap (λ (xs : List ℕ). vacant xs) (sym parts);
     }
 
-    pub tells_last : FoldTold n (limit_of c) b.front gone (Yields x (GiveBack b chain Load))
-    tells_last = ((W.batch, nodes), refl, parted ∙ ap (λ (vs : List T). (gone ++ W.value ∷ []) ++ vs) nothing ∙ append-nil (gone ++ W.value ∷ []) ∙ ap (λ (v : T). gone ++ v ∷ []) (sym same_value))
+    whole : folded_of b ≡ gone ++ W.value ∷ []
+    whole = parted ∙ ap (λ (vs : List T). (gone ++ W.value ∷ []) ++ vs) nothing ∙ append-nil (gone ++ W.value ∷ [])
+
+    pub tells_last : FoldTold n (limit_of c) b.front gone (Yields x (GiveBack b chain k Load))
+    tells_last = ((W.batch, nodes, ap length whole ∙ one_more ∙ sym counts), refl, whole ∙ ap (λ (v : T). gone ++ v ∷ []) (sym same_value))

@@ -1,16 +1,23 @@
 -- A fold that is run for some steps at a time.
-use Rattle.std.specs.Prelude.{◌≡◌, ◌≤◌, ◌+◌, ℕ, List, [], ◌∷◌, ◌++◌, length}
+use Rattle.std.specs.Prelude.{◌≡◌, ◌≤◌, ◌+◌, ℕ, List, [], ◌∷◌, ◌++◌}
 use Rattle.bounded_model.specs.declared.views.PassView.{PassView}
 use Rattle.bounded_model.specs.Bulk.{FoldsAll}
 use Rattle.index_list.specs.declared.front.Front.{Front}
+use Rattle.running.specs.Ops.{IsUnderWay}
+use Rattle.running.specs.declared.op.Op.{Op}
 use Rattle.stack_machine.specs.Deeds.{in_order}
+use Rattle.stack_machine.specs.declared.lines.Line.{Line}
 use Rattle.stack_table.specs.Lines.{direction}
-use Rattle.treiber_stack.specs.declared.fold_op.FoldOp.{FoldOp}
+use Rattle.stack_table.specs.declared.operation.Operation.{Operation}
+use Rattle.treiber_stack.specs.declared.folding.FoldAt.{FoldAt}
 use Rattle.treiber_stack.specs.declared.fold_op.FoldMade.{FoldMade}
 use Rattle.treiber_stack.specs.declared.fold_op.FoldMade.TheVariants.{Again, Value, Done}
 use Rattle.treiber_stack.specs.declared.stack.Stack.{Stack}
-use Rattle.treiber_stack.specs.Folding.{front_of, gone, fold_operation, fold_line, fold_slots, HasReadToFold}
-use Rattle.treiber_stack.specs.Stack.{room_of, limit_of, shape_of, pass_in, begun_of, IsPassOf, IsAt}
+use Rattle.treiber_stack.specs.Folding.{front_of, gone, fold_account}
+use Rattle.treiber_stack.specs.Stack.{machine_of, shape_of, pass_in, begun_of, IsPassOf}
+
+abbrev pub FoldOp : Type 0 → Type 0
+FoldOp T = Op T (Line T) (Operation T) (FoldAt T)
 
 -- n steps were allowed. A fold that continues has made exactly n. A fold that handed out a value or ended has made at most n
 abbrev pub FoldSteps : {T : Type 0} → ℕ → PassView T → FoldMade T → Type 0
@@ -21,11 +28,9 @@ FoldSteps n v (Done back answer) = (pass_in back).steps ≤ v.steps + n
 module _ {T : Type 0} (c : Stack T) (front : Front) where
   -- it goes from this end, and has handed out these values, in this order
   pub record IsFolding (values : List T) (op : FoldOp T) : Type 0 where
-    pub line : IsAt c (fold_operation op.at) op.pass (fold_line op.at) (fold_slots op.at)
-    pub read : HasReadToFold (room_of c) (limit_of c) op.at
+    pub under_way : IsUnderWay (machine_of c) (fold_account c.table.shared.key) c.table.shared.table_id op
     pub from : front_of op.at ≡ front
     pub handed : gone op.at ≡ values
-    pub counted : length values ≡ op.count
 
   -- What some steps of it give, if it had handed out these values. Either it continues, begun as before, and has handed out one value more
   -- or none. Or it has ended by the law of a whole fold: these values were all that it took, or none since it was refused

@@ -46,7 +46,7 @@ module _ {T : Type 0} where
   front_of (LoadToTurn b above i) = b.front
   front_of (TurnLink b above i below) = b.front
   front_of (LoadToFold b walk) = b.front
-  front_of (GiveBack b chain at) = b.front
+  front_of (GiveBack b chain n at) = b.front
 
   abbrev pub fold_operation : FoldAt T → Operation T
   fold_operation at = FoldFirst (front_of at)
@@ -58,20 +58,20 @@ module _ {T : Type 0} where
   fold_line (LoadToTurn b above i) = LoadLinkToTurn (folding b (reverse (nodes_of b))) above i
   fold_line (TurnLink b above i below) = TurnLinkLine (folding b (reverse (nodes_of b))) above i below
   fold_line (LoadToFold b walk) = LoadLinkToFold (folding b (nodes_of b)) walk.index
-  fold_line (GiveBack b chain at) = give_line (folding b (nodes_of b)) at
+  fold_line (GiveBack b chain n at) = give_line (folding b (nodes_of b)) at
 
   -- the slots in hand
   abbrev pub fold_slots : FoldAt T → List (ℕ × Slot T)
   fold_slots (LoadToTurn b above i) = b.taken.value.me.1
   fold_slots (TurnLink b above i below) = b.taken.value.me.1
   fold_slots (LoadToFold b walk) = walk.held.value.me.1
-  fold_slots (GiveBack b chain at) = vacant (nodes_of b)
+  fold_slots (GiveBack b chain n at) = vacant (nodes_of b)
   fold_slots at = []
 
   -- the values that were handed out
   abbrev pub gone : FoldAt T → List T
   gone (LoadToFold b walk) = take walk.count (folded_of b)
-  gone (GiveBack b chain at) = folded_of b
+  gone (GiveBack b chain n at) = folded_of b
   gone at = []
 
   -- a batch of nodes below n, each with a value
@@ -109,12 +109,12 @@ module _ {T : Type 0} where
   HasReadToFold n limit (LoadToTurn b above i) = (others : List ℕ) × IsTurning n b above i others
   HasReadToFold n limit (TurnLink b above i below) = (others : List ℕ) × IsTurning n b above i others × (below ≡ first others) × (below ≤ NULL)
   HasReadToFold n limit (LoadToFold b walk) = IsWalking n b walk
-  HasReadToFold n limit (GiveBack b chain at) = IsBatch n b × AreNodes n (nodes_of b) chain
+  HasReadToFold n limit (GiveBack b chain k at) = IsBatch n b × AreNodes n (nodes_of b) chain × (length (folded_of b) ≡ k)
 
   -- what a fold stops with: at a line where its caller takes a value, or with its answer
   abbrev pub fold_answer : Operation T → FoldStop T → Line T
   fold_answer o (Yields v at) = fold_line at
-  fold_answer o (Ended b) = ends (AnswerFold (Ok (folded_of b, b.number)))
+  fold_answer o (Ended b n) = ends (AnswerFold (Ok (folded_of b, b.number)))
   fold_answer o (Refused why) = ends (AnswerFold (Err why))
 
   abbrev pub fold_rest : FoldStop T → List (ℕ × Slot T)
@@ -125,7 +125,7 @@ module _ {T : Type 0} where
   -- these were all, or a refusal finds that there were none
   abbrev pub FoldTold : ℕ → ℕ → Front → List T → FoldStop T → Type 0
   FoldTold n limit front before (Yields v at) = HasReadToFold n limit at × (front_of at ≡ front) × (gone at ≡ before ++ v ∷ [])
-  FoldTold n limit front before (Ended b) = before ≡ folded_of b
+  FoldTold n limit front before (Ended b k) = (before ≡ folded_of b) × (length before ≡ k)
   FoldTold n limit front before (Refused why) = before ≡ []
 
   -- how it is read

@@ -1,5 +1,5 @@
--- What the answers of a put and a take promise: the laws of their operations.
-use Rattle.std.proofs.Common.{◌≡◌, ℕ, ◌≤◌, List, [], ◌∷◌, length, true, refl, sym, ap, ◌∙◌, subst, append-nil}
+-- What the answers of a put, a take, a close, a shut and a look promise: the laws of their operations.
+use Rattle.std.proofs.Common.{◌≡◌, ℕ, ◌≤◌, Bool, List, [], ◌∷◌, length, true, false, refl, sym, ap, ◌∙◌, subst, append-nil}
 use Rattle.std.specs.Prelude.{Result, Ok, Err}
 use Rattle.tagged_index.specs.Limits.{capacity_of, tag_limit_of}
 use Rattle.tagged_index.specs.declared.limit.Limits.{Limits}
@@ -7,15 +7,15 @@ use Rattle.bounded_model.specs.declared.answers.PutRefused.{PutRefused}
 use Rattle.bounded_model.specs.declared.answers.PutRefused.TheVariants.{Full, Closed, Spent}
 use Rattle.bounded_model.specs.declared.answers.TakeRefused.{TakeRefused}
 use Rattle.bounded_model.specs.declared.history.Event.{Event}
-use Rattle.bounded_model.specs.declared.history.Event.TheVariants.{Put, Hold, Take, Free}
+use Rattle.bounded_model.specs.declared.history.Event.TheVariants.{Put, Hold, Take, Free, Close, Shut as ShutEvent}
 use Rattle.bounded_model.specs.declared.views.PassView.{PassView}
 use Rattle.bounded_model.specs.Histories.{own}
-use Rattle.bounded_model.specs.Laws.{Adds, BacksOut, PutGives, TakeGives, holds_of, gave_back, in_list}
+use Rattle.bounded_model.specs.Laws.{Adds, BacksOut, PutGives, TakeGives, CloseGives, ShutGives, LookGives, holds_of, gave_back, in_list}
 use Rattle.bounded_model.specs.Machine.{Shape}
 use Rattle.machine.specs.Seats.{pass_of}
 use Rattle.machine.specs.declared.seats.View.{View}
 use Rattle.stack_machine.specs.Answers.{shape}
-use Rattle.stack_machine.specs.declared.lines.Answer.TheVariants.{Take as AnswerTake}
+use Rattle.stack_machine.specs.declared.lines.Answer.TheVariants.{Take as AnswerTake, Look as AnswerLook}
 use Rattle.stack_machine.specs.declared.lines.Call.{Call}
 use Rattle.stack_machine.specs.declared.lines.Call.TheVariants.{Put as CallPut, Take as CallTake}
 use Rattle.stack_machine.specs.declared.lines.Taking.TheVariants.{One}
@@ -25,11 +25,16 @@ use Rattle.stack_machine.specs.Deeds.{Deeds, handed_back}
 use Rattle.stack_machine.proofs.Made.{made_refusal, made_no_take}
 use Rattle.stack_table.proofs.Laws.{stack}
 use Rattle.stack_table.specs.declared.operation.Operation.{Operation}
-use Rattle.stack_table.specs.declared.operation.Operation.TheVariants.{Take as TakeFirst}
+use Rattle.stack_table.specs.declared.operation.Operation.TheVariants.{Take as TakeFirst, Close as CloseFirst, Shut as ShutFirst, Look as LookFirst}
 use Rattle.stack_table.specs.Lines.{call_of, names}
 use Rattle.running.specs.Going.{Ended}
 use Rattle.running.specs.Machine as running
+use Rattle.treiber_stack.specs.Closing.{mark_ends, mark_name, sets}
 use Rattle.treiber_stack.specs.Putting.{put_answer, put_of, put_value}
+use Rattle.treiber_stack.specs.declared.closing.Mark.{Mark}
+use Rattle.treiber_stack.specs.declared.closing.Mark.TheVariants as mark
+use Rattle.treiber_stack.specs.declared.closing.MarkAt.{MarkAt}
+use Rattle.treiber_stack.specs.declared.looking.LookAt.{LookAt}
 use Rattle.treiber_stack.specs.declared.putting.PutAt.{PutAt}
 use Rattle.treiber_stack.specs.declared.taking.TakeAt.{TakeAt}
 
@@ -43,6 +48,15 @@ module _ {T : Type 0} (k : Limits) where
   -- what a take promises
   abbrev pub take_promises : Operation T → PassView T → PassView T → Result (T × ℕ) TakeRefused → Type 0
   take_promises o begun now r = TakeGives (shape_at k) begun now r
+
+  -- a close promises what a close gives, a shut what a shut does; no other operation sets a mark
+  abbrev pub mark_promises : Operation T → PassView T → PassView T → Bool → Type 0
+  mark_promises CloseFirst begun now b = CloseGives (shape_at k) begun now b
+  mark_promises ShutFirst begun now b = ShutGives (shape_at k) begun now b
+  mark_promises o begun now b = ⊥
+
+  abbrev pub look_promises : Operation T → PassView T → PassView T → Bool → Type 0
+  look_promises o begun now b = LookGives (shape_at k) begun now b
 
   -- if the operation is a put of x, a put promises the law of a put of x
   abbrev pub put_promises : Operation T → PassView T → PassView T → Result ℕ (PutRefused T) → Type 0
@@ -61,6 +75,23 @@ module _ {T : Type 0} (k : Limits) where
   pub take_keeps : (at : TakeAt T) (v : View T (Line T)) (begun : PassView T) (r : Result (T × ℕ) TakeRefused) → Ended machine_at TakeFirst v begun (ends (AnswerTake r)) → TakeGives (shape_at k) begun (pass_of v) r
   take_keeps at v begun (Ok r) e = adds_of e (Free begun.number 1 ∷ Take begun.number r.0 r.1 ∷ []) (e.deeds.made ∙ ap (λ (n : ℕ). Free n 1 ∷ Take n r.0 r.1 ∷ []) e.number)
   take_keeps at v begun (Err why) e = (adds_of e [] (made_no_take (pass_of v).number (own (pass_of v).number e.deeds.between) (CallTake One) why e.deeds.made), e.tells)
+
+  mark_so : (mark : Mark) (v : View T (Line T)) (begun : PassView T) (b : Bool) → Ended machine_at (mark_name mark) v begun (mark_ends (mark_name mark) b) → mark_promises (mark_name mark) begun (pass_of v) b
+  mark_so mark.Closed v begun true e = adds_of e (Close begun.number ∷ []) (e.deeds.made ∙ ap (λ (n : ℕ). Close n ∷ []) e.number)
+  mark_so mark.Closed v begun false e = (adds_of e [] e.deeds.made, e.tells)
+  mark_so mark.Shut v begun true e = adds_of e (ShutEvent begun.number ∷ []) (e.deeds.made ∙ ap (λ (n : ℕ). ShutEvent n ∷ []) e.number)
+  mark_so mark.Shut v begun false e = (adds_of e [] e.deeds.made, e.tells)
+
+  pub mark_keeps : (at : MarkAt) (v : View T (Line T)) (begun : PassView T) (b : Bool) → Ended machine_at (mark_name (sets at)) v begun (mark_ends (mark_name (sets at)) b) → mark_promises (mark_name (sets at)) begun (pass_of v) b
+  mark_keeps at v begun b e = mark_so (sets at) v begun b e
+
+  pub look_keeps : (at : LookAt) (v : View T (Line T)) (begun : PassView T) (b : Bool) → Ended machine_at LookFirst v begun (ends (AnswerLook b)) → LookGives (shape_at k) begun (pass_of v) b
+  look_keeps at v begun b e = (adds_of e [] e.deeds.made, e.tells)
+
+pub mark_idle : {T : Type 0} (o : Operation T) (b : Bool) → is_idle (mark_ends o b) ≡ true
+mark_idle CloseFirst b = refl
+mark_idle ShutFirst b = refl
+mark_idle o b = refl
 
 head_or : {T : Type 0} → T → List T → T
 head_or d [] = d

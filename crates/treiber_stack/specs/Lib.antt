@@ -3,8 +3,8 @@ pub mod Begun
 pub mod Refusing
 pub mod Giving
 pub mod Closing
-pub mod Marks
 pub mod Left
+pub mod Looking
 pub mod Stepwise
 pub mod Taking
 pub mod Trying

@@ -4,25 +4,19 @@ ghost use Rattle.std.specs.Prelude.{◌≡◌, List, []};
 ghost use Rattle.index_list.specs.declared.front.Front.{Front};
 ghost use Rattle.index_list.specs.declared.front.Front.TheVariants.{First, Last};
 ghost use Rattle.treiber_stack.specs.FoldOp.{IsFolding, FoldTried, FoldSteps};
-ghost use Rattle.treiber_stack.specs.Folding.{front_of};
 ghost use Rattle.treiber_stack.specs.Stack.{IsPassOf, pass_in, begun_of};
 
 use crate::folding::{FoldAt, FoldStop};
 use crate::stack::{Pass, Stack};
 use bounded_model::{Folded, Stepped, TakeRefused};
 use index_list::Front;
-use running::{Next, try_for};
+use running::{Next, Op, try_for};
+use stack_machine::Line;
 use stack_table::Operation;
 
 /// A fold under way, between two of its steps. If it is dropped, the nodes that it holds are never
 /// free again.
-#[derive(Drop)]
-pub struct FoldOp<T> {
-    pub(crate) pass: Pass<T>,
-    pub(crate) at: FoldAt<T>,
-    /// How many values it has handed out.
-    pub(crate) count: u32,
-}
+pub type FoldOp<T> = Op<T, Line<T>, Operation<T>, FoldAt<T>>;
 
 /// What a fold that was run for some steps has come to.
 #[derive(Drop)]
@@ -44,11 +38,8 @@ impl<T> Stack<T> {
         ensures { IsFolding self.now First [] result
             × (begun_of self.now result.pass ≡ pass_in by) × (pass_in result.pass ≡ pass_in by) }
     {
-        FoldOp {
-            pass: by,
-            at: FoldAt::Load(Front::First),
-            count: 0,
-        }
+        let operation = Operation::Fold(Front::First);
+        Op::begin(self, by, operation, FoldAt::Load(Front::First))
     }
 
     /// A fold from the bottom up that makes no step yet.
@@ -58,57 +49,47 @@ impl<T> Stack<T> {
         ensures { IsFolding self.now Last [] result
             × (begun_of self.now result.pass ≡ pass_in by) × (pass_in result.pass ≡ pass_in by) }
     {
-        FoldOp {
-            pass: by,
-            at: FoldAt::Load(Front::Last),
-            count: 0,
-        }
+        let operation = Operation::Fold(Front::Last);
+        Op::begin(self, by, operation, FoldAt::Load(Front::Last))
     }
-}
 
-impl<T> FoldOp<T> {
-    /// Continues the fold until the next value or the end, for at most `steps` steps. It waits
-    /// after each compare-and-swap that failed. One compare-and-swap takes all values, so a value
+    /// Continues a fold until the next value or the end, for at most `steps` steps. It waits after
+    /// each compare-and-swap that failed. One compare-and-swap takes all values, so a value
     /// that is put after it is not among them.
     #[inline]
-    pub fn run_for(self, stack: &Stack<T>, steps: u64) -> FoldMade<T>
-        requires { (front : Front) × (values : List T) × IsFolding stack.now front values self }
-        ensures tried { (front : Front) (values : List T) → IsFolding stack.now front values self
-            → FoldTried stack.now front values (begun_of stack.now self.pass) result }
-        ensures took { FoldSteps steps (pass_in self.pass) result }
+    pub fn run_fold_for(&self, fold: FoldOp<T>, steps: u64) -> FoldMade<T>
+        requires { (front : Front) × (values : List T) × IsFolding self.now front values fold }
+        ensures tried { (front : Front) (values : List T) → IsFolding self.now front values fold
+            → FoldTried self.now front values (begun_of self.now fold.pass) result }
+        ensures took { FoldSteps steps (pass_in fold.pass) result }
     {
-        let FoldOp { pass, at, count } = self;
-        let operation = Operation::Fold(at.front());
+        let Op {
+            pass,
+            operation,
+            at,
+        } = fold;
         let first = (pass, Next::On(at));
-        match try_for(&stack.table.shared, stack, first, &operation, steps) {
-            Stepped::Again((pass, at)) => FoldMade::Again(FoldOp { pass, at, count }),
+        match try_for(&self.table.shared, self, first, &operation, steps) {
+            Stepped::Again((pass, at)) => FoldMade::Again(Op {
+                pass,
+                operation,
+                at,
+            }),
             Stepped::Done(pass, stop) => match stop {
                 FoldStop::Yields(value, at) => {
-                    let count = count + 1;
-                    FoldMade::Value(value, FoldOp { pass, at, count })
+                    let next = Op {
+                        pass,
+                        operation,
+                        at,
+                    };
+                    FoldMade::Value(value, next)
                 }
-                FoldStop::Ended(batch) => {
+                FoldStop::Ended(batch, count) => {
                     let number = batch.number;
                     FoldMade::Done(pass, Ok(Folded { number, count }))
                 }
                 FoldStop::Refused(why) => FoldMade::Done(pass, Err(why)),
             },
-        }
-    }
-}
-
-impl<T> FoldAt<T> {
-    // From which end it hands out its values.
-    #[inline]
-    fn front(&self) -> Front
-        ensures { result ≡ front_of self.now }
-    {
-        match self {
-            FoldAt::Load(front) | FoldAt::TakeAll(front, _) => *front,
-            FoldAt::LoadToTurn(batch, _, _)
-            | FoldAt::TurnLink(batch, _, _, _)
-            | FoldAt::LoadToFold(batch, _)
-            | FoldAt::GiveBack(batch, _, _) => batch.front,
         }
     }
 }

@@ -31,7 +31,7 @@ type Hand<T> = Snapshot<Seat<Option<T>, View<T, Line<T>>>>;
 
 /// All values of a stack, taken by one compare-and-swap.
 #[derive(Drop)]
-pub(crate) struct Batch<T> {
+pub struct Batch<T> {
     pub(crate) front: Front,
     /// The number of the compare-and-swap.
     pub(crate) number: u64,
@@ -41,7 +41,7 @@ pub(crate) struct Batch<T> {
 
 /// How far a walk along a batch has come.
 #[derive(Drop)]
-pub(crate) struct Walk<T> {
+pub struct Walk<T> {
     pub(crate) first: u32,
     /// The node whose value is handed out next.
     pub(crate) index: u32,
@@ -52,7 +52,7 @@ pub(crate) struct Walk<T> {
 
 /// The next step of a fold, with what it has read and holds.
 #[derive(Drop)]
-pub(crate) enum FoldAt<T> {
+pub enum FoldAt<T> {
     /// Load `TOP`.
     Load(Front),
     /// Compare-and-swap `TOP` for null.
@@ -63,8 +63,8 @@ pub(crate) enum FoldAt<T> {
     TurnLink(Batch<T>, u32, u32, u32),
     /// Load the link of the node that the walk has come to.
     LoadToFold(Batch<T>, Walk<T>),
-    /// Give all nodes back.
-    GiveBack(Batch<T>, Chain, Give),
+    /// Give all nodes back. The number is that of the values.
+    GiveBack(Batch<T>, Chain, u32, Give),
 }
 
 /// What a fold stops with.
@@ -72,8 +72,8 @@ pub(crate) enum FoldAt<T> {
 pub(crate) enum FoldStop<T> {
     /// The next value is for the caller, and then the fold continues.
     Yields(T, FoldAt<T>),
-    /// The fold has handed out all values, and their nodes are free.
-    Ended(Batch<T>),
+    /// The fold has handed out this many values, which are all, and their nodes are free.
+    Ended(Batch<T>, u32),
     Refused(TakeRefused),
 }
 
@@ -143,7 +143,7 @@ impl<T> Stack<T> {
         let mut at = FoldAt::Load(front);
         let mut folded = state;
         // Each round but the last hands out a value.
-        for count in 0..self.limits.capacity() + 1 {
+        for _done in 0..self.limits.capacity() + 1 {
             let operation = Operation::Fold(front);
             let first = any(table, self, pass, at, &operation);
             let (back, stop) = to_the_end(rt, table, self, first, &operation);
@@ -153,7 +153,7 @@ impl<T> Stack<T> {
                     pass = back;
                     at = next;
                 }
-                FoldStop::Ended(batch) => {
+                FoldStop::Ended(batch, count) => {
                     let number = batch.number;
                     return (back, folded, Ok(Folded { number, count }));
                 }
@@ -194,7 +194,7 @@ impl<T> Code<Stack<T>, T, Line<T>, Operation<T>, Stacked, FoldStop<T>, 2> for Fo
                 Access::StoreLink(STACK_LIST, *index, *above as u64)
             }
             FoldAt::LoadToFold(_, walk) => Access::LoadLink(STACK_LIST, walk.index),
-            FoldAt::GiveBack(_, chain, at) => on.give_access(*chain, at),
+            FoldAt::GiveBack(_, chain, _, at) => on.give_access(*chain, at),
         }
     }
 
@@ -264,23 +264,24 @@ impl<T> Code<Stack<T>, T, Line<T>, Operation<T>, Stacked, FoldStop<T>, 2> for Fo
                     count,
                     held: _,
                 } = walk;
+                let count = count + 1;
                 if next == NULL {
                     let chain = Chain { first, last: index };
-                    let at = FoldAt::GiveBack(batch, chain, Give::Load);
+                    let at = FoldAt::GiveBack(batch, chain, count, Give::Load);
                     return Next::Done(FoldStop::Yields(value, at));
                 }
                 let walk = Walk {
                     first,
                     index: next,
-                    count: count + 1,
+                    count,
                     held: Snapshot::of(&*seat),
                 };
                 Next::Done(FoldStop::Yields(value, FoldAt::LoadToFold(batch, walk)))
             }
-            FoldAt::GiveBack(batch, chain, at) => match on.give_next(at, outcome) {
-                Next::On(at) => Next::On(FoldAt::GiveBack(batch, chain, at)),
-                Next::Lost(at) => Next::Lost(FoldAt::GiveBack(batch, chain, at)),
-                Next::Done(()) => Next::Done(FoldStop::Ended(batch)),
+            FoldAt::GiveBack(batch, chain, count, at) => match on.give_next(at, outcome) {
+                Next::On(at) => Next::On(FoldAt::GiveBack(batch, chain, count, at)),
+                Next::Lost(at) => Next::Lost(FoldAt::GiveBack(batch, chain, count, at)),
+                Next::Done(()) => Next::Done(FoldStop::Ended(batch, count)),
             },
         }
     }

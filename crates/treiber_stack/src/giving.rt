@@ -14,7 +14,7 @@ use tagged_index::Tagged;
 
 /// A chain of nodes held, each linked to the next: its first and its last.
 #[derive(Clone, Copy)]
-pub(crate) struct Chain {
+pub struct Chain {
     pub(crate) first: u32,
     pub(crate) last: u32,
 }

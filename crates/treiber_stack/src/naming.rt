@@ -2,20 +2,21 @@
 ghost use Rattle.std.specs.Prelude.{◌≡◌};
 ghost use Rattle.machine.specs.Chains.{last as last_of};
 ghost use Rattle.stack_machine.specs.declared.lines.Giving.{Giving};
-ghost use Rattle.stack_machine.specs.declared.lines.Line.TheVariants.{LoadTopToLook};
 ghost use Rattle.treiber_stack.specs.Closing.{mark_line};
 ghost use Rattle.treiber_stack.specs.Giving.{give_line};
-ghost use Rattle.treiber_stack.specs.Naming.{IsNextStep};
+ghost use Rattle.treiber_stack.specs.Looking.{look_line};
+ghost use Rattle.treiber_stack.specs.Naming.{IsNextStep, IsStep};
 ghost use Rattle.treiber_stack.specs.Putting.{put_line};
 ghost use Rattle.treiber_stack.specs.Taking.{take_line};
-ghost use Rattle.treiber_stack.specs.declared.closing.Mark.TheVariants.{Closed, Shut};
 
-use crate::closing::{CloseOp, ShutOp};
+use crate::closing::MarkAt;
 use crate::giving::Give;
-use crate::putting::{PutAt, PutOp};
+use crate::looking::LookAt;
+use crate::putting::PutAt;
 use crate::stack::Stack;
-use crate::stepwise::LookOp;
-use crate::taking::{TakeAt, TakeOp};
+use crate::stepwise::AnyOp;
+use crate::taking::TakeAt;
+use bounded_model::Operation;
 use step_names::{Location, Named, StepName};
 
 // Of giving back a chain that ends with this node.
@@ -58,58 +59,35 @@ fn take_name<T>(at: &TakeAt<T>) -> StepName
     }
 }
 
-impl<T> CloseOp<T> {
-    // Of a close.
-    fn next_step(&self) -> StepName
-        ensures { IsNextStep {T = T} (mark_line Closed self.now.seen) result }
-    {
-        match self.seen {
-            None => StepName::Load(Location::Top),
-            Some(_) => StepName::CompareAndSwap(Location::Top, Location::Top),
-        }
+// Of a close or a shut.
+fn mark_step<T>(at: &MarkAt) -> StepName
+    ensures { IsNextStep {T = T} (mark_line at.now) result }
+{
+    match at {
+        MarkAt::Load(_) => StepName::Load(Location::Top),
+        MarkAt::Set(_, _) => StepName::CompareAndSwap(Location::Top, Location::Top),
     }
 }
 
-impl<T> ShutOp<T> {
-    // Of a shut.
-    fn next_step(&self) -> StepName
-        ensures { IsNextStep {T = T} (mark_line Shut self.now.seen) result }
-    {
-        match self.seen {
-            None => StepName::Load(Location::Top),
-            Some(_) => StepName::CompareAndSwap(Location::Top, Location::Top),
-        }
+// Of a look.
+fn look_name<T>(at: &LookAt) -> StepName
+    ensures { IsNextStep {T = T} (look_line at.now) result }
+{
+    match at {
+        LookAt::Load => StepName::Load(Location::Top),
     }
 }
 
 impl<T: Drop + Send> Named<T> for Stack<T> {
-    ghost is_put_step = { λ op name. IsNextStep (put_line op.at) name };
+    ghost is_step = { IsStep };
 
-    ghost is_take_step = { λ op name. IsNextStep (take_line op.at) name };
-
-    ghost is_close_step = { λ op name. IsNextStep {T = T} (mark_line Closed op.seen) name };
-
-    ghost is_shut_step = { λ op name. IsNextStep {T = T} (mark_line Shut op.seen) name };
-
-    ghost is_look_step = { λ op name. IsNextStep {T = T} LoadTopToLook name };
-
-    fn put_step(op: &PutOp<T>) -> StepName {
-        put_name::<T>(&op.at)
-    }
-
-    fn take_step(op: &TakeOp<T>) -> StepName {
-        take_name::<T>(&op.at)
-    }
-
-    fn close_step(op: &CloseOp<T>) -> StepName {
-        op.next_step()
-    }
-
-    fn shut_step(op: &ShutOp<T>) -> StepName {
-        op.next_step()
-    }
-
-    fn look_step(_op: &LookOp<T>) -> StepName {
-        StepName::Load(Location::Top)
+    fn step_name(op: &AnyOp<T>) -> StepName {
+        match op {
+            Operation::Put(op) => put_name::<T>(&op.at),
+            Operation::Take(op) => take_name::<T>(&op.at),
+            Operation::Close(op) => mark_step::<T>(&op.at),
+            Operation::Shut(op) => mark_step::<T>(&op.at),
+            Operation::Look(op) => look_name::<T>(&op.at),
+        }
     }
 }

@@ -1,121 +1,62 @@
 //! A stack's calls by single steps, as every such container has them.
-ghost use Rattle.bounded_model.specs.Laws.{LookGives};
-ghost use Rattle.bounded_model.specs.Stepping.{OneStep, no_step};
-ghost use Rattle.treiber_stack.specs.Closing.{IsClosing, IsShutting};
-ghost use Rattle.treiber_stack.specs.Putting.{IsPutting};
-ghost use Rattle.treiber_stack.specs.Stack.{IsPassOf, pass_in, shape_of};
-ghost use Rattle.treiber_stack.specs.Stepwise.{underway_in};
-ghost use Rattle.treiber_stack.specs.Taking.{IsTaking};
+ghost use Rattle.std.specs.Prelude.{◌≡◌};
+ghost use Rattle.bounded_model.specs.Stepping.{no_step};
+ghost use Rattle.treiber_stack.specs.Stack.{IsPassOf, pass_in};
+ghost use Rattle.treiber_stack.specs.Stepwise.{IsMakingCall, making};
 
 use crate::closing::{CloseOp, ShutOp};
+use crate::looking::LookOp;
 use crate::putting::PutOp;
 use crate::stack::{Pass, Stack};
 use crate::taking::TakeOp;
-use bounded_model::{PutRefused, Stepped, Stepwise, TakeRefused};
+use bounded_model::{Command, Operation, Reply, Stepped, Stepwise, of_kind};
 use std::sync::Wait;
 
-/// A look that was begun. It has one step.
-#[derive(Drop)]
-pub struct LookOp<T> {
-    pub(crate) pass: Pass<T>,
-}
-
-impl<T> LookOp<T> {
-    /// Makes the one step of a look, and so ends it. Called in `bounded_calls`.
-    #[inline]
-    pub fn end(self, stack: &Stack<T>) -> (Pass<T>, bool)
-        requires { IsPassOf stack.now self.pass }
-        ensures of { IsPassOf stack.now result.0 }
-        ensures gives { LookGives (shape_of stack.now) (pass_in self.pass) (pass_in result.0) result.1 }
-        ensures one { OneStep (pass_in self.pass) (pass_in result.0) }
-    {
-        stack.is_empty(self.pass)
-    }
-}
+/// A call that was begun.
+pub type AnyOp<T> = Operation<PutOp<T>, TakeOp<T>, CloseOp<T>, ShutOp<T>, LookOp<T>>;
 
 impl<T: Drop + Send> Stepwise<T> for Stack<T> {
-    type PutOp = PutOp<T>;
+    type Op = AnyOp<T>;
 
-    type TakeOp = TakeOp<T>;
+    ghost is_making = { IsMakingCall };
 
-    type CloseOp = CloseOp<T>;
-
-    type ShutOp = ShutOp<T>;
-
-    type LookOp = LookOp<T>;
-
-    ghost is_putting = { IsPutting };
-
-    ghost is_taking = { IsTaking };
-
-    ghost is_closing = { IsClosing };
-
-    ghost is_shutting = { IsShutting };
-
-    ghost is_looking = { λ c op. IsPassOf c op.pass };
-
-    ghost putting = { λ op. underway_in op.pass };
-
-    ghost taking = { λ op. underway_in op.pass };
-
-    ghost closing = { λ op. underway_in op.pass };
-
-    ghost shutting = { λ op. underway_in op.pass };
-
-    ghost looking = { λ op. no_step (pass_in op.pass) };
+    ghost making = { making };
 
     #[inline]
-    fn begin_put(&self, by: Pass<T>, value: T) -> PutOp<T> {
-        self.begin_put(by, value)
+    fn begin(&self, by: Pass<T>, command: Command<T>) -> AnyOp<T>
+        requires { IsPassOf self.now by }
+        ensures call { IsMakingCall self.now command result }
+        ensures begun { making result ≡ no_step (pass_in by) }
+    {
+        match command {
+            Command::Put(value) => Operation::Put(self.begin_put(by, value)),
+            Command::Take => Operation::Take(self.begin_take(by)),
+            Command::Close => Operation::Close(self.begin_close(by)),
+            Command::Shut => Operation::Shut(self.begin_shut(by)),
+            Command::Look => Operation::Look(self.begin_look(by)),
+        }
     }
 
     #[inline]
-    fn begin_take(&self, by: Pass<T>) -> TakeOp<T> {
-        self.begin_take(by)
+    fn step(&self, op: AnyOp<T>) -> Stepped<AnyOp<T>, Pass<T>, Reply<T>> {
+        match op {
+            Operation::Put(op) => of_kind!(Put, op.step(self)),
+            Operation::Take(op) => of_kind!(Take, op.step(self)),
+            Operation::Close(op) => of_kind!(Close, op.step(self)),
+            Operation::Shut(op) => of_kind!(Shut, op.step(self)),
+            Operation::Look(op) => of_kind!(Look, op.step(self)),
+        }
     }
 
     #[inline]
-    fn begin_close(&self, by: Pass<T>) -> CloseOp<T> {
-        self.begin_close(by)
-    }
-
-    #[inline]
-    fn begin_shut(&self, by: Pass<T>) -> ShutOp<T> {
-        self.begin_shut(by)
-    }
-
-    #[inline]
-    fn begin_look(&self, by: Pass<T>) -> LookOp<T> {
-        LookOp { pass: by }
-    }
-
-    #[inline]
-    fn step_put(&self, op: PutOp<T>) -> Stepped<PutOp<T>, Pass<T>, Result<u64, PutRefused<T>>> {
-        op.step(self)
-    }
-
-    #[inline]
-    fn step_take(
-        &self,
-        op: TakeOp<T>,
-    ) -> Stepped<TakeOp<T>, Pass<T>, Result<(T, u64), TakeRefused>> {
-        op.step(self)
-    }
-
-    #[inline]
-    fn step_close(&self, op: CloseOp<T>) -> Stepped<CloseOp<T>, Pass<T>, bool> {
-        op.step(self)
-    }
-
-    #[inline]
-    fn step_shut(&self, op: ShutOp<T>) -> Stepped<ShutOp<T>, Pass<T>, bool> {
-        op.step(self)
-    }
-
-    #[inline]
-    fn step_look(&self, op: LookOp<T>) -> Stepped<LookOp<T>, Pass<T>, bool> {
-        let (pass, is_empty) = self.is_empty(op.pass);
-        Stepped::Done(pass, is_empty)
+    fn run_for(&self, op: AnyOp<T>, steps: u64) -> Stepped<AnyOp<T>, Pass<T>, Reply<T>> {
+        match op {
+            Operation::Put(op) => of_kind!(Put, op.run_for(self, steps)),
+            Operation::Take(op) => of_kind!(Take, op.run_for(self, steps)),
+            Operation::Close(op) => of_kind!(Close, op.run_for(self, steps)),
+            Operation::Shut(op) => of_kind!(Shut, op.run_for(self, steps)),
+            Operation::Look(op) => of_kind!(Look, op.run_for(self, steps)),
+        }
     }
 
     fn look<R: Wait>(&self, _rt: &R, by: Pass<T>) -> (Pass<T>, bool) {

@@ -3,18 +3,16 @@
 ghost use Rattle.std.specs.Prelude.{◌≡◌};
 ghost use Rattle.stack_machine.specs.declared.lines.Line.{Line};
 ghost use Rattle.running.specs.declared.passes.Pass.{Pass};
-ghost use Rattle.treiber_stack.specs.Closing.{IsClosing, IsShutting};
 ghost use Rattle.treiber_stack.specs.Putting.{PutRan, PutStands, put_of};
 ghost use Rattle.treiber_stack.specs.Stack.{IsPassOf, pass_in, begun_of};
-ghost use Rattle.treiber_stack.specs.Trying.{IsRefusing, PutMadeSo, PutTried, TakeTried, CloseTried, ShutTried, CloseSteps, ShutSteps};
+ghost use Rattle.treiber_stack.specs.Trying.{IsRefusing, PutMadeSo, PutTried, TakeTried};
 ghost use Rattle.treiber_stack.specs.declared.putting.PutAt.TheVariants.{Refuse};
 
-use crate::closing::{CloseOp, Mark, MarkAt, ShutOp};
 use crate::putting::{PutAt, PutOp, put_operation};
 use crate::stack::{Pass, Stack};
 use crate::taking::TakeOp;
 use bounded_model::{PutRefused, Stepped, TakeRefused};
-use running::{Next, any, at_once, try_for};
+use running::{Next, any, at_once};
 use stack_table::Operation;
 
 /// What the first steps of a put have come to.
@@ -128,50 +126,6 @@ impl<T> Stack<T> {
                 at,
             }),
             Stepped::Done(pass, answer) => Stepped::Done(pass, answer),
-        }
-    }
-}
-
-impl<T> CloseOp<T> {
-    /// Continues the close for at most `steps` steps, with a wait after each compare-and-swap that
-    /// failed.
-    #[inline]
-    pub fn run_for(self, stack: &Stack<T>, steps: u64) -> Stepped<CloseOp<T>, Pass<T>, bool>
-        requires { IsClosing stack.now self }
-        ensures tried { CloseTried stack.now (begun_of stack.now self.pass) result }
-        ensures took { CloseSteps steps (pass_in self.pass) result }
-    {
-        let mark = Mark::Closed;
-        let seen = self.seen;
-        let first = (self.pass, Next::On(MarkAt { mark, seen }));
-        match try_for(&stack.table.shared, stack, first, &Operation::Close, steps) {
-            Stepped::Again((pass, at)) => Stepped::Again(CloseOp {
-                pass,
-                seen: at.seen,
-            }),
-            Stepped::Done(pass, closed) => Stepped::Done(pass, closed),
-        }
-    }
-}
-
-impl<T> ShutOp<T> {
-    /// Continues the shut for at most `steps` steps, with a wait after each compare-and-swap that
-    /// failed.
-    #[inline]
-    pub fn run_for(self, stack: &Stack<T>, steps: u64) -> Stepped<ShutOp<T>, Pass<T>, bool>
-        requires { IsShutting stack.now self }
-        ensures tried { ShutTried stack.now (begun_of stack.now self.pass) result }
-        ensures took { ShutSteps steps (pass_in self.pass) result }
-    {
-        let mark = Mark::Shut;
-        let seen = self.seen;
-        let first = (self.pass, Next::On(MarkAt { mark, seen }));
-        match try_for(&stack.table.shared, stack, first, &Operation::Shut, steps) {
-            Stepped::Again((pass, at)) => Stepped::Again(ShutOp {
-                pass,
-                seen: at.seen,
-            }),
-            Stepped::Done(pass, shut) => Stepped::Done(pass, shut),
         }
     }
 }

@@ -1,11 +1,10 @@
 use denote.Param.Send.{sendable}
 use Rattle.std.proofs.Crossing.{Arc-send}
-use Rattle.ms_queue.proofs.Crossing.{rest_send}
-use Rattle.ms_queue.proofs.Crossing.{put_send}
+use Rattle.ms_queue.proofs.Crossing.{rest_send, op_send}
 use Rattle.container_tests.proofs.each.values_of_a_queue_are_dropped_once.Goals as goal
 
 pub values_are_dropped-requires-send-C-Rest : goal.values_are_dropped-requires-send-C-Rest
 values_are_dropped-requires-send-C-Rest g c κs = search (sendable, rest_send, Arc-send) depth 30
 
-pub values_are_dropped-requires-send-C-PutOp : goal.values_are_dropped-requires-send-C-PutOp
-values_are_dropped-requires-send-C-PutOp g c κs = search (sendable, put_send, Arc-send) depth 40 fits 4000
+pub values_are_dropped-requires-send-C-Op : goal.values_are_dropped-requires-send-C-Op
+values_are_dropped-requires-send-C-Op g c κs = search (sendable, op_send, Arc-send) depth 30

@@ -2,7 +2,8 @@ use Rattle.std.proofs.Common.{subst}
 use Rattle.bounded_model.specs.declared.answers.Stepped.TheVariants.{Again}
 use Rattle.running.specs.Passes.{pass_in}
 use Rattle.ms_queue.specs.Trying.{LenTried}
-use Rattle.lockfree_c.proofs.CountStays.{counted}
+use Rattle.lockfree_c.specs.Held.{QueueCounted}
+use Rattle.lockfree_c.proofs.Rests.{began}
 use Rattle.lockfree_c.proofs.count.begin_count.Goals as goal
 
 pub go_on-requires : goal.go_on-requires
@@ -10,9 +11,9 @@ go_on-requires c =
     let tried = subst (λ on. LenTried on (pass_in c.in-Some.by) (Again c.in-Again.op)) c.deref.ensures c.in-Again.ensures in
     tried.0
 
-pub returns-clause-gives : goal.returns-clause-gives
-returns-clause-gives c =
+pub returns-in-Some-clause-gives : goal.returns-in-Some-clause-gives
+returns-in-Some-clause-gives c =
     let p = c.args.pass in
     let tried = subst (λ on. LenTried on (pass_in c.in-Some.by) (Again c.in-Again.op)) c.deref.ensures c.in-Again.ensures in
     let went = c.go_on.ensures.gives in
-    counted p c.in-Some.by c.go_on.result.0 c.go_on.result.1 c.in-Some.is went.0 (subst (λ v. LenTried p.container.value v went.0) tried.1 went.1) went.2
+    began p c.in-Some.by (λ q. QueueCounted q c.go_on.result.0 c.go_on.result.1) c.in-Some.ensures.value (went.0, subst (λ v. LenTried p.container.value v went.0) tried.1 went.1, went.2)

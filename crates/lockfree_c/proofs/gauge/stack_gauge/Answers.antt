@@ -1,14 +1,12 @@
-use Rattle.std.proofs.Common.{◌≡◌, ◌∙◌, refl, subst}
+use Rattle.std.proofs.Common.{refl, subst}
 use Rattle.running.specs.Passes.{pass_in}
-use Rattle.treiber_stack.specs.Gauging.{GaugeGives}
-use Rattle.treiber_stack.specs.Stack.{IsPassOf, limit_of, room_of}
-use Rattle.lockfree_c.proofs.GaugeStays.{shows}
+use Rattle.lockfree_c.specs.Gauges.{GaugeShows, StackGauged}
+use Rattle.lockfree_c.proofs.Rests.{began}
 use Rattle.lockfree_c.proofs.gauge.stack_gauge.Goals as goal
 
 pub returns-in-Some-clause-gives : goal.returns-in-Some-clause-gives
 returns-in-Some-clause-gives c =
     let p = c.args.pass.now in
     let made = c.gauge-by in
-    let of = subst (λ on. IsPassOf on made.result.0) c.deref.ensures made.ensures.of in
-    let gives = subst (λ on. GaugeGives (room_of on) (limit_of on) (pass_in c.in-Some.by) (pass_in made.result.0) made.result.1) c.deref.ensures made.ensures.gives in
-    shows p (record { container = p.container; stage = c.of.result }) c.in-Some.by c.of_gauge.result c.in-Some.ensures.value refl made.result.0 made.result.1 (of, gives) c.of.ensures c.of_gauge.ensures
+    let shows = subst (λ on. GaugeShows on (pass_in c.in-Some.by) made.result.0 made.result.1) c.deref.ensures (made.ensures.of, made.ensures.gives) in
+    began p c.in-Some.by (λ q. StackGauged q (record { container = p.container; stage = c.of.result }) c.of_gauge.result) c.in-Some.ensures.value (refl, (made.result.0, made.result.1, shows, c.of.ensures, c.of_gauge.ensures))

@@ -3,8 +3,8 @@ use Rattle.bounded_model.specs.Stepping.{Underway, no_step}
 use Rattle.running.specs.Ops.{underway_of}
 use Rattle.ring_queue.specs.Gauging.{IsGauging}
 use Rattle.ring_queue.specs.Ring.{machine_of, pass_in}
-use Rattle.lockfree_c.specs.Rings.{GaugeTried}
-use Rattle.lockfree_c.proofs.RingStays.{gauged}
+use Rattle.lockfree_c.specs.Rings.{GaugeTried, RingGauged}
+use Rattle.lockfree_c.proofs.Rests.{began}
 use Rattle.lockfree_c.proofs.ring.begin_ring_gauge.Goals as goal
 
 pub returns-in-Some-clause-gives : goal.returns-in-Some-clause-gives
@@ -13,7 +13,7 @@ returns-in-Some-clause-gives c =
     let op = c.begin_gauge-op.result in
     let begun = subst (λ on. IsGauging on op × (underway_of (machine_of on) op.pass ≡ no_step (pass_in c.in-Some.by))) c.deref.ensures c.begin_gauge-op.ensures in
     let went = c.go_on.ensures.gives in
-    gauged p c.in-Some.by c.go_on.result.0 c.go_on.result.1 c.in-Some.is went.0 (subst (λ v. GaugeTried p.container.value v went.0) (ap (λ (u : Underway _). u.begun) begun.1) went.1) went.2
+    began p c.in-Some.by (λ q. RingGauged q c.go_on.result.0 c.go_on.result.1) c.in-Some.ensures.value (went.0, subst (λ v. GaugeTried p.container.value v went.0) (ap (λ (u : Underway _). u.begun) begun.1) went.1, went.2)
 
 pub go_on-requires : goal.go_on-requires
 go_on-requires c =

@@ -1,6 +1,7 @@
 use Rattle.std.proofs.Common.{string_bytes}
 use Rattle.player.proofs.Tracing.{adds_as}
-use Rattle.script_replay.specs.Readings.{IsQueueStep, queue_reading}
+use Rattle.ms_queue.specs.Naming.{IsStep}
+use Rattle.script_replay.specs.Readings.{queue_reading}
 use Rattle.script_replay.proofs.Tracing.{played_on}
 use Rattle.script_replay.proofs.queue.play_queue.Goals as goal
 
@@ -10,5 +11,5 @@ returns-clause-traced g c =
     adds_as _ _ _ _ c.in_ok-play.ensures.traced (λ lines traced. (
       c.in_ok-queue.queue,
       new.2,
-      played_on (queue_reading c.in_ok-queue.queue) IsQueueStep _ c.args.script.lines.items (string_bytes c.in_ok-play.field-0) lines new.1 traced,
+      played_on (queue_reading c.in_ok-queue.queue) IsStep _ c.args.script.lines.items (string_bytes c.in_ok-play.field-0) lines new.1 traced,
     ))

@@ -1,6 +1,7 @@
 use Rattle.std.proofs.Common.{string_bytes}
 use Rattle.player.proofs.Tracing.{adds_as}
-use Rattle.script_replay.specs.Readings.{IsStackStep, stack_reading}
+use Rattle.treiber_stack.specs.Naming.{IsStep}
+use Rattle.script_replay.specs.Readings.{stack_reading}
 use Rattle.script_replay.proofs.Tracing.{played_on}
 use Rattle.script_replay.proofs.stack.play_stack.Goals as goal
 
@@ -10,5 +11,5 @@ returns-clause-traced g c =
     adds_as _ _ _ _ c.in_ok-play.ensures.traced (λ lines traced. (
       c.in_ok-stack.stack,
       new.2,
-      played_on (stack_reading c.in_ok-stack.stack) IsStackStep _ c.args.script.lines.items (string_bytes c.in_ok-play.field-0) lines new.1 traced,
+      played_on (stack_reading c.in_ok-stack.stack) IsStep _ c.args.script.lines.items (string_bytes c.in_ok-play.field-0) lines new.1 traced,
     ))

@@ -1,20 +1,21 @@
 use Rattle.std.proofs.Common.{sym, subst}
 use Rattle.ms_queue.specs.Gauging.{IsGauging}
 use Rattle.ms_queue.specs.Queue.{begun_of}
-use Rattle.lockfree_c.proofs.GaugeStays.{Ran, gauge_stays, gauges_on}
+use Rattle.lockfree_c.proofs.QueueStays.{GaugeRan, gauge_stays, gauges_on}
 use Rattle.lockfree_c.proofs.held.QueueGauge.go_on.Goals as goal
 
 pub run_for-made-requires : goal.run_for-made-requires
 run_for-made-requires c = subst (λ on. IsGauging on c.args.self.op) (sym c.deref.ensures) c.requires
 
-pub returns-clause-of : goal.returns-clause-of
-returns-clause-of c =
-    let k = c.args.self in
-    let ran = subst (λ on. Ran on c.steps_for.result k.op c.run_for-made.result) c.deref.ensures c.run_for-made.ensures in
-    gauge_stays k.container.value (begun_of k.container.value k.op.pass) c.run_for-made.result c.left.result.0 c.left.result.1 (gauges_on k.container.value c.steps_for.result k.op c.run_for-made.result ran) c.left.ensures
-
 pub returns-clause-gives : goal.returns-clause-gives
 returns-clause-gives c =
     let k = c.args.self in
-    let ran = subst (λ on. Ran on c.steps_for.result k.op c.run_for-made.result) c.deref.ensures c.run_for-made.ensures in
-    (c.run_for-made.result, gauges_on k.container.value c.steps_for.result k.op c.run_for-made.result ran, c.left.ensures)
+    let made = c.run_for-made.result in
+    let ran = subst (λ on. GaugeRan on c.steps_for.result k.op made) c.deref.ensures c.run_for-made.ensures in
+    (made, gauges_on k.container.value c.steps_for.result k.op made ran, c.left.ensures)
+
+pub returns-clause-of : goal.returns-clause-of
+returns-clause-of c =
+    let k = c.args.self in
+    let went = returns-clause-gives c in
+    gauge_stays k.container.value (begun_of k.container.value k.op.pass) went.0 c.left.result.0 c.left.result.1 went.1 went.2

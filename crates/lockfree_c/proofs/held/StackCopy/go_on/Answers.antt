@@ -1,18 +1,11 @@
 use Rattle.std.proofs.Common.{sym, subst}
 use Rattle.treiber_stack.specs.Copying.{IsCopying, CopyTried}
 use Rattle.treiber_stack.specs.Stack.{begun_of}
-use Rattle.lockfree_c.proofs.CopyStays.{copy_stays}
+use Rattle.lockfree_c.proofs.StackStays.{copy_stays}
 use Rattle.lockfree_c.proofs.held.StackCopy.go_on.Goals as goal
 
 pub copy_for-made-requires : goal.copy_for-made-requires
 copy_for-made-requires c = subst (λ on. IsCopying on c.args.values.now c.args.self.op) (sym c.deref.ensures) c.requires
-
-pub returns-clause-of : goal.returns-clause-of
-returns-clause-of c =
-    let k = c.args.self in
-    let vs = c.args.values.now in
-    let tried = subst (λ on. CopyTried on vs (begun_of on k.op.pass) c.copy_for-made.result) c.deref.ensures c.copy_for-made.ensures in
-    copy_stays k.container.value vs (begun_of k.container.value k.op.pass) c.copy_for-made.result c.left.result.0 c.left.result.1 tried c.left.ensures
 
 pub returns-clause-gives : goal.returns-clause-gives
 returns-clause-gives c =
@@ -20,3 +13,9 @@ returns-clause-gives c =
     let vs = c.args.values.now in
     let tried = subst (λ on. CopyTried on vs (begun_of on k.op.pass) c.copy_for-made.result) c.deref.ensures c.copy_for-made.ensures in
     (c.copy_for-made.result, tried, c.left.ensures)
+
+pub returns-clause-of : goal.returns-clause-of
+returns-clause-of c =
+    let k = c.args.self in
+    let went = returns-clause-gives c in
+    copy_stays k.container.value c.args.values.now (begun_of k.container.value k.op.pass) went.0 c.left.result.0 c.left.result.1 went.1 went.2

@@ -7,7 +7,7 @@ use Rattle.treiber_stack.specs.RangeTrying.{RangeBegun, RangeTried}
 use Rattle.treiber_stack.specs.declared.stack.Stack.{Stack}
 use Rattle.lockfree_c.specs.Held.{RangeMade}
 use Rattle.lockfree_c.specs.declared.held.StackRange.{StackRange}
-use Rattle.lockfree_c.proofs.RangeStays.{range_stays}
+use Rattle.lockfree_c.proofs.StackStays.{range_stays}
 use Rattle.lockfree_c.proofs.held.StackRange.put.Goals as goal
 
 -- a put that was begun at what two borrows show

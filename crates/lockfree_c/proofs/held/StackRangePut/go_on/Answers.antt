@@ -3,7 +3,7 @@ use Rattle.std.proofs.lemmas.List.{with_items_is}
 use Rattle.treiber_stack.specs.RangeTrying.{IsRanging, RangeTried}
 use Rattle.treiber_stack.specs.Stack.{begun_of}
 use Rattle.lockfree_c.specs.Held.{RangeLeft}
-use Rattle.lockfree_c.proofs.RangeStays.{range_stays}
+use Rattle.lockfree_c.proofs.StackStays.{range_stays}
 use Rattle.lockfree_c.proofs.held.StackRangePut.go_on.Goals as goal
 
 pub returns-clause-gives : goal.returns-clause-gives

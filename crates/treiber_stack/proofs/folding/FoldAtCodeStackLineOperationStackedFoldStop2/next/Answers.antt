@@ -9,7 +9,7 @@ use Rattle.treiber_stack.specs.declared.folding.Batch.{Batch}
 use Rattle.treiber_stack.specs.declared.folding.Walk.{Walk}
 use Rattle.treiber_stack.specs.declared.folding.FoldAt.{FoldAt}
 use Rattle.treiber_stack.specs.declared.folding.FoldAt.TheVariants.{TakeAll, LoadToTurn, LoadToFold, GiveBack}
-use Rattle.treiber_stack.specs.declared.folding.FoldStop.TheVariants.{Yields}
+use Rattle.treiber_stack.specs.declared.folding.FoldStop.TheVariants.{Yields, Ended}
 use Rattle.treiber_stack.specs.declared.giving.Chain.{Chain}
 use Rattle.treiber_stack.specs.declared.giving.Give.TheVariants.{Load}
 use Rattle.treiber_stack.proofs.Folds.{Folding, refused, gave_fold}
@@ -90,8 +90,8 @@ returns-then-next-eq-NULL-clause-leads g c =
     let came = subst (λ (s : FoldAt g.row.T.Denot). Came (machine_of stack).core (fold_line s) r (fold_slots s) had) a.is c.requires.came in
     let out = ap (λ m. m.1) c.turn.ensures.2 ∙ ap (λ m. turned m.1) e.out in
     let chain : Chain = record { first = a.walk.first; last = a.walk.index } in
-    subst (λ (s : FoldAt g.row.T.Denot). Folding stack s r had has (Done (Yields x (GiveBack a.batch chain Load)))) (sym a.is)
-    (yields_last stack a.batch a.walk knows r had has x e.value out came.0 came.1 c.if-next-eq-NULL.true chain refl)
+    subst (λ (s : FoldAt g.row.T.Denot). Folding stack s r had has (Done (Yields x (GiveBack a.batch chain (a.walk.count + 1) Load)))) (sym a.is)
+    (yields_last stack a.batch a.walk knows r had has x e.value out came.0 came.1 c.if-next-eq-NULL.true chain refl (a.walk.count + 1) refl)
 
 pub returns-then-next-eq-NULL-clause-told : goal.returns-then-next-eq-NULL-clause-told
 returns-then-next-eq-NULL-clause-told g c =
@@ -106,8 +106,8 @@ returns-then-next-eq-NULL-clause-told g c =
     let came = subst (λ (s : FoldAt g.row.T.Denot). Came (machine_of stack).core (fold_line s) r (fold_slots s) had) a.is c.requires.came in
     let out = ap (λ m. m.1) c.turn.ensures.2 ∙ ap (λ m. turned m.1) e.out in
     let chain : Chain = record { first = a.walk.first; last = a.walk.index } in
-    subst (λ (s : FoldAt g.row.T.Denot). FoldTold (room_of stack) (limit_of stack) (front_of s) (gone s) (Yields x (GiveBack a.batch chain Load))) (sym a.is)
-    (tells_last stack a.batch a.walk knows r had has x e.value out came.0 came.1 c.if-next-eq-NULL.true chain refl)
+    subst (λ (s : FoldAt g.row.T.Denot). FoldTold (room_of stack) (limit_of stack) (front_of s) (gone s) (Yields x (GiveBack a.batch chain (a.walk.count + 1) Load))) (sym a.is)
+    (tells_last stack a.batch a.walk knows r had has x e.value out came.0 came.1 c.if-next-eq-NULL.true chain refl (a.walk.count + 1) refl)
 
 pub returns-else-next-eq-NULL-clause-told : goal.returns-else-next-eq-NULL-clause-told
 returns-else-next-eq-NULL-clause-told g c =
@@ -140,3 +140,10 @@ returns-else-next-eq-NULL-clause-leads g c =
     let walk : Walk g.row.T.Denot = record { first = a.walk.first; index = r.word; count = a.walk.count + 1; held = c.of-in-LoadToFold.result } in
     subst (λ (s : FoldAt g.row.T.Denot). Folding stack s r had has (Done (Yields x (LoadToFold a.batch walk)))) (sym a.is)
     (yields_more stack a.batch a.walk knows r had has x e.value out came.0 came.1 walk refl refl refl (ap (λ s. s.me.1) c.of-in-LoadToFold.ensures) c.if-next-eq-NULL.false)
+
+pub returns-in-Done-clause-told : goal.returns-in-Done-clause-told
+returns-in-Done-clause-told g c =
+    let stack = c.args.on.now in
+    let a = c.in-GiveBack in
+    let knows = subst (HasReadToFold (room_of stack) (limit_of stack)) a.is c.requires.knows in
+    subst (λ (s : FoldAt g.row.T.Denot). FoldTold (room_of stack) (limit_of stack) (front_of s) (gone s) (Ended a.batch a.count)) (sym a.is) (refl, knows.2)

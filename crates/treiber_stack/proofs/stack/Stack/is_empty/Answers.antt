@@ -8,9 +8,10 @@ use Rattle.stack_machine.specs.Machine.{ends}
 use Rattle.tagged_index.specs.declared.word.TheConstants.{NULL}
 use Rattle.stack_table.specs.declared.operation.Operation.TheVariants.{Look as First}
 use Rattle.running.proofs.Ways.{started, begun_is, ends_so}
+use Rattle.treiber_stack.specs.KeepsAnswers.{look_keeps}
 use Rattle.treiber_stack.specs.Ran.{WasRun}
 use Rattle.treiber_stack.specs.Stack.{machine_of, shape_of, pass_in}
-use Rattle.treiber_stack.proofs.Closes.{look_gives}
+use Rattle.treiber_stack.specs.declared.looking.LookAt.TheVariants.{Load}
 use Rattle.treiber_stack.proofs.Gives.{ready_step}
 use Rattle.treiber_stack.proofs.stack.Stack.is_empty.Goals as goal
 
@@ -54,4 +55,4 @@ returns-clause-gives g c =
     let id = stack.table.shared.table_id in
     let s = c.load_top_step-top in
     let e = ends_so (machine_of stack) (started (machine_of stack) id First c.args.by c.requires) (record c.args.by { seat = s.new.seat }) s.result [] s.ensures.steps s.ensures.seat.0 (ends (Answer (eqb c.index.result NULL))) (s.ensures.seat.1 ∙ c.requires.rests.slots) (ap (λ (i : ℕ). ends (Answer (eqb i NULL))) (sym c.index.ensures.field)) refl in
-    subst (λ (b : PassView _). LookGives (shape_of stack) b (pass_in (record c.args.by { seat = s.new.seat })) (eqb c.index.result NULL)) (begun_is (machine_of stack) id c.args.by c.requires) (look_gives stack (eqb c.index.result NULL) e.1)
+    subst (λ (b : PassView _). LookGives (shape_of stack) b (pass_in (record c.args.by { seat = s.new.seat })) (eqb c.index.result NULL)) (begun_is (machine_of stack) id c.args.by c.requires) (look_keeps stack.table.shared.key Load s.new.seat.me.0 _ (eqb c.index.result NULL) e.1)

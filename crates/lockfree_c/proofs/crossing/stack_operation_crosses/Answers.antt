@@ -1,0 +1,7 @@
+use denote.Param.Send.{sendable, param_send}
+use Rattle.treiber_stack.proofs.Crossing.{op_send}
+use Rattle.lockfree_c.proofs.crossing.stack_operation_crosses.Goals as goal
+use Rattle.lockfree_c.proofs.crossing.stack_operation_crosses.Lts.{arg-0-0}
+
+pub crosses-requires-send-T : goal.crosses-requires-send-T
+crosses-requires-send-T c κs = param_send _ (arg-0-0 κs) (search (sendable, op_send) depth 30)

@@ -1,7 +1,0 @@
-use Rattle.std.proofs.Common.{refl}
-use Rattle.ring_machine.specs.declared.lines.Back.TheVariants.{ToClose}
-use Rattle.ring_queue.specs.Walking.{to_back}
-use Rattle.ring_queue.proofs.naming.close_name.Goals as goal
-
-pub returns-in-Walking : goal.returns-in-Walking
-returns-in-Walking g c = rw c.in-Walking.is (c.walk_step.ensures (to_back ToClose) refl)

@@ -1,5 +1,0 @@
-use Rattle.treiber_stack.proofs.Stepping.{put_steps}
-use Rattle.treiber_stack.proofs.stepwise.StackStepwise.step_put.Goals as goal
-
-pub returns : goal.returns
-returns g c = λ x is. put_steps c.args.self.now x c.args.op c.step.result is c.step.ensures
