@@ -5,8 +5,12 @@ use lockfree::{MakeError, Queue, QueuePass, Ring, RingPass, Stack, StackPass};
 fn containers_are_shared_and_passes_are_sent() {
     fn shared<T: Send + Sync>() {}
     fn sent<T: Send>() {}
-    (shared::<Queue<Box<u8>>>(), shared::<Stack<Box<u8>>>(), shared::<Ring<Box<u8>>>());
-    (sent::<QueuePass<Box<u8>>>(), sent::<StackPass<Box<u8>>>(), sent::<RingPass<Box<u8>>>());
+    shared::<Queue<Box<u8>>>();
+    shared::<Stack<Box<u8>>>();
+    shared::<Ring<Box<u8>>>();
+    sent::<QueuePass<Box<u8>>>();
+    sent::<StackPass<Box<u8>>>();
+    sent::<RingPass<Box<u8>>>();
 }
 
 #[test]
