@@ -54,7 +54,7 @@ enum {
                                    slot was filled as often as its laps say; value is twice the laps */
     LOCKFREE_BUSY = 6,          /* the tries are used up: continue with lockfree_go_on; after lockfree_put_range with the same call */
     LOCKFREE_UNDER_WAY = 7,     /* the pass has a call under way: lockfree_go_on first. Or a range's values: lockfree_range_put first */
-    LOCKFREE_NO_CALL = 8,       /* go_on: the pass has no call under way, or one that goes on by lockfree_put_range */
+    LOCKFREE_NO_CALL = 8,       /* go_on: the pass has no call under way, or one that lockfree_put_range continues */
     LOCKFREE_NO_MEMORY = 9,
     LOCKFREE_NO_PASS = 10,      /* split: the root has given as many passes as it may, 65,535; of a ring, as it was made for */
     LOCKFREE_BAD_CAPACITY = 11, /* new: a capacity is 1 to 1,048,573. limited: and a limit of tags 2 to 2^42 - 1. Of a ring:
