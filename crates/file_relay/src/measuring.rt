@@ -31,7 +31,6 @@ use told::{Told, tell};
 /// before the outcome is written, so `Relay(NoMemory)` also comes if there is no memory for them.
 /// Stats that cannot be written are no fault. Words that threads share count the tries. No clause
 /// says how many there were, and so none says how many were refused.
-/// threads share: no clause says it, and so none says how many were refused.
 pub fn relay_measured<T: Threads + Wait + Clock + Sync, R: Read + Drop, W: Write, E: Write>(
     rt: &T,
     alloc: Global,

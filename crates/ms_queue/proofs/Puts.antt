@@ -98,16 +98,6 @@ module _ {T : Type 0} where
   unfolding value_or
   one_value zs us vs i j x y e f = sym (ap (value_or x) e) ∙ ap (value_or x) f
 
-  call_value : T → Call T → T
-  call_value d (CallPut v) = v
-  call_value d k = d
-
-  -- an operation that calls for a put of x is the put of x
-  pub put_named : (o : Operation T) (x : T) → call_of o ≡ CallPut x → o ≡ put_of x
-  unfolding call_value
-  put_named (PutFirst v) x e = ap (λ (y : T). PutFirst (record { marker = record {}; value = y })) (ap (call_value x) e)
-  put_named o x e = cc
-
 -- where the code of a put goes on
 module _ {T : Type 0} (c : Queue T) where
   abbrev pub PutsTo : PutAt T → List (ℕ × Slot T) → Onward (PutAt T) (Result ℕ (PutRefused T)) → Line T → Type 0

@@ -5,7 +5,6 @@ use Rattle.tagged_index.specs.Limits.{capacity_of, tag_limit_of}
 use Rattle.tagged_index.specs.declared.limit.Limits.{Limits}
 use Rattle.running.specs.Code.{Account, to_answer}
 use Rattle.running.specs.Ops.{IsUnderWay}
-use Rattle.running.specs.Steps.{Stands}
 use Rattle.queue_table.specs.declared.operation.Operation.{Operation}
 use Rattle.queue_machine.specs.declared.lines.Seeking.TheVariants.{ToClose}
 use Rattle.queue_machine.specs.declared.lines.Answer.TheVariants.{Close as AnswerClose}
@@ -13,7 +12,6 @@ use Rattle.queue_machine.specs.declared.lines.Line.{Line}
 use Rattle.queue_machine.specs.declared.lines.Line.TheVariants.{MarkNext}
 use Rattle.queue_machine.specs.Machine.{ends}
 use Rattle.queue_table.specs.declared.operation.Operation.TheVariants.{Close as CloseFirst}
-use Rattle.running.specs.declared.passes.Pass.{Pass}
 use Rattle.running.specs.declared.op.Op.{Op}
 use Rattle.ms_queue.specs.declared.closing.CloseAt.{CloseAt}
 use Rattle.ms_queue.specs.declared.closing.CloseAt.TheVariants.{Seeking, Mark}
@@ -38,10 +36,6 @@ module _ {T : Type 0} where
   -- how it is read
   abbrev pub close_account : Limits → Account T (Line T) (Operation T) CloseAt Bool
   close_account k = to_answer (λ at. CloseFirst) close_line (λ at. []) (λ at. HasReadToClose (capacity_of k) (tag_limit_of k) at) (λ o closed. ends (AnswerClose closed))
-
-  -- a whole call is at this
-  abbrev pub CloseStands : Queue T → Pass T (Line T) → CloseAt → Type 0
-  CloseStands c p at = Stands (machine_of c) (close_account c.table.shared.key) c.table.shared.table_id p at
 
   abbrev pub IsClosing : Queue T → CloseOp T → Type 0
   IsClosing c op = IsUnderWay (machine_of c) (close_account c.table.shared.key) c.table.shared.table_id op

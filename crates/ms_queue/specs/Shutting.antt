@@ -4,14 +4,12 @@ use Rattle.tagged_index.specs.Fields.{fields_of}
 use Rattle.tagged_index.specs.declared.limit.Limits.{Limits}
 use Rattle.running.specs.Code.{Account, to_answer}
 use Rattle.running.specs.Ops.{IsUnderWay}
-use Rattle.running.specs.Steps.{Stands}
 use Rattle.queue_table.specs.declared.operation.Operation.{Operation}
 use Rattle.queue_machine.specs.declared.lines.Answer.TheVariants.{Shut as AnswerShut}
 use Rattle.queue_machine.specs.declared.lines.Line.{Line}
 use Rattle.queue_machine.specs.declared.lines.Line.TheVariants.{LoadHeadToShut, ShutHead}
 use Rattle.queue_machine.specs.Machine.{ends}
 use Rattle.queue_table.specs.declared.operation.Operation.TheVariants.{Shut as ShutFirst}
-use Rattle.running.specs.declared.passes.Pass.{Pass}
 use Rattle.running.specs.declared.op.Op.{Op}
 use Rattle.ms_queue.specs.declared.shutting.ShutAt.{ShutAt}
 use Rattle.ms_queue.specs.declared.shutting.ShutAt.TheVariants.{LoadHead, Mark}
@@ -30,10 +28,6 @@ module _ {T : Type 0} where
   -- how it is read
   abbrev pub shut_account : Limits → Account T (Line T) (Operation T) ShutAt Bool
   shut_account k = to_answer (λ at. ShutFirst) shut_line (λ at. []) (λ at. Unit {0}) (λ o shut. ends (AnswerShut shut))
-
-  -- a whole call is at this
-  abbrev pub ShutStands : Queue T → Pass T (Line T) → ShutAt → Type 0
-  ShutStands c p at = Stands (machine_of c) (shut_account c.table.shared.key) c.table.shared.table_id p at
 
   abbrev pub IsShutting : Queue T → ShutOp T → Type 0
   IsShutting c op = IsUnderWay (machine_of c) (shut_account c.table.shared.key) c.table.shared.table_id op

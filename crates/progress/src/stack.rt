@@ -21,8 +21,8 @@ use treiber_stack::{
     CloseOp, FoldOp, LookOp, Pass, PutOp, RangeOp, Rest, Root, ShutOp, Stack, TakeOp,
 };
 
-/// The steps of a put or a take of one value, a close, a shut or a look that is still under way are
-/// at most this number, and 4 more for each compare-and-swap by which another pass has succeeded.
+/// A put or a take of one value, a close, a shut or a look that is still under way has made at most
+/// this many steps. Each compare-and-swap by which another pass has succeeded allows 4 more.
 pub const ALONE: u64 = 9;
 
 /// Puts a value step by step, with no wait, for at most `ALONE + 1` steps. If the put has not ended

@@ -15,13 +15,14 @@ ghost use Rattle.ring_runs.specs.Bounded.{call_in};
 ghost use Rattle.ring_runs.specs.Linearizable.{answer_at};
 
 /// The calls of a run of threads on a ring, refused ones included, are linearizable (Herlihy and
-/// Wing 1990), if each pass began its operations with a spare cell that was free: in no slot, and
-/// with no pass that was in an operation. Linearization points can be put into the invocations and
-/// responses of the acts that led to the ring's table, in the order of the acts. In the order of
-/// the points the operations are a legal history of the bounded queue, with their answers and with
-/// the events that the acts have made. The order of the points keeps real time. At each prefix of
-/// such a history, the operations of a pass that have taken effect are those that it has completed,
-/// or these and its pending one.
+/// Wing 1990). The condition is that each pass began its operations with a spare cell that was
+/// free. A cell is free if it is in no slot, and with no pass in an operation.
+///
+/// Linearization points can be put into the invocations and responses of the acts that led to the
+/// ring's table, in the order of the acts. In the order of the points the operations are a legal
+/// history of the bounded queue, with their answers and with the events that the acts have made.
+/// The order of the points keeps real time. At each prefix of such a history, the operations of a
+/// pass that have taken effect are those that it has completed, or these and its pending one.
 pub fn ring_acts_are_linearizable<T>()
     ensures points { (n laps passes : ℕ) (acts : Acts (SeatLine T)) → 0 < n
         → AllByRecursion (λ a. IsAllowed names (core T n laps passes) a.1) acts → AllFresh names (core T n laps passes) acts

@@ -264,9 +264,9 @@ pub fn step<
 
 /// Like `step`, but by one access alone, and for a caller that treats `On` and `Lost` alike.
 ///
-/// The contract says that the pass's seat makes one access, since each access of a seat is an act
-/// of its pass. A load that no seat makes would change nothing, and nothing would count it. So only
-/// the code shows that there is no such load.
+/// By the contract the step is one act of its pass. Each access that changes a word, or what the
+/// pass has seen, is an act. A further load that changes neither is counted by no clause. Only the
+/// code shows that there is none.
 #[inline(always)]
 pub fn single_step<
     C: OnTable,

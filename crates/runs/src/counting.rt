@@ -6,9 +6,8 @@ ghost use Rattle.runs.specs.Made.{IsAfter, MadeFor};
 use bounded_model::Stepped;
 use running::{Call, HasTable, ListMachine, Op, Pass};
 
-/// Makes at most `steps` steps of an operation, and waits for nobody. Each step is one atomic
-/// access and one act of its pass. If the operation has not ended by then, it comes back after
-/// exactly `steps` more.
+/// Makes at most `steps` steps of an operation, and waits for nobody. Each step is one act of its
+/// pass. If the operation has not ended by then, it comes back after exactly `steps` more.
 pub fn step_for<
     C: HasTable<T, L, O, M>,
     T,

@@ -155,9 +155,6 @@ module _ {T : Type 0} where
   abbrev pub at_slots : Range T → List (ℕ × Slot T)
   at_slots s = range_slots (put_begun s.begun) s.at
 
-  abbrev pub AtKnows : Stack T → Range T → Type 0
-  AtKnows c s = HasRead c (put_begun s.begun) s.held s.at
-
   abbrev pub stop_line : RangeStopped T → Line T
   stop_line r = range_stop (put_begun r.begun) r.stop
 
