@@ -23,9 +23,9 @@
  * said here. Everything that a thread wrote before a put is visible to the thread that takes the value. Everything that
  * it wrote before a close is visible to a thread that is answered CLOSED.
  * Only the calls that make a container, _split, _free, the first _finish of a container, _range_add and _range_put take
- * or give back memory. No call waits for another thread: it is proved that each ends. A bound on its
- * steps is visible in the code, and not proved. The inline functions at the end continue until they have another answer
- * than BUSY.
+ * or give back memory. No call waits for another thread: it is proved that each ends. A bound on its steps is visible in
+ * the code. It is proved of lockfree_go_on alone, for a put, a take, a close, a shut and a look. The inline functions at
+ * the end continue until they have another answer than BUSY.
  */
 #ifndef LOCKFREE_H
 #define LOCKFREE_H
@@ -44,20 +44,20 @@ extern "C" {
 
 enum {
     LOCKFREE_OK = 0,
-    LOCKFREE_FULL = 1,          /* put: each cell holds a value or is held by a call; of a ring, each slot holds a value */
+    LOCKFREE_FULL = 1,          /* put: each cell holds a value or is held by a call; in a ring, each slot holds a value */
     LOCKFREE_EMPTY = 2,         /* take, fold: no value, and more may come. look: it was empty. range_put, put_range: of no value.
                                    finish: nothing is left */
     LOCKFREE_CLOSED = 3,        /* put: closed. take, fold: no value, and none will come. close: it was closed before. gauge: it was
                                    closed, and value is as if it is OK */
     LOCKFREE_SHUT = 4,          /* take, fold: shut. shut: it was shut before */
-    LOCKFREE_SPENT = 5,         /* put, take, fold: a tag is at its limit, 2^42 - 1 or that of _limited; value is the tag. Of a ring, put alone: the
+    LOCKFREE_SPENT = 5,         /* put, take, fold: a tag is at its limit, 2^42 - 1 or that of _limited; value is the tag. In a ring, put alone: the
                                    slot was filled as often as its laps say; value is twice the laps */
     LOCKFREE_BUSY = 6,          /* the tries are used up: continue with lockfree_go_on; after lockfree_put_range with the same call */
     LOCKFREE_UNDER_WAY = 7,     /* the pass has a call under way: lockfree_go_on first. Or a range's values: lockfree_range_put first */
     LOCKFREE_NO_CALL = 8,       /* go_on: the pass has no call under way, or one that lockfree_put_range continues */
     LOCKFREE_NO_MEMORY = 9,
-    LOCKFREE_NO_PASS = 10,      /* split: the root has given as many passes as it may, 65,535; of a ring, as it was made for */
-    LOCKFREE_BAD_CAPACITY = 11, /* new: a capacity is 1 to 1,048,573. limited: and a limit of tags 2 to 2^42 - 1. Of a ring:
+    LOCKFREE_NO_PASS = 10,      /* split: the root has given as many passes as it may, 65,535; in a ring, as it was made for */
+    LOCKFREE_BAD_CAPACITY = 11, /* new: a capacity is 1 to 1,048,573. limited: and a limit of tags 2 to 2^42 - 1. A ring:
                                    see lockfree_ring_new */
     LOCKFREE_OTHER_HANDLE = 12, /* a root instead of a pass, or a pass instead of a root. fold, range: or a queue's or a ring's
                                    pass. count: or a stack's */
@@ -78,7 +78,7 @@ typedef struct lockfree_handle {
  *   take, OK:                  the value that was taken
  *   fold, count, OK:           how many values there were
  *   range_put, put_range, OK:  how many values were put
- *   gauge, OK or CLOSED:       how many tags were used; of a ring, how many values were put
+ *   gauge, OK or CLOSED:       how many tags were used; in a ring, how many values were put
  *   number, OK:                the number of the call that ended last
  *   fold, finish, VALUE:       the next value
  *   SPENT:                     the tag
@@ -140,7 +140,7 @@ lockfree_answer lockfree_finish(lockfree_handle *root);
  *        stacks. It begins anew while others take
  * gauge: OK if the container was open, CLOSED if it was closed. value is how many of its tags were used at the same
  *        moment of the call, at most 2^42 - 1. A queue uses one for each put that was OK. A stack uses one for each put
- *        and each take, of one value or of many. Of a ring, value is how many puts were OK, at most its capacity times its
+ *        and each take, of one value or of many. In a ring, value is how many puts were OK, at most its capacity times its
  *        laps: then it is SPENT. A gauge uses no tag, so it also answers once the container is SPENT */
 lockfree_answer lockfree_put(lockfree_handle *pass, uint64_t value, uint64_t tries);
 lockfree_answer lockfree_take(lockfree_handle *pass, uint64_t tries);
@@ -184,8 +184,8 @@ lockfree_answer lockfree_range_put(lockfree_handle *pass, uint64_t tries);
 lockfree_answer lockfree_put_range(lockfree_handle *pass, const uint64_t *values, size_t count, uint64_t tries);
 
 /* Under ThreadSanitizer, which does not see the library's atomics, each call tells it what they order: of all
- * containers together, so that it reports no race that is none, and misses such as are hidden behind calls of another
- * container. */
+ * containers together, so that it reports no race that is none. It misses a race if calls of another container hide
+ * it. */
 #if defined(__SANITIZE_THREAD__)
 #define LOCKFREE_TELLS_TSAN 1
 #elif defined(__has_feature)
@@ -247,7 +247,7 @@ static inline bool lockfree_is_closed(lockfree_handle *pass)
 }
 
 /* How far the container was worn at one moment of the call: how many of its tags were used, of at most 2^42 - 1, or of
- * the limit that it was made with. Of a ring: how many values were put, of its capacity times its laps. 0 of a handle whose
+ * the limit that it was made with. In a ring: how many values were put, of its capacity times its laps. 0 of a handle whose
  * gauge is refused. */
 static inline uint64_t lockfree_wear(lockfree_handle *pass)
 {

@@ -1,8 +1,8 @@
 // boost::lockfree's queue and stack, made of the proved ones, instead of <boost/lockfree/queue.hpp> and stack.hpp: a
 // program switches by this one include. If it includes Boost's two headers after it, they are empty.
 //
-// What would mean something else here is refused when it is compiled, with the reason: containers that grow, allocators,
-// reserve, options that are not known or are given twice. It does not go with Boost's own headers before it, nor with
+// Code that would mean something else here is refused when it is compiled, with the reason: containers that grow,
+// allocators, reserve, options that are not known or are given twice. It does not go with Boost's own headers before it, nor with
 // spsc_queue, which is not here.
 #pragma once
 

@@ -108,7 +108,7 @@ public:
     /// not put stay in the range. Takes memory for more than 64 values; large
     /// ranges of several threads at a time may take memory for cells. std::bad_alloc if there is none for the first value.
     ///
-    /// What is behind input iterators, which are read once, is put one after another, so that others may see a part.
+    /// Input iterators are read once: their values are put one after another, so that others may see a part.
     template <class It> It push(It begin, It end) {
         using category = typename std::iterator_traits<It>::iterator_category;
         if constexpr (std::is_base_of_v<std::forward_iterator_tag, category>) {

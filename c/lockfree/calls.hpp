@@ -31,7 +31,7 @@ template <class T, class F> void hand_over(F &use, T &value) {
 template <class T, class... Args> inline constexpr bool is_one_rvalue = false;
 template <class T, class Arg> inline constexpr bool is_one_rvalue<T, Arg> = std::is_same_v<Arg, T>;
 
-/// The calls that both containers and their passes have. Any number of threads may call a container at a time, and one
+/// The calls that all containers and their passes have. Any number of threads may call a container at a time, and one
 /// thread a pass. A thread's first call of a container takes a lock and memory. The others take neither, unless their
 /// comment says so. Each call takes effect at one moment, and fails to end only while other threads' calls succeed: both
 /// are proved of the algorithms, and docs/proof.md says what is proved of the code.
@@ -180,7 +180,7 @@ private:
         throw_if_not_made(what);
         return what;
     }
-    /// How many tags are used, of a ring how many values were put, and ok or closed.
+    /// How many tags are used, in a ring how many values were put, and ok or closed.
     status gauge(std::uint64_t &used) const {
         return tell(used, [](handle &pass) { return (lockfree_gauge)(&pass, UINT64_MAX); });
     }

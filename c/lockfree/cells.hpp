@@ -1,8 +1,12 @@
 // The cells of a container: they hold the values that are no word themselves.
 //
-// Free cells hang in chains of one length, 2 to 16. Whole chains lie in a second stack of the library, one word each. A
+// Free cells hang in chains of one length, 2 to 16. Whole chains lie in a second container of the library, one word each. A
 // caller keeps fewer than two chains at hand: a push takes a cell from them, a pop puts one there. So one call in a
 // chain's length moves a chain, and none does while pushes and pops take turns.
+//
+// For a ring the second container is a ring too, for the same number of callers, and with a slot for each chain: so it lasts
+// as long. For a queue and a stack it is a stack. It makes at most one move for each value that is pushed, and one for each
+// chain that is made. If it is spent first, chains are listed under the container's lock.
 //
 // Why no push lacks a cell: there are as many cells as values fit, and three chains more for each caller. A caller has at
 // most two of them, with the cell in hand. So if one has none, some chain is free. Two uses can still empty all chains:
@@ -57,7 +61,7 @@ template <class T> constexpr cell_layout layout_of() noexcept {
 
 /// The free cells that one caller has at hand: `some`, fewer than a chain, and `chain`, a whole one or none.
 struct cells_at_hand {
-    handle way;  // a pass of the stack of chains
+    handle way;  // a pass of the container of chains
     link *some = nullptr;
     link *chain = nullptr;
     std::uint32_t count = 0;  // of `some`
@@ -72,10 +76,11 @@ public:
     cell_store &operator=(const cell_store &) = delete;
     ~cell_store() { clear(); }
 
-    /// Makes the stack of chains. OK, NO_MEMORY.
-    std::uint32_t open(std::size_t values) noexcept {
+    /// Makes the container of chains: a ring for this number of callers, or a stack if that is 0. OK, NO_MEMORY.
+    std::uint32_t open(std::size_t values, std::uint32_t callers) noexcept {
         if (layout.chain == 0) return LOCKFREE_OK;
-        return lockfree_stack_new(&chains, static_cast<std::uint32_t>(chains_for(values) + 3 * planned));
+        const auto room = static_cast<std::uint32_t>(chains_for(values) + 3 * (callers ? callers : planned));
+        return callers ? lockfree_ring_new(&chains, room, callers) : lockfree_stack_new(&chains, room);
     }
 
     /// Three chains more, and a way to them for who comes. OK, NO_MEMORY, NO_PASS.
@@ -114,7 +119,7 @@ public:
     }
 
 private:
-    /// So many callers' chains fit into the stack of chains. What more than these bring is listed under the lock.
+    /// This many callers' chains fit into a stack of chains. The chains of others are listed under the lock.
     static constexpr std::size_t planned = 64;
 
     /// Memory of some chains; it lies behind their cells.
@@ -173,7 +178,7 @@ private:
         return true;
     }
 
-    /// A free chain, from the stack or from the list. While one is free a try fails only if others move chains from one
+    /// A free chain, from the container of chains or from the list. While one is free a try fails only if others move chains from one
     /// to the other meanwhile.
     link *find(cells_at_hand &by, std::mutex &lock) noexcept {
         for (int tries = 0; tries < 64; ++tries) {

@@ -136,13 +136,19 @@ private:
         if constexpr (K == kind::queue) return lockfree_queue_limited(&root, capacity, most.life);
         else if constexpr (K == kind::stack) return lockfree_stack_limited(&root, capacity, most.life);
         else if (most.passes >= UINT32_MAX) return LOCKFREE_BAD_CAPACITY;
-        else return lockfree_ring_limited(&root, capacity, most.life, static_cast<std::uint32_t>(most.passes) + 1);  // one is kept back
+        else return lockfree_ring_limited(&root, capacity, most.life, callers_of(most));  // one is kept back
+    }
+
+    /// How many seats a ring has passes for; 0 of a queue and a stack.
+    template <kind K> static std::uint32_t callers_of(limits<K> most) noexcept {
+        if constexpr (K == kind::ring) return static_cast<std::uint32_t>(most.passes) + 1;
+        else return 0;
     }
 
     template <kind K> std::uint32_t open(limits<K> most) noexcept {
         if (room > UINT32_MAX) return LOCKFREE_BAD_CAPACITY;
         std::uint32_t code = make_root(most);
-        if (code == LOCKFREE_OK) code = cells.open(room);
+        if (code == LOCKFREE_OK) code = cells.open(room, callers_of(most));
         if (code == LOCKFREE_OK) code = make_seat(kept);
         return code == LOCKFREE_OK ? cells.add_for(room, kept->cells) : code;
     }

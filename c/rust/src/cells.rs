@@ -1,16 +1,18 @@
 //! How a value crosses the library, which carries words. A value of up to 8 bytes is its word. Another lies in a cell,
 //! whose address is the word: a place that the container took memory for when it was made, or when a pass was.
 //!
-//! Free cells hang together in chains of [`LENGTH`](Cells::LENGTH). A chain is a word of a second stack of the library.
-//! Each pass has a [`Hand`] with fewer loose cells than a chain has, and one whole chain or none. A push takes a cell
-//! from there, and a pop puts it there; so a chain crosses at most once in as many calls as it has cells, and the second
-//! stack wears out after the container does.
+//! Free cells hang together in chains of [`LENGTH`](Cells::LENGTH). A chain is a word of a second container of the
+//! library. Each pass has a [`Hand`] with fewer loose cells than a chain has, and one whole chain or none. A push takes a
+//! cell from there, and a pop puts it there; so a chain crosses at most once in as many calls as it has cells. The second
+//! container wears out after the first. For a queue and a stack it is a stack, which counts two moves of a chain for at
+//! least four values. For a ring it is a ring, for as many passes, and with a slot for each chain.
 //!
 //! Why a push always finds a cell. Let the capacity be N, a chain's length B, and P passes out. There are N cells, in
 //! whole chains, and 2 B for each pass. N values lie in N cells at most. A pass has at most 2 B cells in its hand, with
-//! the one that it is just filling or emptying. So if one pass has none, at least two chains are free in the stack.
+//! the one that it is just filling or emptying. So if one pass has none, at least two chains are free.
 //! A range puts values into boxes of its own instead, since it has more than one in its hand before they are put.
 use crate::raw::{Kind, RawPass, Root, Word};
+use crate::ring::LAP_LIMIT;
 use crate::{MakeError, TAG_LIMIT};
 use std::alloc::{alloc, dealloc, Layout};
 use std::mem::{self, ManuallyDrop};
@@ -28,7 +30,7 @@ type Link<T> = Option<NonNull<Cell<T>>>;
 /// A word with this bit is the address of a cell that the pop gives back to the allocator. (Cells are aligned by 8.)
 const BOXED: u64 = 1;
 
-/// Passes for whose free chains the stack has room: more than most programs have threads.
+/// Passes for whose free chains a stack has room: more than most programs have threads.
 const PLANNED: u32 = 64;
 
 /// The chains that each pass brings.
@@ -40,10 +42,12 @@ pub(crate) struct Cells<T> {
 }
 
 struct Made<T> {
-    /// Of the stack of free chains.
+    /// Of the container of free chains.
     root: Root,
+    /// Its first pass, until a hand takes it.
+    first: Option<RawPass>,
     blocks: Vec<Block<T>>,
-    /// Free chains for which the stack has no room, as of more passes than planned.
+    /// Free chains for which a stack has no room, since there are more passes than planned.
     crowd: Vec<NonNull<Cell<T>>>,
     chains: usize,
 }
@@ -56,7 +60,7 @@ struct Block<T> {
 
 /// The free cells that one pass has at hand.
 pub(crate) struct Hand<T> {
-    /// Of the stack of free chains.
+    /// Of the container of free chains.
     pass: RawPass,
     loose: Link<T>,
     count: u32,
@@ -80,15 +84,20 @@ impl<T> Cells<T> {
         fit => fit as u32,
     };
 
-    /// The cells for as many values, and none for a pass.
-    pub(crate) fn new(capacity: u32) -> Result<Cells<T>, MakeError> {
-        let mut made = Made { root: Root::none(), blocks: Vec::new(), crowd: Vec::new(), chains: 0 };
+    /// The cells for as many values of a container of this kind, and none for a pass.
+    pub(crate) fn new(kind: Kind, capacity: u32) -> Result<Cells<T>, MakeError> {
+        let mut made = Made { root: Root::none(), first: None, blocks: Vec::new(), crowd: Vec::new(), chains: 0 };
         if !Self::ARE_WORDS {
+            let (kind, planned) = match kind {
+                Kind::Queue { .. } | Kind::Stack { .. } => (Kind::Stack { tags: TAG_LIMIT }, PLANNED),
+                Kind::Ring { passes, .. } => (Kind::Ring { laps: LAP_LIMIT, passes }, passes),
+            };
             let chains = capacity.div_ceil(Self::LENGTH);
             // (a place more for each pass, which a take that is under way may hold)
-            made.root = Root::new(Kind::Stack { tags: TAG_LIMIT }, chains + (BROUGHT + 1) * PLANNED)?;
+            made.root = Root::new(kind, chains + (BROUGHT + 1) * planned)?;
             let mut pass = made.root.split()?;
             made.add_chains(chains, &mut pass)?;
+            made.first = Some(pass);
         }
         Ok(Cells { made: Mutex::new(made) })
     }
@@ -98,7 +107,11 @@ impl<T> Cells<T> {
         let mut hand = Hand::none();
         if !Self::ARE_WORDS {
             let mut made = self.lock();
-            hand.pass = made.root.split()?;
+            // A ring gives no more passes than it was made for, so none may be left over.
+            hand.pass = match made.first.take() {
+                Some(pass) => pass,
+                None => made.root.split()?,
+            };
             made.add_chains(BROUGHT, &mut hand.pass)?;
         }
         Ok(hand)
@@ -218,14 +231,14 @@ impl<T> Hand<T> {
         if let Some(chain) = self.whole.take().or_else(|| self.take_chain()) {
             return Some(chain);
         }
-        // While the crowd is locked, no chain gets there or leaves. So if it has none, the stack has one.
+        // While the crowd is locked, no chain gets there or leaves. So if it has none, the other chains have one.
         let mut made = cells.lock();
         made.crowd.pop().or_else(|| self.take_chain())
     }
 
     fn take_chain(&mut self) -> Link<T> {
         let word = self.pass.take().ok()?;
-        // SAFETY: each word of this stack is a chain's address, which `word_of` set.
+        // SAFETY: each word of this container is a chain's address, which `word_of` set.
         NonNull::new(unsafe { word.assume_init() } as *mut Cell<T>)
     }
 
@@ -274,4 +287,31 @@ fn word_of_bytes<T>(value: T) -> Word {
     // SAFETY: the value is no longer than a word, and no stricter aligned.
     unsafe { word.as_mut_ptr().cast::<T>().write(value) };
     word
+}
+
+#[cfg(test)]
+mod tests {
+    use super::*;
+
+    /// Makes hands, and says how many chains have no place but the crowd.
+    fn crowd_of(kind: Kind, hands: usize) -> usize {
+        let cells = Cells::<[u64; 8]>::new(kind, 1000).unwrap();
+        let hands: Vec<_> = (0..hands).map(|_| cells.hand().unwrap()).collect();
+        let crowd = cells.lock().crowd.len();
+        drop(hands);
+        crowd
+    }
+
+    #[test]
+    fn each_chain_of_a_ring_has_a_place() {
+        assert_eq!(crowd_of(Kind::Ring { laps: LAP_LIMIT, passes: 200 }, 200), 0);
+        assert_eq!(crowd_of(Kind::Ring { laps: 1, passes: 2 }, 2), 0);
+        assert!(Cells::<[u64; 8]>::new(Kind::Ring { laps: 1, passes: 65_535 }, 983_040).is_ok());
+    }
+
+    #[test]
+    fn a_stack_has_room_for_those_of_64_passes() {
+        assert_eq!(crowd_of(Kind::Queue { tags: TAG_LIMIT }, 64), 0);
+        assert!(crowd_of(Kind::Stack { tags: TAG_LIMIT }, 200) > 0);
+    }
 }

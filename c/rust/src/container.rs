@@ -38,7 +38,7 @@ impl<T> Core<T> {
         let root = Root::new(kind, capacity)?;
         Ok(Core {
             seats: Mutex::new(Seats { root, resting: Vec::new(), made: 0 }),
-            cells: Cells::new(capacity)?,
+            cells: Cells::new(kind, capacity)?,
             capacity,
             kind,
             is_closed: AtomicBool::new(false),
@@ -234,7 +234,7 @@ macro_rules! container {
             ///
             /// # Errors
             ///
-            /// [`MakeError::NoPass`] if 65,534 are out at this time, or of a ring as many as it was made for, and
+            /// [`MakeError::NoPass`] if 65,534 are out at this time, or in a ring as many as it was made for, and
             /// [`MakeError::NoMemory`].
             ///
             /// ```

@@ -144,9 +144,9 @@ impl Error for PopError {}
 pub enum MakeError {
     /// There is no memory.
     NoMemory,
-    /// As many passes of the container are out as there may be: 65,534, and of a ring as many as it was made for.
+    /// As many passes of the container are out as there may be: 65,534, and in a ring as many as it was made for.
     NoPass,
-    /// A capacity is 1 to 1,048,573; of a ring with its passes at most 1,048,574.
+    /// A capacity is 1 to 1,048,573; in a ring with its passes at most 1,048,574.
     BadCapacity,
     /// A tag limit is 2 to 2^42 - 1, a lap limit 1 to 2^41 - 1, and a ring's passes are 1 to 65,534.
     BadLimit,
@@ -159,7 +159,7 @@ impl fmt::Display for MakeError {
         to.write_str(match self {
             MakeError::NoMemory => "there is no memory",
             MakeError::NoPass => "all passes of the container are out",
-            MakeError::BadCapacity => "a capacity is 1 to 1,048,573, and of a ring with its passes at most 1,048,574",
+            MakeError::BadCapacity => "a capacity is 1 to 1,048,573, and in a ring with its passes at most 1,048,574",
             MakeError::BadLimit => {
                 "a tag limit is 2 to 2^42 - 1, a lap limit 1 to 2^41 - 1, and a ring's passes are 1 to 65,534"
             }

@@ -1,4 +1,4 @@
-//! The calls that passes of both containers make.
+//! The calls that passes of all containers make.
 use crate::container::{Core, Seat};
 use crate::waiting::Waiting;
 use crate::{MakeError, PopError, PushError};
@@ -41,8 +41,9 @@ pub type RingPass<T> = Pass<T, kind::Ring>;
 /// ```
 ///
 /// Calls whose names say `wait` wait for another thread; no other call does. A stack's `push_range` asks for memory; no other
-/// call does. None takes a lock, as long as no more than 64 passes were out at one time. A pass keeps what it needs if its
-/// container is dropped. It goes back to the container, under a lock, when it is dropped itself.
+/// call does. A call of a ring takes no lock. Nor does one of a queue or a stack, unless its values are larger than 8 bytes
+/// and more than 64 passes were out at one time. A pass keeps what it needs if its container is dropped. It goes back to the
+/// container, under a lock, when it is dropped itself.
 ///
 /// If a call says that something is so, it was so at one moment of the call: other threads may have changed it since.
 pub struct Pass<T, K> {

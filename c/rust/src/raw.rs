@@ -145,7 +145,7 @@ impl Root {
 /// What a container was at one moment.
 pub(crate) struct Gauge {
     pub(crate) is_closed: bool,
-    /// How many tags are used, of a ring how many values were put.
+    /// How many tags are used, in a ring how many values were put.
     pub(crate) used: u64,
 }
 

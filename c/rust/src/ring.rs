@@ -6,14 +6,14 @@ use crate::{MakeError, TAG_LIMIT};
 use std::fmt;
 use std::sync::{Arc, Mutex, PoisonError};
 
-/// The passes of a ring if nothing is said.
+/// The passes of a ring if its caller gives no number.
 const USUAL_PASSES: u32 = 64;
 
 /// How many passes may be out at one time.
 const PASS_LIMIT: u32 = 65_534;
 
 /// How many times a ring can be filled.
-const LAP_LIMIT: u64 = TAG_LIMIT / 2;
+pub(crate) const LAP_LIMIT: u64 = TAG_LIMIT / 2;
 
 /// A bounded queue for a known number of passes: first in, first out. Between threads it takes less time than a [`Queue`]. It
 /// gives passes, one to each thread, and these make the calls of [`Pass`].
