@@ -2,8 +2,8 @@
 // program switches by this one include. If it includes Boost's two headers after it, they are empty.
 //
 // Code that would mean something else here is refused when it is compiled, with the reason: containers that grow,
-// allocators, reserve, options that are not known or are given twice. It does not go with Boost's own headers before it, nor with
-// spsc_queue, which is not here.
+// allocators, reserve, options that are not known or are given twice. It does not go with Boost's own headers before it,
+// nor with spsc_queue, which is not here.
 #pragma once
 
 #if defined(BOOST_LOCKFREE_FIFO_HPP_INCLUDED) || defined(BOOST_LOCKFREE_STACK_HPP_INCLUDED) || \

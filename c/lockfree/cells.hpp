@@ -1,12 +1,12 @@
 // The cells of a container: they hold the values that are no word themselves.
 //
-// Free cells hang in chains of one length, 2 to 16. Whole chains lie in a second container of the library, one word each. A
-// caller keeps fewer than two chains at hand: a push takes a cell from them, a pop puts one there. So one call in a
+// Free cells hang in chains of one length, 2 to 16. Whole chains lie in a second container of the library, one word each.
+// A caller keeps fewer than two chains at hand: a push takes a cell from them, a pop puts one there. So one call in a
 // chain's length moves a chain, and none does while pushes and pops take turns.
 //
-// For a ring the second container is a ring too, for the same number of callers, and with a slot for each chain: so it lasts
-// as long. For a queue and a stack it is a stack. It makes at most one move for each value that is pushed, and one for each
-// chain that is made. If it is spent first, chains are listed under the container's lock.
+// For a ring the second container is a ring too, for the same number of callers, and with a slot for each chain. So it
+// lasts as long. For a queue and a stack it is a stack. It makes at most one move for each value that is pushed, and one
+// for each chain that is made. If it is spent first, chains are listed under the container's lock.
 //
 // Why no push lacks a cell: there are as many cells as values fit, and three chains more for each caller. A caller has at
 // most two of them, with the cell in hand. So if one has none, some chain is free. Two uses can still empty all chains:
@@ -178,8 +178,8 @@ private:
         return true;
     }
 
-    /// A free chain, from the container of chains or from the list. While one is free a try fails only if others move chains from one
-    /// to the other meanwhile.
+    /// A free chain, from the container of chains or from the list. While one is free a try fails only if others move
+    /// chains from one to the other meanwhile.
     link *find(cells_at_hand &by, std::mutex &lock) noexcept {
         for (int tries = 0; tries < 64; ++tries) {
             const lockfree_answer answer = detail::take(by.way);
