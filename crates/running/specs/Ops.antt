@@ -5,7 +5,7 @@ use Rattle.bounded_model.specs.declared.answers.Stepped.{Stepped}
 use Rattle.bounded_model.specs.declared.views.PassView.{PassView}
 use Rattle.bounded_model.specs.Stepping.{Underway, GoesOn, MatchStepped, OneStep}
 use Rattle.running.specs.Machine.{Names, Machine}
-use Rattle.running.specs.Going.{IsLine}
+use Rattle.running.specs.Going.{Ended, IsLine}
 use Rattle.running.specs.Code.{Account}
 use Rattle.running.specs.Passes.{IsPassOn, begun_of, pass_in}
 use Rattle.running.specs.Steps.{Stands}
@@ -36,7 +36,8 @@ module _ {T L O S A : Type 0} {names : Names L O} (m : Machine T L O names) (c :
         (λ next. IsUnderWay next × GoesOn (underway_of m op.pass) (underway_of m next.pass) × (next.operation ≡ op.operation)
         × IsLine m op.pass.seat.me.0 next.pass.seat.me.0 (c.line op.at) (c.line next.at))
         (λ back a. IsPassOn m id back × OneStep (pass_in op.pass) (pass_in back) × Promises op.operation (begun_of m op.pass) (pass_in back) a
-        × IsLine m op.pass.seat.me.0 back.seat.me.0 (c.line op.at) (c.answer op.operation a))
+        × IsLine m op.pass.seat.me.0 back.seat.me.0 (c.line op.at) (c.answer op.operation a)
+        × Ended m op.operation back.seat.me.0 (begun_of m op.pass) (c.answer op.operation a))
 
     -- What n steps give: it continues as the same operation after exactly n, or has given what it promises after at most n
     abbrev pub OpRan : ℕ → Op T L O S → Stepped (Op T L O S) (Pass T L) A → Type 0
@@ -44,4 +45,5 @@ module _ {T L O S A : Type 0} {names : Names L O} (m : Machine T L O names) (c :
         (λ next. IsUnderWay next × (begun_of m next.pass ≡ begun_of m op.pass) × (next.operation ≡ op.operation)
         × ((pass_in next.pass).steps ≡ (pass_in op.pass).steps + n))
         (λ back a. IsPassOn m id back × Promises op.operation (begun_of m op.pass) (pass_in back) a
-        × ((pass_in back).steps ≤ (pass_in op.pass).steps + n))
+        × ((pass_in back).steps ≤ (pass_in op.pass).steps + n)
+        × Ended m op.operation back.seat.me.0 (begun_of m op.pass) (c.answer op.operation a))

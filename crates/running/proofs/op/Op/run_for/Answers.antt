@@ -21,4 +21,5 @@ returns-in-Done g c =
       stops.0,
       subst (λ o. g.S.Call.promises key o begun (pass_in back) answer) (sym c.requires.named) (g.met.S.Call.keeps key op.at back.seat.me.0 begun answer end),
       e.took,
+      stops.1,
     )

@@ -1,5 +1,5 @@
 use Rattle.std.proofs.Common.{sym, subst}
-use Rattle.running.specs.Going.{IsLine}
+use Rattle.running.specs.Going.{Ended, IsLine}
 use Rattle.running.specs.Passes.{begun_of, pass_in}
 use Rattle.running.proofs.Leading.{ended}
 use Rattle.running.proofs.op.Op.step.Goals as goal
@@ -20,4 +20,5 @@ returns-in-Done g c =
       e.1.1,
       subst (λ o. g.S.Call.promises key o begun (pass_in back) answer) (sym c.requires.named) (g.met.S.Call.keeps key op.at back.seat.me.0 begun answer stops.1),
       subst (λ o. IsLine m op.pass.seat.me.0 back.seat.me.0 (s.line op.at) (s.answer o answer)) (sym c.requires.named) e.1.0,
+      subst (λ o. Ended m o back.seat.me.0 begun (s.answer o answer)) (sym c.requires.named) stops.1,
     )
