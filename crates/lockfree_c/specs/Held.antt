@@ -28,10 +28,9 @@ use Rattle.treiber_stack.specs.Left as stack_left
 use Rattle.treiber_stack.specs.Stack as stack
 use Rattle.treiber_stack.specs.Copying.{IsCopying, CopyTried}
 use Rattle.treiber_stack.specs.FoldOp.{IsFolding, FoldTried}
-use Rattle.treiber_stack.specs.RangeTrying.{IsRanging, RangeTried}
+use Rattle.treiber_stack.specs.RangeTrying.{IsRanging, RangeOp, RangeTried}
 use Rattle.treiber_stack.specs.declared.fold_op.FoldMade.{FoldMade}
 use Rattle.treiber_stack.specs.declared.fold_op.FoldMade.TheVariants.{Again, Value, Done}
-use Rattle.treiber_stack.specs.declared.range_trying.RangeOp.{RangeOp}
 use Rattle.treiber_stack.specs.declared.stack.Stack.{Stack}
 use Rattle.ring_table.specs.Core.{shape_for}
 use Rattle.ring_queue.specs.Counting as ring_counting

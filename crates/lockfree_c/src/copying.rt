@@ -60,7 +60,7 @@ impl StackCopy {
         ensures gives { CopyWentOn self values.now result.0 result.1 }
     {
         let StackCopy { container, op } = self;
-        let made = op.copy_for(&container, values, steps_for(STACK_BULK, tries));
+        let made = container.run_copies_for(op, values, steps_for(STACK_BULK, tries));
         left(container, made)
     }
 }

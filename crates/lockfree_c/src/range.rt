@@ -141,7 +141,7 @@ impl StackRangePut {
             values,
         } = self;
         let mut values = values;
-        let made = op.run_for(&container, &mut values, steps_for(STACK_BULK, tries));
+        let made = container.run_range_for(op, &mut values, steps_for(STACK_BULK, tries));
         left(container, values, made)
     }
 }

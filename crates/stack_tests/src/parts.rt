@@ -28,7 +28,7 @@ fn put_in_parts<R: Abort>(
         Stepped::Done(pass, answer) => return (pass, answer, 0),
     };
     for before in 0..MOST_PARTS {
-        match range.run_for(stack, values, 1) {
+        match stack.run_range_for(range, values, 1) {
             Stepped::Again(next) => range = next,
             Stepped::Done(pass, answer) => return (pass, answer, before + 1),
         }

@@ -26,8 +26,8 @@ module _ {T : Type 0} (c : Stack T) (o : Operation T) (vs : List T) (is : IsRang
   long : length (places_from nodes.count vs) ≡ length vs
   long = ranging.length_places nodes.count vs f.has.few
 
-  pub to_node : nodes.count < length vs → IsCopying c vs (record { pass = q; operation = o; held = nodes; at = LoadFree })
+  pub to_node : nodes.count < length vs → IsCopying c vs (record { pass = q; operation = o; at = record { held = nodes; at = LoadFree } })
   to_node low = let l = long in ranging.to_node c o vs is q nodes f (places_from nodes.count vs) refl (omega (arith, l, low))
 
-  pub to_top : 0 < nodes.count → length vs ≤ nodes.count → IsCopying c vs (record { pass = q; operation = o; held = nodes; at = Load })
+  pub to_top : 0 < nodes.count → length vs ≤ nodes.count → IsCopying c vs (record { pass = q; operation = o; at = record { held = nodes; at = Load } })
   to_top some_node high = let l = long in ranging.to_top c o vs is q nodes f (places_from nodes.count vs) refl some_node (omega (arith, l, high))

@@ -1,6 +1,6 @@
 -- How many steps a part of a range has made.
 use Rattle.std.proofs.lemmas.Bool.{false≢true}
-use Rattle.std.proofs.Common.{◌≡◌, ℕ, zero, suc, ◌+◌, ◌*◌, ◌<◌, ◌≤◌, ◌⊎◌, inl, inr, Bool, true, false, refl, sym, ap, ◌∙◌, subst, arith}
+use Rattle.std.proofs.Common.{◌≡◌, ℕ, suc, ◌+◌, ◌*◌, ◌<◌, ◌≤◌, ◌⊎◌, inl, inr, Bool, true, false, refl, sym, ap, ◌∙◌, subst, arith}
 use Rattle.std.proofs.Math.Nat.{suc-mul}
 use Rattle.std.specs.Prelude.{Result, Ok, Err}
 use Rattle.bounded_model.specs.declared.answers.Stepped.TheVariants.{Again}
@@ -8,8 +8,7 @@ use Rattle.bounded_model.specs.declared.bulk.Ranged.{Ranged}
 use Rattle.bounded_model.specs.declared.bulk.RangeRefused.{RangeRefused}
 use Rattle.stack_machine.specs.declared.lines.Line.{Line}
 use Rattle.running.specs.declared.passes.Pass.{Pass}
-use Rattle.treiber_stack.specs.declared.range_trying.RangeOp.{RangeOp}
-use Rattle.treiber_stack.specs.RangeTrying.{PutSoMany, RangeEnds, RangeSteps, StoppedAt, gives_back}
+use Rattle.treiber_stack.specs.RangeTrying.{PutSoMany, RangeEnds, RangeOp, RangeSteps, StoppedAt, gives_back}
 use Rattle.treiber_stack.specs.Stack.{pass_in}
 
 true_or_false : (b : Bool) → (b ≡ true) ⊎ (b ≡ false)
@@ -19,32 +18,32 @@ true_or_false false = inr refl
 module _ {T : Type 0} (n : ℕ) (op : RangeOp T) where
   -- a part of op has come to a range that is newly on its way back, or has nodes more
   abbrev More : RangeOp T → Type 0
-  More range = (gives_back range.at ≡ true)
-      ⊎ ((gives_back range.at ≡ false) × (more : ℕ) × (suc more + op.held.count ≡ range.held.count) × ((pass_in range.pass).steps ≤ (pass_in op.pass).steps + suc more * (n + 1)))
+  More range = (gives_back range.at.at ≡ true)
+      ⊎ ((gives_back range.at.at ≡ false) × (more : ℕ) × (suc more + op.at.held.count ≡ range.at.held.count) × ((pass_in range.pass).steps ≤ (pass_in op.pass).steps + suc more * (n + 1)))
 
   -- it has made so many rounds, each up to a stop
   abbrev pub Come : ℕ → RangeOp T → Type 0
-  Come round range = ((round ≡ 0) × (range ≡ op)) ⊎ ((gives_back op.at ≡ false) × More range)
+  Come round range = ((round ≡ 0) × (range ≡ op)) ⊎ ((gives_back op.at.at ≡ false) × More range)
 
   module _ (round : ℕ) (range : RangeOp T) where
     -- one round more
-    pub comes : Come round range → (q : Pass T (Line T)) → (pass_in q).steps ≤ (pass_in range.pass).steps + n → (next : RangeOp T) → StoppedAt range.at range.held.count q (Again next) → Come (round + 1) next
-    comes come q few next s = by_side (true_or_false (gives_back next.at)) come
+    pub comes : Come round range → (q : Pass T (Line T)) → (pass_in q).steps ≤ (pass_in range.pass).steps + n → (next : RangeOp T) → StoppedAt range.at.at range.at.held.count q (Again next) → Come (round + 1) next
+    comes come q few next s = by_side (true_or_false (gives_back next.at.at)) come
       where
         mul : (k : ℕ) → suc k * (n + 1) ≡ k * (n + 1) + (n + 1)
         mul k = suc-mul k (n + 1)
 
-        by_side : (gives_back next.at ≡ true) ⊎ (gives_back next.at ≡ false) → Come round range → Come (round + 1) next
-        by_side (inl back) (inl e) = inr (subst (λ (x : RangeOp T). gives_back x.at ≡ false) e.1 s.0, inl back)
+        by_side : (gives_back next.at.at ≡ true) ⊎ (gives_back next.at.at ≡ false) → Come round range → Come (round + 1) next
+        by_side (inl back) (inl e) = inr (subst (λ (x : RangeOp T). gives_back x.at.at ≡ false) e.1 s.0, inl back)
         by_side (inl back) (inr m) = inr (m.0, inl back)
         by_side (inr on) (inl e) =
             let f = s.1 on in
-            let same : range.held.count ≡ op.held.count = ap (λ (x : RangeOp T). x.held.count) e.1 in
+            let same : range.at.held.count ≡ op.at.held.count = ap (λ (x : RangeOp T). x.at.held.count) e.1 in
             let begun : (pass_in range.pass).steps ≡ (pass_in op.pass).steps = ap (λ (x : RangeOp T). (pass_in x.pass).steps) e.1 in
             let count = f.0 in
             let made = f.1 in
             let one = mul 0 in
-            inr (subst (λ (x : RangeOp T). gives_back x.at ≡ false) e.1 s.0, inr (on, 0, omega (arith, same, count), omega (arith, begun, made, few, one)))
+            inr (subst (λ (x : RangeOp T). gives_back x.at.at ≡ false) e.1 s.0, inr (on, 0, omega (arith, same, count), omega (arith, begun, made, few, one)))
         by_side (inr on) (inr (nb, inl back)) = absurd (false≢true (sym s.0 ∙ back))
         by_side (inr on) (inr (nb, inr (f, more, same, most))) =
             let g = s.1 on in
@@ -54,9 +53,9 @@ module _ {T : Type 0} (n : ℕ) (op : RangeOp T) where
             inr (nb, inr (on, suc more, omega (arith, same, count), omega (arith, made, few, most, one)))
 
     -- it goes on with the same nodes
-    pub goes : Come round range → (next : RangeOp T) → gives_back next.at ≡ gives_back range.at → next.held.count ≡ range.held.count → (pass_in next.pass).steps ≡ (pass_in range.pass).steps + n → RangeSteps n op (Again next)
+    pub goes : Come round range → (next : RangeOp T) → gives_back next.at.at ≡ gives_back range.at.at → next.at.held.count ≡ range.at.held.count → (pass_in next.pass).steps ≡ (pass_in range.pass).steps + n → RangeSteps n op (Again next)
     goes (inl e) next side count made =
-        let same : range.held.count ≡ op.held.count = ap (λ (x : RangeOp T). x.held.count) e.1 in
+        let same : range.at.held.count ≡ op.at.held.count = ap (λ (x : RangeOp T). x.at.held.count) e.1 in
         let begun : (pass_in range.pass).steps ≡ (pass_in op.pass).steps = ap (λ (x : RangeOp T). (pass_in x.pass).steps) e.1 in
         λ _. (0, omega (arith, same, count), omega (arith, begun, made), λ _. omega (arith, begun, made))
     goes (inr (nb, inl back)) next side count made = λ same. absurd (false≢true (sym nb ∙ sym same ∙ side ∙ back))
@@ -69,12 +68,12 @@ module _ {T : Type 0} (n : ℕ) (op : RangeOp T) where
     over some (inr (nb, inr (f, more, same, most))) = λ _. (suc more, same, omega (arith, most), λ z. absurd (omega arith))
 
     -- or it has ended
-    pub ends : Come round range → (q : Pass T (Line T)) → (pass_in q).steps ≤ (pass_in range.pass).steps + n → (back : Pass T (Line T)) → back ≡ q → (answer : Result Ranged RangeRefused) → PutSoMany range.at range.held.count answer → RangeEnds n op back answer
+    pub ends : Come round range → (q : Pass T (Line T)) → (pass_in q).steps ≤ (pass_in range.pass).steps + n → (back : Pass T (Line T)) → back ≡ q → (answer : Result Ranged RangeRefused) → PutSoMany range.at.at range.at.held.count answer → RangeEnds n op back answer
     ends come q few back is answer put = subst (λ (p : Pass T (Line T)). RangeEnds n op p answer) (sym is) (by_answer come answer put)
       where
-        by_answer : Come round range → (answer : Result Ranged RangeRefused) → PutSoMany range.at range.held.count answer → RangeEnds n op q answer
+        by_answer : Come round range → (answer : Result Ranged RangeRefused) → PutSoMany range.at.at range.at.held.count answer → RangeEnds n op q answer
         by_answer (inl e) (Ok r) put =
-            let same : range.held.count ≡ op.held.count = ap (λ (x : RangeOp T). x.held.count) e.1 in
+            let same : range.at.held.count ≡ op.at.held.count = ap (λ (x : RangeOp T). x.at.held.count) e.1 in
             let begun : (pass_in range.pass).steps ≡ (pass_in op.pass).steps = ap (λ (x : RangeOp T). (pass_in x.pass).steps) e.1 in
             let count = put.1 in
             (0, omega (arith, same, count), omega (arith, begun, few))

@@ -127,13 +127,13 @@ module _ {T : Type 0} (c : Stack T) (o : Operation T) (vs : List T) (is : IsRang
   long : length places ≡ length vs
   long = ap length are ∙ length_places nodes.count vs f.has.few
 
-  pub to_node : nodes.count < length places → IsRanging c vs places (record { pass = q; operation = o; held = nodes; at = LoadFree })
+  pub to_node : nodes.count < length places → IsRanging c vs places (record { pass = q; operation = o; at = record { held = nodes; at = LoadFree } })
   to_node low =
       let l = long in
       let next : nodes.count < length vs = omega (arith, l, low) in
       record { of = is; at = record { chain = f.chain; has = f.has; is = wants_node c o vs q nodes f next; wants = λ e. next }; places_are = are }
 
-  pub to_top : 0 < nodes.count → length places ≤ nodes.count → IsRanging c vs places (record { pass = q; operation = o; held = nodes; at = Load })
+  pub to_top : 0 < nodes.count → length places ≤ nodes.count → IsRanging c vs places (record { pass = q; operation = o; at = record { held = nodes; at = Load } })
   to_top some_node high =
       let l = long in
       record { of = is; at = record { chain = f.chain; has = f.has; is = wants_top c o vs q nodes f some_node (omega (arith, l, high)); wants = λ e. absurd (false≢true e) }; places_are = are }

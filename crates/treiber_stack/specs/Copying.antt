@@ -1,5 +1,5 @@
 -- A range whose values are copied from a slice: where it is between its parts, and what one part of it gives.
-use Rattle.std.specs.Prelude.{◌≡◌, ℕ, List, Option as Slot, Result}
+use Rattle.std.specs.Prelude.{◌≡◌, List, Option as Slot, Result}
 use Rattle.bounded_model.specs.declared.answers.Stepped.{Stepped}
 use Rattle.bounded_model.specs.declared.bulk.Ranged.{Ranged}
 use Rattle.bounded_model.specs.declared.bulk.RangeRefused.{RangeRefused}
@@ -8,16 +8,15 @@ use Rattle.bounded_model.specs.Stepping.{MatchStepped}
 use Rattle.stack_machine.specs.declared.lines.Line.{Line}
 use Rattle.running.specs.declared.passes.Pass.{Pass}
 use Rattle.treiber_stack.specs.declared.stack.Stack.{Stack}
-use Rattle.treiber_stack.specs.declared.range_trying.RangeOp.{RangeOp}
 use Rattle.treiber_stack.specs.Ranging.{PutsOf}
-use Rattle.treiber_stack.specs.RangeTrying.{IsRanging, gives_back, places_at}
+use Rattle.treiber_stack.specs.RangeTrying.{IsRanging, RangeOp, gives_back, places_at}
 use Rattle.treiber_stack.specs.Stack.{pass_in, begun_of}
 
 module _ {T : Type 0} (c : Stack T) (vs : List T) where
   -- a put of these values is under way. If it had places, the values in nodes would have left theirs; once it
   -- gives nodes back, all would be there
   abbrev pub IsCopying : RangeOp T → Type 0
-  IsCopying op = IsRanging c vs (places_at (gives_back op.at) op.held.count vs) op
+  IsCopying op = IsRanging c vs (places_at (gives_back op.at.at) op.at.held.count vs) op
 
   -- the put, begun as the pass was v, is under way, or gave what the whole put of a range gives. The places are those of the values that
   -- were not put

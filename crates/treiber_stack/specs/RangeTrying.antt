@@ -6,17 +6,21 @@ use Rattle.bounded_model.specs.declared.bulk.RangeRefused.{RangeRefused}
 use Rattle.bounded_model.specs.declared.views.PassView.{PassView}
 use Rattle.bounded_model.specs.Stepping.{MatchStepped}
 use Rattle.stack_machine.specs.declared.lines.Line.{Line}
+use Rattle.running.specs.declared.op.Op.{Op}
 use Rattle.running.specs.declared.passes.Pass.{Pass}
 use Rattle.stack_table.specs.declared.operation.Operation.{Operation}
 use Rattle.treiber_stack.specs.declared.stack.Stack.{Stack}
 use Rattle.treiber_stack.specs.declared.range_steps.Held.{Held}
 use Rattle.treiber_stack.specs.declared.range_steps.RangeAt.{RangeAt}
 use Rattle.treiber_stack.specs.declared.range_steps.RangeAt.TheVariants.{GiveBack}
+use Rattle.treiber_stack.specs.declared.range_steps.RangeState.{RangeState}
 use Rattle.treiber_stack.specs.declared.range_steps.RangeStop.{RangeStop}
-use Rattle.treiber_stack.specs.declared.range_trying.RangeOp.{RangeOp}
 use Rattle.treiber_stack.specs.Ran.{IsRange}
 use Rattle.treiber_stack.specs.Ranging.{HasNodes, IsRangeAt, PutsOf, StopsSo, places_from, putting, takes}
 use Rattle.treiber_stack.specs.Stack.{pass_in, begun_of}
+
+abbrev pub RangeOp : Type 0 → Type 0
+RangeOp T = Op T (Line T) (Operation T) RangeState
 
 -- its values are back in their places
 abbrev pub gives_back : RangeAt → Bool
@@ -38,7 +42,7 @@ module _ {T : Type 0} where
   -- with one node more after one step at most
   abbrev pub StoppedAt : RangeAt → ℕ → Pass T (Line T) → Stepped (RangeOp T) (Pass T (Line T)) (Result Ranged RangeRefused) → Type 0
   StoppedAt at count p made = MatchStepped made
-      (λ next. (gives_back at ≡ false) × (gives_back next.at ≡ false → (next.held.count ≡ count + 1) × ((pass_in next.pass).steps ≤ (pass_in p).steps + 1)))
+      (λ next. (gives_back at ≡ false) × (gives_back next.at.at ≡ false → (next.at.held.count ≡ count + 1) × ((pass_in next.pass).steps ≤ (pass_in p).steps + 1)))
       (λ back answer. (back ≡ p) × PutSoMany at count answer)
 
   -- The steps of a part that took `more` nodes: n to take each and one to link it, and n after the last
@@ -49,12 +53,12 @@ module _ {T : Type 0} where
   -- it is newly on its way back. Such a range has made exactly n if it has no node more. MadeWith also bounds the steps of a range that was
   -- put, or was on its way back before
   abbrev pub RangeEnds : ℕ → RangeOp T → Pass T (Line T) → Result Ranged RangeRefused → Type 0
-  RangeEnds n op back (Ok r) = (more : ℕ) × (more + op.held.count ≡ r.count) × MadeWith n more (pass_in op.pass) (pass_in back)
-  RangeEnds n op back (Err why) = gives_back op.at ≡ true → MadeWith n 0 (pass_in op.pass) (pass_in back)
+  RangeEnds n op back (Ok r) = (more : ℕ) × (more + op.at.held.count ≡ r.count) × MadeWith n more (pass_in op.pass) (pass_in back)
+  RangeEnds n op back (Err why) = gives_back op.at.at ≡ true → MadeWith n 0 (pass_in op.pass) (pass_in back)
 
   abbrev pub RangeSteps : ℕ → RangeOp T → Stepped (RangeOp T) (Pass T (Line T)) (Result Ranged RangeRefused) → Type 0
   RangeSteps n op made = MatchStepped made
-      (λ next. gives_back next.at ≡ gives_back op.at → (more : ℕ) × (more + op.held.count ≡ next.held.count) × MadeWith n more (pass_in op.pass) (pass_in next.pass)
+      (λ next. gives_back next.at.at ≡ gives_back op.at.at → (more : ℕ) × (more + op.at.held.count ≡ next.at.held.count) × MadeWith n more (pass_in op.pass) (pass_in next.pass)
       × (more ≡ 0 → (pass_in next.pass).steps ≡ (pass_in op.pass).steps + n))
       (λ back answer. RangeEnds n op back answer)
 
@@ -81,8 +85,8 @@ module _ {T : Type 0} (c : Stack T) where
   -- a put of these values is under way, and its places are these
   pub record IsRanging (vs : List T) (places : List (Slot T)) (op : RangeOp T) : Type 0 where
     pub of : IsRange op.operation vs
-    pub at : IsRangeOf c op.operation op.pass vs op.held op.at
-    pub places_are : places ≡ places_at (gives_back op.at) op.held.count vs
+    pub at : IsRangeOf c op.operation op.pass vs op.at.held op.at.at
+    pub places_are : places ≡ places_at (gives_back op.at.at) op.at.held.count vs
 
   -- begun as the pass was v, it is under way, or gave what the whole put gives
   abbrev pub RangeTried : List T → PassView T → List (Slot T) → Stepped (RangeOp T) (Pass T (Line T)) (Result Ranged RangeRefused) → Type 0

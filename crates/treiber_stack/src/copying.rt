@@ -13,10 +13,11 @@ ghost use Rattle.treiber_stack.specs.declared.range_steps.RangeStop.TheVariants.
 ghost use Rattle.treiber_stack.specs.declared.refusing.Barred.{Barred};
 
 use crate::giving::{Chain, Give};
-use crate::range_steps::{Held, RangeAt, RangeEnd, RangeStop};
+use crate::range_steps::{Held, RangeAt, RangeEnd, RangeState, RangeStop};
 use crate::range_trying::RangeOp;
 use crate::stack::{Pass, Stack};
 use bounded_model::{RangeRefused, Ranged, Stepped, Word};
+use running::Op;
 use stack_table::{Listed, Operation};
 use std::snapshot::Snapshot;
 use tagged_index::NULL;
@@ -59,11 +60,14 @@ impl<T: Copy> Stack<T> {
             chain: Chain::of(NULL),
             count: 0,
         };
-        Stepped::Again(RangeOp {
-            pass: by,
-            operation,
+        let at = RangeState {
             held,
             at: RangeAt::LoadFree,
+        };
+        Stepped::Again(Op {
+            pass: by,
+            operation,
+            at,
         })
     }
 
@@ -92,18 +96,18 @@ impl<T: Copy> Stack<T> {
         let (pass, held) = self.load_node(by, held, index, &mut place, &operation);
         if (held.count as usize) < values.len() {
             let at = RangeAt::LoadFree;
-            return Stepped::Again(RangeOp {
+            let at = RangeState { held, at };
+            return Stepped::Again(Op {
                 pass,
                 operation,
-                held,
                 at,
             });
         }
         let at = RangeAt::Load;
-        Stepped::Again(RangeOp {
+        let at = RangeState { held, at };
+        Stepped::Again(Op {
             pass,
             operation,
-            held,
             at,
         })
     }
@@ -134,10 +138,10 @@ impl<T: Copy> Stack<T> {
             RangeEnd::Barred(why) => {
                 let pass = self.empty_nodes(by, held);
                 let at = RangeAt::GiveBack(why, Give::Load);
-                Stepped::Again(RangeOp {
+                let at = RangeState { held, at };
+                Stepped::Again(Op {
                     pass,
                     operation,
-                    held,
                     at,
                 })
             }
@@ -165,42 +169,39 @@ impl<T: Copy> Stack<T> {
         }
         pass
     }
-}
 
-impl<T: Copy> RangeOp<T> {
     /// Continues the put with the values that it was begun with. It makes at most `steps` steps to
     /// take each node, `steps` to put them onto the top and `steps` to give them back; a node that
     /// is linked, or emptied, is one more. It waits after each compare-and-swap that failed. The
     /// contract does not bound the steps.
-    pub fn copy_for(
-        self,
-        stack: &Stack<T>,
+    pub fn run_copies_for(
+        &self,
+        op: RangeOp<T>,
         values: &[T],
         steps: u64,
     ) -> Stepped<RangeOp<T>, Pass<T>, Result<Ranged, RangeRefused>>
-        requires { IsCopying stack.now values.now self }
-        ensures { CopyTried stack.now values.now (begun_of stack.now self.pass) result }
+        requires { IsCopying self.now values.now op }
+        ensures { CopyTried self.now values.now (begun_of self.now op.pass) result }
     {
-        let mut range = self;
+        let mut range = op;
         // The range stops with each node, when it has emptied the nodes, and at its end.
         for _ in 0..values.len().saturating_add(2) {
-            let RangeOp {
+            let Op {
                 pass,
                 operation,
-                held,
-                at,
+                at: RangeState { held, at },
             } = range;
-            match stack.run_range_for(pass, held, at, &operation, steps) {
+            match self.try_range(pass, held, at, &operation, steps) {
                 Stepped::Again((pass, at)) => {
-                    return Stepped::Again(RangeOp {
+                    let at = RangeState { held, at };
+                    return Stepped::Again(Op {
                         pass,
                         operation,
-                        held,
                         at,
                     });
                 }
                 Stepped::Done(back, stop) => {
-                    match stack.copy_on(back, held, stop, values, operation) {
+                    match self.copy_on(back, held, stop, values, operation) {
                         Stepped::Again(next) => range = next,
                         Stepped::Done(pass, answer) => return Stepped::Done(pass, answer),
                     }

@@ -49,6 +49,13 @@ pub(crate) enum RangeAt {
     GiveBack(Barred, Give),
 }
 
+/// The state of a range between two of its steps: the nodes that it holds, and its next step.
+#[derive(Drop)]
+pub struct RangeState {
+    pub(crate) held: Held,
+    pub(crate) at: RangeAt,
+}
+
 /// A range under way.
 #[derive(Drop)]
 pub(crate) struct Range<T> {
@@ -113,7 +120,7 @@ impl<T> Stack<T> {
     }
 
     /// Makes a range's steps until it stops, or until it has made `steps` steps.
-    pub(crate) fn run_range_for(
+    pub(crate) fn try_range(
         &self,
         by: Pass<T>,
         held: Held,

@@ -6,22 +6,18 @@ ghost use Rattle.treiber_stack.specs.RangeTrying.{IsRanging, RangeBegun, RangeSt
 ghost use Rattle.treiber_stack.specs.Stack.{IsPassOf, pass_in, begun_of};
 
 use crate::giving::Chain;
-use crate::range_steps::{Held, RangeAt};
+use crate::range_steps::{Held, RangeAt, RangeState};
 use crate::ranging::name_of;
 use crate::stack::{Pass, Stack};
 use bounded_model::{RangeRefused, Ranged, Stepped};
+use running::Op;
+use stack_machine::Line;
 use stack_table::Operation;
 use tagged_index::NULL;
 
-/// A put of a range that was begun. The values that have no node yet are in their places.
-#[derive(Drop)]
-pub struct RangeOp<T> {
-    pub(crate) pass: Pass<T>,
-    /// It shows proofs the values that are put.
-    pub(crate) operation: Operation<T>,
-    pub(crate) held: Held,
-    pub(crate) at: RangeAt,
-}
+/// A put of a range that was begun. The values that have no node yet are in their places. Its
+/// operation shows proofs the values that are put.
+pub type RangeOp<T> = Op<T, Line<T>, Operation<T>, RangeState>;
 
 impl<T> Stack<T> {
     /// A put of the values in these places that makes no step yet. It refuses an empty range at
@@ -42,52 +38,52 @@ impl<T> Stack<T> {
             chain: Chain::of(NULL),
             count: 0,
         };
-        Stepped::Again(RangeOp {
-            pass: by,
-            operation,
+        let at = RangeState {
             held,
             at: RangeAt::LoadFree,
+        };
+        Stepped::Again(Op {
+            pass: by,
+            operation,
+            at,
         })
     }
-}
 
-impl<T> RangeOp<T> {
     /// Continues the put with the places as it left them, and waits after each compare-and-swap
     /// that failed. It makes at most `steps` steps to take each node, `steps` to put them onto the
     /// top and `steps` to give them back. A node that is linked, or whose value goes back, is one
     /// step more. If the range ends, it returns what `put_range` does, and leaves the places so.
     /// The contract does not bound a part in which the range is first refused or turns back.
-    pub fn run_for(
-        self,
-        stack: &Stack<T>,
+    pub fn run_range_for(
+        &self,
+        op: RangeOp<T>,
         values: &mut [Option<T>],
         steps: u64,
     ) -> Stepped<RangeOp<T>, Pass<T>, Result<Ranged, RangeRefused>>
-        requires { (vs : List T) × IsRanging stack.now vs values.old self }
-        ensures tried { (vs : List T) → IsRanging stack.now vs values.old self
-            → RangeTried stack.now vs (begun_of stack.now self.pass) values.new result }
-        ensures took { RangeSteps steps self result }
+        requires { (vs : List T) × IsRanging self.now vs values.old op }
+        ensures tried { (vs : List T) → IsRanging self.now vs values.old op
+            → RangeTried self.now vs (begun_of self.now op.pass) values.new result }
+        ensures took { RangeSteps steps op result }
     {
-        let mut range = self;
+        let mut range = op;
         // The range stops with each node, when the values go back to their places, and at its end.
         for round in 0..values.len().saturating_add(2) {
-            let RangeOp {
+            let Op {
                 pass,
                 operation,
-                held,
-                at,
+                at: RangeState { held, at },
             } = range;
-            match stack.run_range_for(pass, held, at, &operation, steps) {
+            match self.try_range(pass, held, at, &operation, steps) {
                 Stepped::Again((pass, at)) => {
-                    return Stepped::Again(RangeOp {
+                    let at = RangeState { held, at };
+                    return Stepped::Again(Op {
                         pass,
                         operation,
-                        held,
                         at,
                     });
                 }
                 Stepped::Done(back, stop) => {
-                    match stack.after_stop(back, held, stop, values, operation) {
+                    match self.after_stop(back, held, stop, values, operation) {
                         Stepped::Again(next) => range = next,
                         Stepped::Done(pass, answer) => return Stepped::Done(pass, answer),
                     }

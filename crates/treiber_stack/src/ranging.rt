@@ -15,12 +15,12 @@ ghost use Rattle.treiber_stack.specs.declared.range_steps.RangeStop.TheVariants.
 ghost use Rattle.treiber_stack.specs.declared.refusing.Barred.{Barred};
 
 use crate::giving::{Chain, Give};
-use crate::range_steps::{Held, RangeAt, RangeEnd, RangeStop};
+use crate::range_steps::{Held, RangeAt, RangeEnd, RangeState, RangeStop};
 use crate::range_trying::RangeOp;
 use crate::stack::{Pass, Stack};
 use bounded_model::{RangeRefused, Ranged, Stepped, Word};
 use index_list::put_in;
-use running::{peek, store_link_step};
+use running::{Op, peek, store_link_step};
 use stack_table::layout::{STACK_LIST, link};
 use stack_table::{Listed, Operation};
 use std::snapshot::Snapshot;
@@ -77,11 +77,10 @@ impl<T> Stack<T> {
     {
         let mut range = begun;
         for _ in rt.forever() {
-            let RangeOp {
+            let Op {
                 pass,
                 operation,
-                held,
-                at,
+                at: RangeState { held, at },
             } = range;
             let (back, stop) = self.run_range(rt, pass, held, at, &operation);
             match self.after_stop(back, held, stop, values, operation) {
@@ -122,18 +121,18 @@ impl<T> Stack<T> {
         let (pass, held) = self.load_node(by, held, index, &mut values[place], &operation);
         if (held.count as usize) < values.len() {
             let at = RangeAt::LoadFree;
-            return Stepped::Again(RangeOp {
+            let at = RangeState { held, at };
+            return Stepped::Again(Op {
                 pass,
                 operation,
-                held,
                 at,
             });
         }
         let at = RangeAt::Load;
-        Stepped::Again(RangeOp {
+        let at = RangeState { held, at };
+        Stepped::Again(Op {
             pass,
             operation,
-            held,
             at,
         })
     }
@@ -170,10 +169,10 @@ impl<T> Stack<T> {
             RangeEnd::Barred(why) => {
                 let pass = self.restore(by, held, values);
                 let at = RangeAt::GiveBack(why, Give::Load);
-                Stepped::Again(RangeOp {
+                let at = RangeState { held, at };
+                Stepped::Again(Op {
                     pass,
                     operation,
-                    held,
                     at,
                 })
             }

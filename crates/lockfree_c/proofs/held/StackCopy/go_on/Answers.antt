@@ -4,15 +4,15 @@ use Rattle.treiber_stack.specs.Stack.{begun_of}
 use Rattle.lockfree_c.proofs.StackStays.{copy_stays}
 use Rattle.lockfree_c.proofs.held.StackCopy.go_on.Goals as goal
 
-pub copy_for-made-requires : goal.copy_for-made-requires
-copy_for-made-requires c = subst (λ on. IsCopying on c.args.values.now c.args.self.op) (sym c.deref.ensures) c.requires
+pub run_copies_for-made-requires : goal.run_copies_for-made-requires
+run_copies_for-made-requires c = subst (λ on. IsCopying on c.args.values.now c.args.self.op) (sym c.deref.ensures) c.requires
 
 pub returns-clause-gives : goal.returns-clause-gives
 returns-clause-gives c =
     let k = c.args.self in
     let vs = c.args.values.now in
-    let tried = subst (λ on. CopyTried on vs (begun_of on k.op.pass) c.copy_for-made.result) c.deref.ensures c.copy_for-made.ensures in
-    (c.copy_for-made.result, tried, c.left.ensures)
+    let tried = subst (λ on. CopyTried on vs (begun_of on k.op.pass) c.run_copies_for-made.result) c.deref.ensures c.run_copies_for-made.ensures in
+    (c.run_copies_for-made.result, tried, c.left.ensures)
 
 pub returns-clause-of : goal.returns-clause-of
 returns-clause-of c =

@@ -9,9 +9,9 @@ use Rattle.lockfree_c.proofs.held.StackRangePut.go_on.Goals as goal
 pub returns-clause-gives : goal.returns-clause-gives
 returns-clause-gives c =
     let r = c.args.self in
-    let made = c.run_for-made.result in
-    let places = c.run_for-made.new.values in
-    let on_stack = subst (λ on. (values : List ℕ) → IsRanging on values c.deref_mut.result.now r.op → RangeTried on values (begun_of on r.op.pass) places made) c.deref.ensures c.run_for-made.ensures.tried in
+    let made = c.run_range_for-made.result in
+    let places = c.run_range_for-made.new.values in
+    let on_stack = subst (λ on. (values : List ℕ) → IsRanging on values c.deref_mut.result.now r.op → RangeTried on values (begun_of on r.op.pass) places made) c.deref.ensures c.run_range_for-made.ensures.tried in
     let tried = subst (λ old. (values : List ℕ) → IsRanging r.container.value values old r.op → RangeTried r.container.value values (begun_of r.container.value r.op.pass) places made) c.deref_mut.ensures.value on_stack in
     let left = subst (λ new. RangeLeft r.container.value new made c.left.result.0 c.left.result.1) (with_items_is r.values places (omega arith)) c.left.ensures in
     (places, made, tried, left)

@@ -1,11 +1,8 @@
-use Rattle.std.proofs.Common.{rules, ◌≡◌, ℕ, suc, ◌+◌, ◌-◌, ◌<◌, length, List, map, drop, set, get_or, refl, sym, ap, ◌∙◌, subst, arith}
-use Rattle.std.specs.Prelude.{Option as Slot, Some}
+use Rattle.std.proofs.Common.{◌≡◌, ℕ, ◌+◌, ◌-◌, refl, sym, ◌∙◌, subst, arith}
 use Rattle.running.specs.declared.passes.Pass.{Pass}
-use Rattle.treiber_stack.specs.Ranging.{IsRestoring, places_from}
+use Rattle.treiber_stack.specs.Ranging.{IsRestoring}
 use Rattle.treiber_stack.specs.Stack.{begun_of}
-use Rattle.treiber_stack.proofs.Loading.{none_at}
-use Rattle.treiber_stack.proofs.Restoring.{restore_start, restore_full, restore_low, value, restored_value, places_back, restore_last, restore_next, restore_done}
-use Rattle.treiber_stack.proofs.RangeTrying.{place_low}
+use Rattle.treiber_stack.proofs.Restoring.{restore_start, restore_full, restore_low, value, restore_last, restore_next, restore_done}
 use Rattle.treiber_stack.proofs.stack.Stack.empty_nodes.Goals.{then-place-gt0, else-place-gt0}
 use Rattle.treiber_stack.proofs.stack.Stack.empty_nodes.Goals as goal
 

@@ -15,7 +15,7 @@ loop-preserved g c = (
       let r = c.loop.range in
       let i = c.loop.invariant.2 vs is in
       subst (λ (v : PassView _). RangeTried stack vs v c.after_stop.new.values (Again c.in-Again.next)) {y = begun_of stack c.args.begun.pass} i.1
-      (c.in-Again.ensures.tried (begun_of stack r.pass) vs r.at (c.run_range-back.ensures vs i.0.at) i.0.of i.0.places_are),
+      (c.in-Again.ensures.tried (begun_of stack r.pass) vs r.at.at (c.run_range-back.ensures vs i.0.at) i.0.of i.0.places_are),
 )
 
 pub returns-in-Done : goal.returns-in-Done
@@ -24,4 +24,4 @@ returns-in-Done g c vs is =
     let r = c.loop.range in
     let i = c.loop.invariant.2 vs is in
     subst (λ (v : PassView _). PutsOf stack v vs c.after_stop.new.values c.in-Done.pass c.in-Done.answer) {y = begun_of stack c.args.begun.pass} i.1
-    (c.in-Done.ensures.tried (begun_of stack r.pass) vs r.at (c.run_range-back.ensures vs i.0.at) i.0.of i.0.places_are)
+    (c.in-Done.ensures.tried (begun_of stack r.pass) vs r.at.at (c.run_range-back.ensures vs i.0.at) i.0.of i.0.places_are)
