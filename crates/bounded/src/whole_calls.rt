@@ -1,0 +1,112 @@
+//! The end of a call: what comes back to its caller.
+ghost use Rattle.std.specs.Prelude.{◌≡◌};
+ghost use Rattle.bounded.specs.Bounded.{EndsWith, Took};
+ghost use Rattle.bounded_model.specs.Stepping.{no_step};
+ghost use Rattle.running.specs.Ops.{IsFirst, IsUnderWay, underway_of};
+ghost use Rattle.running.specs.Passes.{IsPassOn, pass_in};
+ghost use Rattle.running.specs.Rule.{line_in};
+ghost use Rattle.running.specs.Steps.{Ran};
+ghost use Rattle.running.specs.declared.passes.Pass as runs;
+
+use crate::passes::{Answered, Pass};
+use bounded_model::Stepped;
+use running::{Call, HasTable, ListMachine, Next, Op, at_once, to_the_end};
+use std::sync::Wait;
+
+/// Begins an operation in its first state.
+#[inline(always)]
+pub fn begun<
+    C: HasTable<T, L, O, M>,
+    T,
+    L,
+    O: Drop,
+    M: ListMachine<T, L, O, N>,
+    A,
+    S: Call<C, T, L, O, M, A, N>,
+    const N: usize,
+>(on: &C, by: running::Pass<T, L>, operation: O, at: S) -> Op<T, L, O, S>
+    requires pass { IsPassOn (M.machine (C.key on.now)) (C.id on.now) by }
+    requires first { IsFirst M.names (S.account (C.key on.now)) (line_in M.names by.seat.me.0)
+        operation at }
+    ensures under_way { IsUnderWay (M.machine (C.key on.now)) (S.account (C.key on.now))
+        (C.id on.now) result }
+    ensures begun { underway_of (M.machine (C.key on.now)) result.pass ≡ no_step (pass_in by) }
+    ensures same { (result.operation ≡ operation) × (result.at ≡ at) }
+{
+    Op::begin::<C, M, A, N>(on, by, operation, at)
+}
+
+/// Continues from the first steps of an operation until it has answered.
+#[inline(always)]
+pub fn whole<
+    R: Wait,
+    C: HasTable<T, L, O, M>,
+    T,
+    L,
+    O: Drop,
+    M: ListMachine<T, L, O, N>,
+    K,
+    A,
+    S: Call<C, T, L, O, M, Answered<K, A>, N>,
+    const N: usize,
+>(
+    rt: &R,
+    on: &C,
+    first: (running::Pass<T, L>, Next<S, Answered<K, A>>),
+    operation: O,
+) -> (Pass<T, L, K>, A)
+    requires { (by : runs.Pass T L) × Ran (M.machine (C.key on.now)) (S.account (C.key on.now))
+        (C.id on.now) operation by first.0 first.1 }
+    ensures { (by : runs.Pass T L) → Ran (M.machine (C.key on.now)) (S.account (C.key on.now))
+        (C.id on.now) operation by first.0 first.1
+        → EndsWith (M.machine (C.key on.now)) (S.account (C.key on.now)) (C.id on.now)
+        operation by result.0 result.1 }
+{
+    let (pass, answer) = to_the_end::<R, C, T, L, O, M, Answered<K, A>, S, N>(
+        rt,
+        on.table(),
+        on,
+        first,
+        &operation,
+    );
+    let Answered { kept, reply } = answer;
+    (Pass { pass, kept }, reply)
+}
+
+/// Leaves an operation under way after its first steps, with a wait if another pass was faster. If
+/// the first steps have ended it, the answer comes back.
+#[inline(always)]
+pub fn leave<
+    C: HasTable<T, L, O, M>,
+    T,
+    L,
+    O: Drop,
+    M: ListMachine<T, L, O, N>,
+    K,
+    A,
+    S: Call<C, T, L, O, M, Answered<K, A>, N>,
+    const N: usize,
+>(
+    on: &C,
+    first: (running::Pass<T, L>, Next<S, Answered<K, A>>),
+    operation: O,
+) -> Stepped<Op<T, L, O, S>, Pass<T, L, K>, A>
+    requires { (by : runs.Pass T L) × Ran (M.machine (C.key on.now)) (S.account (C.key on.now))
+        (C.id on.now) operation by first.0 first.1 }
+    ensures { (by : runs.Pass T L) → Ran (M.machine (C.key on.now)) (S.account (C.key on.now))
+        (C.id on.now) operation by first.0 first.1
+        → Took (M.machine (C.key on.now)) (S.account (C.key on.now)) (C.id on.now)
+        operation by result }
+{
+    match at_once::<C, T, L, O, M, Answered<K, A>, S, N>(on, first, &operation) {
+        Stepped::Again((pass, at)) => Stepped::Again(Op {
+            pass,
+            operation,
+            at,
+        }),
+        Stepped::Done(pass, answer) => {
+            let Answered { kept, reply } = answer;
+            Stepped::Done(Pass { pass, kept }, reply)
+        }
+    }
+}
