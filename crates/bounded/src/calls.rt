@@ -29,7 +29,7 @@ ghost use Rattle.running.specs.Ops.{underway_of};
 use crate::bounded::{Bounded, Laid};
 use crate::passes::{Answered, Pass, Root};
 use crate::program::Program;
-use crate::whole_calls::{begun, leave, whole};
+use crate::whole_calls::{leave, whole};
 use bounded_model::{Command, MakeRefused, Operation, PutRefused, Stepped, Stepwise, TakeRefused};
 use running::{ListMachine, Next, Op};
 use std::alloc::Global;
@@ -104,9 +104,7 @@ impl<
         let Pass { pass, kept } = by;
         let close = M::close();
         let at = M::close_first(self, kept, &close);
-        begun::<Bounded<T, L, O, M, N>, T, L, O, M, Answered<M::Kept, bool>, M::CloseAt, N>(
-            self, pass, close, at,
-        )
+        Op::begin::<Bounded<T, L, O, M, N>, M, Answered<M::Kept, bool>, N>(self, pass, close, at)
     }
 
     /// A shut that makes no step yet.
@@ -123,9 +121,7 @@ impl<
         let Pass { pass, kept } = by;
         let shut = M::shut();
         let at = M::shut_first(self, kept, &shut);
-        begun::<Bounded<T, L, O, M, N>, T, L, O, M, Answered<M::Kept, bool>, M::ShutAt, N>(
-            self, pass, shut, at,
-        )
+        Op::begin::<Bounded<T, L, O, M, N>, M, Answered<M::Kept, bool>, N>(self, pass, shut, at)
     }
 
     /// A look that makes no step yet.
@@ -142,9 +138,7 @@ impl<
         let Pass { pass, kept } = by;
         let look = M::look();
         let at = M::look_first(self, kept, &look);
-        begun::<Bounded<T, L, O, M, N>, T, L, O, M, Answered<M::Kept, bool>, M::LookAt, N>(
-            self, pass, look, at,
-        )
+        Op::begin::<Bounded<T, L, O, M, N>, M, Answered<M::Kept, bool>, N>(self, pass, look, at)
     }
 
     /// Puts a value by a whole call, as `put` of `Container`. The call was a run of the machine's

@@ -1,8 +1,12 @@
 //! Whole calls, once for all containers.
+//!
+//! The bodies of `put`, `take`, `close` and `shut` stand again in `calls.rt`, which says more of them.
+//! The borrow checker does not cover a call of those methods from here: what they send to a thread
+//! rests on a bound.
 use crate::bounded::{Bounded, Laid};
 use crate::passes::{Answered, Pass, Root};
 use crate::program::Program;
-use crate::whole_calls::{begun, whole};
+use crate::whole_calls::whole;
 use bounded_model::{Container, Order, PutRefused, TakeRefused};
 use running::{ListMachine, Next, Note, Op};
 use std::sync::Wait;
@@ -132,7 +136,7 @@ impl<
             pass,
             operation,
             at,
-        } = begun::<Bounded<T, L, O, M, N>, T, L, O, M, Answered<M::Kept, bool>, M::CloseAt, N>(
+        } = Op::begin::<Bounded<T, L, O, M, N>, M, Answered<M::Kept, bool>, N>(
             self, pass, close, at,
         );
         let first = (pass, Next::On(at));
@@ -149,7 +153,7 @@ impl<
             pass,
             operation,
             at,
-        } = begun::<Bounded<T, L, O, M, N>, T, L, O, M, Answered<M::Kept, bool>, M::ShutAt, N>(
+        } = Op::begin::<Bounded<T, L, O, M, N>, M, Answered<M::Kept, bool>, N>(
             self, pass, shut, at,
         );
         let first = (pass, Next::On(at));

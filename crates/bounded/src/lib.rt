@@ -19,4 +19,4 @@ pub use bounded::{Bounded, Laid};
 pub use naming::NamesSteps;
 pub use passes::{Answered, Pass, Root};
 pub use program::Program;
-pub use whole_calls::{begun, leave, whole};
+pub use whole_calls::{leave, whole};

@@ -6,7 +6,7 @@ ghost use Rattle.bounded.specs.Bounded.{IsMakingCall, IsPassAt, making, pass_in}
 use crate::bounded::{Bounded, Laid};
 use crate::passes::{Answered, Pass};
 use crate::program::Program;
-use crate::whole_calls::{begun, whole};
+use crate::whole_calls::whole;
 use bounded_model::{Command, Operation, PutRefused, Reply, Stepped, Stepwise, TakeRefused};
 use running::{ListMachine, Op};
 use std::sync::Wait;
@@ -50,72 +50,43 @@ impl<
             Command::Put(value) => {
                 let put = M::put(&value);
                 let at = M::put_first(self, kept, value, &put);
-                Operation::Put(begun::<
+                Operation::Put(Op::begin::<
                     Bounded<T, L, O, M, N>,
-                    T,
-                    L,
-                    O,
                     M,
                     Answered<M::Kept, Result<u64, PutRefused<T>>>,
-                    M::PutAt,
                     N,
                 >(self, pass, put, at))
             }
             Command::Take => {
                 let take = M::take();
                 let at = M::take_first(self, kept, &take);
-                Operation::Take(begun::<
+                Operation::Take(Op::begin::<
                     Bounded<T, L, O, M, N>,
-                    T,
-                    L,
-                    O,
                     M,
                     Answered<M::Kept, Result<(T, u64), TakeRefused>>,
-                    M::TakeAt,
                     N,
                 >(self, pass, take, at))
             }
             Command::Close => {
                 let close = M::close();
                 let at = M::close_first(self, kept, &close);
-                Operation::Close(begun::<
-                    Bounded<T, L, O, M, N>,
-                    T,
-                    L,
-                    O,
-                    M,
-                    Answered<M::Kept, bool>,
-                    M::CloseAt,
-                    N,
-                >(self, pass, close, at))
+                Operation::Close(Op::begin::<Bounded<T, L, O, M, N>, M, Answered<M::Kept, bool>, N>(
+                    self, pass, close, at,
+                ))
             }
             Command::Shut => {
                 let shut = M::shut();
                 let at = M::shut_first(self, kept, &shut);
-                Operation::Shut(begun::<
-                    Bounded<T, L, O, M, N>,
-                    T,
-                    L,
-                    O,
-                    M,
-                    Answered<M::Kept, bool>,
-                    M::ShutAt,
-                    N,
-                >(self, pass, shut, at))
+                Operation::Shut(Op::begin::<Bounded<T, L, O, M, N>, M, Answered<M::Kept, bool>, N>(
+                    self, pass, shut, at,
+                ))
             }
             Command::Look => {
                 let look = M::look();
                 let at = M::look_first(self, kept, &look);
-                Operation::Look(begun::<
-                    Bounded<T, L, O, M, N>,
-                    T,
-                    L,
-                    O,
-                    M,
-                    Answered<M::Kept, bool>,
-                    M::LookAt,
-                    N,
-                >(self, pass, look, at))
+                Operation::Look(Op::begin::<Bounded<T, L, O, M, N>, M, Answered<M::Kept, bool>, N>(
+                    self, pass, look, at,
+                ))
             }
         }
     }

@@ -1,10 +1,5 @@
 //! The end of a call: what comes back to its caller.
-ghost use Rattle.std.specs.Prelude.{◌≡◌};
 ghost use Rattle.bounded.specs.Bounded.{EndsWith, Took};
-ghost use Rattle.bounded_model.specs.Stepping.{no_step};
-ghost use Rattle.running.specs.Ops.{IsFirst, IsUnderWay, underway_of};
-ghost use Rattle.running.specs.Passes.{IsPassOn, pass_in};
-ghost use Rattle.running.specs.Rule.{line_in};
 ghost use Rattle.running.specs.Steps.{Ran};
 ghost use Rattle.running.specs.declared.passes.Pass as runs;
 
@@ -12,29 +7,6 @@ use crate::passes::{Answered, Pass};
 use bounded_model::Stepped;
 use running::{Call, HasTable, ListMachine, Next, Op, at_once, to_the_end};
 use std::sync::Wait;
-
-/// Begins an operation in its first state.
-#[inline(always)]
-pub fn begun<
-    C: HasTable<T, L, O, M>,
-    T,
-    L,
-    O: Drop,
-    M: ListMachine<T, L, O, N>,
-    A,
-    S: Call<C, T, L, O, M, A, N>,
-    const N: usize,
->(on: &C, by: running::Pass<T, L>, operation: O, at: S) -> Op<T, L, O, S>
-    requires pass { IsPassOn (M.machine (C.key on.now)) (C.id on.now) by }
-    requires first { IsFirst M.names (S.account (C.key on.now)) (line_in M.names by.seat.me.0)
-        operation at }
-    ensures under_way { IsUnderWay (M.machine (C.key on.now)) (S.account (C.key on.now))
-        (C.id on.now) result }
-    ensures begun { underway_of (M.machine (C.key on.now)) result.pass ≡ no_step (pass_in by) }
-    ensures same { (result.operation ≡ operation) × (result.at ≡ at) }
-{
-    Op::begin::<C, M, A, N>(on, by, operation, at)
-}
 
 /// Continues from the first steps of an operation until it has answered.
 #[inline(always)]
