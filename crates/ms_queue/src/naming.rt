@@ -22,7 +22,7 @@ use crate::taking::TakeAt;
 use bounded_model::Operation;
 use step_names::{Location, Named, StepName};
 
-// Of the way to the end of the chain.
+// The next step of the way to the end of the chain.
 fn seek_step<T>(at: &Seek) -> StepName
     ensures { (aim : Seeking T) → IsNextStep (seek_line aim at.now) result }
 {
@@ -34,7 +34,7 @@ fn seek_step<T>(at: &Seek) -> StepName
     }
 }
 
-// Of giving a node and a cell back.
+// The next step of giving a node and a cell back.
 fn give_step<T>(held: &Held, at: &Give) -> StepName
     ensures { (answer : Answer T) → IsNextStep (give_line answer held.now at.now) result }
 {
@@ -48,7 +48,7 @@ fn give_step<T>(held: &Held, at: &Give) -> StepName
     }
 }
 
-// Of a put.
+// The next step of a put.
 fn put_name<T>(at: &PutAt<T>) -> StepName
     ensures { IsNextStep (put_line at.now) result }
 {
@@ -72,7 +72,7 @@ fn put_name<T>(at: &PutAt<T>) -> StepName
     }
 }
 
-// Of a take.
+// The next step of a take.
 fn take_name<T>(at: &TakeAt<T>) -> StepName
     ensures { IsNextStep (take_line at.now) result }
 {
@@ -88,7 +88,7 @@ fn take_name<T>(at: &TakeAt<T>) -> StepName
     }
 }
 
-// Of a close.
+// The next step of a close.
 fn close_name<T>(at: &CloseAt) -> StepName
     ensures { IsNextStep {T = T} (close_line at.now) result }
 {
@@ -100,7 +100,7 @@ fn close_name<T>(at: &CloseAt) -> StepName
     }
 }
 
-// Of a shut.
+// The next step of a shut.
 fn shut_name<T>(at: &ShutAt) -> StepName
     ensures { IsNextStep {T = T} (shut_line at.now) result }
 {
@@ -110,7 +110,7 @@ fn shut_name<T>(at: &ShutAt) -> StepName
     }
 }
 
-// Of a look.
+// The next step of a look.
 fn look_name<T>(at: &LookAt) -> StepName
     ensures { IsNextStep {T = T} (look_line at.now) result }
 {

@@ -38,7 +38,7 @@ fn put_name<T>(at: &PutAt<T>) -> StepName
             StepName::CompareAndSwap(slot, slot)
         }
         PutAt::PassTail(_, _) => StepName::Attempt(Location::Tail),
-        PutAt::Stow(walk, _) => StepName::Load(Location::Slot(walk.at.index())),
+        PutAt::Stow(walk, _) => StepName::Stow(Location::Slot(walk.at.index())),
     }
 }
 
@@ -53,7 +53,7 @@ fn take_name<T>(at: &TakeAt<T>) -> StepName
             StepName::CompareAndSwap(slot, slot)
         }
         TakeAt::PassHead(_, _) => StepName::Attempt(Location::Head),
-        TakeAt::Stow(walk, _) => StepName::Load(Location::Slot(walk.at.index())),
+        TakeAt::Stow(walk, _) => StepName::Stow(Location::Slot(walk.at.index())),
     }
 }
 

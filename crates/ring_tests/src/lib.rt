@@ -2,7 +2,8 @@
 //! - what it may be made with, and how many passes it gives,
 //! - that it goes round and wears out, what is left, and that each value is dropped once,
 //! - its calls by single steps: calls and threads that stop at a line while others go round, and
-//!   schedules that look random, whose answers are those of a plain list.
+//!   schedules that look random, whose answers are those of a plain list,
+//! - what the names of its steps tell.
 //!
 //! `container_tests` tests what any container has. `doing` and `plain` are read without the tests
 //! too, since `specs/` names what they declare.
@@ -25,6 +26,8 @@ mod leaving;
 mod looked;
 #[cfg(test)]
 mod making;
+#[cfg(test)]
+mod named;
 mod plain;
 #[cfg(test)]
 mod rounds;

@@ -4,7 +4,7 @@ use Rattle.std.specs.Fmt.{decimal}
 use Rattle.step_names.specs.declared.location.Location.{Location}
 use Rattle.step_names.specs.declared.location.Location.TheVariants.{Cells, Nodes, Head, Tail, Next, Cell, CellLink, NodeLink, Free, Top, Link, Slot}
 use Rattle.step_names.specs.declared.step_name.StepName.{StepName}
-use Rattle.step_names.specs.declared.step_name.StepName.TheVariants.{Load, Store, CompareAndSwap, Attempt}
+use Rattle.step_names.specs.declared.step_name.StepName.TheVariants.{Load, Stow, Store, CompareAndSwap, Attempt}
 use Rattle.step_names.specs.declared.step_name.Outcome.{Outcome}
 use Rattle.step_names.specs.declared.step_name.Outcome.TheVariants.{Done, Succeeded, Failed, Tried}
 
@@ -24,6 +24,7 @@ location_text (Slot index) = codes "slot " ++ decimal index
 
 abbrev pub name_text : StepName → List ℕ
 name_text (Load location) = codes "load " ++ location_text location
+name_text (Stow location) = codes "load " ++ location_text location
 name_text (Store location) = codes "store " ++ location_text location
 name_text (CompareAndSwap location retried) = codes "compare-and-swap " ++ location_text location
 name_text (Attempt location) = codes "compare-and-swap " ++ location_text location

@@ -10,10 +10,13 @@ use std::fmt;
 pub enum StepName {
     /// A load of this word.
     Load(Location),
+    /// A load of this word, by which a ring's operation gives back the cell that it took a value
+    /// from.
+    Stow(Location),
     /// A store into this word.
     Store(Location),
-    /// A compare-and-swap of the first word. If it fails, its operation continues with a load of
-    /// the second.
+    /// A compare-and-swap of the first word. Its operation continues with a load of the second
+    /// exactly if it failed.
     CompareAndSwap(Location, Location),
     /// A compare-and-swap of this word, after which its operation continues alike, whether it
     /// succeeded or failed.
@@ -35,14 +38,14 @@ pub enum Outcome {
 
 impl StepName {
     /// What a step of this name did. `next` is the name of the step that its operation is to make
-    /// after it, or `None` if the operation has ended. `Failed` means that `next` loads the word
-    /// that is loaded after a failure. In each container's table no step that follows a success
-    /// loads that word. This is not proved.
+    /// after it, or `None` if the operation has ended. It is what the step did, if both are names
+    /// of a machine's steps (`names_tell`).
     pub fn outcome(self, next: Option<StepName>) -> Outcome
         ensures { IsOutcome self next result }
     {
         match self {
             StepName::Load(_) => Outcome::Done,
+            StepName::Stow(_) => Outcome::Done,
             StepName::Store(_) => Outcome::Done,
             StepName::CompareAndSwap(_, retried) => {
                 if next == Some(StepName::Load(retried)) {
@@ -65,6 +68,7 @@ impl fmt::Display for StepName {
     fn fmt<W: fmt::Write>(&self, f: &mut fmt::Formatter<W>) -> fmt::Result {
         match self {
             StepName::Load(word) => write!(f, "load {word}"),
+            StepName::Stow(word) => write!(f, "load {word}"),
             StepName::Store(word) => write!(f, "store {word}"),
             StepName::CompareAndSwap(word, _) => write!(f, "compare-and-swap {word}"),
             StepName::Attempt(word) => write!(f, "compare-and-swap {word}"),

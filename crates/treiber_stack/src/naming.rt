@@ -19,7 +19,7 @@ use crate::taking::TakeAt;
 use bounded_model::Operation;
 use step_names::{Location, Named, StepName};
 
-// Of giving back a chain that ends with this node.
+// The next step of giving back a chain that ends with this node.
 fn give_step<T>(last: u32, at: &Give) -> StepName
     ensures { (giving : Giving T) → last_of giving.chain ≡ last
         → IsNextStep (give_line giving at.now) result }
@@ -31,7 +31,7 @@ fn give_step<T>(last: u32, at: &Give) -> StepName
     }
 }
 
-// Of a put.
+// The next step of a put.
 fn put_name<T>(at: &PutAt<T>) -> StepName
     ensures { IsNextStep (put_line at.now) result }
 {
@@ -47,7 +47,7 @@ fn put_name<T>(at: &PutAt<T>) -> StepName
     }
 }
 
-// Of a take.
+// The next step of a take.
 fn take_name<T>(at: &TakeAt<T>) -> StepName
     ensures { IsNextStep (take_line at.now) result }
 {
@@ -59,7 +59,7 @@ fn take_name<T>(at: &TakeAt<T>) -> StepName
     }
 }
 
-// Of a close or a shut.
+// The next step of a close or a shut.
 fn mark_step<T>(at: &MarkAt) -> StepName
     ensures { IsNextStep {T = T} (mark_line at.now) result }
 {
@@ -69,7 +69,7 @@ fn mark_step<T>(at: &MarkAt) -> StepName
     }
 }
 
-// Of a look.
+// The next step of a look.
 fn look_name<T>(at: &LookAt) -> StepName
     ensures { IsNextStep {T = T} (look_line at.now) result }
 {
