@@ -91,7 +91,7 @@ pub fn replay<S: Wait, R: Read, W: Write>(
 /// The faults are those of `replay`, and `NoMemory` also comes if there is no memory for the trace.
 /// After a fault no trace is written. A trace that cannot be written is no fault. A line tells a
 /// compare-and-swap's outcome by the names of this step and the next one (`StepName::outcome`).
-/// It is what happened (`step_names::names_tell`).
+/// For a machine's steps it is proved that this is what happened (`step_names::names_tell`).
 pub fn replay_traced<S: Wait, R: Read, W: Write, E: Write>(
     rt: &S,
     alloc: Global,
