@@ -1,3 +1,4 @@
 pub mod Bounded
 pub mod KeepsPasses
 pub mod Naming
+pub mod Joined

@@ -27,19 +27,19 @@ ghost use Rattle.bounded.specs.Bounded.{IsPassAt, IsRootAt, Makes, Tried, WasRun
 ghost use Rattle.running.specs.Ops.{underway_of};
 
 use crate::bounded::{Bounded, Laid};
+use crate::parts::Parts;
 use crate::passes::{Answered, Pass, Root};
-use crate::program::Program;
 use crate::whole_calls::{leave, whole};
-use bounded_model::{Command, MakeRefused, Operation, PutRefused, Stepped, Stepwise, TakeRefused};
+use bounded_model::{Command, MakeRefused, Operation, PutRefused, Stepped, TakeRefused};
 use running::{ListMachine, Next, Op};
 use std::alloc::Global;
 use std::sync::Wait;
 
 impl<
-    T: Drop + Send,
+    T: Drop,
     L,
-    O: Drop + Send,
-    M: Laid<T, L, O> + ListMachine<T, L, O, N> + Program<Bounded<T, L, O, M, N>, T, L, O, M, N>,
+    O: Drop,
+    M: Laid<T, L, O> + ListMachine<T, L, O, N> + Parts<Bounded<T, L, O, M, N>, T, L, O, M, N>,
     const N: usize,
 > Bounded<T, L, O, M, N> {
     /// An empty container, open and not shut, and its root, which has given no pass. The call takes
@@ -66,8 +66,7 @@ impl<
         ensures begun { underway_of (M.machine self.now.table.shared.key) result.pass
             ≡ no_step (pass_in by) }
     {
-        // The borrow checker covers this, and not the code that `begin_close` has.
-        match self.begin(by, Command::Put(value)) {
+        match self.begin_call(by, Command::Put(value)) {
             Operation::Put(op) => op,
             _ => unreachable!(),
         }
@@ -84,7 +83,7 @@ impl<
         ensures begun { underway_of (M.machine self.now.table.shared.key) result.pass
             ≡ no_step (pass_in by) }
     {
-        match self.begin(by, Command::Take) {
+        match self.begin_call(by, Command::Take) {
             Operation::Take(op) => op,
             _ => unreachable!(),
         }

@@ -1,14 +1,9 @@
 //! Whole calls, once for all containers.
-//!
-//! The bodies of `put`, `take`, `close` and `shut` stand again in `calls.rt`, which says more of them.
-//! The borrow checker does not cover a call of those methods from here: what they send to a thread
-//! rests on a bound.
 use crate::bounded::{Bounded, Laid};
-use crate::passes::{Answered, Pass, Root};
+use crate::passes::{Pass, Root};
 use crate::program::Program;
-use crate::whole_calls::whole;
 use bounded_model::{Container, Order, PutRefused, TakeRefused};
-use running::{ListMachine, Next, Note, Op};
+use running::{ListMachine, Note};
 use std::sync::Wait;
 
 impl<
@@ -88,21 +83,7 @@ impl<
         by: Pass<T, L, M::Kept>,
         value: T,
     ) -> (Pass<T, L, M::Kept>, Result<u64, PutRefused<T>>) {
-        let Pass { pass, kept } = by;
-        let put = M::put(&value);
-        let first = M::put_fast(self, pass, kept, value, &put);
-        whole::<
-            R,
-            Bounded<T, L, O, M, N>,
-            T,
-            L,
-            O,
-            M,
-            M::Kept,
-            Result<u64, PutRefused<T>>,
-            M::PutAt,
-            N,
-        >(rt, self, first, put)
+        M::put(self, rt, by, value)
     }
 
     #[inline(always)]
@@ -111,55 +92,15 @@ impl<
         rt: &R,
         by: Pass<T, L, M::Kept>,
     ) -> (Pass<T, L, M::Kept>, Result<(T, u64), TakeRefused>) {
-        let Pass { pass, kept } = by;
-        let take = M::take();
-        let first = M::take_fast(self, pass, kept, &take);
-        whole::<
-            R,
-            Bounded<T, L, O, M, N>,
-            T,
-            L,
-            O,
-            M,
-            M::Kept,
-            Result<(T, u64), TakeRefused>,
-            M::TakeAt,
-            N,
-        >(rt, self, first, take)
+        M::take(self, rt, by)
     }
 
     fn close<R: Wait>(&self, rt: &R, by: Pass<T, L, M::Kept>) -> (Pass<T, L, M::Kept>, bool) {
-        let Pass { pass, kept } = by;
-        let close = M::close();
-        let at = M::close_first(self, kept, &close);
-        let Op {
-            pass,
-            operation,
-            at,
-        } = Op::begin::<Bounded<T, L, O, M, N>, M, Answered<M::Kept, bool>, N>(
-            self, pass, close, at,
-        );
-        let first = (pass, Next::On(at));
-        whole::<R, Bounded<T, L, O, M, N>, T, L, O, M, M::Kept, bool, M::CloseAt, N>(
-            rt, self, first, operation,
-        )
+        M::close(self, rt, by)
     }
 
     fn shut<R: Wait>(&self, rt: &R, by: Pass<T, L, M::Kept>) -> (Pass<T, L, M::Kept>, bool) {
-        let Pass { pass, kept } = by;
-        let shut = M::shut();
-        let at = M::shut_first(self, kept, &shut);
-        let Op {
-            pass,
-            operation,
-            at,
-        } = Op::begin::<Bounded<T, L, O, M, N>, M, Answered<M::Kept, bool>, N>(
-            self, pass, shut, at,
-        );
-        let first = (pass, Next::On(at));
-        whole::<R, Bounded<T, L, O, M, N>, T, L, O, M, M::Kept, bool, M::ShutAt, N>(
-            rt, self, first, operation,
-        )
+        M::shut(self, rt, by)
     }
 
     /// The answer is always true, since the table never lacks a seat.
@@ -192,7 +133,6 @@ impl<
     /// A value that a pass held when it stopped in mid-operation is not among what is left. It is
     /// dropped with the rest.
     fn finish(self, parent: Root<T, L, M::Stock>) -> M::Rest {
-        let Root { root, stock } = parent;
-        M::finish(self, root, stock)
+        M::finish(self, parent)
     }
 }

@@ -1,11 +1,8 @@
 //! The names of next steps, once for all containers.
-ghost use Rattle.tagged_index.specs.declared.limit.Limits.{Limits};
 ghost use Rattle.step_names.specs.declared.step_name.StepName.{StepName};
-ghost use Rattle.bounded.specs.Naming.{IsStep};
 
 use crate::bounded::{Bounded, Laid};
-use crate::program::Program;
-use bounded_model::{Operation, Stepwise};
+use crate::stepwise::Steps;
 use running::{HasTable, ListMachine};
 use step_names::{Named, StepName};
 
@@ -18,24 +15,12 @@ pub trait NamesSteps<
     O,
     M: ListMachine<T, L, O, N> + Laid<T, L, O>,
     const N: usize,
->: Program<C, T, L, O, M, N> {
-    /// Whether this is the name of the step of a line.
-    ghost is_named: { L → StepName → Type 0 };
+>: Steps<C, T, L, O, M, N> {
+    /// Whether this is the name of an operation's next step.
+    ghost is_step: { Self.Op → StepName → Type 0 };
 
-    fn put_name(at: &Self::PutAt) -> StepName
-        ensures { (key : Limits) → is_named ((Self.PutAt.account key).line at.now) result };
-
-    fn take_name(at: &Self::TakeAt) -> StepName
-        ensures { (key : Limits) → is_named ((Self.TakeAt.account key).line at.now) result };
-
-    fn close_name(at: &Self::CloseAt) -> StepName
-        ensures { (key : Limits) → is_named ((Self.CloseAt.account key).line at.now) result };
-
-    fn shut_name(at: &Self::ShutAt) -> StepName
-        ensures { (key : Limits) → is_named ((Self.ShutAt.account key).line at.now) result };
-
-    fn look_name(at: &Self::LookAt) -> StepName
-        ensures { (key : Limits) → is_named ((Self.LookAt.account key).line at.now) result };
+    fn step_name(op: &Self::Op) -> StepName
+        ensures { is_step op.now result };
 }
 
 impl<
@@ -45,17 +30,9 @@ impl<
     M: Laid<T, L, O> + ListMachine<T, L, O, N> + NamesSteps<Bounded<T, L, O, M, N>, T, L, O, M, N>,
     const N: usize,
 > Named<T> for Bounded<T, L, O, M, N> {
-    ghost is_step = { λ op name. (key : Limits) → IsStep M.is_named (M.PutAt.account key).line
-        (M.TakeAt.account key).line (M.CloseAt.account key).line (M.ShutAt.account key).line
-        (M.LookAt.account key).line op name };
+    ghost is_step = { M.is_step };
 
-    fn step_name(op: &<Bounded<T, L, O, M, N> as Stepwise<T>>::Op) -> StepName {
-        match op {
-            Operation::Put(op) => M::put_name(&op.at),
-            Operation::Take(op) => M::take_name(&op.at),
-            Operation::Close(op) => M::close_name(&op.at),
-            Operation::Shut(op) => M::shut_name(&op.at),
-            Operation::Look(op) => M::look_name(&op.at),
-        }
+    fn step_name(op: &M::Op) -> StepName {
+        M::step_name(op)
     }
 }

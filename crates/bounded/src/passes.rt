@@ -1,4 +1,8 @@
 //! What passes and roots have beside their seats.
+ghost use Rattle.std.specs.Prelude.{◌≡◌};
+ghost use Rattle.bounded.specs.Joined.{joined};
+
+use bounded_model::Stepped;
 
 /// A pass: it makes steps on a container. `kept` is what it keeps between its calls, as a ring's
 /// pass keeps a spare cell.
@@ -20,4 +24,20 @@ pub struct Root<T, L, S> {
 pub struct Answered<K, R> {
     pub kept: K,
     pub reply: R,
+}
+
+/// Gives the pass that is back what it keeps. That came with the answer.
+#[inline(always)]
+pub fn joined<T, L, K, R, P>(
+    made: Stepped<P, running::Pass<T, L>, Answered<K, R>>,
+) -> Stepped<P, Pass<T, L, K>, R>
+    ensures { result ≡ joined made }
+{
+    match made {
+        Stepped::Again(op) => Stepped::Again(op),
+        Stepped::Done(pass, answer) => {
+            let Answered { kept, reply } = answer;
+            Stepped::Done(Pass { pass, kept }, reply)
+        }
+    }
 }

@@ -1,17 +1,12 @@
 -- What a call gives that makes a bounded number of tries.
 use Rattle.std.specs.Prelude.{◌≡◌, ℕ, ◌+◌, ◌*◌, ◌-◌, ◌^◌, ◌≤◌, min}
 use Rattle.bounded_model.specs.declared.answers.Stepped.{Stepped}
-use Rattle.bounded_model.specs.declared.answers.Stepped.TheVariants as stepped
 use Rattle.bounded_model.specs.declared.commands.Command.{Command}
-use Rattle.bounded_model.specs.declared.commands.Command.TheVariants.{Put}
 use Rattle.bounded_model.specs.declared.commands.Reply.{Reply}
-use Rattle.bounded_model.specs.declared.commands.Reply.TheVariants as reply
 use Rattle.bounded_model.specs.declared.views.PassView.{PassView}
 use Rattle.bounded_model.specs.Calls.{CallGives}
 use Rattle.bounded_model.specs.Machine.{Shape}
 use Rattle.bounded_model.specs.Stepping.{MatchStepped, Underway, no_step}
-use Rattle.bounded_calls.specs.declared.calls.PutMade.{PutMade}
-use Rattle.bounded_calls.specs.declared.calls.PutMade.TheVariants.{Again, Done, NoRoom}
 
 -- How many steps `tries` tries allow: `each` for each try, and `undisturbed`, those of a call that loses no exchange. They fit in 64 bits
 abbrev pub steps_of : ℕ → ℕ → ℕ → ℕ
@@ -53,10 +48,3 @@ module _ {T P O : Type 0} (r : Reading T P O) where
   -- if a call that its pass began as this is still under way, it has made at least n steps
   abbrev pub TookAtLeast : ℕ → PassView T → Stepped O P (Reply T) → Type 0
   TookAtLeast n begun made = MatchStepped made (λ next. begun.steps + n ≤ (r.making next).now.steps) (λ back said. Unit {0})
-
-  -- The outcome of the first steps of a put of x that was begun as `begun`. If it has found no room, `is_refusing` holds of the pass in a
-  -- put of this value, and `refusing` gives the pass's view as that put was begun
-  abbrev pub PutMadeSo : (T → P → Type 0) → (P → PassView T) → T → PassView T → PutMade O P T → Type 0
-  PutMadeSo is_refusing refusing x begun (Done back said) = TriedFrom begun (Put x) (stepped.Done back (reply.Put said))
-  PutMadeSo is_refusing refusing x begun (Again next) = TriedFrom begun (Put x) (stepped.Again next) × (begun.steps ≤ (r.making next).now.steps)
-  PutMadeSo is_refusing refusing x begun (NoRoom back y) = (y ≡ x) × is_refusing y back × (refusing back ≡ begun)

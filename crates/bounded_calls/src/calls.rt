@@ -8,7 +8,6 @@ ghost use Rattle.bounded_model.specs.declared.views.RootView.{RootView};
 ghost use Rattle.bounded_calls.specs.Calls.{
   Begins,
   MakesSome,
-  PutMadeSo,
   Reading,
   Tried,
   TriedFrom,
@@ -17,16 +16,7 @@ ghost use Rattle.bounded_calls.specs.Calls.{
   steps_of,
 };
 
-use bounded_model::{Command, Leaving, PutRefused, Reply, Stepped};
-
-/// The outcome of the first steps of a put.
-pub enum PutMade<O, P, T> {
-    Done(P, Result<u64, PutRefused<T>>),
-    /// It is under way: `run_for` continues it.
-    Again(O),
-    /// There is no room: `refuse_at_once` says why.
-    NoRoom(P, T),
-}
+use bounded_model::{Command, Leaving, Reply, Stepped};
 
 /// A container whose calls give up after a number of tries. The caller can continue them. It gives
 /// the fast paths of its calls, the steps after them, and two numbers.
@@ -62,12 +52,6 @@ pub trait BoundedCalls<T>: Drop {
     /// What a root has seen, how many passes it has given, and what those joined have done.
     ghost root: { Self.Root → RootView T };
 
-    /// That this pass is in a put of this value that has found no room.
-    ghost is_refusing: { Self → T → Self.Pass → Type 0 };
-
-    /// What that pass had seen as the put was begun.
-    ghost refusing: { Self → Self.Pass → PassView T };
-
     /// The container's `split`: a pass, or `None` if the largest number of passes is out.
     fn split_off(&self, parent: &mut Self::Root) -> Option<Self::Pass>
         requires { is_root self.now parent.old }
@@ -99,21 +83,15 @@ pub trait BoundedCalls<T>: Drop {
         ensures tried { Tried (reading self.now) operation result }
         ensures took { TookFor (reading self.now) steps operation result };
 
-    /// A put's fast path, if there is room.
-    fn put_if_room(&self, by: Self::Pass, value: T) -> PutMade<Self::Operation, Self::Pass, T>
-        requires { (reading self.now).is_pass by }
-        ensures { PutMadeSo (reading self.now) (is_refusing self.now) (refusing self.now)
-            value ((reading self.now).pass by) result };
-
-    /// Says why nothing can be put, if the put has found no room.
-    fn refuse_at_once(
+    /// A put's fast path.
+    fn put_at_once(
         &self,
         by: Self::Pass,
         value: T,
     ) -> Stepped<Self::Operation, Self::Pass, Reply<T>>
-        requires { is_refusing self.now value by }
-        ensures tried { TriedFrom (reading self.now) (refusing self.now by) (Put value) result }
-        ensures took { TookAtLeast (reading self.now) 0 (refusing self.now by) result };
+        requires { (reading self.now).is_pass by }
+        ensures tried { TriedFrom (reading self.now) ((reading self.now).pass by) (Put value) result }
+        ensures took { TookAtLeast (reading self.now) 0 ((reading self.now).pass by) result };
 
     /// A take's fast path.
     fn take_at_once(&self, by: Self::Pass) -> Stepped<Self::Operation, Self::Pass, Reply<T>>
@@ -163,11 +141,7 @@ pub fn try_call<T, C: BoundedCalls<T>>(
         ((C.reading container.now).pass by) result }
 {
     let first = match command {
-        Command::Put(value) => match container.put_if_room(by, value) {
-            PutMade::Done(back, said) => Stepped::Done(back, Reply::Put(said)),
-            PutMade::Again(operation) => Stepped::Again(operation),
-            PutMade::NoRoom(back, value) => container.refuse_at_once(back, value),
-        },
+        Command::Put(value) => container.put_at_once(by, value),
         Command::Take => container.take_at_once(by),
         Command::Look => container.look_at_once(by),
         other => Stepped::Again(container.begin(by, other)),

@@ -10,4 +10,4 @@ mod queue;
 mod ring;
 mod stack;
 
-pub use calls::{BoundedCalls, PutMade, try_call};
+pub use calls::{BoundedCalls, try_call};

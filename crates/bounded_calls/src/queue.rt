@@ -1,14 +1,15 @@
 //! A queue's calls: each makes its fast path and then a bounded number of steps.
-use crate::calls::{BoundedCalls, PutMade};
-use bounded_model::{Command, Container, Operation, Reply, Stepped, Stepwise, of_kind};
-use ms_queue::{AnyOp, Pass, Queue, Rest, Root};
+use crate::calls::BoundedCalls;
+use bounded::own_op;
+use bounded_model::{Command, MAX_PASSES, Reply, Stepped, of_kind};
+use ms_queue::{AnyOp, Pass, Queue, Queued, Rest, Root, end};
+use queue_machine::Line;
+use queue_table::Operation;
 
 impl BoundedCalls<u64> for Queue<u64> {
     ghost use Rattle.bounded_calls.specs.Calls.{Begins};
-    ghost use Rattle.running.specs.Passes.{root_in};
     ghost use Rattle.bounded_calls.specs.Readings.{queue_reading};
-    ghost use Rattle.ms_queue.specs.Queue.{IsPassOf, IsRootOf, begun_of};
-    ghost use Rattle.ms_queue.specs.Trying.{IsRefusing};
+    ghost use Rattle.ms_queue.specs.Queue.{IsPassOf, IsRootOf, root_in};
 
     type Root = Root<u64>;
 
@@ -28,22 +29,23 @@ impl BoundedCalls<u64> for Queue<u64> {
 
     ghost reading = { queue_reading };
 
-    ghost is_refusing = { IsRefusing };
-
-    ghost refusing = { begun_of };
-
     ghost is_root = { IsRootOf };
 
     ghost root = { root_in };
 
     #[inline]
     fn split_off(&self, parent: &mut Root<u64>) -> Option<Pass<u64>> {
-        self.split(parent)
+        let pass = running::split::<u64, Line<u64>, Operation<u64>, Queued>(
+            &self.table.shared,
+            &mut parent.root,
+            MAX_PASSES,
+        )?;
+        Some(Pass { pass, kept: () })
     }
 
     #[inline]
     fn end_with(self, parent: Root<u64>) -> Rest<u64> {
-        self.finish(parent)
+        end(self, parent)
     }
 
     #[inline(always)]
@@ -51,7 +53,9 @@ impl BoundedCalls<u64> for Queue<u64> {
         requires { IsPassOf self.now by }
         ensures { Begins (queue_reading self.now) by command result }
     {
-        Stepwise::begin(self, by, command)
+        AnyOp {
+            call: self.begin_call(by, command),
+        }
     }
 
     #[inline]
@@ -60,34 +64,21 @@ impl BoundedCalls<u64> for Queue<u64> {
         operation: AnyOp<u64>,
         steps: u64,
     ) -> Stepped<AnyOp<u64>, Pass<u64>, Reply<u64>> {
-        Stepwise::run_for(self, operation, steps)
+        own_op!(AnyOp, self.run_call_for(operation.call, steps))
     }
 
     #[inline(always)]
-    fn put_if_room(&self, by: Pass<u64>, value: u64) -> PutMade<AnyOp<u64>, Pass<u64>, u64> {
-        match self.put_if_room(by, value) {
-            ms_queue::PutMade::Done(back, said) => PutMade::Done(back, said),
-            ms_queue::PutMade::Again(op) => PutMade::Again(Operation::Put(op)),
-            ms_queue::PutMade::NoCell(back, value) => PutMade::NoRoom(back, value),
-        }
-    }
-
-    #[inline]
-    fn refuse_at_once(
-        &self,
-        by: Pass<u64>,
-        value: u64,
-    ) -> Stepped<AnyOp<u64>, Pass<u64>, Reply<u64>> {
-        of_kind!(Put, self.refuse_at_once(by, value))
+    fn put_at_once(&self, by: Pass<u64>, value: u64) -> Stepped<AnyOp<u64>, Pass<u64>, Reply<u64>> {
+        own_op!(AnyOp, of_kind!(Put, self.put_at_once(by, value)))
     }
 
     #[inline(always)]
     fn take_at_once(&self, by: Pass<u64>) -> Stepped<AnyOp<u64>, Pass<u64>, Reply<u64>> {
-        of_kind!(Take, self.take_at_once(by))
+        own_op!(AnyOp, of_kind!(Take, self.take_at_once(by)))
     }
 
     #[inline(always)]
     fn look_at_once(&self, by: Pass<u64>) -> Stepped<AnyOp<u64>, Pass<u64>, Reply<u64>> {
-        of_kind!(Look, self.look_at_once(by))
+        own_op!(AnyOp, of_kind!(Look, self.look_at_once(by)))
     }
 }

@@ -1,12 +1,14 @@
 //! A ring's calls: each makes its fast path and then a bounded number of steps.
-use crate::calls::{BoundedCalls, PutMade};
-use bounded_model::{Command, Container, Operation, Reply, Stepped, Stepwise, of_kind};
-use ring_queue::{AnyOp, Pass, Rest, RingQueue, Root};
+use crate::calls::BoundedCalls;
+use bounded::{Program, own_op};
+use bounded_model::{Command, Reply, Stepped, of_kind};
+use ring_queue::{AnyOp, Pass, Rest, RingQueue, Ringed, Root, end};
+use ring_table::{Operation, SeatLine};
 
 impl BoundedCalls<u64> for RingQueue<u64> {
     ghost use Rattle.bounded_calls.specs.Calls.{Begins};
     ghost use Rattle.bounded_calls.specs.Readings.{ring_reading};
-    ghost use Rattle.ring_queue.specs.Ring.{IsPassOf, pass_in};
+    ghost use Rattle.ring_queue.specs.Ring.{IsPassOf};
     ghost use Rattle.ring_queue.specs.Roots.{IsRootOf, root_in};
 
     type Root = Root<u64>;
@@ -29,24 +31,37 @@ impl BoundedCalls<u64> for RingQueue<u64> {
 
     ghost reading = { ring_reading };
 
-    // A ring's put says by itself why nothing can be put, so no ring's put needs a separate
-    // refusal.
-    ghost is_refusing = { λ c x p. IsPassOf c p };
-
-    ghost refusing = { λ c p. pass_in p };
-
     ghost is_root = { IsRootOf };
 
     ghost root = { root_in };
 
     #[inline]
     fn split_off(&self, parent: &mut Root<u64>) -> Option<Pass<u64>> {
-        self.split(parent)
+        let most = self.limits.passes();
+        if parent.root.out >= most {
+            return None;
+        }
+        let kept = <Ringed as Program<
+            RingQueue<u64>,
+            u64,
+            SeatLine<u64>,
+            Operation<u64>,
+            Ringed,
+            0,
+        >>::give(&self.limits, &mut parent.stock);
+        let Some(pass) = running::split::<u64, SeatLine<u64>, Operation<u64>, Ringed>(
+            &self.table.shared,
+            &mut parent.root,
+            most,
+        ) else {
+            unreachable!()
+        };
+        Some(Pass { pass, kept })
     }
 
     #[inline]
     fn end_with(self, parent: Root<u64>) -> Rest<u64> {
-        self.finish(parent)
+        end(self, parent)
     }
 
     #[inline(always)]
@@ -54,7 +69,9 @@ impl BoundedCalls<u64> for RingQueue<u64> {
         requires { IsPassOf self.now by }
         ensures { Begins (ring_reading self.now) by command result }
     {
-        Stepwise::begin(self, by, command)
+        AnyOp {
+            call: self.begin_call(by, command),
+        }
     }
 
     #[inline]
@@ -63,33 +80,21 @@ impl BoundedCalls<u64> for RingQueue<u64> {
         operation: AnyOp<u64>,
         steps: u64,
     ) -> Stepped<AnyOp<u64>, Pass<u64>, Reply<u64>> {
-        Stepwise::run_for(self, operation, steps)
+        own_op!(AnyOp, self.run_call_for(operation.call, steps))
     }
 
     #[inline(always)]
-    fn put_if_room(&self, by: Pass<u64>, value: u64) -> PutMade<AnyOp<u64>, Pass<u64>, u64> {
-        match self.put_at_once(by, value) {
-            Stepped::Done(back, said) => PutMade::Done(back, said),
-            Stepped::Again(op) => PutMade::Again(Operation::Put(op)),
-        }
-    }
-
-    #[inline]
-    fn refuse_at_once(
-        &self,
-        by: Pass<u64>,
-        value: u64,
-    ) -> Stepped<AnyOp<u64>, Pass<u64>, Reply<u64>> {
-        of_kind!(Put, self.put_at_once(by, value))
+    fn put_at_once(&self, by: Pass<u64>, value: u64) -> Stepped<AnyOp<u64>, Pass<u64>, Reply<u64>> {
+        own_op!(AnyOp, of_kind!(Put, self.put_at_once(by, value)))
     }
 
     #[inline(always)]
     fn take_at_once(&self, by: Pass<u64>) -> Stepped<AnyOp<u64>, Pass<u64>, Reply<u64>> {
-        of_kind!(Take, self.take_at_once(by))
+        own_op!(AnyOp, of_kind!(Take, self.take_at_once(by)))
     }
 
     #[inline(always)]
     fn look_at_once(&self, by: Pass<u64>) -> Stepped<AnyOp<u64>, Pass<u64>, Reply<u64>> {
-        of_kind!(Look, self.look_at_once(by))
+        own_op!(AnyOp, of_kind!(Look, self.look_at_once(by)))
     }
 }

@@ -1,4 +1,16 @@
+//! Ranges and folds of any container that has them.
+//!
+//! A proof that passes a known container for a `Bulk` would need more steps of the prover than there
+//! are. So functions over any program and any values (`put_values_of`, ..) stand between the test and
+//! those over any container.
+
+ghost use Rattle.std.specs.Prelude.{IsSome};
+ghost use Rattle.std.specs.List.{AllByRecursion as Every};
+ghost use Rattle.bounded.specs.Bounded.{IsPassAt};
+
+use bounded::{Bounded, BulkProgram, Laid, Pass};
 use bounded_model::{Bulk, Container, Folded, RangeRefused, Ranged, TakeRefused};
+use running::ListMachine;
 use std::sync::Wait;
 use tagged_index::{Limits, MAX_TAG};
 use treiber_stack::Stack;
@@ -10,39 +22,120 @@ fn last_three(seen: Three, value: char) -> Three {
     (seen.1, seen.2, value)
 }
 
-fn put_three<C: Bulk<char>, R: Wait>(
+fn put_values<T, C: Bulk<T>, R: Wait>(
     rt: &R,
     container: &C,
     by: C::Pass,
+    values: &mut [Option<T>],
 ) -> (C::Pass, Result<Ranged, RangeRefused>)
-    requires { C.is_pass container.now by }
+    requires pass { C.is_pass container.now by }
+    requires values { Every (λ place. IsSome place) values.old }
     ensures { C.is_pass container.now result.0 }
 {
-    let mut values = [Some('a'), Some('b'), Some('c')];
-    container.put_range(rt, by, &mut values)
+    container.put_range(rt, by, values)
 }
 
-fn folded<C: Bulk<char>, R: Wait>(
+fn folded<T, C: Bulk<T>, R: Wait, S, F: Fn(S, T) -> S + Drop>(
     rt: &R,
     container: &C,
     by: C::Pass,
-) -> (C::Pass, Three, Result<Folded, TakeRefused>)
-    requires { C.is_pass container.now by }
+    state: S,
+    f: F,
+) -> (C::Pass, S, Result<Folded, TakeRefused>)
+    requires pass { C.is_pass container.now by }
+    requires call { F.IsAlwaysCallable f }
     ensures { C.is_pass container.now result.0 }
 {
-    container.fold_all_atomic(rt, by, ('-', '-', '-'), last_three)
+    container.fold_all_atomic(rt, by, state, f)
 }
 
-fn folded_in_reverse<C: Bulk<char>, R: Wait>(
+fn folded_in_reverse<T, C: Bulk<T>, R: Wait, S, F: Fn(S, T) -> S + Drop>(
     rt: &R,
     container: &C,
     by: C::Pass,
-) -> (C::Pass, Three, Result<Folded, TakeRefused>)
-    requires { C.is_pass container.now by }
+    state: S,
+    f: F,
+) -> (C::Pass, S, Result<Folded, TakeRefused>)
+    requires pass { C.is_pass container.now by }
+    requires call { F.IsAlwaysCallable f }
     ensures { C.is_pass container.now result.0 }
 {
-    container.fold_all_atomic_reversed(rt, by, ('-', '-', '-'), last_three)
+    container.fold_all_atomic_reversed(rt, by, state, f)
 }
+
+fn put_values_of<
+    T: Drop + Send,
+    L,
+    O: Drop + Send,
+    M: Laid<T, L, O> + ListMachine<T, L, O, N> + BulkProgram<Bounded<T, L, O, M, N>, T, L, O, M, N>,
+    R: Wait,
+    const N: usize,
+>(
+    rt: &R,
+    container: &Bounded<T, L, O, M, N>,
+    by: Pass<T, L, M::Kept>,
+    values: &mut [Option<T>],
+) -> (Pass<T, L, M::Kept>, Result<Ranged, RangeRefused>)
+    requires pass { IsPassAt (M.machine container.now.table.shared.key) M.keeps
+        container.now.table.shared.table_id by }
+    requires values { Every (λ place. IsSome place) values.old }
+    ensures { IsPassAt (M.machine container.now.table.shared.key) M.keeps
+        container.now.table.shared.table_id result.0 }
+{
+    put_values(rt, container, by, values)
+}
+
+fn folded_of<
+    T: Drop + Send,
+    L,
+    O: Drop + Send,
+    M: Laid<T, L, O> + ListMachine<T, L, O, N> + BulkProgram<Bounded<T, L, O, M, N>, T, L, O, M, N>,
+    R: Wait,
+    S,
+    F: Fn(S, T) -> S + Drop,
+    const N: usize,
+>(
+    rt: &R,
+    container: &Bounded<T, L, O, M, N>,
+    by: Pass<T, L, M::Kept>,
+    state: S,
+    f: F,
+) -> (Pass<T, L, M::Kept>, S, Result<Folded, TakeRefused>)
+    requires pass { IsPassAt (M.machine container.now.table.shared.key) M.keeps
+        container.now.table.shared.table_id by }
+    requires call { F.IsAlwaysCallable f }
+    ensures { IsPassAt (M.machine container.now.table.shared.key) M.keeps
+        container.now.table.shared.table_id result.0 }
+{
+    folded(rt, container, by, state, f)
+}
+
+fn folded_in_reverse_of<
+    T: Drop + Send,
+    L,
+    O: Drop + Send,
+    M: Laid<T, L, O> + ListMachine<T, L, O, N> + BulkProgram<Bounded<T, L, O, M, N>, T, L, O, M, N>,
+    R: Wait,
+    S,
+    F: Fn(S, T) -> S + Drop,
+    const N: usize,
+>(
+    rt: &R,
+    container: &Bounded<T, L, O, M, N>,
+    by: Pass<T, L, M::Kept>,
+    state: S,
+    f: F,
+) -> (Pass<T, L, M::Kept>, S, Result<Folded, TakeRefused>)
+    requires pass { IsPassAt (M.machine container.now.table.shared.key) M.keeps
+        container.now.table.shared.table_id by }
+    requires call { F.IsAlwaysCallable f }
+    ensures { IsPassAt (M.machine container.now.table.shared.key) M.keeps
+        container.now.table.shared.table_id result.0 }
+{
+    folded_in_reverse(rt, container, by, state, f)
+}
+
+const NONE: Three = ('-', '-', '-');
 
 #[test]
 fn ranges_and_folds_of_any_container(rt: HostRuntime) {
@@ -50,11 +143,13 @@ fn ranges_and_folds_of_any_container(rt: HostRuntime) {
     let (stack, mut root) = Stack::<char>::new(rt.alloc(), limits).expect(&rt, "memory");
     let pass = stack.split(&mut root).expect(&rt, "a pass");
     let three = |number| Ranged { number, count: 3 };
-    let (pass, put) = put_three(&rt, &stack, pass);
+    let mut values = [Some('a'), Some('b'), Some('c')];
+    let (pass, put) = put_values_of(&rt, &stack, pass, &mut values);
     assert_eq!(rt; put, Ok(three(0)));
-    let (pass, put) = put_three(&rt, &stack, pass);
+    let mut values = [Some('a'), Some('b'), Some('c')];
+    let (pass, put) = put_values_of(&rt, &stack, pass, &mut values);
     assert_eq!(rt; put, Err(RangeRefused::Full));
-    let (pass, seen, fold) = folded(&rt, &stack, pass);
+    let (pass, seen, fold) = folded_of(&rt, &stack, pass, NONE, last_three);
     assert_eq!(rt; seen, ('c', 'b', 'a'));
     assert_eq!(rt;
         fold,
@@ -63,9 +158,10 @@ fn ranges_and_folds_of_any_container(rt: HostRuntime) {
             count: 3
         })
     );
-    let (pass, put) = put_three(&rt, &stack, pass);
+    let mut values = [Some('a'), Some('b'), Some('c')];
+    let (pass, put) = put_values_of(&rt, &stack, pass, &mut values);
     assert_eq!(rt; put, Ok(three(2)));
-    let (pass, seen, fold) = folded_in_reverse(&rt, &stack, pass);
+    let (pass, seen, fold) = folded_in_reverse_of(&rt, &stack, pass, NONE, last_three);
     assert_eq!(rt; seen, ('a', 'b', 'c'));
     assert_eq!(rt;
         fold,
@@ -74,7 +170,7 @@ fn ranges_and_folds_of_any_container(rt: HostRuntime) {
             count: 3
         })
     );
-    let (_, seen, fold) = folded(&rt, &stack, pass);
-    assert_eq!(rt; seen, ('-', '-', '-'));
+    let (_, seen, fold) = folded_of(&rt, &stack, pass, NONE, last_three);
+    assert_eq!(rt; seen, NONE);
     assert_eq!(rt; fold, Err(TakeRefused::Empty));
 }

@@ -4,8 +4,8 @@ use crate::drops::{self, half_read, in_use};
 use crate::fills::{
     Crowd, consumed, each_value_once, one_value_at_a_time, own_puts_suffice, room_for_its_capacity,
 };
-use crate::made::Made;
-use crate::steps::{Steps, dropped_late_puts, dropped_puts, dropped_takes, ended_at_their_last};
+use crate::made::{Made, with_room};
+use crate::steps::{StepCounts, dropped_late_put, dropped_put, dropped_take, ended_at_their_last};
 use bounded_model::Order;
 use ms_queue::Queue;
 use ring_queue::RingQueue;
@@ -94,7 +94,7 @@ fn values_of_a_ring_are_dropped_once(rt: HostRuntime) {
     values_are_dropped::<RingQueue<Arc<u8>>, HostRuntime>(&rt, rt.alloc());
 }
 
-const OF_A_QUEUE: Steps = Steps {
+const OF_A_QUEUE: StepCounts = StepCounts {
     put: 14,
     kept: 3,
     take: 12,
@@ -104,7 +104,7 @@ const OF_A_QUEUE: Steps = Steps {
     refused: 10,
 };
 
-const OF_A_STACK: Steps = Steps {
+const OF_A_STACK: StepCounts = StepCounts {
     put: 6,
     kept: 3,
     take: 6,
@@ -114,7 +114,7 @@ const OF_A_STACK: Steps = Steps {
     refused: 4,
 };
 
-const OF_A_RING: Steps = Steps {
+const OF_A_RING: StepCounts = StepCounts {
     put: 3,
     kept: 1,
     take: 4,
@@ -126,37 +126,78 @@ const OF_A_RING: Steps = Steps {
 
 #[test]
 fn a_put_and_a_take_of_a_queue_make_their_steps(rt: HostRuntime) {
-    ended_at_their_last::<Queue<u32>, HostRuntime>(&rt, rt.alloc(), OF_A_QUEUE);
+    let (queue, root) = with_room::<u32, Queue<u32>, HostRuntime>(&rt, rt.alloc(), 1);
+    ended_at_their_last(&rt, queue, root, OF_A_QUEUE);
 }
 
 #[test]
 fn a_put_and_a_take_of_a_stack_make_their_steps(rt: HostRuntime) {
-    ended_at_their_last::<Stack<u32>, HostRuntime>(&rt, rt.alloc(), OF_A_STACK);
+    let (stack, root) = with_room::<u32, Stack<u32>, HostRuntime>(&rt, rt.alloc(), 1);
+    ended_at_their_last(&rt, stack, root, OF_A_STACK);
 }
 
 #[test]
 fn a_put_and_a_take_of_a_ring_make_their_steps(rt: HostRuntime) {
-    ended_at_their_last::<RingQueue<u32>, HostRuntime>(&rt, rt.alloc(), OF_A_RING);
-}
-
-// Values of calls that are dropped between two steps.
-fn values_of_dropped_calls<C: Made<Arc<u8>>, R: Abort + Wait>(rt: &R, alloc: Global, steps: Steps) {
-    dropped_puts::<C, R>(rt, alloc, steps);
-    dropped_takes::<C, R>(rt, alloc, steps);
-    dropped_late_puts::<C, R>(rt, alloc, steps);
+    let (ring, root) = with_room::<u32, RingQueue<u32>, HostRuntime>(&rt, rt.alloc(), 1);
+    ended_at_their_last(&rt, ring, root, OF_A_RING);
 }
 
 #[test]
 fn values_of_dropped_calls_of_a_queue_are_dropped_once(rt: HostRuntime) {
-    values_of_dropped_calls::<Queue<Arc<u8>>, HostRuntime>(&rt, rt.alloc(), OF_A_QUEUE);
+    for made in 0..OF_A_QUEUE.put {
+        let (queue, root) = with_room::<Arc<u8>, Queue<Arc<u8>>, HostRuntime>(&rt, rt.alloc(), 2);
+        dropped_put(&rt, rt.alloc(), queue, root, OF_A_QUEUE, made);
+    }
+    for made in 0..OF_A_QUEUE.take {
+        let (queue, root) = with_room::<Arc<u8>, Queue<Arc<u8>>, HostRuntime>(&rt, rt.alloc(), 2);
+        dropped_take(&rt, rt.alloc(), queue, root, OF_A_QUEUE, made);
+    }
+    for made in 0..OF_A_QUEUE.refused {
+        let (queue, root) = with_room::<Arc<u8>, Queue<Arc<u8>>, HostRuntime>(&rt, rt.alloc(), 2);
+        dropped_late_put(&rt, rt.alloc(), queue, root, OF_A_QUEUE, made);
+    }
 }
 
 #[test]
 fn values_of_dropped_calls_of_a_stack_are_dropped_once(rt: HostRuntime) {
-    values_of_dropped_calls::<Stack<Arc<u8>>, HostRuntime>(&rt, rt.alloc(), OF_A_STACK);
+    for made in 0..OF_A_STACK.put {
+        let (stack, root) = with_room::<Arc<u8>, Stack<Arc<u8>>, HostRuntime>(&rt, rt.alloc(), 2);
+        dropped_put(&rt, rt.alloc(), stack, root, OF_A_STACK, made);
+    }
+    for made in 0..OF_A_STACK.take {
+        let (stack, root) = with_room::<Arc<u8>, Stack<Arc<u8>>, HostRuntime>(&rt, rt.alloc(), 2);
+        dropped_take(&rt, rt.alloc(), stack, root, OF_A_STACK, made);
+    }
+    for made in 0..OF_A_STACK.refused {
+        let (stack, root) = with_room::<Arc<u8>, Stack<Arc<u8>>, HostRuntime>(&rt, rt.alloc(), 2);
+        dropped_late_put(&rt, rt.alloc(), stack, root, OF_A_STACK, made);
+    }
 }
 
 #[test]
 fn values_of_dropped_calls_of_a_ring_are_dropped_once(rt: HostRuntime) {
-    values_of_dropped_calls::<RingQueue<Arc<u8>>, HostRuntime>(&rt, rt.alloc(), OF_A_RING);
+    for made in 0..OF_A_RING.put {
+        let (ring, root) = with_room::<Arc<u8>, RingQueue<Arc<u8>>, HostRuntime>(
+            &rt,
+            rt.alloc(),
+            2,
+        );
+        dropped_put(&rt, rt.alloc(), ring, root, OF_A_RING, made);
+    }
+    for made in 0..OF_A_RING.take {
+        let (ring, root) = with_room::<Arc<u8>, RingQueue<Arc<u8>>, HostRuntime>(
+            &rt,
+            rt.alloc(),
+            2,
+        );
+        dropped_take(&rt, rt.alloc(), ring, root, OF_A_RING, made);
+    }
+    for made in 0..OF_A_RING.refused {
+        let (ring, root) = with_room::<Arc<u8>, RingQueue<Arc<u8>>, HostRuntime>(
+            &rt,
+            rt.alloc(),
+            2,
+        );
+        dropped_late_put(&rt, rt.alloc(), ring, root, OF_A_RING, made);
+    }
 }

@@ -2,7 +2,7 @@
 
 ghost use Rattle.std.specs.Prelude.{IfOk};
 
-use bounded_model::{MakeRefused, Stepwise};
+use bounded_model::{Container, MakeRefused};
 use ms_queue::{self, Queue};
 use ring_queue::{self, RingLimits, RingQueue};
 use std::alloc::Global;
@@ -11,7 +11,7 @@ use tagged_index::{Limits, MAX_TAG};
 use treiber_stack::{self, Stack};
 
 /// A container that each test is for, with its root.
-pub(crate) trait Made<T>: Stepwise<T> {
+pub(crate) trait Made<T>: Container<T> {
     fn made(alloc: Global, limits: Limits) -> Result<(Self, Self::Root), MakeRefused>
         ensures { IfOk result (λ made. Self.is_root made.0 made.1) };
 }

@@ -1,17 +1,22 @@
 //! Calls by single steps: how many a put and a take make, and what becomes of the values of a call
 //! that is dropped between two steps.
+//!
+//! The tests call functions over any program. A proof that passes a known container for a `Stepwise`
+//! would need more steps of the prover than there are.
 
 ghost use Rattle.bounded_model.specs.declared.commands.Command.{Command};
+ghost use Rattle.bounded.specs.Bounded.{IsRootAt};
 
-use crate::made::{Made, with_room};
+use bounded::{Bounded, Laid, Root, Steps};
 use bounded_model::{Command, Container, Order, Reply, Stepped, Stepwise};
+use running::ListMachine;
 use std::alloc::Global;
 use std::process::Abort;
 use std::sync::{Arc, Wait};
 
 /// How many steps the calls of a container make if no other call interferes.
 #[derive(Clone, Copy)]
-pub(crate) struct Steps {
+pub(crate) struct StepCounts {
     /// The steps of a put, ..
     pub(crate) put: u32,
     /// .. and of these, those until its value is in a cell.
@@ -49,8 +54,19 @@ fn continued<T: Drop, C: Stepwise<T>, R: Abort>(
 }
 
 /// A put and a take end at their last step, and not before.
-pub(crate) fn ended_at_their_last<C: Made<u32>, R: Abort>(rt: &R, alloc: Global, steps: Steps) {
-    let (container, mut root) = with_room::<u32, C, R>(rt, alloc, 1);
+pub(crate) fn ended_at_their_last<
+    L,
+    O: Drop + Send,
+    M: Laid<u32, L, O>
+        + ListMachine<u32, L, O, N>
+        + Steps<Bounded<u32, L, O, M, N>, u32, L, O, M, N>,
+    R: Abort,
+    const N: usize,
+>(rt: &R, container: Bounded<u32, L, O, M, N>, root: Root<u32, L, M::Stock>, steps: StepCounts)
+    requires { IsRootAt (M.machine container.table.shared.key) (M.stocks container.table.shared.key)
+        container.table.shared.table_id root }
+{
+    let mut root = root;
     let pass = container.split(&mut root).expect(rt, "a pass");
     let begun = container.begin(pass, Command::Put(7));
     let put = continued(rt, &container, begun, steps.put.saturating_sub(1));
@@ -62,17 +78,35 @@ pub(crate) fn ended_at_their_last<C: Made<u32>, R: Abort>(rt: &R, alloc: Global,
     let Stepped::Done(_, Reply::Take(Ok(taken))) = container.step(take) else {
         panic!(rt; "the take ended late")
     };
-    let number = match C::ORDER {
+    let number = match M::ORDER {
         Order::Fifo => 0,
         Order::Lifo => 1,
     };
     assert_eq!(rt; taken, (7, number));
 }
 
-// Drops a put after `made` steps.
-fn dropped_put<C: Made<Arc<u8>>, R: Abort>(rt: &R, alloc: Global, steps: Steps, made: u32) {
+/// Drops a put after `made` steps.
+pub(crate) fn dropped_put<
+    L,
+    O: Drop + Send,
+    M: Laid<Arc<u8>, L, O>
+        + ListMachine<Arc<u8>, L, O, N>
+        + Steps<Bounded<Arc<u8>, L, O, M, N>, Arc<u8>, L, O, M, N>,
+    R: Abort,
+    const N: usize,
+>(
+    rt: &R,
+    alloc: Global,
+    container: Bounded<Arc<u8>, L, O, M, N>,
+    root: Root<Arc<u8>, L, M::Stock>,
+    steps: StepCounts,
+    made: u32,
+)
+    requires { IsRootAt (M.machine container.table.shared.key) (M.stocks container.table.shared.key)
+        container.table.shared.table_id root }
+{
     let value = Arc::new(alloc, 7u8).expect(rt, "memory");
-    let (container, mut root) = with_room::<Arc<u8>, C, R>(rt, alloc, 2);
+    let mut root = root;
     let pass = container.split(&mut root).expect(rt, "a pass");
     let clone = Arc::try_clone(&value).expect(rt, "a clone");
     let begun = container.begin(pass, Command::Put(clone));
@@ -84,10 +118,28 @@ fn dropped_put<C: Made<Arc<u8>>, R: Abort>(rt: &R, alloc: Global, steps: Steps, 
     assert_eq!(rt; Arc::strong_count(&value), 1);
 }
 
-// Drops a take after `made` steps.
-fn dropped_take<C: Made<Arc<u8>>, R: Abort + Wait>(rt: &R, alloc: Global, steps: Steps, made: u32) {
+/// Drops a take after `made` steps.
+pub(crate) fn dropped_take<
+    L,
+    O: Drop + Send,
+    M: Laid<Arc<u8>, L, O>
+        + ListMachine<Arc<u8>, L, O, N>
+        + Steps<Bounded<Arc<u8>, L, O, M, N>, Arc<u8>, L, O, M, N>,
+    R: Abort + Wait,
+    const N: usize,
+>(
+    rt: &R,
+    alloc: Global,
+    container: Bounded<Arc<u8>, L, O, M, N>,
+    root: Root<Arc<u8>, L, M::Stock>,
+    steps: StepCounts,
+    made: u32,
+)
+    requires { IsRootAt (M.machine container.table.shared.key) (M.stocks container.table.shared.key)
+        container.table.shared.table_id root }
+{
     let value = Arc::new(alloc, 7u8).expect(rt, "memory");
-    let (container, mut root) = with_room::<Arc<u8>, C, R>(rt, alloc, 2);
+    let mut root = root;
     let pass = container.split(&mut root).expect(rt, "a pass");
     let (pass, put) = container.put(rt, pass, Arc::try_clone(&value).expect(rt, "a clone"));
     assert!(rt; put.is_ok());
@@ -99,15 +151,28 @@ fn dropped_take<C: Made<Arc<u8>>, R: Abort + Wait>(rt: &R, alloc: Global, steps:
     assert_eq!(rt; Arc::strong_count(&value), 1);
 }
 
-// Drops a put that a close overtakes, `made` steps after the close.
-fn dropped_late_put<C: Made<Arc<u8>>, R: Abort + Wait>(
+/// Drops a put that a close overtakes, `made` steps after the close.
+pub(crate) fn dropped_late_put<
+    L,
+    O: Drop + Send,
+    M: Laid<Arc<u8>, L, O>
+        + ListMachine<Arc<u8>, L, O, N>
+        + Steps<Bounded<Arc<u8>, L, O, M, N>, Arc<u8>, L, O, M, N>,
+    R: Abort + Wait,
+    const N: usize,
+>(
     rt: &R,
     alloc: Global,
-    steps: Steps,
+    container: Bounded<Arc<u8>, L, O, M, N>,
+    root: Root<Arc<u8>, L, M::Stock>,
+    steps: StepCounts,
     made: u32,
-) {
+)
+    requires { IsRootAt (M.machine container.table.shared.key) (M.stocks container.table.shared.key)
+        container.table.shared.table_id root }
+{
     let value = Arc::new(alloc, 7u8).expect(rt, "memory");
-    let (container, mut root) = with_room::<Arc<u8>, C, R>(rt, alloc, 2);
+    let mut root = root;
     let pass = container.split(&mut root).expect(rt, "a pass");
     let closer = container.split(&mut root).expect(rt, "a pass");
     let clone = Arc::try_clone(&value).expect(rt, "a clone");
@@ -120,34 +185,4 @@ fn dropped_late_put<C: Made<Arc<u8>>, R: Abort + Wait>(
     assert_eq!(rt; Arc::strong_count(&value), owners);
     drop(container.finish(root));
     assert_eq!(rt; Arc::strong_count(&value), 1);
-}
-
-/// A put that is dropped between any two steps drops its value once.
-pub(crate) fn dropped_puts<C: Made<Arc<u8>>, R: Abort>(rt: &R, alloc: Global, steps: Steps) {
-    for made in 0..steps.put {
-        dropped_put::<C, R>(rt, alloc, steps, made);
-    }
-}
-
-/// A take that is dropped between any two steps drops its value once.
-pub(crate) fn dropped_takes<C: Made<Arc<u8>>, R: Abort + Wait>(
-    rt: &R,
-    alloc: Global,
-    steps: Steps,
-) {
-    for made in 0..steps.take {
-        dropped_take::<C, R>(rt, alloc, steps, made);
-    }
-}
-
-/// A put that a close overtakes drops its value once too. It has the value again when it has met
-/// the mark.
-pub(crate) fn dropped_late_puts<C: Made<Arc<u8>>, R: Abort + Wait>(
-    rt: &R,
-    alloc: Global,
-    steps: Steps,
-) {
-    for made in 0..steps.refused {
-        dropped_late_put::<C, R>(rt, alloc, steps, made);
-    }
 }

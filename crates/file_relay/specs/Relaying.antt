@@ -24,7 +24,7 @@ use Rattle.file_relay.specs.Inputs.{AreRead, IsFileFault}
 use Rattle.file_relay.specs.Outcome.{GrowsByFront, outcome_text}
 use Rattle.told.specs.Writing.{Written}
 use Rattle.relay_args.specs.declared.ranges.TheConstants.{MAX_FILES, MAX_RELAY_PASSES}
-use Rattle.ring_queue.specs.declared.limits.TheConstants.{MAX_LAPS}
+use Rattle.ring_queue.specs.declared.life.limits.TheConstants.{MAX_LAPS}
 
 -- in which order a container of this kind gives values back
 abbrev pub order_of : Kind → Order

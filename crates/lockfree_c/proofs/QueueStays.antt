@@ -1,25 +1,31 @@
 -- A queue's count or gauge that was tried leaves one that goes on, or a pass at rest.
 use Rattle.std.proofs.Common.{sym, subst₂}
 use Rattle.std.specs.Prelude.{ℕ}
+use Rattle.bounded_model.specs.declared.answers.Stepped.{Stepped}
 use Rattle.bounded_model.specs.declared.answers.Stepped.TheVariants.{Again, Done}
 use Rattle.bounded_model.specs.declared.views.PassView.{PassView}
+use Rattle.bounded.specs.Joined.{joined}
 use Rattle.running.specs.Ops.{OpRan}
+use Rattle.running.specs.Passes.{begun_of}
+use Rattle.running.specs.declared.passes.Pass as runs
+use Rattle.queue_machine.specs.declared.lines.Line.{Line}
 use Rattle.ms_queue.specs.Counting.{IsCounting, LenOp, len_account}
 use Rattle.ms_queue.specs.Gauging.{GaugeOp, IsGauging, gauge_account}
-use Rattle.ms_queue.specs.KeepsAnswers.{len_promises}
-use Rattle.ms_queue.specs.KeepsGauge.{gauge_promises}
-use Rattle.ms_queue.specs.Queue.{begun_of, machine_of}
+use Rattle.ms_queue.specs.KeepsGauge.{gauge_promises, len_promises}
+use Rattle.ms_queue.specs.Queue.{Answered, keeps, machine_of}
 use Rattle.ms_queue.specs.Trying.{LenTried}
-use Rattle.ms_queue.specs.declared.queue.Queue.{Queue}
+use Rattle.ms_queue.specs.declared.calls.gauging.Gauge.{Gauge}
 use Rattle.bounded_calls.specs.Readings.{queue_reading}
 use Rattle.lockfree_c.specs.Gauges.{GaugeLeft, GaugeMade, GaugeTried}
 use Rattle.lockfree_c.specs.Held.{CountLeft, CountMade, IsHeld}
+use Rattle.lockfree_c.specs.Kinds.{Queue}
 use Rattle.lockfree_c.specs.declared.answers.Answer.{Answer}
 use Rattle.lockfree_c.specs.declared.held.Held.{Held}
 use Rattle.lockfree_c.specs.declared.held.Held.TheVariants.{QueuePass as OfQueuePass, QueueCount as OfQueueCount, QueueGauge as OfQueueGauge}
+use Rattle.lockfree_c.proofs.OpsOn.{goes_on}
 use Rattle.lockfree_c.proofs.Rests.{comes_to_rest}
 
-module _ (c : Queue ℕ) (begun : PassView ℕ) where
+module _ (c : Queue) (begun : PassView ℕ) where
   pub count_stays : (made : CountMade) (g : Held) (a : Answer) → LenTried c begun made → CountLeft c made g a → IsHeld g
   count_stays (Again op) (OfQueueCount k) a tried left = subst₂ IsCounting (sym left.0) (sym left.1) tried.0
   count_stays (Done back n) (OfQueuePass p) a tried left = comes_to_rest queue_reading c back 0 p tried.0 left.0 left.1
@@ -31,16 +37,17 @@ module _ (c : Queue ℕ) (begun : PassView ℕ) where
   gauge_stays made g a tried left = absurd left
 
 -- some steps of a count, and of a gauge
-abbrev pub CountRan : Queue ℕ → ℕ → LenOp ℕ → CountMade → Type 0
+abbrev Made : Type 0 → Type 0 → Type 0
+Made Op A = Stepped Op (runs.Pass ℕ (Line ℕ)) (Answered A)
+
+abbrev pub CountRan : Queue → ℕ → LenOp ℕ → Made (LenOp ℕ) ℕ → Type 0
 CountRan c n op made = OpRan (machine_of c) (len_account c.table.shared.key) c.table.shared.table_id (len_promises c.table.shared.key) n op made
 
-abbrev pub GaugeRan : Queue ℕ → ℕ → GaugeOp ℕ → GaugeMade → Type 0
+abbrev pub GaugeRan : Queue → ℕ → GaugeOp ℕ → Made (GaugeOp ℕ) Gauge → Type 0
 GaugeRan c n op made = OpRan (machine_of c) (gauge_account c.table.shared.key) c.table.shared.table_id (gauge_promises c.table.shared.key) n op made
 
-pub counts_on : (c : Queue ℕ) (n : ℕ) (op : LenOp ℕ) (made : CountMade) → CountRan c n op made → LenTried c (begun_of c op.pass) made
-counts_on c n op (Again next) ran = (ran.0, ran.1)
-counts_on c n op (Done back k) ran = (ran.0, ran.1)
+pub counts_on : (c : Queue) (n : ℕ) (op : LenOp ℕ) (made : Made (LenOp ℕ) ℕ) → CountRan c n op made → LenTried c (begun_of (machine_of c) op.pass) (joined made)
+counts_on c n op made ran = goes_on (machine_of c) keeps c.table.shared.table_id (len_account c.table.shared.key) (λ o a. tt) (len_promises c.table.shared.key) n op made ran
 
-pub gauges_on : (c : Queue ℕ) (n : ℕ) (op : GaugeOp ℕ) (made : GaugeMade) → GaugeRan c n op made → GaugeTried c (begun_of c op.pass) made
-gauges_on c n op (Again next) ran = (ran.0, ran.1)
-gauges_on c n op (Done back shown) ran = (ran.0, ran.1)
+pub gauges_on : (c : Queue) (n : ℕ) (op : GaugeOp ℕ) (made : Made (GaugeOp ℕ) Gauge) → GaugeRan c n op made → GaugeTried c (begun_of (machine_of c) op.pass) (joined made)
+gauges_on c n op made ran = goes_on (machine_of c) keeps c.table.shared.table_id (gauge_account c.table.shared.key) (λ o a. tt) (gauge_promises c.table.shared.key) n op made ran

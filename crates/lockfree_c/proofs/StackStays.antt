@@ -7,18 +7,18 @@ use Rattle.index_list.specs.declared.front.Front.{Front}
 use Rattle.treiber_stack.specs.Copying.{IsCopying, CopyTried}
 use Rattle.treiber_stack.specs.FoldOp.{IsFolding, FoldTried}
 use Rattle.treiber_stack.specs.RangeTrying.{IsRanging, RangeTried}
-use Rattle.treiber_stack.specs.declared.fold_op.FoldMade.{FoldMade}
-use Rattle.treiber_stack.specs.declared.fold_op.FoldMade.TheVariants.{Again, Value, Done}
-use Rattle.treiber_stack.specs.declared.stack.Stack.{Stack}
+use Rattle.treiber_stack.specs.declared.bulk.fold_op.FoldMade.{FoldMade}
+use Rattle.treiber_stack.specs.declared.bulk.fold_op.FoldMade.TheVariants.{Again, Value, Done}
 use Rattle.bounded_calls.specs.Readings.{stack_reading}
 use Rattle.lockfree_c.specs.Codes.{fold_number, range_number}
 use Rattle.lockfree_c.specs.Held.{CopyLeft, FoldLeft, IsHeld, RangeLeft, RangeMade}
+use Rattle.lockfree_c.specs.Kinds.{Stack}
 use Rattle.lockfree_c.specs.declared.answers.Answer.{Answer}
 use Rattle.lockfree_c.specs.declared.held.Held.{Held}
 use Rattle.lockfree_c.specs.declared.held.Held.TheVariants.{StackPass as OfStackPass, StackFold as OfStackFold, StackRangePut as OfStackRangePut, StackCopy as OfStackCopy}
 use Rattle.lockfree_c.proofs.Rests.{comes_to_rest}
 
-module _ (c : Stack ℕ) (values : List ℕ) (begun : PassView ℕ) where
+module _ (c : Stack) (values : List ℕ) (begun : PassView ℕ) where
   pub fold_stays : (front : Front) (made : FoldMade ℕ) (g : Held) (a : Answer) → FoldTried c front values begun made → FoldLeft c made g a → IsHeld g
   fold_stays front (Again op) (OfStackFold f) a tried left = (front, values, subst₂ (λ on o. IsFolding on front values o) (sym left.0) (sym left.1) tried.0)
   fold_stays front (Value x op) (OfStackFold f) a tried left = (front, values ++ x ∷ [], subst₂ (λ on o. IsFolding on front (values ++ x ∷ []) o) (sym left.0) (sym left.1) tried.0)

@@ -12,39 +12,35 @@ use Rattle.bounded_model.specs.declared.bulk.RangeRefused.{RangeRefused}
 use Rattle.bounded_model.specs.declared.commands.Command.{Command}
 use Rattle.index_list.specs.declared.front.Front.{Front}
 use Rattle.index_list.specs.declared.front.Front.TheVariants.{First, Last}
-use Rattle.running.specs.Passes.{pass_in, root_in}
-use Rattle.running.specs.declared.passes.Pass.{Pass}
+use Rattle.bounded.specs.Bounded.{pass_in, root_in}
+use Rattle.running.specs.Passes.{begun_of}
 use Rattle.queue_machine.specs.Answers as queue_machine
 use Rattle.stack_machine.specs.Answers as stack_machine
-use Rattle.stack_machine.specs.declared.lines.Line.{Line}
-use Rattle.queue_machine.specs.declared.lines.Line as of_queue
 use Rattle.ms_queue.specs.Counting.{IsCounting, LenOp}
 use Rattle.ms_queue.specs.Gauging.{IsGauging}
 use Rattle.ms_queue.specs.Left as queue_left
 use Rattle.ms_queue.specs.Queue as queue
 use Rattle.ms_queue.specs.Trying.{LenTried}
-use Rattle.ms_queue.specs.declared.queue.Queue.{Queue}
 use Rattle.treiber_stack.specs.Left as stack_left
 use Rattle.treiber_stack.specs.Stack as stack
 use Rattle.treiber_stack.specs.Copying.{IsCopying, CopyTried}
 use Rattle.treiber_stack.specs.FoldOp.{IsFolding, FoldTried}
 use Rattle.treiber_stack.specs.RangeTrying.{IsRanging, RangeOp, RangeTried}
-use Rattle.treiber_stack.specs.declared.fold_op.FoldMade.{FoldMade}
-use Rattle.treiber_stack.specs.declared.fold_op.FoldMade.TheVariants.{Again, Value, Done}
-use Rattle.treiber_stack.specs.declared.stack.Stack.{Stack}
+use Rattle.treiber_stack.specs.declared.bulk.fold_op.FoldMade.{FoldMade}
+use Rattle.treiber_stack.specs.declared.bulk.fold_op.FoldMade.TheVariants.{Again, Value, Done}
 use Rattle.ring_table.specs.Core.{shape_for}
 use Rattle.ring_queue.specs.Counting as ring_counting
 use Rattle.ring_queue.specs.Gauging as ring_gauging
 use Rattle.ring_queue.specs.Leaving as ring_left
 use Rattle.ring_queue.specs.Ring as ring
 use Rattle.ring_queue.specs.Roots as ring_roots
-use Rattle.ring_queue.specs.declared.limits.TheConstants.{MIN_LAPS, MAX_LAPS}
+use Rattle.ring_queue.specs.declared.life.limits.TheConstants.{MIN_LAPS, MAX_LAPS}
 use Rattle.bounded_calls.specs.Readings.{queue_reading, ring_reading, stack_reading}
 use Rattle.lockfree_c.specs.Gauges.{GaugeWentOn}
 use Rattle.lockfree_c.specs.Refusals.{Declined, Refused, refusal_of}
 use Rattle.lockfree_c.specs.Rings as ring_calls
 use Rattle.lockfree_c.specs.Codes.{SaysFold, SaysRange, bare, saying, fold_number, range_number}
-use Rattle.lockfree_c.specs.Kinds.{QueuePass, QueueRoot, RingPass, RingRoot, StackPass, StackRoot, queue_steps, ring_steps, stack_steps}
+use Rattle.lockfree_c.specs.Kinds.{Queue, QueuePass, QueueRoot, RingPass, RingRoot, Stack, StackPass, StackRoot, queue_steps, ring_steps, stack_steps}
 use Rattle.lockfree_c.specs.Shares.{HandsOut, IsEnded, IsPass, PassCalled, PassWentOn, SplitOff, SplitRefused}
 use Rattle.lockfree_c.specs.Stages.{Rests, SaysNumber}
 use Rattle.lockfree_c.specs.declared.answers.Answer.{Answer}
@@ -142,20 +138,20 @@ HeldCalled tries h call g a = Declined (refusal_of h) h g a
 
 -- what some steps of a count have come to
 abbrev pub CountMade : Type 0
-CountMade = Stepped (LenOp ℕ) (Pass ℕ (of_queue.Line ℕ)) ℕ
+CountMade = Stepped (LenOp ℕ) (queue.Pass ℕ) ℕ
 
 -- how a count that was tried left what is held, and what C was answered; it has no number
-abbrev pub CountLeft : Queue ℕ → CountMade → Held → Answer → Type 0
+abbrev pub CountLeft : Queue → CountMade → Held → Answer → Type 0
 CountLeft c (stepped.Again next) (OfQueueCount k) a = (k.container.value ≡ c) × (k.op ≡ next) × (a ≡ bare BUSY)
 CountLeft c (stepped.Done back n) (OfQueuePass p) a = (p.container.value ≡ c) × Rests p.stage back 0 × (a ≡ saying OK n)
 CountLeft c made h a = ⊥
 
 -- the count that is under way is tried further
 abbrev pub CountWentOn : QueueCount → Held → Answer → Type 0
-CountWentOn k g a = (made : CountMade) × LenTried k.container.value (queue.begun_of k.container.value k.op.pass) made × CountLeft k.container.value made g a
+CountWentOn k g a = (made : CountMade) × LenTried k.container.value (begun_of (queue.machine_of k.container.value) k.op.pass) made × CountLeft k.container.value made g a
 
 -- how a fold that was run left what is held, and what C was answered
-abbrev pub FoldLeft : Stack ℕ → FoldMade ℕ → Held → Answer → Type 0
+abbrev pub FoldLeft : Stack → FoldMade ℕ → Held → Answer → Type 0
 FoldLeft c (Again next) (OfStackFold f) a = (f.container.value ≡ c) × (f.op ≡ next) × (a ≡ bare BUSY)
 FoldLeft c (Value x next) (OfStackFold f) a = (f.container.value ≡ c) × (f.op ≡ next) × (a ≡ saying VALUE x)
 FoldLeft c (Done back said) (OfStackPass p) a = (p.container.value ≡ c) × Rests p.stage back (fold_number said) × SaysFold said a
@@ -169,10 +165,10 @@ FoldWentOn f g a = (made : FoldMade ℕ)
 
 -- what some steps of a put of a range have come to
 abbrev pub RangeMade : Type 0
-RangeMade = Stepped (RangeOp ℕ) (Pass ℕ (Line ℕ)) (Result Ranged RangeRefused)
+RangeMade = Stepped (RangeOp ℕ) (stack.Pass ℕ) (Result Ranged RangeRefused)
 
 -- how a put of a range that was run left what is held, with these places, and what C was answered
-abbrev pub RangeLeft : Stack ℕ → List (Option ℕ) → RangeMade → Held → Answer → Type 0
+abbrev pub RangeLeft : Stack → List (Option ℕ) → RangeMade → Held → Answer → Type 0
 RangeLeft c places (stepped.Again next) (OfStackRangePut r) a = (r.container.value ≡ c) × (r.op ≡ next) × (r.values.items ≡ places) × (a ≡ bare BUSY)
 RangeLeft c places (stepped.Done back said) (OfStackPass p) a = (p.container.value ≡ c) × Rests p.stage back (range_number said) × SaysRange said a
 RangeLeft c places made h a = ⊥
@@ -242,7 +238,7 @@ HeldFolded h front g a = Declined (refusal_of h) h g a
 -- A range, value by value, and its put
 
 -- a range of this pass is collected, with these places
-abbrev pub Collects : Stack ℕ → Pass ℕ (Line ℕ) → List (Option ℕ) → Held → Type 0
+abbrev pub Collects : Stack → stack.Pass ℕ → List (Option ℕ) → Held → Type 0
 Collects c by places (OfStackRange r) = (r.container.value ≡ c) × (r.by ≡ by) × (r.values.items ≡ places)
 Collects c by places h = ⊥
 
@@ -286,7 +282,7 @@ HeldRangePut h g a = Declined (refusal_of h) h g a
 -- A range from an array of C's
 
 -- how its put left what is held, and what C was answered
-abbrev pub CopyLeft : Stack ℕ → RangeMade → Held → Answer → Type 0
+abbrev pub CopyLeft : Stack → RangeMade → Held → Answer → Type 0
 CopyLeft c (stepped.Again next) (OfStackCopy k) a = (k.container.value ≡ c) × (k.op ≡ next) × (a ≡ bare BUSY)
 CopyLeft c (stepped.Done back said) (OfStackPass p) a = (p.container.value ≡ c) × Rests p.stage back (range_number said) × SaysRange said a
 CopyLeft c made h a = ⊥
@@ -329,7 +325,7 @@ IsNewStack n t (OfStackRoot r) = IsStackRoot r × (root_in r.root ≡ fresh) × 
 IsNewStack n t h = ⊥
 
 abbrev pub IsNewRing : ℕ → ℕ → ℕ → Held → Type 0
-IsNewRing n laps passes (OfRingRoot r) = IsRingRoot r × (ring_roots.root_in r.root ≡ fresh) × (ring.shape_of r.container.value ≡ shape_for ℕ n laps passes)
+IsNewRing n laps passes (OfRingRoot r) = IsRingRoot r × (root_in r.root ≡ fresh) × (ring.shape_of r.container.value ≡ shape_for ℕ n laps passes)
 IsNewRing n laps passes h = ⊥
 
 -- there is none: the numbers are beyond these limits, or there was no memory
@@ -345,7 +341,7 @@ StackSplit r s (OfStackPass p) = SplitOff stack_reading root_in r s p
 StackSplit r s h = ⊥
 
 abbrev pub RingSplit : RingRoot → RingRoot → Held → Type 0
-RingSplit r s (OfRingPass p) = SplitOff ring_reading ring_roots.root_in r s p
+RingSplit r s (OfRingPass p) = SplitOff ring_reading root_in r s p
 RingSplit r s h = ⊥
 
 abbrev pub HeldSplit : Held → Held → Result Held ℕ → Type 0
@@ -353,7 +349,7 @@ HeldSplit (OfQueueRoot r) (OfQueueRoot s) made = (s.container.value ≡ r.contai
 HeldSplit (OfQueueRoot r) h made = ⊥
 HeldSplit (OfStackRoot r) (OfStackRoot s) made = (s.container.value ≡ r.container.value) × MatchResult made (StackSplit r s) (SplitRefused stack_reading root_in r s)
 HeldSplit (OfStackRoot r) h made = ⊥
-HeldSplit (OfRingRoot r) (OfRingRoot s) made = (s.container.value ≡ r.container.value) × MatchResult made (RingSplit r s) (SplitRefused ring_reading ring_roots.root_in r s)
+HeldSplit (OfRingRoot r) (OfRingRoot s) made = (s.container.value ≡ r.container.value) × MatchResult made (RingSplit r s) (SplitRefused ring_reading root_in r s)
 HeldSplit (OfRingRoot r) h made = ⊥
 HeldSplit h g made = (g ≡ h) × MatchResult made (λ _. ⊥) (λ code. (code ≡ OTHER_HANDLE) ⊎ (code ≡ NO_MEMORY))
 
@@ -369,7 +365,7 @@ StackFinished r (OfStackRest s) a = IsEnded stack_reading root_in r (stack_left.
 StackFinished r g a = Declined SHARED (OfStackRoot r) g a
 
 abbrev pub RingFinished : RingRoot → Held → Answer → Type 0
-RingFinished r (OfRingRest s) a = IsEnded ring_reading ring_roots.root_in r (ring_left.left_in s) a
+RingFinished r (OfRingRest s) a = IsEnded ring_reading root_in r (ring_left.left_in s) a
 RingFinished r g a = Declined SHARED (OfRingRoot r) g a
 
 abbrev pub HeldFinished : Held → Held → Answer → Type 0

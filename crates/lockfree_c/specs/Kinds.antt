@@ -1,38 +1,49 @@
--- The roots and passes of each container, and how many steps a number of tries of its calls allows.
+-- The containers, with their roots and passes, and how many steps a number of tries of their calls allows.
 use Rattle.std.specs.Prelude.{ℕ}
-use Rattle.queue_machine.specs.declared.lines.Line as of_queue
-use Rattle.stack_machine.specs.declared.lines.Line as of_stack
-use Rattle.running.specs.declared.passes.Pass.{Pass}
-use Rattle.running.specs.declared.passes.Root.{Root}
-use Rattle.ms_queue.specs.declared.queue.Queue.{Queue}
-use Rattle.ms_queue.specs.Stepwise as queue_calls
-use Rattle.ring_queue.specs.declared.queue.Pass as of_ring
-use Rattle.ring_queue.specs.declared.queue.RingQueue.{RingQueue}
-use Rattle.ring_queue.specs.declared.roots.Root as ring_root
-use Rattle.ring_queue.specs.Stepwise as ring_calls
-use Rattle.treiber_stack.specs.declared.stack.Stack.{Stack}
-use Rattle.treiber_stack.specs.Stepwise as stack_calls
+use denote.Builtin.{u64}
+use Rattle.ms_queue.specs.Queue as queue
+use Rattle.ms_queue.specs.declared.rule.Queued.{Queued}
+use Rattle.ring_queue.specs.Ring as ring
+use Rattle.ring_queue.specs.Roots as ring_roots
+use Rattle.ring_queue.specs.declared.rule.Ringed.{Ringed}
+use Rattle.treiber_stack.specs.Stack as stack
+use Rattle.treiber_stack.specs.declared.rule.Stacked.{Stacked}
+use Rattle.ms_queue.specs.contracts.rule.QueuedLaidLineOperation.TheImpl as queued
+use Rattle.ms_queue.specs.declared.life.queue.AnyOp as queue_op
+use Rattle.ring_queue.specs.contracts.rule.RingedLaidSeatLineOperation.TheImpl as ringed
+use Rattle.ring_queue.specs.declared.life.ring.AnyOp as ring_op
+use Rattle.treiber_stack.specs.contracts.rule.StackedLaidLineOperation.TheImpl as stacked
+use Rattle.treiber_stack.specs.declared.life.stack.AnyOp as stack_op
 use Rattle.bounded_calls.specs.Calls.{steps_of}
 use Rattle.lockfree_c.specs.declared.pass.PassOf.{PassOf}
 use Rattle.lockfree_c.specs.declared.root.RootOf.{RootOf}
 
+abbrev pub Queue : Type 0
+Queue = queue.Queue ℕ Queued (queued.ghosts u64)
+
 abbrev pub QueueRoot : Type 0
-QueueRoot = RootOf (Queue ℕ) (Root ℕ (of_queue.Line ℕ))
+QueueRoot = RootOf Queue (queue.Root ℕ)
 
 abbrev pub QueuePass : Type 0
-QueuePass = PassOf (Queue ℕ) (Pass ℕ (of_queue.Line ℕ)) (queue_calls.AnyOp ℕ)
+QueuePass = PassOf Queue (queue.Pass ℕ) (queue_op.AnyOp ℕ)
+
+abbrev pub Stack : Type 0
+Stack = stack.Stack ℕ Stacked (stacked.ghosts u64)
 
 abbrev pub StackRoot : Type 0
-StackRoot = RootOf (Stack ℕ) (Root ℕ (of_stack.Line ℕ))
+StackRoot = RootOf Stack (stack.Root ℕ)
 
 abbrev pub StackPass : Type 0
-StackPass = PassOf (Stack ℕ) (Pass ℕ (of_stack.Line ℕ)) (stack_calls.AnyOp ℕ)
+StackPass = PassOf Stack (stack.Pass ℕ) (stack_op.AnyOp ℕ)
+
+abbrev pub Ring : Type 0
+Ring = ring.RingQueue ℕ Ringed (ringed.ghosts u64)
 
 abbrev pub RingRoot : Type 0
-RingRoot = RootOf (RingQueue ℕ) (ring_root.Root ℕ)
+RingRoot = RootOf Ring (ring_roots.Root ℕ)
 
 abbrev pub RingPass : Type 0
-RingPass = PassOf (RingQueue ℕ) (of_ring.Pass ℕ) (ring_calls.AnyOp ℕ)
+RingPass = PassOf Ring (ring.Pass ℕ) (ring_op.AnyOp ℕ)
 
 -- the two numbers are those of `bounded_calls`
 abbrev pub queue_steps : ℕ → ℕ

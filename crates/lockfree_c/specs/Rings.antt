@@ -8,10 +8,8 @@ use Rattle.bounded_model.specs.declared.views.PassView.{PassView}
 use Rattle.running.specs.Passes.{begun_of}
 use Rattle.ring_queue.specs.Counting.{IsCounting, LenOp}
 use Rattle.ring_queue.specs.Gauging.{GaugeGives, GaugeOp, IsGauging}
-use Rattle.ring_queue.specs.Ring.{IsPassOf, laps_of, machine_of, pass_in, room_of, shape_of}
-use Rattle.ring_queue.specs.declared.gauging.Gauge.{Gauge}
-use Rattle.ring_queue.specs.declared.queue.Pass.{Pass}
-use Rattle.ring_queue.specs.declared.queue.RingQueue.{RingQueue}
+use Rattle.ring_queue.specs.Ring.{IsPassOf, Pass, laps_of, machine_of, pass_in, room_of, shape_of}
+use Rattle.ring_queue.specs.declared.calls.gauging.Gauge.{Gauge}
 use Rattle.lockfree_c.specs.Codes.{SaysGauge, bare, saying}
 use Rattle.lockfree_c.specs.Refusals.{Declined}
 use Rattle.lockfree_c.specs.Stages.{Rests}
@@ -21,7 +19,7 @@ use Rattle.lockfree_c.specs.declared.held.Held.{Held}
 use Rattle.lockfree_c.specs.declared.held.Held.TheVariants.{RingPass as OfRingPass, RingCount as OfRingCount, RingGauge as OfRingGauge}
 use Rattle.lockfree_c.specs.declared.held.RingCount.{RingCount}
 use Rattle.lockfree_c.specs.declared.held.RingGauge.{RingGauge}
-use Rattle.lockfree_c.specs.Kinds.{RingPass}
+use Rattle.lockfree_c.specs.Kinds.{Ring, RingPass}
 
 -- A count
 
@@ -30,13 +28,13 @@ abbrev pub CountMade : Type 0
 CountMade = Stepped (LenOp ℕ) (Pass ℕ) ℕ
 
 -- it is still under way, begun as the pass was v, or has given how many values there were at one moment since
-abbrev pub CountTried : RingQueue ℕ → PassView ℕ → CountMade → Type 0
+abbrev pub CountTried : Ring → PassView ℕ → CountMade → Type 0
 CountTried c v made = MatchStepped made
     (λ next. IsCounting c next × (begun_of (machine_of c) next.pass ≡ v))
     (λ back n. IsPassOf c back × LenGives (shape_of c) v (pass_in back) n)
 
 -- how one that was tried left what is held, and what C was answered; it has no number
-abbrev pub CountLeft : RingQueue ℕ → CountMade → Held → Answer → Type 0
+abbrev pub CountLeft : Ring → CountMade → Held → Answer → Type 0
 CountLeft c (Again next) (OfRingCount k) a = (k.container.value ≡ c) × (k.op ≡ next) × (a ≡ bare BUSY)
 CountLeft c (Done back n) (OfRingPass p) a = (p.container.value ≡ c) × Rests p.stage back 0 × (a ≡ saying OK n)
 CountLeft c made h a = ⊥
@@ -57,12 +55,12 @@ abbrev pub GaugeMade : Type 0
 GaugeMade = Stepped (GaugeOp ℕ) (Pass ℕ) Gauge
 
 -- it is still under way, begun as the pass was v, or has shown how the ring was at one moment since
-abbrev pub GaugeTried : RingQueue ℕ → PassView ℕ → GaugeMade → Type 0
+abbrev pub GaugeTried : Ring → PassView ℕ → GaugeMade → Type 0
 GaugeTried c v made = MatchStepped made
     (λ next. IsGauging c next × (begun_of (machine_of c) next.pass ≡ v))
     (λ back shown. IsPassOf c back × GaugeGives (room_of c) (laps_of c) v (pass_in back) shown)
 
-abbrev pub GaugeLeft : RingQueue ℕ → GaugeMade → Held → Answer → Type 0
+abbrev pub GaugeLeft : Ring → GaugeMade → Held → Answer → Type 0
 GaugeLeft c (Again next) (OfRingGauge k) a = (k.container.value ≡ c) × (k.op ≡ next) × (a ≡ bare BUSY)
 GaugeLeft c (Done back shown) (OfRingPass p) a = (p.container.value ≡ c) × Rests p.stage back 0 × SaysGauge shown.closed shown.used a
 GaugeLeft c made h a = ⊥

@@ -3,12 +3,10 @@
 use Rattle.std.specs.Prelude.{◌≡◌, ◌⊎◌, ℕ, List, [], ◌∷◌, Option, Result, MatchOption, MatchResult}
 use Rattle.bounded_model.specs.Laws.{IsFullOfPasses, Leaves, Splits}
 use Rattle.bounded_model.specs.declared.commands.Command.{Command}
-use Rattle.bounded_model.specs.declared.commands.Command.TheVariants.{Put}
-use Rattle.bounded_model.specs.declared.views.PassView.{PassView}
 use Rattle.bounded_model.specs.declared.views.RootView.{RootView}
 use Rattle.bounded_calls.specs.Calls.{Reading}
 use Rattle.lockfree_c.specs.Codes.{bare, saying}
-use Rattle.lockfree_c.specs.Stages.{IsStage, Called, Tries, WentOn}
+use Rattle.lockfree_c.specs.Stages.{IsStage, Called, WentOn}
 use Rattle.lockfree_c.specs.declared.answers.Answer.{Answer}
 use Rattle.lockfree_c.specs.declared.answers.TheConstants.{EMPTY, NO_MEMORY, NO_PASS, VALUE}
 use Rattle.lockfree_c.specs.declared.pass.PassOf.{PassOf}
@@ -21,10 +19,6 @@ module _ {C P O : Type 0} (reading : C → Reading ℕ P O) where
   -- a call of this pass, tried for at least n steps if it does not end
   abbrev pub PassCalled : ℕ → PassOf C P O → Command ℕ → PassOf C P O → Answer → Type 0
   PassCalled n p call q a = (q.container.value ≡ p.container.value) × Called (reading p.container.value) n p.stage call q.stage a
-
-  -- a put of x, begun as its pass was, that found no room
-  abbrev pub PassRefused : ℕ → PassOf C P O → PassView ℕ → ℕ → PassOf C P O → Answer → Type 0
-  PassRefused n p begun x q a = (q.container.value ≡ p.container.value) × Tries (reading p.container.value) n begun (Put x) q.stage a
 
   -- the call that is under way, tried for n steps further
   abbrev pub PassWentOn : ℕ → PassOf C P O → PassOf C P O → Answer → Type 0

@@ -10,7 +10,7 @@ use crate::steps::{STACK_BULK, steps_for};
 use bounded_model::{RangeRefused, Ranged, Stepped};
 use std::alloc::Global;
 use std::sync::Arc;
-use treiber_stack::{Pass, RangeOp, Stack};
+use treiber_stack::{Pass, RangeOp, Stack, begin_copies, run_copies_for};
 
 // What the handle holds after a put of an array was tried, and the answer.
 fn left(
@@ -41,7 +41,7 @@ pub fn put_copies_of(pass: StackPass, values: &[u64], tries: u64) -> (Held, Answ
 {
     let mut pass = pass;
     match pass.stage.resting.take() {
-        Some(by) => match pass.container.begin_copies(by, values) {
+        Some(by) => match begin_copies(&pass.container, by, values) {
             Stepped::Again(op) => {
                 let container = pass.container;
                 StackCopy { container, op }.go_on(values, tries)
@@ -60,7 +60,7 @@ impl StackCopy {
         ensures gives { CopyWentOn self values.now result.0 result.1 }
     {
         let StackCopy { container, op } = self;
-        let made = container.run_copies_for(op, values, steps_for(STACK_BULK, tries));
+        let made = run_copies_for(&container, op, values, steps_for(STACK_BULK, tries));
         left(container, made)
     }
 }

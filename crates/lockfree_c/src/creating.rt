@@ -1,5 +1,5 @@
 //! The functions that make a container for C. Each writes its root to a slot that is empty.
-ghost use Rattle.ring_queue.specs.declared.limits.TheConstants.{MAX_LAPS};
+ghost use Rattle.ring_queue.specs.declared.life.limits.TheConstants.{MAX_LAPS};
 ghost use Rattle.tagged_index.specs.declared.word.TheConstants.{MAX_TAG};
 ghost use Rattle.lockfree_c.specs.Held.{
   AreLimits,

@@ -1,8 +1,9 @@
 //! Folds of all values of a stack. Each value is an answer of its own.
 ghost use Rattle.std.specs.Prelude.{◌≡◌, []};
-ghost use Rattle.running.specs.Passes.{pass_in};
+ghost use Rattle.bounded_model.specs.Stepping.{no_step};
+ghost use Rattle.running.specs.Ops.{underway_of};
 ghost use Rattle.treiber_stack.specs.FoldOp.{IsFolding};
-ghost use Rattle.treiber_stack.specs.Stack.{IsPassOf, begun_of};
+ghost use Rattle.treiber_stack.specs.Stack.{IsPassOf, machine_of, pass_in};
 ghost use Rattle.lockfree_c.specs.Held.{
   FoldLeft,
   FoldWentOn,
@@ -20,18 +21,18 @@ use crate::stage::Stage;
 use crate::steps::{STACK_BULK, steps_for};
 use std::alloc::Global;
 use std::sync::Arc;
-use treiber_stack::{FoldMade, FoldOp, Pass, Stack};
+use treiber_stack::{self, FoldMade, FoldOp, Pass, Stack, begin_fold_reversed, run_fold_for};
 
 // A fold that makes no step yet.
 fn first(stack: &Stack<u64>, by: Pass<u64>, reversed: bool) -> FoldOp<u64>
     requires { IsPassOf stack.now by }
     ensures { IsFolding stack.now (front_from reversed) [] result
-        × (begun_of stack.now result.pass ≡ pass_in by) }
+        × (underway_of (machine_of stack.now) result.pass ≡ no_step (pass_in by)) }
 {
     if reversed {
-        stack.begin_fold_reversed(by)
+        begin_fold_reversed(stack, by)
     } else {
-        stack.begin_fold(by)
+        treiber_stack::begin_fold(stack, by)
     }
 }
 
@@ -82,7 +83,7 @@ impl StackFold {
         ensures gives { FoldWentOn self result.0 result.1 }
     {
         let StackFold { container, op } = self;
-        let made = container.run_fold_for(op, steps_for(STACK_BULK, tries));
+        let made = run_fold_for(&container, op, steps_for(STACK_BULK, tries));
         left(container, made)
     }
 }

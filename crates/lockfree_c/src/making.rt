@@ -3,9 +3,8 @@ ghost use Rattle.std.specs.Prelude.{◌≡◌, ℕ, MatchResult};
 ghost use Rattle.bounded_model.specs.Laws.{fresh};
 ghost use Rattle.queue_machine.specs.Answers as queue_machine;
 ghost use Rattle.stack_machine.specs.Answers as stack_machine;
-ghost use Rattle.running.specs.Passes.{root_in};
+ghost use Rattle.bounded.specs.Bounded.{root_in};
 ghost use Rattle.ring_queue.specs.Ring as ring;
-ghost use Rattle.ring_queue.specs.Roots as ring_roots;
 ghost use Rattle.ring_table.specs.Core.{shape_for};
 ghost use Rattle.ms_queue.specs.Queue as queue;
 ghost use Rattle.treiber_stack.specs.Stack as stack;
@@ -72,7 +71,7 @@ fn new_stack(alloc: Global, capacity: u32, tag_limit: u64) -> Result<StackRoot, 
 // A new ring's root, or why there is none.
 fn new_ring(alloc: Global, capacity: u32, laps: u64, passes: u32) -> Result<RingRoot, u32>
     ensures { MatchResult result
-        (λ r. IsRingRoot r × (ring_roots.root_in r.root ≡ fresh)
+        (λ r. IsRingRoot r × (root_in r.root ≡ fresh)
         × (ring.shape_of r.container.value ≡ shape_for ℕ capacity laps passes))
         (λ code. NewRefused (AreRingLimits capacity laps passes) code) }
 {

@@ -1,13 +1,12 @@
 //! A pass of any container, with a share of it.
-ghost use Rattle.std.specs.Prelude.{◌≡◌, None};
 ghost use Rattle.bounded_model.specs.declared.commands.Command.TheVariants.{Look, Put, Take};
 ghost use Rattle.bounded_calls.specs.Calls.{steps_of};
-ghost use Rattle.lockfree_c.specs.Shares.{IsPass, PassCalled, PassRefused, PassWentOn};
+ghost use Rattle.lockfree_c.specs.Shares.{IsPass, PassCalled, PassWentOn};
 
 use crate::answers::{Answer, NO_CALL, UNDER_WAY};
 use crate::stage::Stage;
-use bounded_calls::{BoundedCalls, PutMade};
-use bounded_model::{Command, Reply, Stepped};
+use bounded_calls::BoundedCalls;
+use bounded_model::{Command, Stepped};
 use std::alloc::Global;
 use std::sync::Arc;
 
@@ -29,34 +28,14 @@ impl<C: BoundedCalls<u64>> PassOf<C, C::Pass, C::Operation> {
             self.old (Put value) self.new result }
     {
         match self.stage.resting.take() {
-            Some(by) => match self.container.put_if_room(by, value) {
-                PutMade::Done(by, said) => self.stage.rest(by, Reply::Put(said)),
-                PutMade::Again(operation) => {
+            Some(by) => match self.container.put_at_once(by, value) {
+                Stepped::Done(by, said) => self.stage.rest(by, said),
+                Stepped::Again(operation) => {
                     self.stage.under_way = Some(operation);
                     self.go_on(tries)
                 }
-                PutMade::NoRoom(by, value) => self.refuse(by, value, tries),
             },
             None => Answer::of(UNDER_WAY),
-        }
-    }
-
-    // A put that found no room. A function of its own, so that a put that finds room has none of
-    // its code.
-    #[inline(never)]
-    fn refuse(&mut self, by: C::Pass, value: u64, tries: u64) -> Answer
-        requires stage { (self.old.stage.resting ≡ None) × (self.old.stage.under_way ≡ None) }
-        requires refusing { C.is_refusing self.old.container.value value by }
-        ensures of { IsPass C.reading self.new }
-        ensures gives { PassRefused C.reading (steps_of C.UNDISTURBED C.TO_EXCHANGE tries)
-            self.old (C.refusing self.old.container.value by) value self.new result }
-    {
-        match self.container.refuse_at_once(by, value) {
-            Stepped::Done(by, said) => self.stage.rest(by, said),
-            Stepped::Again(operation) => {
-                self.stage.under_way = Some(operation);
-                self.go_on(tries)
-            }
         }
     }
 

@@ -21,7 +21,7 @@ use crate::steps::{STACK_BULK, steps_for};
 use bounded_model::{RangeRefused, Ranged, Stepped};
 use std::alloc::Global;
 use std::sync::Arc;
-use treiber_stack::{Pass, RangeOp, Stack};
+use treiber_stack::{Pass, RangeOp, Stack, begin_range, run_range_for};
 
 // What the handle holds after a put of a range was run, and the answer.
 fn left(
@@ -116,7 +116,7 @@ impl StackRange {
             by,
             values,
         } = self;
-        match container.begin_range(by, &values) {
+        match begin_range(&container, by, &values) {
             Stepped::Again(op) => StackRangePut {
                 container,
                 op,
@@ -141,7 +141,8 @@ impl StackRangePut {
             values,
         } = self;
         let mut values = values;
-        let made = container.run_range_for(op, &mut values, steps_for(STACK_BULK, tries));
+        let steps = steps_for(STACK_BULK, tries);
+        let made = run_range_for(&container, op, &mut values, steps);
         left(container, values, made)
     }
 }

@@ -10,21 +10,22 @@ use Rattle.bounded_model.specs.contracts.commands.Operation as any
 use Rattle.running.specs.contracts.op.Op as op
 use Rattle.queue_machine.specs.contracts.lines.Line as line
 use Rattle.queue_table.specs.contracts.operation.Operation as operation
-use Rattle.ms_queue.specs.contracts.closing.CloseAt as close_at
-use Rattle.ms_queue.specs.contracts.looking.LookAt as look_at
-use Rattle.ms_queue.specs.contracts.putting.PutAt as put_at
-use Rattle.ms_queue.specs.contracts.rest.Rest as rest
-use Rattle.ms_queue.specs.contracts.shutting.ShutAt as shut_at
-use Rattle.ms_queue.specs.contracts.taking.TakeAt as take_at
+use Rattle.ms_queue.specs.contracts.life.queue.AnyOp as own_op
+use Rattle.ms_queue.specs.contracts.calls.closing.CloseAt as close_at
+use Rattle.ms_queue.specs.contracts.calls.looking.LookAt as look_at
+use Rattle.ms_queue.specs.contracts.calls.putting.PutAt as put_at
+use Rattle.ms_queue.specs.contracts.life.rest.Rest as rest
+use Rattle.ms_queue.specs.contracts.calls.shutting.ShutAt as shut_at
+use Rattle.ms_queue.specs.contracts.calls.taking.TakeAt as take_at
 
 pub rest_send : (T : RattleType) → IsSend T → IsSend (rest.the_row T)
 rest_send T s = search (sendable, row_send, lease_send, heap_send) depth 20
 
 -- field by field, since a put and a take have too many states for one search
-put_at_send : (T : RattleType) → IsSend T → IsSend (put_at.the_row T)
+pub put_at_send : (T : RattleType) → IsSend T → IsSend (put_at.the_row T)
 put_at_send T s = variants_send (put_at.enum T) (search sendable depth 30, (search sendable depth 30, (search sendable depth 30, (search sendable depth 30, (search sendable depth 30, (search sendable depth 30, (search sendable depth 30, (search sendable depth 30, (search sendable depth 30, (search sendable depth 30, (search sendable depth 30, (search sendable depth 30, (search sendable depth 30, (search sendable depth 30, tt))))))))))))))
 
-take_at_send : (T : RattleType) → IsSend T → IsSend (take_at.the_row T)
+pub take_at_send : (T : RattleType) → IsSend T → IsSend (take_at.the_row T)
 take_at_send T s = variants_send (take_at.enum T) (search sendable depth 30, (search sendable depth 30, (search sendable depth 30, (search sendable depth 30, (search sendable depth 30, (search sendable depth 30, (search sendable depth 30, (search sendable depth 30, tt))))))))
 
 -- an operation with these states
@@ -34,8 +35,8 @@ op_in T A = op.the_row T (line.the_row T) (operation.the_row T) A
 in_send : (T A : RattleType) → IsSend T → IsSend A → IsSend (op_in T A)
 in_send T A s a = declared_send (op.the_type T (line.the_row T) (operation.the_row T) A) (search (sendable, seat_send) depth 30, (search sendable depth 20, (as_row_send (row_field A) a, tt)))
 
-pub op_send : (T : RattleType) → IsSend T → IsSend (any.the_row (op_in T (put_at.the_row T)) (op_in T (take_at.the_row T)) (op_in T close_at.the_row) (op_in T shut_at.the_row) (op_in T look_at.the_row))
-op_send T s = variants_send (any.enum (op_in T (put_at.the_row T)) (op_in T (take_at.the_row T)) (op_in T close_at.the_row) (op_in T shut_at.the_row) (op_in T look_at.the_row)) (
+calls_send : (T : RattleType) → IsSend T → IsSend (any.the_row (op_in T (put_at.the_row T)) (op_in T (take_at.the_row T)) (op_in T close_at.the_row) (op_in T shut_at.the_row) (op_in T look_at.the_row))
+calls_send T s = variants_send (any.enum (op_in T (put_at.the_row T)) (op_in T (take_at.the_row T)) (op_in T close_at.the_row) (op_in T shut_at.the_row) (op_in T look_at.the_row)) (
   (in_send T (put_at.the_row T) s (put_at_send T s), tt),
   (
     (in_send T (take_at.the_row T) s (take_at_send T s), tt),
@@ -45,3 +46,7 @@ op_send T s = variants_send (any.enum (op_in T (put_at.the_row T)) (op_in T (tak
     ),
   ),
 )
+
+-- an operation, whichever call it makes
+pub op_send : (T : RattleType) → IsSend T → IsSend (own_op.the_row T)
+op_send T s = declared_send (own_op.the_type T) (as_row_send (row_field (any.the_row (op_in T (put_at.the_row T)) (op_in T (take_at.the_row T)) (op_in T close_at.the_row) (op_in T shut_at.the_row) (op_in T look_at.the_row))) (calls_send T s), tt)

@@ -10,30 +10,31 @@ use Rattle.running.specs.declared.access.Outcome.{Outcome}
 use Rattle.running.specs.declared.code.Next.{Next}
 use Rattle.running.specs.declared.code.Next.TheVariants.{On, Lost, Done}
 use Rattle.tagged_index.specs.Fields.{tag_of}
-use Rattle.ms_queue.specs.declared.queue.Queue.{Queue}
-use Rattle.ms_queue.specs.declared.gauging.Gauge.{Gauge}
-use Rattle.ms_queue.specs.declared.gauging.GaugeAt.{GaugeAt}
-use Rattle.ms_queue.specs.declared.gauging.GaugeAt.TheVariants.{Seeking, CheckNext}
-use Rattle.ms_queue.specs.declared.seeking.Seek.{Seek}
-use Rattle.ms_queue.specs.declared.seeking.End.{End}
-use Rattle.ms_queue.specs.declared.seeking.End.TheVariants.{Closed as EndClosed, Open}
+use Rattle.bounded.specs.declared.bounded.Laid as laid
+use Rattle.queue_table.specs.declared.operation.Operation.{Operation}
+use Rattle.ms_queue.specs.declared.calls.gauging.Gauge.{Gauge}
+use Rattle.ms_queue.specs.declared.calls.gauging.GaugeAt.{GaugeAt}
+use Rattle.ms_queue.specs.declared.calls.gauging.GaugeAt.TheVariants.{Seeking, CheckNext}
+use Rattle.ms_queue.specs.declared.call_parts.seeking.Seek.{Seek}
+use Rattle.ms_queue.specs.declared.call_parts.seeking.End.{End}
+use Rattle.ms_queue.specs.declared.call_parts.seeking.End.TheVariants.{Closed as EndClosed, Open}
 use Rattle.ms_queue.specs.Gauging.{gauge_account, gauge_line}
-use Rattle.ms_queue.specs.Queue.{limit_of, machine_of}
+use Rattle.ms_queue.specs.Queue.{Queue, Answered, limit_of, machine_of}
 use Rattle.ms_queue.specs.Seeking.{Seeks, SoughtTo}
 use Rattle.ms_queue.proofs.Seeks.{busy, sought_within}
 
 -- where the code of a gauge goes on, by the way to the end of the chain
-abbrev pub gauging : Next Seek End → Next GaugeAt Gauge
+abbrev pub gauging : Next Seek End → Next GaugeAt (Answered Gauge)
 gauging (On at) = On (Seeking at)
 gauging (Lost at) = Lost (Seeking at)
-gauging (Done (EndClosed w)) = Done (record { closed = true; used = tag_of w })
+gauging (Done (EndClosed w)) = Done (record { kept = tt; reply = record { closed = true; used = tag_of w } })
 gauging (Done (Open w x)) = On (CheckNext w x)
 
-module _ {T : Type 0} (c : Queue T) where
-  abbrev pub GaugesTo : GaugeAt → List (ℕ × Slot T) → Next GaugeAt Gauge → Line T → Type 0
+module _ {T P : Type 0} {g : laid.Ghosts P T (Line T) (Operation T)} (c : Queue T P g) where
+  abbrev pub GaugesTo : GaugeAt → List (ℕ × Slot T) → Next GaugeAt (Answered Gauge) → Line T → Type 0
   GaugesTo s has to l = Leads names (gauge_account c.table.shared.key) s l has to
 
-  abbrev pub Gauging : GaugeAt → Outcome → List (ℕ × Slot T) → Next GaugeAt Gauge → Type 0
+  abbrev pub Gauging : GaugeAt → Outcome → List (ℕ × Slot T) → Next GaugeAt (Answered Gauge) → Type 0
   Gauging s r has to = Finding (machine_of c).core (gauge_line s) r [] has (λ found came. GaugesTo s has to (next (limit_of c) (gauge_line s) found came))
 
   follows : (s : GaugeAt) (has : List (ℕ × Slot T)) (to : Next Seek End) (l : Line T) → Seeks c l ToGauge [] has to → GaugesTo s has (gauging to) l

@@ -5,6 +5,6 @@ pub mod Leftover
 pub mod Crossing
 pub mod Takes
 pub mod Puts
-pub mod Stepping
 pub mod FastPath
 pub mod Gauges
+pub mod Counts

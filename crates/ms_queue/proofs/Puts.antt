@@ -1,92 +1,38 @@
--- What a put gives, and where its steps lead.
-use Rattle.std.proofs.Common.{◌≡◌, ℕ, ⊎_elim, List, [], ◌∷◌, refl, sym, ap, ◌∙◌, subst, arith}
-use Rattle.std.specs.Prelude.{Option as Slot, Some, None, Result, Ok, Err}
+-- Where the steps of a put lead.
+use Rattle.std.proofs.Common.{◌≡◌, ℕ, List, [], ◌∷◌, refl, sym, ap, ◌∙◌, subst}
+use Rattle.std.specs.Prelude.{Option as Slot, Some, None, Err}
 use Rattle.core.specs.declared.snapshot.Snapshot.{Snapshot}
 use Rattle.atomic_table.specs.Table.{rest}
-use Rattle.bounded_model.specs.declared.answers.Word.TheVariants.{Cells, Nodes, Next, Free as FreeWord, Top, Count}
 use Rattle.bounded_model.specs.declared.answers.PutRefused.{PutRefused}
-use Rattle.bounded_model.specs.declared.answers.PutRefused.TheVariants.{Full, Closed, Spent}
-use Rattle.bounded_model.specs.declared.history.Event.{Event}
-use Rattle.bounded_model.specs.declared.history.Event.TheVariants.{Hold, Put, Free}
-use Rattle.bounded_model.specs.declared.views.PassView.{PassView}
-use Rattle.bounded_model.specs.Histories.{own}
-use Rattle.bounded_model.specs.Laws.{Adds, PutGives, BacksOut}
-use Rattle.machine.specs.Seats.{pass_of}
-use Rattle.machine.specs.declared.seats.View.{View}
-use Rattle.queue_machine.specs.declared.lines.Answer.{Answer}
+use Rattle.bounded_model.specs.declared.answers.PutRefused.TheVariants.{Full, Closed}
+use Rattle.queue_machine.specs.declared.lines.Answer as lines
 use Rattle.queue_machine.specs.declared.lines.Answer.TheVariants.{Put as AnswerPut}
 use Rattle.queue_machine.specs.declared.lines.Seeking.{Seeking as Aim}
 use Rattle.queue_machine.specs.declared.lines.Seeking.TheVariants.{ToLink, ToRefuse}
 use Rattle.queue_machine.specs.declared.lines.Line.{Line}
-use Rattle.queue_machine.specs.Deeds.{Deeds}
-use Rattle.queue_machine.specs.Machine.{ends, gives}
-use Rattle.queue_machine.specs.declared.lines.Call.{Call}
-use Rattle.queue_machine.specs.declared.lines.Call.TheVariants.{Put as CallPut}
-use Rattle.queue_table.specs.Lines.{call_of, names, next}
-use Rattle.queue_table.specs.declared.operation.Operation.TheVariants.{Put as PutFirst}
+use Rattle.queue_machine.specs.Machine.{gives}
+use Rattle.queue_table.specs.Lines.{names, next}
 use Rattle.running.specs.Code.{Came, Finding, Leads}
 use Rattle.running.specs.declared.access.Outcome.{Outcome}
 use Rattle.running.specs.declared.code.Next.{Next as Onward}
 use Rattle.running.specs.declared.code.Next.TheVariants.{On, Lost, Done as Answered}
 use Rattle.queue_table.specs.declared.operation.Operation.{Operation}
-use Rattle.running.specs.Going.{Ended}
-use Rattle.ms_queue.specs.declared.queue.Queue.{Queue}
-use Rattle.ms_queue.specs.declared.giving.Give.{Give}
-use Rattle.ms_queue.specs.declared.giving.Give.TheVariants.{LoadNodes}
-use Rattle.ms_queue.specs.declared.giving.Held.{Held}
-use Rattle.ms_queue.specs.declared.putting.PutAt.{PutAt}
-use Rattle.ms_queue.specs.declared.putting.PutAt.TheVariants.{Refusing, Seeking, LinkNext, GiveBack}
-use Rattle.ms_queue.specs.declared.seeking.Seek.{Seek}
-use Rattle.ms_queue.specs.declared.seeking.End.{End}
-use Rattle.ms_queue.specs.declared.seeking.End.TheVariants.{Closed as AtMark, Open as AtNull}
+use Rattle.bounded.specs.declared.bounded.Laid as laid
+use Rattle.ms_queue.specs.declared.call_parts.giving.Give.{Give}
+use Rattle.ms_queue.specs.declared.call_parts.giving.Give.TheVariants.{LoadNodes}
+use Rattle.ms_queue.specs.declared.call_parts.giving.Held.{Held}
+use Rattle.ms_queue.specs.declared.calls.putting.PutAt.{PutAt}
+use Rattle.ms_queue.specs.declared.calls.putting.PutAt.TheVariants.{Refusing, Seeking, LinkNext, GiveBack}
+use Rattle.ms_queue.specs.declared.call_parts.seeking.Seek.{Seek}
+use Rattle.ms_queue.specs.declared.call_parts.seeking.End.{End}
+use Rattle.ms_queue.specs.declared.call_parts.seeking.End.TheVariants.{Closed as AtMark, Open as AtNull}
 use Rattle.ms_queue.specs.Giving.{AreHeld, Gives, GaveTo}
-use Rattle.ms_queue.specs.Putting.{put_account, linking, refused, put_of, put_line, put_slots, full_slot, HasReadToPut}
-use Rattle.ms_queue.specs.Queue.{room_of, limit_of, machine_of, shape_of}
+use Rattle.ms_queue.specs.Calls.{put_of}
+use Rattle.ms_queue.specs.Putting.{Answer, put_account, linking, refused, put_line, put_slots, full_slot, HasReadToPut}
+use Rattle.ms_queue.specs.Queue.{Queue, room_of, limit_of, machine_of}
 use Rattle.ms_queue.specs.Seeking.{Seeks, SoughtTo}
 use Rattle.ms_queue.proofs.Gives.{busy_giving, gave_within}
 use Rattle.ms_queue.proofs.Seeks.{busy, sought_within}
-
-module _ {T : Type 0} (c : Queue T) (o : Operation T) (v : View T (Line T)) (begun : PassView T) (x : T) where
-  abbrev EndsSo : Result ℕ (PutRefused T) → Type 0
-  EndsSo r = Ended (machine_of c) o v begun (ends (AnswerPut r))
-
-  abbrev Done : Result ℕ (PutRefused T) → Type 0
-  Done r = Deeds (pass_of v).number (CallPut x) (ends (AnswerPut r)) begun.seen (pass_of v).seen
-
-  adds : (r : Result ℕ (PutRefused T)) (e : EndsSo r) (d : Done r) (events : List (Event T)) → own (pass_of v).number d.between ≡ events → Adds begun (pass_of v) events
-  adds r e d events made = record {
-    number = e.number;
-    steps = e.steps;
-    between = d.between;
-    seen = d.is;
-    own_events = ap (λ (k : ℕ). own k d.between) (sym e.number) ∙ made;
-  }
-
-  -- it took no cell, or gave it back
-  none_held : (r : Result ℕ (PutRefused T)) (e : EndsSo r) (d : Done r) → own (pass_of v).number d.between ≡ [] → BacksOut begun (pass_of v) 1
-  none_held r e d made = record { held = 0; at_most = omega arith; adds = adds r e d [] made }
-
-  gave_back : (r : Result ℕ (PutRefused T)) (e : EndsSo r) (d : Done r) → own (pass_of v).number d.between ≡ Free (pass_of v).number 1 ∷ Hold (pass_of v).number ∷ [] → BacksOut begun (pass_of v) 1
-  gave_back r e d made = record {
-    held = 1;
-    at_most = omega arith;
-    adds = adds r e d (Free begun.number 1 ∷ Hold begun.number ∷ []) (made ∙ ap (λ (k : ℕ). Free k 1 ∷ Hold k ∷ []) e.number);
-  }
-
-  gives_so : (r : Result ℕ (PutRefused T)) → EndsSo r → Done r → PutGives (shape_of c) begun x (pass_of v) r
-  gives_so (Ok k) e d = adds (Ok k) e d (Put begun.number (x ∷ []) k ∷ Hold begun.number ∷ []) (d.made ∙ ap (λ (j : ℕ). Put j (x ∷ []) k ∷ Hold j ∷ []) e.number)
-  gives_so (Err (Full y)) e d = (d.made.0, adds (Err (Full y)) e d [] d.made.1, e.tells)
-  gives_so (Err (Closed y)) e d = (d.made.0, ⊎_elim (λ m. none_held (Err (Closed y)) e d m) (λ m. gave_back (Err (Closed y)) e d m) d.made.1, e.tells)
-  gives_so (Err (Spent y Cells t)) e d = (d.made.0, none_held (Err (Spent y Cells t)) e d d.made.1, e.tells)
-  gives_so (Err (Spent y (Next j) t)) e d = (d.made.0, gave_back (Err (Spent y (Next j) t)) e d d.made.1, e.tells)
-  gives_so (Err (Spent y Nodes t)) e d = absurd d.made
-  gives_so (Err (Spent y FreeWord t)) e d = absurd d.made
-  gives_so (Err (Spent y Top t)) e d = absurd d.made
-  gives_so (Err (Spent y Count t)) e d = absurd d.made
-
--- an operation that is a put of x gives what a put of x promises
-pub put_gives : {T : Type 0} (c : Queue T) (x : T) (o : Operation T) {v : View T (Line T)} {begun : PassView T} → call_of o ≡ CallPut x → (r : Result ℕ (PutRefused T)) → Ended (machine_of c) o v begun (ends (AnswerPut r)) → PutGives (shape_of c) begun x (pass_of v) r
-put_gives c x o {v} {begun} is r e = gives_so c o v begun x r e (subst (λ (k : Call _). Deeds (pass_of v).number k (ends (AnswerPut r)) begun.seen (pass_of v).seen) is e.deeds)
 
 module _ {T : Type 0} where
   value_or : T → List (ℕ × Slot T) → T
@@ -99,36 +45,36 @@ module _ {T : Type 0} where
   one_value zs us vs i j x y e f = sym (ap (value_or x) e) ∙ ap (value_or x) f
 
 -- where the code of a put goes on
-module _ {T : Type 0} (c : Queue T) where
-  abbrev pub PutsTo : PutAt T → List (ℕ × Slot T) → Onward (PutAt T) (Result ℕ (PutRefused T)) → Line T → Type 0
+module _ {T P : Type 0} {g : laid.Ghosts P T (Line T) (Operation T)} (c : Queue T P g) where
+  abbrev pub PutsTo : PutAt T → List (ℕ × Slot T) → Onward (PutAt T) (Answer T) → Line T → Type 0
   PutsTo s has to l = Leads names (put_account c.table.shared.key) s l has to
 
-  abbrev pub Putting : PutAt T → Outcome → List (ℕ × Slot T) → List (ℕ × Slot T) → Onward (PutAt T) (Result ℕ (PutRefused T)) → Type 0
+  abbrev pub Putting : PutAt T → Outcome → List (ℕ × Slot T) → List (ℕ × Slot T) → Onward (PutAt T) (Answer T) → Type 0
   Putting s r had has to = Finding (machine_of c).core (put_line s) r (put_slots s) had (λ found came. PutsTo s has to (next (limit_of c) (put_line s) found came))
 
   -- by the give inside it
   module _ (why : PutRefused T) (held : Held) where
-    abbrev pub refusing : Onward Give (Unit {0}) → Onward (PutAt T) (Result ℕ (PutRefused T))
+    abbrev pub refusing : Onward Give (Unit {0}) → Onward (PutAt T) (Answer T)
     refusing (On at) = On (GiveBack why held at)
     refusing (Lost at) = Lost (GiveBack why held at)
-    refusing (Answered x) = Answered (Err why)
+    refusing (Answered x) = Answered (record { kept = tt; reply = Err why })
 
     follows : (read : AreHeld (room_of c) held) (at : Give) (has : List (ℕ × Slot T)) (to : Onward Give (Unit {0})) (l : Line T) → Gives l (refused why) held has to → PutsTo (GiveBack why held at) has (refusing to) l
     follows read at has (On to) l e = record { same = refl; is = e.0; busy = busy_giving (refused why) held to; hand = e.1; knows = read }
     follows read at has (Lost to) l e = record { same = refl; is = e.0; busy = busy_giving (refused why) held to; hand = e.1; knows = read }
     follows read at has (Answered x) l e = record { is = e.0; hand = e.1 }
 
-    pub gave_put : {s : PutAt T} {at : Give} → s ≡ GiveBack why held at → HasReadToPut (room_of c) (limit_of c) s → (r : Outcome) (has : List (ℕ × Slot T)) (to : Onward Give (Unit {0})) → ((a : Answer T) (held : Held) (has : List (ℕ × Slot T)) → GaveTo c a held at r has to) → Putting s r has has (refusing to)
+    pub gave_put : {s : PutAt T} {at : Give} → s ≡ GiveBack why held at → HasReadToPut (room_of c) (limit_of c) s → (r : Outcome) (has : List (ℕ × Slot T)) (to : Onward Give (Unit {0})) → ((a : lines.Answer T) (held : Held) (has : List (ℕ × Slot T)) → GaveTo c a held at r has to) → Putting s r has has (refusing to)
     gave_put {s} {at} is read r has to gave = subst (λ (k : PutAt T). Putting k r has has (refusing to)) (sym is)
         (gave_within c (refused why) held at r has to (gave (refused why) held has) (PutsTo (GiveBack why held at) has (refusing to)) (follows (subst (HasReadToPut (room_of c) (limit_of c)) is read) at has to))
 
   -- by the way to the end of the chain, where nothing can be put
   module _ (x : T) where
-    abbrev pub barred : Onward Seek End → Onward (PutAt T) (Result ℕ (PutRefused T))
+    abbrev pub barred : Onward Seek End → Onward (PutAt T) (Answer T)
     barred (On at) = On (Refusing x at)
     barred (Lost at) = Lost (Refusing x at)
-    barred (Answered (AtMark w)) = Answered (Err (Closed x))
-    barred (Answered (AtNull w n)) = Answered (Err (Full x))
+    barred (Answered (AtMark w)) = Answered (record { kept = tt; reply = Err (Closed x) })
+    barred (Answered (AtNull w n)) = Answered (record { kept = tt; reply = Err (Full x) })
 
     barred_so : (at : Seek) (has : List (ℕ × Slot T)) (to : Onward Seek End) (l : Line T) → Seeks c l (ToRefuse x) [] has to → PutsTo (Refusing x at) has (barred to) l
     barred_so at has (On to) l e = record { same = refl; is = e.0; busy = busy (ToRefuse x) to; hand = e.1; knows = e.2 }
@@ -148,7 +94,7 @@ module _ {T : Type 0} (c : Queue T) where
     abbrev hand : List (ℕ × Slot T)
     hand = full_slot shown.value held.cell
 
-    sought_so : (goes : Onward (PutAt T) (Result ℕ (PutRefused T))) → ((l : Line T) → AreHeld (room_of c) held → Seeks c l aim hand had to → PutsTo (Seeking shown held at) has goes l) → Putting s r had has goes
+    sought_so : (goes : Onward (PutAt T) (Answer T)) → ((l : Line T) → AreHeld (room_of c) held → Seeks c l aim hand had to → PutsTo (Seeking shown held at) has goes l) → Putting s r had has goes
     sought_so goes so = subst (λ (k : PutAt T). Putting k r had has goes) (sym is)
         (sought_within c aim at r hand had to (sought aim hand had) (subst (λ (k : PutAt T). Came (machine_of c).core (put_line k) r (put_slots k) had) is came) (PutsTo (Seeking shown held at) has goes)
         (λ l e. so l (subst (HasReadToPut (room_of c) (limit_of c)) is read).0 e))

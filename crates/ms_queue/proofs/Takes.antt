@@ -1,52 +1,35 @@
--- What a take gives, and where its steps lead.
+-- Where the steps of a take lead.
 use Rattle.std.proofs.Common.{◌≡◌, ℕ, ◌+◌, ◌<◌, Bool, true, false, cond, List, [], ◌∷◌, ◌++◌, refl, sym, ap, ◌∙◌, subst}
-use Rattle.std.specs.Prelude.{map, Option as Slot, Some, None, Result, Ok, Err}
+use Rattle.std.specs.Prelude.{map, Option as Slot, Some, None, Ok}
 use mathlib.Core.Bool.{not}
 use mathlib.Core.Option.{some}
 use Rattle.atomic_table.specs.Table.{rest}
 use Rattle.tagged_index.specs.Fields.{fields_of, index_of, tag_of}
-use Rattle.bounded_model.specs.declared.answers.TakeRefused.{TakeRefused}
-use Rattle.bounded_model.specs.declared.answers.TakeRefused.TheVariants.{Empty, Closed, Shut, Spent}
-use Rattle.bounded_model.specs.declared.history.Event.TheVariants.{Take, Free}
-use Rattle.bounded_model.specs.declared.views.PassView.{PassView}
-use Rattle.bounded_model.specs.Laws.{TakeGives}
 use Rattle.machine.specs.Words.{Tagged}
 use Rattle.machine.proofs.Tests.{same-is}
-use Rattle.machine.specs.Seats.{pass_of}
-use Rattle.machine.specs.declared.seats.View.{View}
 use Rattle.queue_machine.specs.declared.lines.Answer.TheVariants.{Take as AnswerTake}
 use Rattle.queue_machine.specs.declared.lines.Line.{Line}
 use Rattle.queue_machine.specs.declared.lines.Line.TheVariants.{Idle, LoadHead, LoadNodesToGive}
-use Rattle.queue_machine.specs.declared.lines.Answer.{Answer}
-use Rattle.queue_machine.specs.Machine.{ends, took as took_by}
+use Rattle.queue_machine.specs.declared.lines.Answer as lines
+use Rattle.queue_machine.specs.Machine.{took as took_by}
 use Rattle.queue_table.specs.Lines.{names, next}
 use Rattle.running.specs.Code.{Came, Finding, Leads}
 use Rattle.running.specs.declared.access.Outcome.{Outcome}
 use Rattle.running.specs.declared.code.Next.{Next}
 use Rattle.running.specs.declared.code.Next.TheVariants.{On, Lost, Done}
-use Rattle.queue_table.specs.declared.operation.Operation.TheVariants.{Take as First}
-use Rattle.running.specs.Going.{Ended}
 use Rattle.running.specs.Tables.{line_of, values}
-use Rattle.ms_queue.specs.declared.queue.Queue.{Queue}
-use Rattle.ms_queue.specs.declared.giving.Give.{Give}
-use Rattle.ms_queue.specs.declared.giving.Give.TheVariants.{LoadNodes}
-use Rattle.ms_queue.specs.declared.giving.Held.{Held}
-use Rattle.ms_queue.specs.declared.taking.Taken.{Taken}
-use Rattle.ms_queue.specs.declared.taking.TakeAt.{TakeAt}
-use Rattle.ms_queue.specs.declared.taking.TakeAt.TheVariants.{TakeHead as TakeFirstNode, GiveBack}
+use Rattle.bounded.specs.declared.bounded.Laid as laid
+use Rattle.queue_table.specs.declared.operation.Operation.{Operation}
+use Rattle.ms_queue.specs.declared.call_parts.giving.Give.{Give}
+use Rattle.ms_queue.specs.declared.call_parts.giving.Give.TheVariants.{LoadNodes}
+use Rattle.ms_queue.specs.declared.call_parts.giving.Held.{Held}
+use Rattle.ms_queue.specs.declared.calls.taking.Taken.{Taken}
+use Rattle.ms_queue.specs.declared.calls.taking.TakeAt.{TakeAt}
+use Rattle.ms_queue.specs.declared.calls.taking.TakeAt.TheVariants.{TakeHead as TakeFirstNode, GiveBack}
 use Rattle.ms_queue.specs.Giving.{AreHeld, Gives, GaveTo}
-use Rattle.ms_queue.specs.Queue.{room_of, limit_of, machine_of, shape_of}
-use Rattle.ms_queue.specs.Taking.{take_account, took, take_line, take_slots, HasReadToTake}
+use Rattle.ms_queue.specs.Queue.{Queue, room_of, limit_of, machine_of}
+use Rattle.ms_queue.specs.Taking.{Answer, take_account, took, take_line, take_slots, HasReadToTake}
 use Rattle.ms_queue.proofs.Gives.{busy_giving, gave_within}
-use Rattle.ms_queue.proofs.Closes.{adds_of}
-
-module _ {T : Type 0} (c : Queue T) {v : View T (Line T)} {begun : PassView T} where
-  pub take_gives : (r : Result (T × ℕ) TakeRefused) → Ended (machine_of c) First v begun (ends (AnswerTake r)) → TakeGives (shape_of c) begun (pass_of v) r
-  take_gives (Ok r) e = adds_of c e (Free begun.number 1 ∷ Take begun.number r.0 r.1 ∷ []) (e.deeds.made ∙ ap (λ (k : ℕ). Free k 1 ∷ Take k r.0 r.1 ∷ []) e.number)
-  take_gives (Err Empty) e = (adds_of c e [] e.deeds.made, e.tells)
-  take_gives (Err Closed) e = (adds_of c e [] e.deeds.made, e.tells)
-  take_gives (Err Shut) e = (adds_of c e [] e.deeds.made, e.tells)
-  take_gives (Err (Spent word t)) e = absurd e.deeds.made
 
 module _ {T : Type 0} where
   -- where the pass goes on that has won the head, by the slots that it brings
@@ -66,16 +49,16 @@ by_not true e = refl
 by_not false e = sym e
 
 -- where the code of a take goes on, by the give inside it
-abbrev pub returning : {T : Type 0} → Taken T → Next Give (Unit {0}) → Next (TakeAt T) (Result (T × ℕ) TakeRefused)
+abbrev pub returning : {T : Type 0} → Taken T → Next Give (Unit {0}) → Next (TakeAt T) (Answer T)
 returning t (On at) = On (GiveBack t at)
 returning t (Lost at) = Lost (GiveBack t at)
-returning t (Done x) = Done (Ok (t.value, t.number))
+returning t (Done x) = Done (record { kept = tt; reply = Ok (t.value, t.number) })
 
-module _ {T : Type 0} (c : Queue T) where
-  abbrev pub TakesTo : TakeAt T → List (ℕ × Slot T) → Next (TakeAt T) (Result (T × ℕ) TakeRefused) → Line T → Type 0
+module _ {T P : Type 0} {g : laid.Ghosts P T (Line T) (Operation T)} (c : Queue T P g) where
+  abbrev pub TakesTo : TakeAt T → List (ℕ × Slot T) → Next (TakeAt T) (Answer T) → Line T → Type 0
   TakesTo s has to l = Leads names (take_account c.table.shared.key) s l has to
 
-  abbrev pub Taking : TakeAt T → Outcome → List (ℕ × Slot T) → List (ℕ × Slot T) → Next (TakeAt T) (Result (T × ℕ) TakeRefused) → Type 0
+  abbrev pub Taking : TakeAt T → Outcome → List (ℕ × Slot T) → List (ℕ × Slot T) → Next (TakeAt T) (Answer T) → Type 0
   Taking s r had has to = Finding (machine_of c).core (take_line s) r (take_slots s) had (λ found came. TakesTo s has to (next (limit_of c) (take_line s) found came))
 
   module _ (t : Taken T) (held : AreHeld (room_of c) t.held) (s : TakeAt T) (has : List (ℕ × Slot T)) where
@@ -84,7 +67,7 @@ module _ {T : Type 0} (c : Queue T) where
     follows (Lost at) l e = record { same = refl; is = e.0; busy = busy_giving (took t) t.held at; hand = e.1; knows = held }
     follows (Done x) l e = record { is = e.0; hand = e.1 }
 
-  pub gave_take : {s : TakeAt T} {t : Taken T} {at : Give} → s ≡ GiveBack t at → HasReadToTake (room_of c) (limit_of c) s → (r : Outcome) (has : List (ℕ × Slot T)) (to : Next Give (Unit {0})) → ((a : Answer T) (held : Held) (has : List (ℕ × Slot T)) → GaveTo c a held at r has to)
+  pub gave_take : {s : TakeAt T} {t : Taken T} {at : Give} → s ≡ GiveBack t at → HasReadToTake (room_of c) (limit_of c) s → (r : Outcome) (has : List (ℕ × Slot T)) (to : Next Give (Unit {0})) → ((a : lines.Answer T) (held : Held) (has : List (ℕ × Slot T)) → GaveTo c a held at r has to)
       → Taking s r has has (returning t to)
   gave_take {s} {t} {at} is read r has to gave = subst (λ (k : TakeAt T). Taking k r has has (returning t to)) (sym is)
       (gave_within c (took t) t.held at r has to (gave (took t) t.held has) (TakesTo (GiveBack t at) has (returning t to)) (follows t (subst (HasReadToTake (room_of c) (limit_of c)) is read) (GiveBack t at) has to))

@@ -4,7 +4,9 @@ use Rattle.tagged_index.specs.Fields.{fields_of, index_of, tag_of}
 use Rattle.tagged_index.specs.Limits.{capacity_of, tag_limit_of}
 use Rattle.tagged_index.specs.declared.limit.Limits.{Limits}
 use Rattle.running.specs.Code.{Account, to_answer}
-use Rattle.running.specs.Ops.{IsUnderWay}
+use Rattle.bounded.specs.Bounded.{Makes}
+use Rattle.bounded.specs.declared.bounded.Laid as laid
+use Rattle.bounded_model.specs.declared.commands.Command.TheVariants.{Close as CloseCall}
 use Rattle.queue_table.specs.declared.operation.Operation.{Operation}
 use Rattle.queue_machine.specs.declared.lines.Seeking.TheVariants.{ToClose}
 use Rattle.queue_machine.specs.declared.lines.Answer.TheVariants.{Close as AnswerClose}
@@ -13,10 +15,10 @@ use Rattle.queue_machine.specs.declared.lines.Line.TheVariants.{MarkNext}
 use Rattle.queue_machine.specs.Machine.{ends}
 use Rattle.queue_table.specs.declared.operation.Operation.TheVariants.{Close as CloseFirst}
 use Rattle.running.specs.declared.op.Op.{Op}
-use Rattle.ms_queue.specs.declared.closing.CloseAt.{CloseAt}
-use Rattle.ms_queue.specs.declared.closing.CloseAt.TheVariants.{Seeking, Mark}
-use Rattle.ms_queue.specs.declared.queue.Queue.{Queue}
-use Rattle.ms_queue.specs.Queue.{machine_of}
+use Rattle.ms_queue.specs.declared.calls.closing.CloseAt.{CloseAt}
+use Rattle.ms_queue.specs.declared.calls.closing.CloseAt.TheVariants.{Seeking, Mark}
+use Rattle.ms_queue.specs.Calls.{is_call}
+use Rattle.ms_queue.specs.Queue.{Queue, Answered, machine_of}
 use Rattle.ms_queue.specs.Seeking.{seek_line, IsRead}
 
 -- what was read names a node, and the tag has room to rise
@@ -34,8 +36,9 @@ module _ {T : Type 0} where
   close_line (Mark w x) = MarkNext (fields_of w) (fields_of x)
 
   -- how it is read
-  abbrev pub close_account : Limits → Account T (Line T) (Operation T) CloseAt Bool
-  close_account k = to_answer (λ at. CloseFirst) close_line (λ at. []) (λ at. HasReadToClose (capacity_of k) (tag_limit_of k) at) (λ o closed. ends (AnswerClose closed))
+  abbrev pub close_account : Limits → Account T (Line T) (Operation T) CloseAt (Answered Bool)
+  close_account k = to_answer (λ at. CloseFirst) close_line (λ at. []) (λ at. HasReadToClose (capacity_of k) (tag_limit_of k) at) (λ o a. ends (AnswerClose a.reply))
 
-  abbrev pub IsClosing : Queue T → CloseOp T → Type 0
-  IsClosing c op = IsUnderWay (machine_of c) (close_account c.table.shared.key) c.table.shared.table_id op
+module _ {T P : Type 0} {g : laid.Ghosts P T (Line T) (Operation T)} where
+  abbrev pub IsClosing : Queue T P g → CloseOp T → Type 0
+  IsClosing c op = Makes (machine_of c) (close_account c.table.shared.key) c.table.shared.table_id (is_call CloseCall) op

@@ -15,10 +15,10 @@ use Rattle.queue_table.specs.declared.operation.Operation.TheVariants.{Len as Le
 use Rattle.running.specs.declared.code.Next.{Next}
 use Rattle.running.specs.declared.passes.Pass.{Pass}
 use Rattle.running.specs.declared.op.Op.{Op}
-use Rattle.ms_queue.specs.declared.counting.LenAt.{LenAt}
-use Rattle.ms_queue.specs.declared.counting.LenAt.TheVariants.{LoadHead, LoadTail, LoadNext, CheckHead}
-use Rattle.ms_queue.specs.declared.queue.Queue.{Queue}
-use Rattle.ms_queue.specs.Queue.{machine_of}
+use Rattle.ms_queue.specs.declared.calls.counting.LenAt.{LenAt}
+use Rattle.ms_queue.specs.declared.calls.counting.LenAt.TheVariants.{LoadHead, LoadTail, LoadNext, CheckHead}
+use Rattle.bounded.specs.declared.bounded.Laid as laid
+use Rattle.ms_queue.specs.Queue.{Queue, Answered, machine_of}
 
 -- what was read names a node
 abbrev pub HasReadToCount : ℕ → LenAt → Type 0
@@ -37,16 +37,17 @@ module _ {T : Type 0} where
   len_line (CheckHead h w x) = CheckHeadToCount (fields_of h) (fields_of w) (fields_of x)
 
   -- how it is read
-  abbrev pub len_account : Limits → Account T (Line T) (Operation T) LenAt ℕ
-  len_account k = to_answer (λ at. LenFirst) len_line (λ at. []) (λ at. HasReadToCount (capacity_of k) at) (λ o count. ends (AnswerLen count))
+  abbrev pub len_account : Limits → Account T (Line T) (Operation T) LenAt (Answered ℕ)
+  len_account k = to_answer (λ at. LenFirst) len_line (λ at. []) (λ at. HasReadToCount (capacity_of k) at) (λ o a. ends (AnswerLen a.reply))
 
+module _ {T P : Type 0} {g : laid.Ghosts P T (Line T) (Operation T)} where
   -- a whole call is at this
-  abbrev pub LenStands : Queue T → Pass T (Line T) → LenAt → Type 0
+  abbrev pub LenStands : Queue T P g → Pass T (Line T) → LenAt → Type 0
   LenStands c p at = Stands (machine_of c) (len_account c.table.shared.key) c.table.shared.table_id p at
 
   -- what some steps of it give
-  abbrev pub LenRan : Queue T → Operation T → Pass T (Line T) → Pass T (Line T) → Next LenAt ℕ → Type 0
+  abbrev pub LenRan : Queue T P g → Operation T → Pass T (Line T) → Pass T (Line T) → Next LenAt (Answered ℕ) → Type 0
   LenRan c o p q r = Ran (machine_of c) (len_account c.table.shared.key) c.table.shared.table_id o p q r
 
-  abbrev pub IsCounting : Queue T → LenOp T → Type 0
+  abbrev pub IsCounting : Queue T P g → LenOp T → Type 0
   IsCounting c op = IsUnderWay (machine_of c) (len_account c.table.shared.key) c.table.shared.table_id op

@@ -1,59 +1,47 @@
--- What the answers of a take, a close, a shut, a look and a count promise: the laws of their operations.
+-- What the answers of the calls say: the laws of the program.
 use Rattle.std.specs.Prelude.{◌≡◌, ℕ, Bool, true, false, List, [], ◌∷◌, Result, Ok, Err}
-use Rattle.std.proofs.Common.{sym, ap, ◌∙◌}
-use Rattle.tagged_index.specs.Limits.{capacity_of, tag_limit_of}
+use Rattle.std.proofs.Common.{sym, ap, ◌∙◌, subst}
 use Rattle.tagged_index.specs.declared.limit.Limits.{Limits}
 use Rattle.bounded_model.specs.declared.answers.TakeRefused.{TakeRefused}
 use Rattle.bounded_model.specs.declared.answers.TakeRefused.TheVariants.{Empty, Closed, Shut as TakeShut, Spent}
+use Rattle.bounded_model.specs.declared.commands.Command.TheVariants.{Put as PutCall, Take as TakeCall, Close as CloseCall, Shut as ShutCall, Look as LookCall}
 use Rattle.bounded_model.specs.declared.history.Event.{Event}
 use Rattle.bounded_model.specs.declared.history.Event.TheVariants.{Take, Free, Close, Shut}
+use Rattle.bounded_model.specs.declared.views.Answered.TheVariants.{Take as TakeAnswered, Close as CloseAnswered, Shut as ShutAnswered}
 use Rattle.bounded_model.specs.declared.views.PassView.{PassView}
 use Rattle.bounded_model.specs.Histories.{own}
-use Rattle.bounded_model.specs.Laws.{Adds, TakeGives, CloseGives, ShutGives, LookGives, LenGives}
+use Rattle.bounded_model.specs.Laws.{Adds, Answers, PutGives, TakeGives, CloseGives, ShutGives, LookGives, put_answered}
 use Rattle.bounded_model.specs.Machine.{Shape}
 use Rattle.machine.specs.Seats.{pass_of}
 use Rattle.machine.specs.declared.seats.View.{View}
-use Rattle.queue_machine.specs.declared.lines.Answer.TheVariants.{Take as AnswerTake, Close as AnswerClose, Shut as AnswerShut, Look as AnswerLook, Len as AnswerLen}
+use Rattle.queue_machine.specs.declared.lines.Answer.TheVariants.{Take as AnswerTake, Close as AnswerClose, Shut as AnswerShut, Look as AnswerLook}
 use Rattle.queue_machine.specs.declared.lines.Line.{Line}
-use Rattle.queue_machine.specs.Answers.{shape}
 use Rattle.queue_machine.specs.Machine.{ends}
-use Rattle.queue_table.proofs.Laws.{queue}
+use Rattle.queue_table.proofs.Gives as gives
 use Rattle.queue_table.specs.declared.operation.Operation.{Operation}
-use Rattle.queue_table.specs.declared.operation.Operation.TheVariants.{Take as TakeFirst, Close as CloseFirst, Shut as ShutFirst, Look as LookFirst, Len as LenFirst}
-use Rattle.queue_table.specs.Lines.{names}
+use Rattle.queue_table.specs.declared.operation.Operation.TheVariants.{Take as TakeFirst, Close as CloseFirst, Shut as ShutFirst, Look as LookFirst}
+use Rattle.queue_table.specs.Lines.{call_of}
 use Rattle.running.specs.Going.{Ended}
-use Rattle.running.specs.Machine as running
-use Rattle.ms_queue.specs.declared.taking.TakeAt.{TakeAt}
-use Rattle.ms_queue.specs.declared.closing.CloseAt.{CloseAt}
-use Rattle.ms_queue.specs.declared.shutting.ShutAt.{ShutAt}
-use Rattle.ms_queue.specs.declared.looking.LookAt.{LookAt}
-use Rattle.ms_queue.specs.declared.counting.LenAt.{LenAt}
+use Rattle.ms_queue.specs.Calls.{is_call, put_of}
+use Rattle.ms_queue.specs.Closing.{close_account}
+use Rattle.ms_queue.specs.declared.calls.closing.CloseAt.{CloseAt}
+use Rattle.ms_queue.specs.declared.calls.looking.LookAt.{LookAt}
+use Rattle.ms_queue.specs.declared.calls.putting.PutAt.{PutAt}
+use Rattle.ms_queue.specs.declared.calls.shutting.ShutAt.{ShutAt}
+use Rattle.ms_queue.specs.declared.calls.taking.TakeAt.{TakeAt}
+use Rattle.ms_queue.specs.Limits.{machine_at}
+use Rattle.ms_queue.specs.Looking.{look_account}
+use Rattle.ms_queue.specs.Putting.{Answer as PutAnswer, put_account, put_value}
+use Rattle.ms_queue.specs.Queue.{Answered}
+use Rattle.ms_queue.specs.Shutting.{shut_account}
+use Rattle.ms_queue.specs.Taking.{Answer as TakeAnswer, take_account}
 
-abbrev pub shape_at : Limits → Shape
-shape_at k = shape (capacity_of k) (tag_limit_of k)
+abbrev pub shape_at : Type 0 → Limits → Shape
+shape_at T k = (machine_at {T = T} k).core.shape
 
 module _ {T : Type 0} (k : Limits) where
-  abbrev pub machine_at : running.Machine T (Line T) (Operation T) names
-  machine_at = queue T (capacity_of k) (tag_limit_of k)
-
-  -- what each promises
-  abbrev pub take_promises : Operation T → PassView T → PassView T → Result (T × ℕ) TakeRefused → Type 0
-  take_promises o begun now r = TakeGives (shape_at k) begun now r
-
-  abbrev pub close_promises : Operation T → PassView T → PassView T → Bool → Type 0
-  close_promises o begun now b = CloseGives (shape_at k) begun now b
-
-  abbrev pub shut_promises : Operation T → PassView T → PassView T → Bool → Type 0
-  shut_promises o begun now b = ShutGives (shape_at k) begun now b
-
-  abbrev pub look_promises : Operation T → PassView T → PassView T → Bool → Type 0
-  look_promises o begun now b = LookGives (shape_at k) begun now b
-
-  abbrev pub len_promises : Operation T → PassView T → PassView T → ℕ → Type 0
-  len_promises o begun now n = LenGives (shape_at k) begun now n
-
   -- an operation of any kind has added its own events
-  adds_of : {o : Operation T} {v : View T (Line T)} {begun : PassView T} {l : Line T} (e : Ended machine_at o v begun l) (events : List (Event T)) → own (pass_of v).number e.deeds.between ≡ events → Adds begun (pass_of v) events
+  pub adds_of : {o : Operation T} {v : View T (Line T)} {begun : PassView T} {l : Line T} (e : Ended (machine_at k) o v begun l) (events : List (Event T)) → own (pass_of v).number e.deeds.between ≡ events → Adds begun (pass_of v) events
   adds_of e events made = record {
     number = e.number;
     steps = e.steps;
@@ -62,23 +50,76 @@ module _ {T : Type 0} (k : Limits) where
     own_events = ap (λ (n : ℕ). own n e.deeds.between) (sym e.number) ∙ made;
   }
 
-  pub take_keeps : (at : TakeAt T) (v : View T (Line T)) (begun : PassView T) (r : Result (T × ℕ) TakeRefused) → Ended machine_at TakeFirst v begun (ends (AnswerTake r)) → TakeGives (shape_at k) begun (pass_of v) r
-  take_keeps at v begun (Ok r) e = adds_of e (Free begun.number 1 ∷ Take begun.number r.0 r.1 ∷ []) (e.deeds.made ∙ ap (λ (n : ℕ). Free n 1 ∷ Take n r.0 r.1 ∷ []) e.number)
-  take_keeps at v begun (Err Empty) e = (adds_of e [] e.deeds.made, e.tells)
-  take_keeps at v begun (Err Closed) e = (adds_of e [] e.deeds.made, e.tells)
-  take_keeps at v begun (Err TakeShut) e = (adds_of e [] e.deeds.made, e.tells)
-  take_keeps at v begun (Err (Spent word t)) e = absurd e.deeds.made
+  module _ {v : View T (Line T)} {begun : PassView T} where
+    took : (r : Result (T × ℕ) TakeRefused) → Ended (machine_at k) TakeFirst v begun (ends (AnswerTake r)) → TakeGives (shape_at T k) begun (pass_of v) r
+    took (Ok r) e = adds_of e (Free begun.number 1 ∷ Take begun.number r.0 r.1 ∷ []) (e.deeds.made ∙ ap (λ (n : ℕ). Free n 1 ∷ Take n r.0 r.1 ∷ []) e.number)
+    took (Err Empty) e = (adds_of e [] e.deeds.made, e.tells)
+    took (Err Closed) e = (adds_of e [] e.deeds.made, e.tells)
+    took (Err TakeShut) e = (adds_of e [] e.deeds.made, e.tells)
+    took (Err (Spent word t)) e = absurd e.deeds.made
 
-  pub close_keeps : (at : CloseAt) (v : View T (Line T)) (begun : PassView T) (b : Bool) → Ended machine_at CloseFirst v begun (ends (AnswerClose b)) → CloseGives (shape_at k) begun (pass_of v) b
-  close_keeps at v begun true e = adds_of e (Close begun.number ∷ []) (e.deeds.made ∙ ap (λ (n : ℕ). Close n ∷ []) e.number)
-  close_keeps at v begun false e = (adds_of e [] e.deeds.made, e.tells)
+    closed : (b : Bool) → Ended (machine_at k) CloseFirst v begun (ends (AnswerClose b)) → CloseGives (shape_at T k) begun (pass_of v) b
+    closed true e = adds_of e (Close begun.number ∷ []) (e.deeds.made ∙ ap (λ (n : ℕ). Close n ∷ []) e.number)
+    closed false e = (adds_of e [] e.deeds.made, e.tells)
 
-  pub shut_keeps : (at : ShutAt) (v : View T (Line T)) (begun : PassView T) (b : Bool) → Ended machine_at ShutFirst v begun (ends (AnswerShut b)) → ShutGives (shape_at k) begun (pass_of v) b
-  shut_keeps at v begun true e = adds_of e (Shut begun.number ∷ []) (e.deeds.made ∙ ap (λ (n : ℕ). Shut n ∷ []) e.number)
-  shut_keeps at v begun false e = (adds_of e [] e.deeds.made, e.tells)
+    shut : (b : Bool) → Ended (machine_at k) ShutFirst v begun (ends (AnswerShut b)) → ShutGives (shape_at T k) begun (pass_of v) b
+    shut true e = adds_of e (Shut begun.number ∷ []) (e.deeds.made ∙ ap (λ (n : ℕ). Shut n ∷ []) e.number)
+    shut false e = (adds_of e [] e.deeds.made, e.tells)
 
-  pub look_keeps : (at : LookAt) (v : View T (Line T)) (begun : PassView T) (b : Bool) → Ended machine_at LookFirst v begun (ends (AnswerLook b)) → LookGives (shape_at k) begun (pass_of v) b
-  look_keeps at v begun b e = (adds_of e [] e.deeds.made, e.tells)
+    looked : (b : Bool) → Ended (machine_at k) LookFirst v begun (ends (AnswerLook b)) → LookGives (shape_at T k) begun (pass_of v) b
+    looked b e = (adds_of e [] e.deeds.made, e.tells)
 
-  pub len_keeps : (at : LenAt) (v : View T (Line T)) (begun : PassView T) (n : ℕ) → Ended machine_at LenFirst v begun (ends (AnswerLen n)) → LenGives (shape_at k) begun (pass_of v) n
-  len_keeps at v begun n e = (adds_of e [] e.deeds.made, e.tells)
+  -- the laws of the program: an operation that makes a call gives what the call gives
+  module _ (o : Operation T) (v : View T (Line T)) (begun : PassView T) where
+    abbrev EndsAt : Operation T → Line T → Type 0
+    EndsAt o l = Ended (machine_at k) o v begun l
+
+    pub put_gives : (x : T) (a : PutAnswer T) → is_call (PutCall x) o → EndsAt o ((put_account k).answer o a)
+        → PutGives (shape_at T k) begun x (pass_of v) a.reply × Answers begun (pass_of v) (put_answered a.reply)
+    put_gives x a is e = (gives.put_gives k x o v begun (ap call_of is) a.reply e, e.answered)
+
+    pub take_gives : (a : TakeAnswer T) → is_call TakeCall o → EndsAt o ((take_account k).answer o a)
+        → TakeGives (shape_at T k) begun (pass_of v) a.reply × Answers begun (pass_of v) (TakeAnswered a.reply)
+    take_gives a is e = (took a.reply (subst (λ (o : Operation T). EndsAt o ((take_account k).answer o a)) is e), e.answered)
+
+    pub close_gives : (a : Answered Bool) → is_call CloseCall o → EndsAt o ((close_account k).answer o a)
+        → CloseGives (shape_at T k) begun (pass_of v) a.reply × Answers begun (pass_of v) (CloseAnswered a.reply)
+    close_gives a is e = (closed a.reply (subst (λ (o : Operation T). EndsAt o ((close_account k).answer o a)) is e), e.answered)
+
+    pub shut_gives : (a : Answered Bool) → is_call ShutCall o → EndsAt o ((shut_account k).answer o a)
+        → ShutGives (shape_at T k) begun (pass_of v) a.reply × Answers begun (pass_of v) (ShutAnswered a.reply)
+    shut_gives a is e = (shut a.reply (subst (λ (o : Operation T). EndsAt o ((shut_account k).answer o a)) is e), e.answered)
+
+    pub look_gives : (a : Answered Bool) → is_call LookCall o → EndsAt o ((look_account k).answer o a) → LookGives (shape_at T k) begun (pass_of v) a.reply
+    look_gives a is e = looked a.reply (subst (λ (o : Operation T). EndsAt o ((look_account k).answer o a)) is e)
+
+  -- and what each operation promises; a put does so of each value that it is a put of
+  abbrev pub put_promises : Operation T → PassView T → PassView T → PutAnswer T → Type 0
+  put_promises o begun now a = (x : T) → is_call (PutCall x) o → PutGives (shape_at T k) begun x now a.reply
+
+  abbrev pub take_promises : Operation T → PassView T → PassView T → TakeAnswer T → Type 0
+  take_promises o begun now a = TakeGives (shape_at T k) begun now a.reply
+
+  abbrev pub close_promises : Operation T → PassView T → PassView T → Answered Bool → Type 0
+  close_promises o begun now a = CloseGives (shape_at T k) begun now a.reply
+
+  abbrev pub shut_promises : Operation T → PassView T → PassView T → Answered Bool → Type 0
+  shut_promises o begun now a = ShutGives (shape_at T k) begun now a.reply
+
+  abbrev pub look_promises : Operation T → PassView T → PassView T → Answered Bool → Type 0
+  look_promises o begun now a = LookGives (shape_at T k) begun now a.reply
+
+  pub put_keeps : (at : PutAt T) (v : View T (Line T)) (begun : PassView T) (a : PutAnswer T) → Ended (machine_at k) (put_of (put_value at)) v begun ((put_account k).answer (put_of (put_value at)) a) → put_promises (put_of (put_value at)) begun (pass_of v) a
+  put_keeps at v begun a e x is = (put_gives (put_of (put_value at)) v begun x a is e).0
+
+  pub take_keeps : (at : TakeAt T) (v : View T (Line T)) (begun : PassView T) (a : TakeAnswer T) → Ended (machine_at k) TakeFirst v begun ((take_account k).answer TakeFirst a) → TakeGives (shape_at T k) begun (pass_of v) a.reply
+  take_keeps at v begun a e = took a.reply e
+
+  pub close_keeps : (at : CloseAt) (v : View T (Line T)) (begun : PassView T) (a : Answered Bool) → Ended (machine_at k) CloseFirst v begun ((close_account k).answer CloseFirst a) → CloseGives (shape_at T k) begun (pass_of v) a.reply
+  close_keeps at v begun a e = closed a.reply e
+
+  pub shut_keeps : (at : ShutAt) (v : View T (Line T)) (begun : PassView T) (a : Answered Bool) → Ended (machine_at k) ShutFirst v begun ((shut_account k).answer ShutFirst a) → ShutGives (shape_at T k) begun (pass_of v) a.reply
+  shut_keeps at v begun a e = shut a.reply e
+
+  pub look_keeps : (at : LookAt) (v : View T (Line T)) (begun : PassView T) (a : Answered Bool) → Ended (machine_at k) LookFirst v begun ((look_account k).answer LookFirst a) → LookGives (shape_at T k) begun (pass_of v) a.reply
+  look_keeps at v begun a e = looked a.reply e

@@ -5,7 +5,7 @@ use lib.ListN.{get_elem?}
 use Rattle.std.specs.Mem.Slots.{slots_items}
 use Rattle.tagged_index.specs.Fields.{index_of}
 use Rattle.queue_table.specs.Layout.{next_at, cell_at}
-use Rattle.ms_queue.specs.declared.rest.Rest.{Rest}
+use Rattle.ms_queue.specs.declared.life.rest.Rest.{Rest}
 
 -- the node after a node, and a node's cell
 abbrev pub node_behind : List ℕ → ℕ → ℕ

@@ -1,6 +1,5 @@
 -- The names of a queue's steps, from its machine's table.
 use Rattle.std.specs.Prelude.{ℕ}
-use Rattle.bounded_model.specs.declared.commands.Operation.TheVariants.{Put, Take, Close, Shut, Look}
 use Rattle.bounded_model.specs.declared.history.Event.{Event}
 use Rattle.queue_machine.specs.declared.lines.Line.{Line}
 use Rattle.queue_machine.specs.declared.lines.Place.{Place}
@@ -12,12 +11,14 @@ use Rattle.step_names.specs.declared.location.Location.{Location}
 use Rattle.step_names.specs.declared.location.Location.TheVariants as location
 use Rattle.step_names.specs.declared.step_name.StepName.{StepName}
 use Rattle.step_names.specs.Names.{IsNamed, Naming}
-use Rattle.ms_queue.specs.Closing.{close_line}
-use Rattle.ms_queue.specs.Looking.{look_line}
-use Rattle.ms_queue.specs.Putting.{put_line}
-use Rattle.ms_queue.specs.Shutting.{shut_line}
-use Rattle.ms_queue.specs.Stepwise.{AnyOp}
-use Rattle.ms_queue.specs.Taking.{take_line}
+use Rattle.tagged_index.specs.declared.limit.Limits.{Limits}
+use Rattle.bounded.specs.Naming as bounded
+use Rattle.ms_queue.specs.Closing.{close_account}
+use Rattle.ms_queue.specs.Looking.{look_account}
+use Rattle.ms_queue.specs.Putting.{put_account}
+use Rattle.ms_queue.specs.Shutting.{shut_account}
+use Rattle.ms_queue.specs.declared.life.queue.AnyOp.{AnyOp}
+use Rattle.ms_queue.specs.Taking.{take_account}
 
 abbrev pub word_at : Place → Location
 word_at Cells = location.Cells
@@ -41,8 +42,4 @@ module _ {T : Type 0} where
 
   -- the next step of an operation has this name
   abbrev pub IsStep : AnyOp T → StepName → Type 0
-  IsStep (Put op) name = IsNextStep (put_line op.at) name
-  IsStep (Take op) name = IsNextStep (take_line op.at) name
-  IsStep (Close op) name = IsNextStep (close_line op.at) name
-  IsStep (Shut op) name = IsNextStep (shut_line op.at) name
-  IsStep (Look op) name = IsNextStep (look_line op.at) name
+  IsStep op name = (key : Limits) → bounded.IsStep IsNextStep (put_account key).line (take_account key).line (close_account key).line (shut_account key).line (look_account key).line op.call name

@@ -7,46 +7,41 @@ use Rattle.tagged_index.specs.declared.limit.Limits.{Limits}
 use Rattle.running.specs.Code.{Account, to_answer}
 use Rattle.bounded_model.specs.declared.answers.PutRefused.{PutRefused}
 use Rattle.bounded_model.specs.declared.answers.PutRefused.TheVariants.{Full, Closed, Spent}
-use Rattle.bounded_model.specs.Laws.{PutGives}
-use Rattle.queue_machine.specs.declared.lines.Call.TheVariants.{Put as CallPut}
 use Rattle.queue_machine.specs.declared.lines.Linking.{Linking}
 use Rattle.queue_machine.specs.declared.lines.Seeking.TheVariants.{ToLink, ToRefuse}
-use Rattle.queue_machine.specs.declared.lines.Answer.{Answer}
+use Rattle.queue_machine.specs.declared.lines.Answer as lines
 use Rattle.queue_machine.specs.declared.lines.Answer.TheVariants.{Put as AnswerPut}
 use Rattle.queue_machine.specs.declared.lines.Line.{Line}
 use Rattle.queue_machine.specs.declared.lines.Line.TheVariants.{LoadCells, LoadCellLink, TakeCell, LoadNodes, LoadNodeLink, TakeNode, StoreCell, LoadNext, PrepareNext, LinkNext, SwingToLinked}
 use Rattle.queue_machine.specs.Machine.{ends, with_cell}
 use Rattle.queue_table.specs.declared.operation.Operation.{Operation}
-use Rattle.queue_table.specs.declared.operation.Operation.TheVariants.{Put as PutFirst}
-use Rattle.queue_table.specs.Lines.{call_of}
 use Rattle.running.specs.Steps.{Stands, Ran}
 use Rattle.running.specs.declared.code.Next.{Next}
 use Rattle.running.specs.declared.passes.Pass.{Pass}
-use Rattle.ms_queue.specs.declared.queue.Queue.{Queue}
-use Rattle.ms_queue.specs.declared.giving.Held.{Held}
+use Rattle.ms_queue.specs.declared.call_parts.giving.Held.{Held}
 use Rattle.running.specs.declared.op.Op.{Op}
-use Rattle.running.specs.Ops.{IsUnderWay}
-use Rattle.bounded_model.specs.declared.views.PassView.{PassView}
-use Rattle.queue_machine.specs.Answers.{shape}
-use Rattle.ms_queue.specs.declared.putting.PutAt.{PutAt}
-use Rattle.ms_queue.specs.declared.putting.PutAt.TheVariants.{LoadCells as AtCells, LoadCellLink as AtCellLink, TakeCell as AtTakeCell, Refusing, LoadNodes as AtNodes, LoadNodeLink as AtNodeLink, TakeNode as AtTakeNode, StoreCell as AtStoreCell, LoadNext as AtNext, PrepareNext as AtPrepare, Seeking, LinkNext as AtLink, SwingTail, GiveBack}
-use Rattle.ms_queue.specs.Queue.{machine_of}
+use Rattle.bounded.specs.Bounded.{Makes}
+use Rattle.bounded.specs.declared.bounded.Laid as laid
+use Rattle.bounded_model.specs.declared.commands.Command.TheVariants.{Put as PutCall}
+use Rattle.ms_queue.specs.declared.calls.putting.PutAt.{PutAt}
+use Rattle.ms_queue.specs.declared.calls.putting.PutAt.TheVariants.{LoadCells as AtCells, LoadCellLink as AtCellLink, TakeCell as AtTakeCell, Refusing, LoadNodes as AtNodes, LoadNodeLink as AtNodeLink, TakeNode as AtTakeNode, StoreCell as AtStoreCell, LoadNext as AtNext, PrepareNext as AtPrepare, Seeking, LinkNext as AtLink, SwingTail, GiveBack}
+use Rattle.ms_queue.specs.Calls.{is_call, put_of}
+use Rattle.ms_queue.specs.Queue.{Queue, Answered, machine_of}
 use Rattle.ms_queue.specs.Giving.{give_line, held_slot, AreHeld}
 use Rattle.ms_queue.specs.Seeking.{seek_line, IsRead}
 
 abbrev pub PutOp : Type 0 → Type 0
 PutOp T = Op T (Line T) (Operation T) (PutAt T)
 
+abbrev pub Answer : Type 0 → Type 0
+Answer T = Answered (Result ℕ (PutRefused T))
+
 module _ {T : Type 0} where
   abbrev pub linking : T → Held → Linking T
   linking x held = record { value = x; cell = held.cell; node = held.node }
 
-  abbrev pub refused : PutRefused T → Answer T
+  abbrev pub refused : PutRefused T → lines.Answer T
   refused why = AnswerPut (Err why)
-
-  -- the operation of a put of x
-  abbrev pub put_of : T → Operation T
-  put_of x = PutFirst (record { marker = record {}; value = x })
 
   -- the value that is put
   abbrev pub refused_value : PutRefused T → T
@@ -121,22 +116,18 @@ module _ {T : Type 0} where
   HasReadToPut n limit (GiveBack why held at) = AreHeld n held
 
   -- how it is read
-  abbrev pub put_account : Limits → Account T (Line T) (Operation T) (PutAt T) (Result ℕ (PutRefused T))
-  put_account k = to_answer (λ at. put_of (put_value at)) put_line put_slots (λ at. HasReadToPut (capacity_of k) (tag_limit_of k) at) (λ o r. ends (AnswerPut r))
+  abbrev pub put_account : Limits → Account T (Line T) (Operation T) (PutAt T) (Answer T)
+  put_account k = to_answer (λ at. put_of (put_value at)) put_line put_slots (λ at. HasReadToPut (capacity_of k) (tag_limit_of k) at) (λ o a. ends (AnswerPut a.reply))
 
-  -- a put of x, by its operation, which is also the put of the value that it has
-  pub record IsPutting (c : Queue T) (x : T) (op : PutOp T) : Type 0 where
-    pub of : call_of op.operation ≡ CallPut x
-    pub under_way : IsUnderWay (machine_of c) (put_account c.table.shared.key) c.table.shared.table_id op
-
-  -- if the operation is a put of x, it promises the law of a put of x
-  abbrev pub put_promises : Limits → Operation T → PassView T → PassView T → Result ℕ (PutRefused T) → Type 0
-  put_promises k o begun now r = (x : T) → call_of o ≡ CallPut x → PutGives (shape (capacity_of k) (tag_limit_of k)) begun x now r
+module _ {T P : Type 0} {g : laid.Ghosts P T (Line T) (Operation T)} where
+  -- a put of x, by its operation: the put of the value that the operation has is a put of x too
+  abbrev pub IsPutting : Queue T P g → T → PutOp T → Type 0
+  IsPutting c x op = Makes (machine_of c) (put_account c.table.shared.key) c.table.shared.table_id (is_call (PutCall x)) op
 
   -- a whole call of this operation is at this
-  abbrev pub PutStands : Queue T → Operation T → Pass T (Line T) → PutAt T → Type 0
+  abbrev pub PutStands : Queue T P g → Operation T → Pass T (Line T) → PutAt T → Type 0
   PutStands c o p at = (o ≡ put_of (put_value at)) × Stands (machine_of c) (put_account c.table.shared.key) c.table.shared.table_id p at
 
   -- what some steps of it give
-  abbrev pub PutRan : Queue T → Operation T → Pass T (Line T) → Pass T (Line T) → Next (PutAt T) (Result ℕ (PutRefused T)) → Type 0
+  abbrev pub PutRan : Queue T P g → Operation T → Pass T (Line T) → Pass T (Line T) → Next (PutAt T) (Answer T) → Type 0
   PutRan c o p q r = Ran (machine_of c) (put_account c.table.shared.key) c.table.shared.table_id o p q r

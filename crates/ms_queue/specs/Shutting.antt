@@ -3,7 +3,9 @@ use Rattle.std.specs.Prelude.{Bool, []}
 use Rattle.tagged_index.specs.Fields.{fields_of}
 use Rattle.tagged_index.specs.declared.limit.Limits.{Limits}
 use Rattle.running.specs.Code.{Account, to_answer}
-use Rattle.running.specs.Ops.{IsUnderWay}
+use Rattle.bounded.specs.Bounded.{Makes}
+use Rattle.bounded.specs.declared.bounded.Laid as laid
+use Rattle.bounded_model.specs.declared.commands.Command.TheVariants.{Shut as ShutCall}
 use Rattle.queue_table.specs.declared.operation.Operation.{Operation}
 use Rattle.queue_machine.specs.declared.lines.Answer.TheVariants.{Shut as AnswerShut}
 use Rattle.queue_machine.specs.declared.lines.Line.{Line}
@@ -11,10 +13,10 @@ use Rattle.queue_machine.specs.declared.lines.Line.TheVariants.{LoadHeadToShut, 
 use Rattle.queue_machine.specs.Machine.{ends}
 use Rattle.queue_table.specs.declared.operation.Operation.TheVariants.{Shut as ShutFirst}
 use Rattle.running.specs.declared.op.Op.{Op}
-use Rattle.ms_queue.specs.declared.shutting.ShutAt.{ShutAt}
-use Rattle.ms_queue.specs.declared.shutting.ShutAt.TheVariants.{LoadHead, Mark}
-use Rattle.ms_queue.specs.declared.queue.Queue.{Queue}
-use Rattle.ms_queue.specs.Queue.{machine_of}
+use Rattle.ms_queue.specs.declared.calls.shutting.ShutAt.{ShutAt}
+use Rattle.ms_queue.specs.declared.calls.shutting.ShutAt.TheVariants.{LoadHead, Mark}
+use Rattle.ms_queue.specs.Calls.{is_call}
+use Rattle.ms_queue.specs.Queue.{Queue, Answered, machine_of}
 
 abbrev pub ShutOp : Type 0 → Type 0
 ShutOp T = Op T (Line T) (Operation T) ShutAt
@@ -26,8 +28,9 @@ module _ {T : Type 0} where
   shut_line (Mark h) = ShutHead (fields_of h)
 
   -- how it is read
-  abbrev pub shut_account : Limits → Account T (Line T) (Operation T) ShutAt Bool
-  shut_account k = to_answer (λ at. ShutFirst) shut_line (λ at. []) (λ at. Unit {0}) (λ o shut. ends (AnswerShut shut))
+  abbrev pub shut_account : Limits → Account T (Line T) (Operation T) ShutAt (Answered Bool)
+  shut_account k = to_answer (λ at. ShutFirst) shut_line (λ at. []) (λ at. Unit {0}) (λ o a. ends (AnswerShut a.reply))
 
-  abbrev pub IsShutting : Queue T → ShutOp T → Type 0
-  IsShutting c op = IsUnderWay (machine_of c) (shut_account c.table.shared.key) c.table.shared.table_id op
+module _ {T P : Type 0} {g : laid.Ghosts P T (Line T) (Operation T)} where
+  abbrev pub IsShutting : Queue T P g → ShutOp T → Type 0
+  IsShutting c op = Makes (machine_of c) (shut_account c.table.shared.key) c.table.shared.table_id (is_call ShutCall) op

@@ -1,42 +1,32 @@
 -- An operation of a queue that is made step by step.
+use Rattle.atomic_table.specs.Seated.{TableId}
 use Rattle.bounded_model.specs.declared.commands.Command.{Command}
-use Rattle.bounded_model.specs.declared.commands.Operation.{Operation}
-use Rattle.bounded_model.specs.declared.views.PassView.{PassView}
-use Rattle.bounded_model.specs.Calls.{IsMaking, making_in}
 use Rattle.bounded_model.specs.Stepping.{Underway}
-use Rattle.machine.specs.declared.seats.View.{View}
-use Rattle.machine.specs.declared.seats.View.TheVariants.{AtPass}
-use Rattle.machine.specs.Seats.{pass_of}
+use Rattle.bounded.specs.Bounded as bounded
+use Rattle.bounded.specs.declared.bounded.Laid as laid
 use Rattle.queue_machine.specs.declared.lines.Line.{Line}
-use Rattle.running.specs.Rule.{begun_now}
-use Rattle.running.specs.Passes.{pass_in}
-use Rattle.running.specs.declared.passes.Pass.{Pass}
+use Rattle.tagged_index.specs.declared.limit.Limits.{Limits}
 use Rattle.queue_table.specs.Lines.{names}
-use Rattle.ms_queue.specs.declared.queue.Queue.{Queue}
-use Rattle.ms_queue.specs.Closing.{CloseOp, IsClosing}
-use Rattle.ms_queue.specs.Looking.{LookOp, IsLooking}
-use Rattle.ms_queue.specs.Putting.{PutOp, IsPutting}
-use Rattle.ms_queue.specs.Shutting.{ShutOp, IsShutting}
-use Rattle.ms_queue.specs.Taking.{TakeOp, IsTaking}
+use Rattle.queue_table.specs.declared.operation.Operation.{Operation}
+use Rattle.ms_queue.specs.Calls.{is_call}
+use Rattle.ms_queue.specs.Closing.{close_account}
+use Rattle.ms_queue.specs.Looking.{look_account}
+use Rattle.ms_queue.specs.Putting.{put_account}
+use Rattle.ms_queue.specs.Limits.{machine_at}
+use Rattle.ms_queue.specs.Queue.{Queue}
+use Rattle.ms_queue.specs.Shutting.{shut_account}
+use Rattle.ms_queue.specs.declared.life.queue.AnyOp.{AnyOp}
+use Rattle.ms_queue.specs.Taking.{take_account}
 
--- an operation of any kind
-abbrev pub AnyOp : Type 0 → Type 0
-AnyOp T = Operation (PutOp T) (TakeOp T) (CloseOp T) (ShutOp T) (LookOp T)
+-- an operation that makes this call, on the table of these limits and this name
+abbrev pub is_making : {T : Type 0} → Limits → TableId → Command T → AnyOp T → Type 0
+is_making key id command op = bounded.IsMakingCall (machine_at key) id is_call (put_account key) (take_account key) (close_account key) (shut_account key) (look_account key) command op.call
 
-module _ {T : Type 0} where
-  -- the pass as it was when its operation was begun
-  abbrev pub begun_at : View T (Line T) → PassView T
-  begun_at (AtPass p from l) = begun_now names p from l
-  begun_at v = pass_of v
-
-  -- its pass as it was then, and as it is now
-  abbrev pub underway_in : Pass T (Line T) → Underway T
-  underway_in p = record { begun = begun_at p.seat.me.0; now = pass_in p }
-
+module _ {T P : Type 0} {g : laid.Ghosts P T (Line T) (Operation T)} where
   -- an operation that makes this call
-  abbrev pub IsMakingCall : Queue T → Command T → AnyOp T → Type 0
-  IsMakingCall c = IsMaking (IsPutting c) (IsTaking c) (IsClosing c) (IsShutting c) (IsLooking c)
+  abbrev pub IsMakingCall : Queue T P g → Command T → AnyOp T → Type 0
+  IsMakingCall c = is_making c.table.shared.key c.table.shared.table_id
 
-  -- what its pass had seen as it was begun, and has seen by now
-  abbrev pub making : AnyOp T → Underway T
-  making = making_in (λ op. underway_in op.pass) (λ op. underway_in op.pass) (λ op. underway_in op.pass) (λ op. underway_in op.pass) (λ op. underway_in op.pass)
+-- its pass as it was begun, and as it is now
+abbrev pub making : {T : Type 0} → AnyOp T → Underway T
+making op = bounded.making names op.call

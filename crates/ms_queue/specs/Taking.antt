@@ -6,30 +6,35 @@ use Rattle.tagged_index.specs.Limits.{capacity_of, tag_limit_of}
 use Rattle.tagged_index.specs.declared.limit.Limits.{Limits}
 use Rattle.running.specs.Code.{Account, to_answer}
 use Rattle.bounded_model.specs.declared.answers.TakeRefused.{TakeRefused}
-use Rattle.queue_machine.specs.declared.lines.Answer.{Answer}
+use Rattle.queue_machine.specs.declared.lines.Answer as lines
 use Rattle.queue_machine.specs.declared.lines.Answer.TheVariants.{Take as AnswerTake}
 use Rattle.queue_machine.specs.declared.lines.Line.{Line}
 use Rattle.queue_machine.specs.declared.lines.Line.TheVariants.{LoadHead, LoadTailToTake, LoadHeadNext, CheckHead, SwingTailToTake, LoadCell, TakeHead}
 use Rattle.queue_machine.specs.Machine.{ends}
 use Rattle.queue_table.specs.declared.operation.Operation.{Operation}
 use Rattle.queue_table.specs.declared.operation.Operation.TheVariants.{Take as TakeFirst}
-use Rattle.running.specs.Ops.{IsUnderWay}
+use Rattle.bounded.specs.Bounded.{Makes}
+use Rattle.bounded.specs.declared.bounded.Laid as laid
+use Rattle.bounded_model.specs.declared.commands.Command.TheVariants.{Take as TakeCall}
 use Rattle.running.specs.Steps.{Stands, Ran}
 use Rattle.running.specs.declared.code.Next.{Next}
 use Rattle.running.specs.declared.passes.Pass.{Pass}
-use Rattle.ms_queue.specs.declared.queue.Queue.{Queue}
-use Rattle.ms_queue.specs.declared.taking.Taken.{Taken}
+use Rattle.ms_queue.specs.declared.calls.taking.Taken.{Taken}
 use Rattle.running.specs.declared.op.Op.{Op}
-use Rattle.ms_queue.specs.declared.taking.TakeAt.{TakeAt}
-use Rattle.ms_queue.specs.declared.taking.TakeAt.TheVariants.{LoadHead as LoadHeadFirst, LoadTail, LoadNext, CheckHead as CheckHeadAgain, SwingTail, LoadCell as LoadFirstCell, TakeHead as TakeFirstNode, GiveBack}
-use Rattle.ms_queue.specs.Queue.{machine_of}
+use Rattle.ms_queue.specs.declared.calls.taking.TakeAt.{TakeAt}
+use Rattle.ms_queue.specs.declared.calls.taking.TakeAt.TheVariants.{LoadHead as LoadHeadFirst, LoadTail, LoadNext, CheckHead as CheckHeadAgain, SwingTail, LoadCell as LoadFirstCell, TakeHead as TakeFirstNode, GiveBack}
+use Rattle.ms_queue.specs.Calls.{is_call}
+use Rattle.ms_queue.specs.Queue.{Queue, Answered, machine_of}
 use Rattle.ms_queue.specs.Giving.{give_line, held_slot, AreHeld}
 
 abbrev pub TakeOp : Type 0 → Type 0
 TakeOp T = Op T (Line T) (Operation T) (TakeAt T)
 
+abbrev pub Answer : Type 0 → Type 0
+Answer T = Answered (Result (T × ℕ) TakeRefused)
+
 module _ {T : Type 0} where
-  abbrev pub took : Taken T → Answer T
+  abbrev pub took : Taken T → lines.Answer T
   took t = AnswerTake (Ok (t.value, t.number))
 
   -- the machine's line
@@ -60,16 +65,17 @@ module _ {T : Type 0} where
   HasReadToTake n limit (GiveBack t at) = AreHeld n t.held
 
   -- how it is read
-  abbrev pub take_account : Limits → Account T (Line T) (Operation T) (TakeAt T) (Result (T × ℕ) TakeRefused)
-  take_account k = to_answer (λ at. TakeFirst) take_line take_slots (λ at. HasReadToTake (capacity_of k) (tag_limit_of k) at) (λ o r. ends (AnswerTake r))
+  abbrev pub take_account : Limits → Account T (Line T) (Operation T) (TakeAt T) (Answer T)
+  take_account k = to_answer (λ at. TakeFirst) take_line take_slots (λ at. HasReadToTake (capacity_of k) (tag_limit_of k) at) (λ o a. ends (AnswerTake a.reply))
 
+module _ {T P : Type 0} {g : laid.Ghosts P T (Line T) (Operation T)} where
   -- a whole call is at this
-  abbrev pub TakeStands : Queue T → Pass T (Line T) → TakeAt T → Type 0
+  abbrev pub TakeStands : Queue T P g → Pass T (Line T) → TakeAt T → Type 0
   TakeStands c p at = Stands (machine_of c) (take_account c.table.shared.key) c.table.shared.table_id p at
 
-  abbrev pub IsTaking : Queue T → TakeOp T → Type 0
-  IsTaking c op = IsUnderWay (machine_of c) (take_account c.table.shared.key) c.table.shared.table_id op
+  abbrev pub IsTaking : Queue T P g → TakeOp T → Type 0
+  IsTaking c op = Makes (machine_of c) (take_account c.table.shared.key) c.table.shared.table_id (is_call TakeCall) op
 
   -- what some steps of it give
-  abbrev pub TakeRan : Queue T → Operation T → Pass T (Line T) → Pass T (Line T) → Next (TakeAt T) (Result (T × ℕ) TakeRefused) → Type 0
+  abbrev pub TakeRan : Queue T P g → Operation T → Pass T (Line T) → Pass T (Line T) → Next (TakeAt T) (Answer T) → Type 0
   TakeRan c o p q r = Ran (machine_of c) (take_account c.table.shared.key) c.table.shared.table_id o p q r

@@ -15,37 +15,25 @@
 //! - for a bounded number of steps, after which the caller can continue it.
 #![tactic(auto)]
 
-mod closing;
-mod container;
-mod counting;
-mod ending;
-mod gauging;
-mod giving;
-mod looking;
-mod making;
+mod call_parts;
+mod calls;
+mod fast_paths;
+mod life;
 mod naming;
+mod parts;
 mod places;
-mod put_fast;
-mod putting;
-mod queue;
-mod rest;
+mod program;
 mod rule;
-mod seeking;
-mod shutting;
-mod stepwise;
-mod taking;
-mod trying;
 
-pub use closing::CloseOp;
-pub use counting::LenOp;
-pub use gauging::{Gauge, GaugeOp};
-pub use looking::LookOp;
+pub use calls::closing::CloseOp;
+pub use calls::counting::{LenOp, begin_len, len, len_at_once};
+pub use calls::gauging::{Gauge, GaugeOp, begin_gauge, read_gauge};
+pub use calls::looking::LookOp;
+pub use calls::putting::PutOp;
+pub use calls::shutting::ShutOp;
+pub use calls::taking::TakeOp;
+pub use life::ending::end;
+pub use life::queue::{Answered, AnyOp, Note, Pass, Queue, Root};
+pub use life::rest::Rest;
 pub use places::queue_places;
-pub use putting::PutOp;
-pub use queue::{Note, Pass, Queue, Root};
-pub use rest::Rest;
 pub use rule::Queued;
-pub use shutting::ShutOp;
-pub use stepwise::AnyOp;
-pub use taking::TakeOp;
-pub use trying::PutMade;

@@ -4,23 +4,26 @@ ghost use Rattle.queue_machine.specs.declared.lines.Seeking.{Seeking};
 ghost use Rattle.ms_queue.specs.Closing.{close_line};
 ghost use Rattle.ms_queue.specs.Giving.{give_line};
 ghost use Rattle.ms_queue.specs.Looking.{look_line};
-ghost use Rattle.ms_queue.specs.Naming.{IsNextStep, IsStep};
+ghost use Rattle.ms_queue.specs.Naming.{IsNextStep};
 ghost use Rattle.ms_queue.specs.Putting.{put_line};
 ghost use Rattle.ms_queue.specs.Seeking.{seek_line};
 ghost use Rattle.ms_queue.specs.Shutting.{shut_line};
 ghost use Rattle.ms_queue.specs.Taking.{take_line};
 
-use crate::closing::CloseAt;
-use crate::giving::{Give, Held};
-use crate::looking::LookAt;
-use crate::putting::PutAt;
-use crate::queue::Queue;
-use crate::seeking::Seek;
-use crate::shutting::ShutAt;
-use crate::stepwise::AnyOp;
-use crate::taking::TakeAt;
-use bounded_model::Operation;
-use step_names::{Location, Named, StepName};
+use crate::call_parts::giving::{Give, Held};
+use crate::call_parts::seeking::Seek;
+use crate::calls::closing::CloseAt;
+use crate::calls::looking::LookAt;
+use crate::calls::putting::PutAt;
+use crate::calls::shutting::ShutAt;
+use crate::calls::taking::TakeAt;
+use crate::life::queue::{AnyOp, Queue};
+use crate::rule::Queued;
+use bounded::NamesSteps;
+use bounded_model::Operation as AnyCall;
+use queue_machine::Line;
+use queue_table::Operation;
+use step_names::{Location, StepName};
 
 // The next step of the way to the end of the chain.
 fn seek_step<T>(at: &Seek) -> StepName
@@ -121,16 +124,18 @@ fn look_name<T>(at: &LookAt) -> StepName
     }
 }
 
-impl<T: Drop + Send> Named<T> for Queue<T> {
+impl<T: Drop + Send> NamesSteps<Queue<T>, T, Line<T>, Operation<T>, Queued, 2> for Queued {
+    ghost use Rattle.ms_queue.specs.Naming.{IsStep};
+
     ghost is_step = { IsStep };
 
     fn step_name(op: &AnyOp<T>) -> StepName {
-        match op {
-            Operation::Put(op) => put_name::<T>(&op.at),
-            Operation::Take(op) => take_name::<T>(&op.at),
-            Operation::Close(op) => close_name::<T>(&op.at),
-            Operation::Shut(op) => shut_name::<T>(&op.at),
-            Operation::Look(op) => look_name::<T>(&op.at),
+        match &op.call {
+            AnyCall::Put(op) => put_name::<T>(&op.at),
+            AnyCall::Take(op) => take_name::<T>(&op.at),
+            AnyCall::Close(op) => close_name::<T>(&op.at),
+            AnyCall::Shut(op) => shut_name::<T>(&op.at),
+            AnyCall::Look(op) => look_name::<T>(&op.at),
         }
     }
 }

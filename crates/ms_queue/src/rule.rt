@@ -1,5 +1,5 @@
 //! The queue's machine.
-use machine::seats::View;
+use bounded::Laid;
 use queue_machine::Line;
 use queue_table::Operation;
 use queue_table::layout::{CELL_LIST, CELLS, NODES, cell_link, node_link};
@@ -12,13 +12,12 @@ pub struct Queued {
 }
 
 impl<T> Machine<T, Line<T>, Operation<T>> for Queued {
-    ghost use Rattle.tagged_index.specs.Limits.{capacity_of, tag_limit_of};
     ghost use Rattle.queue_table.specs.Lines.{names};
-    ghost use Rattle.queue_table.proofs.Laws.{queue};
+    ghost use Rattle.ms_queue.specs.Limits.{machine_at};
 
     ghost names = { names };
 
-    ghost machine = { λ limits. queue T (capacity_of limits) (tag_limit_of limits) };
+    ghost machine = { machine_at };
 }
 
 impl<T> ListMachine<T, Line<T>, Operation<T>, 2> for Queued {
@@ -48,4 +47,16 @@ impl<T> ListMachine<T, Line<T>, Operation<T>, 2> for Queued {
     }
 
     ghost laws = { λ limits. list_laws T (capacity_of limits) (tag_limit_of limits) };
+}
+
+impl<T> Laid<T, Line<T>, Operation<T>> for Queued {
+    ghost use Rattle.bounded_model.specs.declared.container.TheConstants.{MAX_PASSES};
+    ghost use Rattle.tagged_index.specs.Limits.{capacity_of};
+    ghost use Rattle.queue_table.specs.Layout.{words_for};
+
+    ghost words_for = { λ limits. words_for (capacity_of limits) };
+
+    ghost slots_for = { λ limits. capacity_of limits };
+
+    ghost passes_for = { λ limits. MAX_PASSES };
 }

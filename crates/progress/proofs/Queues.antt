@@ -10,8 +10,8 @@ use Rattle.queue_table.specs.Lines.{names}
 use Rattle.running.specs.Acts.{Course}
 use Rattle.running.specs.Going.{Going}
 use Rattle.running.specs.declared.passes.Pass.{Pass}
-use Rattle.ms_queue.specs.declared.queue.Queue.{Queue}
-use Rattle.ms_queue.specs.Queue.{room_of, limit_of, machine_of}
+use Rattle.bounded.specs.declared.bounded.Laid as laid
+use Rattle.ms_queue.specs.Queue.{Queue, room_of, limit_of, machine_of}
 use Rattle.queue_runs.specs.Bounded.{IsBounded}
 use Rattle.queue_runs.proofs.Queues.{bounded}
 use Rattle.runs.specs.Made.{HasMade}
@@ -19,7 +19,7 @@ use Rattle.runs.proofs.Made.{some_made}
 use Rattle.progress.proofs.Courses.{Bounds, bounds, bounds_some}
 use Rattle.progress.specs.Queues.{StepsAreBounded, IsOvertaken}
 
-module _ {T : Type 0} (c : Queue T) (o : Operation T) (p : Pass T (Line T)) {begun : PassView T} {l : Line T} (g : Going (machine_of c) o p.seat.me.0 begun l) where
+module _ {T P : Type 0} {h : laid.Ghosts P T (Line T) (Operation T)} (c : Queue T P h) (o : Operation T) (p : Pass T (Line T)) {begun : PassView T} {l : Line T} (g : Going (machine_of c) o p.seat.me.0 begun l) where
   abbrev x : ℕ
   x = (pass_of p.seat.me.0).number
 
@@ -50,6 +50,6 @@ module _ {T : Type 0} (c : Queue T) (o : Operation T) (p : Pass T (Line T)) {beg
 
   -- after more steps than those, others have won
   pub overtaken : (count w : ℕ) → HasMade names o p.seat.me.0 count → 20 + 8 * w < count → IsOvertaken c o p w
-  overtaken count w h more =
-      let b : Bounded count = bounds_some (machine_of c) p.seat.me.0 Bound since (λ first b. b.is) bound_so g count h (omega (arith, more)) in
+  overtaken count w made more =
+      let b : Bounded count = bounds_some (machine_of c) p.seat.me.0 Bound since (λ first b. b.is) bound_so g count made (omega (arith, more)) in
       record { since = b.bound.since; is = b.bound.is; wins = λ passes low. (let most = b.bound.bound passes low in omega (arith, most, b.steps, more)) }

@@ -10,8 +10,8 @@ use Rattle.stack_table.specs.Lines.{first_line, names}
 use Rattle.running.specs.Acts.{Course}
 use Rattle.running.specs.Going.{Going}
 use Rattle.running.specs.declared.passes.Pass.{Pass}
-use Rattle.treiber_stack.specs.declared.stack.Stack.{Stack}
-use Rattle.treiber_stack.specs.Stack.{room_of, limit_of, machine_of}
+use Rattle.bounded.specs.declared.bounded.Laid as laid
+use Rattle.treiber_stack.specs.Stack.{Stack, room_of, limit_of, machine_of}
 use Rattle.stack_runs.specs.Bounded.{IsBounded}
 use Rattle.stack_runs.proofs.Stacks.{bounded}
 use Rattle.step_core.specs.stack.Bound.{IsSingle}
@@ -20,7 +20,7 @@ use Rattle.runs.proofs.Made.{some_made}
 use Rattle.progress.proofs.Courses.{Bounds, bounds, bounds_some}
 use Rattle.progress.specs.Stacks.{StepsAreBounded, IsOvertaken}
 
-module _ {T : Type 0} (c : Stack T) (o : Operation T) (p : Pass T (Line T)) {begun : PassView T} {l : Line T} (g : Going (machine_of c) o p.seat.me.0 begun l) where
+module _ {T P : Type 0} {h : laid.Ghosts P T (Line T) (Operation T)} (c : Stack T P h) (o : Operation T) (p : Pass T (Line T)) {begun : PassView T} {l : Line T} (g : Going (machine_of c) o p.seat.me.0 begun l) where
   abbrev x : ℕ
   x = (pass_of p.seat.me.0).number
 
@@ -51,6 +51,6 @@ module _ {T : Type 0} (c : Stack T) (o : Operation T) (p : Pass T (Line T)) {beg
 
   -- after more steps than those of one value, others have won
   pub overtaken : IsSingle (first_line o) → (count w : ℕ) → HasMade names o p.seat.me.0 count → 9 + 4 * w < count → IsOvertaken c o p w
-  overtaken single count w h more =
-      let b : Bounded count = bounds_some (machine_of c) p.seat.me.0 Bound since (λ first b. b.is) bound_so g count h (omega (arith, more)) in
+  overtaken single count w made more =
+      let b : Bounded count = bounds_some (machine_of c) p.seat.me.0 Bound since (λ first b. b.is) bound_so g count made (omega (arith, more)) in
       record { since = b.bound.since; is = b.bound.is; wins = λ passes low. (let most = b.bound.single single passes low in omega (arith, most, b.steps, more)) }

@@ -3,15 +3,11 @@ use Rattle.std.specs.Prelude.{◌≡◌, ℕ, ◌<◌, List, false, ◌∷◌, �
 use Rattle.bounded_model.specs.declared.answers.Stepped.{Stepped}
 use Rattle.bounded_model.specs.Laws.{NoneOut}
 use Rattle.bounded_model.specs.Stepping.{MatchStepped}
-use Rattle.bounded_model.specs.declared.views.PassView.{PassView}
 use Rattle.bounded_model.specs.declared.views.RootView.{RootView}
 use Rattle.machine.specs.Progress.{others_win}
 use Rattle.machine.specs.Seats.{Acts, acts_before, acts_now}
-use Rattle.ring_queue.specs.Ring.{room_of, laps_of, passes_of, machine_of, IsPassOf}
-use Rattle.ring_queue.specs.Ring as ring
-use Rattle.ring_queue.specs.declared.queue.Answered.{Answered}
-use Rattle.ring_queue.specs.declared.queue.Pass.{Pass as RingPass}
-use Rattle.ring_queue.specs.declared.queue.RingQueue.{RingQueue}
+use Rattle.bounded.specs.declared.bounded.Laid as laid
+use Rattle.ring_queue.specs.Ring.{RingQueue, Pass as RingPass, Answered, room_of, laps_of, passes_of, machine_of, IsPassOf}
 use Rattle.ring_runs.specs.Bounded.{IsBounded, call_at, call_in, state_after}
 use Rattle.ring_runs.specs.Linearizable.{answer_at}
 use Rattle.ring_runs.specs.Machine.{cell_ring}
@@ -23,6 +19,7 @@ use Rattle.ring_table.specs.declared.operation.Operation.{Operation}
 use Rattle.run_ends.specs.Ends.{IsRun}
 use Rattle.running.specs.Acts.{Begins, steps_in}
 use Rattle.running.specs.Code.{Account}
+use Rattle.running.specs.Going.{Ended}
 use Rattle.running.specs.Passes.{begun_of, pass_in}
 use Rattle.running.specs.Rule.{line_in}
 use Rattle.running.specs.declared.op.Op.{Op}
@@ -32,7 +29,7 @@ use Rattle.runs.specs.Made.{HasMade, IsAfter}
 use Rattle.runs.specs.Runs.{Below, schedule_of}
 use Rattle.step_core.specs.ring.Object.{object}
 
-module _ {T : Type 0} (c : RingQueue T) (o : Operation T) (p : Pass T (SeatLine T)) where
+module _ {T P : Type 0} {g : laid.Ghosts P T (SeatLine T) (Operation T)} (c : RingQueue T P g) (o : Operation T) (p : Pass T (SeatLine T)) where
   abbrev pub before : Acts (SeatLine T)
   before = acts_before p.seat.me.0
 
@@ -62,19 +59,19 @@ module _ {T : Type 0} (c : RingQueue T) (o : Operation T) (p : Pass T (SeatLine 
         → w < others_win (cell_ring (room_of c) (laps_of c) (passes_of c)) (pass_in p).number (schedule_of call_at since) (state_after (room_of c) (laps_of c) (passes_of c) numbers (((pass_in p).number, Begins (names.first o rest)) ∷ before))
 
 -- an operation that did not end was overtaken
-abbrev pub EndsOrOvertaken : {T S A : Type 0} → RingQueue T → Stepped (Op T (SeatLine T) (Operation T) S) (RingPass T) A → Type 0
+abbrev pub EndsOrOvertaken : {T P S A : Type 0} {g : laid.Ghosts P T (SeatLine T) (Operation T)} → RingQueue T P g → Stepped (Op T (SeatLine T) (Operation T) S) (RingPass T) A → Type 0
 EndsOrOvertaken c made = MatchStepped made (λ next. IsOvertaken c next.operation next.pass 0) (λ back answer. Unit {0})
 
-module _ {T S A : Type 0} (c : RingQueue T) (account : Account T (SeatLine T) (Operation T) S (Answered A)) (Promises : Operation T → PassView T → PassView T → Answered A → Type 0) where
-  -- The operation is still under way, begun as before, after this many steps in all; or its pass is back and has given what it promises
+module _ {T P S A : Type 0} {g : laid.Ghosts P T (SeatLine T) (Operation T)} (c : RingQueue T P g) (account : Account T (SeatLine T) (Operation T) S (Answered A)) where
+  -- The operation is still under way, begun as before, after this many steps in all; or its pass is back and it has ended
   abbrev pub MadeFor : ℕ → Op T (SeatLine T) (Operation T) S → Stepped (Op T (SeatLine T) (Operation T) S) (RingPass T) A → Type 0
   MadeFor k op r = MatchStepped r
       (λ next. IsAfter (machine_of c) account c.table.shared.table_id k next × (begun_of (machine_of c) next.pass ≡ begun_of (machine_of c) op.pass) × (next.operation ≡ op.operation))
-      (λ back a. IsPassOf c back × Promises op.operation (begun_of (machine_of c) op.pass) (ring.pass_in back) (record { spare = back.spare; answer = a }))
+      (λ back a. IsPassOf c back × Ended (machine_of c) op.operation back.pass.seat.me.0 (begun_of (machine_of c) op.pass) (account.answer op.operation (record { kept = back.kept; reply = a })))
 
 -- What is left stands for a run of the passes. Their calls are linearizable. If no pass is out, the passes together have made no more
 -- steps than their calls cost
-pub record IsPaidRun {T : Type 0} (c : RingQueue T) (r : RootView T) (left : List T) : Type 0 where
+pub record IsPaidRun {T P : Type 0} {g : laid.Ghosts P T (SeatLine T) (Operation T)} (c : RingQueue T P g) (r : RootView T) (left : List T) : Type 0 where
   pub run : IsRun (machine_of c) r left
   pub linearizable : IsLinearizable names (core T (room_of c) (laps_of c) (passes_of c)) call_in answer_at (object (room_of c) (laps_of c)) run.acts
   pub work : NoneOut r → TotalWork (passes_of c) r run.acts

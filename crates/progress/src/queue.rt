@@ -1,12 +1,11 @@
 //! The bound on the steps of a queue's operations.
 ghost use Rattle.std.specs.Prelude.{◌≤◌};
 ghost use Rattle.bounded_model.specs.Laws.{Leaves, NoneOut};
-ghost use Rattle.running.specs.Passes.{pass_in, root_in};
 ghost use Rattle.ms_queue.specs.Closing.{IsClosing};
 ghost use Rattle.ms_queue.specs.Left.{left_in};
 ghost use Rattle.ms_queue.specs.Looking.{IsLooking};
 ghost use Rattle.ms_queue.specs.Putting.{IsPutting};
-ghost use Rattle.ms_queue.specs.Queue.{IsPassOf, IsRootOf, shape_of};
+ghost use Rattle.ms_queue.specs.Queue.{IsPassOf, IsRootOf, pass_in, root_in, shape_of};
 ghost use Rattle.ms_queue.specs.Shutting.{IsShutting};
 ghost use Rattle.ms_queue.specs.Taking.{IsTaking};
 ghost use Rattle.ms_queue.specs.Trying.{PutTried, TakeTried};
@@ -14,8 +13,9 @@ ghost use Rattle.queue_runs.specs.Work.{fee, others_of};
 ghost use Rattle.runs.specs.Work.{total_steps, total_fees};
 ghost use Rattle.progress.specs.Queues.{StepsAreBounded, EndsOrOvertaken, IsPaidRun};
 
+use bounded::joined;
 use bounded_model::{PutRefused, Stepped, TakeRefused};
-use ms_queue::{CloseOp, LookOp, Pass, PutOp, Queue, Rest, Root, ShutOp, TakeOp};
+use ms_queue::{self, CloseOp, LookOp, Pass, PutOp, Queue, Rest, Root, ShutOp, TakeOp};
 use runs::step_for;
 
 /// An operation that is still under way has made at most this many steps, and 8 more for each
@@ -25,7 +25,7 @@ pub const ALONE: u64 = 20;
 /// Puts a value step by step, with no wait, for at most `ALONE + 1` steps. If the put has not ended
 /// then, it comes back under way, and another pass's compare-and-swap has succeeded since it was
 /// begun.
-pub fn put_or_overtaken<T>(
+pub fn put_or_overtaken<T: Drop + Send>(
     queue: &Queue<T>,
     by: Pass<T>,
     value: T,
@@ -34,11 +34,11 @@ pub fn put_or_overtaken<T>(
     ensures tried { PutTried queue.now value (pass_in by) result }
     ensures overtaken { EndsOrOvertaken queue.now result }
 {
-    step_for(queue, queue.begin_put(by, value), ALONE + 1)
+    joined(step_for(queue, queue.begin_put(by, value), ALONE + 1))
 }
 
 /// Takes a value in the same way.
-pub fn take_or_overtaken<T>(
+pub fn take_or_overtaken<T: Drop + Send>(
     queue: &Queue<T>,
     by: Pass<T>,
 ) -> Stepped<TakeOp<T>, Pass<T>, Result<(T, u64), TakeRefused>>
@@ -46,7 +46,7 @@ pub fn take_or_overtaken<T>(
     ensures tried { TakeTried queue.now (pass_in by) result }
     ensures overtaken { EndsOrOvertaken queue.now result }
 {
-    step_for(queue, queue.begin_take(by), ALONE + 1)
+    joined(step_for(queue, queue.begin_take(by), ALONE + 1))
 }
 
 /// Ends a queue, as `finish` does, and returns what is left. That is the outcome of a run of the
@@ -62,7 +62,7 @@ pub fn end<T>(queue: Queue<T>, parent: Root<T>) -> Rest<T>
     ensures work { NoneOut (root_in parent) → let r = root_in parent in
         total_steps r.works ≤ total_fees (fee (others_of r)) r.works }
 {
-    queue.end(parent)
+    ms_queue::end(queue, parent)
 }
 
 /// A put under way has made at most `ALONE` steps, and 8 for each compare-and-swap by which another

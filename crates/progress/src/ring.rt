@@ -7,11 +7,17 @@ ghost use Rattle.ring_queue.specs.Counting.{IsCounting};
 ghost use Rattle.ring_queue.specs.Leaving.{left_in};
 ghost use Rattle.ring_queue.specs.Looking.{IsLooking};
 ghost use Rattle.ring_queue.specs.Putting.{IsPutting};
-ghost use Rattle.ring_queue.specs.Ring.{IsPassOf, machine_of, pass_in, passes_of, shape_of};
+ghost use Rattle.ring_queue.specs.Ring.{
+  Answered as HasAnswered,
+  IsPassOf,
+  machine_of,
+  pass_in,
+  passes_of,
+  shape_of,
+};
 ghost use Rattle.ring_queue.specs.Roots.{IsRootOf, root_in};
 ghost use Rattle.ring_queue.specs.Taking.{IsTaking};
 ghost use Rattle.ring_queue.specs.Trying.{PutTried, TakeTried};
-ghost use Rattle.ring_queue.specs.declared.queue.Answered.{Answered as HasAnswered};
 ghost use Rattle.ring_runs.specs.Work.{fee};
 ghost use Rattle.ring_table.specs.Seats.{names};
 ghost use Rattle.ring_table.specs.declared.line.SeatLine.TheVariants.{At};
@@ -23,7 +29,8 @@ ghost use Rattle.progress.specs.Rings.{EndsOrOvertaken, IsPaidRun, MadeFor, Step
 
 use bounded_model::{PutRefused, Stepped, TakeRefused};
 use ring_queue::{
-    Answered, CloseOp, LenOp, LookOp, Pass, PutOp, Rest, RingQueue, Ringed, Root, ShutOp, TakeOp,
+    self, Answered, CloseOp, LenOp, LookOp, Pass, PutOp, Rest, RingQueue, Ringed, Root, ShutOp,
+    TakeOp,
 };
 use ring_table::{Operation, SeatLine};
 use running::{Call, Op};
@@ -35,7 +42,7 @@ pub const ALONE: u64 = 47;
 /// Puts a value step by step, with no wait, for at most `ALONE + 1` steps. If the put has not ended
 /// then, it comes back under way, and another pass's compare-and-swap has succeeded since it was
 /// begun.
-pub fn put_or_overtaken<T>(
+pub fn put_or_overtaken<T: Drop + Send>(
     ring: &RingQueue<T>,
     by: Pass<T>,
     value: T,
@@ -48,7 +55,7 @@ pub fn put_or_overtaken<T>(
 }
 
 /// Takes a value in the same way.
-pub fn take_or_overtaken<T>(
+pub fn take_or_overtaken<T: Drop + Send>(
     ring: &RingQueue<T>,
     by: Pass<T>,
 ) -> Stepped<TakeOp<T>, Pass<T>, Result<(T, u64), TakeRefused>>
@@ -71,18 +78,20 @@ where
         ring.now.table.shared.table_id op }
     requires spare { (o : AnOperation T) (a : HasAnswered A)
         → names.quiet ((S.account ring.now.table.shared.key).answer o a)
-        ≡ At (resting a.spare.index) }
+        ≡ At (resting a.kept.index) }
     ensures { (k : ℕ)
         → IsAfter (machine_of ring.now) (S.account ring.now.table.shared.key)
         ring.now.table.shared.table_id k op
-        → MadeFor ring.now (S.account ring.now.table.shared.key)
-        (S.promises ring.now.table.shared.key) (k + steps) op result }
+        → MadeFor ring.now (S.account ring.now.table.shared.key) (k + steps) op result }
 {
     let mut op = op;
     for _done in 0..steps {
-        match ring.step_op(op) {
+        match op.step::<RingQueue<T>, Ringed, Answered<A>, 0>(ring) {
             Stepped::Again(next) => op = next,
-            Stepped::Done(back, answer) => return Stepped::Done(back, answer),
+            Stepped::Done(pass, answer) => {
+                let Answered { kept, reply } = answer;
+                return Stepped::Done(Pass { pass, kept }, reply);
+            }
         }
     }
     Stepped::Again(op)
@@ -101,7 +110,7 @@ pub fn end<T>(ring: RingQueue<T>, parent: Root<T>) -> Rest<T>
     ensures work { NoneOut (root_in parent) → total_steps (root_in parent).works
         ≤ total_fees (fee (passes_of ring - 1)) (root_in parent).works }
 {
-    ring.end(parent)
+    ring_queue::end(ring, parent)
 }
 
 /// A put under way has made at most `ALONE` steps, and 30 for each compare-and-swap by which another pass

@@ -15,10 +15,11 @@ ghost use Rattle.treiber_stack.specs.Taking.{IsTaking};
 ghost use Rattle.treiber_stack.specs.Trying.{PutTried, TakeTried};
 ghost use Rattle.progress.specs.Stacks.{StepsAreBounded, EndsOrOvertaken, IsPaidRun};
 
+use bounded::joined;
 use bounded_model::{PutRefused, Stepped, TakeRefused};
 use runs::step_for;
 use treiber_stack::{
-    CloseOp, FoldOp, LookOp, Pass, PutOp, RangeOp, Rest, Root, ShutOp, Stack, TakeOp,
+    self, CloseOp, FoldOp, LookOp, Pass, PutOp, RangeOp, Rest, Root, ShutOp, Stack, TakeOp,
 };
 
 /// A put or a take of one value, a close, a shut or a look that is still under way has made at most
@@ -28,7 +29,7 @@ pub const ALONE: u64 = 9;
 /// Puts a value step by step, with no wait, for at most `ALONE + 1` steps. If the put has not ended
 /// then, it comes back under way, and another pass's compare-and-swap has succeeded since it was
 /// begun.
-pub fn put_or_overtaken<T>(
+pub fn put_or_overtaken<T: Drop + Send>(
     stack: &Stack<T>,
     by: Pass<T>,
     value: T,
@@ -37,11 +38,11 @@ pub fn put_or_overtaken<T>(
     ensures tried { PutTried stack.now value (pass_in by) result }
     ensures overtaken { EndsOrOvertaken stack.now result }
 {
-    step_for(stack, stack.begin_put(by, value), ALONE + 1)
+    joined(step_for(stack, stack.begin_put(by, value), ALONE + 1))
 }
 
 /// Takes a value in the same way.
-pub fn take_or_overtaken<T>(
+pub fn take_or_overtaken<T: Drop + Send>(
     stack: &Stack<T>,
     by: Pass<T>,
 ) -> Stepped<TakeOp<T>, Pass<T>, Result<(T, u64), TakeRefused>>
@@ -49,7 +50,7 @@ pub fn take_or_overtaken<T>(
     ensures tried { TakeTried stack.now (pass_in by) result }
     ensures overtaken { EndsOrOvertaken stack.now result }
 {
-    step_for(stack, stack.begin_take(by), ALONE + 1)
+    joined(step_for(stack, stack.begin_take(by), ALONE + 1))
 }
 
 /// Ends a stack, as `finish` does, and returns what is left. That is the outcome of a run of the
@@ -61,7 +62,7 @@ pub fn end<T>(stack: Stack<T>, parent: Root<T>) -> Rest<T>
     ensures leaves { Leaves (shape_of stack) (root_in parent) (left_in result) }
     ensures run { IsPaidRun stack (root_in parent) (left_in result) }
 {
-    stack.end(parent)
+    treiber_stack::end(stack, parent)
 }
 
 /// A put under way has made at most `ALONE` steps, and 4 for each compare-and-swap by which another

@@ -1,10 +1,10 @@
 //! Looks at a queue.
 
-use bounded_model::Container;
+use bounded_model::{Container, Stepwise};
 use ms_queue::Queue;
 use tagged_index::{Limits, MAX_TAG};
 
-// A look sees at once what was put. It is the queue's own call too.
+// A look sees at once what was put.
 #[test]
 fn a_look_finds_what_was_put(rt: HostRuntime) {
     let limits = Limits::of(1, MAX_TAG).expect(&rt, "limits");

@@ -4,9 +4,6 @@ use Rattle.std.specs.Prelude.{Option as Slot}
 use Rattle.ring_machine.specs.declared.lines.Line.{Line}
 use Rattle.ring_machine.specs.Machine.{ends, is_idle}
 use Rattle.running.specs.Code.{Came, Leads}
-use Rattle.running.specs.Passes.{begun_of}
-use Rattle.running.specs.Steps.{Stops}
-use Rattle.running.specs.declared.passes.Pass.{Pass as Runs}
 use Rattle.running.specs.declared.access.Outcome.{Outcome}
 use Rattle.running.specs.declared.code.Next.{Next}
 use Rattle.running.specs.declared.code.Next.TheVariants.{On, Lost, Done}
@@ -14,20 +11,19 @@ use Rattle.ring_table.specs.Seats.{names}
 use Rattle.ring_table.specs.declared.line.SeatLine.{SeatLine}
 use Rattle.ring_table.specs.declared.line.SeatLine.TheVariants.{At}
 use Rattle.ring_table.specs.declared.operation.Operation.{Operation}
-use Rattle.ring_queue.specs.declared.closing.Mark.{Mark}
-use Rattle.ring_queue.specs.declared.closing.Mark.TheVariants.{Closed, Shut}
-use Rattle.ring_queue.specs.declared.closing.MarkAt.{MarkAt}
-use Rattle.ring_queue.specs.declared.closing.MarkAt.TheVariants.{Walking, Setting}
-use Rattle.ring_queue.specs.declared.queue.Answered.{Answered}
-use Rattle.ring_queue.specs.declared.queue.Pass.{Pass}
-use Rattle.ring_queue.specs.declared.queue.RingQueue.{RingQueue}
-use Rattle.ring_queue.specs.declared.walking.Found.{Found}
-use Rattle.ring_queue.specs.declared.walking.WalkAt.{WalkAt}
-use Rattle.ring_queue.specs.declared.walking.WalkAt.TheVariants.{LoadSlot}
+use Rattle.ring_queue.specs.declared.calls.closing.Mark.{Mark}
+use Rattle.ring_queue.specs.declared.calls.closing.Mark.TheVariants.{Closed, Shut}
+use Rattle.ring_queue.specs.declared.calls.closing.MarkAt.{MarkAt}
+use Rattle.ring_queue.specs.declared.calls.closing.MarkAt.TheVariants.{Walking, Setting}
+use Rattle.ring_queue.specs.Ring.{Answered}
+use Rattle.bounded.specs.declared.bounded.Laid as laid
+use Rattle.ring_queue.specs.Ring.{RingQueue}
+use Rattle.ring_queue.specs.declared.call_parts.walking.Found.{Found}
+use Rattle.ring_queue.specs.declared.call_parts.walking.WalkAt.{WalkAt}
+use Rattle.ring_queue.specs.declared.call_parts.walking.WalkAt.TheVariants.{LoadSlot}
 use Rattle.ring_queue.specs.Closing.{HasReadToMark, aim_of, answer_of, is_set, mark_account, mark_line, mark_of_step, operation_of}
-use Rattle.ring_queue.specs.Ring.{IsPassOf, room_of, laps_of, machine_of}
+use Rattle.ring_queue.specs.Ring.{room_of, laps_of, machine_of}
 use Rattle.ring_queue.specs.Walking.{end_line, full_of, walk_line, IsEnd, IsRead, WalkedTo}
-use Rattle.ring_queue.proofs.Passes.{Back, back}
 use Rattle.ring_queue.proofs.Walks.{busy, LeadsTo, walk_goes, walk_ends}
 
 module _ {T : Type 0} where
@@ -43,7 +39,7 @@ setting_busy : (T : Type 0) (mark : Mark) (end : Found) → is_idle (mark_line {
 setting_busy T Closed end = refl
 setting_busy T Shut end = refl
 
-module _ {T : Type 0} (c : RingQueue T) {s : MarkAt} {mark : Mark} {at : WalkAt} (is : s ≡ Walking mark at) (r : Outcome) (has : List (ℕ × Slot T)) (came : Came (machine_of c).core (At (mark_line s)) r [] has) where
+module _ {T P : Type 0} {g : laid.Ghosts P T (SeatLine T) (Operation T)} (c : RingQueue T P g) {s : MarkAt} {mark : Mark} {at : WalkAt} (is : s ≡ Walking mark at) (r : Outcome) (has : List (ℕ × Slot T)) (came : Came (machine_of c).core (At (mark_line s)) r [] has) where
   abbrev pub Marking : Next MarkAt (Answered Bool) → Type 0
   Marking next = LeadsTo c (mark_account c.table.shared.key) s r has has next
 
@@ -62,15 +58,15 @@ module _ {T : Type 0} (c : RingQueue T) {s : MarkAt} {mark : Mark} {at : WalkAt}
     mark_ends b e next follows = walk_ends c (mark_account c.table.shared.key) s (aim_of mark) at walks r has has came end walked next
         (λ l to. follows l (to.0 ∙ ap At (at_end (room_of c) (2 * laps_of c) mark end ∙ ap (by_test mark end) e)) to.1 to.2)
 
-    pub mark_refused : is_set mark end.slot ≡ true → Marking (Done (record { spare = end.walk.spare; answer = false }))
-    mark_refused e = mark_ends true e (Done (record { spare = end.walk.spare; answer = false }))
+    pub mark_refused : is_set mark end.slot ≡ true → Marking (Done (record { kept = end.walk.spare; reply = false }))
+    mark_refused e = mark_ends true e (Done (record { kept = end.walk.spare; reply = false }))
         (λ l to hand known. record { is = to ∙ ap (λ (o : Operation T). At (ends end.walk.spare.index (answer_of o false))) (sym named); hand = hand })
 
     pub mark_meets : is_set mark end.slot ≡ false → Marking (On (Setting mark end))
     mark_meets e = mark_ends false e (On (Setting mark end)) (λ l to hand known. record { same = sym named; is = to; busy = setting_busy T mark end; hand = hand; knows = (known.slot, known.short, known.room) })
 
 -- Where the compare-and-swap leads it that was to set the mark
-module _ {T : Type 0} (c : RingQueue T) (end : Found) (r : Outcome) (has : List (ℕ × Slot T)) where
+module _ {T P : Type 0} {g : laid.Ghosts P T (SeatLine T) (Operation T)} (c : RingQueue T P g) (end : Found) (r : Outcome) (has : List (ℕ × Slot T)) where
   abbrev SetTo : Mark → Next MarkAt (Answered Bool) → Type 0
   SetTo mark next = LeadsTo c (mark_account c.table.shared.key) (Setting mark end) r has has next
 
@@ -81,7 +77,7 @@ module _ {T : Type 0} (c : RingQueue T) (end : Found) (r : Outcome) (has : List 
   mark_lost Closed known e = λ found came f. record { same = refl; is = ap (by_win Closed) (f.0 ∙ e); busy = refl; hand = (f.2 e).0; knows = known }
   mark_lost Shut known e = λ found came f. record { same = refl; is = ap (by_win Shut) (f.0 ∙ e); busy = refl; hand = (f.2 e).0; knows = known }
 
-  mark_set : (mark : Mark) → r.won ≡ true → SetTo mark (Done (record { spare = end.walk.spare; answer = true }))
+  mark_set : (mark : Mark) → r.won ≡ true → SetTo mark (Done (record { kept = end.walk.spare; reply = true }))
   mark_set Closed e = λ found came f. record { is = ap (by_win Closed) (f.0 ∙ e); hand = (f.1 e).0 }
   mark_set Shut e = λ found came f. record { is = ap (by_win Shut) (f.0 ∙ e); hand = (f.1 e).0 }
 
@@ -96,12 +92,5 @@ module _ {T : Type 0} (c : RingQueue T) (end : Found) (r : Outcome) (has : List 
     pub mark_loses : HasReadToMark (room_of c) s → r.won ≡ false → SetFrom (Lost (Walking mark (LoadSlot end.walk)))
     mark_loses known e = from (Lost (Walking mark (LoadSlot end.walk))) (mark_lost mark (subst (HasReadToMark (room_of c)) is known) e)
 
-    pub mark_wins : r.won ≡ true → SetFrom (Done (record { spare = end.walk.spare; answer = true }))
-    mark_wins e = from (Done (record { spare = end.walk.spare; answer = true })) (mark_set mark e)
-
--- its pass is back from a whole call
-pub mark_back : {T : Type 0} (c : RingQueue T) (mark : Mark) (o : Operation T) → o ≡ operation_of mark → (from : Pass T) → IsPassOf c from → (q : Runs T (SeatLine T)) (a : Answered Bool)
-    → Stops (machine_of c) (mark_account c.table.shared.key) c.table.shared.table_id o (begun_of (machine_of c) from.pass) q a → Back c (operation_of mark) from (record { pass = q; spare = a.spare }) (answer_of (operation_of mark) a.answer)
-mark_back {T} c mark o is from of q a stops =
-    let named = subst (λ (o : Operation T). Stops (machine_of c) (mark_account c.table.shared.key) c.table.shared.table_id o (begun_of (machine_of c) from.pass) q a) is stops in
-    back c from q a.spare (answer_of (operation_of mark) a.answer) of named
+    pub mark_wins : r.won ≡ true → SetFrom (Done (record { kept = end.walk.spare; reply = true }))
+    mark_wins e = from (Done (record { kept = end.walk.spare; reply = true })) (mark_set mark e)

@@ -10,11 +10,12 @@ use Rattle.running.proofs.Crossing.{row_send, lease_send}
 use Rattle.running.specs.contracts.op.Op as op
 use Rattle.ring_table.specs.contracts.line.SeatLine as line
 use Rattle.ring_table.specs.contracts.operation.Operation as operation
-use Rattle.ring_queue.specs.contracts.closing.MarkAt as mark
-use Rattle.ring_queue.specs.contracts.looking.LookAt as look
-use Rattle.ring_queue.specs.contracts.putting.PutAt as put
-use Rattle.ring_queue.specs.contracts.rest.Rest as rest
-use Rattle.ring_queue.specs.contracts.taking.TakeAt as take
+use Rattle.ring_queue.specs.contracts.life.ring.AnyOp as own_op
+use Rattle.ring_queue.specs.contracts.calls.closing.MarkAt as mark
+use Rattle.ring_queue.specs.contracts.calls.looking.LookAt as look
+use Rattle.ring_queue.specs.contracts.calls.putting.PutAt as put
+use Rattle.ring_queue.specs.contracts.life.rest.Rest as rest
+use Rattle.ring_queue.specs.contracts.calls.taking.TakeAt as take
 
 pub rest_send : (T : RattleType) → IsSend T → IsSend (rest.the_row T)
 rest_send T s = search (sendable, row_send, lease_send, heap_send) depth 20
@@ -39,8 +40,8 @@ at_send T S s at = declared_send (op.the_type T (line.the_row T) (operation.the_
 abbrev of : RattleType → RattleType → RattleType
 of T S = op.the_row T (line.the_row T) (operation.the_row T) S
 
-pub op_send : (T : RattleType) → IsSend T → IsSend (call.the_row (of T (put.the_row T)) (of T (take.the_row T)) (of T mark.the_row) (of T mark.the_row) (of T look.the_row))
-op_send T s = variants_send (call.enum (of T (put.the_row T)) (of T (take.the_row T)) (of T mark.the_row) (of T mark.the_row) (of T look.the_row)) (
+calls_send : (T : RattleType) → IsSend T → IsSend (call.the_row (of T (put.the_row T)) (of T (take.the_row T)) (of T mark.the_row) (of T mark.the_row) (of T look.the_row))
+calls_send T s = variants_send (call.enum (of T (put.the_row T)) (of T (take.the_row T)) (of T mark.the_row) (of T mark.the_row) (of T look.the_row)) (
   (at_send T (put.the_row T) s (put_at_send T s), tt),
   (
     (at_send T (take.the_row T) s (take_at_send T s), tt),
@@ -53,3 +54,7 @@ op_send T s = variants_send (call.enum (of T (put.the_row T)) (of T (take.the_ro
     ),
   ),
 )
+
+-- an operation, whichever call it makes
+pub op_send : (T : RattleType) → IsSend T → IsSend (own_op.the_row T)
+op_send T s = declared_send (own_op.the_type T) (as_row_send (row_field (call.the_row (of T (put.the_row T)) (of T (take.the_row T)) (of T mark.the_row) (of T mark.the_row) (of T look.the_row))) (calls_send T s), tt)

@@ -8,18 +8,21 @@ use Rattle.running.specs.Code.{Came}
 use Rattle.running.specs.declared.access.Outcome.{Outcome}
 use Rattle.running.specs.declared.code.Next.{Next}
 use Rattle.running.specs.declared.code.Next.TheVariants.{On, Done}
-use Rattle.ring_queue.specs.declared.gauging.Gauge.{Gauge}
-use Rattle.ring_queue.specs.declared.gauging.GaugeAt.{GaugeAt}
-use Rattle.ring_queue.specs.declared.queue.Answered.{Answered}
-use Rattle.ring_queue.specs.declared.queue.RingQueue.{RingQueue}
-use Rattle.ring_queue.specs.declared.walking.Found.{Found}
-use Rattle.ring_queue.specs.declared.walking.WalkAt.{WalkAt}
+use Rattle.ring_queue.specs.declared.calls.gauging.Gauge.{Gauge}
+use Rattle.ring_queue.specs.declared.calls.gauging.GaugeAt.{GaugeAt}
+use Rattle.ring_queue.specs.Ring.{Answered}
+use Rattle.bounded.specs.declared.bounded.Laid as laid
+use Rattle.ring_table.specs.declared.operation.Operation.{Operation}
+use Rattle.ring_table.specs.declared.line.SeatLine.{SeatLine}
+use Rattle.ring_queue.specs.Ring.{RingQueue}
+use Rattle.ring_queue.specs.declared.call_parts.walking.Found.{Found}
+use Rattle.ring_queue.specs.declared.call_parts.walking.WalkAt.{WalkAt}
 use Rattle.ring_queue.specs.Gauging.{gauge_account, gauge_line}
 use Rattle.ring_queue.specs.Ring.{machine_of, room_of}
 use Rattle.ring_queue.specs.Walking.{to_back, WalkedTo}
 use Rattle.ring_queue.proofs.Walks.{busy, LeadsTo, walk_goes, walk_ends}
 
-module _ {T : Type 0} (c : RingQueue T) (s : GaugeAt) (r : Outcome) (has : List (ℕ × Slot T)) (came : Came (machine_of c).core (gauge_line s) r [] has) where
+module _ {T P : Type 0} {g : laid.Ghosts P T (SeatLine T) (Operation T)} (c : RingQueue T P g) (s : GaugeAt) (r : Outcome) (has : List (ℕ × Slot T)) (came : Came (machine_of c).core (gauge_line s) r [] has) where
   abbrev pub Gauging : Next GaugeAt (Answered Gauge) → Type 0
   Gauging next = LeadsTo c (gauge_account c.table.shared.key) s r has has next
 
@@ -29,6 +32,6 @@ module _ {T : Type 0} (c : RingQueue T) (s : GaugeAt) (r : Outcome) (has : List 
 
   -- the mark is that of the slot, and the number the place of the position
   pub gauge_ends : (end : Found) → WalkedTo c (to_back ToGauge) s.at r [] has (Done end) → (closed : Bool) (used : ℕ) → closed ≡ (fields_of end.slot).mark → used ≡ place (room_of c) (fields_of end.walk.at)
-      → Gauging (Done (record { spare = end.walk.spare; answer = record { closed = closed; used = used } }))
-  gauge_ends end walked closed used ec eu = subst (λ (g : Gauge). Gauging (Done (record { spare = end.walk.spare; answer = g }))) (λ i. record { closed = sym ec i; used = sym eu i })
-      (walk_ends c (gauge_account c.table.shared.key) s (to_back ToGauge) s.at refl r has has came end walked (Done (record { spare = end.walk.spare; answer = record { closed = (fields_of end.slot).mark; used = place (room_of c) (fields_of end.walk.at) } })) (λ l e. record { is = e.0; hand = e.1 }))
+      → Gauging (Done (record { kept = end.walk.spare; reply = record { closed = closed; used = used } }))
+  gauge_ends end walked closed used ec eu = subst (λ (g : Gauge). Gauging (Done (record { kept = end.walk.spare; reply = g }))) (λ i. record { closed = sym ec i; used = sym eu i })
+      (walk_ends c (gauge_account c.table.shared.key) s (to_back ToGauge) s.at refl r has has came end walked (Done (record { kept = end.walk.spare; reply = record { closed = (fields_of end.slot).mark; used = place (room_of c) (fields_of end.walk.at) } })) (λ l e. record { is = e.0; hand = e.1 }))

@@ -1,10 +1,8 @@
 pub mod Spares
 pub mod Front
 pub mod Crossing
-pub mod Steps
 pub mod Leftover
 pub mod Walks
-pub mod Passes
 pub mod Looks
 pub mod Closes
 pub mod Counts

@@ -7,17 +7,20 @@ use Rattle.running.specs.Code.{Came}
 use Rattle.running.specs.declared.access.Outcome.{Outcome}
 use Rattle.running.specs.declared.code.Next.{Next}
 use Rattle.running.specs.declared.code.Next.TheVariants.{On, Done}
-use Rattle.ring_queue.specs.declared.looking.LookAt.{LookAt}
-use Rattle.ring_queue.specs.declared.queue.Answered.{Answered}
-use Rattle.ring_queue.specs.declared.queue.RingQueue.{RingQueue}
-use Rattle.ring_queue.specs.declared.walking.Found.{Found}
-use Rattle.ring_queue.specs.declared.walking.WalkAt.{WalkAt}
+use Rattle.ring_queue.specs.declared.calls.looking.LookAt.{LookAt}
+use Rattle.ring_queue.specs.Ring.{Answered}
+use Rattle.bounded.specs.declared.bounded.Laid as laid
+use Rattle.ring_table.specs.declared.operation.Operation.{Operation}
+use Rattle.ring_table.specs.declared.line.SeatLine.{SeatLine}
+use Rattle.ring_queue.specs.Ring.{RingQueue}
+use Rattle.ring_queue.specs.declared.call_parts.walking.Found.{Found}
+use Rattle.ring_queue.specs.declared.call_parts.walking.WalkAt.{WalkAt}
 use Rattle.ring_queue.specs.Looking.{look_account, look_line}
 use Rattle.ring_queue.specs.Ring.{machine_of}
 use Rattle.ring_queue.specs.Walking.{to_front, WalkedTo}
 use Rattle.ring_queue.proofs.Walks.{busy, LeadsTo, walk_goes, walk_ends}
 
-module _ {T : Type 0} (c : RingQueue T) (s : LookAt) (r : Outcome) (has : List (ℕ × Slot T)) (came : Came (machine_of c).core (look_line s) r [] has) where
+module _ {T P : Type 0} {g : laid.Ghosts P T (SeatLine T) (Operation T)} (c : RingQueue T P g) (s : LookAt) (r : Outcome) (has : List (ℕ × Slot T)) (came : Came (machine_of c).core (look_line s) r [] has) where
   abbrev pub Looking : Next LookAt (Answered Bool) → Type 0
   Looking next = LeadsTo c (look_account c.table.shared.key) s r has has next
 
@@ -26,6 +29,6 @@ module _ {T : Type 0} (c : RingQueue T) (s : LookAt) (r : Outcome) (has : List (
       (λ l e. record { same = refl; is = e.0; busy = busy {T = T} (to_front ToLook) to; hand = e.1; knows = e.2 })
 
   -- the tags are those of the slot and of the position
-  pub look_ends : (end : Found) → WalkedTo c (to_front ToLook) s.at r [] has (Done end) → (x t : ℕ) → x ≡ tag_of end.slot → t ≡ tag_of end.walk.at → Looking (Done (record { spare = end.walk.spare; answer = eqb x (2 * t) }))
-  look_ends end walked x t ex et = subst (λ (b : Bool). Looking (Done (record { spare = end.walk.spare; answer = b }))) (λ i. eqb (sym ex i) (2 * sym et i))
-      (walk_ends c (look_account c.table.shared.key) s (to_front ToLook) s.at refl r has has came end walked (Done (record { spare = end.walk.spare; answer = eqb (tag_of end.slot) (2 * tag_of end.walk.at) })) (λ l e. record { is = e.0; hand = e.1 }))
+  pub look_ends : (end : Found) → WalkedTo c (to_front ToLook) s.at r [] has (Done end) → (x t : ℕ) → x ≡ tag_of end.slot → t ≡ tag_of end.walk.at → Looking (Done (record { kept = end.walk.spare; reply = eqb x (2 * t) }))
+  look_ends end walked x t ex et = subst (λ (b : Bool). Looking (Done (record { kept = end.walk.spare; reply = b }))) (λ i. eqb (sym ex i) (2 * sym et i))
+      (walk_ends c (look_account c.table.shared.key) s (to_front ToLook) s.at refl r has has came end walked (Done (record { kept = end.walk.spare; reply = eqb (tag_of end.slot) (2 * tag_of end.walk.at) })) (λ l e. record { is = e.0; hand = e.1 }))

@@ -2,8 +2,8 @@
 use Rattle.std.proofs.Common.{◌≡◌, ℕ, suc, ◌+◌, ◌-◌, ◌<◌, List, [], ◌∷◌, ◌++◌, map, ap, ◌∙◌, subst, arith}
 use Rattle.std.proofs.lemmas.List.{reverse-append}
 use Rattle.ring_table.specs.Seats.{cells_from}
-use Rattle.ring_queue.specs.declared.spare.Spare.{Spare}
-use Rattle.ring_queue.specs.Roots.{cells_of}
+use Rattle.ring_queue.specs.declared.life.spare.Spare.{Spare}
+use Rattle.ring_queue.specs.Ring.{cells_of}
 
 -- the one that comes last is given first
 pub cells_more : (spares : List Spare) (s : Spare) → cells_of (spares ++ s ∷ []) ≡ s.index ∷ cells_of spares

@@ -19,11 +19,14 @@ use Rattle.running.specs.declared.access.Outcome.{Outcome}
 use Rattle.running.specs.declared.code.Next.{Next}
 use Rattle.running.specs.declared.code.Next.TheVariants.{On, Done}
 use Rattle.ring_table.specs.declared.line.SeatLine.TheVariants.{At}
-use Rattle.ring_queue.specs.declared.queue.RingQueue.{RingQueue}
-use Rattle.ring_queue.specs.declared.taking.TakeAt.{TakeAt}
-use Rattle.ring_queue.specs.declared.taking.TakeAt.TheVariants.{Walking, Exchange}
-use Rattle.ring_queue.specs.declared.walking.Found.{Found}
-use Rattle.ring_queue.specs.declared.walking.WalkAt.{WalkAt}
+use Rattle.bounded.specs.declared.bounded.Laid as laid
+use Rattle.ring_table.specs.declared.operation.Operation.{Operation}
+use Rattle.ring_table.specs.declared.line.SeatLine.{SeatLine}
+use Rattle.ring_queue.specs.Ring.{RingQueue}
+use Rattle.ring_queue.specs.declared.calls.taking.TakeAt.{TakeAt}
+use Rattle.ring_queue.specs.declared.calls.taking.TakeAt.TheVariants.{Walking, Exchange}
+use Rattle.ring_queue.specs.declared.call_parts.walking.Found.{Found}
+use Rattle.ring_queue.specs.declared.call_parts.walking.WalkAt.{WalkAt}
 use Rattle.ring_queue.specs.Limits.{laps_at}
 use Rattle.ring_queue.specs.Ring.{room_of, machine_of}
 use Rattle.ring_queue.specs.Taking.{Answer, refusal_at, take_account, take_line, take_slots}
@@ -54,7 +57,7 @@ full_at_front false true mark e = refl
 full_at_front false false true e = absurd (none-some TakeClosed (sym e))
 full_at_front false false false e = absurd (none-some TakeEmpty (sym e))
 
-module _ {T : Type 0} (c : RingQueue T) {s : TakeAt T} {at : WalkAt} (is : s ≡ Walking at) (r : Outcome) (has : List (ℕ × Slot T)) (came : Came (machine_of c).core (At (take_line (room_of c) s)) r (take_slots s) has) where
+module _ {T P : Type 0} {g : laid.Ghosts P T (SeatLine T) (Operation T)} (c : RingQueue T P g) {s : TakeAt T} {at : WalkAt} (is : s ≡ Walking at) (r : Outcome) (has : List (ℕ × Slot T)) (came : Came (machine_of c).core (At (take_line (room_of c) s)) r (take_slots s) has) where
   abbrev pub Taking : Next (TakeAt T) (Answer T) → Type 0
   Taking next = LeadsTo c (take_account c.table.shared.key) s r has has next
 
@@ -72,8 +75,8 @@ module _ {T : Type 0} (c : RingQueue T) {s : TakeAt T} {at : WalkAt} (is : s ≡
       (λ l e. record { same = refl; is = e.0; busy = busy {T = T} (to_front ToTake) to; hand = e.1 ∙ bare; knows = e.2 })
 
   module _ (end : Found) (walked : WalkedTo c (to_front ToTake) at r [] has (Done end)) where
-    pub take_refused : (why : TakeRefused) → refusal_at end.walk.at end.slot ≡ Some why → Taking (Done (record { spare = end.walk.spare; answer = Err why }))
-    take_refused why e = walk_ends c (take_account c.table.shared.key) s (to_front ToTake) at walks r has has came end (walked_so (Done end) walked) (Done (record { spare = end.walk.spare; answer = Err why }))
+    pub take_refused : (why : TakeRefused) → refusal_at end.walk.at end.slot ≡ Some why → Taking (Done (record { kept = end.walk.spare; reply = Err why }))
+    take_refused why e = walk_ends c (take_account c.table.shared.key) s (to_front ToTake) at walks r has has came end (walked_so (Done end) walked) (Done (record { kept = end.walk.spare; reply = Err why }))
         (λ l to. record { is = to.0 ∙ ap At (by_tests end (second_of end.slot) (eqb (tag_of end.slot) (2 * tag_of end.walk.at + 1)) (mark_of end.slot) ∙ ap (by_refusal end) e); hand = to.1 ∙ bare })
 
     pub take_meets : refusal_at end.walk.at end.slot ≡ None → Taking (On (Exchange end))

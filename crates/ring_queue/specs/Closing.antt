@@ -1,5 +1,5 @@
 -- Closes and shuts made by steps: each sets a mark of a slot.
-use Rattle.std.specs.Prelude.{◌≡◌, ℕ, Bool, []}
+use Rattle.std.specs.Prelude.{ℕ, Bool, []}
 use Rattle.tagged_index.specs.Fields.{fields_of, mark_of, second_of}
 use Rattle.tagged_index.specs.Limits.{capacity_of}
 use Rattle.tagged_index.specs.declared.limit.Limits.{Limits}
@@ -14,19 +14,23 @@ use Rattle.ring_machine.specs.declared.lines.Line.{Line}
 use Rattle.ring_machine.specs.declared.lines.Line.TheVariants.{MarkBack, ShutFront}
 use Rattle.ring_machine.specs.Machine.{ends}
 use Rattle.running.specs.Code.{Account, to_answer}
-use Rattle.running.specs.Ops.{IsUnderWay}
+use Rattle.bounded.specs.Bounded.{Makes}
 use Rattle.running.specs.declared.op.Op.{Op}
 use Rattle.ring_table.specs.declared.line.SeatLine.{SeatLine}
 use Rattle.ring_table.specs.declared.line.SeatLine.TheVariants.{At}
 use Rattle.ring_table.specs.declared.operation.Operation.{Operation}
 use Rattle.ring_table.specs.declared.operation.Operation.TheVariants.{Close as CloseFirst, Shut as ShutFirst}
-use Rattle.ring_queue.specs.declared.queue.Answered.{Answered}
-use Rattle.ring_queue.specs.declared.queue.RingQueue.{RingQueue}
-use Rattle.ring_queue.specs.declared.closing.Mark.{Mark}
-use Rattle.ring_queue.specs.declared.closing.Mark.TheVariants.{Closed, Shut}
-use Rattle.ring_queue.specs.declared.closing.MarkAt.{MarkAt}
-use Rattle.ring_queue.specs.declared.closing.MarkAt.TheVariants.{Walking, Setting}
-use Rattle.ring_queue.specs.declared.walking.WalkAt.TheVariants.{LoadSlot}
+use Rattle.bounded_model.specs.declared.commands.Command.TheVariants.{Close as CloseCall}
+use Rattle.bounded_model.specs.declared.commands.Command.TheVariants.{Shut as ShutCall}
+use Rattle.ring_queue.specs.Calls.{is_call}
+use Rattle.ring_queue.specs.Ring.{Answered}
+use Rattle.bounded.specs.declared.bounded.Laid as laid
+use Rattle.ring_queue.specs.Ring.{RingQueue}
+use Rattle.ring_queue.specs.declared.calls.closing.Mark.{Mark}
+use Rattle.ring_queue.specs.declared.calls.closing.Mark.TheVariants.{Closed, Shut}
+use Rattle.ring_queue.specs.declared.calls.closing.MarkAt.{MarkAt}
+use Rattle.ring_queue.specs.declared.calls.closing.MarkAt.TheVariants.{Walking, Setting}
+use Rattle.ring_queue.specs.declared.call_parts.walking.WalkAt.TheVariants.{LoadSlot}
 use Rattle.ring_queue.specs.Ring.{machine_of}
 use Rattle.ring_queue.specs.Walking.{Aim, to_back, to_front, walk_line, line_of, IsRead}
 
@@ -78,15 +82,11 @@ module _ {T : Type 0} where
 
   -- how it is read
   abbrev pub mark_account : Limits → Account T (SeatLine T) (Operation T) MarkAt (Answered Bool)
-  mark_account k = to_answer (λ s. operation_of (mark_of_step s)) (λ s. At (mark_line s)) (λ s. []) (λ s. HasReadToMark (capacity_of k) s) (λ o a. At (ends a.spare.index (answer_of o a.answer)))
+  mark_account k = to_answer (λ s. operation_of (mark_of_step s)) (λ s. At (mark_line s)) (λ s. []) (λ s. HasReadToMark (capacity_of k) s) (λ o a. At (ends a.kept.index (answer_of o a.reply)))
 
-  -- it is the operation of this mark, under way
-  pub record IsMarking (c : RingQueue T) (mark : Mark) (op : CloseOp T) : Type 0 where
-    pub of : op.operation ≡ operation_of mark
-    pub under_way : IsUnderWay (machine_of c) (mark_account c.table.shared.key) c.table.shared.table_id op
+module _ {T P : Type 0} {g : laid.Ghosts P T (SeatLine T) (Operation T)} where
+  abbrev pub IsClosing : RingQueue T P g → CloseOp T → Type 0
+  IsClosing c op = Makes (machine_of c) (mark_account c.table.shared.key) c.table.shared.table_id (is_call CloseCall) op
 
-  abbrev pub IsClosing : RingQueue T → CloseOp T → Type 0
-  IsClosing c op = IsMarking c Closed op
-
-  abbrev pub IsShutting : RingQueue T → ShutOp T → Type 0
-  IsShutting c op = IsMarking c Shut op
+  abbrev pub IsShutting : RingQueue T P g → ShutOp T → Type 0
+  IsShutting c op = Makes (machine_of c) (mark_account c.table.shared.key) c.table.shared.table_id (is_call ShutCall) op

@@ -1,26 +1,35 @@
--- What the answer of a gauge says: the law of its operation.
+-- What the answers of a count and a gauge say: the laws of their operations.
+use Rattle.std.specs.Prelude.{ℕ}
 use Rattle.tagged_index.specs.Limits.{capacity_of, passes_of}
 use Rattle.tagged_index.specs.declared.limit.Limits.{Limits}
 use Rattle.bounded_model.specs.declared.views.PassView.{PassView}
+use Rattle.bounded_model.specs.Laws.{LenGives}
 use Rattle.machine.specs.Seats.{pass_of}
 use Rattle.machine.specs.declared.seats.View.{View}
-use Rattle.ring_machine.specs.declared.lines.Answer.TheVariants.{Gauge as AnswerGauge}
+use Rattle.ring_machine.specs.declared.lines.Answer.TheVariants.{Len as AnswerLen, Gauge as AnswerGauge}
 use Rattle.ring_machine.specs.Machine.{ends}
 use Rattle.running.specs.Going.{Ended}
 use Rattle.ring_table.specs.declared.line.SeatLine.{SeatLine}
 use Rattle.ring_table.specs.declared.line.SeatLine.TheVariants.{At}
 use Rattle.ring_table.specs.declared.operation.Operation.{Operation}
-use Rattle.ring_table.specs.declared.operation.Operation.TheVariants.{Gauge as GaugeFirst}
-use Rattle.ring_table.proofs.Gives.{gauge_gives}
+use Rattle.ring_table.specs.declared.operation.Operation.TheVariants.{Len as LenFirst, Gauge as GaugeFirst}
+use Rattle.ring_table.proofs.Gives.{gauge_gives, len_gives}
 use Rattle.ring_queue.specs.Limits.{laps_at, machine_at}
 use Rattle.ring_queue.specs.Gauging.{GaugeGives}
-use Rattle.ring_queue.specs.declared.gauging.Gauge.{Gauge}
-use Rattle.ring_queue.specs.declared.gauging.GaugeAt.{GaugeAt}
-use Rattle.ring_queue.specs.declared.queue.Answered.{Answered}
+use Rattle.ring_queue.specs.declared.calls.gauging.Gauge.{Gauge}
+use Rattle.ring_queue.specs.declared.calls.gauging.GaugeAt.{GaugeAt}
+use Rattle.ring_queue.specs.declared.calls.counting.LenAt.{LenAt}
+use Rattle.ring_queue.specs.Ring.{Answered}
 
 module _ {T : Type 0} (k : Limits) where
   abbrev pub gauge_promises : Operation T → PassView T → PassView T → Answered Gauge → Type 0
-  gauge_promises o begun now a = GaugeGives (capacity_of k) (laps_at k) begun now a.answer
+  gauge_promises o begun now a = GaugeGives (capacity_of k) (laps_at k) begun now a.reply
 
-  pub gauge_keeps : (at : GaugeAt) (v : View T (SeatLine T)) (begun : PassView T) (a : Answered Gauge) → Ended (machine_at k) GaugeFirst v begun (At (ends a.spare.index (AnswerGauge a.answer.closed a.answer.used))) → GaugeGives (capacity_of k) (laps_at k) begun (pass_of v) a.answer
-  gauge_keeps at v begun a e = gauge_gives (capacity_of k) (laps_at k) (passes_of k) v begun a.spare.index a.answer.closed a.answer.used e
+  pub gauge_keeps : (at : GaugeAt) (v : View T (SeatLine T)) (begun : PassView T) (a : Answered Gauge) → Ended (machine_at k) GaugeFirst v begun (At (ends a.kept.index (AnswerGauge a.reply.closed a.reply.used))) → GaugeGives (capacity_of k) (laps_at k) begun (pass_of v) a.reply
+  gauge_keeps at v begun a e = gauge_gives (capacity_of k) (laps_at k) (passes_of k) v begun a.kept.index a.reply.closed a.reply.used e
+
+  abbrev pub len_promises : Operation T → PassView T → PassView T → Answered ℕ → Type 0
+  len_promises o begun now a = LenGives (machine_at {T = T} k).core.shape begun now a.reply
+
+  pub len_keeps : (at : LenAt) (v : View T (SeatLine T)) (begun : PassView T) (a : Answered ℕ) → Ended (machine_at k) LenFirst v begun (At (ends a.kept.index (AnswerLen a.reply))) → LenGives (machine_at {T = T} k).core.shape begun (pass_of v) a.reply
+  len_keeps at v begun a e = len_gives (capacity_of k) (laps_at k) (passes_of k) v begun a.kept.index a.reply e

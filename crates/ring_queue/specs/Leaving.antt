@@ -1,7 +1,7 @@
 -- The values of a ring's rest that it has not given yet.
 use Rattle.std.specs.Prelude.{List}
 use Rattle.std.specs.Mem.Slots.{slots_items}
-use Rattle.ring_queue.specs.declared.rest.Rest.{Rest}
+use Rattle.ring_queue.specs.declared.life.rest.Rest.{Rest}
 use Rattle.ring_queue.specs.Left.{values_from}
 
 abbrev pub left_in : {T : Type 0} → Rest T → List T

@@ -1,5 +1,6 @@
 -- The names of a ring's steps, from its machine's table.
 use Rattle.std.specs.Prelude.{ℕ}
+use Rattle.bounded_model.specs.declared.commands.Operation.{Operation}
 use Rattle.bounded_model.specs.declared.commands.Operation.TheVariants as calls
 use Rattle.bounded_model.specs.declared.history.Event.{Event}
 use Rattle.ring_machine.specs.declared.lines.Front.TheVariants.{ToLook}
@@ -11,10 +12,11 @@ use Rattle.step_names.specs.declared.location.Location.{Location}
 use Rattle.step_names.specs.declared.location.Location.TheVariants as location
 use Rattle.step_names.specs.declared.step_name.StepName.{StepName}
 use Rattle.step_names.specs.Names.{IsNamed, Naming}
-use Rattle.ring_queue.specs.Closing.{mark_line}
-use Rattle.ring_queue.specs.Putting.{put_line}
-use Rattle.ring_queue.specs.Stepwise.{AnyOp}
-use Rattle.ring_queue.specs.Taking.{take_line}
+use Rattle.ring_queue.specs.Closing.{CloseOp, ShutOp, mark_line}
+use Rattle.ring_queue.specs.Looking.{LookOp}
+use Rattle.ring_queue.specs.Putting.{PutOp, put_line}
+use Rattle.ring_queue.specs.declared.life.ring.AnyOp.{AnyOp}
+use Rattle.ring_queue.specs.Taking.{TakeOp, take_line}
 use Rattle.ring_queue.specs.Walking.{Aim, to_back, to_front, walk_line}
 
 abbrev pub word_at : Place → Location
@@ -36,9 +38,12 @@ module _ {T : Type 0} where
   IsNextStep line name = (n limit : ℕ) → IsNamed (naming n limit) line name
 
   -- the next step of a call has this name
+  abbrev pub IsCallStep : Operation (PutOp T) (TakeOp T) (CloseOp T) (ShutOp T) (LookOp T) → StepName → Type 0
+  IsCallStep (calls.Put op) name = IsNextStep (put_line op.at) name
+  IsCallStep (calls.Take op) name = (n : ℕ) → IsNextStep (take_line n op.at) name
+  IsCallStep (calls.Close op) name = IsNextStep (mark_line op.at) name
+  IsCallStep (calls.Shut op) name = IsNextStep (mark_line op.at) name
+  IsCallStep (calls.Look op) name = IsNextStep (walk_line (to_front ToLook) op.at.at) name
+
   abbrev pub IsStep : AnyOp T → StepName → Type 0
-  IsStep (calls.Put op) name = IsNextStep (put_line op.at) name
-  IsStep (calls.Take op) name = (n : ℕ) → IsNextStep (take_line n op.at) name
-  IsStep (calls.Close op) name = IsNextStep (mark_line op.at) name
-  IsStep (calls.Shut op) name = IsNextStep (mark_line op.at) name
-  IsStep (calls.Look op) name = IsNextStep (walk_line (to_front ToLook) op.at.at) name
+  IsStep op name = IsCallStep op.call name

@@ -8,25 +8,25 @@ use Rattle.bounded_model.specs.declared.answers.PutRefused.TheVariants.{Full, Cl
 use Rattle.bounded_model.specs.declared.answers.Word.TheVariants.{Next as NextWord}
 use Rattle.ring_machine.specs.declared.lines.Answer.TheVariants.{Put as AnswerPut}
 use Rattle.ring_machine.specs.declared.lines.Back.TheVariants.{ToPut}
-use Rattle.ring_machine.specs.declared.lines.Call.TheVariants.{Put as CallPut}
 use Rattle.ring_machine.specs.declared.lines.Line.{Line}
 use Rattle.ring_machine.specs.declared.lines.Line.TheVariants.{FetchTail as FetchLine, PutCell, PassTail as PassLine, Stow as StowLine}
 use Rattle.ring_machine.specs.Machine.{ends}
 use Rattle.running.specs.Code.{Account, to_answer}
-use Rattle.running.specs.Ops.{IsUnderWay}
+use Rattle.bounded.specs.Bounded.{Makes}
 use Rattle.running.specs.Steps.{Stands, Ran}
 use Rattle.running.specs.declared.code.Next.{Next}
 use Rattle.running.specs.declared.op.Op.{Op}
 use Rattle.running.specs.declared.passes.Pass.{Pass}
-use Rattle.ring_table.specs.Lines.{call_of}
 use Rattle.ring_table.specs.declared.line.SeatLine.{SeatLine}
 use Rattle.ring_table.specs.declared.line.SeatLine.TheVariants.{At}
 use Rattle.ring_table.specs.declared.operation.Operation.{Operation}
-use Rattle.ring_table.specs.declared.operation.Operation.TheVariants.{Put as PutFirst}
-use Rattle.ring_queue.specs.declared.putting.PutAt.{PutAt}
-use Rattle.ring_queue.specs.declared.putting.PutAt.TheVariants.{FetchTail, Walking, Exchange, PassTail, Stow}
-use Rattle.ring_queue.specs.declared.queue.Answered.{Answered}
-use Rattle.ring_queue.specs.declared.queue.RingQueue.{RingQueue}
+use Rattle.bounded_model.specs.declared.commands.Command.TheVariants.{Put as PutCall}
+use Rattle.ring_queue.specs.Calls.{is_call, put_of}
+use Rattle.ring_queue.specs.declared.calls.putting.PutAt.{PutAt}
+use Rattle.ring_queue.specs.declared.calls.putting.PutAt.TheVariants.{FetchTail, Walking, Exchange, PassTail, Stow}
+use Rattle.ring_queue.specs.Ring.{Answered}
+use Rattle.bounded.specs.declared.bounded.Laid as laid
+use Rattle.ring_queue.specs.Ring.{RingQueue}
 use Rattle.ring_queue.specs.Limits.{laps_at}
 use Rattle.ring_queue.specs.Ring.{machine_of}
 use Rattle.ring_queue.specs.Walking.{to_back, walk_line, line_of, spare_at, IsRead, IsEnd, MayPass}
@@ -51,10 +51,6 @@ module _ {T : Type 0} where
       if mark_of slot then Closed v
       else if tag_of slot == 2 * tag_of at then Spent v (NextWord (index_of at)) (tag_of slot)
       else Full v
-
-  -- the operation of a put of x
-  abbrev pub put_of : T → Operation T
-  put_of x = PutFirst (record { marker = record {}; value = x })
 
   -- the value that is put
   abbrev pub refused_value : PutRefused T → T
@@ -94,17 +90,17 @@ module _ {T : Type 0} where
 
   -- how it is read
   abbrev pub put_account : Limits → Account T (SeatLine T) (Operation T) (PutAt T) (Answer T)
-  put_account k = to_answer (λ s. put_of (put_value s)) (λ s. At (put_line s)) put_slots (λ s. HasReadToPut (capacity_of k) (laps_at k) s) (λ o a. At (ends a.spare.index (AnswerPut a.answer)))
+  put_account k = to_answer (λ s. put_of (put_value s)) (λ s. At (put_line s)) put_slots (λ s. HasReadToPut (capacity_of k) (laps_at k) s) (λ o a. At (ends a.kept.index (AnswerPut a.reply)))
 
+module _ {T P : Type 0} {g : laid.Ghosts P T (SeatLine T) (Operation T)} where
   -- a put of x, by its operation: the put of the value that the operation has is a put of x too
-  pub record IsPutting (c : RingQueue T) (x : T) (op : PutOp T) : Type 0 where
-    pub of : call_of op.operation ≡ CallPut x
-    pub under_way : IsUnderWay (machine_of c) (put_account c.table.shared.key) c.table.shared.table_id op
+  abbrev pub IsPutting : RingQueue T P g → T → PutOp T → Type 0
+  IsPutting c x op = Makes (machine_of c) (put_account c.table.shared.key) c.table.shared.table_id (is_call (PutCall x)) op
 
   -- a whole call of this operation is at this
-  abbrev pub PutStands : RingQueue T → Operation T → Pass T (SeatLine T) → PutAt T → Type 0
+  abbrev pub PutStands : RingQueue T P g → Operation T → Pass T (SeatLine T) → PutAt T → Type 0
   PutStands c o p s = (o ≡ put_of (put_value s)) × Stands (machine_of c) (put_account c.table.shared.key) c.table.shared.table_id p s
 
   -- what some steps of it give
-  abbrev pub PutRan : RingQueue T → Operation T → Pass T (SeatLine T) → Pass T (SeatLine T) → Next (PutAt T) (Answer T) → Type 0
+  abbrev pub PutRan : RingQueue T P g → Operation T → Pass T (SeatLine T) → Pass T (SeatLine T) → Next (PutAt T) (Answer T) → Type 0
   PutRan c o p q r = Ran (machine_of c) (put_account c.table.shared.key) c.table.shared.table_id o p q r

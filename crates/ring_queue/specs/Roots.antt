@@ -1,24 +1,30 @@
 -- Which roots are a ring's, and what they have seen.
-use Rattle.std.specs.Prelude.{◌≡◌, ℕ, ◌≤◌, List, map, reverse, vec_capacity}
+use Rattle.std.specs.Prelude.{◌≡◌, ◌≤◌, Vec, vec_capacity}
+use Rattle.std.specs.declared.alloc.Global.{Global}
 use Rattle.bounded_model.specs.declared.views.RootView.{RootView}
-use Rattle.running.specs.Passes as passes
-use Rattle.ring_table.specs.Seats.{names}
+use Rattle.tagged_index.specs.Limits.{passes_of}
+use Rattle.tagged_index.specs.declared.limit.Limits.{Limits}
+use Rattle.bounded.specs.Bounded as bounded
+use Rattle.bounded.specs.declared.bounded.Laid as laid
+use Rattle.bounded.specs.declared.passes.Root as roots
+use Rattle.ring_table.specs.declared.line.SeatLine.{SeatLine}
 use Rattle.ring_table.specs.declared.line.SeatLine.TheVariants.{Stock}
-use Rattle.ring_queue.specs.declared.roots.Root.{Root}
-use Rattle.ring_queue.specs.declared.queue.RingQueue.{RingQueue}
-use Rattle.ring_queue.specs.declared.spare.Spare.{Spare}
-use Rattle.ring_queue.specs.Ring.{machine_of, passes_of}
+use Rattle.ring_table.specs.declared.operation.Operation.{Operation}
+use Rattle.ring_queue.specs.declared.life.spare.Spare.{Spare}
+use Rattle.ring_queue.specs.Ring.{RingQueue, cells_of, machine_of}
 
--- the spare cells that a root has, in the order in which it gives them: the last first
-abbrev pub cells_of : List Spare → List ℕ
-cells_of spares = map (λ s. s.index) (reverse spares)
+-- its line says which spare cells a root has
+pub record Stocks {T : Type 0} (k : Limits) (l : SeatLine T) (stock : Vec Spare Global) : Type 0 where
+  pub is : l ≡ Stock (cells_of stock.items)
+  pub room : passes_of k ≤ vec_capacity stock
 
-module _ {T : Type 0} where
-  -- a root between its calls: its seat says which spare cells it has
-  pub record IsRootOf (c : RingQueue T) (r : Root T) : Type 0 where
-    pub on : passes.IsRootOn (machine_of c) c.table.shared.table_id r.root
-    pub stock : passes.root_line names r.root ≡ Stock (cells_of r.spares.items)
-    pub room : passes_of c ≤ vec_capacity r.spares
+abbrev pub Root : Type 0 → Type 0
+Root T = roots.Root T (SeatLine T) (Vec Spare Global)
 
-  abbrev pub root_in : Root T → RootView T
-  root_in r = passes.root_in r.root
+module _ {T P : Type 0} {g : laid.Ghosts P T (SeatLine T) (Operation T)} where
+  -- a root between its calls
+  abbrev pub IsRootOf : RingQueue T P g → Root T → Type 0
+  IsRootOf c r = bounded.IsRootAt (machine_of c) (Stocks c.table.shared.key) c.table.shared.table_id r
+
+abbrev pub root_in : {T : Type 0} → Root T → RootView T
+root_in r = bounded.root_in r

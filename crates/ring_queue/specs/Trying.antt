@@ -8,14 +8,17 @@ use Rattle.bounded_model.specs.declared.views.PassView.{PassView}
 use Rattle.bounded_model.specs.Laws.{LookGives, PutGives, TakeGives}
 use Rattle.bounded_model.specs.Stepping.{MatchStepped}
 use Rattle.running.specs.Passes.{begun_of}
-use Rattle.ring_queue.specs.declared.queue.Pass.{Pass}
-use Rattle.ring_queue.specs.declared.queue.RingQueue.{RingQueue}
+use Rattle.ring_queue.specs.Ring.{Pass}
+use Rattle.bounded.specs.declared.bounded.Laid as laid
+use Rattle.ring_table.specs.declared.operation.Operation.{Operation}
+use Rattle.ring_table.specs.declared.line.SeatLine.{SeatLine}
+use Rattle.ring_queue.specs.Ring.{RingQueue}
 use Rattle.ring_queue.specs.Looking.{IsLooking, LookOp}
 use Rattle.ring_queue.specs.Putting.{IsPutting, PutOp}
 use Rattle.ring_queue.specs.Ring.{machine_of, shape_of, pass_in, IsPassOf}
 use Rattle.ring_queue.specs.Taking.{IsTaking, TakeOp}
 
-module _ {T : Type 0} (c : RingQueue T) where
+module _ {T P : Type 0} {g : laid.Ghosts P T (SeatLine T) (Operation T)} (c : RingQueue T P g) where
   abbrev pub PutTried : T → PassView T → Stepped (PutOp T) (Pass T) (Result ℕ (PutRefused T)) → Type 0
   PutTried x begun made = MatchStepped made
       (λ next. IsPutting c x next × (begun_of (machine_of c) next.pass ≡ begun))

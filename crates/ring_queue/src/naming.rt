@@ -6,14 +6,16 @@ ghost use Rattle.ring_queue.specs.Putting.{put_line};
 ghost use Rattle.ring_queue.specs.Taking.{take_line};
 ghost use Rattle.ring_queue.specs.Walking.{Aim, walk_line};
 
-use crate::closing::{Mark, MarkAt};
-use crate::putting::PutAt;
-use crate::queue::RingQueue;
-use crate::stepwise::AnyOp;
-use crate::taking::TakeAt;
-use crate::walking::WalkAt;
-use bounded_model::Operation;
-use step_names::{Location, Named, StepName};
+use crate::call_parts::walking::WalkAt;
+use crate::calls::closing::{Mark, MarkAt};
+use crate::calls::putting::PutAt;
+use crate::calls::taking::TakeAt;
+use crate::life::ring::{AnyOp, RingQueue};
+use crate::rule::Ringed;
+use bounded::NamesSteps;
+use bounded_model::Operation as AnyCall;
+use ring_table::{Operation, SeatLine};
+use step_names::{Location, StepName};
 
 // The next step of a walk from this hint.
 fn walk_step<T>(hint: Location, at: &WalkAt) -> StepName
@@ -73,16 +75,16 @@ fn mark_name<T>(at: &MarkAt) -> StepName
     }
 }
 
-impl<T: Drop + Send> Named<T> for RingQueue<T> {
+impl<T: Drop + Send> NamesSteps<RingQueue<T>, T, SeatLine<T>, Operation<T>, Ringed, 0> for Ringed {
     ghost is_step = { IsStep };
 
     fn step_name(op: &AnyOp<T>) -> StepName {
-        match op {
-            Operation::Put(op) => put_name::<T>(&op.at),
-            Operation::Take(op) => take_name::<T>(&op.at),
-            Operation::Close(op) => mark_name::<T>(&op.at),
-            Operation::Shut(op) => mark_name::<T>(&op.at),
-            Operation::Look(op) => walk_step::<T>(Location::Head, &op.at.at),
+        match &op.call {
+            AnyCall::Put(op) => put_name::<T>(&op.at),
+            AnyCall::Take(op) => take_name::<T>(&op.at),
+            AnyCall::Close(op) => mark_name::<T>(&op.at),
+            AnyCall::Shut(op) => mark_name::<T>(&op.at),
+            AnyCall::Look(op) => walk_step::<T>(Location::Head, &op.at.at),
         }
     }
 }

@@ -6,6 +6,7 @@ ghost use Rattle.ring_queue.specs.Counting.{IsCounting};
 ghost use Rattle.ring_queue.specs.Ring.{IsPassOf};
 ghost use Rattle.ring_queue.specs.Stepwise.{IsMakingCall};
 
+use crate::doing::count_on;
 use bounded_model::{Command, Reply, Stepped, Stepwise};
 use ring_queue::{AnyOp, LenOp, Pass, RingQueue};
 use std::process::Abort;
@@ -44,7 +45,7 @@ pub(crate) fn count_for<R: Abort>(
     requires { IsCounting ring.now op }
     ensures { IsCounting ring.now result }
 {
-    let Stepped::Again(next) = ring.run_for(op, steps) else {
+    let Stepped::Again(next) = count_on(ring, op, steps) else {
         panic!(rt; "the count ended early")
     };
     next
@@ -78,7 +79,7 @@ pub(crate) fn count_to_the_end<R: Abort>(
     requires { IsCounting ring.now op }
     ensures { IsPassOf ring.now result.0 }
 {
-    let Stepped::Done(pass, count) = ring.run_for(op, u64::from(MOST)) else {
+    let Stepped::Done(pass, count) = count_on(ring, op, u64::from(MOST)) else {
         panic!(rt; "the count does not end")
     };
     (pass, count)

@@ -1,11 +1,13 @@
 //! What the passes of a ring do: nothing, or a call by single steps.
 
+ghost use Rattle.bounded_model.specs.Stepping.{MatchStepped};
+ghost use Rattle.ring_queue.specs.Counting.{IsCounting};
 ghost use Rattle.ring_queue.specs.Ring.{IsPassOf};
 ghost use Rattle.ring_tests.specs.Doing.{IsDoing};
 
 use crate::plain::{Asked, Reply};
 use bounded_model::{Command, Stepped, Stepwise};
-use ring_queue::{AnyOp, LenOp, Pass, RingQueue};
+use ring_queue::{AnyOp, LenOp, Pass, RingQueue, begin_len};
 
 /// A pass between its calls, or its call under way.
 #[derive(Drop)]
@@ -26,7 +28,7 @@ pub(crate) fn begun(ring: &RingQueue<u64>, pass: Pass<u64>, asked: Asked) -> Doi
         Asked::Close => Command::Close,
         Asked::Shut => Command::Shut,
         Asked::Look => Command::Look,
-        Asked::Count => return Doing::Counts(ring.begin_len(pass)),
+        Asked::Count => return Doing::Counts(begin_len(ring, pass)),
     };
     Doing::Calls(ring.begin(pass, command))
 }
@@ -42,9 +44,28 @@ pub(crate) fn stepped(ring: &RingQueue<u64>, doing: Doing) -> (Doing, Option<Rep
             Stepped::Again(next) => (Doing::Calls(next), None),
             Stepped::Done(pass, said) => (Doing::Rests(pass), Some(Reply::of(said))),
         },
-        Doing::Counts(op) => match ring.run_for(op, 1) {
+        Doing::Counts(op) => match count_on(ring, op, 1) {
             Stepped::Again(next) => (Doing::Counts(next), None),
             Stepped::Done(pass, count) => (Doing::Rests(pass), Some(Reply::Counted(count))),
         },
+    }
+}
+
+/// Makes at most this number of steps of a count.
+pub(crate) fn count_on(
+    ring: &RingQueue<u64>,
+    op: LenOp<u64>,
+    steps: u64,
+) -> Stepped<LenOp<u64>, Pass<u64>, u64>
+    requires { IsCounting ring.now op }
+    ensures { MatchStepped result (λ next. IsCounting ring.now next)
+        (λ back count. IsPassOf ring.now back) }
+{
+    match op.run_for(ring, steps) {
+        Stepped::Again(next) => Stepped::Again(next),
+        Stepped::Done(pass, answered) => {
+            let kept = answered.kept;
+            Stepped::Done(Pass { pass, kept }, answered.reply)
+        }
     }
 }

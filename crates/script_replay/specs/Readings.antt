@@ -1,36 +1,45 @@
 -- How a queue's and a stack's roots, passes and operations are read.
 use Rattle.std.specs.Prelude.{ℕ, List}
-use Rattle.queue_machine.specs.declared.lines.Line as of_queue
-use Rattle.stack_machine.specs.declared.lines.Line as of_stack
-use Rattle.running.specs.declared.passes.Pass.{Pass}
-use Rattle.running.specs.declared.passes.Root.{Root}
-use Rattle.running.specs.Passes.{pass_in, root_in}
-use Rattle.ms_queue.specs.declared.queue.Queue.{Queue}
+use Rattle.tagged_index.specs.Limits.{capacity_of}
+use Rattle.bounded_model.specs.declared.container.TheConstants.{MAX_PASSES}
+use Rattle.queue_table.specs.Layout as of_queue
+use Rattle.stack_table.specs.Layout as of_stack
+use Rattle.ms_queue.specs.declared.rule.Queued.{Queued}
 use Rattle.ms_queue.specs.Queue as queue
 use Rattle.ms_queue.specs.Stepwise as queue_steps
-use Rattle.treiber_stack.specs.declared.stack.Stack.{Stack}
+use Rattle.ms_queue.specs.declared.life.queue.AnyOp as queue_op
+use Rattle.treiber_stack.specs.declared.rule.Stacked.{Stacked}
 use Rattle.treiber_stack.specs.Stack as stack
 use Rattle.treiber_stack.specs.Stepwise as stack_steps
+use Rattle.treiber_stack.specs.declared.life.stack.AnyOp as stack_op
 use Rattle.player.specs.Shows.{Reading}
 
-abbrev pub queue_reading : Queue (List ℕ) → Reading (Root (List ℕ) (of_queue.Line (List ℕ))) (Pass (List ℕ) (of_queue.Line (List ℕ))) (queue_steps.AnyOp (List ℕ))
+-- a queue of texts; the record says how large its table is, as `impl Laid for Queued` does
+abbrev pub Queue : Type 0
+Queue = queue.Queue (List ℕ) Queued (record { words_for = λ k. of_queue.words_for (capacity_of k); slots_for = λ k. capacity_of k; passes_for = λ k. MAX_PASSES })
+
+abbrev pub queue_reading : Queue → Reading (queue.Root (List ℕ)) (queue.Pass (List ℕ)) (queue_op.AnyOp (List ℕ))
 queue_reading c = record {
   shape = queue.shape_of c;
   is_root = queue.IsRootOf c;
-  root = root_in;
+  root = queue.root_in;
   is_pass = queue.IsPassOf c;
-  pass = pass_in;
+  pass = queue.pass_in;
   is_making = queue_steps.IsMakingCall c;
   made = queue_steps.making;
 }
 
-abbrev pub stack_reading : Stack (List ℕ) → Reading (Root (List ℕ) (of_stack.Line (List ℕ))) (Pass (List ℕ) (of_stack.Line (List ℕ))) (stack_steps.AnyOp (List ℕ))
+-- and a stack
+abbrev pub Stack : Type 0
+Stack = stack.Stack (List ℕ) Stacked (record { words_for = λ k. of_stack.words_for (capacity_of k); slots_for = λ k. capacity_of k; passes_for = λ k. MAX_PASSES })
+
+abbrev pub stack_reading : Stack → Reading (stack.Root (List ℕ)) (stack.Pass (List ℕ)) (stack_op.AnyOp (List ℕ))
 stack_reading c = record {
   shape = stack.shape_of c;
   is_root = stack.IsRootOf c;
-  root = root_in;
+  root = stack.root_in;
   is_pass = stack.IsPassOf c;
-  pass = pass_in;
+  pass = stack.pass_in;
   is_making = stack_steps.IsMakingCall c;
   made = stack_steps.making;
 }

@@ -9,9 +9,7 @@ use Rattle.bounded_model.specs.declared.history.Order.{Order}
 use Rattle.bounded_model.specs.declared.history.Order.TheVariants.{Fifo, Lifo}
 use Rattle.bounded_model.specs.Laws.{fresh}
 use Rattle.bounded_model.specs.Machine.{Shape}
-use Rattle.ms_queue.specs.declared.queue.Queue.{Queue}
 use Rattle.ms_queue.specs.Naming as queue_naming
-use Rattle.treiber_stack.specs.declared.stack.Stack.{Stack}
 use Rattle.treiber_stack.specs.Naming as stack_naming
 use Rattle.player.specs.Plays.{start}
 use Rattle.player.specs.Shows.{Reading}
@@ -21,7 +19,7 @@ use Rattle.script.specs.Script.{Head, IsScript, text_of}
 use Rattle.script.specs.declared.answer.Answer.{Answer}
 use Rattle.script.specs.declared.line.Line.{Line}
 use Rattle.script_replay.specs.Outcome.{IsOutputFor}
-use Rattle.script_replay.specs.Readings.{queue_reading, stack_reading}
+use Rattle.script_replay.specs.Readings.{Queue, Stack, queue_reading, stack_reading}
 use Rattle.step_names.specs.declared.step_name.StepName.{StepName}
 
 -- the shape of a script's container
@@ -35,8 +33,8 @@ IsPlayedOn r is_step lines output trace = (answers : List Answer) × PlaysTraced
 
 -- on a new queue, or on a new stack
 abbrev pub IsTracedIn : Order → Head → List Line → List ℕ → List (List ℕ) → Type 0
-IsTracedIn Fifo head lines output trace = (queue : Queue (List ℕ)) × ((queue_reading queue).shape ≡ shape_for Fifo head) × IsPlayedOn (queue_reading queue) queue_naming.IsStep lines output trace
-IsTracedIn Lifo head lines output trace = (stack : Stack (List ℕ)) × ((stack_reading stack).shape ≡ shape_for Lifo head) × IsPlayedOn (stack_reading stack) stack_naming.IsStep lines output trace
+IsTracedIn Fifo head lines output trace = (queue : Queue) × ((queue_reading queue).shape ≡ shape_for Fifo head) × IsPlayedOn (queue_reading queue) queue_naming.IsStep lines output trace
+IsTracedIn Lifo head lines output trace = (stack : Stack) × ((stack_reading stack).shape ≡ shape_for Lifo head) × IsPlayedOn (stack_reading stack) stack_naming.IsStep lines output trace
 
 abbrev pub IsTracedOf : Head → List Line → List ℕ → List (List ℕ) → Type 0
 IsTracedOf head lines output trace = IsTracedIn head.order head lines output trace

@@ -14,13 +14,12 @@
 #![tactic(auto)]
 
 mod answer;
+mod called;
 mod fault;
 mod input;
 mod output;
 mod queue;
-mod ranges;
 mod replaying;
-mod scripted;
 mod stack;
 
 pub use fault::ReplayFault;

@@ -2,6 +2,7 @@
 
 ghost use Rattle.std.specs.Prelude.{◌≡◌, IfOk, IsTrue, string_bytes, true, false};
 ghost use Rattle.std.specs.List.{AllByRecursion};
+ghost use Rattle.bounded_model.specs.Laws.{fresh};
 ghost use Rattle.bounded_model.specs.declared.history.Order.TheVariants.{Lifo};
 ghost use Rattle.script_replay.specs.Calls.{AddsOne, numbered};
 ghost use Rattle.player.specs.Traces.{Adds, lines_in};
@@ -10,18 +11,87 @@ ghost use Rattle.script_replay.specs.Traced.{IsTracedIn};
 ghost use Rattle.player.specs.Plays.{FoldTold, RangeTold, range_reply};
 ghost use Rattle.script.specs.Script.{FinishesLast, IsLine, is_allowed};
 ghost use Rattle.script.specs.View.{head_view};
-ghost use Rattle.treiber_stack.specs.Stack.{IsPassOf, pass_in, shape_of};
+ghost use Rattle.bounded_model.specs.Stepping.{no_step};
+ghost use Rattle.player.specs.Shows.{CallBy};
+ghost use Rattle.script_replay.specs.Readings.{stack_reading};
+ghost use Rattle.treiber_stack.specs.Stack.{IsPassOf, IsRootOf, pass_in, root_in, shape_of};
+ghost use Rattle.treiber_stack.specs.Stepwise.{IsMakingCall, making};
 
-use crate::ranges::Ranges;
-use crate::scripted::Scripted;
-use bounded_model::{Bulk, Folded, MakeRefused, RangeRefused, Ranged, TakeRefused};
-use player::{Trace, play};
+use crate::called::called;
+use bounded_model::{
+    Command, Container, Folded, MakeRefused, RangeRefused, Ranged, Reply, Stepped, Stepwise,
+    TakeRefused,
+};
+use player::{Played, Trace, play};
 use script::{RangeReply, Script, Value, ValueList, Values};
 use std::alloc::{AllocError, Global};
 use std::sync::Wait;
-use treiber_stack::{Pass, Stack};
+use step_names::{Named, StepName};
+use tagged_index::Limits;
+use treiber_stack::{
+    AnyOp, Note, Pass, Rest, Root, Stack, fold_all_atomic, fold_all_atomic_reversed, put_range,
+};
 
-impl<'a> Ranges<'a> for Stack<Value<'a>> {
+/// A stack of values, as the player sees it.
+#[derive(Drop)]
+pub(crate) struct PlayedStack<'a> {
+    pub(crate) stack: Stack<Value<'a>>,
+}
+
+impl<'a> Played<'a> for PlayedStack<'a> {
+    ghost use Rattle.treiber_stack.specs.Naming.{IsStep};
+    ghost use Rattle.script_replay.specs.Readings.{stack_reading};
+
+    type Root = Root<Value<'a>>;
+
+    type Pass = Pass<Value<'a>>;
+
+    type Operation = AnyOp<Value<'a>>;
+
+    type Note = Note<Value<'a>>;
+
+    type Rest = Rest<Value<'a>>;
+
+    ghost reading = { λ c. stack_reading c.stack };
+
+    ghost is_step = { IsStep };
+
+    fn split(&self, parent: &mut Root<Value<'a>>) -> Option<Pass<Value<'a>>> {
+        self.stack.split(parent)
+    }
+
+    fn call<R: Wait>(
+        &self,
+        rt: &R,
+        by: Pass<Value<'a>>,
+        command: Command<Value<'a>>,
+    ) -> (Pass<Value<'a>>, Reply<Value<'a>>)
+        requires { IsPassOf self.now.stack by }
+        ensures of { IsPassOf self.now.stack result.0 }
+        ensures gives { CallBy (stack_reading self.now.stack) by.entry command.entry result }
+    {
+        called!(self.stack, rt, by, command)
+    }
+
+    fn begin(&self, by: Pass<Value<'a>>, command: Command<Value<'a>>) -> AnyOp<Value<'a>>
+        requires { IsPassOf self.now.stack by }
+        ensures making { IsMakingCall self.now.stack command.entry result }
+        ensures begun { making result ≡ no_step (pass_in by.entry) }
+    {
+        self.stack.begin(by, command)
+    }
+
+    fn step(
+        &self,
+        operation: AnyOp<Value<'a>>,
+    ) -> Stepped<AnyOp<Value<'a>>, Pass<Value<'a>>, Reply<Value<'a>>> {
+        self.stack.step(operation)
+    }
+
+    fn step_name(operation: &AnyOp<Value<'a>>) -> StepName {
+        Stack::<Value<'a>>::step_name(operation)
+    }
+
     fn range<R: Wait>(
         &self,
         rt: &R,
@@ -29,7 +99,7 @@ impl<'a> Ranges<'a> for Stack<Value<'a>> {
         by: Pass<Value<'a>>,
         values: Values<'a>,
     ) -> Result<(Pass<Value<'a>>, RangeReply, ValueList<'a>), AllocError> {
-        put_values(self, rt, alloc, by, values)
+        put_values(&self.stack, rt, alloc, by, values)
     }
 
     fn fold<R: Wait>(
@@ -40,10 +110,26 @@ impl<'a> Ranges<'a> for Stack<Value<'a>> {
         reversed: bool,
     ) -> Result<(Pass<Value<'a>>, Result<(u64, ValueList<'a>), TakeRefused>), AllocError> {
         if reversed {
-            fold_up(self, rt, alloc, by)
+            fold_up(&self.stack, rt, alloc, by)
         } else {
-            fold_down(self, rt, alloc, by)
+            fold_down(&self.stack, rt, alloc, by)
         }
+    }
+
+    fn meet(
+        &self,
+        first: &mut Pass<Value<'a>>,
+        second: Pass<Value<'a>>,
+    ) -> (Pass<Value<'a>>, bool) {
+        self.stack.meet(first, second)
+    }
+
+    fn join(&self, parent: &mut Root<Value<'a>>, by: Pass<Value<'a>>) {
+        self.stack.join(parent, by);
+    }
+
+    fn finish(self, parent: Root<Value<'a>>) -> Rest<Value<'a>> {
+        self.stack.finish(parent)
     }
 }
 
@@ -74,7 +160,7 @@ fn put_values<'a, R: Wait>(
         (pass_in by.entry) (pass_in done.0) values.entry done.1 done.2) }
 {
     let mut places = values.to_places(alloc)?;
-    let (pass, answer) = stack.put_range(rt, by, &mut places);
+    let (pass, answer) = put_range(stack, rt, by, &mut places);
     let reply = reply_of(answer);
     Ok((pass, reply, ValueList::left_in(places)))
 }
@@ -116,7 +202,7 @@ fn fold_down<'a, R: Wait>(
     ensures gives { IfOk result
         (λ done. FoldTold (shape_of stack.now) false (pass_in by.entry) (pass_in done.0) done.1) }
 {
-    let (pass, values, answer) = stack.fold_all_atomic(rt, by, Ok(ValueList::new(alloc)), pushed);
+    let (pass, values, answer) = fold_all_atomic(stack, rt, by, Ok(ValueList::new(alloc)), pushed);
     Ok((pass, numbered(values?, answer)))
 }
 
@@ -132,13 +218,25 @@ fn fold_up<'a, R: Wait>(
     ensures gives { IfOk result
         (λ done. FoldTold (shape_of stack.now) true (pass_in by.entry) (pass_in done.0) done.1) }
 {
-    let (pass, values, answer) = stack.fold_all_atomic_reversed(
+    let (pass, values, answer) = fold_all_atomic_reversed(
+        stack,
         rt,
         by,
         Ok(ValueList::new(alloc)),
         pushed,
     );
     Ok((pass, numbered(values?, answer)))
+}
+
+// A new stack, as `new_queue` makes a queue.
+fn new_stack<'a>(
+    alloc: Global,
+    limits: Limits,
+) -> Result<(Stack<Value<'a>>, Root<Value<'a>>), MakeRefused>
+    ensures { IfOk result (λ made. (made.0.table.shared.key ≡ limits) × IsRootOf made.0 made.1
+        × (root_in made.1 ≡ fresh)) }
+{
+    Stack::new(alloc, limits)
 }
 
 /// Plays a stack's script, and adds its steps to the trace. `NoMemory` if memory ran out for the
@@ -159,7 +257,7 @@ pub(crate) fn play_stack<R: Wait>(
         (string_bytes output))) }
 {
     let Script { header, lines } = script;
-    let (stack, root) = Stack::new(alloc, header.limits)?;
-    let container = Scripted { container: stack };
+    let (stack, root) = new_stack(alloc, header.limits)?;
+    let container = PlayedStack { stack };
     Ok(play(rt, alloc, container, root, lines, trace)?)
 }

@@ -10,11 +10,12 @@ use Rattle.bounded_model.specs.contracts.commands.Operation as any
 use Rattle.running.specs.contracts.op.Op as op
 use Rattle.stack_machine.specs.contracts.lines.Line as line
 use Rattle.stack_table.specs.contracts.operation.Operation as operation
-use Rattle.treiber_stack.specs.contracts.closing.MarkAt as mark_at
-use Rattle.treiber_stack.specs.contracts.looking.LookAt as look_at
-use Rattle.treiber_stack.specs.contracts.putting.PutAt as put_at
-use Rattle.treiber_stack.specs.contracts.rest.Rest as rest
-use Rattle.treiber_stack.specs.contracts.taking.TakeAt as take_at
+use Rattle.treiber_stack.specs.contracts.life.stack.AnyOp as own_op
+use Rattle.treiber_stack.specs.contracts.calls.closing.MarkAt as mark_at
+use Rattle.treiber_stack.specs.contracts.calls.looking.LookAt as look_at
+use Rattle.treiber_stack.specs.contracts.calls.putting.PutAt as put_at
+use Rattle.treiber_stack.specs.contracts.life.rest.Rest as rest
+use Rattle.treiber_stack.specs.contracts.calls.taking.TakeAt as take_at
 
 pub rest_send : (T : RattleType) → IsSend T → IsSend (rest.the_row T)
 rest_send T s = search (sendable, row_send, lease_send, heap_send) depth 20
@@ -34,8 +35,12 @@ in_send : (T A : RattleType) → IsSend T → IsSend A → IsSend (op_in T A)
 in_send T A s a = declared_send (op.the_type T (line.the_row T) (operation.the_row T) A) (search (sendable, seat_send) depth 30, (search sendable depth 20, (as_row_send (row_field A) a, tt)))
 
 -- a close and a shut have the same states
-pub op_send : (T : RattleType) → IsSend T → IsSend (any.the_row (op_in T (put_at.the_row T)) (op_in T (take_at.the_row T)) (op_in T mark_at.the_row) (op_in T mark_at.the_row) (op_in T look_at.the_row))
-op_send T s =
+calls_send : (T : RattleType) → IsSend T → IsSend (any.the_row (op_in T (put_at.the_row T)) (op_in T (take_at.the_row T)) (op_in T mark_at.the_row) (op_in T mark_at.the_row) (op_in T look_at.the_row))
+calls_send T s =
     let mark : IsSend (op_in T mark_at.the_row) = in_send T mark_at.the_row s (search sendable depth 30) in
     variants_send (any.enum (op_in T (put_at.the_row T)) (op_in T (take_at.the_row T)) (op_in T mark_at.the_row) (op_in T mark_at.the_row) (op_in T look_at.the_row))
     ((in_send T (put_at.the_row T) s (put_at_send T s), tt), ((in_send T (take_at.the_row T) s (take_at_send T s), tt), ((mark, tt), ((mark, tt), ((in_send T look_at.the_row s (search sendable depth 30), tt), tt)))))
+
+-- an operation, whichever call it makes
+pub op_send : (T : RattleType) → IsSend T → IsSend (own_op.the_row T)
+op_send T s = declared_send (own_op.the_type T) (as_row_send (row_field (any.the_row (op_in T (put_at.the_row T)) (op_in T (take_at.the_row T)) (op_in T mark_at.the_row) (op_in T mark_at.the_row) (op_in T look_at.the_row))) (calls_send T s), tt)

@@ -24,28 +24,29 @@ use Rattle.stack_table.specs.Lines.{direction, names, next}
 use Rattle.stack_table.specs.Slots.{full}
 use Rattle.stack_table.proofs.Slots.{length_in_order, values_full}
 use Rattle.running.specs.Code.{Finding, Leads}
+use Rattle.running.specs.Passes.{pass_in}
 use Rattle.running.specs.Going.{Ended}
 use Rattle.running.specs.Steps.{Stops, StopsAt}
 use Rattle.running.specs.declared.passes.Pass.{Pass}
 use Rattle.running.specs.declared.access.Outcome.{Outcome}
 use Rattle.running.specs.declared.code.Next.{Next}
 use Rattle.running.specs.declared.code.Next.TheVariants.{Done}
-use Rattle.treiber_stack.specs.declared.stack.Stack.{Stack}
-use Rattle.treiber_stack.specs.declared.fold_op.FoldMade.TheVariants.{Value, Done as Done'}
-use Rattle.treiber_stack.specs.declared.folding.Batch.{Batch}
-use Rattle.treiber_stack.specs.declared.folding.FoldAt.{FoldAt}
-use Rattle.treiber_stack.specs.declared.folding.FoldAt.TheVariants.{Load, TakeAll, LoadToTurn, TurnLink, LoadToFold, GiveBack}
-use Rattle.treiber_stack.specs.declared.folding.FoldStop.{FoldStop}
-use Rattle.treiber_stack.specs.declared.folding.FoldStop.TheVariants.{Yields, Ended as AllGone, Refused}
-use Rattle.treiber_stack.specs.declared.giving.Chain.{Chain}
-use Rattle.treiber_stack.specs.declared.giving.Give.{Give}
+use Rattle.bounded.specs.declared.bounded.Laid as laid
+use Rattle.treiber_stack.specs.declared.bulk.fold_op.FoldMade.TheVariants.{Value, Done as Done'}
+use Rattle.treiber_stack.specs.declared.bulk.folding.Batch.{Batch}
+use Rattle.treiber_stack.specs.declared.bulk.folding.FoldAt.{FoldAt}
+use Rattle.treiber_stack.specs.declared.bulk.folding.FoldAt.TheVariants.{Load, TakeAll, LoadToTurn, TurnLink, LoadToFold, GiveBack}
+use Rattle.treiber_stack.specs.declared.bulk.folding.FoldStop.{FoldStop}
+use Rattle.treiber_stack.specs.declared.bulk.folding.FoldStop.TheVariants.{Yields, Ended as AllGone, Refused}
+use Rattle.treiber_stack.specs.declared.call_parts.giving.Chain.{Chain}
+use Rattle.treiber_stack.specs.declared.call_parts.giving.Give.{Give}
 use Rattle.treiber_stack.specs.Folding.{fold_account, nodes_of, folded_of, folding, front_of, gone, fold_line, fold_slots, HasReadToFold, FoldTold}
 use Rattle.treiber_stack.specs.FoldOp.{FoldOp, IsFolding, FoldTried}
 use Rattle.treiber_stack.specs.Giving.{GaveTo}
 use Rattle.treiber_stack.specs.Ran.{FoldAnswers, WasRun}
 use Rattle.treiber_stack.specs.Refusing.{RefusesTake}
-use Rattle.treiber_stack.specs.Stack.{room_of, limit_of, machine_of, shape_of, pass_in, begun_of, IsAt}
-use Rattle.treiber_stack.proofs.Closes.{adds_of}
+use Rattle.treiber_stack.specs.Stack.{Stack, as_pass, room_of, limit_of, machine_of, shape_of, begun_of, IsAt}
+use Rattle.treiber_stack.specs.KeepsAnswers.{adds_of}
 use Rattle.treiber_stack.proofs.Gives.{busy_giving, within, gave_within}
 
 -- one value more is folded
@@ -56,15 +57,15 @@ Folds_more Gives s (y ∷ ys) r t x folds next = (folds.0, folds.1, Folds_more G
 pub folds_same : {T S : Type 0} (Gives : S → T → S → Type 0) (s : S) (xs ys : List T) (r : S) → xs ≡ ys → Folds Gives s xs r → Folds Gives s ys r
 folds_same Gives s xs ys r e folds = subst (λ (zs : List _). Folds Gives s zs r) e folds
 
-module _ {T : Type 0} (c : Stack T) (front : Front) {v : View T (Line T)} {begun : PassView T} where
+module _ {T P : Type 0} {g : laid.Ghosts P T (Line T) (Operation T)} (c : Stack T P g) (front : Front) {v : View T (Line T)} {begun : PassView T} where
   pub fold_gives : (folded : List T) (t : ℕ) (e : Ended (machine_of c) (FoldFirst front) v begun (ends (AnswerFold (Ok (folded, t))))) → FoldGives begun (pass_of v) e.deeds.made.values t
   fold_gives folded t e =
       let made = e.deeds.made in
       let vs = made.values in
-      adds_of c e (Free begun.number (length vs) ∷ TakeAllEvent begun.number vs t ∷ []) (made.is ∙ ap (λ (k : ℕ). Free k (length vs) ∷ TakeAllEvent k vs t ∷ []) e.number)
+      adds_of c.table.shared.key e (Free begun.number (length vs) ∷ TakeAllEvent begun.number vs t ∷ []) (made.is ∙ ap (λ (k : ℕ). Free k (length vs) ∷ TakeAllEvent k vs t ∷ []) e.number)
 
   pub takes_nothing : (why : TakeRefused) → Ended (machine_of c) (FoldFirst front) v begun (ends (AnswerFold (Err why))) → TakesNothing (shape_of c) begun (pass_of v) why
-  takes_nothing why e = (adds_of c e [] (made_no_fold (pass_of v).number (own (pass_of v).number e.deeds.between) (CallTake (Whole (direction front))) why e.deeds.made), e.tells)
+  takes_nothing why e = (adds_of c.table.shared.key e [] (made_no_fold (pass_of v).number (own (pass_of v).number e.deeds.between) (CallTake (Whole (direction front))) why e.deeds.made), e.tells)
 
 -- the operation of a fold says which end it goes from
 pub front_same : {T : Type 0} (f g : Front) → ◌≡◌ {A = Operation T} (FoldFirst f) (FoldFirst g) → f ≡ g
@@ -84,7 +85,7 @@ fold_busy (LoadToFold b walk) = refl
 fold_busy (GiveBack b chain n at) = busy_giving (folding b (nodes_of b)) at
 
 -- where the code of a fold goes on
-module _ {T : Type 0} (c : Stack T) where
+module _ {T P : Type 0} {g : laid.Ghosts P T (Line T) (Operation T)} (c : Stack T P g) where
   abbrev pub FoldsTo : FoldAt T → List (ℕ × Slot T) → Next (FoldAt T) (FoldStop T) → Line T → Type 0
   FoldsTo s has to l = Leads names (fold_account c.table.shared.key) s l has to
 
@@ -101,7 +102,7 @@ module _ {T : Type 0} (c : Stack T) where
       (gave_within c (fold_account c.table.shared.key) (folding b (nodes_of b)) (GiveBack b chain n) (AllGone b n) (GiveBack b chain n at)
       (λ at'. refl) (λ at'. refl) (λ at'. refl) (λ at'. subst (HasReadToFold (room_of c) (limit_of c)) is knows) refl at r has to gave)
 
-module _ {T : Type 0} (c : Stack T) where
+module _ {T P : Type 0} {g : laid.Ghosts P T (Line T) (Operation T)} (c : Stack T P g) where
   abbrev pub FoldStops : Front → PassView T → Pass T (Line T) → FoldStop T → Type 0
   FoldStops front begun q stop = Stops (machine_of c) (fold_account c.table.shared.key) c.table.shared.table_id (FoldFirst front) begun q stop
 
@@ -124,21 +125,21 @@ module _ {T : Type 0} (c : Stack T) where
           r.1,
         )
 
-    pub all_gone : (b : Batch T) (n : ℕ) → stop ≡ AllGone b n → FoldTried c front values (begun_of c op.pass) (Done' q (Ok (record { number = b.number; count = n })))
+    pub all_gone : (b : Batch T) (n : ℕ) → stop ≡ AllGone b n → FoldTried c front values (begun_of c op.pass) (Done' (as_pass q) (Ok (record { number = b.number; count = n })))
     all_gone b n e =
         let r = subst (FoldStops front (begun_of c op.pass) q) e stops in
         let made = r.1.deeds.made in
         let t = subst (FoldTold (room_of c) (limit_of c) (front_of op.at) (gone op.at)) e told in
         let order = sym is.handed ∙ t.0 ∙ made.order in
-        (r.0, (made.values, fold_gives c front (folded_of b) b.number r.1, sym t.1 ∙ ap length is.handed ∙ ap length order ∙ length_in_order (direction front) made.values, order))
+        (record { on = r.0; keeps = tt }, (made.values, fold_gives c front (folded_of b) b.number r.1, sym t.1 ∙ ap length is.handed ∙ ap length order ∙ length_in_order (direction front) made.values, order))
 
-    pub none_taken : (why : TakeRefused) → stop ≡ Refused why → FoldTried c front values (begun_of c op.pass) (Done' q (Err why))
+    pub none_taken : (why : TakeRefused) → stop ≡ Refused why → FoldTried c front values (begun_of c op.pass) (Done' (as_pass q) (Err why))
     none_taken why e =
         let r = subst (FoldStops front (begun_of c op.pass) q) e stops in
-        (r.0, (takes_nothing c front why r.1, sym is.handed ∙ subst (FoldTold (room_of c) (limit_of c) (front_of op.at) (gone op.at)) e told))
+        (record { on = r.0; keeps = tt }, (takes_nothing c front why r.1, sym is.handed ∙ subst (FoldTold (room_of c) (limit_of c) (front_of op.at) (gone op.at)) e told))
 
     -- it was run, as one call
-    pub all_ran : (b : Batch T) (n : ℕ) → stop ≡ AllGone b n → WasRun c (FoldFirst front) (begun_of c op.pass) q (AnswerFold (Ok (folded_of b, b.number)))
+    pub all_ran : (b : Batch T) (n : ℕ) → stop ≡ AllGone b n → WasRun c (FoldFirst front) (begun_of c op.pass) (as_pass q) (AnswerFold (Ok (folded_of b, b.number)))
     all_ran b n e = (subst (FoldStops front (begun_of c op.pass) q) e stops).1.ran refl
 
     pub all_answered : (b : Batch T) (n : ℕ) → stop ≡ AllGone b n → FoldAnswers front (Ok (record { number = b.number; count = n })) (begun_of c op.pass) (pass_in q)
@@ -150,7 +151,7 @@ module _ {T : Type 0} (c : Stack T) where
     pub none_answered : (why : TakeRefused) → stop ≡ Refused why → FoldAnswers front (Err why) (begun_of c op.pass) (pass_in q)
     none_answered why e = (subst (FoldStops front (begun_of c op.pass) q) e stops).1.answered
 
-    pub none_ran : (why : TakeRefused) → stop ≡ Refused why → WasRun c (FoldFirst front) (begun_of c op.pass) q (AnswerFold (Err why))
+    pub none_ran : (why : TakeRefused) → stop ≡ Refused why → WasRun c (FoldFirst front) (begun_of c op.pass) (as_pass q) (AnswerFold (Err why))
     none_ran why e = (subst (FoldStops front (begun_of c op.pass) q) e stops).1.ran refl
 
   -- one that is told whatever is told of where it goes on has handed out the same values

@@ -1,8 +1,7 @@
 pub mod Leftover
 pub mod Crossing
 pub mod Refusals
-pub mod Closes
-pub mod Answered
+pub mod Gauges
 pub mod Gives
 pub mod Takes
 pub mod RangeSteps

@@ -1,27 +1,29 @@
 -- What a put gives, and where its steps lead.
 use Rattle.std.proofs.Common.{ℕ, ◌<◌, List, refl}
-use Rattle.std.specs.Prelude.{Option as Slot, Result, Err}
+use Rattle.std.specs.Prelude.{Option as Slot, Err}
 use Rattle.bounded_model.specs.declared.answers.PutRefused.{PutRefused}
 use Rattle.stack_table.specs.Lines.{names, next}
 use Rattle.running.specs.Code.{Finding, Leads}
 use Rattle.running.specs.declared.access.Outcome.{Outcome}
 use Rattle.running.specs.declared.code.Next.{Next}
-use Rattle.treiber_stack.specs.declared.stack.Stack.{Stack}
-use Rattle.treiber_stack.specs.Putting.{put_account, put_line, put_slots, refusing}
-use Rattle.treiber_stack.specs.Stack.{room_of, limit_of, machine_of}
-use Rattle.treiber_stack.specs.declared.giving.Give.{Give}
-use Rattle.treiber_stack.specs.declared.putting.PutAt.{PutAt}
-use Rattle.treiber_stack.specs.declared.putting.PutAt.TheVariants.{GiveBack}
+use Rattle.bounded.specs.declared.bounded.Laid as laid
+use Rattle.stack_table.specs.declared.operation.Operation.{Operation}
+use Rattle.stack_machine.specs.declared.lines.Line.{Line}
+use Rattle.treiber_stack.specs.Putting.{Answer, put_account, put_line, put_slots, refusing}
+use Rattle.treiber_stack.specs.Stack.{Stack, room_of, limit_of, machine_of}
+use Rattle.treiber_stack.specs.declared.call_parts.giving.Give.{Give}
+use Rattle.treiber_stack.specs.declared.calls.putting.PutAt.{PutAt}
+use Rattle.treiber_stack.specs.declared.calls.putting.PutAt.TheVariants.{GiveBack}
 use Rattle.treiber_stack.specs.Giving.{GaveTo}
 use Rattle.treiber_stack.proofs.Gives.{within, gave_within}
 
-module _ {T : Type 0} (c : Stack T) where
+module _ {T P : Type 0} {g : laid.Ghosts P T (Line T) (Operation T)} (c : Stack T P g) where
   -- where the code of a put goes on
-  abbrev pub LeadingPut : PutAt T → Outcome → List (ℕ × Slot T) → Next (PutAt T) (Result ℕ (PutRefused T)) → Type 0
+  abbrev pub LeadingPut : PutAt T → Outcome → List (ℕ × Slot T) → Next (PutAt T) (Answer T) → Type 0
   LeadingPut s r has to = Finding (machine_of c).core (put_line s) r (put_slots s) has
       (λ found came. Leads names (put_account c.table.shared.key) s (next (room_of c) (limit_of c) (put_line s) found came) has to)
 
   -- by the give inside it
-  pub gave_put : (why : PutRefused T) (i : ℕ) (at : Give) (r : Outcome) (has : List (ℕ × Slot T)) → i < room_of c → (to : Next Give (Unit {0})) → GaveTo c (refusing why i) at r has to → LeadingPut (GiveBack why i at) r has (within (GiveBack why i) (Err why) to)
-  gave_put why i at r has low = gave_within c (put_account c.table.shared.key) (refusing why i) (GiveBack why i) (Err why) (GiveBack why i at)
+  pub gave_put : (why : PutRefused T) (i : ℕ) (at : Give) (r : Outcome) (has : List (ℕ × Slot T)) → i < room_of c → (to : Next Give (Unit {0})) → GaveTo c (refusing why i) at r has to → LeadingPut (GiveBack why i at) r has (within (GiveBack why i) (record { kept = tt; reply = Err why }) to)
+  gave_put why i at r has low = gave_within c (put_account c.table.shared.key) (refusing why i) (GiveBack why i) (record { kept = tt; reply = Err why }) (GiveBack why i at)
       (λ at'. refl) (λ at'. refl) (λ at'. refl) (λ at'. low) refl at r has

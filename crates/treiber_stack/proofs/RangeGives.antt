@@ -25,17 +25,17 @@ use Rattle.stack_machine.proofs.Made.{made_refusal}
 use Rattle.stack_table.specs.Lines.{call_of}
 use Rattle.stack_table.specs.declared.operation.Operation.{Operation}
 use Rattle.running.specs.Going.{Ended}
-use Rattle.treiber_stack.specs.declared.stack.Stack.{Stack}
-use Rattle.running.specs.declared.passes.Pass.{Pass}
-use Rattle.treiber_stack.specs.declared.range_steps.Held.{Held}
-use Rattle.treiber_stack.specs.declared.range_steps.RangeEnd.TheVariants.{Barred as IsBarred}
-use Rattle.treiber_stack.specs.declared.refusing.Barred.{Barred}
-use Rattle.treiber_stack.specs.declared.refusing.Barred.TheVariants.{Closed as BarredClosed, Spent as BarredSpent}
+use Rattle.bounded.specs.declared.bounded.Laid as laid
+use Rattle.running.specs.declared.passes.Pass as runs
+use Rattle.treiber_stack.specs.declared.bulk.range_steps.Held.{Held}
+use Rattle.treiber_stack.specs.declared.bulk.range_steps.RangeEnd.TheVariants.{Barred as IsBarred}
+use Rattle.treiber_stack.specs.declared.call_parts.refusing.Barred.{Barred}
+use Rattle.treiber_stack.specs.declared.call_parts.refusing.Barred.TheVariants.{Closed as BarredClosed, Spent as BarredSpent}
 use Rattle.treiber_stack.specs.Ran.{IsRange, RangeAnswers, WasRange, WasRun}
 use Rattle.treiber_stack.specs.Ranging.{NotPut, IsOver, IsRefused, places_from, putting}
 use Rattle.treiber_stack.specs.Refusing.{barring, barring_range}
-use Rattle.treiber_stack.specs.Stack.{machine_of, shape_of, pass_in}
-use Rattle.treiber_stack.proofs.Closes.{adds_of}
+use Rattle.treiber_stack.specs.Stack.{Pass, Stack, machine_of, shape_of, pass_in}
+use Rattle.treiber_stack.specs.KeepsAnswers.{adds_of}
 use Rattle.treiber_stack.proofs.Loading.{length_some, somes_taken, drop_some}
 
 module _ {T : Type 0} where
@@ -63,12 +63,12 @@ module _ {T : Type 0} where
   all_in (v ∷ vs) zero h e = absurd (let l : suc (length vs) ≡ 0 = ap length e in omega (arith, l))
   all_in (v ∷ vs) (suc k) h e = ap suc (all_in vs k (omega arith) e)
 
-module _ {T : Type 0} (c : Stack T) (o : Operation T) {v : View T (Line T)} {begun : PassView T} where
+module _ {T P : Type 0} {g : laid.Ghosts P T (Line T) (Operation T)} (c : Stack T P g) (o : Operation T) {v : View T (Line T)} {begun : PassView T} where
   -- a refused put has given back what it took
   backs_out : (why : PutRefused (List T)) → Ended (machine_of c) o v begun (ends (AnswerPut (Err why))) → BacksOut begun (pass_of v) (length (handed_back why))
   backs_out why e =
       let made = made_refusal (pass_of v).number (own (pass_of v).number e.deeds.between) (call_of o) why e.deeds.made in
-      record { held = made.nodes; at_most = made.at_most; adds = adds_of c e (gave_back begun.number made.nodes) (made.is ∙ ap (λ (k : ℕ). gave_back k made.nodes) e.number) }
+      record { held = made.nodes; at_most = made.at_most; adds = adds_of c.table.shared.key e (gave_back begun.number made.nodes) (made.is ∙ ap (λ (k : ℕ). gave_back k made.nodes) e.number) }
 
   -- no node could be had, and why nothing could be put
   pub not_put_spent : (vs : List T) (t : ℕ) → Ended (machine_of c) o v begun (ends (AnswerPut (Err (PutSpent vs FreeWord t)))) → NotPut (shape_of c) begun (length vs) (pass_of v) (Spent FreeWord t)
@@ -121,25 +121,25 @@ module _ {T : Type 0} (c : Stack T) (o : Operation T) {v : View T (Line T)} {beg
       }
 
 -- a put of a range has answered, and was run as one call
-module _ {T : Type 0} (c : Stack T) (o : Operation T) (begun : PassView T) (p : Pass T (Line T)) (vs : List T) (is : IsRange o vs) where
+module _ {T P : Type 0} {g : laid.Ghosts P T (Line T) (Operation T)} (c : Stack T P g) (o : Operation T) (begun : PassView T) (p : Pass T) (vs : List T) (is : IsRange o vs) where
   abbrev RanTo : Result Ranged RangeRefused → Type 0
   RanTo r = RangeAnswers vs r begun (pass_in p) × WasRange c begun vs r p
 
-  pub was_put : (chain : List ℕ) (k number : ℕ) → length chain ≡ k → Ended (machine_of c) o p.seat.me.0 begun (ends (AnswerPut (Ok (number, unplaced (putting vs chain))))) → RanTo (Ok (record { number = number; count = k }))
+  pub was_put : (chain : List ℕ) (k number : ℕ) → length chain ≡ k → Ended (machine_of c) o p.pass.seat.me.0 begun (ends (AnswerPut (Ok (number, unplaced (putting vs chain))))) → RanTo (Ok (record { number = number; count = k }))
   was_put chain k number counted e = (e.answered, (o, is, subst (λ (j : ℕ). WasRun c o begun p (AnswerPut (Ok (number, drop j vs)))) counted (e.ran refl)))
 
-  pub was_full : Ended (machine_of c) o p.seat.me.0 begun (ends (AnswerPut (Err (PutFull vs)))) → RanTo (Err Full)
+  pub was_full : Ended (machine_of c) o p.pass.seat.me.0 begun (ends (AnswerPut (Err (PutFull vs)))) → RanTo (Err Full)
   was_full e = (e.answered, (o, is, e.ran refl))
 
-  pub was_spent : (t : ℕ) → Ended (machine_of c) o p.seat.me.0 begun (ends (AnswerPut (Err (PutSpent vs FreeWord t)))) → RanTo (Err (Spent FreeWord t))
+  pub was_spent : (t : ℕ) → Ended (machine_of c) o p.pass.seat.me.0 begun (ends (AnswerPut (Err (PutSpent vs FreeWord t)))) → RanTo (Err (Spent FreeWord t))
   was_spent t e = (e.answered, (o, is, e.ran refl))
 
-  pub was_barred : (why : Barred) → Ended (machine_of c) o p.seat.me.0 begun (ends (AnswerPut (Err (barring why vs)))) → RanTo (Err (barring_range why))
+  pub was_barred : (why : Barred) → Ended (machine_of c) o p.pass.seat.me.0 begun (ends (AnswerPut (Err (barring why vs)))) → RanTo (Err (barring_range why))
   was_barred BarredClosed e = (e.answered, (o, is, e.ran refl))
   was_barred (BarredSpent t) e = (e.answered, (o, is, e.ran refl))
 
 -- a range whose values go back
-pub is_refused : {T : Type 0} (c : Stack T) (o : Operation T) (v : PassView T) (p : Pass T (Line T)) (vs : List T) (held : Held) (why : Barred) → IsOver c o v p vs held (IsBarred why) → IsRefused c o p vs held why
+pub is_refused : {T P : Type 0} {g : laid.Ghosts P T (Line T) (Operation T)} (c : Stack T P g) (o : Operation T) (v : PassView T) (p : runs.Pass T (Line T)) (vs : List T) (held : Held) (why : Barred) → IsOver c o v p vs held (IsBarred why) → IsRefused c o p vs held why
 is_refused c o v p vs held why over = record { chain = over.chain; has = over.has; some_node = over.ends.0; at = over.ends.1.0 }
 
 -- a refusal of a range that is not empty

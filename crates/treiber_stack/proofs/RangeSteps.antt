@@ -24,27 +24,27 @@ use Rattle.running.specs.declared.code.Next.{Next}
 use Rattle.running.specs.declared.code.Next.TheVariants.{On, Done}
 use Rattle.running.specs.declared.passes.Pass.{Pass}
 use Rattle.running.proofs.Going.{now_going}
-use Rattle.treiber_stack.specs.declared.stack.Stack.{Stack}
-use Rattle.treiber_stack.specs.declared.begun.Begun.{Begun}
-use Rattle.treiber_stack.specs.declared.range_steps.Held.{Held}
-use Rattle.treiber_stack.specs.declared.range_steps.Range.{Range}
-use Rattle.treiber_stack.specs.declared.range_steps.RangeAt.TheVariants.{LoadFree, Load, Refuse, GiveBack}
-use Rattle.treiber_stack.specs.declared.range_steps.RangeEnd.TheVariants.{Spent as IsSpent, GaveBack}
-use Rattle.treiber_stack.specs.declared.range_steps.RangeStop.TheVariants.{Took, Over}
-use Rattle.treiber_stack.specs.declared.range_steps.RangeStopped.{RangeStopped}
-use Rattle.treiber_stack.specs.declared.giving.Give.{Give}
-use Rattle.treiber_stack.specs.declared.refusing.Barred.{Barred}
-use Rattle.treiber_stack.specs.declared.refusing.NoNode.{NoNode}
-use Rattle.treiber_stack.specs.declared.refusing.NoNode.TheVariants.{NoneFree, Spent}
+use Rattle.bounded.specs.declared.bounded.Laid as laid
+use Rattle.treiber_stack.specs.declared.call_parts.begun.Begun.{Begun}
+use Rattle.treiber_stack.specs.declared.bulk.range_steps.Held.{Held}
+use Rattle.treiber_stack.specs.declared.bulk.range_steps.Range.{Range}
+use Rattle.treiber_stack.specs.declared.bulk.range_steps.RangeAt.TheVariants.{LoadFree, Load, Refuse, GiveBack}
+use Rattle.treiber_stack.specs.declared.bulk.range_steps.RangeEnd.TheVariants.{Spent as IsSpent, GaveBack}
+use Rattle.treiber_stack.specs.declared.bulk.range_steps.RangeStop.TheVariants.{Took, Over}
+use Rattle.treiber_stack.specs.declared.bulk.range_steps.RangeStopped.{RangeStopped}
+use Rattle.treiber_stack.specs.declared.call_parts.giving.Give.{Give}
+use Rattle.treiber_stack.specs.declared.call_parts.refusing.Barred.{Barred}
+use Rattle.treiber_stack.specs.declared.call_parts.refusing.NoNode.{NoNode}
+use Rattle.treiber_stack.specs.declared.call_parts.refusing.NoNode.TheVariants.{NoneFree, Spent}
 use Rattle.treiber_stack.specs.Begun.{line_begun, put_begun}
 use Rattle.treiber_stack.specs.Giving.{AreNodes, GaveTo}
 use Rattle.treiber_stack.specs.Ranging.{range_account, loaded, linking, refused, range_stop, range_hand, at_line, at_slots, stop_line, stop_hand, HasNodes, Stopped, TakesNode}
 use Rattle.treiber_stack.specs.Refusing.{RefusesNode}
-use Rattle.treiber_stack.specs.Stack.{room_of, limit_of, machine_of, IsAt}
+use Rattle.treiber_stack.specs.Stack.{Stack, room_of, limit_of, machine_of, IsAt}
 use Rattle.treiber_stack.proofs.Gives.{within, gave_within}
 use Rattle.treiber_stack.proofs.Refusals.{free_null, free_spent}
 
-module _ {T : Type 0} (c : Stack T) (o : Operation T) where
+module _ {T P : Type 0} {g : laid.Ghosts P T (Line T) (Operation T)} (c : Stack T P g) (o : Operation T) where
   -- a range that has stopped
   pub stopped : (begun : PassView T) (q : Pass T (Line T)) (r : RangeStopped T) (b : Bool) → StopsAt (machine_of c) (range_account c.table.shared.key) c.table.shared.table_id b o begun q r → Stopped c o begun q (stop_line r) (stop_hand r) b
   stopped begun q r true s = s
@@ -86,7 +86,7 @@ module _ {T : Type 0} where
   finds_none limit w x put NoneFree is null = ap (λ (k : ℕ). at_load_free limit put (fields_of k)) (sym is) ∙ free_null limit w put null
   finds_none limit w x put (Spent t) is high = ap (λ (k : ℕ). at_load_free limit put (fields_of k)) (sym is) ∙ free_spent limit w put t high.2 high.0 high.1
 
-module _ {T : Type 0} (c : Stack T) where
+module _ {T P : Type 0} {g : laid.Ghosts P T (Line T) (Operation T)} (c : Stack T P g) where
   -- the ends of a chain that is not empty
   pub are_nodes : (vs : List T) (chain : List ℕ) (held : Held) → HasNodes c vs chain held → 0 < held.count → AreNodes (room_of c) chain held.chain
   are_nodes vs chain held has some_node =

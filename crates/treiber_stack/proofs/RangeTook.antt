@@ -7,9 +7,10 @@ use Rattle.bounded_model.specs.declared.answers.Stepped.TheVariants.{Again}
 use Rattle.bounded_model.specs.declared.bulk.Ranged.{Ranged}
 use Rattle.bounded_model.specs.declared.bulk.RangeRefused.{RangeRefused}
 use Rattle.stack_machine.specs.declared.lines.Line.{Line}
-use Rattle.running.specs.declared.passes.Pass.{Pass}
+use Rattle.running.specs.Passes.{pass_in}
+use Rattle.running.specs.declared.passes.Pass as runs
 use Rattle.treiber_stack.specs.RangeTrying.{PutSoMany, RangeEnds, RangeOp, RangeSteps, StoppedAt, gives_back}
-use Rattle.treiber_stack.specs.Stack.{pass_in}
+use Rattle.treiber_stack.specs.Stack.{Pass, as_pass}
 
 true_or_false : (b : Bool) → (b ≡ true) ⊎ (b ≡ false)
 true_or_false true = inl refl
@@ -27,7 +28,7 @@ module _ {T : Type 0} (n : ℕ) (op : RangeOp T) where
 
   module _ (round : ℕ) (range : RangeOp T) where
     -- one round more
-    pub comes : Come round range → (q : Pass T (Line T)) → (pass_in q).steps ≤ (pass_in range.pass).steps + n → (next : RangeOp T) → StoppedAt range.at.at range.at.held.count q (Again next) → Come (round + 1) next
+    pub comes : Come round range → (q : runs.Pass T (Line T)) → (pass_in q).steps ≤ (pass_in range.pass).steps + n → (next : RangeOp T) → StoppedAt range.at.at range.at.held.count q (Again next) → Come (round + 1) next
     comes come q few next s = by_side (true_or_false (gives_back next.at.at)) come
       where
         mul : (k : ℕ) → suc k * (n + 1) ≡ k * (n + 1) + (n + 1)
@@ -68,10 +69,10 @@ module _ {T : Type 0} (n : ℕ) (op : RangeOp T) where
     over some (inr (nb, inr (f, more, same, most))) = λ _. (suc more, same, omega (arith, most), λ z. absurd (omega arith))
 
     -- or it has ended
-    pub ends : Come round range → (q : Pass T (Line T)) → (pass_in q).steps ≤ (pass_in range.pass).steps + n → (back : Pass T (Line T)) → back ≡ q → (answer : Result Ranged RangeRefused) → PutSoMany range.at.at range.at.held.count answer → RangeEnds n op back answer
-    ends come q few back is answer put = subst (λ (p : Pass T (Line T)). RangeEnds n op p answer) (sym is) (by_answer come answer put)
+    pub ends : Come round range → (q : runs.Pass T (Line T)) → (pass_in q).steps ≤ (pass_in range.pass).steps + n → (back : Pass T) → back.pass ≡ q → (answer : Result Ranged RangeRefused) → PutSoMany range.at.at range.at.held.count answer → RangeEnds n op back answer
+    ends come q few back is answer put = subst (λ (p : runs.Pass T (Line T)). RangeEnds n op (as_pass p) answer) (sym is) (by_answer come answer put)
       where
-        by_answer : Come round range → (answer : Result Ranged RangeRefused) → PutSoMany range.at.at range.at.held.count answer → RangeEnds n op q answer
+        by_answer : Come round range → (answer : Result Ranged RangeRefused) → PutSoMany range.at.at range.at.held.count answer → RangeEnds n op (as_pass q) answer
         by_answer (inl e) (Ok r) put =
             let same : range.at.held.count ≡ op.at.held.count = ap (λ (x : RangeOp T). x.at.held.count) e.1 in
             let begun : (pass_in range.pass).steps ≡ (pass_in op.pass).steps = ap (λ (x : RangeOp T). (pass_in x.pass).steps) e.1 in

@@ -15,28 +15,28 @@ use Rattle.running.specs.Steps.{Ran, Stops}
 use Rattle.running.specs.declared.code.Next.TheVariants.{On}
 use Rattle.running.specs.declared.passes.Pass.{Pass}
 use Rattle.stack_table.specs.declared.operation.Operation.{Operation}
-use Rattle.treiber_stack.specs.declared.stack.Stack.{Stack}
-use Rattle.treiber_stack.specs.declared.begun.Begun.{Begun}
-use Rattle.treiber_stack.specs.declared.giving.Give.{Give}
-use Rattle.treiber_stack.specs.declared.giving.Give.TheVariants as give
-use Rattle.treiber_stack.specs.declared.range_steps.Held.{Held}
-use Rattle.treiber_stack.specs.declared.range_steps.Range.{Range}
-use Rattle.treiber_stack.specs.declared.range_steps.RangeAt.{RangeAt}
-use Rattle.treiber_stack.specs.declared.range_steps.RangeAt.TheVariants.{LoadFree, Link, Hold, Load, LinkTo, Exchange, Refuse, GiveBack}
-use Rattle.treiber_stack.specs.declared.range_steps.RangeEnd.{RangeEnd}
-use Rattle.treiber_stack.specs.declared.range_steps.RangeEnd.TheVariants.{Put, Full as IsFull, GaveBack}
-use Rattle.treiber_stack.specs.declared.range_steps.RangeStop.{RangeStop}
-use Rattle.treiber_stack.specs.declared.range_steps.RangeStop.TheVariants.{Took, Over}
-use Rattle.treiber_stack.specs.declared.range_steps.RangeStopped.{RangeStopped}
-use Rattle.treiber_stack.specs.declared.refusing.Barred.{Barred}
-use Rattle.treiber_stack.specs.declared.refusing.Barred.TheVariants as barred
+use Rattle.bounded.specs.declared.bounded.Laid as laid
+use Rattle.treiber_stack.specs.declared.call_parts.begun.Begun.{Begun}
+use Rattle.treiber_stack.specs.declared.call_parts.giving.Give.{Give}
+use Rattle.treiber_stack.specs.declared.call_parts.giving.Give.TheVariants as give
+use Rattle.treiber_stack.specs.declared.bulk.range_steps.Held.{Held}
+use Rattle.treiber_stack.specs.declared.bulk.range_steps.Range.{Range}
+use Rattle.treiber_stack.specs.declared.bulk.range_steps.RangeAt.{RangeAt}
+use Rattle.treiber_stack.specs.declared.bulk.range_steps.RangeAt.TheVariants.{LoadFree, Link, Hold, Load, LinkTo, Exchange, Refuse, GiveBack}
+use Rattle.treiber_stack.specs.declared.bulk.range_steps.RangeEnd.{RangeEnd}
+use Rattle.treiber_stack.specs.declared.bulk.range_steps.RangeEnd.TheVariants.{Put, Full as IsFull, GaveBack}
+use Rattle.treiber_stack.specs.declared.bulk.range_steps.RangeStop.{RangeStop}
+use Rattle.treiber_stack.specs.declared.bulk.range_steps.RangeStop.TheVariants.{Took, Over}
+use Rattle.treiber_stack.specs.declared.bulk.range_steps.RangeStopped.{RangeStopped}
+use Rattle.treiber_stack.specs.declared.call_parts.refusing.Barred.{Barred}
+use Rattle.treiber_stack.specs.declared.call_parts.refusing.Barred.TheVariants as barred
 use Rattle.treiber_stack.specs.Begun.{put_at, put_begun}
 use Rattle.treiber_stack.specs.Giving.{AreNodes, give_line}
 use Rattle.treiber_stack.specs.Ran.{IsRange}
 use Rattle.treiber_stack.specs.Ranging.{range_account, at_operation, stop_line, StopTold, HasNodes, HasRead, HasTaken, IsFilling, IsOver, IsRangeAt, StopsSo, Told, ToldStop, putting, places_from, range_line, range_slots, refused, takes}
 use Rattle.treiber_stack.specs.RangeTrying.{HasStopped, IsRangeOf, IsRanging, RanOn, gives_back, places_at}
 use Rattle.treiber_stack.specs.Refusing.{barring}
-use Rattle.treiber_stack.specs.Stack.{room_of, machine_of, begun_of, IsAt, IsPassOf}
+use Rattle.treiber_stack.specs.Stack.{Stack, room_of, machine_of, begun_of, IsAt, IsSeatOf}
 use Rattle.treiber_stack.proofs.Filling.{wants_node, wants_top}
 use Rattle.treiber_stack.proofs.Loading.{length_some}
 use Rattle.treiber_stack.proofs.RangeSteps.{are_nodes, begun_at, stopped, takes_node}
@@ -66,7 +66,7 @@ module _ {T : Type 0} (vs : List T) (chain : List ℕ) where
   given (barred.Spent t) (give.Exchange w) = refl
 
   -- the put of a state
-  put_of : (c : Stack T) (nodes : Held) (at : RangeAt) → HasNodes c vs chain nodes → HasRead c (putting vs chain) nodes at → put_at (range_line (putting vs chain) at) ≡ putting vs chain
+  put_of : {P : Type 0} {g : laid.Ghosts P T (Line T) (Operation T)} (c : Stack T P g) (nodes : Held) (at : RangeAt) → HasNodes c vs chain nodes → HasRead c (putting vs chain) nodes at → put_at (range_line (putting vs chain) at) ≡ putting vs chain
   put_of c nodes Refuse has read = ap (putting vs) (sym (none_of chain (has.counted ∙ read)))
   put_of c nodes (GiveBack why at) has read = given why at
   put_of c nodes at has read = refl
@@ -81,7 +81,7 @@ length_places {T} k vs few =
     let some : length (map Some (drop k vs)) ≡ length (drop k vs) = length_some (drop k vs) in
     omega (arith, few, some, length-append (replicate k None) (map Some (drop k vs)), length-replicate {A = Slot T} k None, length-drop k vs)
 
-module _ {T : Type 0} (c : Stack T) where
+module _ {T P : Type 0} {g : laid.Ghosts P T (Line T) (Operation T)} (c : Stack T P g) where
   some_room : 0 < room_of c
   some_room = let some = c.table.shared.key.capacity_in_range in omega arith
 
@@ -123,7 +123,7 @@ module _ {T : Type 0} (c : Stack T) where
       read_on nodes' (GiveBack why g) r tells = let t = told_back (room_of c) nodes.count at why (tells (Over (GaveBack why)) refl) in (back_nodes at t read, λ e. absurd (false≢true e), sym t)
 
 -- where a range goes on that has a node more
-module _ {T : Type 0} (c : Stack T) (o : Operation T) (vs : List T) (is : IsRange o vs) (q : Pass T (Line T)) (nodes : Held) (f : IsFilling c o q vs nodes) (places : List (Slot T)) (are : places ≡ places_from nodes.count vs) where
+module _ {T P : Type 0} {g : laid.Ghosts P T (Line T) (Operation T)} (c : Stack T P g) (o : Operation T) (vs : List T) (is : IsRange o vs) (q : Pass T (Line T)) (nodes : Held) (f : IsFilling c o q vs nodes) (places : List (Slot T)) (are : places ≡ places_from nodes.count vs) where
   long : length places ≡ length vs
   long = ap length are ∙ length_places nodes.count vs f.has.few
 
@@ -138,7 +138,7 @@ module _ {T : Type 0} (c : Stack T) (o : Operation T) (vs : List T) (is : IsRang
       let l = long in
       record { of = is; at = record { chain = f.chain; has = f.has; is = wants_top c o vs q nodes f some_node (omega (arith, l, high)); wants = λ e. absurd (false≢true e) }; places_are = are }
 
-module _ {T : Type 0} (c : Stack T) (o : Operation T) (p : Pass T (Line T)) (vs : List T) (nodes : Held) (at : RangeAt) where
+module _ {T P : Type 0} {g : laid.Ghosts P T (Line T) (Operation T)} (c : Stack T P g) (o : Operation T) (p : Pass T (Line T)) (vs : List T) (nodes : Held) (at : RangeAt) where
   -- some steps that are begun at a state
   module _ (b : Begun T) (of : b.operation.value ≡ o) (whose : b.pass.value ≡ p) (is : IsRangeOf c o p vs nodes at) where
     abbrev from : Range T
@@ -212,5 +212,5 @@ module _ {T : Type 0} (c : Stack T) (o : Operation T) (p : Pass T (Line T)) (vs 
     pub is_over : (end : RangeEnd) → gave (Over end) ≡ false → HasStopped c o v p vs nodes at (Over end) → IsOver c o v p vs nodes end × (places ≡ places_from nodes.count vs)
     is_over end e h = let t = told_on (room_of c) nodes.count at (Over end) h.stops.0 e in (record { chain = h.chain; has = h.has; ends = (t.1, h.stops.1) }, places_now false t.0)
 
-    pub is_back : (why : Barred) → HasStopped c o v p vs nodes at (Over (GaveBack why)) → IsPassOf c p × Ended (machine_of c) o p.seat.me.0 v (ends (AnswerPut (Err (barring why vs)))) × (places ≡ map Some vs)
+    pub is_back : (why : Barred) → HasStopped c o v p vs nodes at (Over (GaveBack why)) → IsSeatOf c p × Ended (machine_of c) o p.seat.me.0 v (ends (AnswerPut (Err (barring why vs)))) × (places ≡ map Some vs)
     is_back why h = (h.stops.1.0, h.stops.1.1, places_now true (told_back (room_of c) nodes.count at why h.stops.0))

@@ -12,7 +12,7 @@ use Rattle.stack_machine.specs.declared.lines.Taking.{Taking}
 use Rattle.stack_machine.specs.declared.lines.Answer.TheVariants.{Put as AnswerPut}
 use Rattle.stack_machine.specs.declared.lines.Line.TheVariants.{LinkToTop, LoadFreeLink, LoadTopToRefuse}
 use Rattle.stack_machine.specs.Machine.{at_load_top, at_load_top_to_refuse, at_load_top_to_take, at_load_free, no_node, ends, takes}
-use Rattle.treiber_stack.specs.declared.refusing.Barred.TheVariants.{Closed as BarredClosed, Spent as BarredSpent}
+use Rattle.treiber_stack.specs.declared.call_parts.refusing.Barred.TheVariants.{Closed as BarredClosed, Spent as BarredSpent}
 use Rattle.treiber_stack.specs.Refusing.{AllowsPut, AllowsTake, RefusesPut, RefusesTake}
 
 module _ {T : Type 0} (limit w : ℕ) where

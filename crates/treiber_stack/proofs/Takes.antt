@@ -1,19 +1,20 @@
 -- What a take gives, and where its steps lead.
 use Rattle.std.proofs.Common.{◌≡◌, ℕ, ◌<◌, List, ◌∷◌, refl, sym, ap, ◌∙◌}
-use Rattle.std.specs.Prelude.{Option as Slot, Some, Result, Ok}
-use Rattle.bounded_model.specs.declared.answers.TakeRefused.{TakeRefused}
+use Rattle.std.specs.Prelude.{Option as Slot, Some, Ok}
 use Rattle.stack_table.specs.Lines.{names, next}
 use Rattle.running.specs.Code.{Finding, Leads}
 use Rattle.running.specs.declared.access.Outcome.{Outcome}
 use Rattle.running.specs.declared.code.Next.{Next}
-use Rattle.treiber_stack.specs.declared.stack.Stack.{Stack}
-use Rattle.treiber_stack.specs.declared.giving.Give.{Give}
-use Rattle.treiber_stack.specs.declared.taking.TakeAt.{TakeAt}
-use Rattle.treiber_stack.specs.declared.taking.TakeAt.TheVariants.{GiveBack}
-use Rattle.treiber_stack.specs.declared.taking.Taken.{Taken}
+use Rattle.bounded.specs.declared.bounded.Laid as laid
+use Rattle.stack_table.specs.declared.operation.Operation.{Operation}
+use Rattle.stack_machine.specs.declared.lines.Line.{Line}
+use Rattle.treiber_stack.specs.declared.call_parts.giving.Give.{Give}
+use Rattle.treiber_stack.specs.declared.calls.taking.TakeAt.{TakeAt}
+use Rattle.treiber_stack.specs.declared.calls.taking.TakeAt.TheVariants.{GiveBack}
+use Rattle.treiber_stack.specs.declared.calls.taking.Taken.{Taken}
 use Rattle.treiber_stack.specs.Giving.{GaveTo}
-use Rattle.treiber_stack.specs.Stack.{room_of, limit_of, machine_of}
-use Rattle.treiber_stack.specs.Taking.{take_account, giving, take_line, take_slots}
+use Rattle.treiber_stack.specs.Stack.{Stack, room_of, limit_of, machine_of}
+use Rattle.treiber_stack.specs.Taking.{Answer, take_account, giving, take_line, take_slots}
 use Rattle.treiber_stack.proofs.Gives.{within, gave_within}
 
 module _ {T : Type 0} where
@@ -26,12 +27,12 @@ module _ {T : Type 0} where
   same_value zs us vs i j x y e f = sym (ap (value_or x) e) ∙ ap (value_or x) f
 
 -- where the code of a take goes on
-module _ {T : Type 0} (c : Stack T) where
-  abbrev pub Leading : TakeAt T → Outcome → List (ℕ × Slot T) → Next (TakeAt T) (Result (T × ℕ) TakeRefused) → Type 0
+module _ {T P : Type 0} {g : laid.Ghosts P T (Line T) (Operation T)} (c : Stack T P g) where
+  abbrev pub Leading : TakeAt T → Outcome → List (ℕ × Slot T) → Next (TakeAt T) (Answer T) → Type 0
   Leading s r has to = Finding (machine_of c).core (take_line s) r (take_slots s) has
       (λ found came. Leads names (take_account c.table.shared.key) s (next (room_of c) (limit_of c) (take_line s) found came) has to)
 
   -- by the give inside it
-  pub gave_take : (t : Taken T) (at : Give) (r : Outcome) (has : List (ℕ × Slot T)) → t.index < room_of c → (to : Next Give (Unit {0})) → GaveTo c (giving t) at r has to → Leading (GiveBack t at) r has (within (GiveBack t) (Ok (t.value, t.number)) to)
-  gave_take t at r has low = gave_within c (take_account c.table.shared.key) (giving t) (GiveBack t) (Ok (t.value, t.number)) (GiveBack t at)
+  pub gave_take : (t : Taken T) (at : Give) (r : Outcome) (has : List (ℕ × Slot T)) → t.index < room_of c → (to : Next Give (Unit {0})) → GaveTo c (giving t) at r has to → Leading (GiveBack t at) r has (within (GiveBack t) (record { kept = tt; reply = Ok (t.value, t.number) }) to)
+  gave_take t at r has low = gave_within c (take_account c.table.shared.key) (giving t) (GiveBack t) (record { kept = tt; reply = Ok (t.value, t.number) }) (GiveBack t at)
       (λ at'. refl) (λ at'. refl) (λ at'. refl) (λ at'. low) refl at r has

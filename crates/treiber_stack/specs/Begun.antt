@@ -9,7 +9,7 @@ use Rattle.stack_machine.specs.declared.lines.Giving.{Giving}
 use Rattle.stack_machine.specs.declared.lines.Line.TheVariants.{LoadFree, LoadFreeLink, TakeFree, LoadTop, LinkToTop, SwapTop, LoadTopToRefuse, LoadFreeToGive, LinkToFree, GiveBack}
 use Rattle.running.specs.Rule.{line_in, line_now}
 use Rattle.stack_table.specs.Lines.{names}
-use Rattle.treiber_stack.specs.declared.begun.Begun.{Begun}
+use Rattle.treiber_stack.specs.declared.call_parts.begun.Begun.{Begun}
 
 module _ {T : Type 0} where
   abbrev pub line_begun : Begun T → Line T

@@ -6,13 +6,14 @@ use Rattle.bounded_model.specs.declared.bulk.RangeRefused.{RangeRefused}
 use Rattle.bounded_model.specs.declared.views.PassView.{PassView}
 use Rattle.bounded_model.specs.Stepping.{MatchStepped}
 use Rattle.stack_machine.specs.declared.lines.Line.{Line}
-use Rattle.running.specs.declared.passes.Pass.{Pass}
-use Rattle.treiber_stack.specs.declared.stack.Stack.{Stack}
+use Rattle.running.specs.Passes as passes
+use Rattle.stack_table.specs.declared.operation.Operation.{Operation}
+use Rattle.bounded.specs.declared.bounded.Laid as laid
 use Rattle.treiber_stack.specs.Ranging.{PutsOf}
 use Rattle.treiber_stack.specs.RangeTrying.{IsRanging, RangeOp, gives_back, places_at}
-use Rattle.treiber_stack.specs.Stack.{pass_in, begun_of}
+use Rattle.treiber_stack.specs.Stack.{Pass, Stack, pass_in, begun_of}
 
-module _ {T : Type 0} (c : Stack T) (vs : List T) where
+module _ {T P : Type 0} {g : laid.Ghosts P T (Line T) (Operation T)} (c : Stack T P g) (vs : List T) where
   -- a put of these values is under way. If it had places, the values in nodes would have left theirs; once it
   -- gives nodes back, all would be there
   abbrev pub IsCopying : RangeOp T → Type 0
@@ -20,11 +21,11 @@ module _ {T : Type 0} (c : Stack T) (vs : List T) where
 
   -- the put, begun as the pass was v, is under way, or gave what the whole put of a range gives. The places are those of the values that
   -- were not put
-  abbrev pub CopyTried : PassView T → Stepped (RangeOp T) (Pass T (Line T)) (Result Ranged RangeRefused) → Type 0
+  abbrev pub CopyTried : PassView T → Stepped (RangeOp T) (Pass T) (Result Ranged RangeRefused) → Type 0
   CopyTried v made = MatchStepped made
       (λ next. IsCopying next × (begun_of c next.pass ≡ v))
       (λ back answer. (places : List (Slot T)) × PutsOf c v vs places back answer)
 
   -- it was begun, and has made no step
-  abbrev pub CopyBegun : PassView T → Stepped (RangeOp T) (Pass T (Line T)) (Result Ranged RangeRefused) → Type 0
-  CopyBegun v made = CopyTried v made × MatchStepped made (λ next. pass_in next.pass ≡ v) (λ back answer. pass_in back ≡ v)
+  abbrev pub CopyBegun : PassView T → Stepped (RangeOp T) (Pass T) (Result Ranged RangeRefused) → Type 0
+  CopyBegun v made = CopyTried v made × MatchStepped made (λ next. passes.pass_in next.pass ≡ v) (λ back answer. pass_in back ≡ v)

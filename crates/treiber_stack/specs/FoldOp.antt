@@ -9,23 +9,24 @@ use Rattle.stack_machine.specs.Deeds.{in_order}
 use Rattle.stack_machine.specs.declared.lines.Line.{Line}
 use Rattle.stack_table.specs.Lines.{direction}
 use Rattle.stack_table.specs.declared.operation.Operation.{Operation}
-use Rattle.treiber_stack.specs.declared.folding.FoldAt.{FoldAt}
-use Rattle.treiber_stack.specs.declared.fold_op.FoldMade.{FoldMade}
-use Rattle.treiber_stack.specs.declared.fold_op.FoldMade.TheVariants.{Again, Value, Done}
-use Rattle.treiber_stack.specs.declared.stack.Stack.{Stack}
+use Rattle.treiber_stack.specs.declared.bulk.folding.FoldAt.{FoldAt}
+use Rattle.treiber_stack.specs.declared.bulk.fold_op.FoldMade.{FoldMade}
+use Rattle.treiber_stack.specs.declared.bulk.fold_op.FoldMade.TheVariants.{Again, Value, Done}
+use Rattle.bounded.specs.declared.bounded.Laid as laid
 use Rattle.treiber_stack.specs.Folding.{front_of, gone, fold_account}
-use Rattle.treiber_stack.specs.Stack.{machine_of, shape_of, pass_in, begun_of, IsPassOf}
+use Rattle.running.specs.Passes as passes
+use Rattle.treiber_stack.specs.Stack.{Stack, machine_of, shape_of, pass_in, begun_of, IsPassOf}
 
 abbrev pub FoldOp : Type 0 → Type 0
 FoldOp T = Op T (Line T) (Operation T) (FoldAt T)
 
 -- n steps were allowed. A fold that continues has made exactly n. A fold that handed out a value or ended has made at most n
 abbrev pub FoldSteps : {T : Type 0} → ℕ → PassView T → FoldMade T → Type 0
-FoldSteps n v (Again op) = (pass_in op.pass).steps ≡ v.steps + n
-FoldSteps n v (Value x op) = (pass_in op.pass).steps ≤ v.steps + n
+FoldSteps n v (Again op) = (passes.pass_in op.pass).steps ≡ v.steps + n
+FoldSteps n v (Value x op) = (passes.pass_in op.pass).steps ≤ v.steps + n
 FoldSteps n v (Done back answer) = (pass_in back).steps ≤ v.steps + n
 
-module _ {T : Type 0} (c : Stack T) (front : Front) where
+module _ {T P : Type 0} {g : laid.Ghosts P T (Line T) (Operation T)} (c : Stack T P g) (front : Front) where
   -- it goes from this end, and has handed out these values, in this order
   pub record IsFolding (values : List T) (op : FoldOp T) : Type 0 where
     pub under_way : IsUnderWay (machine_of c) (fold_account c.table.shared.key) c.table.shared.table_id op

@@ -20,12 +20,12 @@ use Rattle.stack_table.specs.declared.operation.Operation.{Operation}
 use Rattle.stack_table.specs.declared.operation.Operation.TheVariants.{Fold as FoldFirst}
 use Rattle.stack_table.specs.Lines.{direction}
 use Rattle.stack_table.specs.Slots.{full, vacant, IsHand}
-use Rattle.treiber_stack.specs.declared.folding.Batch.{Batch}
-use Rattle.treiber_stack.specs.declared.folding.Walk.{Walk}
-use Rattle.treiber_stack.specs.declared.folding.FoldAt.{FoldAt}
-use Rattle.treiber_stack.specs.declared.folding.FoldAt.TheVariants.{Load, TakeAll, LoadToTurn, TurnLink, LoadToFold, GiveBack}
-use Rattle.treiber_stack.specs.declared.folding.FoldStop.{FoldStop}
-use Rattle.treiber_stack.specs.declared.folding.FoldStop.TheVariants.{Yields, Ended, Refused}
+use Rattle.treiber_stack.specs.declared.bulk.folding.Batch.{Batch}
+use Rattle.treiber_stack.specs.declared.bulk.folding.Walk.{Walk}
+use Rattle.treiber_stack.specs.declared.bulk.folding.FoldAt.{FoldAt}
+use Rattle.treiber_stack.specs.declared.bulk.folding.FoldAt.TheVariants.{Load, TakeAll, LoadToTurn, TurnLink, LoadToFold, GiveBack}
+use Rattle.treiber_stack.specs.declared.bulk.folding.FoldStop.{FoldStop}
+use Rattle.treiber_stack.specs.declared.bulk.folding.FoldStop.TheVariants.{Yields, Ended, Refused}
 use Rattle.treiber_stack.specs.Giving.{AreNodes, give_line}
 
 module _ {T : Type 0} where

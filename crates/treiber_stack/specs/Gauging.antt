@@ -4,7 +4,7 @@ use Rattle.bounded_model.specs.declared.views.PassView.{PassView}
 use Rattle.bounded_model.specs.Justified.{Sometime}
 use Rattle.bounded_model.specs.Laws.{Adds}
 use Rattle.stack_machine.specs.Answers.{IsGauged}
-use Rattle.treiber_stack.specs.declared.gauging.Gauge.{Gauge}
+use Rattle.treiber_stack.specs.declared.calls.gauging.Gauge.{Gauge}
 
 -- A gauge of a stack of n nodes with this limit changes nothing. It shows how the stack was at some time
 -- between what its pass had seen as the gauge was begun, v, and as it ended, w

@@ -5,7 +5,7 @@ use lib.ListN.{get_elem?}
 use Rattle.std.specs.Mem.Slots.{slots_items}
 use Rattle.tagged_index.specs.Fields.{index_of}
 use Rattle.stack_table.specs.Layout.{link_at}
-use Rattle.treiber_stack.specs.declared.rest.Rest.{Rest}
+use Rattle.treiber_stack.specs.declared.life.rest.Rest.{Rest}
 
 module _ {T : Type 0} where
   -- how many slots have a value

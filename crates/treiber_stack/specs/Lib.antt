@@ -1,3 +1,5 @@
+pub mod Calls
+pub mod Limits
 pub mod Stack
 pub mod Begun
 pub mod Refusing

@@ -1,5 +1,4 @@
 -- The names of a stack's steps, from its machine's table.
-use Rattle.bounded_model.specs.declared.commands.Operation.TheVariants.{Put, Take, Close, Shut, Look}
 use Rattle.bounded_model.specs.declared.history.Event.{Event}
 use Rattle.bounded_model.specs.Machine.{Shape}
 use Rattle.stack_machine.specs.declared.lines.Line.{Line}
@@ -11,11 +10,13 @@ use Rattle.step_names.specs.declared.location.Location.{Location}
 use Rattle.step_names.specs.declared.location.Location.TheVariants as location
 use Rattle.step_names.specs.declared.step_name.StepName.{StepName}
 use Rattle.step_names.specs.Names.{IsNamed, Naming}
-use Rattle.treiber_stack.specs.Closing.{mark_line}
-use Rattle.treiber_stack.specs.Looking.{look_line}
-use Rattle.treiber_stack.specs.Putting.{put_line}
-use Rattle.treiber_stack.specs.Stepwise.{AnyOp}
-use Rattle.treiber_stack.specs.Taking.{take_line}
+use Rattle.tagged_index.specs.declared.limit.Limits.{Limits}
+use Rattle.bounded.specs.Naming as bounded
+use Rattle.treiber_stack.specs.Closing.{mark_account}
+use Rattle.treiber_stack.specs.Looking.{look_account}
+use Rattle.treiber_stack.specs.Putting.{put_account}
+use Rattle.treiber_stack.specs.declared.life.stack.AnyOp.{AnyOp}
+use Rattle.treiber_stack.specs.Taking.{take_account}
 
 abbrev pub word_at : Top → Location
 word_at Free = location.Free
@@ -33,10 +34,6 @@ module _ {T : Type 0} where
   abbrev pub IsNextStep : Line T → StepName → Type 0
   IsNextStep line name = (shape : Shape) → IsNamed (naming shape) line name
 
-  -- the next step of an operation, whichever call it makes, has this name
+  -- the next step of an operation has this name
   abbrev pub IsStep : AnyOp T → StepName → Type 0
-  IsStep (Put op) name = IsNextStep (put_line op.at) name
-  IsStep (Take op) name = IsNextStep (take_line op.at) name
-  IsStep (Close op) name = IsNextStep (mark_line op.at) name
-  IsStep (Shut op) name = IsNextStep (mark_line op.at) name
-  IsStep (Look op) name = IsNextStep (look_line op.at) name
+  IsStep op name = (key : Limits) → bounded.IsStep IsNextStep (put_account key).line (take_account key).line (mark_account key).line (mark_account key).line (look_account key).line op.call name

@@ -8,7 +8,7 @@ use Rattle.tagged_index.specs.declared.word.TheConstants.{NULL}
 use Rattle.bounded_model.specs.declared.answers.PutRefused.{PutRefused}
 use Rattle.bounded_model.specs.declared.answers.PutRefused.TheVariants.{Full, Closed, Spent}
 use Rattle.bounded_model.specs.Laws.{in_list}
-use Rattle.stack_machine.specs.declared.lines.Answer.{Answer}
+use Rattle.stack_machine.specs.declared.lines.Answer as lines
 use Rattle.stack_machine.specs.declared.lines.Answer.TheVariants.{Put as AnswerPut}
 use Rattle.stack_machine.specs.declared.lines.Giving.{Giving}
 use Rattle.stack_machine.specs.declared.lines.Putting.{Putting}
@@ -19,19 +19,22 @@ use Rattle.running.specs.Steps.{Stands, Ran}
 use Rattle.running.specs.declared.passes.Pass.{Pass}
 use Rattle.running.specs.declared.code.Next.{Next}
 use Rattle.stack_table.specs.declared.operation.Operation.{Operation}
-use Rattle.stack_table.specs.declared.operation.Operation.TheVariants.{Put as PutFirst}
-use Rattle.stack_table.specs.declared.operation.Listed.TheVariants.{End}
 use Rattle.stack_table.specs.Slots.{vacant}
-use Rattle.treiber_stack.specs.declared.stack.Stack.{Stack}
 use Rattle.running.specs.declared.op.Op.{Op}
-use Rattle.running.specs.Ops.{IsUnderWay}
-use Rattle.treiber_stack.specs.declared.putting.PutAt.{PutAt}
-use Rattle.treiber_stack.specs.declared.putting.PutAt.TheVariants.{LoadFree, Link, Hold, Load, LinkTo, Exchange, Refuse, GiveBack}
+use Rattle.bounded.specs.declared.bounded.Laid as laid
+use Rattle.bounded.specs.Bounded.{Makes}
+use Rattle.bounded_model.specs.declared.commands.Command.TheVariants.{Put as PutCall}
+use Rattle.treiber_stack.specs.Calls.{is_call, put_of}
+use Rattle.treiber_stack.specs.declared.calls.putting.PutAt.{PutAt}
+use Rattle.treiber_stack.specs.declared.calls.putting.PutAt.TheVariants.{LoadFree, Link, Hold, Load, LinkTo, Exchange, Refuse, GiveBack}
 use Rattle.treiber_stack.specs.Giving.{give_line}
-use Rattle.treiber_stack.specs.Stack.{machine_of}
+use Rattle.treiber_stack.specs.Stack.{Answered, Stack, machine_of}
 
 abbrev pub PutOp : Type 0 → Type 0
 PutOp T = Op T (Line T) (Operation T) (PutAt T)
+
+abbrev pub Answer : Type 0 → Type 0
+Answer T = Answered (Result ℕ (PutRefused T))
 
 module _ {T : Type 0} where
   -- a put of one value, without its node and with it
@@ -42,17 +45,13 @@ module _ {T : Type 0} where
   bearing x i = record { values = x ∷ []; chain = i ∷ [] }
 
   -- the refusal and the answer of a put of one value, as the machine has those of several
-  abbrev pub put_answer : Result ℕ (PutRefused T) → Answer T
+  abbrev pub put_answer : Result ℕ (PutRefused T) → lines.Answer T
   put_answer (Ok k) = AnswerPut (Ok (k, []))
   put_answer (Err why) = AnswerPut (Err (in_list why))
 
   -- the node that is given back, and then the answer
   abbrev pub refusing : PutRefused T → ℕ → Giving T
   refusing why i = record { chain = i ∷ []; answer = put_answer (Err why) }
-
-  -- the operation of a put of x
-  abbrev pub put_of : T → Operation T
-  put_of x = PutFirst (record { marker = record {}; value = x }) End
 
   -- the value that is put
   abbrev pub refused_value : PutRefused T → T
@@ -104,18 +103,18 @@ module _ {T : Type 0} where
   HasReadToPut n limit (GiveBack why i at) = i < n
 
   -- how it is read
-  abbrev pub put_account : Limits → Account T (Line T) (Operation T) (PutAt T) (Result ℕ (PutRefused T))
-  put_account k = to_answer (λ at. put_of (put_value at)) put_line put_slots (λ at. HasReadToPut (capacity_of k) (tag_limit_of k) at) (λ o r. ends (put_answer r))
+  abbrev pub put_account : Limits → Account T (Line T) (Operation T) (PutAt T) (Answer T)
+  put_account k = to_answer (λ at. put_of (put_value at)) put_line put_slots (λ at. HasReadToPut (capacity_of k) (tag_limit_of k) at) (λ o a. ends (put_answer a.reply))
 
-  -- a put of x, by its operation, which is also the put of the value that it has
-  pub record IsPutting (c : Stack T) (x : T) (op : PutOp T) : Type 0 where
-    pub of : op.operation ≡ put_of x
-    pub under_way : IsUnderWay (machine_of c) (put_account c.table.shared.key) c.table.shared.table_id op
+module _ {T P : Type 0} {g : laid.Ghosts P T (Line T) (Operation T)} where
+  -- a put of x, by its operation: the put of the value that the operation has is a put of x too
+  abbrev pub IsPutting : Stack T P g → T → PutOp T → Type 0
+  IsPutting c x op = Makes (machine_of c) (put_account c.table.shared.key) c.table.shared.table_id (is_call (PutCall x)) op
 
   -- a whole call of this operation is at this
-  abbrev pub PutStands : Stack T → Operation T → Pass T (Line T) → PutAt T → Type 0
+  abbrev pub PutStands : Stack T P g → Operation T → Pass T (Line T) → PutAt T → Type 0
   PutStands c o p at = (o ≡ put_of (put_value at)) × Stands (machine_of c) (put_account c.table.shared.key) c.table.shared.table_id p at
 
-  -- what some steps of a whole call give
-  abbrev pub PutRan : Stack T → Operation T → Pass T (Line T) → Pass T (Line T) → Next (PutAt T) (Result ℕ (PutRefused T)) → Type 0
+  -- what some steps of it give
+  abbrev pub PutRan : Stack T P g → Operation T → Pass T (Line T) → Pass T (Line T) → Next (PutAt T) (Answer T) → Type 0
   PutRan c o p q r = Ran (machine_of c) (put_account c.table.shared.key) c.table.shared.table_id o p q r

@@ -1,5 +1,5 @@
--- What a stack's whole calls and its end are: runs of its machine.
-use Rattle.std.specs.Prelude.{◌≡◌, ℕ, List, [], ◌∷◌, drop, Result, Ok, Err}
+-- A stack's whole calls are runs of its machine.
+use Rattle.std.specs.Prelude.{◌≡◌, List, [], ◌∷◌, drop, Result, Ok, Err}
 use Rattle.bounded_model.specs.declared.answers.PutRefused.TheVariants.{Full as PutFull, Closed as PutClosed, Spent as PutSpent}
 use Rattle.bounded_model.specs.declared.answers.TakeRefused.{TakeRefused}
 use Rattle.bounded_model.specs.declared.bulk.Folded.{Folded}
@@ -7,7 +7,6 @@ use Rattle.bounded_model.specs.declared.bulk.Ranged.{Ranged}
 use Rattle.bounded_model.specs.declared.bulk.RangeRefused.{RangeRefused}
 use Rattle.bounded_model.specs.declared.bulk.RangeRefused.TheVariants.{Nothing, Full, Closed, Spent}
 use Rattle.bounded_model.specs.declared.views.PassView.{PassView}
-use Rattle.bounded_model.specs.declared.views.RootView.{RootView}
 use Rattle.bounded_model.specs.declared.views.Answered.TheVariants.{Fold as FoldAnswered}
 use Rattle.bounded_model.specs.Laws.{Answers, FoldGives}
 use Rattle.index_list.specs.declared.front.Front.{Front}
@@ -19,22 +18,15 @@ use Rattle.stack_machine.specs.Machine.{ends}
 use Rattle.stack_machine.specs.Deeds.{in_order}
 use Rattle.stack_table.specs.declared.operation.Operation.{Operation}
 use Rattle.stack_table.specs.Lines.{answered, call_of, direction}
-use Rattle.stack_table.proofs.Laws.{stack}
 use Rattle.running.specs.Going.{HasRun}
-use Rattle.running.specs.declared.passes.Pass.{Pass}
-use Rattle.run_ends.specs.Ends as at_end
-use Rattle.treiber_stack.specs.declared.stack.Stack.{Stack}
-use Rattle.treiber_stack.specs.Stack.{machine_of, pass_in}
+use Rattle.bounded.specs.declared.bounded.Laid as laid
+use Rattle.treiber_stack.specs.Stack.{Pass, Stack, machine_of, pass_in}
 
--- what is left stands for a run of the machine
-abbrev pub IsRun : {T : Type 0} → ℕ → ℕ → RootView T → List T → Type 0
-IsRun {T} n limit r left = at_end.IsRun (stack T n limit) r left
-
-module _ {T : Type 0} (c : Stack T) (o : Operation T) (begun : PassView T) (back : Pass T (Line T)) where
+module _ {T P : Type 0} {g : laid.Ghosts P T (Line T) (Operation T)} (c : Stack T P g) (o : Operation T) (begun : PassView T) (back : Pass T) where
   -- A call of this operation was begun once, when its pass was `begun`. The machine's steps of that pass since then, each an act of its
   -- own, led the operation from its first line to this answer. The pass's count is that of its acts
   abbrev pub WasRun : Answer T → Type 0
-  WasRun answer = HasRun (machine_of c) o back.seat.me.0 begun (ends answer)
+  WasRun answer = HasRun (machine_of c) o back.pass.seat.me.0 begun (ends answer)
 
   -- the same of a fold, whose machine answers with the values that it took
   abbrev pub WasFolded : Result Folded TakeRefused → Type 0
@@ -66,5 +58,5 @@ abbrev pub RangeAnswers : {T : Type 0} → List T → Result Ranged RangeRefused
 RangeAnswers vs r v w = MatchCall vs r (w ≡ v) (λ a. Answers v w (answered a))
 
 -- and the machine has run, as one call
-abbrev pub WasRange : {T : Type 0} → Stack T → PassView T → List T → Result Ranged RangeRefused → Pass T (Line T) → Type 0
+abbrev pub WasRange : {T P : Type 0} {g : laid.Ghosts P T (Line T) (Operation T)} → Stack T P g → PassView T → List T → Result Ranged RangeRefused → Pass T → Type 0
 WasRange {T} c begun vs r back = MatchCall vs r (pass_in back ≡ begun) (λ a. (o : Operation T) × IsRange o vs × WasRun c o begun back a)

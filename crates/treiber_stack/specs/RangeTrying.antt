@@ -7,17 +7,18 @@ use Rattle.bounded_model.specs.declared.views.PassView.{PassView}
 use Rattle.bounded_model.specs.Stepping.{MatchStepped}
 use Rattle.stack_machine.specs.declared.lines.Line.{Line}
 use Rattle.running.specs.declared.op.Op.{Op}
-use Rattle.running.specs.declared.passes.Pass.{Pass}
+use Rattle.running.specs.Passes as passes
+use Rattle.running.specs.declared.passes.Pass as runs
 use Rattle.stack_table.specs.declared.operation.Operation.{Operation}
-use Rattle.treiber_stack.specs.declared.stack.Stack.{Stack}
-use Rattle.treiber_stack.specs.declared.range_steps.Held.{Held}
-use Rattle.treiber_stack.specs.declared.range_steps.RangeAt.{RangeAt}
-use Rattle.treiber_stack.specs.declared.range_steps.RangeAt.TheVariants.{GiveBack}
-use Rattle.treiber_stack.specs.declared.range_steps.RangeState.{RangeState}
-use Rattle.treiber_stack.specs.declared.range_steps.RangeStop.{RangeStop}
+use Rattle.bounded.specs.declared.bounded.Laid as laid
+use Rattle.treiber_stack.specs.declared.bulk.range_steps.Held.{Held}
+use Rattle.treiber_stack.specs.declared.bulk.range_steps.RangeAt.{RangeAt}
+use Rattle.treiber_stack.specs.declared.bulk.range_steps.RangeAt.TheVariants.{GiveBack}
+use Rattle.treiber_stack.specs.declared.bulk.range_steps.RangeState.{RangeState}
+use Rattle.treiber_stack.specs.declared.bulk.range_steps.RangeStop.{RangeStop}
 use Rattle.treiber_stack.specs.Ran.{IsRange}
 use Rattle.treiber_stack.specs.Ranging.{HasNodes, IsRangeAt, PutsOf, StopsSo, places_from, putting, takes}
-use Rattle.treiber_stack.specs.Stack.{pass_in, begun_of}
+use Rattle.treiber_stack.specs.Stack.{Pass, Stack, pass_in, begun_of}
 
 abbrev pub RangeOp : Type 0 → Type 0
 RangeOp T = Op T (Line T) (Operation T) RangeState
@@ -40,10 +41,10 @@ module _ {T : Type 0} where
 
   -- What a stop came to, of a range that was at this with these nodes. It has ended, or it continues: on its way to put the values back, or
   -- with one node more after one step at most
-  abbrev pub StoppedAt : RangeAt → ℕ → Pass T (Line T) → Stepped (RangeOp T) (Pass T (Line T)) (Result Ranged RangeRefused) → Type 0
+  abbrev pub StoppedAt : RangeAt → ℕ → runs.Pass T (Line T) → Stepped (RangeOp T) (Pass T) (Result Ranged RangeRefused) → Type 0
   StoppedAt at count p made = MatchStepped made
-      (λ next. (gives_back at ≡ false) × (gives_back next.at.at ≡ false → (next.at.held.count ≡ count + 1) × ((pass_in next.pass).steps ≤ (pass_in p).steps + 1)))
-      (λ back answer. (back ≡ p) × PutSoMany at count answer)
+      (λ next. (gives_back at ≡ false) × (gives_back next.at.at ≡ false → (next.at.held.count ≡ count + 1) × ((passes.pass_in next.pass).steps ≤ (passes.pass_in p).steps + 1)))
+      (λ back answer. (back.pass ≡ p) × PutSoMany at count answer)
 
   -- The steps of a part that took `more` nodes: n to take each and one to link it, and n after the last
   abbrev pub MadeWith : ℕ → ℕ → PassView T → PassView T → Type 0
@@ -52,36 +53,36 @@ module _ {T : Type 0} where
   -- n steps were allowed for each node, n for the top and n for the way back. MadeWith bounds the steps of a range that continues, unless
   -- it is newly on its way back. Such a range has made exactly n if it has no node more. MadeWith also bounds the steps of a range that was
   -- put, or was on its way back before
-  abbrev pub RangeEnds : ℕ → RangeOp T → Pass T (Line T) → Result Ranged RangeRefused → Type 0
-  RangeEnds n op back (Ok r) = (more : ℕ) × (more + op.at.held.count ≡ r.count) × MadeWith n more (pass_in op.pass) (pass_in back)
-  RangeEnds n op back (Err why) = gives_back op.at.at ≡ true → MadeWith n 0 (pass_in op.pass) (pass_in back)
+  abbrev pub RangeEnds : ℕ → RangeOp T → Pass T → Result Ranged RangeRefused → Type 0
+  RangeEnds n op back (Ok r) = (more : ℕ) × (more + op.at.held.count ≡ r.count) × MadeWith n more (passes.pass_in op.pass) (pass_in back)
+  RangeEnds n op back (Err why) = gives_back op.at.at ≡ true → MadeWith n 0 (passes.pass_in op.pass) (pass_in back)
 
-  abbrev pub RangeSteps : ℕ → RangeOp T → Stepped (RangeOp T) (Pass T (Line T)) (Result Ranged RangeRefused) → Type 0
+  abbrev pub RangeSteps : ℕ → RangeOp T → Stepped (RangeOp T) (Pass T) (Result Ranged RangeRefused) → Type 0
   RangeSteps n op made = MatchStepped made
-      (λ next. gives_back next.at.at ≡ gives_back op.at.at → (more : ℕ) × (more + op.at.held.count ≡ next.at.held.count) × MadeWith n more (pass_in op.pass) (pass_in next.pass)
-      × (more ≡ 0 → (pass_in next.pass).steps ≡ (pass_in op.pass).steps + n))
+      (λ next. gives_back next.at.at ≡ gives_back op.at.at → (more : ℕ) × (more + op.at.held.count ≡ next.at.held.count) × MadeWith n more (passes.pass_in op.pass) (passes.pass_in next.pass)
+      × (more ≡ 0 → (passes.pass_in next.pass).steps ≡ (passes.pass_in op.pass).steps + n))
       (λ back answer. RangeEnds n op back answer)
 
-module _ {T : Type 0} (c : Stack T) (o : Operation T) where
+module _ {T P : Type 0} {g : laid.Ghosts P T (Line T) (Operation T)} (c : Stack T P g) (o : Operation T) where
   -- a range of these values is at this; if it takes a node, there is a value for it
-  pub record IsRangeOf (p : Pass T (Line T)) (vs : List T) (held : Held) (at : RangeAt) : Type 0 where
+  pub record IsRangeOf (p : runs.Pass T (Line T)) (vs : List T) (held : Held) (at : RangeAt) : Type 0 where
     pub chain : List ℕ
     pub has : HasNodes c vs chain held
     pub is : IsRangeAt c o p (putting vs chain) held at
     pub wants : takes at ≡ true → held.count < length vs
 
   -- it was at this, begun as the pass was v, and has stopped
-  pub record HasStopped (v : PassView T) (p : Pass T (Line T)) (vs : List T) (held : Held) (at : RangeAt) (stop : RangeStop) : Type 0 where
+  pub record HasStopped (v : PassView T) (p : runs.Pass T (Line T)) (vs : List T) (held : Held) (at : RangeAt) (stop : RangeStop) : Type 0 where
     pub chain : List ℕ
     pub has : HasNodes c vs chain held
     pub wants : takes at ≡ true → held.count < length vs
     pub stops : StopsSo c o v p (putting vs chain) held at stop
 
   -- some steps led it on
-  abbrev pub RanOn : Pass T (Line T) → List T → Held → RangeAt → Pass T (Line T) → RangeAt → Type 0
+  abbrev pub RanOn : runs.Pass T (Line T) → List T → Held → RangeAt → runs.Pass T (Line T) → RangeAt → Type 0
   RanOn p vs held at q at' = IsRangeOf q vs held at' × (begun_of c q ≡ begun_of c p) × (gives_back at' ≡ gives_back at)
 
-module _ {T : Type 0} (c : Stack T) where
+module _ {T P : Type 0} {g : laid.Ghosts P T (Line T) (Operation T)} (c : Stack T P g) where
   -- a put of these values is under way, and its places are these
   pub record IsRanging (vs : List T) (places : List (Slot T)) (op : RangeOp T) : Type 0 where
     pub of : IsRange op.operation vs
@@ -89,12 +90,12 @@ module _ {T : Type 0} (c : Stack T) where
     pub places_are : places ≡ places_at (gives_back op.at.at) op.at.held.count vs
 
   -- begun as the pass was v, it is under way, or gave what the whole put gives
-  abbrev pub RangeTried : List T → PassView T → List (Slot T) → Stepped (RangeOp T) (Pass T (Line T)) (Result Ranged RangeRefused) → Type 0
+  abbrev pub RangeTried : List T → PassView T → List (Slot T) → Stepped (RangeOp T) (Pass T) (Result Ranged RangeRefused) → Type 0
   RangeTried vs v places made = MatchStepped made
       (λ next. IsRanging vs places next × (begun_of c next.pass ≡ v))
       (λ back answer. PutsOf c v vs places back answer)
 
   -- a put of the values in these places was begun, and has made no step
-  abbrev pub RangeBegun : PassView T → List (Slot T) → Stepped (RangeOp T) (Pass T (Line T)) (Result Ranged RangeRefused) → Type 0
+  abbrev pub RangeBegun : PassView T → List (Slot T) → Stepped (RangeOp T) (Pass T) (Result Ranged RangeRefused) → Type 0
   RangeBegun v places made = ((vs : List T) × (places ≡ map Some vs) × RangeTried vs v places made)
-      × MatchStepped made (λ next. pass_in next.pass ≡ v) (λ back answer. pass_in back ≡ v)
+      × MatchStepped made (λ next. passes.pass_in next.pass ≡ v) (λ back answer. pass_in back ≡ v)

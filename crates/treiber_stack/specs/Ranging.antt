@@ -27,27 +27,28 @@ use Rattle.stack_machine.specs.declared.lines.Line.TheVariants.{LoadFree as Load
 use Rattle.stack_machine.specs.Machine.{is_idle, ends, next_node, placed, unplaced, with_node}
 use Rattle.running.specs.Going.{Ended}
 use Rattle.running.specs.Rule.{line_in}
-use Rattle.running.specs.declared.passes.Pass.{Pass}
+use Rattle.running.specs.Passes as passes
+use Rattle.running.specs.declared.passes.Pass as runs
 use Rattle.stack_table.specs.declared.operation.Operation.{Operation}
 use Rattle.stack_table.specs.Lines.{names}
 use Rattle.stack_table.specs.Slots.{full, vacant}
-use Rattle.treiber_stack.specs.declared.stack.Stack.{Stack}
-use Rattle.treiber_stack.specs.declared.giving.Give.TheVariants.{Load as LoadToGive}
-use Rattle.treiber_stack.specs.declared.range_steps.Held.{Held}
-use Rattle.treiber_stack.specs.declared.range_steps.Range.{Range}
-use Rattle.treiber_stack.specs.declared.range_steps.RangeAt.{RangeAt}
-use Rattle.treiber_stack.specs.declared.range_steps.RangeAt.TheVariants.{LoadFree, Link, Hold, Load, LinkTo, Exchange, Refuse, GiveBack}
-use Rattle.treiber_stack.specs.declared.range_steps.RangeEnd.{RangeEnd}
-use Rattle.treiber_stack.specs.declared.range_steps.RangeEnd.TheVariants.{Put, Full as IsFull, Refused, Spent as IsSpent, Barred as IsBarred, GaveBack}
-use Rattle.treiber_stack.specs.declared.range_steps.RangeStop.{RangeStop}
-use Rattle.treiber_stack.specs.declared.range_steps.RangeStop.TheVariants.{Took, Over}
-use Rattle.treiber_stack.specs.declared.range_steps.RangeStopped.{RangeStopped}
-use Rattle.treiber_stack.specs.declared.refusing.Barred.{Barred}
+use Rattle.bounded.specs.declared.bounded.Laid as laid
+use Rattle.treiber_stack.specs.declared.call_parts.giving.Give.TheVariants.{Load as LoadToGive}
+use Rattle.treiber_stack.specs.declared.bulk.range_steps.Held.{Held}
+use Rattle.treiber_stack.specs.declared.bulk.range_steps.Range.{Range}
+use Rattle.treiber_stack.specs.declared.bulk.range_steps.RangeAt.{RangeAt}
+use Rattle.treiber_stack.specs.declared.bulk.range_steps.RangeAt.TheVariants.{LoadFree, Link, Hold, Load, LinkTo, Exchange, Refuse, GiveBack}
+use Rattle.treiber_stack.specs.declared.bulk.range_steps.RangeEnd.{RangeEnd}
+use Rattle.treiber_stack.specs.declared.bulk.range_steps.RangeEnd.TheVariants.{Put, Full as IsFull, Refused, Spent as IsSpent, Barred as IsBarred, GaveBack}
+use Rattle.treiber_stack.specs.declared.bulk.range_steps.RangeStop.{RangeStop}
+use Rattle.treiber_stack.specs.declared.bulk.range_steps.RangeStop.TheVariants.{Took, Over}
+use Rattle.treiber_stack.specs.declared.bulk.range_steps.RangeStopped.{RangeStopped}
+use Rattle.treiber_stack.specs.declared.call_parts.refusing.Barred.{Barred}
 use Rattle.treiber_stack.specs.Begun.{put_begun}
 use Rattle.treiber_stack.specs.Giving.{AreNodes, IsGiving, give_line}
 use Rattle.treiber_stack.specs.Ran.{RangeAnswers, WasRange}
 use Rattle.treiber_stack.specs.Refusing.{barring}
-use Rattle.treiber_stack.specs.Stack.{room_of, limit_of, machine_of, shape_of, pass_in, begun_of, IsPassOf, IsAt}
+use Rattle.treiber_stack.specs.Stack.{Pass, Stack, room_of, limit_of, machine_of, shape_of, pass_in, begun_of, IsPassOf, IsSeatOf, IsAt}
 
 -- why a range that is not empty was refused, and what the pass has done
 abbrev pub NotPut : {T : Type 0} → Shape → PassView T → ℕ → PassView T → RangeRefused → Type 0
@@ -96,7 +97,7 @@ module _ {T : Type 0} where
     pub begins : first chain ≡ held.chain.first
     pub ends : last chain ≡ held.chain.last
 
-  abbrev pub HasNodes : Stack T → List T → List ℕ → Held → Type 0
+  abbrev pub HasNodes : {P : Type 0} {g : laid.Ghosts P T (Line T) (Operation T)} → Stack T P g → List T → List ℕ → Held → Type 0
   HasNodes c vs chain held = HasNodesBelow (room_of c) vs chain held
 
   -- the machine's line of a state, its slots in hand, and what is known of what it has read and holds
@@ -125,7 +126,7 @@ module _ {T : Type 0} where
   HasReadFor n limit put held Refuse = held.count ≡ 0
   HasReadFor n limit put held (GiveBack why at) = AreNodes n put.chain held.chain
 
-  abbrev pub HasRead : Stack T → Putting T → Held → RangeAt → Type 0
+  abbrev pub HasRead : {P : Type 0} {g : laid.Ghosts P T (Line T) (Operation T)} → Stack T P g → Putting T → Held → RangeAt → Type 0
   HasRead c put held at = HasReadFor (room_of c) (limit_of c) put held at
 
   -- and where it stops
@@ -161,7 +162,7 @@ module _ {T : Type 0} where
   abbrev pub stop_hand : RangeStopped T → List (ℕ × Slot T)
   stop_hand r = range_hand (put_begun r.begun) r.stop
 
-  abbrev pub StopTold : Stack T → Range T → RangeStopped T → Type 0
+  abbrev pub StopTold : {P : Type 0} {g : laid.Ghosts P T (Line T) (Operation T)} → Stack T P g → Range T → RangeStopped T → Type 0
   StopTold c s r = (r.begun ≡ s.begun) × Told (room_of c) s.held.count s.at r.stop
 
   -- how it is read
@@ -177,7 +178,7 @@ module _ {T : Type 0} where
   }
 
   -- a range is at this
-  pub record IsRangeAt (c : Stack T) (o : Operation T) (p : Pass T (Line T)) (put : Putting T) (held : Held) (at : RangeAt) : Type 0 where
+  pub record IsRangeAt {P : Type 0} {g : laid.Ghosts P T (Line T) (Operation T)} (c : Stack T P g) (o : Operation T) (p : runs.Pass T (Line T)) (put : Putting T) (held : Held) (at : RangeAt) : Type 0 where
     pub line : IsAt c o p (range_line put at) (range_slots put at)
     pub read : HasRead c put held at
 
@@ -186,20 +187,20 @@ module _ {T : Type 0} where
   linking [] put = next_node put
   linking (j ∷ js) put = LinkTaken put
 
-  pub record TakesNode (c : Stack T) (o : Operation T) (begun : PassView T) (put : Putting T) (q : Pass T (Line T)) (i : ℕ) : Type 0 where
+  pub record TakesNode {P : Type 0} {g : laid.Ghosts P T (Line T) (Operation T)} (c : Stack T P g) (o : Operation T) (begun : PassView T) (put : Putting T) (q : runs.Pass T (Line T)) (i : ℕ) : Type 0 where
     pub at : IsAt c o q (linking put.chain (with_node put i)) ((i, None) ∷ loaded put)
     pub low : i < room_of c
     pub begun_is : begun_of c q ≡ begun
 
   -- it has stopped at this line, by whether its machine has answered
-  abbrev pub Stopped : Stack T → Operation T → PassView T → Pass T (Line T) → Line T → List (ℕ × Slot T) → Bool → Type 0
-  Stopped c o begun q l rest true = IsPassOf c q × Ended (machine_of c) o q.seat.me.0 begun l
+  abbrev pub Stopped : {P : Type 0} {g : laid.Ghosts P T (Line T) (Operation T)} → Stack T P g → Operation T → PassView T → runs.Pass T (Line T) → Line T → List (ℕ × Slot T) → Bool → Type 0
+  Stopped c o begun q l rest true = IsSeatOf c q × Ended (machine_of c) o q.seat.me.0 begun l
   Stopped c o begun q l rest false = IsAt c o q l rest × (begun_of c q ≡ begun)
 
-  abbrev pub StopsSo : Stack T → Operation T → PassView T → Pass T (Line T) → Putting T → Held → RangeAt → RangeStop → Type 0
+  abbrev pub StopsSo : {P : Type 0} {g : laid.Ghosts P T (Line T) (Operation T)} → Stack T P g → Operation T → PassView T → runs.Pass T (Line T) → Putting T → Held → RangeAt → RangeStop → Type 0
   StopsSo c o begun q put held at stop = Told (room_of c) held.count at stop × Stopped c o begun q (range_stop put stop) (range_hand put stop) (is_idle (range_stop put stop))
 
-  abbrev pub EndsSo : Stack T → Operation T → PassView T → Pass T (Line T) → Putting T → Held → RangeEnd → Type 0
+  abbrev pub EndsSo : {P : Type 0} {g : laid.Ghosts P T (Line T) (Operation T)} → Stack T P g → Operation T → PassView T → runs.Pass T (Line T) → Putting T → Held → RangeEnd → Type 0
   EndsSo c o begun q put held end = ToldEnd held.count end × Stopped c o begun q (end_line put end) (loaded put) (is_idle (end_line put end))
 
   -- the places once the first k values have left
@@ -220,40 +221,40 @@ module _ {T : Type 0} where
   putting vs chain = record { values = vs; chain = chain }
 
   -- the put continues with the next value, or with the top
-  pub record IsFilling (c : Stack T) (o : Operation T) (p : Pass T (Line T)) (vs : List T) (held : Held) : Type 0 where
+  pub record IsFilling {P : Type 0} {g : laid.Ghosts P T (Line T) (Operation T)} (c : Stack T P g) (o : Operation T) (p : runs.Pass T (Line T)) (vs : List T) (held : Held) : Type 0 where
     pub chain : List ℕ
     pub has : HasNodes c vs chain held
     pub at : IsAt c o p (next_node (putting vs chain)) (loaded (putting vs chain))
 
   -- a node was taken for the next value
-  pub record HasTaken (c : Stack T) (o : Operation T) (p : Pass T (Line T)) (vs : List T) (held : Held) (i : ℕ) : Type 0 where
+  pub record HasTaken {P : Type 0} {g : laid.Ghosts P T (Line T) (Operation T)} (c : Stack T P g) (o : Operation T) (p : runs.Pass T (Line T)) (vs : List T) (held : Held) (i : ℕ) : Type 0 where
     pub chain : List ℕ
     pub has : HasNodes c vs chain held
     pub takes : TakesNode c o (begun_of c p) (putting vs chain) p i
 
   -- it has the value, whose place is empty; the link to the node before it is a step
-  abbrev pub FillsOne : Stack T → Operation T → Pass T (Line T) → List T → Held → Slot T → Pass T (Line T) → Held → Type 0
-  FillsOne c o p vs held place q more = IsFilling c o q vs more × (more.count ≡ held.count + 1) × (begun_of c q ≡ begun_of c p) × (place ≡ None) × ((pass_in q).steps ≤ (pass_in p).steps + 1)
+  abbrev pub FillsOne : {P : Type 0} {g : laid.Ghosts P T (Line T) (Operation T)} → Stack T P g → Operation T → runs.Pass T (Line T) → List T → Held → Slot T → runs.Pass T (Line T) → Held → Type 0
+  FillsOne c o p vs held place q more = IsFilling c o q vs more × (more.count ≡ held.count + 1) × (begun_of c q ≡ begun_of c p) × (place ≡ None) × ((passes.pass_in q).steps ≤ (passes.pass_in p).steps + 1)
 
   -- a range is over, with nodes for the first values
-  pub record IsOver (c : Stack T) (o : Operation T) (v : PassView T) (p : Pass T (Line T)) (vs : List T) (held : Held) (end : RangeEnd) : Type 0 where
+  pub record IsOver {P : Type 0} {g : laid.Ghosts P T (Line T) (Operation T)} (c : Stack T P g) (o : Operation T) (v : PassView T) (p : runs.Pass T (Line T)) (vs : List T) (held : Held) (end : RangeEnd) : Type 0 where
     pub chain : List ℕ
     pub has : HasNodes c vs chain held
     pub ends : EndsSo c o v p (putting vs chain) held end
 
   -- a range of these values, begun as the pass was v, has ended
-  abbrev pub PutsOf : Stack T → PassView T → List T → List (Slot T) → Pass T (Line T) → Result Ranged RangeRefused → Type 0
+  abbrev pub PutsOf : {P : Type 0} {g : laid.Ghosts P T (Line T) (Operation T)} → Stack T P g → PassView T → List T → List (Slot T) → Pass T → Result Ranged RangeRefused → Type 0
   PutsOf c v vs places q r = IsPassOf c q × PutsRange (record { shape = shape_of c; from = v; to = pass_in q }) (map Some vs) places r × RangeAnswers vs r v (pass_in q) × WasRange c v vs r q
 
   -- a refused range whose values are still in the slots
-  pub record IsRefused (c : Stack T) (o : Operation T) (p : Pass T (Line T)) (vs : List T) (held : Held) (why : Barred) : Type 0 where
+  pub record IsRefused {P : Type 0} {g : laid.Ghosts P T (Line T) (Operation T)} (c : Stack T P g) (o : Operation T) (p : runs.Pass T (Line T)) (vs : List T) (held : Held) (why : Barred) : Type 0 where
     pub chain : List ℕ
     pub has : HasNodes c vs chain held
     pub some_node : 0 < held.count
     pub at : IsAt c o p (LoadFreeToGive (refused (putting vs chain) why)) (loaded (putting vs chain))
 
   -- the values of a refused range go back to their places, the last first
-  pub record IsRestoring (c : Stack T) (o : Operation T) (p : Pass T (Line T)) (vs : List T) (held : Held) (why : Barred) (moved index : ℕ) : Type 0 where
+  pub record IsRestoring {P : Type 0} {g : laid.Ghosts P T (Line T) (Operation T)} (c : Stack T P g) (o : Operation T) (p : runs.Pass T (Line T)) (vs : List T) (held : Held) (why : Barred) (moved index : ℕ) : Type 0 where
     pub chain : List ℕ
     pub has : HasNodes c vs chain held
     pub done : List ℕ
@@ -264,7 +265,7 @@ module _ {T : Type 0} where
     pub at : IsAt c o p (LoadFreeToGive (refused (putting vs chain) why)) (full left (reverse (take (length left) vs)) ++ vacant done)
 
   -- they are all back, and the emptied nodes are to be given back
-  pub record Restores (c : Stack T) (o : Operation T) (p : Pass T (Line T)) (vs : List T) (held : Held) (why : Barred) (places : List (Slot T)) (q : Pass T (Line T)) : Type 0 where
+  pub record Restores {P : Type 0} {g : laid.Ghosts P T (Line T) (Operation T)} (c : Stack T P g) (o : Operation T) (p : runs.Pass T (Line T)) (vs : List T) (held : Held) (why : Barred) (places : List (Slot T)) (q : runs.Pass T (Line T)) : Type 0 where
     pub chain : List ℕ
     pub has : HasNodes c vs chain held
     pub back : IsGiving c o q (refused (putting vs chain) why) held.chain LoadToGive

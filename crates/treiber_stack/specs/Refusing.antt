@@ -12,10 +12,10 @@ use Rattle.stack_machine.specs.declared.lines.Putting.{Putting}
 use Rattle.stack_machine.specs.declared.lines.Taking.{Taking}
 use Rattle.stack_machine.specs.declared.lines.Answer.TheVariants.{Put as AnswerPut}
 use Rattle.stack_machine.specs.Machine.{at_load_top, at_load_top_to_refuse, at_load_top_to_take, ends, gives, refuses}
-use Rattle.treiber_stack.specs.declared.refusing.Barred.{Barred}
-use Rattle.treiber_stack.specs.declared.refusing.Barred.TheVariants.{Closed, Spent}
-use Rattle.treiber_stack.specs.declared.refusing.NoNode.{NoNode}
-use Rattle.treiber_stack.specs.declared.refusing.NoNode.TheVariants as none
+use Rattle.treiber_stack.specs.declared.call_parts.refusing.Barred.{Barred}
+use Rattle.treiber_stack.specs.declared.call_parts.refusing.Barred.TheVariants.{Closed, Spent}
+use Rattle.treiber_stack.specs.declared.call_parts.refusing.NoNode.{NoNode}
+use Rattle.treiber_stack.specs.declared.call_parts.refusing.NoNode.TheVariants as none
 
 -- the refusals that say so
 abbrev pub barring : {X : Type 0} → Barred → X → PutRefused X

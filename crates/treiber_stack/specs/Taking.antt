@@ -18,17 +18,22 @@ use Rattle.running.specs.declared.code.Next.{Next}
 use Rattle.stack_table.specs.declared.operation.Operation.{Operation}
 use Rattle.stack_table.specs.declared.operation.Operation.TheVariants.{Take as TakeFirst}
 use Rattle.stack_table.specs.Slots.{vacant}
-use Rattle.treiber_stack.specs.declared.stack.Stack.{Stack}
-use Rattle.treiber_stack.specs.declared.taking.Taken.{Taken}
+use Rattle.treiber_stack.specs.declared.calls.taking.Taken.{Taken}
 use Rattle.running.specs.declared.op.Op.{Op}
-use Rattle.running.specs.Ops.{IsUnderWay}
-use Rattle.treiber_stack.specs.declared.taking.TakeAt.{TakeAt}
-use Rattle.treiber_stack.specs.declared.taking.TakeAt.TheVariants.{Load, Link, Exchange, GiveBack}
+use Rattle.bounded.specs.declared.bounded.Laid as laid
+use Rattle.bounded.specs.Bounded.{Makes}
+use Rattle.bounded_model.specs.declared.commands.Command.TheVariants.{Take as TakeCall}
+use Rattle.treiber_stack.specs.Calls.{is_call}
+use Rattle.treiber_stack.specs.declared.calls.taking.TakeAt.{TakeAt}
+use Rattle.treiber_stack.specs.declared.calls.taking.TakeAt.TheVariants.{Load, Link, Exchange, GiveBack}
 use Rattle.treiber_stack.specs.Giving.{give_line}
-use Rattle.treiber_stack.specs.Stack.{machine_of}
+use Rattle.treiber_stack.specs.Stack.{Answered, Stack, machine_of}
 
 abbrev pub TakeOp : Type 0 → Type 0
 TakeOp T = Op T (Line T) (Operation T) (TakeAt T)
+
+abbrev pub Answer : Type 0 → Type 0
+Answer T = Answered (Result (T × ℕ) TakeRefused)
 
 module _ {T : Type 0} where
   -- the node that is given back, and then the answer
@@ -55,16 +60,17 @@ module _ {T : Type 0} where
   HasReadToTake n limit (GiveBack t at) = t.index < n
 
   -- how it is read
-  abbrev pub take_account : Limits → Account T (Line T) (Operation T) (TakeAt T) (Result (T × ℕ) TakeRefused)
-  take_account k = to_answer (λ at. TakeFirst) take_line take_slots (λ at. HasReadToTake (capacity_of k) (tag_limit_of k) at) (λ o r. ends (AnswerTake r))
+  abbrev pub take_account : Limits → Account T (Line T) (Operation T) (TakeAt T) (Answer T)
+  take_account k = to_answer (λ at. TakeFirst) take_line take_slots (λ at. HasReadToTake (capacity_of k) (tag_limit_of k) at) (λ o a. ends (AnswerTake a.reply))
 
-  abbrev pub IsTaking : Stack T → TakeOp T → Type 0
-  IsTaking c op = IsUnderWay (machine_of c) (take_account c.table.shared.key) c.table.shared.table_id op
-
+module _ {T P : Type 0} {g : laid.Ghosts P T (Line T) (Operation T)} where
   -- a whole call is at this
-  abbrev pub TakeStands : Stack T → Pass T (Line T) → TakeAt T → Type 0
+  abbrev pub TakeStands : Stack T P g → Pass T (Line T) → TakeAt T → Type 0
   TakeStands c p at = Stands (machine_of c) (take_account c.table.shared.key) c.table.shared.table_id p at
 
-  -- what some steps of a whole call give
-  abbrev pub TakeRan : Stack T → Operation T → Pass T (Line T) → Pass T (Line T) → Next (TakeAt T) (Result (T × ℕ) TakeRefused) → Type 0
+  abbrev pub IsTaking : Stack T P g → TakeOp T → Type 0
+  IsTaking c op = Makes (machine_of c) (take_account c.table.shared.key) c.table.shared.table_id (is_call TakeCall) op
+
+  -- what some steps of it give
+  abbrev pub TakeRan : Stack T P g → Operation T → Pass T (Line T) → Pass T (Line T) → Next (TakeAt T) (Answer T) → Type 0
   TakeRan c o p q r = Ran (machine_of c) (take_account c.table.shared.key) c.table.shared.table_id o p q r

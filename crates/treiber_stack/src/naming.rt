@@ -5,19 +5,22 @@ ghost use Rattle.stack_machine.specs.declared.lines.Giving.{Giving};
 ghost use Rattle.treiber_stack.specs.Closing.{mark_line};
 ghost use Rattle.treiber_stack.specs.Giving.{give_line};
 ghost use Rattle.treiber_stack.specs.Looking.{look_line};
-ghost use Rattle.treiber_stack.specs.Naming.{IsNextStep, IsStep};
+ghost use Rattle.treiber_stack.specs.Naming.{IsNextStep};
 ghost use Rattle.treiber_stack.specs.Putting.{put_line};
 ghost use Rattle.treiber_stack.specs.Taking.{take_line};
 
-use crate::closing::MarkAt;
-use crate::giving::Give;
-use crate::looking::LookAt;
-use crate::putting::PutAt;
-use crate::stack::Stack;
-use crate::stepwise::AnyOp;
-use crate::taking::TakeAt;
-use bounded_model::Operation;
-use step_names::{Location, Named, StepName};
+use crate::call_parts::giving::Give;
+use crate::calls::closing::MarkAt;
+use crate::calls::looking::LookAt;
+use crate::calls::putting::PutAt;
+use crate::calls::taking::TakeAt;
+use crate::life::stack::{AnyOp, Stack};
+use crate::rule::Stacked;
+use bounded::NamesSteps;
+use bounded_model::Operation as AnyCall;
+use stack_machine::Line;
+use stack_table::Operation;
+use step_names::{Location, StepName};
 
 // The next step of giving back a chain that ends with this node.
 fn give_step<T>(last: u32, at: &Give) -> StepName
@@ -60,7 +63,7 @@ fn take_name<T>(at: &TakeAt<T>) -> StepName
 }
 
 // The next step of a close or a shut.
-fn mark_step<T>(at: &MarkAt) -> StepName
+fn mark_name<T>(at: &MarkAt) -> StepName
     ensures { IsNextStep {T = T} (mark_line at.now) result }
 {
     match at {
@@ -78,16 +81,18 @@ fn look_name<T>(at: &LookAt) -> StepName
     }
 }
 
-impl<T: Drop + Send> Named<T> for Stack<T> {
+impl<T: Drop + Send> NamesSteps<Stack<T>, T, Line<T>, Operation<T>, Stacked, 2> for Stacked {
+    ghost use Rattle.treiber_stack.specs.Naming.{IsStep};
+
     ghost is_step = { IsStep };
 
     fn step_name(op: &AnyOp<T>) -> StepName {
-        match op {
-            Operation::Put(op) => put_name::<T>(&op.at),
-            Operation::Take(op) => take_name::<T>(&op.at),
-            Operation::Close(op) => mark_step::<T>(&op.at),
-            Operation::Shut(op) => mark_step::<T>(&op.at),
-            Operation::Look(op) => look_name::<T>(&op.at),
+        match &op.call {
+            AnyCall::Put(op) => put_name::<T>(&op.at),
+            AnyCall::Take(op) => take_name::<T>(&op.at),
+            AnyCall::Close(op) => mark_name::<T>(&op.at),
+            AnyCall::Shut(op) => mark_name::<T>(&op.at),
+            AnyCall::Look(op) => look_name::<T>(&op.at),
         }
     }
 }

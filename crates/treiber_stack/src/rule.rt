@@ -1,5 +1,5 @@
 //! The stack's machine.
-use machine::seats::View;
+use bounded::Laid;
 use running::{ListMachine, Machine};
 use stack_machine::Line;
 use stack_table::Operation;
@@ -12,13 +12,12 @@ pub struct Stacked {
 }
 
 impl<T> Machine<T, Line<T>, Operation<T>> for Stacked {
-    ghost use Rattle.tagged_index.specs.Limits.{capacity_of, tag_limit_of};
     ghost use Rattle.stack_table.specs.Lines.{names};
-    ghost use Rattle.stack_table.proofs.Laws.{stack};
+    ghost use Rattle.treiber_stack.specs.Limits.{machine_at};
 
     ghost names = { names };
 
-    ghost machine = { λ limits. stack T (capacity_of limits) (tag_limit_of limits) };
+    ghost machine = { machine_at };
 }
 
 impl<T> ListMachine<T, Line<T>, Operation<T>, 2> for Stacked {
@@ -44,4 +43,16 @@ impl<T> ListMachine<T, Line<T>, Operation<T>, 2> for Stacked {
     }
 
     ghost laws = { λ limits. list_laws T (capacity_of limits) (tag_limit_of limits) };
+}
+
+impl<T> Laid<T, Line<T>, Operation<T>> for Stacked {
+    ghost use Rattle.bounded_model.specs.declared.container.TheConstants.{MAX_PASSES};
+    ghost use Rattle.stack_table.specs.Layout.{words_for};
+    ghost use Rattle.tagged_index.specs.Limits.{capacity_of};
+
+    ghost words_for = { λ limits. words_for (capacity_of limits) };
+
+    ghost slots_for = { λ limits. capacity_of limits };
+
+    ghost passes_for = { λ limits. MAX_PASSES };
 }

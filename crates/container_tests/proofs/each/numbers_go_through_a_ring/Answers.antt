@@ -1,9 +1,6 @@
 use denote.Param.Send.{sendable}
-use Rattle.ring_queue.proofs.Crossing.{rest_send, op_send}
+use Rattle.ring_queue.proofs.Crossing.{rest_send}
 use Rattle.container_tests.proofs.each.numbers_go_through_a_ring.Goals as goal
 
 pub numbers_go_through-requires-send-C-Rest : goal.numbers_go_through-requires-send-C-Rest
 numbers_go_through-requires-send-C-Rest g c κs = search (sendable, rest_send) depth 30
-
-pub numbers_go_through-requires-send-C-Op : goal.numbers_go_through-requires-send-C-Op
-numbers_go_through-requires-send-C-Op g c κs = search (sendable, op_send) depth 30

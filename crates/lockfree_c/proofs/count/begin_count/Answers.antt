@@ -1,6 +1,6 @@
 use Rattle.std.proofs.Common.{subst}
 use Rattle.bounded_model.specs.declared.answers.Stepped.TheVariants.{Again}
-use Rattle.running.specs.Passes.{pass_in}
+use Rattle.bounded.specs.Bounded.{pass_in}
 use Rattle.ms_queue.specs.Trying.{LenTried}
 use Rattle.lockfree_c.specs.Held.{QueueCounted}
 use Rattle.lockfree_c.proofs.Rests.{began}

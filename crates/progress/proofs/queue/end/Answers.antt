@@ -12,11 +12,11 @@ returns-clause-run g c =
     record {
       run = run;
       linearizable = linearizable (room_of queue) (limit_of queue) (let e = limits.some_capacity in omega arith) (let e = limits.capacity_in_range in omega arith) (let e = limits.some_tag_limit in omega arith) run.acts run.allowed;
-      work = λ nobody. total_work (room_of queue) (limit_of queue) (let e = limits.some_capacity in omega arith) (let e = limits.capacity_in_range in omega arith) (let e = limits.some_tag_limit in omega arith) _ _ run c.requires.sound nobody;
+      work = λ nobody. total_work (room_of queue) (limit_of queue) (let e = limits.some_capacity in omega arith) (let e = limits.capacity_in_range in omega arith) (let e = limits.some_tag_limit in omega arith) _ _ run c.requires.on.sound nobody;
     }
 
 pub returns-clause-work : goal.returns-clause-work
 returns-clause-work g c = λ nobody.
     let queue = c.args.queue in
     let limits = queue.table.shared.key in
-    (total_work (room_of queue) (limit_of queue) (let e = limits.some_capacity in omega arith) (let e = limits.capacity_in_range in omega arith) (let e = limits.some_tag_limit in omega arith) _ _ c.end.ensures.run c.requires.sound nobody).fees
+    (total_work (room_of queue) (limit_of queue) (let e = limits.some_capacity in omega arith) (let e = limits.capacity_in_range in omega arith) (let e = limits.some_tag_limit in omega arith) _ _ c.end.ensures.run c.requires.on.sound nobody).fees

@@ -4,6 +4,7 @@ use Rattle.ring_table.specs.Seats.{names}
 use Rattle.running.specs.Passes.{begun_of}
 use Rattle.runs.specs.Made.{HasMade}
 use Rattle.runs.proofs.Made.{made_after}
+use Rattle.progress.proofs.RingCalls.{comes_back}
 use Rattle.progress.proofs.ring.step_for.Goals as goal
 
 pub loop-done-preserved : goal.loop-done-preserved
@@ -35,3 +36,13 @@ returns g c = λ k after.
       now.2,
       now.1,
     )
+
+pub returns-in-Done : goal.returns-in-Done
+returns-in-Done g c = λ k after.
+    let ring = c.args.ring.now in
+    let account = g.S.Code.account ring.table.shared.key in
+    let op = c.loop-done.op in
+    let before = c.loop-done.invariant in
+    let answer = c.in-Done.answer in
+    let e = c.in-Done.ensures in
+    comes_back ring account c.args.op op (k + c.args.steps) c.in-Done.pass answer before.1 before.2 (c.requires.spare op.operation answer) e.0 e.4

@@ -10,4 +10,4 @@ pub returns : goal.returns
 returns g c =
     let stack = c.args.stack.now in
     let op = c.args.op.now in
-    subst (λ (o : Operation _). StepsAreBounded stack o op.pass) c.requires.of (steps_so stack op.operation op.pass (going (machine_of stack) _ _ op c.requires.under_way))
+    subst (λ (o : Operation _). StepsAreBounded stack o op.pass) c.requires.call (steps_so stack op.operation op.pass (going (machine_of stack) _ _ op c.requires.under_way))

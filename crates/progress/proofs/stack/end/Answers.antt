@@ -12,5 +12,5 @@ returns-clause-run g c =
     record {
       run = run;
       linearizable = linearizable (room_of stack) (limit_of stack) (let e = limits.some_capacity in omega arith) (let e = limits.capacity_in_range in omega arith) run.acts run.allowed;
-      work = λ nobody. total_work (room_of stack) (limit_of stack) (let e = limits.some_capacity in omega arith) (let e = limits.capacity_in_range in omega arith) _ _ run c.requires.sound nobody;
+      work = λ nobody. total_work (room_of stack) (limit_of stack) (let e = limits.some_capacity in omega arith) (let e = limits.capacity_in_range in omega arith) _ _ run c.requires.on.sound nobody;
     }

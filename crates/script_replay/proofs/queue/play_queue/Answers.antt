@@ -1,4 +1,7 @@
-use Rattle.std.proofs.Common.{string_bytes}
+use Rattle.std.proofs.Common.{ap, string_bytes}
+use Rattle.tagged_index.specs.Limits.{capacity_of, tag_limit_of}
+use Rattle.tagged_index.specs.declared.limit.Limits.{Limits}
+use Rattle.queue_machine.specs.Answers.{shape}
 use Rattle.player.proofs.Tracing.{adds_as}
 use Rattle.ms_queue.specs.Naming.{IsStep}
 use Rattle.script_replay.specs.Readings.{queue_reading}
@@ -10,6 +13,6 @@ returns-clause-traced g c =
     let new = c.in_ok-queue.ensures in
     adds_as _ _ _ _ c.in_ok-play.ensures.traced (λ lines traced. (
       c.in_ok-queue.queue,
-      new.2,
-      played_on (queue_reading c.in_ok-queue.queue) IsStep _ c.args.script.lines.items (string_bytes c.in_ok-play.field-0) lines new.1 traced,
+      ap (λ (k : Limits). shape (capacity_of k) (tag_limit_of k)) new.0,
+      played_on (queue_reading c.in_ok-queue.queue) IsStep _ c.args.script.lines.items (string_bytes c.in_ok-play.field-0) lines new.2 traced,
     ))

@@ -9,5 +9,5 @@ returns g c =
     let table = c.args.self.now.table.shared in
     let m = g.M.Machine.machine table.key in
     let o = c.put-put.result in
-    tried m g.M-Program.keeps table.table_id (g.M-PutAt-Code.account table.key) (λ o a. g.M-Program-met.put_keeps table.key o a) o c.args.by c.requires (g.M-Program.is_call (Put c.args.value)) c.put-put.ensures
-    (PutGives m.core.shape (pass_in c.args.by) c.args.value) (λ a v e. (g.M-Program-met.put_gives table.key o v (pass_in c.args.by) c.args.value a c.put-put.ensures e).0) c.leave.result (c.leave.ensures c.args.by.pass c.put_fast-first.ensures)
+    tried m g.M-Parts.keeps table.table_id (g.M-PutAt-Code.account table.key) (λ o a. g.M-Parts-met.put_keeps table.key o a) o c.args.by c.requires (g.M-Parts.is_call (Put c.args.value)) c.put-put.ensures
+    (PutGives m.core.shape (pass_in c.args.by) c.args.value) (λ a v e. (g.M-Parts-met.put_gives table.key o v (pass_in c.args.by) c.args.value a c.put-put.ensures e).0) c.leave.result (c.leave.ensures c.args.by.pass c.put_fast-first.ensures)

@@ -7,7 +7,7 @@ returns-clause-of g c =
     let table = c.args.self.now.table.shared in
     let o = c.put-put.result in
     let at = c.whole.result.0 in
-    let b = has_answered (g.M.Machine.machine table.key) g.M-Program.keeps table.table_id (g.M-PutAt-Code.account table.key) (λ o a. g.M-Program-met.put_keeps table.key o a) o c.args.by c.requires at c.whole.result.1 (c.whole.ensures c.args.by.pass c.put_fast-first.ensures) in
+    let b = has_answered (g.M.Machine.machine table.key) g.M-Parts.keeps table.table_id (g.M-PutAt-Code.account table.key) (λ o a. g.M-Parts-met.put_keeps table.key o a) o c.args.by c.requires at c.whole.result.1 (c.whole.ensures c.args.by.pass c.put_fast-first.ensures) in
     b.of
 
 pub returns-clause-gives : goal.returns-clause-gives
@@ -15,21 +15,21 @@ returns-clause-gives g c =
     let table = c.args.self.now.table.shared in
     let o = c.put-put.result in
     let at = c.whole.result.0 in
-    let b = has_answered (g.M.Machine.machine table.key) g.M-Program.keeps table.table_id (g.M-PutAt-Code.account table.key) (λ o a. g.M-Program-met.put_keeps table.key o a) o c.args.by c.requires at c.whole.result.1 (c.whole.ensures c.args.by.pass c.put_fast-first.ensures) in
-    (g.M-Program-met.put_gives table.key o at.pass.seat.me.0 (pass_in c.args.by) c.args.value (answer_of at c.whole.result.1) c.put-put.ensures b.ended).0
+    let b = has_answered (g.M.Machine.machine table.key) g.M-Parts.keeps table.table_id (g.M-PutAt-Code.account table.key) (λ o a. g.M-Parts-met.put_keeps table.key o a) o c.args.by c.requires at c.whole.result.1 (c.whole.ensures c.args.by.pass c.put_fast-first.ensures) in
+    (g.M-Parts-met.put_gives table.key o at.pass.seat.me.0 (pass_in c.args.by) c.args.value (answer_of at c.whole.result.1) c.put-put.ensures b.ended).0
 
 pub returns-clause-answered : goal.returns-clause-answered
 returns-clause-answered g c =
     let table = c.args.self.now.table.shared in
     let o = c.put-put.result in
     let at = c.whole.result.0 in
-    let b = has_answered (g.M.Machine.machine table.key) g.M-Program.keeps table.table_id (g.M-PutAt-Code.account table.key) (λ o a. g.M-Program-met.put_keeps table.key o a) o c.args.by c.requires at c.whole.result.1 (c.whole.ensures c.args.by.pass c.put_fast-first.ensures) in
-    (g.M-Program-met.put_gives table.key o at.pass.seat.me.0 (pass_in c.args.by) c.args.value (answer_of at c.whole.result.1) c.put-put.ensures b.ended).1
+    let b = has_answered (g.M.Machine.machine table.key) g.M-Parts.keeps table.table_id (g.M-PutAt-Code.account table.key) (λ o a. g.M-Parts-met.put_keeps table.key o a) o c.args.by c.requires at c.whole.result.1 (c.whole.ensures c.args.by.pass c.put_fast-first.ensures) in
+    (g.M-Parts-met.put_gives table.key o at.pass.seat.me.0 (pass_in c.args.by) c.args.value (answer_of at c.whole.result.1) c.put-put.ensures b.ended).1
 
 pub returns-clause-ran : goal.returns-clause-ran
 returns-clause-ran g c =
     let table = c.args.self.now.table.shared in
     let o = c.put-put.result in
     let at = c.whole.result.0 in
-    let b = has_answered (g.M.Machine.machine table.key) g.M-Program.keeps table.table_id (g.M-PutAt-Code.account table.key) (λ o a. g.M-Program-met.put_keeps table.key o a) o c.args.by c.requires at c.whole.result.1 (c.whole.ensures c.args.by.pass c.put_fast-first.ensures) in
+    let b = has_answered (g.M.Machine.machine table.key) g.M-Parts.keeps table.table_id (g.M-PutAt-Code.account table.key) (λ o a. g.M-Parts-met.put_keeps table.key o a) o c.args.by c.requires at c.whole.result.1 (c.whole.ensures c.args.by.pass c.put_fast-first.ensures) in
     record { operation = o; call = c.put-put.ensures; ran = b.ran }

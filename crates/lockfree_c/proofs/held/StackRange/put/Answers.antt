@@ -2,16 +2,16 @@ use Rattle.std.proofs.Common.{◌≡◌, ℕ, List, Option, subst, sym}
 use Rattle.std.specs.Prelude.{IsSome}
 use Rattle.std.specs.List.{AllByRecursion as Every}
 use Rattle.bounded_model.specs.declared.answers.Stepped.TheVariants.{Again, Done}
-use Rattle.running.specs.Passes.{pass_in}
+use Rattle.bounded.specs.Bounded.{pass_in}
 use Rattle.treiber_stack.specs.RangeTrying.{RangeBegun, RangeTried}
-use Rattle.treiber_stack.specs.declared.stack.Stack.{Stack}
+use Rattle.lockfree_c.specs.Kinds.{Stack}
 use Rattle.lockfree_c.specs.Held.{RangeMade}
 use Rattle.lockfree_c.specs.declared.held.StackRange.{StackRange}
 use Rattle.lockfree_c.proofs.StackStays.{range_stays}
 use Rattle.lockfree_c.proofs.held.StackRange.put.Goals as goal
 
 -- a put that was begun at what two borrows show
-begun_here : (r : StackRange) (on : Stack ℕ) (places : List (Option ℕ)) (made : RangeMade) → on ≡ r.container.value → places ≡ r.values.items → RangeBegun on (pass_in r.by) places made
+begun_here : (r : StackRange) (on : Stack) (places : List (Option ℕ)) (made : RangeMade) → on ≡ r.container.value → places ≡ r.values.items → RangeBegun on (pass_in r.by) places made
     → RangeBegun r.container.value (pass_in r.by) r.values.items made
 begun_here r on places made same_stack same_places is =
     subst (λ ps. RangeBegun r.container.value (pass_in r.by) ps made) same_places (subst (λ s. RangeBegun s (pass_in r.by) places made) same_stack is)

@@ -1,0 +1,4 @@
+//! Steps that several calls of a queue make.
+
+pub(crate) mod giving;
+pub(crate) mod seeking;

@@ -1,0 +1,9 @@
+//! The calls of a queue: the states of each, and its steps.
+
+pub(crate) mod closing;
+pub(crate) mod counting;
+pub(crate) mod gauging;
+pub(crate) mod looking;
+pub(crate) mod putting;
+pub(crate) mod shutting;
+pub(crate) mod taking;

@@ -1,0 +1,83 @@
+//! Closing a queue: the link of its last node gets the mark. By steps, and by a whole call.
+use crate::call_parts::seeking::{End, Seek, seek_access, seek_on};
+use crate::life::queue::{Answered, Queue};
+use crate::rule::Queued;
+use atomic_table::Seat;
+use machine::seats::View;
+use queue_machine::Line;
+use queue_table::Operation;
+use queue_table::layout::next;
+use running::{Access, Call, Code, Next, Op, Outcome, raised};
+use tagged_index::{NULL, Tagged};
+
+/// A close that was begun.
+pub type CloseOp<T> = Op<T, Line<T>, Operation<T>, CloseAt>;
+
+/// The next step of a close.
+#[derive(Drop)]
+pub enum CloseAt {
+    /// On the way to the end of the chain.
+    Seeking(Seek),
+    /// Compare-and-swap the last node's `next` for null with the mark.
+    Mark(Tagged, Tagged),
+}
+
+impl<T> Code<Queue<T>, T, Line<T>, Operation<T>, Queued, Answered<bool>, 2> for CloseAt {
+    ghost use Rattle.ms_queue.specs.Closing.{close_account};
+
+    ghost account = { close_account };
+
+    #[inline(always)]
+    fn access(&self, on: &Queue<T>) -> Access {
+        match self {
+            CloseAt::Seeking(at) => seek_access(on, at),
+            CloseAt::Mark(tail, link) => {
+                let new = raised(*link, NULL).marked();
+                Access::Swap(next(tail.index()), *link, new)
+            }
+        }
+    }
+
+    #[inline(always)]
+    fn next(
+        self,
+        on: &Queue<T>,
+        _seat: &mut Seat<Option<T>, View<T, Line<T>>>,
+        outcome: Outcome,
+    ) -> Next<CloseAt, Answered<bool>> {
+        match self {
+            CloseAt::Seeking(at) => match seek_on(on, at, outcome) {
+                Next::On(at) => Next::On(CloseAt::Seeking(at)),
+                Next::Lost(at) => Next::Lost(CloseAt::Seeking(at)),
+                Next::Done(end) => match end {
+                    End::Closed(_) => Next::Done(Answered {
+                        kept: (),
+                        reply: false,
+                    }),
+                    End::Open(tail, link) => Next::On(CloseAt::Mark(tail, link)),
+                },
+            },
+            CloseAt::Mark(_, _) => {
+                if !outcome.won {
+                    return Next::Lost(CloseAt::Seeking(Seek::LoadTail));
+                }
+                // The close has its effect here.
+                Next::Done(Answered {
+                    kept: (),
+                    reply: true,
+                })
+            }
+        }
+    }
+}
+
+impl<T> Call<Queue<T>, T, Line<T>, Operation<T>, Queued, Answered<bool>, 2> for CloseAt {
+    ghost use Rattle.std.specs.Prelude.{refl};
+    ghost use Rattle.ms_queue.specs.KeepsAnswers.{close_promises, close_keeps};
+
+    ghost promises = { close_promises };
+
+    ghost idle = { λ key o answer. refl };
+
+    ghost keeps = { close_keeps };
+}

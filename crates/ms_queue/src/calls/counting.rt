@@ -1,0 +1,163 @@
+//! How many values a queue holds: by steps, and by a whole call.
+ghost use Rattle.std.specs.Prelude.{◌≡◌};
+ghost use Rattle.bounded_model.specs.Laws.{LenGives};
+ghost use Rattle.bounded_model.specs.Stepping.{no_step};
+ghost use Rattle.queue_machine.specs.declared.lines.Answer.TheVariants.{Len as AnswerLen};
+ghost use Rattle.queue_table.specs.declared.operation.Operation.TheVariants.{Len as LenFirst};
+ghost use Rattle.running.specs.Ops.{underway_of};
+ghost use Rattle.ms_queue.specs.Counting.{IsCounting, LenRan};
+ghost use Rattle.ms_queue.specs.Queue.{IsPassOf, machine_of, pass_in, shape_of};
+ghost use Rattle.ms_queue.specs.Ran.{WasRun};
+ghost use Rattle.ms_queue.specs.Trying.{LenTried};
+
+use crate::life::queue::{Answered, Pass, Queue};
+use crate::rule::Queued;
+use atomic_table::Seat;
+use bounded::{leave, whole};
+use bounded_model::Stepped;
+use machine::View;
+use queue_machine::Line;
+use queue_table::Operation;
+use queue_table::layout::{HEAD, TAIL, next};
+use running::{Access, Call, Code, Next, Op, Outcome, any, aside, fast_step, first_step};
+use std::sync::Wait;
+use tagged_index::{NULL, Tagged};
+
+/// A count that was begun.
+pub type LenOp<T> = Op<T, Line<T>, Operation<T>, LenAt>;
+
+/// The next step of a count, with what it has read.
+#[derive(Drop)]
+pub enum LenAt {
+    /// Load `HEAD`.
+    LoadHead,
+    /// Load `TAIL`.
+    LoadTail(Tagged),
+    /// Load `next` of the node that it named.
+    LoadNext(Tagged, Tagged),
+    /// Load `HEAD` again.
+    CheckHead(Tagged, Tagged, Tagged),
+}
+
+/// How many values the queue held at some time since its pass's last step before the call, from 0
+/// to the capacity. The call retries while takes change the head. It was a run of the machine's
+/// steps.
+pub fn len<T, R: Wait>(on: &Queue<T>, rt: &R, by: Pass<T>) -> (Pass<T>, u32)
+    requires { IsPassOf on.now by }
+    ensures of { IsPassOf on.now result.0 }
+    ensures gives { LenGives (shape_of on.now) (pass_in by) (pass_in result.0) result.1 }
+    ensures ran { WasRun on.now LenFirst (pass_in by) result.0 (AnswerLen result.1) }
+{
+    let Pass { pass, .. } = by;
+    let len = Operation::Len;
+    let first = first_step(&on.table.shared, on, pass, LenAt::LoadHead, &len);
+    let (pass, count) = whole(rt, on, first, len);
+    (pass, count as u32)
+}
+
+/// A count that makes no step yet.
+#[inline]
+pub fn begin_len<T>(on: &Queue<T>, by: Pass<T>) -> LenOp<T>
+    requires { IsPassOf on.now by }
+    ensures { IsCounting on.now result
+        × (underway_of (machine_of on.now) result.pass ≡ no_step (pass_in by)) }
+{
+    let Pass { pass, .. } = by;
+    Op::begin(on, pass, Operation::Len, LenAt::LoadHead)
+}
+
+/// Counts the values on the fast path alone, as `put_at_once` puts one.
+#[inline]
+pub fn len_at_once<T>(on: &Queue<T>, by: Pass<T>) -> Stepped<LenOp<T>, Pass<T>, u64>
+    requires { IsPassOf on.now by }
+    ensures { LenTried on.now (pass_in by) result }
+{
+    let len = Operation::Len;
+    let first = len_fast(on, by, &len);
+    leave(on, first, len)
+}
+
+// A count's four loads, as long as no other pass changes the head.
+#[inline]
+fn len_fast<T>(
+    on: &Queue<T>,
+    by: Pass<T>,
+    len: &Operation<T>,
+) -> (running::Pass<T, Line<T>>, Next<LenAt, Answered<u64>>)
+    requires named { len.now ≡ LenFirst }
+    requires pass { IsPassOf on.now by }
+    ensures { LenRan on.now len.now by.pass result.0 result.1 }
+{
+    let Pass { pass, .. } = by;
+    let table = &on.table.shared;
+    let (pass, head) = fast_step!(
+        first_step(table, on, pass, LenAt::LoadHead, len),
+        LenAt::LoadTail(head) => head
+    );
+    let (pass, head, tail) = fast_step!(
+        any(table, on, pass, LenAt::LoadTail(head), len),
+        LenAt::LoadNext(head, tail) => head, tail
+    );
+    let (pass, head, tail, link) = fast_step!(
+        any(table, on, pass, LenAt::LoadNext(head, tail), len),
+        LenAt::CheckHead(head, tail, link) => head, tail, link
+    );
+    any(table, on, pass, LenAt::CheckHead(head, tail, link), len)
+}
+
+impl<T> Code<Queue<T>, T, Line<T>, Operation<T>, Queued, Answered<u64>, 2> for LenAt {
+    ghost use Rattle.ms_queue.specs.Counting.{len_account};
+
+    ghost account = { len_account };
+
+    #[inline(always)]
+    fn access(&self, _on: &Queue<T>) -> Access {
+        match self {
+            LenAt::LoadHead => Access::Load(HEAD),
+            LenAt::LoadTail(_) => Access::Load(TAIL),
+            LenAt::LoadNext(_, tail) => Access::Load(next(tail.index())),
+            LenAt::CheckHead(_, _, _) => Access::Load(HEAD),
+        }
+    }
+
+    #[inline(always)]
+    fn next(
+        self,
+        _on: &Queue<T>,
+        _seat: &mut Seat<Option<T>, View<T, Line<T>>>,
+        outcome: Outcome,
+    ) -> Next<LenAt, Answered<u64>> {
+        let found = Tagged::from_word(outcome.word);
+        match self {
+            LenAt::LoadHead => Next::On(LenAt::LoadTail(found)),
+            LenAt::LoadTail(head) => Next::On(LenAt::LoadNext(head, found)),
+            LenAt::LoadNext(head, tail) => Next::On(LenAt::CheckHead(head, tail, found)),
+            LenAt::CheckHead(head, tail, link) => {
+                // If no take was made, the node of the tail was in the queue all the time.
+                if outcome.word != head.word() {
+                    return Next::Lost(LenAt::LoadHead);
+                }
+                let end = if link.index() == NULL {
+                    tail.tag()
+                } else {
+                    tail.tag() + 1
+                };
+                Next::Done(Answered {
+                    kept: (),
+                    reply: end.saturating_sub(head.tag()),
+                })
+            }
+        }
+    }
+}
+
+impl<T> Call<Queue<T>, T, Line<T>, Operation<T>, Queued, Answered<u64>, 2> for LenAt {
+    ghost use Rattle.std.specs.Prelude.{refl};
+    ghost use Rattle.ms_queue.specs.KeepsGauge.{len_promises, len_keeps};
+
+    ghost promises = { len_promises };
+
+    ghost idle = { λ key o answer. refl };
+
+    ghost keeps = { len_keeps };
+}

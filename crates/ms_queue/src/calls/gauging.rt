@@ -1,0 +1,139 @@
+//! Gauging a queue: whether it is closed, and how many of its tags are used. By steps, and by a whole
+//! call.
+ghost use Rattle.std.specs.Prelude.{◌≡◌};
+ghost use Rattle.bounded_model.specs.Stepping.{no_step};
+ghost use Rattle.queue_machine.specs.declared.lines.Answer.TheVariants.{Gauge as AnswerGauge};
+ghost use Rattle.queue_table.specs.declared.operation.Operation.TheVariants.{Gauge as GaugeFirst};
+ghost use Rattle.running.specs.Ops.{underway_of};
+ghost use Rattle.ms_queue.specs.Gauging.{GaugeGives, IsGauging};
+ghost use Rattle.ms_queue.specs.Queue.{IsPassOf, limit_of, machine_of, pass_in, room_of};
+ghost use Rattle.ms_queue.specs.Ran.{WasRun};
+
+use crate::call_parts::seeking::{End, Seek, seek_access, seek_on};
+use crate::life::queue::{Answered, Pass, Queue};
+use crate::rule::Queued;
+use atomic_table::Seat;
+use bounded::whole;
+use machine::seats::View;
+use queue_machine::Line;
+use queue_table::Operation;
+use queue_table::layout::next;
+use running::{Access, Call, Code, Next, Op, Outcome, first_step};
+use std::sync::Wait;
+use tagged_index::Tagged;
+
+/// A gauge that was begun.
+pub type GaugeOp<T> = Op<T, Line<T>, Operation<T>, GaugeAt>;
+
+/// What a gauge shows.
+#[derive(Clone, Copy, Debug, PartialEq, Eq)]
+pub struct Gauge {
+    /// Whether the queue was closed.
+    pub closed: bool,
+    /// How many of the tags that the queue's limit allows were used: the number of values put.
+    pub used: u64,
+}
+
+/// The next step of a gauge.
+#[derive(Drop)]
+pub enum GaugeAt {
+    /// On the way to the end of the chain.
+    Seeking(Seek),
+    /// Load the last node's `next` again.
+    CheckNext(Tagged, Tagged),
+}
+
+/// Whether the queue was closed, and how many tags were used, both at one time since its pass's
+/// last step before the call. The call retries while others put values. It was a run of the
+/// machine's steps. Called in `queue_tests`.
+pub fn read_gauge<T, R: Wait>(on: &Queue<T>, rt: &R, by: Pass<T>) -> (Pass<T>, Gauge)
+    requires { IsPassOf on.now by }
+    ensures of { IsPassOf on.now result.0 }
+    ensures gives { GaugeGives (room_of on.now) (limit_of on.now)
+        (pass_in by) (pass_in result.0) result.1 }
+    ensures ran { WasRun on.now GaugeFirst (pass_in by) result.0
+        (AnswerGauge result.1.closed result.1.used) }
+{
+    let Pass { pass, .. } = by;
+    let gauge = Operation::Gauge;
+    let begun = GaugeAt::Seeking(Seek::LoadTail);
+    let first = first_step(&on.table.shared, on, pass, begun, &gauge);
+    whole(rt, on, first, gauge)
+}
+
+/// A gauge that makes no step yet.
+#[inline]
+pub fn begin_gauge<T>(on: &Queue<T>, by: Pass<T>) -> GaugeOp<T>
+    requires { IsPassOf on.now by }
+    ensures { IsGauging on.now result
+        × (underway_of (machine_of on.now) result.pass ≡ no_step (pass_in by)) }
+{
+    let Pass { pass, .. } = by;
+    let begun = GaugeAt::Seeking(Seek::LoadTail);
+    Op::begin(on, pass, Operation::Gauge, begun)
+}
+
+impl<T> Code<Queue<T>, T, Line<T>, Operation<T>, Queued, Answered<Gauge>, 2> for GaugeAt {
+    ghost use Rattle.ms_queue.specs.Gauging.{gauge_account};
+
+    ghost account = { gauge_account };
+
+    #[inline(always)]
+    fn access(&self, on: &Queue<T>) -> Access {
+        match self {
+            GaugeAt::Seeking(at) => seek_access(on, at),
+            GaugeAt::CheckNext(tail, _) => Access::Load(next(tail.index())),
+        }
+    }
+
+    #[inline(always)]
+    fn next(
+        self,
+        on: &Queue<T>,
+        _seat: &mut Seat<Option<T>, View<T, Line<T>>>,
+        outcome: Outcome,
+    ) -> Next<GaugeAt, Answered<Gauge>> {
+        match self {
+            GaugeAt::Seeking(at) => match seek_on(on, at, outcome) {
+                Next::On(at) => Next::On(GaugeAt::Seeking(at)),
+                Next::Lost(at) => Next::Lost(GaugeAt::Seeking(at)),
+                Next::Done(end) => match end {
+                    // No put follows any more: the tail's tag stays.
+                    End::Closed(tail) => Next::Done(Answered {
+                        kept: (),
+                        reply: Gauge {
+                            closed: true,
+                            used: tail.tag(),
+                        },
+                    }),
+                    End::Open(tail, link) => Next::On(GaugeAt::CheckNext(tail, link)),
+                },
+            },
+            GaugeAt::CheckNext(tail, link) => {
+                // If the link is still the same, the tail's node is the last one now.
+                if outcome.word != link.word() {
+                    return Next::Lost(GaugeAt::Seeking(Seek::LoadTail));
+                }
+                let used = tail.tag();
+                Next::Done(Answered {
+                    kept: (),
+                    reply: Gauge {
+                        closed: false,
+                        used,
+                    },
+                })
+            }
+        }
+    }
+}
+
+impl<T> Call<Queue<T>, T, Line<T>, Operation<T>, Queued, Answered<Gauge>, 2> for GaugeAt {
+    ghost use Rattle.std.specs.Prelude.{refl};
+    ghost use Rattle.ms_queue.specs.KeepsGauge.{gauge_promises, gauge_keeps};
+
+    ghost promises = { gauge_promises };
+
+    ghost idle = { λ key o answer. refl };
+
+    ghost keeps = { gauge_keeps };
+}

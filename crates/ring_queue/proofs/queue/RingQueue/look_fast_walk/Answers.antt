@@ -1,5 +1,0 @@
-use Rattle.ring_queue.proofs.FastPath.{look_after}
-use Rattle.ring_queue.proofs.queue.RingQueue.look_fast_walk.Goals as goal
-
-pub returns-in_default : goal.returns-in_default
-returns-in_default g c = look_after c.args.self.now c.args.look.now c.args.by c.loop-gone.pass c.any.result.0 c.loop-gone.invariant.1 _ c.any.ensures.ran

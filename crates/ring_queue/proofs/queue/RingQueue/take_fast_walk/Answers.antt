@@ -1,5 +1,0 @@
-use Rattle.ring_queue.proofs.FastPath.{take_after}
-use Rattle.ring_queue.proofs.queue.RingQueue.take_fast_walk.Goals as goal
-
-pub returns-in_default : goal.returns-in_default
-returns-in_default g c = take_after c.args.self.now c.args.take.now c.args.by c.loop-gone.pass c.any.result.0 c.loop-gone.invariant.1 _ c.any.ensures.ran

@@ -1,0 +1,3 @@
+//! Steps that several calls of a ring make.
+
+pub(crate) mod walking;

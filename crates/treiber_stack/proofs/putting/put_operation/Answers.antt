@@ -1,6 +1,0 @@
-use Rattle.std.proofs.Common.{ap}
-use Rattle.treiber_stack.specs.Putting.{put_of}
-use Rattle.treiber_stack.proofs.putting.put_operation.Goals as goal
-
-pub returns : goal.returns
-returns g c = ap put_of c.of.ensures

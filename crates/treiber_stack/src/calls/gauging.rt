@@ -1,0 +1,46 @@
+//! Gauging a stack: whether it is closed, and how many of its tags are used, by one load of its top.
+ghost use Rattle.stack_machine.specs.Machine.{ends};
+ghost use Rattle.stack_machine.specs.declared.lines.Answer.TheVariants.{Gauge as Gauged};
+ghost use Rattle.stack_machine.specs.declared.lines.Line.TheVariants.{LoadTopToGauge};
+ghost use Rattle.treiber_stack.specs.Gauging.{GaugeGives};
+ghost use Rattle.treiber_stack.specs.Stack.{IsPassOf, OneLine, limit_of, pass_in, room_of};
+
+use crate::life::stack::{Pass, Stack};
+use running::load_top_step;
+use stack_table::Operation;
+use stack_table::layout::STACK_LIST;
+
+/// What a gauge shows.
+#[derive(Clone, Copy, Debug, PartialEq, Eq)]
+pub struct Gauge {
+    /// Whether the stack was closed.
+    pub closed: bool,
+    /// How many of the tags that the stack's limit allows were used. Each put uses one and each
+    /// take one, whether of one value or of many.
+    pub used: u64,
+}
+
+/// Whether the stack was closed, and how many tags were used, both at one time since its pass's
+/// last step before the call. The call is one load of the top. Called in `example_stack`.
+#[inline]
+pub fn read_gauge<T>(on: &Stack<T>, by: Pass<T>) -> (Pass<T>, Gauge)
+    requires { IsPassOf on.now by }
+    ensures of { IsPassOf on.now result.0 }
+    ensures gives { GaugeGives (room_of on.now) (limit_of on.now)
+        (pass_in by) (pass_in result.0) result.1 }
+    ensures line { OneLine on.now by.pass result.0.pass LoadTopToGauge
+        (ends (Gauged result.1.closed result.1.used)) }
+{
+    let Pass { mut pass, kept } = by;
+    let top = load_top_step(
+        &on.table.shared,
+        &mut pass.seat,
+        STACK_LIST,
+        &Operation::Gauge,
+    );
+    let gauge = Gauge {
+        closed: top.is_marked(),
+        used: top.tag(),
+    };
+    (Pass { pass, kept }, gauge)
+}

@@ -1,0 +1,6 @@
+//! The life of a stack: how it is made, its passes, what is left at its end.
+
+pub(crate) mod ending;
+pub(crate) mod making;
+pub(crate) mod rest;
+pub(crate) mod stack;

@@ -1,0 +1,39 @@
+//! Making a stack.
+ghost use Rattle.std.specs.Prelude.{◌≡◌, ℕ, ◌<◌, ◌≤◌, length, slice_index, IfOk};
+ghost use Rattle.tagged_index.specs.declared.word.TheConstants.{NULL};
+ghost use Rattle.bounded_model.specs.Laws.{fresh};
+ghost use Rattle.stack_table.specs.Layout.{words_for, start_at};
+ghost use Rattle.treiber_stack.specs.Stack.{IsRootOf, root_in};
+
+use crate::life::stack::{Root, Stack};
+use atomic_table::Table;
+use bounded_model::MakeRefused;
+use stack_table::layout;
+use std::alloc::{AllocError, Global};
+use tagged_index::Limits;
+
+// The words of a new stack.
+fn first_words(alloc: Global, capacity: u32) -> Result<Vec<u64>, AllocError>
+    requires { capacity ≤ NULL }
+    ensures { IfOk result (λ v. (length v.items ≡ words_for capacity)
+        × ((k : ℕ) → k < words_for capacity → slice_index v.items k ≡ start_at capacity k)) }
+{
+    let count = layout::words(capacity);
+    let mut words = Vec::with_capacity(alloc, count)?;
+    for at in 0..count {
+        words.push(layout::start(capacity, at))?;
+    }
+    Ok(words)
+}
+
+/// An empty stack, and its root.
+pub(crate) fn make<T>(alloc: Global, limits: Limits) -> Result<(Stack<T>, Root<T>), MakeRefused>
+    ensures { IfOk result (λ t. (t.0.table.shared.key ≡ limits)
+        × IsRootOf t.0 t.1 × (root_in t.1 ≡ fresh)) }
+{
+    let words = first_words(alloc, limits.capacity())?;
+    let count = limits.capacity() as usize;
+    let (table, seat) = Table::vacant(alloc, words.as_slice(), count, &limits)?;
+    let root = running::Root { seat, out: 0 };
+    Ok((Stack { table, limits }, Root { root, stock: () }))
+}
