@@ -10,14 +10,15 @@ ghost use Rattle.relay.specs.KeepsMessages.{GoOnFrom-prop};
 use crate::ReadFault;
 use crate::text::Text;
 use relay::Message;
+use relay_args::MAX_COUNT;
 use std::alloc::Global;
 use std::io::{ErrorKind, Read};
 
 /// The most bytes of a line, without its line feed.
 pub const MAX_LINE: usize = 1024;
 
-/// The most lines of a file.
-pub const MAX_LINES: usize = 65_535;
+/// The most lines of a file: 65,535.
+pub const MAX_LINES: usize = MAX_COUNT as usize;
 
 /// The most reads of a file, those that are interrupted included.
 pub const MAX_READS: u32 = 1 << 27;

@@ -6,9 +6,10 @@ ghost use Rattle.audit.specs.Counting.{Adds, CountsEach, IsSmall, IsTallyOf, cou
 
 use crate::counts::Counts;
 use relay::{Message, Relayed, Taken};
+use relay_args::MAX_FILES;
 
-/// How many senders one pass counts.
-pub(crate) const SENDERS: usize = 16;
+/// How many senders one pass counts: as many as a relay of files has, 16.
+pub(crate) const SENDERS: usize = MAX_FILES;
 
 /// How many messages were delivered and left of each of [`SENDERS`] senders, from the first of them
 /// on.

@@ -1,7 +1,7 @@
-//! Operations as a type of the container's own.
+//! Operations of a container's own type.
 
-/// What a call has come to, with its operation in the container's own type. `bounded_model` is
-/// named as its users name it.
+/// Puts an operation that is still under way into the container's own type. The names of
+/// `bounded_model` are written out here, since a macro's text is read where it is called.
 #[macro_export]
 macro_rules! own_op {
     ($own:ident, $made:expr) => {

@@ -142,62 +142,36 @@ fn a_put_and_a_take_of_a_ring_make_their_steps(rt: HostRuntime) {
     ended_at_their_last(&rt, ring, root, OF_A_RING);
 }
 
+// Drops calls of this kind of container after each number of steps: a put, a take, and a put that a
+// close overtakes.
+macro_rules! drop_calls {
+    ($rt:ident, $kind:ty, $counts:ident) => {
+        for made in 0..$counts.put {
+            let (container, root) = with_room::<Arc<u8>, $kind, HostRuntime>(&$rt, $rt.alloc(), 2);
+            dropped_put(&$rt, $rt.alloc(), container, root, $counts, made);
+        }
+        for made in 0..$counts.take {
+            let (container, root) = with_room::<Arc<u8>, $kind, HostRuntime>(&$rt, $rt.alloc(), 2);
+            dropped_take(&$rt, $rt.alloc(), container, root, $counts, made);
+        }
+        for made in 0..$counts.refused {
+            let (container, root) = with_room::<Arc<u8>, $kind, HostRuntime>(&$rt, $rt.alloc(), 2);
+            dropped_late_put(&$rt, $rt.alloc(), container, root, $counts, made);
+        }
+    };
+}
+
 #[test]
 fn values_of_dropped_calls_of_a_queue_are_dropped_once(rt: HostRuntime) {
-    for made in 0..OF_A_QUEUE.put {
-        let (queue, root) = with_room::<Arc<u8>, Queue<Arc<u8>>, HostRuntime>(&rt, rt.alloc(), 2);
-        dropped_put(&rt, rt.alloc(), queue, root, OF_A_QUEUE, made);
-    }
-    for made in 0..OF_A_QUEUE.take {
-        let (queue, root) = with_room::<Arc<u8>, Queue<Arc<u8>>, HostRuntime>(&rt, rt.alloc(), 2);
-        dropped_take(&rt, rt.alloc(), queue, root, OF_A_QUEUE, made);
-    }
-    for made in 0..OF_A_QUEUE.refused {
-        let (queue, root) = with_room::<Arc<u8>, Queue<Arc<u8>>, HostRuntime>(&rt, rt.alloc(), 2);
-        dropped_late_put(&rt, rt.alloc(), queue, root, OF_A_QUEUE, made);
-    }
+    drop_calls!(rt, Queue<Arc<u8>>, OF_A_QUEUE);
 }
 
 #[test]
 fn values_of_dropped_calls_of_a_stack_are_dropped_once(rt: HostRuntime) {
-    for made in 0..OF_A_STACK.put {
-        let (stack, root) = with_room::<Arc<u8>, Stack<Arc<u8>>, HostRuntime>(&rt, rt.alloc(), 2);
-        dropped_put(&rt, rt.alloc(), stack, root, OF_A_STACK, made);
-    }
-    for made in 0..OF_A_STACK.take {
-        let (stack, root) = with_room::<Arc<u8>, Stack<Arc<u8>>, HostRuntime>(&rt, rt.alloc(), 2);
-        dropped_take(&rt, rt.alloc(), stack, root, OF_A_STACK, made);
-    }
-    for made in 0..OF_A_STACK.refused {
-        let (stack, root) = with_room::<Arc<u8>, Stack<Arc<u8>>, HostRuntime>(&rt, rt.alloc(), 2);
-        dropped_late_put(&rt, rt.alloc(), stack, root, OF_A_STACK, made);
-    }
+    drop_calls!(rt, Stack<Arc<u8>>, OF_A_STACK);
 }
 
 #[test]
 fn values_of_dropped_calls_of_a_ring_are_dropped_once(rt: HostRuntime) {
-    for made in 0..OF_A_RING.put {
-        let (ring, root) = with_room::<Arc<u8>, RingQueue<Arc<u8>>, HostRuntime>(
-            &rt,
-            rt.alloc(),
-            2,
-        );
-        dropped_put(&rt, rt.alloc(), ring, root, OF_A_RING, made);
-    }
-    for made in 0..OF_A_RING.take {
-        let (ring, root) = with_room::<Arc<u8>, RingQueue<Arc<u8>>, HostRuntime>(
-            &rt,
-            rt.alloc(),
-            2,
-        );
-        dropped_take(&rt, rt.alloc(), ring, root, OF_A_RING, made);
-    }
-    for made in 0..OF_A_RING.refused {
-        let (ring, root) = with_room::<Arc<u8>, RingQueue<Arc<u8>>, HostRuntime>(
-            &rt,
-            rt.alloc(),
-            2,
-        );
-        dropped_late_put(&rt, rt.alloc(), ring, root, OF_A_RING, made);
-    }
+    drop_calls!(rt, RingQueue<Arc<u8>>, OF_A_RING);
 }

@@ -1,5 +1,5 @@
-//! Tests from above of what is on no table: words and limits, the sequential list, and the benchmark's
-//! percentiles. They are a crate of their own, so that those crates are not proved a second time for
+//! Tests from above of what is on no table: words and limits, the sequential list, waits after a failed
+//! compare-and-swap, and the benchmark's percentiles. They are a crate of their own, so that those crates are not proved a second time for
 //! them.
 #![tactic(auto)]
 
@@ -7,5 +7,7 @@
 mod lists;
 #[cfg(test)]
 mod percentiles;
+#[cfg(test)]
+mod waits;
 #[cfg(test)]
 mod words;

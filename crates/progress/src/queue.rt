@@ -25,7 +25,7 @@ pub const ALONE: u64 = 20;
 /// Puts a value step by step, with no wait, for at most `ALONE + 1` steps. If the put has not ended
 /// then, it comes back under way, and another pass's compare-and-swap has succeeded since it was
 /// begun.
-pub fn put_or_overtaken<T: Drop + Send>(
+pub fn put_or_overtaken<T: Drop>(
     queue: &Queue<T>,
     by: Pass<T>,
     value: T,
@@ -38,7 +38,7 @@ pub fn put_or_overtaken<T: Drop + Send>(
 }
 
 /// Takes a value in the same way.
-pub fn take_or_overtaken<T: Drop + Send>(
+pub fn take_or_overtaken<T: Drop>(
     queue: &Queue<T>,
     by: Pass<T>,
 ) -> Stepped<TakeOp<T>, Pass<T>, Result<(T, u64), TakeRefused>>

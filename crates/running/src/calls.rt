@@ -8,10 +8,11 @@ ghost use Rattle.running.specs.Steps.{Stands, Stops, Ran, RanFor, TellsFor, Took
 use crate::code::{Code, Next, OnTable};
 use crate::lists::ListMachine;
 use crate::passes::Pass;
-use crate::pause::Pause;
+use crate::pause::{at_end, left_under_way};
 use crate::rule::Running;
 use crate::stepping::{any, counted_step};
 use atomic_table::Shared;
+use backoff::Pause;
 use bounded_model::Stepped;
 use machine::View;
 use std::sync::Wait;
@@ -84,11 +85,11 @@ fn go_on<
     match first {
         (pass, Next::Done(answer)) => (pass, answer),
         (pass, Next::On(at)) => {
-            let pause = Pause::of(&pass);
+            let pause = Pause::of(pass.density);
             run_on::<R, C, T, L, O, M, A, S, N>(rt, table, on, pass, at, operation, pause)
         }
         (pass, Next::Lost(at)) => {
-            let pause = Pause::of(&pass).wait();
+            let pause = Pause::of(pass.density).wait();
             run_on::<R, C, T, L, O, M, A, S, N>(rt, table, on, pass, at, operation, pause)
         }
     }
@@ -131,7 +132,7 @@ fn run_on<
             (back, Next::Done(answer)) => {
                 let Pass { seat, density } = back;
                 let refused = S::is_refusal(&answer);
-                let density = density.at_end::<T, L, O, M>(table, pause, refused);
+                let density = at_end::<T, L, O, M>(density, table, pause, refused);
                 return (Pass { seat, density }, answer);
             }
             (next, Next::On(to)) => {
@@ -171,9 +172,9 @@ pub fn at_once<
         (pass, Next::Done(answer)) => Stepped::Done(pass, answer),
         (pass, Next::On(at)) => Stepped::Again((pass, at)),
         (pass, Next::Lost(at)) => {
-            let pause = Pause::of(&pass).wait();
+            let pause = Pause::of(pass.density).wait();
             let Pass { seat, density } = pass;
-            let density = density.under_way(pause);
+            let density = left_under_way(density, pause);
             Stepped::Again((Pass { seat, density }, at))
         }
     }
@@ -210,11 +211,11 @@ pub fn try_for<
     match first {
         (pass, Next::Done(answer)) => Stepped::Done(pass, answer),
         (pass, Next::On(at)) => {
-            let pause = Pause::of(&pass);
+            let pause = Pause::of(pass.density);
             run_for::<C, T, L, O, M, A, S, N>(table, on, pass, at, operation, pause, steps)
         }
         (pass, Next::Lost(at)) => {
-            let pause = Pause::of(&pass).wait();
+            let pause = Pause::of(pass.density).wait();
             run_for::<C, T, L, O, M, A, S, N>(table, on, pass, at, operation, pause, steps)
         }
     }
@@ -256,7 +257,7 @@ fn run_for<
             (back, Next::Done(answer)) => {
                 let Pass { seat, density } = back;
                 let refused = S::is_refusal(&answer);
-                let density = density.at_end::<T, L, O, M>(table, pause, refused);
+                let density = at_end::<T, L, O, M>(density, table, pause, refused);
                 return Stepped::Done(Pass { seat, density }, answer);
             }
             (next, Next::On(to)) => {
@@ -271,6 +272,6 @@ fn run_for<
         }
     }
     let Pass { seat, density } = pass;
-    let density = density.under_way(pause);
+    let density = left_under_way(density, pause);
     Stepped::Again((Pass { seat, density }, at))
 }

@@ -31,7 +31,6 @@ pub use lists::{
 };
 pub use op::Op;
 pub use passes::{Note, Pass, Root, heed, join, make_note, meet, split};
-pub use pause::{Density, Pause};
 pub use rule::{Machine, Running};
 pub use seats::peek;
 pub use stepping::{any, first_step, single_step, step};

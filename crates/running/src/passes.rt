@@ -13,10 +13,10 @@ ghost use Rattle.running.specs.Passes.{
   root_line,
 };
 
-use crate::pause::Density;
 use crate::rule::{Machine, Running};
 use crate::seats::{join_seats, look_round, split_seat};
 use atomic_table::{Seat, Shared};
+use backoff::Density;
 use machine::seats::View;
 use tagged_index::Limits;
 

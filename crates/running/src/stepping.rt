@@ -14,6 +14,7 @@ use crate::lists::{
     take_first_step,
 };
 use crate::passes::Pass;
+use crate::pause::at_begin;
 use crate::rule::Running;
 use crate::steps::{
     fetch_step, give_step, keep_step, load_step, store_step, stow_step, swap_step, take_step,
@@ -379,7 +380,7 @@ pub fn first_step<
     ensures told { Tells (S.account (C.key on.now)).told at result.1 }
 {
     let Pass { seat, density } = by;
-    let density = density.at_begin::<T, L, O, M>(table);
+    let density = at_begin::<T, L, O, M>(density, table);
     let by = Pass { seat, density };
     any::<C, T, L, O, M, A, S, N>(table, on, by, at, operation)
 }

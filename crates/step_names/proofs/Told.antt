@@ -90,16 +90,19 @@ module _ {T M P Q L E : Type 0} (memories : Memories T M P Q) (naming : Naming T
       tell_swap line at old change led lost (CompareAndSwap location retried) (is_at, loads_lost, away) led_to is =
           both_ways next location retried (same (memories.word m at) old) (won memories idle m pass at (new_word (memories.keeps at) old change) led) lost outcome (won_away at _ led retried away) loads_lost led_to is
 
+      as_named : (name is_called : StepName) → name ≡ is_called → IsOutcome name next outcome → IsOutcome is_called next outcome
+      as_named name is_called named is = subst (λ (n : StepName). IsOutcome n next outcome) named is
+
       tell : (line : L) (deed : Deed T M P Q L E) (name : StepName) → IsDeedNamed naming deed name → IsNextNamed naming (does memories idle m pass line deed).line next → IsOutcome name next outcome → outcome ≡ did memories m deed
       tell line rests name named led_to is = absurd named
-      tell line (loads at to) name named led_to is = subst (λ (n : StepName). IsOutcome n next outcome) named is
-      tell line (checks at seen here elsewhere) name named led_to is = subst (λ (n : StepName). IsOutcome n next outcome) named is
-      tell line (follows at to) name named led_to is = subst (λ (n : StepName). IsOutcome n next outcome) named is
-      tell line (fetches at indexes to) name named led_to is = subst (λ (n : StepName). IsOutcome n next outcome) named is
-      tell line (stows at slots to) name named led_to is = subst (λ (n : StepName). IsOutcome n next outcome) named is
-      tell line (stores at word to) name named led_to is = subst (λ (n : StepName). IsOutcome n next outcome) named is
-      tell line (links at number to) name named led_to is = subst (λ (n : StepName). IsOutcome n next outcome) named is
-      tell line (attempts at old new to) name named led_to is = subst (λ (n : StepName). IsOutcome n next outcome) named is
+      tell line (loads at to) name named led_to is = as_named name _ named is
+      tell line (checks at seen here elsewhere) name named led_to is = as_named name _ named is
+      tell line (follows at to) name named led_to is = as_named name _ named is
+      tell line (fetches at indexes to) name named led_to is = as_named name _ named is
+      tell line (stows at slots to) name named led_to is = as_named name _ named is
+      tell line (stores at word to) name named led_to is = as_named name _ named is
+      tell line (links at number to) name named led_to is = as_named name _ named is
+      tell line (attempts at old new to) name named led_to is = as_named name _ named is
       tell line (swaps at old change led lost) name named led_to is = tell_swap line at old change led lost name named led_to is
 
   pub names_tell : NamesTell memories naming idle

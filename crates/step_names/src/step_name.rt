@@ -10,8 +10,8 @@ use std::fmt;
 pub enum StepName {
     /// A load of this word.
     Load(Location),
-    /// A load of this word, by which a ring's operation gives back the cell that it took a value
-    /// from.
+    /// A load of this word, by which a ring's operation gives back the cell that it has: a take the
+    /// cell of its value, a refused put the cell that it did not need.
     Stow(Location),
     /// A store into this word.
     Store(Location),

@@ -26,8 +26,8 @@ pub type Note<T> = running::Note<T, SeatLine<T>>;
 /// What an operation has answered, and which cell is the spare one of its pass now.
 pub type Answered<R> = bounded::Answered<Spare, R>;
 
-/// A call of a ring that was begun. It is a type of its own, so that code over any container
-/// that meets it compares a name.
+/// A call of a ring that was begun. It is a type of its own, since the prover then compares its
+/// name, not the types of its five kinds of calls.
 #[derive(Drop)]
 pub struct AnyOp<T> {
     pub call: AnyCall<PutOp<T>, TakeOp<T>, CloseOp<T>, ShutOp<T>, LookOp<T>>,
