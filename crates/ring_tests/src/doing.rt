@@ -6,7 +6,6 @@ ghost use Rattle.ring_queue.specs.Ring.{IsPassOf};
 ghost use Rattle.ring_tests.specs.Doing.{IsDoing};
 
 use crate::plain::{Asked, Reply};
-use bounded::joined;
 use bounded_model::{Command, Stepped, Stepwise};
 use ring_queue::{AnyOp, LenOp, Pass, RingQueue, begin_len};
 
@@ -62,5 +61,11 @@ pub(crate) fn count_on(
     ensures { MatchStepped result (λ next. IsCounting ring.now next)
         (λ back count. IsPassOf ring.now back) }
 {
-    joined(op.run_for(ring, steps))
+    match op.run_for(ring, steps) {
+        Stepped::Again(next) => Stepped::Again(next),
+        Stepped::Done(pass, answered) => {
+            let kept = answered.kept;
+            Stepped::Done(Pass { pass, kept }, answered.reply)
+        }
+    }
 }
