@@ -1,3 +1,4 @@
+pub mod Crossing
 pub mod Going
 pub mod Lines
 pub mod Showing

@@ -125,6 +125,16 @@ module _ {R P O : Type 0} (r : Reading R P O) where
   is_acting begun (Resting v) shows = absurd shows
   is_acting begun (Acting call u) shows = (call, u, refl)
 
+  pub resting_is : (pass : P) (n : Named) → Shows r (place.Resting pass) n → r.is_pass pass
+  resting_is pass Nobody shows = absurd shows
+  resting_is pass (Resting v) shows = shows.0
+  resting_is pass (Acting call u) shows = absurd shows
+
+  pub acting_is : (begun : Begun O) (n : Named) → Shows r (place.Acting begun) n → (call : Command (List ℕ)) × r.is_making call begun.operation
+  acting_is begun Nobody shows = absurd shows
+  acting_is begun (Resting v) shows = absurd shows
+  acting_is begun (Acting call u) shows = (call, shows.0)
+
   -- a place that is not empty names somebody
   pub is_somebody : (p : Place P O) (n : Named) → Shows r p n → (p ≡ place.Nobody → ⊥) → n ≡ Nobody → ⊥
   is_somebody place.Nobody n shows some none = some refl
@@ -145,6 +155,10 @@ module _ {R P O : Type 0} (r : Reading R P O) where
   shows_at (p ∷ places) [] i place all within was = absurd all
   shows_at (p ∷ places) (n ∷ names) zero place all within was = subst (λ (q : Place P O). Shows r q n) was all.0
   shows_at (p ∷ places) (n ∷ names) (suc i) place all within was = shows_at places names i place all.1 (omega (arith, within)) was
+
+  pub shows_first : (p : Place P O) (places : List (Place P O)) (names : List Named) → ShowsAll r (p ∷ places) names → (name : Named) × Shows r p name
+  shows_first p places [] all = absurd all
+  shows_first p places (n ∷ names) all = (n, all.0)
 
   pub shows_set : (places : List (Place P O)) (names : List Named) (i : ℕ) (place : Place P O) (name : Named) → ShowsAll r places names → Shows r place name → ShowsAll r (slice_set places i place) (slice_set names i name)
   shows_set [] [] i place name all one = tt

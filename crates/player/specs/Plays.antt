@@ -1,5 +1,6 @@
 -- A played script: each line's answer is that of the call that the line names, under the container's own laws.
-use Rattle.std.specs.Prelude.{◌≡◌, ℕ, ◌+◌, ◌-◌, ◌≤◌, Bool, true, false, List, [], ◌∷◌, map, replicate, reverse, Option, Some, Result, Ok, Err, slice_set, slice_index_or}
+use Rattle.std.specs.Prelude.{◌≡◌, ◌≢◌, ℕ, IsTrue, ◌+◌, ◌-◌, ◌≤◌, Bool, true, false, List, [], ◌∷◌, map, replicate, reverse, Option, Some, Result, Ok, Err, slice_set, slice_index_or}
+use Rattle.std.specs.Char.{is_ascii_lowercase}
 use Rattle.std.specs.Io.Iter.{u64_saturate}
 use Rattle.bounded_model.specs.declared.answers.TakeRefused.{TakeRefused}
 use Rattle.bounded_model.specs.declared.bulk.Ranged.{Ranged}
@@ -24,6 +25,7 @@ use Rattle.script.specs.declared.answer.RangeReply.TheVariants as range
 use Rattle.script.specs.declared.line.Act.{Act}
 use Rattle.script.specs.declared.line.Act.TheVariants.{Call, Begin, Step, Range, Fold, ReversedFold, Meet, Drop}
 use Rattle.script.specs.declared.line.Line.{Line}
+use Rattle.script.specs.declared.line.PassName.{PassName}
 use Rattle.script.specs.declared.line.Line.TheVariants.{By, Finish}
 
 -- what a letter names: nobody, a pass between its calls, or a call under way
@@ -102,6 +104,12 @@ IsFor order (Range values) = order ≡ Lifo
 IsFor order Fold = order ≡ Lifo
 IsFor order ReversedFold = order ≡ Lifo
 IsFor order act = Unit {0}
+
+-- what a line needs: small letters, another pass to meet, and a stack for ranges and folds
+pub record IsFit (order : Order) (letter : ℕ) (act : Act) : Type 0 where
+  pub small : IsTrue (is_ascii_lowercase letter)
+  pub another : (other : PassName) → act ≡ Meet other → IsTrue (is_ascii_lowercase other.0) × (letter ≢ other.0)
+  pub fits : IsFor order act
 
 -- a line of a pass between its calls
 abbrev pub RestingTold : Shape → PassView (List ℕ) → Act → Answer → Named → Type 0

@@ -1,20 +1,18 @@
 -- What a stage shows: the root, and what its letters name.
-use Rattle.std.specs.Prelude.{◌≡◌, ◌≤◌, ℕ, Bool, List, [], ◌∷◌, MatchOption, Option, Result}
+use Rattle.std.specs.Prelude.{◌≡◌, ◌≤◌, ℕ, List, [], ◌∷◌}
 use Rattle.bounded_model.specs.declared.answers.Stepped.{Stepped}
-use Rattle.bounded_model.specs.declared.answers.TakeRefused.{TakeRefused}
 use Rattle.bounded_model.specs.declared.commands.Command.{Command}
 use Rattle.bounded_model.specs.declared.commands.Reply.{Reply}
+use Rattle.bounded_model.specs.declared.container.Container as container
 use Rattle.bounded_model.specs.declared.views.PassView.{PassView}
 use Rattle.bounded_model.specs.declared.views.RootView.{RootView}
 use Rattle.bounded_model.specs.Calls.{CallGives}
-use Rattle.bounded_model.specs.Laws.{IsFullOfPasses, Splits}
 use Rattle.bounded_model.specs.Machine.{Shape}
 use Rattle.bounded_model.specs.Stepping.{GoesOn, MatchStepped, OneStep, Underway}
 use Rattle.player.specs.declared.place.Place.{Place}
 use Rattle.player.specs.declared.place.Place.TheVariants as place
 use Rattle.player.specs.declared.stage.Stage.{Stage}
-use Rattle.player.specs.Plays.{Named, Nobody, Resting, Acting, World, Finds, FoldTold, RangeTold, named, renamed, steps_since}
-use Rattle.script.specs.declared.answer.RangeReply.{RangeReply}
+use Rattle.player.specs.Plays.{Named, Nobody, Resting, Acting, World, Finds, named, renamed, steps_since}
 
 -- how a container's roots, passes and operations are read
 pub record Reading (R P O : Type 0) : Type 1 where
@@ -26,26 +24,22 @@ pub record Reading (R P O : Type 0) : Type 1 where
   pub is_making : Command (List ℕ) → O → Type 0
   pub made : O → Underway (List ℕ)
 
+-- how a container's are read: by what its trait says of them, and which calls the operations make
+abbrev pub reading_of : {C R P N L O : Type 0} → container.Ghosts C (List ℕ) R P N L → (C → Command (List ℕ) → O → Type 0) → (O → Underway (List ℕ)) → C → Reading R P O
+reading_of k is_making making c = record {
+  shape = k.shape c;
+  is_root = k.is_root c;
+  root = k.root;
+  is_pass = k.is_pass c;
+  pass = k.pass;
+  is_making = is_making c;
+  made = making;
+}
+
 module _ {R P O : Type 0} (r : Reading R P O) where
-  -- what a split of a root gives: a new pass, or none if no more can be had
-  abbrev pub SplitGives : R → R → Option P → Type 0
-  SplitGives before after got = MatchOption got ((r.root after ≡ r.root before) × IsFullOfPasses r.shape (r.root before)) (λ p. r.is_pass p × Splits r.shape (r.root before) (r.root after) (r.pass p))
-
-  -- what a whole call by a pass gives: the pass that comes back, and the reply
-  abbrev pub CallBy : P → Command (List ℕ) → P × Reply (List ℕ) → Type 0
-  CallBy by command done = CallGives r.shape (r.pass by) command (r.pass done.0) done.1
-
   -- what one step of an operation gives that makes this call: it is still under way, or it ends with the call's reply
   abbrev pub StepOf : Command (List ℕ) → O → Stepped O P (Reply (List ℕ)) → Type 0
   StepOf call operation stepped = MatchStepped stepped (λ next. r.is_making call next × GoesOn (r.made operation) (r.made next)) (λ back reply. r.is_pass back × OneStep (r.made operation).now (r.pass back) × CallGives r.shape (r.made operation).begun call (r.pass back) reply)
-
-  -- what a range of values gives: its reply, and the values that were not put
-  abbrev pub RangeBy : P → List (List ℕ) → P × RangeReply × List (List ℕ) → Type 0
-  RangeBy by values done = RangeTold r.shape (r.pass by) (r.pass done.0) values done.1 done.2
-
-  -- what a fold in this direction gives: its number and the values, or why none was taken
-  abbrev pub FoldBy : Bool → P → P × Result (ℕ × List (List ℕ)) TakeRefused → Type 0
-  FoldBy reversed by done = FoldTold r.shape reversed (r.pass by) (r.pass done.0) done.1
 
 -- what a place of a letter holds
 abbrev pub Shows : {R P O : Type 0} → Reading R P O → Place P O → Named → Type 0
@@ -63,6 +57,10 @@ pub record IsOn {R P O : Type 0} (r : Reading R P O) (stage : Stage R P O) (worl
   pub is : r.is_root stage.root
   pub root : world.root ≡ r.root stage.root
   pub names : ShowsAll r stage.places.of.items world.names
+
+-- a stage of this container
+abbrev pub IsStage : {C R P N L O : Type 0} → container.Ghosts C (List ℕ) R P N L → (C → Command (List ℕ) → O → Type 0) → (O → Underway (List ℕ)) → C → Stage R P O → Type 0
+IsStage k is_making making c stage = (world : World) × IsOn (reading_of k is_making making c) stage world
 
 -- a letter was looked for: what it names was taken out of its place
 pub record Found {R P O : Type 0} (r : Reading R P O) (world : World) (letter : ℕ) (stage : Stage R P O) (place : Place P O) : Type 0 where

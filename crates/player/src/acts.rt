@@ -2,74 +2,77 @@
 
 ghost use Rattle.std.specs.Prelude.{◌≡◌, ℕ, IfOk, List, [], ◌∷◌};
 ghost use Rattle.bounded_model.specs.declared.commands.Command.{Command};
+ghost use Rattle.bounded_model.specs.Calls.{CallGives};
 ghost use Rattle.bounded_model.specs.Stepping.{Underway};
 ghost use Rattle.player.specs.Plays.{Acting, ActingTold, IsFor, Named, RestingTold, StepsTold, Told};
-ghost use Rattle.player.specs.Shows.{CallBy, Shows, StepOf};
+ghost use Rattle.player.specs.Shows.{Shows, StepOf, reading_of};
 ghost use Rattle.player.specs.declared.place.Place.TheVariants.{Acting as AtWork};
 ghost use Rattle.player.specs.Traces.{ActingLines, CallLines, IsCounted, PlaceLines, RestingLines, StepLine, Traces};
 ghost use Rattle.script.specs.declared.line.Act.TheVariants.{Meet, Step};
 ghost use Rattle.script.specs.declared.line.PassName.{PassName};
 
 use crate::place::{Begun, Place};
-use crate::played::Played;
+use crate::scripted::Scripted;
 use crate::trace::{MadeStep, Trace};
-use bounded_model::{Command, Reply, Stepped};
+use bounded_model::{Command, Container, Reply, Stepped};
 use script::{Act, Answer, Value};
 use std::alloc::{AllocError, Global};
 use std::sync::Wait;
 
 /// Does what a line other than a meet says, with what its letter names. Returns what it names then.
-pub fn act_at<'a, C: Played<'a>, R: Wait>(
+pub fn act_at<'a, G: Scripted<'a, C>, C: Container<Value<'a>>, R: Wait>(
     container: &C,
     rt: &R,
     alloc: Global,
-    place: Place<C::Pass, C::Operation>,
+    place: Place<C::Pass, G::Op>,
     act: Act<'a>,
     trace: &mut Trace,
-) -> Result<(Place<C::Pass, C::Operation>, Answer<'a>), AllocError>
-    requires place { (found : Named) × Shows (C.reading container.now) place found }
+) -> Result<(Place<C::Pass, G::Op>, Answer<'a>), AllocError>
+    requires place { (found : Named) × Shows (reading_of C.Container G.is_making G.making container.now)
+        place found }
     requires alone { (other : PassName) → ¬ (act ≡ Meet other) }
-    requires fits { IsFor (C.reading container.now).shape.order act }
-    ensures told { (found : Named) → Shows (C.reading container.now) place found
-        → IfOk result (λ done. (after : Named) × Shows (C.reading container.now) done.0 after
-        × Told (C.reading container.now).shape found act.entry done.1 after) }
+    requires fits { IsFor (C.shape container.now).order act }
+    ensures told { (found : Named) → Shows (reading_of C.Container G.is_making G.making container.now)
+        place found → IfOk result (λ done. (after : Named)
+        × Shows (reading_of C.Container G.is_making G.making container.now) done.0 after
+        × Told (C.shape container.now) found act.entry done.1 after) }
     ensures traced { IfOk result (λ done. Traces trace.old trace.new
-        (λ lines. PlaceLines (C.reading container.now) C.is_step trace.old.pass place
-        act.entry done.1 lines done.0)) }
+        (λ lines. PlaceLines (reading_of C.Container G.is_making G.making container.now) G.is_step
+        trace.old.pass place act.entry done.1 lines done.0)) }
 {
     match place {
         Place::Nobody => Ok((Place::Nobody, Answer::NoPass)),
-        Place::Resting(pass) => act_resting(container, rt, alloc, pass, act, trace),
-        Place::Acting(begun) => act_begun(container, begun, act, trace),
+        Place::Resting(pass) => act_resting::<G, _, _>(container, rt, alloc, pass, act, trace),
+        Place::Acting(begun) => act_begun::<G, _>(container, begun, act, trace),
     }
 }
 
 /// Does the same with a pass between its calls.
-fn act_resting<'a, C: Played<'a>, R: Wait>(
+fn act_resting<'a, G: Scripted<'a, C>, C: Container<Value<'a>>, R: Wait>(
     container: &C,
     rt: &R,
     alloc: Global,
     pass: C::Pass,
     act: Act<'a>,
     trace: &mut Trace,
-) -> Result<(Place<C::Pass, C::Operation>, Answer<'a>), AllocError>
-    requires pass { (C.reading container.now).is_pass pass }
+) -> Result<(Place<C::Pass, G::Op>, Answer<'a>), AllocError>
+    requires pass { C.is_pass container.now pass }
     requires alone { (other : PassName) → ¬ (act ≡ Meet other) }
-    requires fits { IsFor (C.reading container.now).shape.order act }
-    ensures told { IfOk result (λ done. (after : Named) × Shows (C.reading container.now) done.0 after
-        × RestingTold (C.reading container.now).shape ((C.reading container.now).pass pass)
-        act.entry done.1 after) }
+    requires fits { IsFor (C.shape container.now).order act }
+    ensures told { IfOk result (λ done. (after : Named)
+        × Shows (reading_of C.Container G.is_making G.making container.now) done.0 after
+        × RestingTold (C.shape container.now) (C.pass pass) act.entry done.1 after) }
     ensures traced { IfOk result (λ done. Traces trace.old trace.new
-        (λ lines. RestingLines (C.reading container.now) C.is_step trace.old.pass pass
-        act.entry done.1 lines done.0)) }
+        (λ lines. RestingLines (reading_of C.Container G.is_making G.making container.now) G.is_step
+        trace.old.pass pass act.entry done.1 lines done.0)) }
 {
     match act {
         Act::Call(command) => {
-            let (pass, reply) = make_call(container, rt, pass, command, trace)?;
+            let (pass, reply) = make_call::<G, _, _>(container, rt, pass, command, trace)?;
             Ok((Place::Resting(pass), Answer::Call(reply)))
         }
         Act::Begin(command) => {
-            let operation = container.begin(pass, command);
+            let operation = G::begin(container, pass, command);
             let begun = Begun {
                 operation,
                 steps: 0,
@@ -77,17 +80,17 @@ fn act_resting<'a, C: Played<'a>, R: Wait>(
             Ok((Place::Acting(begun), Answer::Begun))
         }
         Act::Range(values) => {
-            let (pass, reply, kept) = container.range(rt, alloc, pass, values)?;
+            let (pass, reply, kept) = G::range(container, rt, alloc, pass, values)?;
             trace.add_whole("range")?;
             Ok((Place::Resting(pass), Answer::Range(reply, kept)))
         }
         Act::Fold => {
-            let (pass, told) = container.fold(rt, alloc, pass, false)?;
+            let (pass, told) = G::fold(container, rt, alloc, pass, false)?;
             trace.add_whole("fold")?;
             Ok((Place::Resting(pass), Answer::Fold(told)))
         }
         Act::ReversedFold => {
-            let (pass, told) = container.fold(rt, alloc, pass, true)?;
+            let (pass, told) = G::fold(container, rt, alloc, pass, true)?;
             trace.add_whole("rfold")?;
             Ok((Place::Resting(pass), Answer::ReversedFold(told)))
         }
@@ -98,28 +101,29 @@ fn act_resting<'a, C: Played<'a>, R: Wait>(
 }
 
 /// Makes a whole call. If a trace is kept, it makes the call by steps, so that each has its line.
-fn make_call<'a, C: Played<'a>, R: Wait>(
+fn make_call<'a, G: Scripted<'a, C>, C: Container<Value<'a>>, R: Wait>(
     container: &C,
     rt: &R,
     by: C::Pass,
     command: Command<Value<'a>>,
     trace: &mut Trace,
 ) -> Result<(C::Pass, Reply<Value<'a>>), AllocError>
-    requires { (C.reading container.now).is_pass by }
-    ensures of { IfOk result (λ done. (C.reading container.now).is_pass done.0) }
-    ensures gives { IfOk result (CallBy (C.reading container.now) by command.entry) }
-    ensures traced { IfOk result (λ done. Traces trace.old trace.new
-        (CallLines (C.reading container.now) C.is_step trace.old.pass command.entry by
-        done.0 done.1)) }
+    requires { C.is_pass container.now by }
+    ensures of { IfOk result (λ done. C.is_pass container.now done.0) }
+    ensures gives { IfOk result (λ done. CallGives (C.shape container.now)
+        (C.pass by) command.entry (C.pass done.0) done.1) }
+    ensures traced { IfOk result (λ done. Traces trace.old trace.new (CallLines
+        (reading_of C.Container G.is_making G.making container.now) G.is_step trace.old.pass command.entry
+        by done.0 done.1)) }
 {
     if !trace.is_kept() {
-        return Ok(container.call(rt, by, command));
+        return Ok(call_whole::<G, _, _>(container, rt, by, command));
     }
-    let mut operation = container.begin(by, command);
+    let mut operation = G::begin(container, by, command);
     let mut made: u64 = 0;
     for _ in rt.forever() {
         made = made.saturating_add(1);
-        match make_step(container, operation, made, trace)? {
+        match make_step::<G, _>(container, operation, made, trace)? {
             Stepped::Again(next) => operation = next,
             Stepped::Done(pass, reply) => return Ok((pass, reply)),
         }
@@ -127,27 +131,63 @@ fn make_call<'a, C: Played<'a>, R: Wait>(
     unreachable!()
 }
 
-/// Makes one step of a call, its step of this number, and adds it to the trace.
-fn make_step<'a, C: Played<'a>>(
+/// Makes a whole call as the container makes it.
+fn call_whole<'a, G: Scripted<'a, C>, C: Container<Value<'a>>, R: Wait>(
     container: &C,
-    operation: C::Operation,
+    rt: &R,
+    by: C::Pass,
+    command: Command<Value<'a>>,
+) -> (C::Pass, Reply<Value<'a>>)
+    requires { C.is_pass container.now by }
+    ensures of { C.is_pass container.now result.0 }
+    ensures gives { CallGives (C.shape container.now)
+        (C.pass by) command.entry (C.pass result.0) result.1 }
+{
+    match command {
+        Command::Put(value) => {
+            let (pass, answer) = container.put(rt, by, value);
+            (pass, Reply::Put(answer))
+        }
+        Command::Take => {
+            let (pass, answer) = container.take(rt, by);
+            (pass, Reply::Take(answer))
+        }
+        Command::Close => {
+            let (pass, closed) = container.close(rt, by);
+            (pass, Reply::Close(closed))
+        }
+        Command::Shut => {
+            let (pass, shut) = container.shut(rt, by);
+            (pass, Reply::Shut(shut))
+        }
+        Command::Look => {
+            let (pass, is_empty) = G::look(container, rt, by);
+            (pass, Reply::Look(is_empty))
+        }
+    }
+}
+
+/// Makes one step of a call, its step of this number, and adds it to the trace.
+fn make_step<'a, G: Scripted<'a, C>, C: Container<Value<'a>>>(
+    container: &C,
+    operation: G::Op,
     number: u64,
     trace: &mut Trace,
-) -> Result<Stepped<C::Operation, C::Pass, Reply<Value<'a>>>, AllocError>
-    requires { (call : Command (List ℕ)) × (C.reading container.now).is_making call operation }
-    ensures gives { (call : Command (List ℕ)) → (C.reading container.now).is_making call operation
-        → IfOk result (StepOf (C.reading container.now) call operation) }
-    ensures traced { IfOk result (λ stepped. Traces trace.old trace.new
-        (λ lines. (line : List ℕ) × (lines ≡ line ∷ []) × StepLine (C.reading container.now)
-        C.is_step trace.old.pass number operation stepped line)) }
+) -> Result<Stepped<G::Op, C::Pass, Reply<Value<'a>>>, AllocError>
+    requires { (call : Command (List ℕ)) × G.is_making container.now call operation }
+    ensures gives { (call : Command (List ℕ)) → G.is_making container.now call operation
+        → IfOk result (StepOf (reading_of C.Container G.is_making G.making container.now) call operation) }
+    ensures traced { IfOk result (λ stepped. Traces trace.old trace.new (λ lines. (line : List ℕ)
+        × (lines ≡ line ∷ []) × StepLine (reading_of C.Container G.is_making G.making container.now)
+        G.is_step trace.old.pass number operation stepped line)) }
 {
     if !trace.is_kept() {
-        return Ok(container.step(operation));
+        return Ok(G::step(container, operation));
     }
-    let name = C::step_name(&operation);
-    let stepped = container.step(operation);
+    let name = G::step_name(&operation);
+    let stepped = G::step(container, operation);
     let next = match &stepped {
-        Stepped::Again(next) => Some(C::step_name(next)),
+        Stepped::Again(next) => Some(G::step_name(next)),
         Stepped::Done(_, _) => None,
     };
     let outcome = name.outcome(next);
@@ -160,49 +200,51 @@ fn make_step<'a, C: Played<'a>>(
 }
 
 /// Does the same with a pass in the middle of a call. If the pass is dropped, so is its operation.
-fn act_begun<'a, C: Played<'a>>(
+fn act_begun<'a, G: Scripted<'a, C>, C: Container<Value<'a>>>(
     container: &C,
-    begun: Begun<C::Operation>,
+    begun: Begun<G::Op>,
     act: Act<'a>,
     trace: &mut Trace,
-) -> Result<(Place<C::Pass, C::Operation>, Answer<'a>), AllocError>
+) -> Result<(Place<C::Pass, G::Op>, Answer<'a>), AllocError>
     requires { (call : Command (List ℕ))
-        × (C.reading container.now).is_making call begun.operation }
+        × G.is_making container.now call begun.operation }
     ensures told { (call : Command (List ℕ)) (u : Underway (List ℕ))
-        → Shows (C.reading container.now) (AtWork begun) (Acting call u)
-        → IfOk result (λ done. (after : Named) × Shows (C.reading container.now) done.0 after
-        × ActingTold (C.reading container.now).shape call u act.entry done.1 after) }
-    ensures traced { IsCounted (C.reading container.now) begun
+        → Shows (reading_of C.Container G.is_making G.making container.now) (AtWork begun) (Acting call u)
+        → IfOk result (λ done. (after : Named)
+        × Shows (reading_of C.Container G.is_making G.making container.now) done.0 after
+        × ActingTold (C.shape container.now) call u act.entry done.1 after) }
+    ensures traced { IsCounted (reading_of C.Container G.is_making G.making container.now) begun
         → IfOk result (λ done. Traces trace.old trace.new (λ lines. (call : Command (List ℕ))
-        → (C.reading container.now).is_making call begun.operation
-        → ActingLines (C.reading container.now) C.is_step trace.old.pass call begun
-        act.entry done.1 lines done.0)) }
+        → G.is_making container.now call begun.operation
+        → ActingLines (reading_of C.Container G.is_making G.making container.now) G.is_step trace.old.pass
+        call begun act.entry done.1 lines done.0)) }
 {
     match act {
-        Act::Step(count) => make_steps(container, begun, count, trace),
+        Act::Step(count) => make_steps::<G, _>(container, begun, count, trace),
         Act::Drop => Ok((Place::Nobody, Answer::Dropped)),
         _ => Ok((Place::Acting(begun), Answer::Busy)),
     }
 }
 
 /// Makes `count` steps of a call, or fewer if it ends.
-fn make_steps<'a, C: Played<'a>>(
+fn make_steps<'a, G: Scripted<'a, C>, C: Container<Value<'a>>>(
     container: &C,
-    begun: Begun<C::Operation>,
+    begun: Begun<G::Op>,
     count: u16,
     trace: &mut Trace,
-) -> Result<(Place<C::Pass, C::Operation>, Answer<'a>), AllocError>
+) -> Result<(Place<C::Pass, G::Op>, Answer<'a>), AllocError>
     requires { (call : Command (List ℕ))
-        × (C.reading container.now).is_making call begun.operation }
+        × G.is_making container.now call begun.operation }
     ensures told { (call : Command (List ℕ)) (u : Underway (List ℕ))
-        → Shows (C.reading container.now) (AtWork begun) (Acting call u)
-        → IfOk result (λ done. (after : Named) × Shows (C.reading container.now) done.0 after
-        × StepsTold (C.reading container.now).shape call u count done.1 after) }
-    ensures traced { IsCounted (C.reading container.now) begun
+        → Shows (reading_of C.Container G.is_making G.making container.now) (AtWork begun) (Acting call u)
+        → IfOk result (λ done. (after : Named)
+        × Shows (reading_of C.Container G.is_making G.making container.now) done.0 after
+        × StepsTold (C.shape container.now) call u count done.1 after) }
+    ensures traced { IsCounted (reading_of C.Container G.is_making G.making container.now) begun
         → IfOk result (λ done. Traces trace.old trace.new (λ lines. (call : Command (List ℕ))
-        → (C.reading container.now).is_making call begun.operation
-        → ActingLines (C.reading container.now) C.is_step trace.old.pass call begun
-        (Step count) done.1 lines done.0)) }
+        → G.is_making container.now call begun.operation
+        → ActingLines (reading_of C.Container G.is_making G.making container.now) G.is_step trace.old.pass
+        call begun (Step count) done.1 lines done.0)) }
 {
     let Begun {
         mut operation,
@@ -212,7 +254,7 @@ fn make_steps<'a, C: Played<'a>>(
     while made < u64::from(count) {
         made += 1;
         let number = steps.saturating_add(made);
-        match make_step(container, operation, number, trace)? {
+        match make_step::<G, _>(container, operation, number, trace)? {
             Stepped::Again(next) => operation = next,
             Stepped::Done(pass, reply) => {
                 return Ok((Place::Resting(pass), Answer::Ended(reply, number)));

@@ -13,11 +13,11 @@
 
 mod acts;
 mod place;
-mod played;
 mod playing;
+mod scripted;
 mod stage;
 mod trace;
 
-pub use played::Played;
 pub use playing::play;
+pub use scripted::Scripted;
 pub use trace::{MadeStep, Trace};

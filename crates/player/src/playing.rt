@@ -3,17 +3,18 @@
 ghost use Rattle.std.specs.Prelude.{◌≡◌, ◌++◌, ℕ, IfOk, OnOk, IsTrue, List, codes, map, string_bytes};
 ghost use Rattle.std.specs.List.{AllByRecursion};
 ghost use Rattle.player.specs.Plays.{Ends, Plays, World, start};
-ghost use Rattle.player.specs.Shows.{IsOn};
+ghost use Rattle.player.specs.Shows.{IsOn, reading_of};
 ghost use Rattle.player.specs.Traces.{Adds, PlaysTraced, lines_in, nothing_held};
 ghost use Rattle.script.specs.AnswerTexts.{answer_text};
 ghost use Rattle.script.specs.Script.{FinishesLast, IsLine, is_allowed, text_of};
 ghost use Rattle.script.specs.declared.answer.Answer.{Answer};
 ghost use Rattle.script.specs.declared.answer.Answer.TheVariants.{Rest as LeftOver};
 
-use crate::played::Played;
+use crate::scripted::Scripted;
 use crate::stage::{Stage, act, finish};
 use crate::trace::Trace;
-use script::{Answer, Line};
+use bounded_model::Container;
+use script::{Answer, Line, Value};
 use std::alloc::{AllocError, Global};
 use std::collections::VecDeque;
 use std::sync::Wait;
@@ -27,7 +28,7 @@ use std::sync::Wait;
 /// whole. The trace gains a line for each step, in their order, with the step's name and its number
 /// in the call. It gains a line for each range and fold, and no other line. A line tells a
 /// compare-and-swap's outcome by the names of this step and the next (`StepName::outcome`).
-pub fn play<'a, C: Played<'a>, R: Wait>(
+pub fn play<'a, G: Scripted<'a, C>, C: Container<Value<'a>>, R: Wait>(
     rt: &R,
     alloc: Global,
     container: C,
@@ -35,19 +36,19 @@ pub fn play<'a, C: Played<'a>, R: Wait>(
     lines: VecDeque<Line<'a>>,
     trace: &mut Trace,
 ) -> Result<String, AllocError>
-    requires root { (C.reading container).is_root root }
+    requires root { C.is_root container root }
     requires each { AllByRecursion IsLine lines.items }
     requires allowed { AllByRecursion
-        (λ line. IsTrue (is_allowed (C.reading container).shape.order line)) lines.items }
+        (λ line. IsTrue (is_allowed (C.shape container).order line)) lines.items }
     requires finish_last { FinishesLast lines.items }
     ensures plays { IfOk result (λ output. (answers : List Answer)
-        × Plays (C.reading container).shape (start ((C.reading container).root root))
+        × Plays (C.shape container) (start (C.root root))
         lines.entry.items answers
         × (string_bytes output ≡ text_of (map answer_text answers))) }
     ensures traced { IfOk result (λ output. Adds (lines_in trace.old) (lines_in trace.new)
         (λ traced. (answers : List Answer)
-        × PlaysTraced (C.reading container) C.is_step (start ((C.reading container).root root))
-        nothing_held lines.entry.items answers traced
+        × PlaysTraced (reading_of C.Container G.is_making G.making container) G.is_step
+        (start (C.root root)) nothing_held lines.entry.items answers traced
         × (string_bytes output ≡ text_of (map answer_text answers)))) }
 {
     let mut lines = lines;
@@ -57,11 +58,11 @@ pub fn play<'a, C: Played<'a>, R: Wait>(
         match line {
             Line::By(name, what) => {
                 trace.turn_to(name);
-                let answer = act(&container, rt, alloc, &mut stage, name, what, trace)?;
+                let answer = act::<G, _, _>(&container, rt, &mut stage, what, trace)?;
                 write_reply(answer, &mut output)?;
             }
             Line::Finish => {
-                play_end(alloc, container, stage, &mut output)?;
+                play_end::<G, _>(alloc, container, stage, &mut output)?;
                 return Ok(output);
             }
         }
@@ -78,18 +79,18 @@ fn write_reply(answer: Answer<'_>, output: &mut String) -> Result<(), AllocError
 }
 
 /// Ends the container, and adds the line of the values that are left.
-fn play_end<'a, C: Played<'a>>(
+fn play_end<'a, G: Scripted<'a, C>, C: Container<Value<'a>>>(
     alloc: Global,
     container: C,
-    stage: Stage<C::Root, C::Pass, C::Operation>,
+    stage: Stage<C::Root, C::Pass, G::Op>,
     output: &mut String,
 ) -> Result<(), AllocError>
-    requires { (world : World) × IsOn (C.reading container) stage world }
-    ensures { (world : World) → IsOn (C.reading container) stage world
-        → OnOk result ((values : List (List ℕ)) × Ends (C.reading container).shape world values
+    requires { (world : World) × IsOn (reading_of C.Container G.is_making G.making container) stage world }
+    ensures { (world : World) → IsOn (reading_of C.Container G.is_making G.making container) stage world
+        → OnOk result ((values : List (List ℕ)) × Ends (C.shape container) world values
         × (string_bytes output.new
         ≡ string_bytes output.old ++ (answer_text (LeftOver values) ++ codes "\n"))) }
 {
-    let answer = Answer::Rest(finish(alloc, container, stage)?);
+    let answer = Answer::Rest(finish::<G, _>(alloc, container, stage)?);
     answer.write_line(output)
 }

@@ -2,8 +2,8 @@
 
 ghost use Rattle.std.specs.Prelude.{◌≡◌, ◌≢◌, ◌-◌, if◌then◌else◌, List, IsTrue, IfOk, slice_set};
 ghost use Rattle.std.specs.Char.{is_ascii_lowercase};
-ghost use Rattle.player.specs.Plays.{Acts, Does, DoesMeet, Ends, IsFor, JoinsAll, JoinsOne, MeetTold, Named, World, start};
-ghost use Rattle.player.specs.Shows.{Found, IsOn, Shows, ShowsAll};
+ghost use Rattle.player.specs.Plays.{Acts, Does, DoesMeet, Ends, IsFit, IsFor, JoinsAll, JoinsOne, MeetTold, Named, World, start};
+ghost use Rattle.player.specs.Shows.{Found, IsOn, IsStage, Shows, ShowsAll, reading_of};
 ghost use Rattle.player.specs.Traces.{ActsTraced, AreKept, DoesTraced, IsFound, IsKept, Traces, held_by};
 ghost use Rattle.player.specs.declared.place.Place.TheVariants.{Nobody};
 ghost use Rattle.script.specs.declared.answer.Answer.TheVariants.{Met, NoPass};
@@ -12,16 +12,18 @@ ghost use Rattle.script.specs.declared.line.PassName.{PassName};
 
 use crate::acts::act_at;
 use crate::place::{Place, Places};
-use crate::played::Played;
+use crate::scripted::Scripted;
 use crate::trace::Trace;
-use bounded_model::Leaving;
+use bounded_model::{Container, Leaving};
 use script::{Act, Answer, PassName, Value, ValueList};
 use std::alloc::{AllocError, Global};
 use std::sync::Wait;
 
-/// The root of a container, and what each letter names.
+/// The root of a container, and what each letter names. Its allocator keeps the values of ranges
+/// and folds.
 #[derive(Drop)]
 pub struct Stage<R, P, O> {
+    pub alloc: Global,
     pub root: R,
     pub places: Places<P, O>,
 }
@@ -36,21 +38,27 @@ impl<R: Drop, P: Drop, O: Drop> Stage<R, P, O> {
         ensures places { IfOk result (λ stage. stage.places.of.items ≡ replicate 26 Nobody) }
     {
         let places = Places::new(alloc)?;
-        Ok(Stage { root, places })
+        Ok(Stage {
+            alloc,
+            root,
+            places,
+        })
     }
 }
 
 /// Takes what a letter names out of its place. A letter that names nobody gets a new pass, if one
 /// can be had.
-fn find<'a, C: Played<'a>>(
+fn find<'a, G: Scripted<'a, C>, C: Container<Value<'a>>>(
     container: &C,
-    stage: &mut Stage<C::Root, C::Pass, C::Operation>,
+    stage: &mut Stage<C::Root, C::Pass, G::Op>,
     name: PassName,
-) -> Place<C::Pass, C::Operation>
-    requires on { (world : World) × IsOn (C.reading container.now) stage.old world }
+) -> Place<C::Pass, G::Op>
+    requires on { (world : World) × IsOn (reading_of C.Container G.is_making G.making container.now)
+        stage.old world }
     requires name { IsTrue (is_ascii_lowercase name.0) }
-    ensures found { (world : World) → IsOn (C.reading container.now) stage.old world
-        → Found (C.reading container.now) world name.0 stage.new result }
+    ensures found { (world : World) → IsOn (reading_of C.Container G.is_making G.making container.now)
+        stage.old world → Found (reading_of C.Container G.is_making G.making container.now) world name.0
+        stage.new result }
     ensures same { IsFound (held_by stage.old.places.of.items name.0) result }
     ensures places { stage.new.places.of.items
         ≡ slice_set stage.old.places.of.items (name.0 - 97) Nobody }
@@ -74,107 +82,109 @@ fn keep<R: Drop, P: Drop, O: Drop>(stage: &mut Stage<R, P, O>, name: PassName, p
     stage.places.exchange(name, place);
 }
 
-/// Does what a line says, adds the steps that are made to the trace, and returns the reply.
-pub fn act<'a, C: Played<'a>, R: Wait>(
+/// Does what a line of the trace's pass says, adds the steps that are made to the trace, and returns
+/// the reply.
+pub fn act<'a, G: Scripted<'a, C>, C: Container<Value<'a>>, R: Wait>(
     container: &C,
     rt: &R,
-    alloc: Global,
-    stage: &mut Stage<C::Root, C::Pass, C::Operation>,
-    name: PassName,
+    stage: &mut Stage<C::Root, C::Pass, G::Op>,
     act: Act<'a>,
     trace: &mut Trace,
 ) -> Result<Answer<'a>, AllocError>
-    requires on { (world : World) × IsOn (C.reading container.now) stage.old world }
-    requires name { IsTrue (is_ascii_lowercase name.0) }
-    requires other { (other : PassName) → act ≡ Meet other
-        → IsTrue (is_ascii_lowercase other.0) × (name.0 ≢ other.0) }
-    requires fits { IsFor (C.reading container.now).shape.order act }
-    ensures acts { (world : World) → IsOn (C.reading container.now) stage.old world
-        → IfOk result (λ answer. (next : World) × IsOn (C.reading container.now) stage.new next
-        × Acts (C.reading container.now).shape world name.0 act.entry answer next) }
-    ensures traced { (world : World) → IsOn (C.reading container.now) stage.old world
-        → trace.old.pass ≡ name → IfOk result (λ answer. Traces trace.old trace.new
-        (λ lines. (next : World) × IsOn (C.reading container.now) stage.new next
-        × ActsTraced (C.reading container.now) C.is_step world stage.old.places.of.items name
-        act.entry answer lines next stage.new.places.of.items)) }
+    requires { IsStage C.Container G.is_making G.making container.now stage.old
+        × IsFit (C.shape container.now).order trace.old.pass.0 act }
+    ensures acts { (world : World) → IsOn (reading_of C.Container G.is_making G.making container.now)
+        stage.old world → IfOk result (λ answer. (next : World)
+        × IsOn (reading_of C.Container G.is_making G.making container.now) stage.new next
+        × Acts (C.shape container.now) world trace.old.pass.0 act.entry answer next) }
+    ensures traced { (world : World) → IsOn (reading_of C.Container G.is_making G.making container.now)
+        stage.old world → IfOk result (λ answer. Traces trace.old trace.new (λ lines. (next : World)
+        × IsOn (reading_of C.Container G.is_making G.making container.now) stage.new next
+        × ActsTraced (reading_of C.Container G.is_making G.making container.now) G.is_step world
+        stage.old.places.of.items trace.old.pass act.entry answer lines next
+        stage.new.places.of.items)) }
 {
+    let name = trace.pass;
     match act {
-        Act::Meet(other) => Ok(meet(container, stage, name, other)),
-        act => act_alone(container, rt, alloc, stage, name, act, trace),
+        Act::Meet(other) => Ok(meet::<G, _>(container, stage, name, other)),
+        act => act_alone::<G, _, _>(container, rt, stage, name, act, trace),
     }
 }
 
 /// Does it at the place of its letter.
-fn act_alone<'a, C: Played<'a>, R: Wait>(
+fn act_alone<'a, G: Scripted<'a, C>, C: Container<Value<'a>>, R: Wait>(
     container: &C,
     rt: &R,
-    alloc: Global,
-    stage: &mut Stage<C::Root, C::Pass, C::Operation>,
+    stage: &mut Stage<C::Root, C::Pass, G::Op>,
     name: PassName,
     act: Act<'a>,
     trace: &mut Trace,
 ) -> Result<Answer<'a>, AllocError>
-    requires on { (world : World) × IsOn (C.reading container.now) stage.old world }
-    requires name { IsTrue (is_ascii_lowercase name.0) }
-    requires alone { (other : PassName) → ¬ (act ≡ Meet other) }
-    requires fits { IsFor (C.reading container.now).shape.order act }
-    ensures acts { (world : World) → IsOn (C.reading container.now) stage.old world
-        → IfOk result (λ answer. (next : World) × IsOn (C.reading container.now) stage.new next
-        × Does (C.reading container.now).shape world name.0 act.entry answer next) }
-    ensures traced { (world : World) → IsOn (C.reading container.now) stage.old world
-        → trace.old.pass ≡ name → IfOk result (λ answer. Traces trace.old trace.new
-        (λ lines. (next : World) × IsOn (C.reading container.now) stage.new next
-        × DoesTraced (C.reading container.now) C.is_step world stage.old.places.of.items name
-        act.entry answer lines next stage.new.places.of.items)) }
+    requires { ((world : World)
+        × IsOn (reading_of C.Container G.is_making G.making container.now) stage.old world)
+        × IsFit (C.shape container.now).order name.0 act
+        × ((other : PassName) → ¬ (act ≡ Meet other)) }
+    ensures acts { (world : World) → IsOn (reading_of C.Container G.is_making G.making container.now)
+        stage.old world → IfOk result (λ answer. (next : World)
+        × IsOn (reading_of C.Container G.is_making G.making container.now) stage.new next
+        × Does (C.shape container.now) world name.0 act.entry answer next) }
+    ensures traced { (world : World) → IsOn (reading_of C.Container G.is_making G.making container.now)
+        stage.old world → trace.old.pass ≡ name → IfOk result
+        (λ answer. Traces trace.old trace.new (λ lines. (next : World)
+        × IsOn (reading_of C.Container G.is_making G.making container.now) stage.new next
+        × DoesTraced (reading_of C.Container G.is_making G.making container.now) G.is_step world
+        stage.old.places.of.items name act.entry answer lines next stage.new.places.of.items)) }
 {
-    let place = find(container, stage, name);
-    let (place, answer) = act_at(container, rt, alloc, place, act, trace)?;
+    let place = find::<G, _>(container, stage, name);
+    let alloc = stage.alloc;
+    let (place, answer) = act_at::<G, _, _>(container, rt, alloc, place, act, trace)?;
     keep(stage, name, place);
     Ok(answer)
 }
 
 /// Two passes meet, if both are there and between their calls.
-fn meet<'a, C: Played<'a>>(
+fn meet<'a, G: Scripted<'a, C>, C: Container<Value<'a>>>(
     container: &C,
-    stage: &mut Stage<C::Root, C::Pass, C::Operation>,
+    stage: &mut Stage<C::Root, C::Pass, G::Op>,
     name: PassName,
     other: PassName,
 ) -> Answer<'a>
-    requires on { (world : World) × IsOn (C.reading container.now) stage.old world }
+    requires on { (world : World) × IsOn (reading_of C.Container G.is_making G.making container.now)
+        stage.old world }
     requires name { IsTrue (is_ascii_lowercase name.0) }
     requires other { IsTrue (is_ascii_lowercase other.0) × (name.0 ≢ other.0) }
-    ensures meets { (world : World) → IsOn (C.reading container.now) stage.old world
-        → (next : World) × IsOn (C.reading container.now) stage.new next
-        × DoesMeet (C.reading container.now).shape world name.0 other.0 result next }
+    ensures meets { (world : World) → IsOn (reading_of C.Container G.is_making G.making container.now)
+        stage.old world → (next : World)
+        × IsOn (reading_of C.Container G.is_making G.making container.now) stage.new next
+        × DoesMeet (C.shape container.now) world name.0 other.0 result next }
     ensures kept { AreKept stage.old.places.of.items stage.new.places.of.items }
 {
-    let first = find(container, stage, name);
+    let first = find::<G, _>(container, stage, name);
     if let Place::Nobody = first {
         return Answer::NoPass;
     }
-    let second = find(container, stage, other);
-    let (first, second, answer) = meet_at(container, first, second);
+    let second = find::<G, _>(container, stage, other);
+    let (first, second, answer) = meet_at::<G, _>(container, first, second);
     keep(stage, name, first);
     keep(stage, other, second);
     answer
 }
 
 /// Has what two letters name meet. The first names somebody.
-fn meet_at<'a, C: Played<'a>>(
+fn meet_at<'a, G: Scripted<'a, C>, C: Container<Value<'a>>>(
     container: &C,
-    first: Place<C::Pass, C::Operation>,
-    second: Place<C::Pass, C::Operation>,
-) -> (
-    Place<C::Pass, C::Operation>,
-    Place<C::Pass, C::Operation>,
-    Answer<'a>,
-)
-    requires first { (found : Named) × Shows (C.reading container.now) first found }
-    requires second { (found : Named) × Shows (C.reading container.now) second found }
-    ensures meets { (one two : Named) → Shows (C.reading container.now) first one
-        → Shows (C.reading container.now) second two
-        → (after : Named) × Shows (C.reading container.now) result.0 after
-        × Shows (C.reading container.now) result.1 two × MeetTold one two result.2 after }
+    first: Place<C::Pass, G::Op>,
+    second: Place<C::Pass, G::Op>,
+) -> (Place<C::Pass, G::Op>, Place<C::Pass, G::Op>, Answer<'a>)
+    requires first { (found : Named) × Shows (reading_of C.Container G.is_making G.making container.now)
+        first found }
+    requires second { (found : Named) × Shows (reading_of C.Container G.is_making G.making container.now)
+        second found }
+    ensures meets { (one two : Named) → Shows (reading_of C.Container G.is_making G.making container.now)
+        first one → Shows (reading_of C.Container G.is_making G.making container.now) second two
+        → (after : Named) × Shows (reading_of C.Container G.is_making G.making container.now) result.0
+        after × Shows (reading_of C.Container G.is_making G.making container.now) result.1 two
+        × MeetTold one two result.2 after }
     ensures first_kept { IsKept first result.0 }
     ensures second_kept { IsKept second result.1 }
 {
@@ -208,36 +218,36 @@ fn answer_to_meet<'a>(has_met: bool) -> Answer<'a>
 }
 
 /// Joins the passes that are between their calls, in the order of the letters, and drops the rest.
-fn join_all<'a, C: Played<'a>>(
+fn join_all<'a, G: Scripted<'a, C>, C: Container<Value<'a>>>(
     container: &C,
     root: &mut C::Root,
-    places: Places<C::Pass, C::Operation>,
+    places: Places<C::Pass, G::Op>,
 )
-    requires root { (C.reading container.now).is_root root.old }
+    requires root { C.is_root container.now root.old }
     requires places { (names : List Named)
-        × ShowsAll (C.reading container.now) places.of.items names }
-    ensures root { (C.reading container.now).is_root root.new }
-    ensures joined { (names : List Named) → ShowsAll (C.reading container.now) places.of.items names
-        → JoinsAll ((C.reading container.now).root root.old) names
-        ((C.reading container.now).root root.new) }
+        × ShowsAll (reading_of C.Container G.is_making G.making container.now) places.of.items names }
+    ensures root { C.is_root container.now root.new }
+    ensures joined { (names : List Named)
+        → ShowsAll (reading_of C.Container G.is_making G.making container.now) places.of.items names
+        → JoinsAll (C.root root.old) names (C.root root.new) }
 {
     let Places { of } = places;
     for place in of {
-        join_one(container, root, place);
+        join_one::<G, _>(container, root, place);
     }
 }
 
-fn join_one<'a, C: Played<'a>>(
+fn join_one<'a, G: Scripted<'a, C>, C: Container<Value<'a>>>(
     container: &C,
     root: &mut C::Root,
-    place: Place<C::Pass, C::Operation>,
+    place: Place<C::Pass, G::Op>,
 )
-    requires root { (C.reading container.now).is_root root.old }
-    requires place { (name : Named) × Shows (C.reading container.now) place name }
-    ensures root { (C.reading container.now).is_root root.new }
-    ensures joined { (name : Named) → Shows (C.reading container.now) place name
-        → JoinsOne ((C.reading container.now).root root.old) name
-        ((C.reading container.now).root root.new) }
+    requires root { C.is_root container.now root.old }
+    requires place { (name : Named) × Shows (reading_of C.Container G.is_making G.making container.now)
+        place name }
+    ensures root { C.is_root container.now root.new }
+    ensures joined { (name : Named) → Shows (reading_of C.Container G.is_making G.making container.now)
+        place name → JoinsOne (C.root root.old) name (C.root root.new) }
 {
     match place {
         Place::Nobody => {}
@@ -247,17 +257,21 @@ fn join_one<'a, C: Played<'a>>(
 }
 
 /// Ends the container, and returns the values that are left.
-pub fn finish<'a, C: Played<'a>>(
+pub fn finish<'a, G: Scripted<'a, C>, C: Container<Value<'a>>>(
     alloc: Global,
     container: C,
-    stage: Stage<C::Root, C::Pass, C::Operation>,
+    stage: Stage<C::Root, C::Pass, G::Op>,
 ) -> Result<ValueList<'a>, AllocError>
-    requires { (world : World) × IsOn (C.reading container) stage world }
-    ensures { (world : World) → IsOn (C.reading container) stage world
-        → IfOk result (Ends (C.reading container).shape world) }
+    requires { (world : World) × IsOn (reading_of C.Container G.is_making G.making container) stage world }
+    ensures { (world : World) → IsOn (reading_of C.Container G.is_making G.making container) stage world
+        → IfOk result (Ends (C.shape container) world) }
 {
-    let Stage { mut root, places } = stage;
-    join_all(&container, &mut root, places);
+    let Stage {
+        mut root,
+        places,
+        ..
+    } = stage;
+    join_all::<G, _>(&container, &mut root, places);
     values_left(alloc, container.finish(root))
 }
 

@@ -13,7 +13,7 @@ use step_names::{Outcome, StepName};
 #[derive(Drop)]
 pub struct Trace {
     /// The pass whose steps are made.
-    pass: PassName,
+    pub(crate) pass: PassName,
     /// The lines so far. `None` if no trace is asked for.
     lines: Option<String>,
 }

@@ -1,3 +1,4 @@
+mod Crossing
 pub mod Folding
 pub mod Outcomes
 pub mod Tracing

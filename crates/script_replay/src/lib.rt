@@ -14,7 +14,6 @@
 #![tactic(auto)]
 
 mod answer;
-mod called;
 mod fault;
 mod input;
 mod output;

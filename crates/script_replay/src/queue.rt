@@ -3,90 +3,73 @@
 ghost use Rattle.std.specs.Prelude.{◌≡◌, IfOk, IsTrue, string_bytes};
 ghost use Rattle.std.specs.List.{AllByRecursion};
 ghost use Rattle.bounded_model.specs.Laws.{fresh};
-ghost use Rattle.bounded_model.specs.declared.history.Order.TheVariants.{Fifo};
 ghost use Rattle.bounded_model.specs.Stepping.{no_step};
+ghost use Rattle.bounded_model.specs.declared.history.Order.TheVariants.{Fifo};
 ghost use Rattle.ms_queue.specs.Queue.{IsPassOf, IsRootOf, pass_in, root_in};
 ghost use Rattle.ms_queue.specs.Stepwise.{IsMakingCall, making};
-ghost use Rattle.player.specs.Shows.{CallBy};
-ghost use Rattle.script_replay.specs.Readings.{queue_reading};
 ghost use Rattle.script.specs.Script.{FinishesLast, IsLine, is_allowed};
 ghost use Rattle.script.specs.View.{head_view};
 ghost use Rattle.player.specs.Traces.{Adds, lines_in};
 ghost use Rattle.script_replay.specs.Outcome.{IsOutputIn};
 ghost use Rattle.script_replay.specs.Traced.{IsTracedIn};
 
-use crate::called::called;
-use bounded_model::{Command, Container, MakeRefused, Reply, Stepped, Stepwise, TakeRefused};
-use ms_queue::{AnyOp, Note, Pass, Queue, Rest, Root};
-use player::{Played, Trace, play};
+use bounded_model::{Command, MakeRefused, Reply, Stepped, Stepwise, TakeRefused};
+use ms_queue::{AnyOp, Pass, Queue, Root};
+use player::{Scripted, Trace, play};
 use script::{RangeReply, Script, Value, ValueList, Values};
 use std::alloc::{AllocError, Global};
 use std::sync::Wait;
 use step_names::{Named, StepName};
 use tagged_index::Limits;
 
-/// A queue of values, as the player sees it.
-#[derive(Drop)]
-pub(crate) struct PlayedQueue<'a> {
-    pub(crate) queue: Queue<Value<'a>>,
-}
+/// The calls of a queue's script. No line of it names a range or a fold: a range hands its values
+/// back, and a fold takes nothing.
+pub(crate) struct QueueLines;
 
-impl<'a> Played<'a> for PlayedQueue<'a> {
+impl<'a> Scripted<'a, Queue<Value<'a>>> for QueueLines {
     ghost use Rattle.ms_queue.specs.Naming.{IsStep};
-    ghost use Rattle.script_replay.specs.Readings.{queue_reading};
 
-    type Root = Root<Value<'a>>;
+    type Op = AnyOp<Value<'a>>;
 
-    type Pass = Pass<Value<'a>>;
+    ghost is_making = { IsMakingCall };
 
-    type Operation = AnyOp<Value<'a>>;
-
-    type Note = Note<Value<'a>>;
-
-    type Rest = Rest<Value<'a>>;
-
-    ghost reading = { λ c. queue_reading c.queue };
+    ghost making = { making };
 
     ghost is_step = { IsStep };
 
-    fn split(&self, parent: &mut Root<Value<'a>>) -> Option<Pass<Value<'a>>> {
-        self.queue.split(parent)
-    }
-
-    fn call<R: Wait>(
-        &self,
-        rt: &R,
+    fn begin(
+        queue: &Queue<Value<'a>>,
         by: Pass<Value<'a>>,
         command: Command<Value<'a>>,
-    ) -> (Pass<Value<'a>>, Reply<Value<'a>>)
-        requires { IsPassOf self.now.queue by }
-        ensures of { IsPassOf self.now.queue result.0 }
-        ensures gives { CallBy (queue_reading self.now.queue) by.entry command.entry result }
-    {
-        called!(self.queue, rt, by, command)
-    }
-
-    fn begin(&self, by: Pass<Value<'a>>, command: Command<Value<'a>>) -> AnyOp<Value<'a>>
-        requires { IsPassOf self.now.queue by }
-        ensures making { IsMakingCall self.now.queue command.entry result }
+    ) -> AnyOp<Value<'a>>
+        requires { IsPassOf queue.now by }
+        ensures call { IsMakingCall queue.now command.entry result }
         ensures begun { making result ≡ no_step (pass_in by.entry) }
     {
-        self.queue.begin(by, command)
+        queue.begin(by, command)
     }
 
     fn step(
-        &self,
-        operation: AnyOp<Value<'a>>,
+        queue: &Queue<Value<'a>>,
+        op: AnyOp<Value<'a>>,
     ) -> Stepped<AnyOp<Value<'a>>, Pass<Value<'a>>, Reply<Value<'a>>> {
-        self.queue.step(operation)
+        queue.step(op)
     }
 
-    fn step_name(operation: &AnyOp<Value<'a>>) -> StepName {
-        Queue::<Value<'a>>::step_name(operation)
+    fn step_name(op: &AnyOp<Value<'a>>) -> StepName {
+        Queue::<Value<'a>>::step_name(op)
+    }
+
+    fn look<R: Wait>(
+        queue: &Queue<Value<'a>>,
+        rt: &R,
+        by: Pass<Value<'a>>,
+    ) -> (Pass<Value<'a>>, bool) {
+        queue.look(rt, by)
     }
 
     fn range<R: Wait>(
-        &self,
+        _queue: &Queue<Value<'a>>,
         _rt: &R,
         alloc: Global,
         by: Pass<Value<'a>>,
@@ -97,29 +80,13 @@ impl<'a> Played<'a> for PlayedQueue<'a> {
     }
 
     fn fold<R: Wait>(
-        &self,
+        _queue: &Queue<Value<'a>>,
         _rt: &R,
         _alloc: Global,
         by: Pass<Value<'a>>,
         _reversed: bool,
     ) -> Result<(Pass<Value<'a>>, Result<(u64, ValueList<'a>), TakeRefused>), AllocError> {
         Ok((by, Err(TakeRefused::Empty)))
-    }
-
-    fn meet(
-        &self,
-        first: &mut Pass<Value<'a>>,
-        second: Pass<Value<'a>>,
-    ) -> (Pass<Value<'a>>, bool) {
-        self.queue.meet(first, second)
-    }
-
-    fn join(&self, parent: &mut Root<Value<'a>>, by: Pass<Value<'a>>) {
-        self.queue.join(parent, by);
-    }
-
-    fn finish(self, parent: Root<Value<'a>>) -> Rest<Value<'a>> {
-        self.queue.finish(parent)
     }
 }
 
@@ -154,6 +121,5 @@ pub(crate) fn play_queue<R: Wait>(
 {
     let Script { header, lines } = script;
     let (queue, root) = new_queue(alloc, header.limits)?;
-    let container = PlayedQueue { queue };
-    Ok(play(rt, alloc, container, root, lines, trace)?)
+    Ok(play::<QueueLines, _, _>(rt, alloc, queue, root, lines, trace)?)
 }

@@ -3,6 +3,7 @@
 ghost use Rattle.std.specs.Prelude.{◌≡◌, IfOk, IsTrue, string_bytes, true, false};
 ghost use Rattle.std.specs.List.{AllByRecursion};
 ghost use Rattle.bounded_model.specs.Laws.{fresh};
+ghost use Rattle.bounded_model.specs.Stepping.{no_step};
 ghost use Rattle.bounded_model.specs.declared.history.Order.TheVariants.{Lifo};
 ghost use Rattle.script_replay.specs.Calls.{AddsOne, numbered};
 ghost use Rattle.player.specs.Traces.{Adds, lines_in};
@@ -11,125 +12,89 @@ ghost use Rattle.script_replay.specs.Traced.{IsTracedIn};
 ghost use Rattle.player.specs.Plays.{FoldTold, RangeTold, range_reply};
 ghost use Rattle.script.specs.Script.{FinishesLast, IsLine, is_allowed};
 ghost use Rattle.script.specs.View.{head_view};
-ghost use Rattle.bounded_model.specs.Stepping.{no_step};
-ghost use Rattle.player.specs.Shows.{CallBy};
-ghost use Rattle.script_replay.specs.Readings.{stack_reading};
 ghost use Rattle.treiber_stack.specs.Stack.{IsPassOf, IsRootOf, pass_in, root_in, shape_of};
 ghost use Rattle.treiber_stack.specs.Stepwise.{IsMakingCall, making};
 
-use crate::called::called;
 use bounded_model::{
-    Command, Container, Folded, MakeRefused, RangeRefused, Ranged, Reply, Stepped, Stepwise,
-    TakeRefused,
+    Command, Folded, MakeRefused, RangeRefused, Ranged, Reply, Stepped, Stepwise, TakeRefused,
 };
-use player::{Played, Trace, play};
+use player::{Scripted, Trace, play};
 use script::{RangeReply, Script, Value, ValueList, Values};
 use std::alloc::{AllocError, Global};
 use std::sync::Wait;
 use step_names::{Named, StepName};
 use tagged_index::Limits;
 use treiber_stack::{
-    AnyOp, Note, Pass, Rest, Root, Stack, fold_all_atomic, fold_all_atomic_reversed, put_range,
+    AnyOp, Pass, Root, Stack, fold_all_atomic, fold_all_atomic_reversed, put_range,
 };
 
-/// A stack of values, as the player sees it.
-#[derive(Drop)]
-pub(crate) struct PlayedStack<'a> {
-    pub(crate) stack: Stack<Value<'a>>,
-}
+/// The calls of a stack's script.
+pub(crate) struct StackLines;
 
-impl<'a> Played<'a> for PlayedStack<'a> {
+impl<'a> Scripted<'a, Stack<Value<'a>>> for StackLines {
     ghost use Rattle.treiber_stack.specs.Naming.{IsStep};
-    ghost use Rattle.script_replay.specs.Readings.{stack_reading};
 
-    type Root = Root<Value<'a>>;
+    type Op = AnyOp<Value<'a>>;
 
-    type Pass = Pass<Value<'a>>;
+    ghost is_making = { IsMakingCall };
 
-    type Operation = AnyOp<Value<'a>>;
-
-    type Note = Note<Value<'a>>;
-
-    type Rest = Rest<Value<'a>>;
-
-    ghost reading = { λ c. stack_reading c.stack };
+    ghost making = { making };
 
     ghost is_step = { IsStep };
 
-    fn split(&self, parent: &mut Root<Value<'a>>) -> Option<Pass<Value<'a>>> {
-        self.stack.split(parent)
-    }
-
-    fn call<R: Wait>(
-        &self,
-        rt: &R,
+    fn begin(
+        stack: &Stack<Value<'a>>,
         by: Pass<Value<'a>>,
         command: Command<Value<'a>>,
-    ) -> (Pass<Value<'a>>, Reply<Value<'a>>)
-        requires { IsPassOf self.now.stack by }
-        ensures of { IsPassOf self.now.stack result.0 }
-        ensures gives { CallBy (stack_reading self.now.stack) by.entry command.entry result }
-    {
-        called!(self.stack, rt, by, command)
-    }
-
-    fn begin(&self, by: Pass<Value<'a>>, command: Command<Value<'a>>) -> AnyOp<Value<'a>>
-        requires { IsPassOf self.now.stack by }
-        ensures making { IsMakingCall self.now.stack command.entry result }
+    ) -> AnyOp<Value<'a>>
+        requires { IsPassOf stack.now by }
+        ensures call { IsMakingCall stack.now command.entry result }
         ensures begun { making result ≡ no_step (pass_in by.entry) }
     {
-        self.stack.begin(by, command)
+        stack.begin(by, command)
     }
 
     fn step(
-        &self,
-        operation: AnyOp<Value<'a>>,
+        stack: &Stack<Value<'a>>,
+        op: AnyOp<Value<'a>>,
     ) -> Stepped<AnyOp<Value<'a>>, Pass<Value<'a>>, Reply<Value<'a>>> {
-        self.stack.step(operation)
+        stack.step(op)
     }
 
-    fn step_name(operation: &AnyOp<Value<'a>>) -> StepName {
-        Stack::<Value<'a>>::step_name(operation)
+    fn step_name(op: &AnyOp<Value<'a>>) -> StepName {
+        Stack::<Value<'a>>::step_name(op)
+    }
+
+    fn look<R: Wait>(
+        stack: &Stack<Value<'a>>,
+        rt: &R,
+        by: Pass<Value<'a>>,
+    ) -> (Pass<Value<'a>>, bool) {
+        stack.look(rt, by)
     }
 
     fn range<R: Wait>(
-        &self,
+        stack: &Stack<Value<'a>>,
         rt: &R,
         alloc: Global,
         by: Pass<Value<'a>>,
         values: Values<'a>,
     ) -> Result<(Pass<Value<'a>>, RangeReply, ValueList<'a>), AllocError> {
-        put_values(&self.stack, rt, alloc, by, values)
+        put_values(stack, rt, alloc, by, values)
     }
 
     fn fold<R: Wait>(
-        &self,
+        stack: &Stack<Value<'a>>,
         rt: &R,
         alloc: Global,
         by: Pass<Value<'a>>,
         reversed: bool,
     ) -> Result<(Pass<Value<'a>>, Result<(u64, ValueList<'a>), TakeRefused>), AllocError> {
         if reversed {
-            fold_up(&self.stack, rt, alloc, by)
+            fold_up(stack, rt, alloc, by)
         } else {
-            fold_down(&self.stack, rt, alloc, by)
+            fold_down(stack, rt, alloc, by)
         }
-    }
-
-    fn meet(
-        &self,
-        first: &mut Pass<Value<'a>>,
-        second: Pass<Value<'a>>,
-    ) -> (Pass<Value<'a>>, bool) {
-        self.stack.meet(first, second)
-    }
-
-    fn join(&self, parent: &mut Root<Value<'a>>, by: Pass<Value<'a>>) {
-        self.stack.join(parent, by);
-    }
-
-    fn finish(self, parent: Root<Value<'a>>) -> Rest<Value<'a>> {
-        self.stack.finish(parent)
     }
 }
 
@@ -258,6 +223,5 @@ pub(crate) fn play_stack<R: Wait>(
 {
     let Script { header, lines } = script;
     let (stack, root) = new_stack(alloc, header.limits)?;
-    let container = PlayedStack { stack };
-    Ok(play(rt, alloc, container, root, lines, trace)?)
+    Ok(play::<StackLines, _, _>(rt, alloc, stack, root, lines, trace)?)
 }

@@ -1,6 +1,6 @@
 use Rattle.std.proofs.Common.{◌≡◌, refl, ◌∙◌, arith}
 use Rattle.bounded_model.specs.declared.answers.Stepped.TheVariants.{Again, Done}
-use Rattle.player.specs.Shows.{StepOf}
+use Rattle.player.specs.Shows.{StepOf, reading_of}
 use Rattle.player.specs.Traces.{number_of}
 use Rattle.player.proofs.Lines.{number_is, step_joined}
 use Rattle.player.proofs.Showing.{since_none}
@@ -9,22 +9,22 @@ use Rattle.player.proofs.acts.make_call.Goals as goal
 
 pub loop-init : goal.loop-init
 loop-init g c =
-    let r = g.C.Played.reading c.args.container.now in
+    let r = reading_of g.C.Container g.G.Scripted.is_making g.G.Scripted.making c.args.container.now in
     let begun = c.begin-operation.ensures.begun in
     record {
       can = tt;
       finite = tt;
-      making = c.begin-operation.ensures.making;
+      making = c.begin-operation.ensures.call;
       begun = rw begun refl;
       counted = rw begun (since_none (r.pass c.args.by));
       later = rw begun (omega arith);
-      traced = traces_nothing _ _ (c.begin-operation.result, c.begin-operation.ensures.making, begun, refl);
+      traced = traces_nothing _ _ (c.begin-operation.result, c.begin-operation.ensures.call, begun, refl);
     }
 
 pub loop-preserved : goal.loop-preserved
 loop-preserved g c =
-    let r = g.C.Played.reading c.args.container.now in
-    let is_step = g.C.Played.is_step in
+    let r = reading_of g.C.Container g.G.Scripted.is_making g.G.Scripted.making c.args.container.now in
+    let is_step = g.G.Scripted.is_step in
     let i = c.loop.invariant in
     let was = c.loop.operation in
     let now = c.in-Again.next in
@@ -43,8 +43,8 @@ loop-preserved g c =
 
 pub returns-in-Done-clause-traced : goal.returns-in-Done-clause-traced
 returns-in-Done-clause-traced g c =
-    let r = g.C.Played.reading c.args.container.now in
-    let is_step = g.C.Played.is_step in
+    let r = reading_of g.C.Container g.G.Scripted.is_making g.G.Scripted.making c.args.container.now in
+    let is_step = g.G.Scripted.is_step in
     let i = c.loop.invariant in
     let was = c.loop.operation in
     let end = Done c.in-Done.pass c.in-Done.reply in

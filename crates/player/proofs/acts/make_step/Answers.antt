@@ -1,4 +1,5 @@
 use Rattle.std.proofs.Common.{refl}
+use Rattle.player.specs.Shows.{reading_of}
 use Rattle.player.proofs.Tracing.{traces_line}
 use Rattle.player.specs.Traces.{IsNextName}
 use Rattle.player.proofs.acts.make_step.Goals.{in-Again, in-Done}
@@ -6,8 +7,8 @@ use Rattle.player.proofs.acts.make_step.Goals as goal
 
 pub returns-clause-traced : goal.returns-clause-traced
 returns-clause-traced g c =
-    let r = g.C.Played.reading c.args.container.now in
-    let is_step = g.C.Played.is_step in
+    let r = reading_of g.C.Container g.G.Scripted.is_making g.G.Scripted.making c.args.container.now in
+    let is_step = g.G.Scripted.is_step in
     let came = c.step-stepped.result in
     let next = c.match-stepped.next in
     let follows : IsNextName r is_step came next = elim c.match-stepped.branch [

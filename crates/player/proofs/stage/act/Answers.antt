@@ -1,20 +1,35 @@
 use Rattle.std.proofs.Common.{refl}
+use Rattle.player.specs.Shows.{reading_of}
 use Rattle.player.proofs.Lines.{traced_alone}
 use Rattle.player.proofs.Showing.{acts_alone, if_ok_more}
 use Rattle.player.proofs.Tracing.{traces_as, traces_nothing}
+use Rattle.player.proofs.Crossing.{passed}
 use Rattle.player.proofs.stage.act.Goals as goal
+
+pub meet-requires : goal.meet-requires
+meet-requires g c κs =
+    let b = c.type_bounds in
+    (passed _ _ _ g.row.C-Root b.send-C-Root, (passed _ _ _ g.row.C-Pass b.send-C-Pass, (passed _ _ _ g.row.C-Note b.send-C-Note, (passed _ _ _ g.row.C-Rest b.send-C-Rest, ((refl, tt), (c.requires.0, (c.requires.1.small, c.requires.1.another c.in-Meet.other c.in-Meet.is)))))))
+
+pub act_alone-requires : goal.act_alone-requires
+act_alone-requires g c κs =
+    let b = c.type_bounds in
+    (b.send-C-Root, (b.send-C-Pass, (b.send-C-Note, (b.send-C-Rest, ((refl, tt), (c.requires.0, c.requires.1, c.in_default.not-Meet))))))
+
+pub returns-in-Meet-clause-acts : goal.returns-in-Meet-clause-acts
+returns-in-Meet-clause-acts g c world on = rw c.in-Meet.is (c.meet.ensures.meets world on)
 
 pub returns-in_default-clause-acts : goal.returns-in_default-clause-acts
 returns-in_default-clause-acts g c world on =
-    let r = g.C.Played.reading c.args.container.now in
-    if_ok_more c.act_alone.result (λ said did. (did.0, did.1, acts_alone r.shape world c.args.name.0 c.args.act said did.0 c.in_default.not-Meet did.2)) (c.act_alone.ensures.acts world on)
+    let r = reading_of g.C.Container g.G.Scripted.is_making g.G.Scripted.making c.args.container.now in
+    if_ok_more c.act_alone.result (λ said did. (did.0, did.1, acts_alone r.shape world c.args.trace.now.pass.0 c.args.act said did.0 c.in_default.not-Meet did.2)) (c.act_alone.ensures.acts world on)
 
 pub returns-in-Meet-clause-traced : goal.returns-in-Meet-clause-traced
-returns-in-Meet-clause-traced g c world on turned =
+returns-in-Meet-clause-traced g c world on =
     let m = c.meet.ensures.meets world on in
     rw c.in-Meet.is (traces_nothing _ _ (m.0, m.1, record { does = m.2; none = refl; kept = c.meet.ensures.kept }))
 
 pub returns-in_default-clause-traced : goal.returns-in_default-clause-traced
-returns-in_default-clause-traced g c world on turned =
-    let r = g.C.Played.reading c.args.container.now in
-    if_ok_more c.act_alone.result (λ said traces. traces_as _ _ _ _ traces (λ lines did. (did.0, did.1, traced_alone r g.C.Played.is_step world _ c.args.name c.args.act said lines did.0 _ c.in_default.not-Meet did.2))) (c.act_alone.ensures.traced world on turned)
+returns-in_default-clause-traced g c world on =
+    let r = reading_of g.C.Container g.G.Scripted.is_making g.G.Scripted.making c.args.container.now in
+    if_ok_more c.act_alone.result (λ said traces. traces_as _ _ _ _ traces (λ lines did. (did.0, did.1, traced_alone r g.G.Scripted.is_step world _ c.args.trace.now.pass c.args.act said lines did.0 _ c.in_default.not-Meet did.2))) (c.act_alone.ensures.traced world on refl)

@@ -3,15 +3,27 @@ use Rattle.script.specs.declared.line.PassName.{PassName}
 use Rattle.player.specs.declared.place.Place.{Place}
 use Rattle.player.specs.declared.place.Place.TheVariants as place
 use Rattle.player.specs.Plays.{Nobody, World, renamed}
-use Rattle.player.specs.Shows.{ShowsAll}
+use Rattle.player.specs.Shows.{ShowsAll, reading_of}
 use Rattle.player.specs.Traces.{PlaceLines}
 use Rattle.player.proofs.Showing.{set_again, shows_set}
 use Rattle.player.proofs.Tracing.{traces_as}
+use Rattle.player.proofs.Crossing.{passed}
 use Rattle.player.proofs.stage.act_alone.Goals as goal
+
+pub find-place-requires : goal.find-place-requires
+find-place-requires g c κs =
+    let b = c.type_bounds in
+    (passed _ _ _ g.row.C-Root b.send-C-Root, (passed _ _ _ g.row.C-Pass b.send-C-Pass, (passed _ _ _ g.row.C-Note b.send-C-Note, (passed _ _ _ g.row.C-Rest b.send-C-Rest, ((refl, tt), (c.requires.0, c.requires.1.small))))))
+
+pub act_at-requires : goal.act_at-requires
+act_at-requires g c κs =
+    let f = c.find-place.ensures.found c.requires.0.0 c.requires.0.1 in
+    let b = c.type_bounds in
+    (b.send-C-Root, (b.send-C-Pass, (b.send-C-Note, (b.send-C-Rest, ((refl, tt), ((f.found, f.shows), (c.requires.2, c.requires.1.fits)))))))
 
 pub returns-clause-acts : goal.returns-clause-acts
 returns-clause-acts g c world on =
-    let r = g.C.Played.reading c.args.container.now in
+    let r = reading_of g.C.Container g.G.Scripted.is_making g.G.Scripted.making c.args.container.now in
     let i = c.args.name.0 - 97 in
     let f = c.find-place.ensures.found world on in
     let a = c.in_ok-place.ensures.told f.found f.shows in
@@ -34,8 +46,8 @@ returns-clause-acts g c world on =
 
 pub returns-clause-traced : goal.returns-clause-traced
 returns-clause-traced g c world on turned =
-    let r = g.C.Played.reading c.args.container.now in
-    let is_step = g.C.Played.is_step in
+    let r = reading_of g.C.Container g.G.Scripted.is_making g.G.Scripted.making c.args.container.now in
+    let is_step = g.G.Scripted.is_step in
     let i = c.args.name.0 - 97 in
     let f = c.find-place.ensures.found world on in
     let a = c.in_ok-place.ensures.told f.found f.shows in

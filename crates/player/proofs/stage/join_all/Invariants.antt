@@ -2,13 +2,13 @@ use Rattle.std.proofs.Common.{◌≡◌, List, ℕ, length}
 use Rattle.std.specs.Vec.Iter.{into_iter_items, into_iter_len}
 use Rattle.bounded_model.specs.declared.views.RootView.{RootView}
 use Rattle.player.specs.Plays.{JoinsAll, Named}
-use Rattle.player.specs.Shows.{ShowsAll}
+use Rattle.player.specs.Shows.{ShowsAll, reading_of}
 use Rattle.player.proofs.stage.join_all.Given as goal
 
 -- joining those that are left ends as joining all does
 abbrev pub invariant-loop-place : goal.invariant-loop-place
 invariant-loop-place g l =
-    let r = g.C.Played.reading l.fn.container in
+    let r = reading_of g.C.Container g.G.Scripted.is_making g.G.Scripted.making l.fn.container in
     record {
       can : (goal.iterator-loop-place g).can_next l.place-iterator;
       finite : (goal.iterator-loop-place g).is_finite l.place-iterator;

@@ -1,7 +1,7 @@
 use Rattle.std.proofs.Common.{◌≡◌, ◌≢◌, ◌-◌, ℕ, refl, sym, subst, arith, IsTrue}
 use Rattle.std.specs.Char.{is_ascii_lowercase}
 use Rattle.player.specs.Plays.{Named, Nobody, World, Finds, named, renamed}
-use Rattle.player.specs.Shows.{ShowsAll}
+use Rattle.player.specs.Shows.{ShowsAll, reading_of}
 use Rattle.std.proofs.Common.{◌∙◌, slice_set, slice_index_or}
 use Rattle.std.proofs.lemmas.List.{get_or-set_other}
 use Rattle.player.specs.declared.place.Place.TheVariants as place
@@ -14,7 +14,7 @@ apart a b low-a low-b far e = far (grind (arith, low-a, low-b, e))
 
 pub returns-in-Nobody-clause-meets : goal.returns-in-Nobody-clause-meets
 returns-in-Nobody-clause-meets g c world on =
-    let r = g.C.Played.reading c.args.container.now in
+    let r = reading_of g.C.Container g.G.Scripted.is_making g.G.Scripted.making c.args.container.now in
     let i = c.args.name.0 - 97 in
     let j = c.args.other.0 - 97 in
     let f = c.find-first.ensures.found world on in
@@ -35,15 +35,22 @@ returns-in-Nobody-clause-meets g c world on =
       },
     )
 
+pub find-second-requires : goal.find-second-requires
+find-second-requires g c κs =
+    let f = c.find-first.ensures.found c.requires.on.0 c.requires.on.1 in
+    let b = c.type_bounds in
+    (b.send-C-Root, (b.send-C-Pass, (b.send-C-Note, (b.send-C-Rest, ((refl, tt), ((_, f.on), c.requires.other.0))))))
+
 pub meet_at-first-requires : goal.meet_at-first-requires
 meet_at-first-requires g c κs =
     let f = c.find-first.ensures.found c.requires.on.0 c.requires.on.1 in
     let s = c.find-second.ensures.found _ f.on in
-    ((refl, tt), ((f.found, f.shows), (s.found, s.shows)))
+    let b = c.type_bounds in
+    (b.send-C-Root, (b.send-C-Pass, (b.send-C-Note, (b.send-C-Rest, ((refl, tt), ((f.found, f.shows), (s.found, s.shows)))))))
 
 pub returns-clause-meets : goal.returns-clause-meets
 returns-clause-meets g c world on =
-    let r = g.C.Played.reading c.args.container.now in
+    let r = reading_of g.C.Container g.G.Scripted.is_making g.G.Scripted.making c.args.container.now in
     let i = c.args.name.0 - 97 in
     let j = c.args.other.0 - 97 in
     let f = c.find-first.ensures.found world on in
