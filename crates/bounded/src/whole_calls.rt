@@ -8,8 +8,7 @@ use bounded_model::Stepped;
 use running::{Call, HasTable, ListMachine, Next, Op, at_once, to_the_end};
 use std::sync::Wait;
 
-/// Continues from the first steps of an operation until it has answered. If they have answered
-/// already, the answer goes to the caller at once: the compiler then keeps it in registers.
+/// Continues from the first steps of an operation until it has answered.
 #[inline(always)]
 pub fn whole<
     R: Wait,
@@ -35,23 +34,15 @@ pub fn whole<
         → EndsWith (M.machine (C.key on.now)) (S.account (C.key on.now)) (C.id on.now)
         operation by result.0 result.1 }
 {
-    match first {
-        (pass, Next::Done(answer)) => {
-            let Answered { kept, reply } = answer;
-            (Pass { pass, kept }, reply)
-        }
-        under_way => {
-            let (pass, answer) = to_the_end::<R, C, T, L, O, M, Answered<K, A>, S, N>(
-                rt,
-                on.table(),
-                on,
-                under_way,
-                &operation,
-            );
-            let Answered { kept, reply } = answer;
-            (Pass { pass, kept }, reply)
-        }
-    }
+    let (pass, answer) = to_the_end::<R, C, T, L, O, M, Answered<K, A>, S, N>(
+        rt,
+        on.table(),
+        on,
+        first,
+        &operation,
+    );
+    let Answered { kept, reply } = answer;
+    (Pass { pass, kept }, reply)
 }
 
 /// Leaves an operation under way after its first steps, with a wait if another pass was faster. If

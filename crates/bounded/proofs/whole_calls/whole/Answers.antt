@@ -2,17 +2,6 @@ use Rattle.running.specs.Passes.{begun_of}
 use Rattle.running.proofs.Leading.{ended}
 use Rattle.bounded.proofs.whole_calls.whole.Goals as goal
 
-pub returns-in_default-Done : goal.returns-in_default-Done
-returns-in_default-Done g c = λ by ran.
-    let key = g.C.OnTable.key c.args.on.now in
-    let m = g.M.Machine.machine key in
-    let o = c.args.operation in
-    let q = c.args.first.0 in
-    let a = c.in_default-Done.answer in
-    let idle = g.met.S.Call.idle key o a in
-    let e = ended m (g.S.Code.account key) (g.C.OnTable.id c.args.on.now) o (begun_of m by) q a idle (rw c.in_default-Done.is-1 at ran) in
-    rw c.in_default-Done.is-1 (record { on = e.0; ended = e.1; ran = e.1.ran idle })
-
 pub returns : goal.returns
 returns g c = λ by ran.
     let key = g.C.OnTable.key c.args.on.now in
