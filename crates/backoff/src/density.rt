@@ -115,7 +115,7 @@ impl Known {
     /// The knowledge after a look that found this word. An unchanged word adds one to the evidence,
     /// up to the most. A changed one takes away four, down to 0.
     #[inline]
-    pub fn after_look(self, word: u64) -> Known
+    fn after_look(self, word: u64) -> Known
         ensures { IsLookedAt self word result }
     {
         let evidence = match self.sight {
@@ -140,7 +140,7 @@ impl Known {
     /// The knowledge after a call with a failed compare-and-swap that left this word. Each fourth
     /// such call keeps a hash of it.
     #[inline]
-    pub fn after_failure(self, word: u64) -> Known
+    fn after_failure(self, word: u64) -> Known
         ensures { HasFailed self word result }
     {
         if self.failures < CALLS_A_LOOK - 1 {
