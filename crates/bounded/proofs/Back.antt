@@ -1,5 +1,5 @@
 -- The pass that comes back from an operation.
-use Rattle.std.proofs.Common.{sym, ◌∙◌, subst}
+use Rattle.std.proofs.Common.{◌≡◌, true, sym, ◌∙◌, subst}
 use Rattle.atomic_table.specs.Seated.{TableId}
 use Rattle.bounded_model.specs.declared.answers.Stepped.{Stepped}
 use Rattle.bounded_model.specs.declared.answers.Stepped.TheVariants.{Again, Done}
@@ -12,7 +12,11 @@ use Rattle.running.specs.Machine.{Names, Machine}
 use Rattle.running.specs.Passes.{IsPassOn, begun_of}
 use Rattle.running.specs.declared.op.Op.{Op}
 use Rattle.running.specs.declared.passes.Pass as runs
+use Rattle.running.specs.declared.code.Next.{Next}
+use Rattle.running.specs.declared.code.Next.TheVariants.{Done as Ended_now}
+use Rattle.running.specs.Steps.{Ran}
 use Rattle.running.proofs.Going.{rests_at}
+use Rattle.running.proofs.Leading.{ended}
 use Rattle.running.proofs.Ways.{begun_is}
 use Rattle.bounded.specs.Bounded.{EndsWith, IsPassAt, Took, Tried, pass_in}
 use Rattle.bounded.specs.declared.passes.Answered.{Answered}
@@ -43,6 +47,15 @@ module _ {T L O K R S : Type 0} {names : Names L O} (m : Machine T L O names) (K
     ended = subst (λ (v : PassView T). Ended m o at.pass.seat.me.0 v (c.answer o (answer_of at reply))) (begun_is m id by.pass is.on) e.ended;
     ran = subst (λ (v : PassView T). HasRun m o at.pass.seat.me.0 v (c.answer o (answer_of at reply))) (begun_is m id by.pass is.on) e.ran;
   }
+
+  -- and so it is if the first steps have answered already
+  pub has_answered_now : (q : runs.Pass T L) (next : Next S (Answered K R)) (a : Answered K R) (found : Next S (Answered K R) → Answered K R) (at : Pass T L K) (reply : R) → next ≡ Ended_now a → found (Ended_now a) ≡ a → at ≡ record { pass = q; kept = (found next).kept } → reply ≡ (found next).reply → names.is_idle (c.answer o a) ≡ true → Ran m c id o by.pass q next → Back m Keeps id c o (pass_in by) at reply
+  has_answered_now q next a found at reply now same is_at is_reply idle ran =
+      let e = ended m c id o (begun_of m by.pass) q a idle (subst (λ (n : Next S (Answered K R)). Ran m c id o by.pass q n) now ran) in
+      let b = has_answered (record { pass = q; kept = a.kept }) a.reply (record { on = e.0; ended = e.1; ran = e.1.ran idle }) in
+      let f = subst (λ (x : Answered K R). Back m Keeps id c o (pass_in by) (record { pass = q; kept = x.kept }) x.reply) (sym same) b in
+      let n = subst (λ (n : Next S (Answered K R)). Back m Keeps id c o (pass_in by) (record { pass = q; kept = (found n).kept }) (found n).reply) (sym now) f in
+      subst (λ (p : Pass T L K). Back m Keeps id c o (pass_in by) p reply) (sym is_at) (subst (λ (r : R). Back m Keeps id c o (pass_in by) (record { pass = q; kept = (found next).kept }) r) (sym is_reply) n)
 
   -- what some steps came to is what a call that was tried gives
   module _ (IsCall : O → Type 0) (call : IsCall o) (Gives : PassView T → R → Type 0)

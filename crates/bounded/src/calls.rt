@@ -28,7 +28,7 @@ ghost use Rattle.running.specs.Ops.{underway_of};
 
 use crate::bounded::{Bounded, Laid};
 use crate::parts::Parts;
-use crate::passes::{Answered, Pass, Root};
+use crate::passes::{Answered, Pass, Root, told};
 use crate::whole_calls::{leave, whole};
 use bounded_model::{Command, MakeRefused, Operation, PutRefused, Stepped, TakeRefused};
 use running::{ListMachine, Next, Op};
@@ -162,19 +162,22 @@ impl<
     {
         let Pass { pass, kept } = by;
         let put = M::put(&value);
-        let first = M::put_fast(self, pass, kept, value, &put);
-        whole::<
-            R,
-            Bounded<T, L, O, M, N>,
-            T,
-            L,
-            O,
-            M,
-            M::Kept,
-            Result<u64, PutRefused<T>>,
-            M::PutAt,
-            N,
-        >(rt, self, first, put)
+        // Looked at here, before a call copies it, so that the answer need not go through memory.
+        match M::put_fast(self, pass, kept, value, &put) {
+            (pass, Next::Done(answer)) => told(pass, answer),
+            under_way => whole::<
+                R,
+                Bounded<T, L, O, M, N>,
+                T,
+                L,
+                O,
+                M,
+                M::Kept,
+                Result<u64, PutRefused<T>>,
+                M::PutAt,
+                N,
+            >(rt, self, under_way, put),
+        }
     }
 
     /// Takes a value by a whole call, as `take` of `Container`. The call was a run of the machine's
@@ -198,19 +201,22 @@ impl<
     {
         let Pass { pass, kept } = by;
         let take = M::take();
-        let first = M::take_fast(self, pass, kept, &take);
-        whole::<
-            R,
-            Bounded<T, L, O, M, N>,
-            T,
-            L,
-            O,
-            M,
-            M::Kept,
-            Result<(T, u64), TakeRefused>,
-            M::TakeAt,
-            N,
-        >(rt, self, first, take)
+        // Looked at here for the same reason as in `put_whole`.
+        match M::take_fast(self, pass, kept, &take) {
+            (pass, Next::Done(answer)) => told(pass, answer),
+            under_way => whole::<
+                R,
+                Bounded<T, L, O, M, N>,
+                T,
+                L,
+                O,
+                M,
+                M::Kept,
+                Result<(T, u64), TakeRefused>,
+                M::TakeAt,
+                N,
+            >(rt, self, under_way, take),
+        }
     }
 
     /// Closes the container by a whole call, as `close` of `Container`. The call was a run of the

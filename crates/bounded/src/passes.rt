@@ -26,6 +26,19 @@ pub struct Answered<K, R> {
     pub reply: R,
 }
 
+/// What comes back from a call: its pass, with what it keeps now, and the reply.
+#[inline(always)]
+pub(crate) fn told<T, L, K, R>(
+    pass: running::Pass<T, L>,
+    answer: Answered<K, R>,
+) -> (Pass<T, L, K>, R)
+    ensures pass { result.0 ≡ record { pass = pass; kept = answer.kept } }
+    ensures reply { result.1 ≡ answer.reply }
+{
+    let Answered { kept, reply } = answer;
+    (Pass { pass, kept }, reply)
+}
+
 /// Gives the pass that is back what it keeps. That came with the answer.
 #[inline(always)]
 pub fn joined<T, L, K, R, P>(

@@ -1,4 +1,3 @@
-mod Crossing
 pub mod Folding
 pub mod Outcomes
 pub mod Tracing

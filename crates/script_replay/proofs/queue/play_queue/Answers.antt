@@ -7,7 +7,7 @@ use Rattle.player.proofs.Tracing.{adds_as}
 use Rattle.ms_queue.specs.Naming.{IsStep}
 use Rattle.ms_queue.proofs.Crossing.{rest_send}
 use Rattle.script_replay.specs.Readings.{queue_reading}
-use Rattle.script_replay.proofs.Crossing.{note_send, pass_send, root_send}
+use Rattle.bounded.proofs.Crossing.{note_send, pass_send, root_send}
 use Rattle.script_replay.proofs.Tracing.{played_on}
 use Rattle.script_replay.proofs.queue.play_queue.Lts.{arg-4-4, arg-4-5, arg-4-6, arg-4-7}
 use Rattle.script_replay.proofs.queue.play_queue.Goals as goal

@@ -5,7 +5,7 @@ use Rattle.treiber_stack.specs.Limits.{shape_at}
 use Rattle.treiber_stack.specs.Naming.{IsStep}
 use Rattle.treiber_stack.proofs.Crossing.{rest_send}
 use Rattle.script_replay.specs.Readings.{stack_reading}
-use Rattle.script_replay.proofs.Crossing.{note_send, pass_send, root_send}
+use Rattle.bounded.proofs.Crossing.{note_send, pass_send, root_send}
 use Rattle.script_replay.proofs.Tracing.{played_on}
 use Rattle.script_replay.proofs.stack.play_stack.Lts.{arg-4-4, arg-4-5, arg-4-6, arg-4-7}
 use Rattle.script_replay.proofs.stack.play_stack.Goals as goal

@@ -1,4 +1,4 @@
--- The root, the passes and the notes of a container may cross threads, where its values may.
+-- The root, the passes and the notes of a container may cross threads, if its values may.
 use denote.RattleType.{RattleType}
 use denote.Param.Send.{IsSend, sendable}
 use denote.Param.SendFields.{as_row_send, declared_send}
