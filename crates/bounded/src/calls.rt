@@ -14,6 +14,7 @@ ghost use Rattle.bounded_model.specs.declared.views.Answered.TheVariants.{
   Take as TakeAnswered,
   Close as CloseAnswered,
   Shut as ShutAnswered,
+  Look as LookAnswered,
 };
 ghost use Rattle.bounded_model.specs.Stepping.{no_step};
 ghost use Rattle.bounded_model.specs.declared.commands.Command.TheVariants.{
@@ -293,6 +294,7 @@ impl<
             self.now.table.shared.table_id result.0 }
         ensures gives { LookGives (M.machine self.now.table.shared.key).core.shape (pass_in by)
             (pass_in result.0) result.1 }
+        ensures answered { Answers (pass_in by) (pass_in result.0) (LookAnswered result.1) }
         ensures ran { WasRun (M.machine self.now.table.shared.key)
             (M.LookAt.account self.now.table.shared.key)
             (M.is_call LookCall) (pass_in by) result.0 result.1 }
@@ -318,22 +320,28 @@ impl<
         ensures { Tried (M.machine self.now.table.shared.key)
             (M.PutAt.account self.now.table.shared.key) M.keeps self.now.table.shared.table_id
             (M.is_call (PutCall value)) (pass_in by)
-            (PutGives (M.machine self.now.table.shared.key).core.shape (pass_in by) value) result }
+            (λ w r. PutGives (M.machine self.now.table.shared.key).core.shape (pass_in by) value w r
+            × Answers (pass_in by) w (put_answered r)) result }
     {
         let Pass { pass, kept } = by;
         let put = M::put(&value);
-        let first = M::put_fast(self, pass, kept, value, &put);
-        leave::<
-            Bounded<T, L, O, M, N>,
-            T,
-            L,
-            O,
-            M,
-            M::Kept,
-            Result<u64, PutRefused<T>>,
-            M::PutAt,
-            N,
-        >(self, first, put)
+        match M::put_fast(self, pass, kept, value, &put) {
+            (pass, Next::Done(answer)) => {
+                let (back, reply) = told(pass, answer);
+                Stepped::Done(back, reply)
+            }
+            under_way => leave::<
+                Bounded<T, L, O, M, N>,
+                T,
+                L,
+                O,
+                M,
+                M::Kept,
+                Result<u64, PutRefused<T>>,
+                M::PutAt,
+                N,
+            >(self, under_way, put),
+        }
     }
 
     /// Takes a value on the fast path alone, as `put_at_once` puts one.
@@ -347,22 +355,28 @@ impl<
         ensures { Tried (M.machine self.now.table.shared.key)
             (M.TakeAt.account self.now.table.shared.key) M.keeps self.now.table.shared.table_id
             (M.is_call TakeCall) (pass_in by)
-            (TakeGives (M.machine self.now.table.shared.key).core.shape (pass_in by)) result }
+            (λ w r. TakeGives (M.machine self.now.table.shared.key).core.shape (pass_in by) w r
+            × Answers (pass_in by) w (TakeAnswered r)) result }
     {
         let Pass { pass, kept } = by;
         let take = M::take();
-        let first = M::take_fast(self, pass, kept, &take);
-        leave::<
-            Bounded<T, L, O, M, N>,
-            T,
-            L,
-            O,
-            M,
-            M::Kept,
-            Result<(T, u64), TakeRefused>,
-            M::TakeAt,
-            N,
-        >(self, first, take)
+        match M::take_fast(self, pass, kept, &take) {
+            (pass, Next::Done(answer)) => {
+                let (back, reply) = told(pass, answer);
+                Stepped::Done(back, reply)
+            }
+            under_way => leave::<
+                Bounded<T, L, O, M, N>,
+                T,
+                L,
+                O,
+                M,
+                M::Kept,
+                Result<(T, u64), TakeRefused>,
+                M::TakeAt,
+                N,
+            >(self, under_way, take),
+        }
     }
 
     /// Looks on the fast path alone, as `put_at_once` puts.
@@ -376,7 +390,8 @@ impl<
         ensures { Tried (M.machine self.now.table.shared.key)
             (M.LookAt.account self.now.table.shared.key) M.keeps self.now.table.shared.table_id
             (M.is_call LookCall) (pass_in by)
-            (LookGives (M.machine self.now.table.shared.key).core.shape (pass_in by)) result }
+            (λ w r. LookGives (M.machine self.now.table.shared.key).core.shape (pass_in by) w r
+            × Answers (pass_in by) w (LookAnswered r)) result }
     {
         let Pass { pass, kept } = by;
         let look = M::look();

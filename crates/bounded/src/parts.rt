@@ -22,6 +22,7 @@ ghost use Rattle.bounded_model.specs.declared.views.Answered.TheVariants.{
   Take as TakeAnswered,
   Close as CloseAnswered,
   Shut as ShutAnswered,
+  Look as LookAnswered,
 };
 ghost use Rattle.bounded_model.specs.declared.views.PassView.{PassView};
 ghost use Rattle.bounded.specs.Bounded.{
@@ -216,7 +217,8 @@ pub trait Parts<
     ghost look_gives: { (key : Limits) (o : O) (v : View T L) (begun : PassView T)
         (a : Answered Self.Kept Bool) → is_call LookCall o
         → Ended (M.machine key) o v begun ((Self.LookAt.account key).answer o a)
-        → LookGives (M.machine key).core.shape begun (pass_of v) a.reply };
+        → LookGives (M.machine key).core.shape begun (pass_of v) a.reply
+        × Answers begun (pass_of v) (LookAnswered a.reply) };
 
     /// And what its pass keeps.
     ghost put_keeps: { (key : Limits) (o : O) (a : Answered Self.Kept (Result ℕ (PutRefused T)))

@@ -2,9 +2,10 @@
 ghost use Rattle.std.specs.Prelude.{◌≡◌, ◌+◌, ◌≤◌};
 ghost use Rattle.atomic_table.specs.Seated.{TableId};
 ghost use Rattle.bounded_model.specs.Calls.{CallGives};
-ghost use Rattle.bounded_model.specs.Laws.{LookGives};
+ghost use Rattle.bounded_model.specs.Laws.{Answers, LookGives};
 ghost use Rattle.bounded_model.specs.Stepping.{Underway, no_step, OneStep, GoesOn, MatchStepped};
 ghost use Rattle.bounded_model.specs.declared.commands.Command.{Command};
+ghost use Rattle.bounded_model.specs.declared.views.Answered.TheVariants.{Look as LookAnswered};
 ghost use Rattle.bounded.specs.Bounded.{IsPassAt, pass_in};
 ghost use Rattle.tagged_index.specs.declared.limit.Limits.{Limits};
 
@@ -62,7 +63,8 @@ pub trait Steps<
         requires { IsPassAt (M.machine (C.key on.now)) Self.keeps (C.id on.now) by }
         ensures of { IsPassAt (M.machine (C.key on.now)) Self.keeps (C.id on.now) result.0 }
         ensures gives { LookGives (M.machine (C.key on.now)).core.shape (pass_in by)
-            (pass_in result.0) result.1 };
+            (pass_in result.0) result.1 }
+        ensures answered { Answers (pass_in by) (pass_in result.0) (LookAnswered result.1) };
 }
 
 impl<

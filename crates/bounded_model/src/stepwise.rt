@@ -2,9 +2,10 @@
 
 ghost use Rattle.std.specs.Prelude.{◌≡◌, ◌+◌, ◌≤◌};
 ghost use Rattle.bounded_model.specs.Calls.{CallGives};
-ghost use Rattle.bounded_model.specs.Laws.{LookGives};
+ghost use Rattle.bounded_model.specs.Laws.{Answers, LookGives};
 ghost use Rattle.bounded_model.specs.Stepping.{Underway, no_step, OneStep, GoesOn, MatchStepped};
 ghost use Rattle.bounded_model.specs.declared.commands.Command.{Command};
+ghost use Rattle.bounded_model.specs.declared.views.Answered.TheVariants.{Look as LookAnswered};
 
 use crate::{Command, Container, Reply, Stepped};
 use std::sync::Wait;
@@ -70,5 +71,6 @@ pub trait Stepwise<T>: Container<T> {
         requires { Self.is_pass self.now by }
         ensures of { Self.is_pass self.now result.0 }
         ensures gives { LookGives (Self.shape self.now) (Self.pass by)
-            (Self.pass result.0) result.1 };
+            (Self.pass result.0) result.1 }
+        ensures answered { Answers (Self.pass by) (Self.pass result.0) (LookAnswered result.1) };
 }

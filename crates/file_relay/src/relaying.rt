@@ -18,18 +18,19 @@ ghost use Rattle.told.specs.Writing.{written};
 use crate::inputs::read_inputs;
 use crate::outcome::write_outcome;
 use crate::tool_fault::ToolFault;
+use bounded::Parts;
 use bounded_model::Container;
-use ms_queue::Queue;
+use ms_queue::Queued;
 use relay::{FreeGate, Gate, Message, Plan, Relayed, run};
 use relay_args::{Kind, MAX_RELAY_PASSES, RelayArgs};
-use ring_queue::{MAX_LAPS, RingLimits, RingQueue};
+use ring_queue::{MAX_LAPS, RingLimits, Ringed};
 use std::alloc::Global;
 use std::io::{Read, Write};
 use std::mem;
 use std::sync::Wait;
 use std::thread::Threads;
 use tagged_index::{Limits, MAX_TAG};
-use treiber_stack::Stack;
+use treiber_stack::Stacked;
 
 /// Relays what the readers give, reader `k`, counted from 0, as sender `k`. Writes the outcome: the
 /// audit, and then the list if `args` asks for it.
@@ -83,15 +84,21 @@ pub(crate) fn relay_inputs<T: Threads + Wait + Sync, G: Gate + Sync>(
 {
     match args.kind {
         Kind::Queue => {
-            let (queue, root) = Queue::new(alloc, limits_for(args))?;
+            let (queue, root) = <Queued as Parts<_, _, _, _, _, 2>>::make(alloc, limits_for(args))?;
             relay_through(rt, alloc, queue, root, args, inputs, gate)
         }
         Kind::Stack => {
-            let (stack, root) = Stack::new(alloc, limits_for(args))?;
+            let (stack, root) = <Stacked as Parts<_, _, _, _, _, 2>>::make(
+                alloc,
+                limits_for(args),
+            )?;
             relay_through(rt, alloc, stack, root, args, inputs, gate)
         }
         Kind::Ring => {
-            let (ring, root) = RingQueue::new(alloc, ring_limits_for(args))?;
+            let (ring, root) = <Ringed as Parts<_, _, _, _, _, 0>>::make(
+                alloc,
+                ring_limits_for(args),
+            )?;
             relay_through(rt, alloc, ring, root, args, inputs, gate)
         }
     }

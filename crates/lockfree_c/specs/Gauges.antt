@@ -4,6 +4,8 @@ use Rattle.std.specs.Prelude.{◌≡◌, ℕ, MatchOption}
 use Rattle.bounded_model.specs.Stepping.{MatchStepped}
 use Rattle.bounded_model.specs.declared.answers.Stepped.{Stepped}
 use Rattle.bounded_model.specs.declared.answers.Stepped.TheVariants as stepped
+use Rattle.bounded_model.specs.Laws.{Answers}
+use Rattle.bounded_model.specs.declared.views.Answered.TheVariants as answered
 use Rattle.bounded_model.specs.declared.views.PassView.{PassView}
 use Rattle.bounded.specs.Bounded.{pass_in}
 use Rattle.running.specs.Passes.{begun_of}
@@ -34,7 +36,7 @@ GaugeMade = Stepped (GaugeOp ℕ) (queue.Pass ℕ) Gauge
 abbrev pub GaugeTried : Queue → PassView ℕ → GaugeMade → Type 0
 GaugeTried c v made = MatchStepped made
     (λ next. IsGauging c next × (begun_of (queue.machine_of c) next.pass ≡ v))
-    (λ back shown. queue.IsPassOf c back × GaugeGives (queue.room_of c) (queue.limit_of c) v (pass_in back) shown)
+    (λ back shown. queue.IsPassOf c back × (GaugeGives (queue.room_of c) (queue.limit_of c) v (pass_in back) shown × Answers v (pass_in back) (answered.Gauge shown.closed shown.used)))
 
 -- how one that was tried left what is held, and what C was answered; it has no number
 abbrev pub GaugeLeft : Queue → GaugeMade → Held → Answer → Type 0

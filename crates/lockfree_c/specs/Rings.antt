@@ -1,9 +1,10 @@
 -- What counts and gauges do to what lies behind a handle of a ring, by steps.
 use Rattle.std.specs.Prelude.{◌≡◌, ℕ, MatchOption}
-use Rattle.bounded_model.specs.Laws.{LenGives}
+use Rattle.bounded_model.specs.Laws.{Answers, LenGives}
 use Rattle.bounded_model.specs.Stepping.{MatchStepped}
 use Rattle.bounded_model.specs.declared.answers.Stepped.{Stepped}
 use Rattle.bounded_model.specs.declared.answers.Stepped.TheVariants.{Again, Done}
+use Rattle.bounded_model.specs.declared.views.Answered.TheVariants as answered
 use Rattle.bounded_model.specs.declared.views.PassView.{PassView}
 use Rattle.running.specs.Passes.{begun_of}
 use Rattle.ring_queue.specs.Counting.{IsCounting, LenOp}
@@ -31,7 +32,7 @@ CountMade = Stepped (LenOp ℕ) (Pass ℕ) ℕ
 abbrev pub CountTried : Ring → PassView ℕ → CountMade → Type 0
 CountTried c v made = MatchStepped made
     (λ next. IsCounting c next × (begun_of (machine_of c) next.pass ≡ v))
-    (λ back n. IsPassOf c back × LenGives (shape_of c) v (pass_in back) n)
+    (λ back n. IsPassOf c back × (LenGives (shape_of c) v (pass_in back) n × Answers v (pass_in back) (answered.Len n)))
 
 -- how one that was tried left what is held, and what C was answered; it has no number
 abbrev pub CountLeft : Ring → CountMade → Held → Answer → Type 0
@@ -58,7 +59,7 @@ GaugeMade = Stepped (GaugeOp ℕ) (Pass ℕ) Gauge
 abbrev pub GaugeTried : Ring → PassView ℕ → GaugeMade → Type 0
 GaugeTried c v made = MatchStepped made
     (λ next. IsGauging c next × (begun_of (machine_of c) next.pass ≡ v))
-    (λ back shown. IsPassOf c back × GaugeGives (room_of c) (laps_of c) v (pass_in back) shown)
+    (λ back shown. IsPassOf c back × (GaugeGives (room_of c) (laps_of c) v (pass_in back) shown × Answers v (pass_in back) (answered.Gauge shown.closed shown.used)))
 
 abbrev pub GaugeLeft : Ring → GaugeMade → Held → Answer → Type 0
 GaugeLeft c (Again next) (OfRingGauge k) a = (k.container.value ≡ c) × (k.op ≡ next) × (a ≡ bare BUSY)

@@ -27,6 +27,7 @@ use crate::range::{begin_range_of, put_nothing};
 use crate::ring::begin_ring_count;
 use crate::root::hand_out;
 use bounded_model::Command;
+use running::aside;
 use std::alloc::Global;
 use std::mem;
 
@@ -88,7 +89,10 @@ pub fn put_by(held: &mut Held, value: u64, tries: u64) -> Answer
         Held::QueuePass(pass) => pass.put(value, tries),
         Held::StackPass(pass) => pass.put(value, tries),
         Held::RingPass(pass) => pass.put(value, tries),
-        other => Answer::of(other.refusal()),
+        other => {
+            aside();
+            Answer::of(other.refusal())
+        }
     }
 }
 
@@ -103,7 +107,10 @@ pub fn take_by(held: &mut Held, tries: u64) -> Answer
         Held::QueuePass(pass) => pass.take(tries),
         Held::StackPass(pass) => pass.take(tries),
         Held::RingPass(pass) => pass.take(tries),
-        other => Answer::of(other.refusal()),
+        other => {
+            aside();
+            Answer::of(other.refusal())
+        }
     }
 }
 

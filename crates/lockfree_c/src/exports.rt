@@ -34,6 +34,7 @@ use crate::boxed::{
 use crate::gauge::gauge_by;
 use crate::slot::Slot;
 use bounded_model::Command;
+use running::aside;
 use std::alloc::Global;
 
 /// The version, 0.2.0: 10,000 times the first number, 100 times the second, and the third.
@@ -91,6 +92,7 @@ pub extern "C" fn lockfree_put(pass: &mut Slot, value: u64, tries: u64) -> Answe
     ensures gives { SlotCalled tries pass.old (Put value) pass.new result }
 {
     if !pass.full {
+        aside();
         return Answer::of(NO_HANDLE);
     }
     put_by(pass.handle.open_mut(), value, tries)
@@ -104,6 +106,7 @@ pub extern "C" fn lockfree_take(pass: &mut Slot, tries: u64) -> Answer
     ensures gives { SlotCalled tries pass.old Take pass.new result }
 {
     if !pass.full {
+        aside();
         return Answer::of(NO_HANDLE);
     }
     take_by(pass.handle.open_mut(), tries)

@@ -7,6 +7,7 @@ use crate::answers::{Answer, NO_CALL, UNDER_WAY};
 use crate::stage::Stage;
 use bounded_calls::BoundedCalls;
 use bounded_model::{Command, Stepped};
+use running::aside;
 use std::alloc::Global;
 use std::sync::Arc;
 
@@ -31,11 +32,15 @@ impl<C: BoundedCalls<u64>> PassOf<C, C::Pass, C::Operation> {
             Some(by) => match self.container.put_at_once(by, value) {
                 Stepped::Done(by, said) => self.stage.rest(by, said),
                 Stepped::Again(operation) => {
+                    aside();
                     self.stage.under_way = Some(operation);
                     self.go_on(tries)
                 }
             },
-            None => Answer::of(UNDER_WAY),
+            None => {
+                aside();
+                Answer::of(UNDER_WAY)
+            }
         }
     }
 
@@ -52,11 +57,15 @@ impl<C: BoundedCalls<u64>> PassOf<C, C::Pass, C::Operation> {
             Some(by) => match self.container.take_at_once(by) {
                 Stepped::Done(by, said) => self.stage.rest(by, said),
                 Stepped::Again(operation) => {
+                    aside();
                     self.stage.under_way = Some(operation);
                     self.go_on(tries)
                 }
             },
-            None => Answer::of(UNDER_WAY),
+            None => {
+                aside();
+                Answer::of(UNDER_WAY)
+            }
         }
     }
 

@@ -62,45 +62,45 @@ module _ {T L : Type 0} where
     works = f.works;
   }
   knows_later h k (AtPass p begun l) f later same = saw_later h k p f later (same p.number refl)
-  knows_later h k (AtMeeting p a q b) f later same = (saw_later h k p f.0 later (same p.number (inl refl)), saw_later h k q f.1 later (same q.number (inr refl)), f.2)
+  knows_later h k (AtMeeting p xs a q ys b) f later same = (saw_later h k p f.0 later (same p.number (inl refl)), saw_later h k q f.1 later (same q.number (inr refl)), f.2)
   knows_later h k (AtNote told) f later same = Later-trans f later
-  knows_later h k (AtHearing p l told) f later same = (saw_later h k p f.0 later (same p.number refl), Later-trans f.1 later)
+  knows_later h k (AtHearing p xs l told) f later same = (saw_later h k p f.0 later (same p.number refl), Later-trans f.1 later)
   knows_later h k Left f later same = tt
 
   -- how a cut shares out the numbers
   pub left_owns : (sh : Shares L) (v : View T L) (x : ℕ) → Owns (left_of sh v) x → Owns v x
   left_owns sh (AtRoot r heard l) x (inl le) = inl (omega arith)
   left_owns sh (AtRoot r heard l) x (inr j) = inr j
-  left_owns sh (AtMeeting p k q l) x o = inl o
+  left_owns sh (AtMeeting p xs k q ys l) x o = inl o
   left_owns sh v x o = o
 
   pub right_owns : (sh : Shares L) (v : View T L) (x : ℕ) → Owns (right_of sh v) x → Owns v x
   right_owns sh (AtRoot r heard l) x o = inl (omega arith)
   right_owns sh (AtPass p begun l) x o = absurd o
-  right_owns sh (AtMeeting p k q l) x o = inr o
-  right_owns sh (AtHearing p l told) x o = absurd o
+  right_owns sh (AtMeeting p xs k q ys l) x o = inr o
+  right_owns sh (AtHearing p xs l told) x o = absurd o
   right_owns sh v x o = o
 
   halves_apart : (sh : Shares L) (h : List (Event T)) (v : View T L) → Knows h v → (x : ℕ) → Owns (left_of sh v) x → Owns (right_of sh v) x → ⊥
   halves_apart sh h (AtRoot r heard l) f x (inl le) e = omega arith
   halves_apart sh h (AtRoot r heard l) f x (inr j) e = let l = joined-below r.given x r.account f.given j in omega arith
-  halves_apart sh h (AtMeeting p k q l) f x o e = f.2 (sym o ∙ e)
+  halves_apart sh h (AtMeeting p xs k q ys l) f x o e = f.2 (sym o ∙ e)
   halves_apart sh h v f x o e = e
 
   left_knows : (sh : Shares L) (h : List (Event T)) (v : View T L) → Knows h v → Knows h (left_of sh v)
   left_knows sh h (AtRoot r heard l) f = record { seen = f.seen; heard_seen = f.heard_seen; joined = f.joined; apart = f.apart; given = below_more r.given r.account f.given; unknown = λ x le. f.unknown x (omega arith); works = f.works }
   left_knows sh h (AtPass p begun l) f = f
-  left_knows sh h (AtMeeting p k q l) f = f.0
+  left_knows sh h (AtMeeting p xs k q ys l) f = f.0
   left_knows sh h (AtNote told) f = f
-  left_knows sh h (AtHearing p l told) f = f.0
+  left_knows sh h (AtHearing p xs l told) f = f.0
   left_knows sh h Left f = tt
 
   right_knows : (sh : Shares L) (h : List (Event T)) (v : View T L) → Knows h v → Knows h (right_of sh v)
   right_knows sh h (AtRoot r heard l) f = record { seen = f.seen; own_events = f.unknown r.given (omega arith) ∙ sym (own-earlier r.given f.seen (f.unknown r.given (omega arith))) }
   right_knows sh h (AtPass p begun l) f = f.seen
-  right_knows sh h (AtMeeting p k q l) f = f.1
+  right_knows sh h (AtMeeting p xs k q ys l) f = f.1
   right_knows sh h (AtNote told) f = f
-  right_knows sh h (AtHearing p l told) f = f.1
+  right_knows sh h (AtHearing p xs l told) f = f.1
   right_knows sh h Left f = tt
 
   -- and a union puts them together
@@ -165,24 +165,24 @@ module _ {T L : Type 0} (c : Shape) (held : L → ℕ) where
   -- the passes that a cut gives have nothing in hand
   abbrev pub EmptyParts : Shares L → View T L → Type 0
   EmptyParts sh (AtRoot r heard l) = held (sh.gives l).1 ≡ 0
-  EmptyParts sh (AtMeeting p k q l) = (held k ≡ 0) × (held l ≡ 0)
-  EmptyParts sh (AtHearing p l told) = held l ≡ 0
+  EmptyParts sh (AtMeeting p xs k q ys l) = (held k ≡ 0) × (held l ≡ 0)
+  EmptyParts sh (AtHearing p xs l told) = held l ≡ 0
   EmptyParts sh v = Unit {0}
 
   left_holds : (sh : Shares L) (v : View T L) → EmptyParts sh v → held_at held v ≡ held_at held (left_of sh v)
   left_holds sh (AtRoot r heard l) e = refl
   left_holds sh (AtPass p begun l) e = refl
-  left_holds sh (AtMeeting p k q l) e = sym e.0
+  left_holds sh (AtMeeting p xs k q ys l) e = sym e.0
   left_holds sh (AtNote told) e = refl
-  left_holds sh (AtHearing p l told) e = sym e
+  left_holds sh (AtHearing p xs l told) e = sym e
   left_holds sh Left e = refl
 
   right_holds : (sh : Shares L) (v : View T L) (x : ℕ) → EmptyParts sh v → Owns (right_of sh v) x → held_at held v ≡ held_at held (right_of sh v)
   right_holds sh (AtRoot r heard l) x e o = sym e
   right_holds sh (AtPass p begun l) x e o = absurd o
-  right_holds sh (AtMeeting p k q l) x e o = sym e.1
+  right_holds sh (AtMeeting p xs k q ys l) x e o = sym e.1
   right_holds sh (AtNote told) x e o = refl
-  right_holds sh (AtHearing p l told) x e o = absurd o
+  right_holds sh (AtHearing p xs l told) x e o = absurd o
   right_holds sh Left x e o = refl
 
   -- a seat was cut in two
@@ -200,8 +200,8 @@ module _ {T L : Type 0} (c : Shape) (held : L → ℕ) where
   both_holds : (sh : Shares L) (v w : View T L) → held_at held v ≡ 0 → 0 ≡ held_at held (both_of sh v w)
   both_holds sh (AtRoot r heard l) (AtPass p begun k) e = refl
   both_holds sh (AtPass p begun l) (AtRoot s heard l') e = sym e
-  both_holds sh (AtPass p begun l) (AtMeeting q k q' l') e = sym e
-  both_holds sh (AtPass p begun l) (AtHearing q l' told) e = sym e
+  both_holds sh (AtPass p begun l) (AtMeeting q xs k q' ys l') e = sym e
+  both_holds sh (AtPass p begun l) (AtHearing q xs l' told) e = sym e
   both_holds sh (AtPass p begun l) Left e = sym e
   both_holds sh v w e = refl
 

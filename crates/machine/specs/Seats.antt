@@ -26,9 +26,9 @@ IsJoined x account = Among x (map (λ a. a.0) account)
 abbrev pub Owns : {T L : Type 0} → View T L → ℕ → Type 0
 Owns (AtRoot r heard l) x = (r.given ≤ x) ⊎ IsJoined x r.account
 Owns (AtPass p begun l) x = x ≡ p.number
-Owns (AtMeeting p k q l) x = (x ≡ p.number) ⊎ (x ≡ q.number)
+Owns (AtMeeting p xs k q ys l) x = (x ≡ p.number) ⊎ (x ≡ q.number)
 Owns (AtNote told) x = ⊥
-Owns (AtHearing p l told) x = x ≡ p.number
+Owns (AtHearing p xs l told) x = x ≡ p.number
 Owns Left x = ⊥
 
 -- the pass has seen a part of this history, and all its own events in it
@@ -49,18 +49,18 @@ pub record Rooted {T : Type 0} (h : List (Event T)) (r : RootView T) (heard : Li
 abbrev pub Knows : {T L : Type 0} → List (Event T) → View T L → Type 0
 Knows h (AtRoot r heard l) = Rooted h r heard
 Knows h (AtPass p begun l) = Saw h p
-Knows h (AtMeeting p k q l) = Saw h p × Saw h q × (p.number ≢ q.number)
+Knows h (AtMeeting p xs k q ys l) = Saw h p × Saw h q × (p.number ≢ q.number)
 Knows h (AtNote told) = Later told h
-Knows h (AtHearing p l told) = Saw h p × Later told h
+Knows h (AtHearing p xs l told) = Saw h p × Later told h
 Knows h Left = Unit {0}
 
 -- how many cells the pass of a seat has in hand; `held` says it of a line
 abbrev pub held_at : {T L : Type 0} → (L → ℕ) → View T L → ℕ
 held_at held (AtRoot r heard l) = 0
 held_at held (AtPass p begun l) = held l
-held_at held (AtMeeting p k q l) = 0
+held_at held (AtMeeting p xs k q ys l) = 0
 held_at held (AtNote told) = 0
-held_at held (AtHearing p l told) = 0
+held_at held (AtHearing p xs l told) = 0
 held_at held Left = 0
 
 -- of each number that a seat answers for, the hand in the history is what the seat has in hand
@@ -89,12 +89,12 @@ takes_back r p = record r { account = (p.number, own p.number p.seen) ∷ r.acco
 abbrev pub Acts : Type 0 → Type 0
 Acts L = List (ℕ × Doing L)
 
--- a pass between its operations, at this line
-abbrev pub rested : {T L : Type 0} → PassView T → Begun T L
-rested p = record { view = p; before = []; now = [] }
+-- a pass between its operations, at this line. It keeps the acts that it knew at its last step
+abbrev pub rested : {T L : Type 0} → PassView T → Acts L → Begun T L
+rested p acts = record { view = p; before = []; now = acts }
 
-abbrev pub at_rest : {T L : Type 0} → L → PassView T → View T L
-at_rest l p = AtPass p (rested p) l
+abbrev pub at_rest : {T L : Type 0} → L → PassView T → Acts L → View T L
+at_rest l p acts = AtPass p (rested p acts) l
 
 -- How the lines of a container are shared out among its seats. A line may tell what a pass has between its
 -- operations; then the root's line tells what it has for new passes
@@ -115,24 +115,24 @@ all_alike idle = record { none = idle; gives = λ l. (l, idle); takes = λ l k. 
 abbrev pub left_of : {T L : Type 0} → Shares L → View T L → View T L
 left_of x (AtRoot r heard l) = AtRoot (gives_one r) heard (x.gives l).0
 left_of x (AtPass p begun l) = AtPass p begun l
-left_of x (AtMeeting p k q l) = at_rest k p
+left_of x (AtMeeting p xs k q ys l) = at_rest k p xs
 left_of x (AtNote told) = AtNote told
-left_of x (AtHearing p l told) = at_rest l p
+left_of x (AtHearing p xs l told) = at_rest l p xs
 left_of x Left = Left
 
 abbrev pub right_of : {T L : Type 0} → Shares L → View T L → View T L
-right_of x (AtRoot r heard l) = at_rest (x.gives l).1 (new_pass r)
+right_of x (AtRoot r heard l) = at_rest (x.gives l).1 (new_pass r) []
 right_of x (AtPass p begun l) = AtNote p.seen
-right_of x (AtMeeting p k q l) = at_rest l q
+right_of x (AtMeeting p xs k q ys l) = at_rest l q ys
 right_of x (AtNote told) = AtNote told
-right_of x (AtHearing p l told) = AtNote told
+right_of x (AtHearing p xs l told) = AtNote told
 right_of x Left = Left
 
 -- how two views are made one: the root takes a pass back, two passes meet, and a pass hears a note
 abbrev pub both_of : {T L : Type 0} → Shares L → View T L → View T L → View T L
 both_of x (AtRoot r heard l) (AtPass p begun k) = AtRoot (takes_back r p) p.seen (x.takes l k)
-both_of x (AtPass p begun k) (AtPass q begun' l) = AtMeeting p k q l
-both_of x (AtPass p begun l) (AtNote told) = AtHearing p l told
+both_of x (AtPass p begun k) (AtPass q begun' l) = AtMeeting p begun.now k q begun'.now l
+both_of x (AtPass p begun l) (AtNote told) = AtHearing p begun.now l told
 both_of x v w = v
 
 -- a pass that has made a step, has now seen all of this history, and whose calls have answered so
@@ -147,18 +147,18 @@ hearing h p = stepped h (Heard ∷ p.answers) p
 abbrev pub looked : {T L : Type 0} → List (Event T) → View T L → View T L
 looked h (AtRoot r heard l) = AtRoot (record r { seen = h }) [] l
 looked h (AtPass p begun l) = AtPass (stepped h p.answers p) begun l
-looked h (AtMeeting p k q l) = AtMeeting (hearing h p) k q l
+looked h (AtMeeting p xs k q ys l) = AtMeeting (hearing h p) xs k q ys l
 looked h (AtNote told) = AtNote told
-looked h (AtHearing p l told) = AtHearing (hearing h p) l told
+looked h (AtHearing p xs l told) = AtHearing (hearing h p) xs l told
 looked h Left = Left
 
 -- what such a load tells
 abbrev pub Looks : {T L : Type 0} → Shape → View T L → View T L → Type 0
 Looks {T} c (AtRoot r heard l) w = (s : RootView T) × (w ≡ AtRoot s [] l) × (s.given ≡ r.given) × (s.account ≡ r.account) × (s.works ≡ r.works) × Later r.seen s.seen × Later heard s.seen × IsSound c s
 Looks {T} c (AtPass p begun l) w = (q : PassView T) × (w ≡ AtPass q begun l) × (q.answers ≡ p.answers) × Adds p q [] × Legal c q.seen
-Looks {T} c (AtMeeting p k q l) w = (p' : PassView T) × (w ≡ AtMeeting p' k q l) × Meets p q p' × Legal c p'.seen
+Looks {T} c (AtMeeting p xs k q ys l) w = (p' : PassView T) × (w ≡ AtMeeting p' xs k q ys l) × Meets p q p' × Legal c p'.seen
 Looks c (AtNote told) w = Unit {0}
-Looks {T} c (AtHearing p l told) w = (q : PassView T) × (w ≡ AtHearing q l told) × Heeds p told q × Legal c q.seen
+Looks {T} c (AtHearing p xs l told) w = (q : PassView T) × (w ≡ AtHearing q xs l told) × Heeds p told q × Legal c q.seen
 Looks c Left w = Unit {0}
 
 -- reading a view
@@ -181,9 +181,9 @@ begun_of v = record { number = 0; seen = []; steps = 0; answers = [] }
 abbrev pub line_of : {T L : Type 0} → Shares L → View T L → L
 line_of x (AtRoot r heard l) = l
 line_of x (AtPass p begun l) = l
-line_of x (AtMeeting p k q l) = x.both k l
+line_of x (AtMeeting p xs k q ys l) = x.both k l
 line_of x (AtNote told) = x.none
-line_of x (AtHearing p l told) = l
+line_of x (AtHearing p xs l told) = l
 line_of x Left = x.none
 
 abbrev pub told_of : {T L : Type 0} → View T L → List (Event T)

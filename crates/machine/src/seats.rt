@@ -19,8 +19,8 @@ pub enum Doing<L> {
 }
 
 /// What a pass knew as its operation was begun: the pass as it was, and what all passes had done by
-/// then. It also has what they had done by the pass's last step. In both lists the newest stands
-/// first.
+/// then. It also has what they had done by the pass's last step, which it keeps between its
+/// operations. In both lists the newest stands first.
 pub struct Begun<T, L> {
     pub view: PassView<T>,
     pub before: LinkedList<(u64, Doing<L>)>,
@@ -33,12 +33,25 @@ pub enum View<T, L> {
     AtRoot(RootView<T>, LinkedList<Event<T>>, L),
     /// A pass: as it is, what it knew as its operation was begun, and its line.
     AtPass(PassView<T>, Begun<T, L>, L),
-    /// Two passes that meet in one seat, each with its line.
-    AtMeeting(PassView<T>, L, PassView<T>, L),
+    /// Two passes that meet in one seat, each with what it knew of the acts at its last step, and its
+    /// line.
+    AtMeeting(
+        PassView<T>,
+        LinkedList<(u64, Doing<L>)>,
+        L,
+        PassView<T>,
+        LinkedList<(u64, Doing<L>)>,
+        L,
+    ),
     /// A note: what its pass had seen when it was made.
     AtNote(LinkedList<Event<T>>),
-    /// A pass that hears a note, and its line.
-    AtHearing(PassView<T>, L, LinkedList<Event<T>>),
+    /// A pass that hears a note, what it knew of the acts at its last step, and its line.
+    AtHearing(
+        PassView<T>,
+        LinkedList<(u64, Doing<L>)>,
+        L,
+        LinkedList<Event<T>>,
+    ),
     /// A seat that was joined to another.
     Left,
 }

@@ -7,7 +7,7 @@ use Rattle.bounded_model.specs.declared.answers.TakeRefused.TheVariants.{Empty, 
 use Rattle.bounded_model.specs.declared.commands.Command.TheVariants.{Put as PutCall, Take as TakeCall, Close as CloseCall, Shut as ShutCall, Look as LookCall}
 use Rattle.bounded_model.specs.declared.history.Event.{Event}
 use Rattle.bounded_model.specs.declared.history.Event.TheVariants.{Take, Free, Close, Shut}
-use Rattle.bounded_model.specs.declared.views.Answered.TheVariants.{Take as TakeAnswered, Close as CloseAnswered, Shut as ShutAnswered}
+use Rattle.bounded_model.specs.declared.views.Answered.TheVariants.{Take as TakeAnswered, Close as CloseAnswered, Shut as ShutAnswered, Look as LookAnswered}
 use Rattle.bounded_model.specs.declared.views.PassView.{PassView}
 use Rattle.bounded_model.specs.Histories.{own}
 use Rattle.bounded_model.specs.Laws.{Adds, Answers, PutGives, TakeGives, CloseGives, ShutGives, LookGives, put_answered}
@@ -90,36 +90,37 @@ module _ {T : Type 0} (k : Limits) where
         → ShutGives (shape_at T k) begun (pass_of v) a.reply × Answers begun (pass_of v) (ShutAnswered a.reply)
     shut_gives a is e = (shut a.reply (subst (λ (o : Operation T). EndsAt o ((shut_account k).answer o a)) is e), e.answered)
 
-    pub look_gives : (a : Answered Bool) → is_call LookCall o → EndsAt o ((look_account k).answer o a) → LookGives (shape_at T k) begun (pass_of v) a.reply
-    look_gives a is e = looked a.reply (subst (λ (o : Operation T). EndsAt o ((look_account k).answer o a)) is e)
+    pub look_gives : (a : Answered Bool) → is_call LookCall o → EndsAt o ((look_account k).answer o a)
+        → LookGives (shape_at T k) begun (pass_of v) a.reply × Answers begun (pass_of v) (LookAnswered a.reply)
+    look_gives a is e = (looked a.reply (subst (λ (o : Operation T). EndsAt o ((look_account k).answer o a)) is e), e.answered)
 
   -- and what each operation promises; a put does so of each value that it is a put of
   abbrev pub put_promises : Operation T → PassView T → PassView T → PutAnswer T → Type 0
-  put_promises o begun now a = (x : T) → is_call (PutCall x) o → PutGives (shape_at T k) begun x now a.reply
+  put_promises o begun now a = (x : T) → is_call (PutCall x) o → PutGives (shape_at T k) begun x now a.reply × Answers begun now (put_answered a.reply)
 
   abbrev pub take_promises : Operation T → PassView T → PassView T → TakeAnswer T → Type 0
-  take_promises o begun now a = TakeGives (shape_at T k) begun now a.reply
+  take_promises o begun now a = TakeGives (shape_at T k) begun now a.reply × Answers begun now (TakeAnswered a.reply)
 
   abbrev pub close_promises : Operation T → PassView T → PassView T → Answered Bool → Type 0
-  close_promises o begun now a = CloseGives (shape_at T k) begun now a.reply
+  close_promises o begun now a = CloseGives (shape_at T k) begun now a.reply × Answers begun now (CloseAnswered a.reply)
 
   abbrev pub shut_promises : Operation T → PassView T → PassView T → Answered Bool → Type 0
-  shut_promises o begun now a = ShutGives (shape_at T k) begun now a.reply
+  shut_promises o begun now a = ShutGives (shape_at T k) begun now a.reply × Answers begun now (ShutAnswered a.reply)
 
   abbrev pub look_promises : Operation T → PassView T → PassView T → Answered Bool → Type 0
-  look_promises o begun now a = LookGives (shape_at T k) begun now a.reply
+  look_promises o begun now a = LookGives (shape_at T k) begun now a.reply × Answers begun now (LookAnswered a.reply)
 
   pub put_keeps : (at : PutAt T) (v : View T (Line T)) (begun : PassView T) (a : PutAnswer T) → Ended (machine_at k) (put_of (put_value at)) v begun ((put_account k).answer (put_of (put_value at)) a) → put_promises (put_of (put_value at)) begun (pass_of v) a
-  put_keeps at v begun a e x is = (put_gives (put_of (put_value at)) v begun x a is e).0
+  put_keeps at v begun a e x is = put_gives (put_of (put_value at)) v begun x a is e
 
-  pub take_keeps : (at : TakeAt T) (v : View T (Line T)) (begun : PassView T) (a : TakeAnswer T) → Ended (machine_at k) TakeFirst v begun ((take_account k).answer TakeFirst a) → TakeGives (shape_at T k) begun (pass_of v) a.reply
-  take_keeps at v begun a e = took a.reply e
+  pub take_keeps : (at : TakeAt T) (v : View T (Line T)) (begun : PassView T) (a : TakeAnswer T) → Ended (machine_at k) TakeFirst v begun ((take_account k).answer TakeFirst a) → take_promises TakeFirst begun (pass_of v) a
+  take_keeps at v begun a e = (took a.reply e, e.answered)
 
-  pub close_keeps : (at : CloseAt) (v : View T (Line T)) (begun : PassView T) (a : Answered Bool) → Ended (machine_at k) CloseFirst v begun ((close_account k).answer CloseFirst a) → CloseGives (shape_at T k) begun (pass_of v) a.reply
-  close_keeps at v begun a e = closed a.reply e
+  pub close_keeps : (at : CloseAt) (v : View T (Line T)) (begun : PassView T) (a : Answered Bool) → Ended (machine_at k) CloseFirst v begun ((close_account k).answer CloseFirst a) → close_promises CloseFirst begun (pass_of v) a
+  close_keeps at v begun a e = (closed a.reply e, e.answered)
 
-  pub shut_keeps : (at : ShutAt) (v : View T (Line T)) (begun : PassView T) (a : Answered Bool) → Ended (machine_at k) ShutFirst v begun ((shut_account k).answer ShutFirst a) → ShutGives (shape_at T k) begun (pass_of v) a.reply
-  shut_keeps at v begun a e = shut a.reply e
+  pub shut_keeps : (at : ShutAt) (v : View T (Line T)) (begun : PassView T) (a : Answered Bool) → Ended (machine_at k) ShutFirst v begun ((shut_account k).answer ShutFirst a) → shut_promises ShutFirst begun (pass_of v) a
+  shut_keeps at v begun a e = (shut a.reply e, e.answered)
 
-  pub look_keeps : (at : LookAt) (v : View T (Line T)) (begun : PassView T) (a : Answered Bool) → Ended (machine_at k) LookFirst v begun ((look_account k).answer LookFirst a) → LookGives (shape_at T k) begun (pass_of v) a.reply
-  look_keeps at v begun a e = looked a.reply e
+  pub look_keeps : (at : LookAt) (v : View T (Line T)) (begun : PassView T) (a : Answered Bool) → Ended (machine_at k) LookFirst v begun ((look_account k).answer LookFirst a) → look_promises LookFirst begun (pass_of v) a
+  look_keeps at v begun a e = (looked a.reply e, e.answered)

@@ -17,7 +17,7 @@ use Rattle.player.specs.declared.place.Begun.{Begun}
 use Rattle.player.specs.declared.place.Place.{Place}
 use Rattle.player.specs.declared.place.Place.TheVariants as place
 use Rattle.player.specs.Plays.{Named, Nobody, Resting, Acting, ActingTold, Acts, Does, World, Finds, FindsOther, JoinsAll, JoinsOne, MakesSteps, MeetTold, steps_since}
-use Rattle.player.specs.Shows.{Reading, Shows, ShowsAll}
+use Rattle.player.specs.Shows.{Holds, Reading, Shows, ShowsAll}
 
 -- an operation that was begun has made no step
 pub since_none : (v : PassView (List ℕ)) → 0 ≡ steps_since v v
@@ -134,6 +134,11 @@ module _ {R P O : Type 0} (r : Reading R P O) where
   acting_is begun Nobody shows = absurd shows
   acting_is begun (Resting v) shows = absurd shows
   acting_is begun (Acting call u) shows = (call, shows.0)
+
+  pub holds : (p : Place P O) (n : Named) → Shows r p n → Holds r p
+  holds place.Nobody n shows = tt
+  holds (place.Resting pass) n shows = resting_is pass n shows
+  holds (place.Acting begun) n shows = acting_is begun n shows
 
   -- a place that is not empty names somebody
   pub is_somebody : (p : Place P O) (n : Named) → Shows r p n → (p ≡ place.Nobody → ⊥) → n ≡ Nobody → ⊥

@@ -48,6 +48,12 @@ Shows r (place.Resting pass) (Resting v) = r.is_pass pass × (v ≡ r.pass pass)
 Shows r (place.Acting begun) (Acting call u) = r.is_making call begun.operation × (u ≡ r.made begun.operation) × (begun.steps ≡ steps_since u.begun u.now) × (u.begun.steps ≤ u.now.steps)
 Shows r place name = ⊥
 
+-- what a place holds is the container's own: a pass between its calls, or an operation that makes a call
+abbrev pub Holds : {R P O : Type 0} → Reading R P O → Place P O → Type 0
+Holds r place.Nobody = Unit {0}
+Holds r (place.Resting pass) = r.is_pass pass
+Holds r (place.Acting begun) = (call : Command (List ℕ)) × r.is_making call begun.operation
+
 abbrev pub ShowsAll : {R P O : Type 0} → Reading R P O → List (Place P O) → List Named → Type 0
 ShowsAll r [] [] = Unit {0}
 ShowsAll r (place ∷ places) (name ∷ names) = Shows r place name × ShowsAll r places names

@@ -5,7 +5,7 @@ ghost use Rattle.bounded_model.specs.declared.commands.Command.{Command};
 ghost use Rattle.bounded_model.specs.Calls.{CallGives};
 ghost use Rattle.bounded_model.specs.Stepping.{Underway};
 ghost use Rattle.player.specs.Plays.{Acting, ActingTold, IsFor, Named, RestingTold, StepsTold, Told};
-ghost use Rattle.player.specs.Shows.{Shows, StepOf, reading_of};
+ghost use Rattle.player.specs.Shows.{Holds, Shows, StepOf, reading_of};
 ghost use Rattle.player.specs.declared.place.Place.TheVariants.{Acting as AtWork};
 ghost use Rattle.player.specs.Traces.{ActingLines, CallLines, IsCounted, PlaceLines, RestingLines, StepLine, Traces};
 ghost use Rattle.script.specs.declared.line.Act.TheVariants.{Meet, Step};
@@ -40,11 +40,25 @@ pub fn act_at<'a, G: Scripted<'a, C>, C: Container<Value<'a>>, R: Wait>(
         (λ lines. PlaceLines (reading_of C.Container G.is_making G.making container.now) G.is_step
         trace.old.pass place act.entry done.1 lines done.0)) }
 {
-    match place {
+    match held::<G, _>(container, place) {
         Place::Nobody => Ok((Place::Nobody, Answer::NoPass)),
         Place::Resting(pass) => act_resting::<G, _, _>(container, rt, alloc, pass, act, trace),
         Place::Acting(begun) => act_begun::<G, _>(container, begun, act, trace),
     }
+}
+
+/// The same place. In each arm of a match on it the prover knows what it holds, so that it proves by
+/// itself what the arm's call requires.
+fn held<'a, G: Scripted<'a, C>, C: Container<Value<'a>>>(
+    _container: &C,
+    place: Place<C::Pass, G::Op>,
+) -> Place<C::Pass, G::Op>
+    requires { (found : Named) × Shows (reading_of C.Container G.is_making G.making _container.now)
+        place found }
+    ensures same { result ≡ place }
+    ensures held { Holds (reading_of C.Container G.is_making G.making _container.now) result }
+{
+    place
 }
 
 /// Does the same with a pass between its calls.

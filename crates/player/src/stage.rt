@@ -59,6 +59,10 @@ fn find<'a, G: Scripted<'a, C>, C: Container<Value<'a>>>(
     ensures found { (world : World) → IsOn (reading_of C.Container G.is_making G.making container.now)
         stage.old world → Found (reading_of C.Container G.is_making G.making container.now) world name.0
         stage.new result }
+    ensures on { (world : World) × IsOn (reading_of C.Container G.is_making G.making container.now)
+        stage.new world }
+    ensures shows { (found : Named) × Shows (reading_of C.Container G.is_making G.making container.now)
+        result found }
     ensures same { IsFound (held_by stage.old.places.of.items name.0) result }
     ensures places { stage.new.places.of.items
         ≡ slice_set stage.old.places.of.items (name.0 - 97) Nobody }
@@ -120,10 +124,11 @@ fn act_alone<'a, G: Scripted<'a, C>, C: Container<Value<'a>>, R: Wait>(
     act: Act<'a>,
     trace: &mut Trace,
 ) -> Result<Answer<'a>, AllocError>
-    requires { ((world : World)
-        × IsOn (reading_of C.Container G.is_making G.making container.now) stage.old world)
-        × IsFit (C.shape container.now).order name.0 act
-        × ((other : PassName) → ¬ (act ≡ Meet other)) }
+    requires on { (world : World) × IsOn (reading_of C.Container G.is_making G.making container.now)
+        stage.old world }
+    requires small { IsTrue (is_ascii_lowercase name.0) }
+    requires fits { IsFor (C.shape container.now).order act }
+    requires alone { (other : PassName) → ¬ (act ≡ Meet other) }
     ensures acts { (world : World) → IsOn (reading_of C.Container G.is_making G.making container.now)
         stage.old world → IfOk result (λ answer. (next : World)
         × IsOn (reading_of C.Container G.is_making G.making container.now) stage.new next

@@ -7,8 +7,9 @@ use Rattle.bounded_model.specs.declared.answers.PutRefused.{PutRefused}
 use Rattle.bounded_model.specs.declared.answers.Stepped.{Stepped}
 use Rattle.bounded_model.specs.declared.answers.Stepped.TheVariants.{Again, Done}
 use Rattle.bounded_model.specs.declared.answers.TakeRefused.{TakeRefused}
+use Rattle.bounded_model.specs.declared.views.Answered.TheVariants as answered
 use Rattle.bounded_model.specs.declared.views.PassView.{PassView}
-use Rattle.bounded_model.specs.Laws.{PutGives, TakeGives}
+use Rattle.bounded_model.specs.Laws.{Answers, PutGives, TakeGives, put_answered}
 use Rattle.ring_queue.specs.KeepsAnswers.{put_gives, take_gives}
 use Rattle.ring_queue.specs.Putting.{IsPutting, PutOp, put_account}
 use Rattle.ring_queue.specs.Ring.{RingQueue, Pass, Answered, keeps, machine_of, pass_in, shape_of}
@@ -52,8 +53,8 @@ module _ {T P : Type 0} {g : laid.Ghosts P T (SeatLine T) (Operation T)} (c : Ri
   put_tried x v k op is begun (Again next) e = (record { call = e.2 ∙ is.call; under_way = e.0.under_way }, e.1 ∙ begun)
   put_tried x v k op is begun (Done back answer) e = (
     e.0,
-    subst (λ (w : PassView T). PutGives (shape_of c) w x (pass_in back) answer) begun
-        (put_gives c.table.shared.key op.operation back.pass.seat.me.0 (begun_of (machine_of c) op.pass) x (record { kept = back.kept; reply = answer }) is.call e.1).0,
+    subst (λ (w : PassView T). PutGives (shape_of c) w x (pass_in back) answer × Answers w (pass_in back) (put_answered answer)) begun
+        (put_gives c.table.shared.key op.operation back.pass.seat.me.0 (begun_of (machine_of c) op.pass) x (record { kept = back.kept; reply = answer }) is.call e.1),
   )
 
   pub take_tried : (v : PassView T) (k : ℕ) (op : TakeOp T) → IsTaking c op → begun_of (machine_of c) op.pass ≡ v → (r : Stepped (TakeOp T) (Pass T) (Result (T × ℕ) TakeRefused))
@@ -61,6 +62,6 @@ module _ {T P : Type 0} {g : laid.Ghosts P T (SeatLine T) (Operation T)} (c : Ri
   take_tried v k op is begun (Again next) e = (record { call = e.2 ∙ is.call; under_way = e.0.under_way }, e.1 ∙ begun)
   take_tried v k op is begun (Done back answer) e = (
     e.0,
-    subst (λ (w : PassView T). TakeGives (shape_of c) w (pass_in back) answer) begun
-        (take_gives c.table.shared.key op.operation back.pass.seat.me.0 (begun_of (machine_of c) op.pass) (record { kept = back.kept; reply = answer }) is.call e.1).0,
+    subst (λ (w : PassView T). TakeGives (shape_of c) w (pass_in back) answer × Answers w (pass_in back) (answered.Take answer)) begun
+        (take_gives c.table.shared.key op.operation back.pass.seat.me.0 (begun_of (machine_of c) op.pass) (record { kept = back.kept; reply = answer }) is.call e.1),
   )

@@ -4,8 +4,9 @@ use Rattle.atomic_table.specs.Seated.{TableId}
 use Rattle.bounded.specs.declared.bounded.Laid as laid
 use Rattle.bounded_model.specs.declared.answers.Stepped.{Stepped}
 use Rattle.bounded_model.specs.declared.answers.Stepped.TheVariants.{Again, Done}
+use Rattle.bounded_model.specs.declared.views.Answered.TheVariants as answered
 use Rattle.bounded_model.specs.declared.views.PassView.{PassView}
-use Rattle.bounded_model.specs.Laws.{PutGives, TakeGives}
+use Rattle.bounded_model.specs.Laws.{Answers, PutGives, TakeGives, put_answered}
 use Rattle.stack_machine.specs.declared.lines.Line.{Line}
 use Rattle.stack_table.specs.declared.operation.Operation.{Operation}
 use Rattle.stack_table.specs.Lines.{first_line}
@@ -36,9 +37,9 @@ module _ {T P : Type 0} {g : laid.Ghosts P T (Line T) (Operation T)} (c : Stack 
   pub put_tried : (x : T) (v : PassView T) (k : ℕ) (op : PutOp T) → IsPutting c x op → begun_of c op.pass ≡ v → (r : Stepped (PutOp T) (Pass T (Line T)) (PutAnswer T))
       → MadeFor (machine_of c) (put_account c.table.shared.key) id (put_promises c.table.shared.key) k op r → PutTried c x v (joined r)
   put_tried x v k op is begun (Again next) e = (record { call = e.2 ∙ is.call; under_way = e.0.under_way }, e.1 ∙ begun)
-  put_tried x v k op is begun (Done back answer) e = (record { on = e.0; keeps = tt }, subst (λ (w : PassView T). PutGives (shape_of c) w x (pass_in (as_pass back)) answer.reply) begun (e.1 x is.call))
+  put_tried x v k op is begun (Done back answer) e = (record { on = e.0; keeps = tt }, subst (λ (w : PassView T). PutGives (shape_of c) w x (pass_in (as_pass back)) answer.reply × Answers w (pass_in (as_pass back)) (put_answered answer.reply)) begun (e.1 x is.call))
 
   pub take_tried : (v : PassView T) (k : ℕ) (op : TakeOp T) → IsTaking c op → begun_of c op.pass ≡ v → (r : Stepped (TakeOp T) (Pass T (Line T)) (TakeAnswer T))
       → MadeFor (machine_of c) (take_account c.table.shared.key) id (take_promises c.table.shared.key) k op r → TakeTried c v (joined r)
   take_tried v k op is begun (Again next) e = (record { call = e.2 ∙ is.call; under_way = e.0.under_way }, e.1 ∙ begun)
-  take_tried v k op is begun (Done back answer) e = (record { on = e.0; keeps = tt }, subst (λ (w : PassView T). TakeGives (shape_of c) w (pass_in (as_pass back)) answer.reply) begun e.1)
+  take_tried v k op is begun (Done back answer) e = (record { on = e.0; keeps = tt }, subst (λ (w : PassView T). TakeGives (shape_of c) w (pass_in (as_pass back)) answer.reply × Answers w (pass_in (as_pass back)) (answered.Take answer.reply)) begun e.1)

@@ -5,9 +5,11 @@
 #![tactic(auto)]
 
 mod bounds;
+mod headline;
 mod linearizable;
 mod work;
 
 pub use bounds::{queue_acts_are_a_schedule, queue_steps_are_bounded};
+pub use headline::queue_headline;
 pub use linearizable::queue_acts_are_linearizable;
 pub use work::queue_total_work;

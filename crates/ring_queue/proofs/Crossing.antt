@@ -10,6 +10,9 @@ use Rattle.running.proofs.Crossing.{row_send, lease_send}
 use Rattle.running.specs.contracts.op.Op as op
 use Rattle.ring_table.specs.contracts.line.SeatLine as line
 use Rattle.ring_table.specs.contracts.operation.Operation as operation
+use Rattle.ring_queue.specs.contracts.call_parts.walk.Walk as walk
+use Rattle.ring_queue.specs.contracts.call_parts.walking.Found as found
+use Rattle.ring_queue.specs.contracts.call_parts.walking.WalkAt as walk_at
 use Rattle.ring_queue.specs.contracts.life.ring.AnyOp as own_op
 use Rattle.ring_queue.specs.contracts.calls.closing.MarkAt as mark
 use Rattle.ring_queue.specs.contracts.calls.looking.LookAt as look
@@ -20,12 +23,18 @@ use Rattle.ring_queue.specs.contracts.calls.taking.TakeAt as take
 pub rest_send : (T : RattleType) → IsSend T → IsSend (rest.the_row T)
 rest_send T s = search (sendable, row_send, lease_send, heap_send) depth 20
 
+walk_send : IsSend walk.the_row
+walk_send = search sendable depth 40
+
+found_send : IsSend found.the_row
+found_send = declared_send found.the_type (as_row_send (row_field walk.the_row) walk_send, (search sendable depth 20, tt))
+
 -- state by state, since they are too many for one search
 put_at_send : (T : RattleType) → IsSend T → IsSend (put.the_row T)
-put_at_send T s = variants_send (put.enum T) (search sendable depth 30, (search sendable depth 30, (search sendable depth 30, (search sendable depth 30, (search sendable depth 30, tt)))))
+put_at_send T s = variants_send (put.enum T) (search sendable depth 30, (search sendable depth 30, ((search sendable depth 30, (as_row_send (row_field found.the_row) found_send, tt)), (search sendable depth 30, (search sendable depth 30, tt)))))
 
 take_at_send : (T : RattleType) → IsSend T → IsSend (take.the_row T)
-take_at_send T s = variants_send (take.enum T) (search sendable depth 30, (search sendable depth 30, (search sendable depth 30, (search sendable depth 30, tt))))
+take_at_send T s = variants_send (take.enum T) (search sendable depth 30, ((as_row_send (row_field found.the_row) found_send, tt), (search sendable depth 30, (search sendable depth 30, tt))))
 
 mark_at_send : IsSend mark.the_row
 mark_at_send = search sendable depth 30

@@ -4,7 +4,7 @@ use Rattle.std.proofs.Common.{ap, subst}
 use Rattle.tagged_index.specs.Limits.{capacity_of, passes_of}
 use Rattle.tagged_index.specs.declared.limit.Limits.{Limits}
 use Rattle.bounded_model.specs.declared.commands.Command.TheVariants.{Put as PutCall, Take as TakeCall, Close as CloseCall, Shut as ShutCall, Look as LookCall}
-use Rattle.bounded_model.specs.declared.views.Answered.TheVariants.{Take as TakeAnswered, Close as CloseAnswered, Shut as ShutAnswered}
+use Rattle.bounded_model.specs.declared.views.Answered.TheVariants.{Take as TakeAnswered, Close as CloseAnswered, Shut as ShutAnswered, Look as LookAnswered}
 use Rattle.bounded_model.specs.declared.views.PassView.{PassView}
 use Rattle.bounded_model.specs.Laws.{Answers, PutGives, TakeGives, CloseGives, ShutGives, LookGives, put_answered}
 use Rattle.bounded_model.specs.Machine.{Shape}
@@ -43,5 +43,6 @@ module _ {T : Type 0} (k : Limits) (o : Operation T) (v : View T (SeatLine T)) (
       → ShutGives (shape_at T k) begun (pass_of v) a.reply × Answers begun (pass_of v) (ShutAnswered a.reply)
   shut_gives a is e = let e' = subst (λ (o : Operation T). Ended (machine_at k) o v begun ((mark_account k).answer o a)) is e in (gives.shut_gives (capacity_of k) (laps_at k) (passes_of k) v begun a.kept.index a.reply e', e'.answered)
 
-  pub look_gives : (a : Answered Bool) → is_call LookCall o → Ended (machine_at k) o v begun ((look_account k).answer o a) → LookGives (shape_at T k) begun (pass_of v) a.reply
-  look_gives a is e = gives.look_gives (capacity_of k) (laps_at k) (passes_of k) v begun a.kept.index a.reply (subst (λ (o : Operation T). Ended (machine_at k) o v begun ((look_account k).answer o a)) is e)
+  pub look_gives : (a : Answered Bool) → is_call LookCall o → Ended (machine_at k) o v begun ((look_account k).answer o a)
+      → LookGives (shape_at T k) begun (pass_of v) a.reply × Answers begun (pass_of v) (LookAnswered a.reply)
+  look_gives a is e = (gives.look_gives (capacity_of k) (laps_at k) (passes_of k) v begun a.kept.index a.reply (subst (λ (o : Operation T). Ended (machine_at k) o v begun ((look_account k).answer o a)) is e), e.answered)

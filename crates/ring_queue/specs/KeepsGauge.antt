@@ -1,9 +1,10 @@
 -- What the answers of a count and a gauge say: the laws of their operations.
-use Rattle.std.specs.Prelude.{ℕ}
+use Rattle.std.specs.Prelude.{ℕ, ◌∷◌}
 use Rattle.tagged_index.specs.Limits.{capacity_of, passes_of}
 use Rattle.tagged_index.specs.declared.limit.Limits.{Limits}
+use Rattle.bounded_model.specs.declared.views.Answered.TheVariants.{Len as LenAnswered, Gauge as GaugeAnswered}
 use Rattle.bounded_model.specs.declared.views.PassView.{PassView}
-use Rattle.bounded_model.specs.Laws.{LenGives}
+use Rattle.bounded_model.specs.Laws.{Answers, LenGives}
 use Rattle.machine.specs.Seats.{pass_of}
 use Rattle.machine.specs.declared.seats.View.{View}
 use Rattle.ring_machine.specs.declared.lines.Answer.TheVariants.{Len as AnswerLen, Gauge as AnswerGauge}
@@ -23,13 +24,13 @@ use Rattle.ring_queue.specs.Ring.{Answered}
 
 module _ {T : Type 0} (k : Limits) where
   abbrev pub gauge_promises : Operation T → PassView T → PassView T → Answered Gauge → Type 0
-  gauge_promises o begun now a = GaugeGives (capacity_of k) (laps_at k) begun now a.reply
+  gauge_promises o begun now a = GaugeGives (capacity_of k) (laps_at k) begun now a.reply × Answers begun now (GaugeAnswered a.reply.closed a.reply.used)
 
-  pub gauge_keeps : (at : GaugeAt) (v : View T (SeatLine T)) (begun : PassView T) (a : Answered Gauge) → Ended (machine_at k) GaugeFirst v begun (At (ends a.kept.index (AnswerGauge a.reply.closed a.reply.used))) → GaugeGives (capacity_of k) (laps_at k) begun (pass_of v) a.reply
-  gauge_keeps at v begun a e = gauge_gives (capacity_of k) (laps_at k) (passes_of k) v begun a.kept.index a.reply.closed a.reply.used e
+  pub gauge_keeps : (at : GaugeAt) (v : View T (SeatLine T)) (begun : PassView T) (a : Answered Gauge) → Ended (machine_at k) GaugeFirst v begun (At (ends a.kept.index (AnswerGauge a.reply.closed a.reply.used))) → gauge_promises GaugeFirst begun (pass_of v) a
+  gauge_keeps at v begun a e = (gauge_gives (capacity_of k) (laps_at k) (passes_of k) v begun a.kept.index a.reply.closed a.reply.used e, e.answered)
 
   abbrev pub len_promises : Operation T → PassView T → PassView T → Answered ℕ → Type 0
-  len_promises o begun now a = LenGives (machine_at {T = T} k).core.shape begun now a.reply
+  len_promises o begun now a = LenGives (machine_at {T = T} k).core.shape begun now a.reply × Answers begun now (LenAnswered a.reply)
 
-  pub len_keeps : (at : LenAt) (v : View T (SeatLine T)) (begun : PassView T) (a : Answered ℕ) → Ended (machine_at k) LenFirst v begun (At (ends a.kept.index (AnswerLen a.reply))) → LenGives (machine_at {T = T} k).core.shape begun (pass_of v) a.reply
-  len_keeps at v begun a e = len_gives (capacity_of k) (laps_at k) (passes_of k) v begun a.kept.index a.reply e
+  pub len_keeps : (at : LenAt) (v : View T (SeatLine T)) (begun : PassView T) (a : Answered ℕ) → Ended (machine_at k) LenFirst v begun (At (ends a.kept.index (AnswerLen a.reply))) → len_promises LenFirst begun (pass_of v) a
+  len_keeps at v begun a e = (len_gives (capacity_of k) (laps_at k) (passes_of k) v begun a.kept.index a.reply e, e.answered)

@@ -21,7 +21,7 @@ use Rattle.ring_queue.specs.declared.calls.looking.LookAt.{LookAt}
 use Rattle.ring_queue.specs.Ring.{Answered}
 use Rattle.bounded.specs.declared.bounded.Laid as laid
 use Rattle.ring_queue.specs.Ring.{RingQueue}
-use Rattle.ring_queue.specs.declared.call_parts.walking.Walk.{Walk}
+use Rattle.ring_queue.specs.declared.call_parts.walk.Walk.{Walk}
 use Rattle.ring_queue.specs.declared.call_parts.walking.WalkAt.TheVariants.{LoadSlot}
 use Rattle.ring_queue.specs.Ring.{machine_of}
 use Rattle.ring_queue.specs.Walking.{to_front, walk_line, IsRead}

@@ -4,8 +4,9 @@ use Rattle.std.specs.Prelude.{◌≡◌, ℕ, Bool, Result}
 use Rattle.bounded_model.specs.declared.answers.PutRefused.{PutRefused}
 use Rattle.bounded_model.specs.declared.answers.Stepped.{Stepped}
 use Rattle.bounded_model.specs.declared.answers.TakeRefused.{TakeRefused}
+use Rattle.bounded_model.specs.declared.views.Answered.TheVariants as answered
 use Rattle.bounded_model.specs.declared.views.PassView.{PassView}
-use Rattle.bounded_model.specs.Laws.{LookGives, PutGives, TakeGives}
+use Rattle.bounded_model.specs.Laws.{Answers, LookGives, PutGives, TakeGives, put_answered}
 use Rattle.bounded_model.specs.Stepping.{MatchStepped}
 use Rattle.running.specs.Passes.{begun_of}
 use Rattle.ring_queue.specs.Ring.{Pass}
@@ -22,14 +23,14 @@ module _ {T P : Type 0} {g : laid.Ghosts P T (SeatLine T) (Operation T)} (c : Ri
   abbrev pub PutTried : T → PassView T → Stepped (PutOp T) (Pass T) (Result ℕ (PutRefused T)) → Type 0
   PutTried x begun made = MatchStepped made
       (λ next. IsPutting c x next × (begun_of (machine_of c) next.pass ≡ begun))
-      (λ back answer. IsPassOf c back × PutGives (shape_of c) begun x (pass_in back) answer)
+      (λ back answer. IsPassOf c back × (PutGives (shape_of c) begun x (pass_in back) answer × Answers begun (pass_in back) (put_answered answer)))
 
   abbrev pub LookTried : PassView T → Stepped (LookOp T) (Pass T) Bool → Type 0
   LookTried begun made = MatchStepped made
       (λ next. IsLooking c next × (begun_of (machine_of c) next.pass ≡ begun))
-      (λ back empty. IsPassOf c back × LookGives (shape_of c) begun (pass_in back) empty)
+      (λ back empty. IsPassOf c back × (LookGives (shape_of c) begun (pass_in back) empty × Answers begun (pass_in back) (answered.Look empty)))
 
   abbrev pub TakeTried : PassView T → Stepped (TakeOp T) (Pass T) (Result (T × ℕ) TakeRefused) → Type 0
   TakeTried begun made = MatchStepped made
       (λ next. IsTaking c next × (begun_of (machine_of c) next.pass ≡ begun))
-      (λ back answer. IsPassOf c back × TakeGives (shape_of c) begun (pass_in back) answer)
+      (λ back answer. IsPassOf c back × (TakeGives (shape_of c) begun (pass_in back) answer × Answers begun (pass_in back) (answered.Take answer)))

@@ -18,7 +18,7 @@ use Rattle.bounded.specs.declared.bounded.Laid as laid
 use Rattle.ring_table.specs.declared.operation.Operation.{Operation}
 use Rattle.ring_queue.specs.Ring.{RingQueue}
 use Rattle.ring_queue.specs.declared.life.spare.Spare.{Spare}
-use Rattle.ring_queue.specs.declared.call_parts.walking.Walk.{Walk}
+use Rattle.ring_queue.specs.declared.call_parts.walk.Walk.{Walk}
 use Rattle.ring_queue.specs.declared.call_parts.walking.WalkAt.{WalkAt}
 use Rattle.ring_queue.specs.declared.call_parts.walking.WalkAt.TheVariants.{LoadHint, LoadSlot, MoveHint}
 use Rattle.ring_queue.specs.declared.call_parts.walking.Found.{Found}

@@ -1,3 +1,4 @@
 //! Steps that several calls of a ring make.
 
+pub(crate) mod walk;
 pub(crate) mod walking;

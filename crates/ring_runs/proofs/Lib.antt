@@ -14,3 +14,4 @@ pub mod AtOnce
 mod Fees
 pub mod Total
 mod Ended
+pub mod Tables

@@ -3,3 +3,4 @@ pub mod Bounded
 pub mod Linearizable
 pub mod Work
 pub mod Ended
+pub mod Headline

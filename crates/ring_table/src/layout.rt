@@ -10,11 +10,12 @@ pub const HEAD: usize = 0;
 /// A position near the back.
 pub const TAIL: usize = 16;
 
-const FIRST_SLOT: usize = 32;
+/// The word of the first slot.
+pub const FIRST_SLOT: usize = 32;
 
-// How far apart the words of two slots are.
+/// How far apart the words of two slots are.
 #[inline(always)]
-fn spread(capacity: u32) -> usize
+pub fn spread(capacity: u32) -> usize
     ensures { result ≡ spread capacity }
 {
     if capacity < 64 { 8 } else { 1 }

@@ -21,7 +21,7 @@ use Rattle.machine.proofs.Tests.{same_or_not}
 use Rattle.machine.proofs.Seating.{at_end, left_owns, both_owns, only_first}
 use Rattle.running.specs.Machine.{Names, Machine, IsQuiet}
 use Rattle.running.specs.Rule.{line_now, going_now, quiet, view_after, MayCut, MayLook, MayUnite}
-use Rattle.running.specs.Acts.{Doing, Begins, Steps, Looks, Hears, placed, counted, sum_of, made, Now, having_stepped, after_act, played, IsAllowed, AllProper, AllFresh, answers_at, answers_after, answers_in, HasDone, Worked, Counts, Seen, Sees, IsSame, IsAt, Follows, IsOwned, Led, begun_acts, acts_after}
+use Rattle.running.specs.Acts.{Doing, Begins, Steps, Looks, Hears, placed, counted, sum_of, made, Now, having_stepped, after_act, played, IsAllowed, AllProper, AllFresh, answers_at, answers_after, answers_in, HasDone, Worked, Counts, Seen, Knew, Sees, IsSame, IsAt, Follows, IsOwned, Led, begun_acts, acts_after}
 
 -- a seat that is changed, and another
 set_there : {A : Type 0} (xs : List A) (i : ℕ) (x y : A) → get_elem? xs i ≡ some x → get_elem? (set xs i y) i ≡ some y
@@ -113,9 +113,9 @@ module _ {T L O : Type 0} {names : Names L O} (m : Machine T L O names) where
   splits_owns (AtRoot r heard l) x (inl le) = ⊎_elim (λ e. inr e) (λ l. inl (inl l)) (same_or_less r.given x le)
   splits_owns (AtRoot r heard l) x (inr j) = inl (inr j)
   splits_owns (AtPass p begun l) x o = inl o
-  splits_owns (AtMeeting p k q l) x o = o
+  splits_owns (AtMeeting p xs k q ys l) x o = o
   splits_owns (AtNote told) x o = absurd o
-  splits_owns (AtHearing p l told) x o = inl o
+  splits_owns (AtHearing p xs l told) x o = inl o
   splits_owns Left x o = absurd o
 
   pub both_keeps : (v w : View T L) (x : ℕ) → Owns v x → Owns (both_of names.shares v w) x
@@ -171,23 +171,30 @@ module _ {T L O : Type 0} {names : Names L O} (m : Machine T L O names) where
     same = λ f none. sp.counts f x ne ∙ s.same f none;
   }
 
+  still_knew : (p : ℕ) (acts acts' : Acts L) → Spares p acts acts' → (now : Acts L) (x : ℕ) → x ≢ p → Knew names m.core acts now x → Knew names m.core acts' now x
+  still_knew p acts acts' sp now x ne s = record {
+    others = sp.newer ++ s.others;
+    is = sp.is ∙ ap (λ (k : Acts L). sp.newer ++ k) s.is ∙ sym (append_assoc sp.newer s.others now);
+    same = λ f none deaf. sp.counts f x ne ∙ s.same f none deaf;
+  }
+
   pub spared : (p : ℕ) (acts acts' : Acts L) → Spares p acts acts' → (v : View T L) → ((x : ℕ) → Owns v x → x ≢ p) → Fits acts v → Fits acts' v
   spared p acts acts' sp v off f = record { lines = λ x o. subst (λ (k : L). IsAt names m.core k v) (sym (sp.lines x (off x o))) (f.lines x o); counts = same v off f.counts; sees = seen v off f.sees }
     where
       same : (v : View T L) → ((x : ℕ) → Owns v x → x ≢ p) → Counts names m.core acts v → Counts names m.core acts' v
       same (AtRoot r heard l) off c = (λ x le. still_done p acts acts' sp x 0 [] (off x (inl le)) (c.0 x le), still_worked p acts acts' sp r.account (λ x j. off x (inr j)) r.works c.1)
       same (AtPass q begun l) off c = still_done p acts acts' sp q.number q.steps q.answers (off q.number refl) c
-      same (AtMeeting q k q' l) off c = (still_done p acts acts' sp q.number q.steps q.answers (off q.number (inl refl)) c.0, still_done p acts acts' sp q'.number q'.steps q'.answers (off q'.number (inr refl)) c.1)
+      same (AtMeeting q xs k q' ys l) off c = (still_done p acts acts' sp q.number q.steps q.answers (off q.number (inl refl)) c.0, still_done p acts acts' sp q'.number q'.steps q'.answers (off q'.number (inr refl)) c.1)
       same (AtNote told) off c = tt
-      same (AtHearing q l told) off c = still_done p acts acts' sp q.number q.steps q.answers (off q.number refl) c
+      same (AtHearing q xs l told) off c = still_done p acts acts' sp q.number q.steps q.answers (off q.number refl) c
       same Left off c = tt
 
       seen : (v : View T L) → ((x : ℕ) → Owns v x → x ≢ p) → Sees names m.core acts v → Sees names m.core acts' v
-      seen (AtPass q begun l) off c = λ busy. still_seen p acts acts' sp begun.now q.number (off q.number refl) (c busy)
-      seen (AtRoot r heard l) off c = tt
-      seen (AtMeeting q k q' l) off c = c
+      seen (AtPass q begun l) off c = (λ busy. still_seen p acts acts' sp begun.now q.number (off q.number refl) (c.0 busy), still_knew p acts acts' sp begun.now q.number (off q.number refl) c.1)
+      seen (AtRoot r heard l) off c = λ x le. still_knew p acts acts' sp [] x (off x (inl le)) (c x le)
+      seen (AtMeeting q xs k q' ys l) off c = (c.0, still_knew p acts acts' sp xs q.number (off q.number (inl refl)) c.1, still_knew p acts acts' sp ys q'.number (off q'.number (inr refl)) c.2)
       seen (AtNote told) off c = tt
-      seen (AtHearing q l told) off c = c
+      seen (AtHearing q xs l told) off c = (c.0, still_knew p acts acts' sp xs q.number (off q.number refl) c.1)
       seen Left off c = tt
 
   -- a pass that is at this line, or begins an operation there, makes a step
@@ -318,7 +325,10 @@ module _ {T L O : Type 0} {names : Names L O} (m : Machine T L O names) where
     my = led.each id (AtPass p from l) mine
 
     pub sees_now : names.is_idle l ≡ false → Seen names m.core led.acts from.now p.number
-    sees_now = my.sees
+    sees_now = my.sees.0
+
+    pub knew_now : Knew names m.core led.acts from.now p.number
+    knew_now = my.sees.1
 
     pub rested_now : names.is_idle l ≡ true → names.is_idle ((state led.acts).line p.number) ≡ true
     rested_now e = same_idle p.number l o led.acts h (my.lines p.number refl) led.allowed led.proper ∙ e
@@ -335,6 +345,11 @@ module _ {T L O : Type 0} {names : Names L O} (m : Machine T L O names) where
     pub counts_now : made p.number after_acts ≡ 1 + made p.number led.acts
     counts_now = a.counts
 
+    -- whether its operation goes on or has ended, it knows all acts now
+    now_is : (b : Bool) → (cond b (rested (stepped newer (answers_at names m.core p.answers out) p) after_acts) going).now ≡ after_acts
+    now_is true = refl
+    now_is false = refl
+
     pub own : Fits after_acts view_now
     own = record {
       lines = λ y same. subst (λ (k : L). IsSame names m.core k (quiet names out)) (sym (ap (state after_acts).line same ∙ a.line_after)) (quiet_same out);
@@ -342,7 +357,10 @@ module _ {T L O : Type 0} {names : Names L O} (m : Machine T L O names) where
         steps_are = let c : p.steps ≡ made p.number led.acts = my.counts.steps_are in let d = a.counts in omega arith;
         answers_are = ap (λ (told : List (Answered T)). answers_at names m.core told out) my.counts.answers_are ∙ sym a.replies;
       };
-      sees = λ busy. subst (λ (b : Bool). Seen names m.core after_acts (cond b (rested {L = L} (stepped newer (answers_at names m.core p.answers out) p)) going).now p.number) (sym (sym (quiet_idle out) ∙ busy)) (record { others = []; is = refl; same = λ f none. refl });
+      sees = (
+        λ busy. subst (λ (k : Acts L). Seen names m.core after_acts k p.number) (sym (now_is (names.is_idle out))) (record { others = []; is = refl; same = λ f none. refl }),
+        subst (λ (k : Acts L). Knew names m.core after_acts k p.number) (sym (now_is (names.is_idle out))) (record { others = []; is = refl; same = λ f none deaf. refl }),
+      );
     }
 
     -- what an operation begins with that is begun by this step
@@ -378,8 +396,8 @@ module _ {T L O : Type 0} {names : Names L O} (m : Machine T L O names) where
   -- a load that belongs to no line counts as a step of the seat's first pass
   abbrev looking : Acts L → View T L → Acts L
   looking acts (AtPass p begun l) = (p.number, Looks) ∷ acts
-  looking acts (AtMeeting p k q l) = (p.number, Hears) ∷ acts
-  looking acts (AtHearing p l told) = (p.number, Hears) ∷ acts
+  looking acts (AtMeeting p xs k q ys l) = (p.number, Hears) ∷ acts
+  looking acts (AtHearing p xs l told) = (p.number, Hears) ∷ acts
   looking acts v = acts
 
   module _ (acts : Acts L) where
@@ -389,20 +407,20 @@ module _ {T L O : Type 0} {names : Names L O} (m : Machine T L O names) where
 
     looking_allowed : (v : View T L) → Allowed acts → Allowed (looking acts v)
     looking_allowed (AtPass p begun l) a = (tt, a)
-    looking_allowed (AtMeeting p k q l) a = (tt, a)
-    looking_allowed (AtHearing p l told) a = (tt, a)
+    looking_allowed (AtMeeting p xs k q ys l) a = (tt, a)
+    looking_allowed (AtHearing p xs l told) a = (tt, a)
     looking_allowed v a = a
 
     looking_proper : (v : View T L) → MayLook m v → Proper acts → Proper (looking acts v)
     looking_proper (AtPass p begun l) may a = (may, a)
-    looking_proper (AtMeeting p k q l) may a = (tt, a)
-    looking_proper (AtHearing p l told) may a = (tt, a)
+    looking_proper (AtMeeting p xs k q ys l) may a = (tt, a)
+    looking_proper (AtHearing p xs l told) may a = (tt, a)
     looking_proper v may a = a
 
     looking_fresh : (v : View T L) → Fresh acts → Fresh (looking acts v)
     looking_fresh (AtPass p begun l) a = (tt, a)
-    looking_fresh (AtMeeting p k q l) a = (tt, a)
-    looking_fresh (AtHearing p l told) a = (tt, a)
+    looking_fresh (AtMeeting p xs k q ys l) a = (tt, a)
+    looking_fresh (AtHearing p xs l told) a = (tt, a)
     looking_fresh v a = a
 
     one_more : (k n : ℕ) (d : ℕ) → k ≡ n → d ≡ 1 + n → k + 1 ≡ d
@@ -422,76 +440,90 @@ module _ {T L O : Type 0} {names : Names L O} (m : Machine T L O names) where
       answers_are = ap (λ (told : List (Answered T)). Heard ∷ told) d.answers_are ∙ sym (replies_same p.number Hears acts);
     }
 
+    heard_knew : (x : ℕ) (now : Acts L) → Knew names m.core acts now x → Knew names m.core ((x, Hears) ∷ acts) now x
+    heard_knew x now s = record {
+      others = (x, Hears) ∷ s.others;
+      is = ap (λ (k : Acts L). (x, Hears) ∷ k) s.is;
+      same = λ f none deaf. sum_same f x Hears acts ∙ ap (λ (k : ℕ). k + sum_of f x acts) deaf ∙ nothing_more (sum_of f x acts) ∙ s.same f none deaf;
+    }
+
     looking_own : (h : List (Event T)) (v : View T L) → Knows h v → Fits acts v → Fits (looking acts v) (looked h v)
-    looking_own h (AtRoot r heard l) knows f = record { lines = f.lines; counts = (f.counts.0, f.counts.1); sees = tt }
+    looking_own h (AtRoot r heard l) knows f = record { lines = f.lines; counts = (f.counts.0, f.counts.1); sees = f.sees }
     looking_own h (AtPass p begun l) knows f = record {
       lines = f.lines;
       counts = record {
         steps_are = one_more p.steps (made p.number acts) _ f.counts.steps_are (sum_same counted p.number Looks acts);
         answers_are = f.counts.answers_are ∙ sym (replies_same p.number Looks acts);
       };
-      sees = λ busy. let s = f.sees busy in record {
-        others = (p.number, Looks) ∷ s.others;
-        is = ap (λ (k : Acts L). (p.number, Looks) ∷ k) s.is;
-        same = λ f none. sum_same f p.number Looks acts ∙ ap (λ (k : ℕ). k + sum_of f p.number acts) none ∙ nothing_more (sum_of f p.number acts) ∙ s.same f none;
-      };
+      sees = (
+        λ busy. let s = f.sees.0 busy in record {
+          others = (p.number, Looks) ∷ s.others;
+          is = ap (λ (k : Acts L). (p.number, Looks) ∷ k) s.is;
+          same = λ f none. sum_same f p.number Looks acts ∙ ap (λ (k : ℕ). k + sum_of f p.number acts) none ∙ nothing_more (sum_of f p.number acts) ∙ s.same f none;
+        },
+        let s = f.sees.1 in record {
+          others = (p.number, Looks) ∷ s.others;
+          is = ap (λ (k : Acts L). (p.number, Looks) ∷ k) s.is;
+          same = λ f none deaf. sum_same f p.number Looks acts ∙ ap (λ (k : ℕ). k + sum_of f p.number acts) none ∙ nothing_more (sum_of f p.number acts) ∙ s.same f none deaf;
+        },
+      );
     }
-    looking_own h (AtMeeting p k q l) knows f = record {
+    looking_own h (AtMeeting p xs k q ys l) knows f = record {
       lines = f.lines;
       counts = (
         hearing_done h p f.counts.0,
         still_done p.number acts ((p.number, Hears) ∷ acts) (hear_spares p.number) q.number q.steps q.answers (λ e. knows.2 (sym e)) f.counts.1,
       );
-      sees = f.sees;
+      sees = (f.sees.0, heard_knew p.number xs f.sees.1, still_knew p.number acts ((p.number, Hears) ∷ acts) (hear_spares p.number) ys q.number (λ e. knows.2 (sym e)) f.sees.2);
     }
     looking_own h (AtNote told) knows f = record { lines = f.lines; counts = tt; sees = tt }
-    looking_own h (AtHearing p l told) knows f = record { lines = f.lines; counts = hearing_done h p f.counts; sees = f.sees }
+    looking_own h (AtHearing p xs l told) knows f = record { lines = f.lines; counts = hearing_done h p f.counts; sees = (f.sees.0, heard_knew p.number xs f.sees.1) }
     looking_own h Left knows f = record { lines = f.lines; counts = tt; sees = tt }
 
     looking_other : (v w : View T L) → ((x : ℕ) → Owns w x → Owns v x → ⊥) → Fits acts w → Fits (looking acts v) w
     looking_other (AtPass p begun l) w off f = spared p.number acts ((p.number, Looks) ∷ acts) (look_spares p.number) w (λ y o same. off y o same) f
-    looking_other (AtMeeting p k q l) w off f = spared p.number acts ((p.number, Hears) ∷ acts) (hear_spares p.number) w (λ y o same. off y o (inl same)) f
-    looking_other (AtHearing p l told) w off f = spared p.number acts ((p.number, Hears) ∷ acts) (hear_spares p.number) w (λ y o same. off y o same) f
+    looking_other (AtMeeting p xs k q ys l) w off f = spared p.number acts ((p.number, Hears) ∷ acts) (hear_spares p.number) w (λ y o same. off y o (inl same)) f
+    looking_other (AtHearing p xs l told) w off f = spared p.number acts ((p.number, Hears) ∷ acts) (hear_spares p.number) w (λ y o same. off y o same) f
     looking_other (AtRoot r heard l) w off f = f
     looking_other (AtNote told) w off f = f
     looking_other Left w off f = f
 
     -- a pass between its operations
-    rest_follows : (p : PassView T) (l : L) → IsQuiet names m.core l → names.is_idle ((state acts).line p.number) ≡ true → HasDone names m.core acts p.number p.steps p.answers → Fits acts (at_rest l p)
-    rest_follows p l q idle counts = record {
+    rest_follows : (p : PassView T) (l : L) (xs : Acts L) → IsQuiet names m.core l → names.is_idle ((state acts).line p.number) ≡ true → HasDone names m.core acts p.number p.steps p.answers → Knew names m.core acts xs p.number → Fits acts (at_rest l p xs)
+    rest_follows p l xs q idle counts knew = record {
       lines = λ y same. subst (λ (x : ℕ). IsSame names m.core ((state acts).line x) l) (sym same) (idle_same ((state acts).line p.number) l idle (idle_quiet l q));
       counts = counts;
-      sees = λ busy. absurd (false≢true (sym busy ∙ idle_quiet l q));
+      sees = (λ busy. absurd (false≢true (sym busy ∙ idle_quiet l q)), knew);
     }
 
     left_follows : (v : View T L) → Fits acts v → Fits acts (left_of names.shares v)
-    left_follows (AtRoot r heard l) f = record { lines = λ y o. f.lines y (left_owns names.shares (AtRoot r heard l) y o); counts = (λ y le. f.counts.0 y (omega arith), f.counts.1); sees = tt }
+    left_follows (AtRoot r heard l) f = record { lines = λ y o. f.lines y (left_owns names.shares (AtRoot r heard l) y o); counts = (λ y le. f.counts.0 y (omega arith), f.counts.1); sees = λ y le. f.sees y (omega arith) }
     left_follows (AtPass p begun l) f = f
-    left_follows (AtMeeting p k q l) f = rest_follows p k f.sees.0 (f.lines p.number (inl refl)) f.counts.0
+    left_follows (AtMeeting p xs k q ys l) f = rest_follows p k xs f.sees.0.0 (f.lines p.number (inl refl)) f.counts.0 f.sees.1
     left_follows (AtNote told) f = f
-    left_follows (AtHearing p l told) f = rest_follows p l f.sees (f.lines p.number refl) f.counts
+    left_follows (AtHearing p xs l told) f = rest_follows p l xs f.sees.0 (f.lines p.number refl) f.counts f.sees.1
     left_follows Left f = f
 
     right_follows : (v : View T L) → MayCut m v → Fits acts v → Fits acts (right_of names.shares v)
-    right_follows (AtRoot r heard l) may f = rest_follows (new_pass r) (names.shares.gives l).1 (m.laws.gives_quiet may.0 l may.1 may.2) (f.lines r.given (inl (omega arith))) (f.counts.0 r.given (omega arith))
+    right_follows (AtRoot r heard l) may f = rest_follows (new_pass r) (names.shares.gives l).1 [] (m.laws.gives_quiet may.0 l may.1 may.2) (f.lines r.given (inl (omega arith))) (f.counts.0 r.given (omega arith)) (f.sees r.given (omega arith))
     right_follows (AtPass p begun l) may f = record { lines = λ y o. absurd o; counts = tt; sees = tt }
-    right_follows (AtMeeting p k q l) may f = rest_follows q l f.sees.1 (f.lines q.number (inr refl)) f.counts.1
+    right_follows (AtMeeting p xs k q ys l) may f = rest_follows q l ys f.sees.0.1 (f.lines q.number (inr refl)) f.counts.1 f.sees.2
     right_follows (AtNote told) may f = f
-    right_follows (AtHearing p l told) may f = record { lines = λ y o. absurd o; counts = tt; sees = tt }
+    right_follows (AtHearing p xs l told) may f = record { lines = λ y o. absurd o; counts = tt; sees = tt }
     right_follows Left may f = f
 
     both_follows : (v w : View T L) → MayUnite m v w → Fits acts v → Fits acts w → Fits acts (both_of names.shares v w)
     both_follows (AtRoot r heard l) (AtPass p begun k) may f g = record {
       lines = λ y o. ⊎_elim (λ a. f.lines y a) (λ b. (g.lines y b).idle ∙ idle_quiet k may.1) (both_owns names.shares (AtRoot r heard l) (AtPass p begun k) y o);
       counts = (f.counts.0, ((inl refl, g.counts), worked_more acts r.account (p.number, own_events p.number p.seen) r.works f.counts.1));
-      sees = tt;
+      sees = f.sees;
     }
     both_follows (AtPass p begun k) (AtPass q begun' l) may f g = record {
       lines = λ y o. ⊎_elim (λ a. (f.lines y a).idle ∙ idle_quiet k may.0) (λ b. (g.lines y b).idle ∙ idle_quiet l may.1) o;
       counts = (f.counts, g.counts);
-      sees = may;
+      sees = (may, f.sees.1, g.sees.1);
     }
-    both_follows (AtPass p begun l) (AtNote told) may f g = record { lines = λ y o. (f.lines y o).idle ∙ idle_quiet l may; counts = f.counts; sees = may }
+    both_follows (AtPass p begun l) (AtNote told) may f g = record { lines = λ y o. (f.lines y o).idle ∙ idle_quiet l may; counts = f.counts; sees = (may, f.sees.1) }
     both_follows v w may f g = absurd may
 
   module _ (memory : m.core.Memory) (views : List (View T L)) (h : List (Event T)) (led : Led names m.core memory views h) (seated : Seated m.core.shape m.core.holding h views) where
@@ -576,6 +608,6 @@ module _ {T L O : Type 0} {names : Names L O} (m : Machine T L O names) where
     fresh = tt;
     memory_is = is;
     history_is = refl;
-    each = λ j v e. subst (Fits []) (only_first m.core.shape m.core.holding j (first_view m.core.stock) v e).1 (record { lines = λ y o. m.laws.fresh y; counts = (λ y le. record { steps_are = refl; answers_are = refl }, tt); sees = tt });
+    each = λ j v e. subst (Fits []) (only_first m.core.shape m.core.holding j (first_view m.core.stock) v e).1 (record { lines = λ y o. m.laws.fresh y; counts = (λ y le. record { steps_are = refl; answers_are = refl }, tt); sees = λ y le. record { others = []; is = refl; same = λ f none deaf. refl } });
     owned = λ x. record { seat = 0; view = first_view m.core.stock; there = refl; owns = inl (omega arith) };
   }

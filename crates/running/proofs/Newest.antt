@@ -22,17 +22,17 @@ module _ {T L O : Type 0} {names : Names L O} (m : Machine T L O names) where
   looked_all : (h : List (Event T)) (v : View T L) → HasAll h v → HasAll h (looked h v)
   looked_all h (AtRoot r heard l) a = inl refl
   looked_all h (AtPass p begun l) a = refl
-  looked_all h (AtMeeting p k q l) a = inl refl
+  looked_all h (AtMeeting p xs k q ys l) a = inl refl
   looked_all h (AtNote told) a = a
-  looked_all h (AtHearing p l told) a = inl refl
+  looked_all h (AtHearing p xs l told) a = inl refl
   looked_all h Left a = a
 
   split_all : (h : List (Event T)) (v : View T L) → HasAll h v → HasAll h (left_of names.shares v) ⊎ HasAll h (right_of names.shares v)
   split_all h (AtRoot r heard l) a = inl a
   split_all h (AtPass p begun l) a = inl a
-  split_all h (AtMeeting p k q l) a = a
+  split_all h (AtMeeting p xs k q ys l) a = a
   split_all h (AtNote told) a = inl a
-  split_all h (AtHearing p l told) a = a
+  split_all h (AtHearing p xs l told) a = a
   split_all h Left a = absurd a
 
   -- the root has heard nothing besides what it has seen

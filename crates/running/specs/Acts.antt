@@ -139,9 +139,9 @@ module _ {T L O : Type 0} (names : Names L O) (c : Core T L O) where
   abbrev pub Counts : Acts L → View T L → Type 0
   Counts acts (AtRoot r heard l) = ((x : ℕ) → r.given ≤ x → HasDone acts x 0 []) × Every (Worked acts r.account) r.works
   Counts acts (AtPass p begun l) = HasDone acts p.number p.steps p.answers
-  Counts acts (AtMeeting p k q l) = HasDone acts p.number p.steps p.answers × HasDone acts q.number q.steps q.answers
+  Counts acts (AtMeeting p xs k q ys l) = HasDone acts p.number p.steps p.answers × HasDone acts q.number q.steps q.answers
   Counts acts (AtNote told) = Unit {0}
-  Counts acts (AtHearing p l told) = HasDone acts p.number p.steps p.answers
+  Counts acts (AtHearing p xs l told) = HasDone acts p.number p.steps p.answers
   Counts acts Left = Unit {0}
 
   -- what a pass in an operation knows of the acts: those that it has seen, and since then it has done nothing but look
@@ -150,11 +150,19 @@ module _ {T L O : Type 0} (names : Names L O) (c : Core T L O) where
     pub is : acts ≡ others ++ now
     pub same : (f : Doing L → ℕ) → f Looks ≡ 0 → sum_of f x acts ≡ sum_of f x now
 
-  -- passes that meet, or hear a note, are between their operations
+  -- what any pass knows of them: the acts at its last step, and since then it has done nothing but look and hear
+  pub record Knew (acts now : Acts L) (x : ℕ) : Type 0 where
+    pub others : Acts L
+    pub is : acts ≡ others ++ now
+    pub same : (f : Doing L → ℕ) → f Looks ≡ 0 → f Hears ≡ 0 → sum_of f x acts ≡ sum_of f x now
+
+  -- A pass knows the acts at its last step; one that is not given yet knows none. Passes that meet, or hear a note, are between their
+  -- operations
   abbrev pub Sees : Acts L → View T L → Type 0
-  Sees acts (AtPass p begun l) = names.is_idle l ≡ false → Seen acts begun.now p.number
-  Sees acts (AtMeeting p k q l) = IsQuiet names c k × IsQuiet names c l
-  Sees acts (AtHearing p l told) = IsQuiet names c l
+  Sees acts (AtRoot r heard l) = (x : ℕ) → r.given ≤ x → Knew acts [] x
+  Sees acts (AtPass p begun l) = (names.is_idle l ≡ false → Seen acts begun.now p.number) × Knew acts begun.now p.number
+  Sees acts (AtMeeting p xs k q ys l) = (IsQuiet names c k × IsQuiet names c l) × Knew acts xs p.number × Knew acts ys q.number
+  Sees acts (AtHearing p xs l told) = IsQuiet names c l × Knew acts xs p.number
   Sees acts v = Unit {0}
 
   -- a pass that is at a line by its steps is at this one by its seat: both are idle, or they are one

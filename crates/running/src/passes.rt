@@ -1,5 +1,5 @@
 //! The passes and the root of a container, for all machines.
-ghost use Rattle.std.specs.Prelude.{◌≡◌, ◌<◌, IfSome, MatchOption};
+ghost use Rattle.std.specs.Prelude.{◌≡◌, ◌<◌, IfSome, IsSome, MatchOption, true};
 ghost use Rattle.bounded_model.specs.Laws.{IsFullOfPasses, Splits, Joins, Heeds, MeetGives};
 ghost use Rattle.running.specs.Passes.{
   IsPassOn,
@@ -74,9 +74,8 @@ pub fn split<T, L, O, M: Machine<T, L, O>>(
     })
 }
 
-/// Lets the first pass see what the second has seen. The second comes back as it was. This code
-/// always answers true, since the table never lacks a seat. The contract also allows false, with
-/// the first pass as it was.
+/// Lets the first pass see what the second has seen. The second comes back as it was. The answer is
+/// always true, because a table never lacks a seat.
 pub fn meet<T, L, O, M: Machine<T, L, O>>(
     table: &Shared<Option<T>, View<T, L>, Limits, Running<O, M>>,
     first: &mut Pass<T, L>,
@@ -89,6 +88,7 @@ pub fn meet<T, L, O, M: Machine<T, L, O>>(
     ensures second { IsPassOn (M.machine table.now.key) table.now.table_id result.0
         × (pass_in result.0 ≡ pass_in second) }
     ensures gives { MeetGives (pass_in first.old) (pass_in second) (pass_in first.new) result.1 }
+    ensures met { result.1 ≡ true }
     ensures lines { (pass_line M.names first.new ≡ pass_line M.names first.old)
         × (pass_line M.names result.0 ≡ pass_line M.names second) }
 {
@@ -99,8 +99,8 @@ pub fn meet<T, L, O, M: Machine<T, L, O>>(
     (Pass { seat, density }, true)
 }
 
-/// Makes a note of what the pass has seen. This code always makes one, since the table never lacks
-/// a seat. The contract also allows `None`.
+/// Makes a note of what the pass has seen. The answer is always some note, because a table never
+/// lacks a seat.
 pub fn make_note<T, L, O, M: Machine<T, L, O>>(
     table: &Shared<Option<T>, View<T, L>, Limits, Running<O, M>>,
     by: &mut Pass<T, L>,
@@ -111,6 +111,7 @@ pub fn make_note<T, L, O, M: Machine<T, L, O>>(
         × (pass_in by.new ≡ pass_in by.old) }
     ensures gives { IfSome result (λ n. IsNoteOn (M.machine table.now.key) table.now.table_id n
         × (told_in n ≡ (pass_in by.old).seen)) }
+    ensures made { IsSome result }
     ensures lines { pass_line M.names by.new ≡ pass_line M.names by.old }
 {
     let seat = split_seat::<T, L, O, M>(table, &mut by.seat);

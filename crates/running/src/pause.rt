@@ -7,8 +7,10 @@ use backoff::{Density, Pause};
 use machine::View;
 use tagged_index::Limits;
 
-/// The word that a pass looks at. In every table it is the top of the free cells or nodes. Each put
-/// and each take of a value changes it.
+/// The word that a pass looks at. In a queue and a stack it is the top of the free cells or nodes,
+/// which each put and each take of a value changes. In a ring it is a position near the front,
+/// which only some takes change. So a ring's pass may miss that another thread was busy. It then
+/// waits a little shorter than it could, and no promise depends on that.
 const WATCHED: usize = 0;
 
 /// The density when a call begins. If the last call kept a hash, this call looks whether other

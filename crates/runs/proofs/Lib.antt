@@ -7,3 +7,4 @@ pub mod Sums
 pub mod Points
 pub mod Costs
 pub mod Work
+pub mod Table

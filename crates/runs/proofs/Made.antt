@@ -111,7 +111,7 @@ module _ {T L O : Type 0} {names : Names L O} (m : Machine T L O names) where
     acts = line.rule.led.acts
 
     acts_are : acts_now v' ≡ (x, Steps) ∷ cond (names.is_idle (line_in names v)) ((x, Begins l) ∷ acts) acts
-    acts_are = line.knows busy ∙ line.acts
+    acts_are = line.knows ∙ line.acts
 
     pub one_more : (n : ℕ) → HasMade names o v n → HasMade names o v' (n + 1)
     one_more n h = record { none = λ e. absurd (false≢true (sym at_line ∙ e)); some = λ _. ((course_in g' at_line).0, record { since = k.since; is = k.is; once = k.once; steps = ap (λ (y : ℕ). steps_in y k.since) number ∙ by_test (names.is_idle (line_in names v)) refl }) }

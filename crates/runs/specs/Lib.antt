@@ -2,3 +2,4 @@ pub mod Runs
 pub mod Heard
 pub mod Made
 pub mod Work
+pub mod Table

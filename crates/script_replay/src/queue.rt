@@ -13,13 +13,14 @@ ghost use Rattle.player.specs.Traces.{Adds, lines_in};
 ghost use Rattle.script_replay.specs.Outcome.{IsOutputIn};
 ghost use Rattle.script_replay.specs.Traced.{IsTracedIn};
 
-use bounded_model::{Command, MakeRefused, Reply, Stepped, Stepwise, TakeRefused};
-use ms_queue::{AnyOp, Pass, Queue, Root};
+use bounded::{NamesSteps, Steps};
+use bounded_model::{Command, MakeRefused, Reply, Stepped, TakeRefused};
+use ms_queue::{AnyOp, Pass, Queue, Queued, Root};
 use player::{Scripted, Trace, play};
 use script::{RangeReply, Script, Value, ValueList, Values};
 use std::alloc::{AllocError, Global};
 use std::sync::Wait;
-use step_names::{Named, StepName};
+use step_names::StepName;
 use tagged_index::Limits;
 
 /// The calls of a queue's script. No line of it names a range or a fold: a range hands its values
@@ -46,18 +47,18 @@ impl<'a> Scripted<'a, Queue<Value<'a>>> for QueueLines {
         ensures call { IsMakingCall queue.now command.entry result }
         ensures begun { making result ≡ no_step (pass_in by.entry) }
     {
-        queue.begin(by, command)
+        Queued::begin(queue, by, command)
     }
 
     fn step(
         queue: &Queue<Value<'a>>,
         op: AnyOp<Value<'a>>,
     ) -> Stepped<AnyOp<Value<'a>>, Pass<Value<'a>>, Reply<Value<'a>>> {
-        queue.step(op)
+        Queued::step(queue, op)
     }
 
     fn step_name(op: &AnyOp<Value<'a>>) -> StepName {
-        Queue::<Value<'a>>::step_name(op)
+        Queued::step_name(op)
     }
 
     fn look<R: Wait>(
@@ -65,7 +66,7 @@ impl<'a> Scripted<'a, Queue<Value<'a>>> for QueueLines {
         rt: &R,
         by: Pass<Value<'a>>,
     ) -> (Pass<Value<'a>>, bool) {
-        queue.look(rt, by)
+        Queued::look(queue, rt, by)
     }
 
     fn range<R: Wait>(
@@ -99,7 +100,7 @@ fn new_queue<'a>(
     ensures { IfOk result (λ made. (made.0.table.shared.key ≡ limits) × IsRootOf made.0 made.1
         × (root_in made.1 ≡ fresh)) }
 {
-    Queue::new(alloc, limits)
+    <Queued as bounded::Parts<_, _, _, _, _, 2>>::make(alloc, limits)
 }
 
 /// Plays a queue's script, and adds its steps to the trace. `NoMemory` if memory ran out for the

@@ -15,17 +15,18 @@ ghost use Rattle.script.specs.View.{head_view};
 ghost use Rattle.treiber_stack.specs.Stack.{IsPassOf, IsRootOf, pass_in, root_in, shape_of};
 ghost use Rattle.treiber_stack.specs.Stepwise.{IsMakingCall, making};
 
+use bounded::{NamesSteps, Steps};
 use bounded_model::{
-    Command, Folded, MakeRefused, RangeRefused, Ranged, Reply, Stepped, Stepwise, TakeRefused,
+    Command, Folded, MakeRefused, RangeRefused, Ranged, Reply, Stepped, TakeRefused,
 };
 use player::{Scripted, Trace, play};
 use script::{RangeReply, Script, Value, ValueList, Values};
 use std::alloc::{AllocError, Global};
 use std::sync::Wait;
-use step_names::{Named, StepName};
+use step_names::StepName;
 use tagged_index::Limits;
 use treiber_stack::{
-    AnyOp, Pass, Root, Stack, fold_all_atomic, fold_all_atomic_reversed, put_range,
+    AnyOp, Pass, Root, Stack, Stacked, fold_all_atomic, fold_all_atomic_reversed, put_range,
 };
 
 /// The calls of a stack's script.
@@ -51,18 +52,18 @@ impl<'a> Scripted<'a, Stack<Value<'a>>> for StackLines {
         ensures call { IsMakingCall stack.now command.entry result }
         ensures begun { making result ≡ no_step (pass_in by.entry) }
     {
-        stack.begin(by, command)
+        Stacked::begin(stack, by, command)
     }
 
     fn step(
         stack: &Stack<Value<'a>>,
         op: AnyOp<Value<'a>>,
     ) -> Stepped<AnyOp<Value<'a>>, Pass<Value<'a>>, Reply<Value<'a>>> {
-        stack.step(op)
+        Stacked::step(stack, op)
     }
 
     fn step_name(op: &AnyOp<Value<'a>>) -> StepName {
-        Stack::<Value<'a>>::step_name(op)
+        Stacked::step_name(op)
     }
 
     fn look<R: Wait>(
@@ -70,7 +71,7 @@ impl<'a> Scripted<'a, Stack<Value<'a>>> for StackLines {
         rt: &R,
         by: Pass<Value<'a>>,
     ) -> (Pass<Value<'a>>, bool) {
-        stack.look(rt, by)
+        Stacked::look(stack, rt, by)
     }
 
     fn range<R: Wait>(
@@ -201,7 +202,7 @@ fn new_stack<'a>(
     ensures { IfOk result (λ made. (made.0.table.shared.key ≡ limits) × IsRootOf made.0 made.1
         × (root_in made.1 ≡ fresh)) }
 {
-    Stack::new(alloc, limits)
+    <Stacked as bounded::Parts<_, _, _, _, _, 2>>::make(alloc, limits)
 }
 
 /// Plays a stack's script, and adds its steps to the trace. `NoMemory` if memory ran out for the

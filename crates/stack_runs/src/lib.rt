@@ -6,9 +6,11 @@
 #![tactic(auto)]
 
 mod bounds;
+mod headline;
 mod linearizable;
 mod work;
 
 pub use bounds::{stack_acts_are_a_schedule, stack_steps_are_bounded};
+pub use headline::stack_headline;
 pub use linearizable::stack_acts_are_linearizable;
 pub use work::stack_total_work;

@@ -86,9 +86,9 @@ module _ {T P : Type 0} {g : laid.Ghosts P T (Line T) (Operation T)} (c : Stack 
   pub may_look : (v : View T (Line T)) → MayLook (machine_of c) v
   may_look (AtPass p begun l) = tt
   may_look (AtRoot r heard l) = tt
-  may_look (AtMeeting p k q l) = tt
+  may_look (AtMeeting p xs k q ys l) = tt
   may_look (AtNote told) = tt
-  may_look (AtHearing p l told) = tt
+  may_look (AtHearing p xs l told) = tt
   may_look Left = tt
 
   module _ (o : Operation T) where
@@ -132,6 +132,7 @@ module _ {T P : Type 0} {g : laid.Ghosts P T (Line T) (Operation T)} (c : Stack 
           tells = Sometime-wider (Later-refl begun.seen) (record { more = adds.between; is = adds.seen }) g.tells;
           course = λ busy. let was = g.course busy in (was.0, subst (λ (k : ℕ). Course names (machine_of c).core g.from.before g.from.now k (names.first o was.0) g.at) (sym adds.number) was.1);
           counted = λ busy. subst (λ (k : ℕ). begun.steps ≡ made k g.from.before) (sym adds.number) (g.counted busy);
+          earlier = g.earlier;
           answers = looked.2 ∙ g.answers;
         }
 

@@ -9,7 +9,7 @@ use Rattle.bounded_model.specs.declared.commands.Command.TheVariants.{Put as Put
 use Rattle.bounded_model.specs.declared.history.Event.{Event}
 use Rattle.bounded_model.specs.declared.history.Event.TheVariants.{Put, Hold, Take, Free, Close, Shut as ShutEvent}
 use Rattle.bounded_model.specs.declared.views.Answered as told
-use Rattle.bounded_model.specs.declared.views.Answered.TheVariants.{Take as TakeAnswered, Close as CloseAnswered, Shut as ShutAnswered}
+use Rattle.bounded_model.specs.declared.views.Answered.TheVariants.{Take as TakeAnswered, Close as CloseAnswered, Shut as ShutAnswered, Look as LookAnswered}
 use Rattle.bounded_model.specs.declared.views.PassView.{PassView}
 use Rattle.bounded_model.specs.Histories.{own}
 use Rattle.bounded_model.specs.Laws.{Adds, Answers, BacksOut, PutGives, TakeGives, CloseGives, ShutGives, LookGives, holds_of, gave_back, in_list, put_answered}
@@ -132,37 +132,38 @@ module _ {T : Type 0} (k : Limits) (o : Operation T) (v : View T (Line T)) (begu
   pub looked : (empty : Bool) → Ended (machine_at k) LookFirst v begun (ends (AnswerLook empty)) → LookGives (shape_at k) begun (pass_of v) empty
   looked empty e = (adds_of k e [] e.deeds.made, e.tells)
 
-  pub look_gives : (a : Answered Bool) → is_call LookCall o → Ended (machine_at k) o v begun ((look_account k).answer o a) → LookGives (shape_at k) begun (pass_of v) a.reply
-  look_gives a is e = looked a.reply (subst (λ (o : Operation T). Ended (machine_at k) o v begun ((look_account k).answer o a)) is e)
+  pub look_gives : (a : Answered Bool) → is_call LookCall o → Ended (machine_at k) o v begun ((look_account k).answer o a)
+      → LookGives (shape_at k) begun (pass_of v) a.reply × Answers begun (pass_of v) (LookAnswered a.reply)
+  look_gives a is e = (looked a.reply (subst (λ (o : Operation T). Ended (machine_at k) o v begun ((look_account k).answer o a)) is e), e.answered)
 
 -- and what each operation promises. A put promises it of each value that it is a put of, and no operation but a close or a shut sets a mark
 module _ {T : Type 0} (k : Limits) where
   abbrev pub put_promises : Operation T → PassView T → PassView T → PutAnswer T → Type 0
-  put_promises o begun now a = (x : T) → is_call (PutCall x) o → PutGives (shape_at k) begun x now a.reply
+  put_promises o begun now a = (x : T) → is_call (PutCall x) o → PutGives (shape_at k) begun x now a.reply × Answers begun now (put_answered a.reply)
 
   abbrev pub take_promises : Operation T → PassView T → PassView T → TakeAnswer T → Type 0
-  take_promises o begun now a = TakeGives (shape_at k) begun now a.reply
+  take_promises o begun now a = TakeGives (shape_at k) begun now a.reply × Answers begun now (TakeAnswered a.reply)
 
   abbrev pub mark_promises : Operation T → PassView T → PassView T → Answered Bool → Type 0
-  mark_promises CloseFirst begun now a = CloseGives (shape_at k) begun now a.reply
-  mark_promises ShutFirst begun now a = ShutGives (shape_at k) begun now a.reply
+  mark_promises CloseFirst begun now a = CloseGives (shape_at k) begun now a.reply × Answers begun now (CloseAnswered a.reply)
+  mark_promises ShutFirst begun now a = ShutGives (shape_at k) begun now a.reply × Answers begun now (ShutAnswered a.reply)
   mark_promises o begun now a = ⊥
 
   abbrev pub look_promises : Operation T → PassView T → PassView T → Answered Bool → Type 0
-  look_promises o begun now a = LookGives (shape_at k) begun now a.reply
+  look_promises o begun now a = LookGives (shape_at k) begun now a.reply × Answers begun now (LookAnswered a.reply)
 
   pub put_keeps : (at : PutAt T) (v : View T (Line T)) (begun : PassView T) (a : PutAnswer T) → Ended (machine_at k) (put_of (put_value at)) v begun ((put_account k).answer (put_of (put_value at)) a) → put_promises (put_of (put_value at)) begun (pass_of v) a
-  put_keeps at v begun a e x is = (put_gives k (put_of (put_value at)) v begun x a is e).0
+  put_keeps at v begun a e x is = put_gives k (put_of (put_value at)) v begun x a is e
 
-  pub take_keeps : (at : TakeAt T) (v : View T (Line T)) (begun : PassView T) (a : TakeAnswer T) → Ended (machine_at k) TakeFirst v begun ((take_account k).answer TakeFirst a) → TakeGives (shape_at k) begun (pass_of v) a.reply
-  take_keeps at v begun a e = (take_gives k TakeFirst v begun a refl e).0
+  pub take_keeps : (at : TakeAt T) (v : View T (Line T)) (begun : PassView T) (a : TakeAnswer T) → Ended (machine_at k) TakeFirst v begun ((take_account k).answer TakeFirst a) → take_promises TakeFirst begun (pass_of v) a
+  take_keeps at v begun a e = take_gives k TakeFirst v begun a refl e
 
   mark_so : (mark : Mark) (v : View T (Line T)) (begun : PassView T) (a : Answered Bool) → Ended (machine_at k) (mark_name mark) v begun ((mark_account k).answer (mark_name mark) a) → mark_promises (mark_name mark) begun (pass_of v) a
-  mark_so mark.Closed v begun a e = (close_gives k CloseFirst v begun a refl e).0
-  mark_so mark.Shut v begun a e = (shut_gives k ShutFirst v begun a refl e).0
+  mark_so mark.Closed v begun a e = close_gives k CloseFirst v begun a refl e
+  mark_so mark.Shut v begun a e = shut_gives k ShutFirst v begun a refl e
 
   pub mark_keeps : (at : MarkAt) (v : View T (Line T)) (begun : PassView T) (a : Answered Bool) → Ended (machine_at k) (mark_name (sets at)) v begun ((mark_account k).answer (mark_name (sets at)) a) → mark_promises (mark_name (sets at)) begun (pass_of v) a
   mark_keeps at v begun a e = mark_so (sets at) v begun a e
 
-  pub look_keeps : (at : LookAt) (v : View T (Line T)) (begun : PassView T) (a : Answered Bool) → Ended (machine_at k) LookFirst v begun ((look_account k).answer LookFirst a) → LookGives (shape_at k) begun (pass_of v) a.reply
+  pub look_keeps : (at : LookAt) (v : View T (Line T)) (begun : PassView T) (a : Answered Bool) → Ended (machine_at k) LookFirst v begun ((look_account k).answer LookFirst a) → look_promises LookFirst begun (pass_of v) a
   look_keeps at v begun a e = look_gives k LookFirst v begun a refl e

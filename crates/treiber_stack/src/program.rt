@@ -17,6 +17,7 @@ ghost use Rattle.bounded_model.specs.declared.views.Answered.TheVariants.{
   Take as TakeAnswered,
   Close as CloseAnswered,
   Shut as ShutAnswered,
+  Look as LookAnswered,
 };
 ghost use Rattle.bounded.specs.Bounded.{pass_in, root_in};
 ghost use Rattle.treiber_stack.specs.Left.{left_in};
@@ -172,6 +173,7 @@ impl<T: Drop + Send> Steps<Stack<T>, T, Line<T>, Operation<T>, Stacked, 2> for S
         requires { IsPassOf on.now by }
         ensures of { IsPassOf on.now result.0 }
         ensures gives { LookGives (shape_of on.now) (pass_in by) (pass_in result.0) result.1 }
+        ensures answered { Answers (pass_in by) (pass_in result.0) (LookAnswered result.1) }
     {
         on.look_whole(rt, by)
     }

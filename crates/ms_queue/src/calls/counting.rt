@@ -1,7 +1,8 @@
 //! How many values a queue holds: by steps, and by a whole call.
 ghost use Rattle.std.specs.Prelude.{◌≡◌};
-ghost use Rattle.bounded_model.specs.Laws.{LenGives};
+ghost use Rattle.bounded_model.specs.Laws.{Answers, LenGives};
 ghost use Rattle.bounded_model.specs.Stepping.{no_step};
+ghost use Rattle.bounded_model.specs.declared.views.Answered.TheVariants.{Len as LenAnswered};
 ghost use Rattle.queue_machine.specs.declared.lines.Answer.TheVariants.{Len as AnswerLen};
 ghost use Rattle.queue_table.specs.declared.operation.Operation.TheVariants.{Len as LenFirst};
 ghost use Rattle.running.specs.Ops.{underway_of};
@@ -46,6 +47,7 @@ pub fn len<T, R: Wait>(on: &Queue<T>, rt: &R, by: Pass<T>) -> (Pass<T>, u32)
     requires { IsPassOf on.now by }
     ensures of { IsPassOf on.now result.0 }
     ensures gives { LenGives (shape_of on.now) (pass_in by) (pass_in result.0) result.1 }
+    ensures answered { Answers (pass_in by) (pass_in result.0) (LenAnswered result.1) }
     ensures ran { WasRun on.now LenFirst (pass_in by) result.0 (AnswerLen result.1) }
 {
     let Pass { pass, .. } = by;

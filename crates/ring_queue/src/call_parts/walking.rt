@@ -11,6 +11,7 @@ ghost use Rattle.running.specs.Code.{IsAccess};
 ghost use Rattle.ring_queue.specs.Ring.{room_of, machine_of};
 ghost use Rattle.ring_queue.specs.Walking.{Aim, hint_of, full_of, walk_line, IsRead, WalkedTo};
 
+pub use crate::call_parts::walk::Walk;
 use crate::life::ring::RingQueue;
 use crate::life::spare::Spare;
 use ring_table::layout;
@@ -19,39 +20,6 @@ use tagged_index::Tagged;
 
 /// A walk passes fewer positions than this, and then moves the hint.
 pub(crate) const STRIDE: u32 = 8;
-
-/// A walk along the positions: a position's index says which slot, and its tag in which lap.
-#[derive(Clone, Copy)]
-pub struct Walk {
-    /// The spare cell of the pass.
-    pub(crate) spare: Spare,
-    /// The hint that was read.
-    pub(crate) from: Tagged,
-    /// The position that the walk has come to.
-    pub(crate) at: Tagged,
-    /// How many positions it has passed.
-    pub(crate) gone: u32,
-    /// How many slots the ring has. The ring knows it too, but after each atomic step the compiler
-    /// would read it there anew.
-    pub(crate) room: u32,
-}
-
-impl Walk {
-    /// A walk from this hint, in a ring of this number of slots.
-    #[inline(always)]
-    pub(crate) fn from(spare: Spare, hint: Tagged, room: u32) -> Walk
-        ensures { result
-            ≡ record { spare = spare; from = hint; at = hint; gone = 0; room = room } }
-    {
-        Walk {
-            spare,
-            from: hint,
-            at: hint,
-            gone: 0,
-            room,
-        }
-    }
-}
 
 /// The next step of a walk.
 #[derive(Clone, Copy)]
@@ -79,15 +47,6 @@ pub(crate) fn slot_of<T>(on: &RingQueue<T>, at: Tagged) -> usize
     layout::slot(on.limits.capacity(), at.index())
 }
 
-// Makes the word of a slot on a walk.
-#[inline(always)]
-fn slot_on<T>(on: &RingQueue<T>, room: u32, at: Tagged) -> usize
-    requires { room ≡ room_of on.now }
-    ensures { result ≡ slot_at (room_of on.now) (index_of at) }
-{
-    layout::slot(room, at.index())
-}
-
 /// The number of a position.
 #[inline(always)]
 pub(crate) fn place_of<T>(on: &RingQueue<T>, at: Tagged) -> u64
@@ -102,17 +61,7 @@ pub(crate) fn behind<T>(on: &RingQueue<T>, at: Tagged) -> Tagged
     requires { (index_of at < room_of on.now) × (tag_of at < MAX_TAG) }
     ensures { fields_of result ≡ behind (room_of on.now) (fields_of at) }
 {
-    behind_on(on, on.limits.capacity(), at)
-}
-
-// The next position on a walk.
-#[inline(always)]
-fn behind_on<T>(on: &RingQueue<T>, room: u32, at: Tagged) -> Tagged
-    requires room { room ≡ room_of on.now }
-    requires at { (index_of at < room_of on.now) × (tag_of at < MAX_TAG) }
-    ensures { fields_of result ≡ behind (room_of on.now) (fields_of at) }
-{
-    if at.index() + 1 == room {
+    if at.index() + 1 == on.limits.capacity() {
         raised(at, 0)
     } else {
         at.kept(at.index() + 1)
@@ -129,7 +78,7 @@ pub(crate) fn walk_access<T>(on: &RingQueue<T>, hint: usize, at: &WalkAt) -> Acc
 {
     match at {
         WalkAt::LoadHint(_) => Access::Load(hint),
-        WalkAt::LoadSlot(walk) => Access::Load(slot_on(on, walk.room, walk.at)),
+        WalkAt::LoadSlot(walk) => Access::Load(walk.place),
         WalkAt::MoveHint(walk) => Access::Swap(hint, walk.from, walk.at),
     }
 }
@@ -156,14 +105,10 @@ pub(crate) fn walk_on<T>(
         }
         WalkAt::LoadSlot(walk) => {
             let slot = Tagged::from_word(outcome.word);
-            if slot.tag() <= 2 * walk.at.tag() + full {
+            if slot.tag() <= walk.empty + full {
                 return Next::Done(Found { walk, slot });
             }
-            let further = Walk {
-                at: behind_on(on, walk.room, walk.at),
-                gone: walk.gone + 1,
-                ..walk
-            };
+            let further = walk.further();
             if further.gone == STRIDE {
                 return Next::On(WalkAt::MoveHint(further));
             }

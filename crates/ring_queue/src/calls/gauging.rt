@@ -1,6 +1,8 @@
 //! Gauging a ring: whether it is closed, and how many values were put. By steps, and by a whole call.
 ghost use Rattle.std.specs.Prelude.{◌≡◌};
+ghost use Rattle.bounded_model.specs.Laws.{Answers};
 ghost use Rattle.bounded_model.specs.Stepping.{no_step};
+ghost use Rattle.bounded_model.specs.declared.views.Answered.TheVariants.{Gauge as GaugeAnswered};
 ghost use Rattle.ring_machine.specs.declared.lines.Answer.TheVariants.{Gauge as AnswerGauge};
 ghost use Rattle.ring_table.specs.declared.operation.Operation.TheVariants.{Gauge as GaugeFirst};
 ghost use Rattle.running.specs.Ops.{underway_of};
@@ -45,6 +47,8 @@ pub fn read_gauge<T, R: Wait>(on: &RingQueue<T>, rt: &R, by: Pass<T>) -> (Pass<T
     ensures of { IsPassOf on.now result.0 }
     ensures gives { GaugeGives (room_of on.now) (laps_of on.now)
         (pass_in by) (pass_in result.0) result.1 }
+    ensures answered { Answers (pass_in by) (pass_in result.0)
+        (GaugeAnswered result.1.closed result.1.used) }
     ensures ran { WasRun on.now GaugeFirst (pass_in by) result.0 (AnswerGauge result.1.closed result.1.used) }
 {
     let Pass { pass, kept } = by;

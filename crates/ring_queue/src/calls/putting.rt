@@ -79,9 +79,7 @@ fn tag_limit<T>(on: &RingQueue<T>) -> u64
 fn has_room<T>(on: &RingQueue<T>, end: &Found) -> bool
     ensures { result ≡ has_room (laps_of on.now) end.now.walk.at end.now.slot }
 {
-    !end.slot.is_marked()
-        && end.slot.tag() == 2 * end.walk.at.tag()
-        && end.slot.tag() + 1 < tag_limit(on)
+    !end.slot.is_marked() && end.slot.tag() == end.walk.empty && end.slot.tag() + 1 < tag_limit(on)
 }
 
 impl<T> Code<RingQueue<T>, T, SeatLine<T>, Operation<T>, Ringed, Answered<Answer<T>>, 0>
@@ -102,7 +100,7 @@ impl<T> Code<RingQueue<T>, T, SeatLine<T>, Operation<T>, Ringed, Answered<Answer
             PutAt::Walking(_, at) => walk_access(on, TAIL, at),
             PutAt::Exchange(_, end) => {
                 let new = raised(end.slot, end.walk.spare.index);
-                Access::Return(slot_of(on, end.walk.at), end.slot, new)
+                Access::Return(end.walk.place, end.slot, new)
             }
             PutAt::PassTail(_, walk) => Access::Swap(TAIL, walk.from, behind(on, walk.at)),
             PutAt::Stow(walk, _) => Access::Stow(slot_of(on, walk.at)),
@@ -146,12 +144,9 @@ impl<T> Code<RingQueue<T>, T, SeatLine<T>, Operation<T>, Ringed, Answered<Answer
                     return Next::On(PutAt::Walking(shown, again));
                 }
                 // The put has its effect here; the cell that lay in the slot is the spare one now.
-                let walk = Walk {
-                    spare: Spare {
-                        index: end.slot.index(),
-                    },
-                    ..end.walk
-                };
+                let walk = end.walk.with(Spare {
+                    index: end.slot.index(),
+                });
                 if walk.gone + 1 == STRIDE {
                     return Next::On(PutAt::PassTail(shown, walk));
                 }

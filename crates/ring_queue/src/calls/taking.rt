@@ -44,7 +44,7 @@ fn refusal(end: &Found) -> Option<TakeRefused>
     if end.slot.has_second() {
         return Some(TakeRefused::Shut);
     }
-    if end.slot.tag() == 2 * end.walk.at.tag() + 1 {
+    if end.slot.tag() == end.walk.empty + 1 {
         return None;
     }
     if end.slot.is_marked() {
@@ -70,7 +70,7 @@ impl<T> Code<RingQueue<T>, T, SeatLine<T>, Operation<T>, Ringed, Answered<Answer
             TakeAt::Walking(at) => walk_access(on, HEAD, at),
             TakeAt::Exchange(end) => {
                 let new = raised(end.slot, end.walk.spare.index);
-                Access::Bring(slot_of(on, end.walk.at), end.slot, new)
+                Access::Bring(end.walk.place, end.slot, new)
             }
             TakeAt::PassHead(walk, _) => Access::Swap(HEAD, walk.from, behind(on, walk.at)),
             TakeAt::Stow(walk, _) => Access::Stow(slot_of(on, walk.at)),
@@ -105,10 +105,7 @@ impl<T> Code<RingQueue<T>, T, SeatLine<T>, Operation<T>, Ringed, Answered<Answer
                 // The take has its effect here; the value moves out with the cell that came.
                 let cell = end.slot.index();
                 let value = move_out(&on.table.shared, seat, cell);
-                let walk = Walk {
-                    spare: Spare { index: cell },
-                    ..end.walk
-                };
+                let walk = end.walk.with(Spare { index: cell });
                 if walk.gone + 1 == STRIDE {
                     return Next::On(TakeAt::PassHead(walk, value));
                 }

@@ -53,7 +53,7 @@ pub(crate) fn put_fast<T>(
 
 // At the back: the exchange, which puts the value, or the way home of the spare cell, if the
 // value is refused.
-#[inline(always)]
+#[inline]
 fn put_fast_end<T>(
     on: &RingQueue<T>,
     by: running::Pass<T, SeatLine<T>>,
@@ -78,7 +78,7 @@ fn put_fast_end<T>(
 }
 
 // One put in eight moves the tail as well.
-#[inline(always)]
+#[inline]
 fn put_fast_pass<T>(
     on: &RingQueue<T>,
     by: running::Pass<T, SeatLine<T>>,
@@ -99,7 +99,7 @@ fn put_fast_pass<T>(
 }
 
 // The walk, as long as the hint is near enough.
-#[inline(always)]
+#[inline]
 fn put_fast_walk<T>(
     on: &RingQueue<T>,
     by: running::Pass<T, SeatLine<T>>,

@@ -50,7 +50,7 @@ pub(crate) fn take_fast<T>(
 }
 
 // The walk, as long as the hint is near enough.
-#[inline(always)]
+#[inline]
 fn take_fast_walk<T>(
     on: &RingQueue<T>,
     by: running::Pass<T, SeatLine<T>>,
@@ -86,7 +86,7 @@ fn take_fast_walk<T>(
 }
 
 // The exchange, which takes the value.
-#[inline(always)]
+#[inline]
 fn take_fast_exchange<T>(
     on: &RingQueue<T>,
     by: running::Pass<T, SeatLine<T>>,
@@ -108,7 +108,7 @@ fn take_fast_exchange<T>(
 }
 
 // The move of the head, which follows one take in eight.
-#[inline(always)]
+#[inline]
 fn take_fast_pass<T>(
     on: &RingQueue<T>,
     by: running::Pass<T, SeatLine<T>>,

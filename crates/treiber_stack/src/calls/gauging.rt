@@ -1,4 +1,6 @@
 //! Gauging a stack: whether it is closed, and how many of its tags are used, by one load of its top.
+ghost use Rattle.bounded_model.specs.Laws.{Answers};
+ghost use Rattle.bounded_model.specs.declared.views.Answered.TheVariants.{Gauge as GaugeAnswered};
 ghost use Rattle.stack_machine.specs.Machine.{ends};
 ghost use Rattle.stack_machine.specs.declared.lines.Answer.TheVariants.{Gauge as Gauged};
 ghost use Rattle.stack_machine.specs.declared.lines.Line.TheVariants.{LoadTopToGauge};
@@ -28,6 +30,8 @@ pub fn read_gauge<T>(on: &Stack<T>, by: Pass<T>) -> (Pass<T>, Gauge)
     ensures of { IsPassOf on.now result.0 }
     ensures gives { GaugeGives (room_of on.now) (limit_of on.now)
         (pass_in by) (pass_in result.0) result.1 }
+    ensures answered { Answers (pass_in by) (pass_in result.0)
+        (GaugeAnswered result.1.closed result.1.used) }
     ensures line { OneLine on.now by.pass result.0.pass LoadTopToGauge
         (ends (Gauged result.1.closed result.1.used)) }
 {

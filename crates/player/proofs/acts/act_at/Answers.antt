@@ -1,55 +1,40 @@
-use Rattle.std.proofs.Common.{◌≡◌, refl, subst}
+use Rattle.std.proofs.Common.{◌≡◌, refl, subst, sym, ◌∙◌}
 use Rattle.player.specs.declared.place.Place.TheVariants as place
 use Rattle.player.specs.Plays.{Named, Nobody}
 use Rattle.player.specs.Shows.{Shows, reading_of}
-use Rattle.player.proofs.Showing.{is_nobody, is_resting, is_acting, resting_is, acting_is}
+use Rattle.player.proofs.Showing.{is_nobody, is_resting, is_acting}
 use Rattle.player.proofs.Lines.{is_counted}
 use Rattle.player.proofs.Tracing.{traces_nothing}
-use Rattle.player.proofs.Crossing.{passed}
 use Rattle.player.proofs.acts.act_at.Goals as goal
-
-pub act_resting-requires : goal.act_resting-requires
-act_resting-requires g c κs =
-    let r = reading_of g.C.Container g.G.Scripted.is_making g.G.Scripted.making c.args.container.now in
-    let shows = rw c.in-Resting.is at c.requires.place.1 in
-    let b = c.type_bounds in
-    (b.send-C-Root, (b.send-C-Pass, (b.send-C-Note, (b.send-C-Rest, ((refl, tt), (resting_is r c.in-Resting.pass c.requires.place.0 shows, (c.requires.alone, c.requires.fits)))))))
-
-pub act_begun-requires : goal.act_begun-requires
-act_begun-requires g c κs =
-    let r = reading_of g.C.Container g.G.Scripted.is_making g.G.Scripted.making c.args.container.now in
-    let shows = rw c.in-Acting.is at c.requires.place.1 in
-    let b = c.type_bounds in
-    (passed _ _ _ g.row.C-Root b.send-C-Root, (passed _ _ _ g.row.C-Pass b.send-C-Pass, (passed _ _ _ g.row.C-Note b.send-C-Note, (passed _ _ _ g.row.C-Rest b.send-C-Rest, ((refl, tt), acting_is r c.in-Acting.begun c.requires.place.0 shows)))))
 
 pub returns-in-Nobody-clause-told : goal.returns-in-Nobody-clause-told
 returns-in-Nobody-clause-told g c found shows =
     let r = reading_of g.C.Container g.G.Scripted.is_making g.G.Scripted.making c.args.container.now in
-    let here : Shows r place.Nobody found = rw c.in-Nobody.is at shows in
+    let here : Shows r place.Nobody found = rw (sym c.held.ensures.same ∙ c.in-Nobody.is) at shows in
     let none : found ≡ Nobody = is_nobody r found here in
     rw none (Nobody, tt, (refl, refl))
 
 pub returns-in-Resting-clause-told : goal.returns-in-Resting-clause-told
 returns-in-Resting-clause-told g c found shows =
     let r = reading_of g.C.Container g.G.Scripted.is_making g.G.Scripted.making c.args.container.now in
-    let here : Shows r (place.Resting c.in-Resting.pass) found = rw c.in-Resting.is at shows in
+    let here : Shows r (place.Resting c.in-Resting.pass) found = rw (sym c.held.ensures.same ∙ c.in-Resting.is) at shows in
     rw (is_resting r c.in-Resting.pass found here) c.act_resting.ensures.told
 
 pub returns-in-Acting-clause-told : goal.returns-in-Acting-clause-told
 returns-in-Acting-clause-told g c found shows =
     let r = reading_of g.C.Container g.G.Scripted.is_making g.G.Scripted.making c.args.container.now in
-    let here : Shows r (place.Acting c.in-Acting.begun) found = rw c.in-Acting.is at shows in
+    let here : Shows r (place.Acting c.in-Acting.begun) found = rw (sym c.held.ensures.same ∙ c.in-Acting.is) at shows in
     let a = is_acting r c.in-Acting.begun found here in
     rw a.2 (c.act_begun.ensures.told a.0 a.1 (subst (λ (n : Named). Shows r (place.Acting c.in-Acting.begun) n) a.2 here))
 
 pub returns-in-Nobody-clause-traced : goal.returns-in-Nobody-clause-traced
-returns-in-Nobody-clause-traced g c = rw c.in-Nobody.is (traces_nothing _ _ refl)
+returns-in-Nobody-clause-traced g c = rw (sym c.held.ensures.same ∙ c.in-Nobody.is) (traces_nothing _ _ refl)
 
 pub returns-in-Resting-clause-traced : goal.returns-in-Resting-clause-traced
-returns-in-Resting-clause-traced g c = rw c.in-Resting.is c.act_resting.ensures.traced
+returns-in-Resting-clause-traced g c = rw (sym c.held.ensures.same ∙ c.in-Resting.is) c.act_resting.ensures.traced
 
 pub returns-in-Acting-clause-traced : goal.returns-in-Acting-clause-traced
 returns-in-Acting-clause-traced g c =
     let r = reading_of g.C.Container g.G.Scripted.is_making g.G.Scripted.making c.args.container.now in
-    let shows = rw c.in-Acting.is at c.requires.place.1 in
-    rw c.in-Acting.is (c.act_begun.ensures.traced (is_counted r c.in-Acting.begun c.requires.place.0 shows))
+    let shows = rw (sym c.held.ensures.same ∙ c.in-Acting.is) at c.requires.place.1 in
+    rw (sym c.held.ensures.same ∙ c.in-Acting.is) (c.act_begun.ensures.traced (is_counted r c.in-Acting.begun c.requires.place.0 shows))

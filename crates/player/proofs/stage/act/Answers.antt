@@ -11,11 +11,6 @@ meet-requires g c κs =
     let b = c.type_bounds in
     (passed _ _ _ g.row.C-Root b.send-C-Root, (passed _ _ _ g.row.C-Pass b.send-C-Pass, (passed _ _ _ g.row.C-Note b.send-C-Note, (passed _ _ _ g.row.C-Rest b.send-C-Rest, ((refl, tt), (c.requires.0, (c.requires.1.small, c.requires.1.another c.in-Meet.other c.in-Meet.is)))))))
 
-pub act_alone-requires : goal.act_alone-requires
-act_alone-requires g c κs =
-    let b = c.type_bounds in
-    (b.send-C-Root, (b.send-C-Pass, (b.send-C-Note, (b.send-C-Rest, ((refl, tt), (c.requires.0, c.requires.1, c.in_default.not-Meet))))))
-
 pub returns-in-Meet-clause-acts : goal.returns-in-Meet-clause-acts
 returns-in-Meet-clause-acts g c world on = rw c.in-Meet.is (c.meet.ensures.meets world on)
 

@@ -7,19 +7,7 @@ use Rattle.player.specs.Shows.{ShowsAll, reading_of}
 use Rattle.player.specs.Traces.{PlaceLines}
 use Rattle.player.proofs.Showing.{set_again, shows_set}
 use Rattle.player.proofs.Tracing.{traces_as}
-use Rattle.player.proofs.Crossing.{passed}
 use Rattle.player.proofs.stage.act_alone.Goals as goal
-
-pub find-place-requires : goal.find-place-requires
-find-place-requires g c κs =
-    let b = c.type_bounds in
-    (passed _ _ _ g.row.C-Root b.send-C-Root, (passed _ _ _ g.row.C-Pass b.send-C-Pass, (passed _ _ _ g.row.C-Note b.send-C-Note, (passed _ _ _ g.row.C-Rest b.send-C-Rest, ((refl, tt), (c.requires.0, c.requires.1.small))))))
-
-pub act_at-requires : goal.act_at-requires
-act_at-requires g c κs =
-    let f = c.find-place.ensures.found c.requires.0.0 c.requires.0.1 in
-    let b = c.type_bounds in
-    (b.send-C-Root, (b.send-C-Pass, (b.send-C-Note, (b.send-C-Rest, ((refl, tt), ((f.found, f.shows), (c.requires.2, c.requires.1.fits)))))))
 
 pub returns-clause-acts : goal.returns-clause-acts
 returns-clause-acts g c world on =

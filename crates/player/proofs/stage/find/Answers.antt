@@ -56,3 +56,21 @@ returns-in_default-clause-found g c world on =
       finds = finds_same r _ _ world.root at c.in_default.not-Nobody;
       on = record { is = on.is; root = on.root; names = names };
     }
+
+pub returns-in-Some-clause-on : goal.returns-in-Some-clause-on
+returns-in-Some-clause-on g c = let f = returns-in-Some-clause-found g c c.requires.on.0 c.requires.on.1 in (_, f.on)
+
+pub returns-in-Some-clause-shows : goal.returns-in-Some-clause-shows
+returns-in-Some-clause-shows g c = let f = returns-in-Some-clause-found g c c.requires.on.0 c.requires.on.1 in (f.found, f.shows)
+
+pub returns-in-None-clause-on : goal.returns-in-None-clause-on
+returns-in-None-clause-on g c = let f = returns-in-None-clause-found g c c.requires.on.0 c.requires.on.1 in (_, f.on)
+
+pub returns-in-None-clause-shows : goal.returns-in-None-clause-shows
+returns-in-None-clause-shows g c = let f = returns-in-None-clause-found g c c.requires.on.0 c.requires.on.1 in (f.found, f.shows)
+
+pub returns-in_default-clause-on : goal.returns-in_default-clause-on
+returns-in_default-clause-on g c = let f = returns-in_default-clause-found g c c.requires.on.0 c.requires.on.1 in (_, f.on)
+
+pub returns-in_default-clause-shows : goal.returns-in_default-clause-shows
+returns-in_default-clause-shows g c = let f = returns-in_default-clause-found g c c.requires.on.0 c.requires.on.1 in (f.found, f.shows)

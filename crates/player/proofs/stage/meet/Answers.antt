@@ -35,19 +35,6 @@ returns-in-Nobody-clause-meets g c world on =
       },
     )
 
-pub find-second-requires : goal.find-second-requires
-find-second-requires g c κs =
-    let f = c.find-first.ensures.found c.requires.on.0 c.requires.on.1 in
-    let b = c.type_bounds in
-    (b.send-C-Root, (b.send-C-Pass, (b.send-C-Note, (b.send-C-Rest, ((refl, tt), ((_, f.on), c.requires.other.0))))))
-
-pub meet_at-first-requires : goal.meet_at-first-requires
-meet_at-first-requires g c κs =
-    let f = c.find-first.ensures.found c.requires.on.0 c.requires.on.1 in
-    let s = c.find-second.ensures.found _ f.on in
-    let b = c.type_bounds in
-    (b.send-C-Root, (b.send-C-Pass, (b.send-C-Note, (b.send-C-Rest, ((refl, tt), ((f.found, f.shows), (s.found, s.shows)))))))
-
 pub returns-clause-meets : goal.returns-clause-meets
 returns-clause-meets g c world on =
     let r = reading_of g.C.Container g.G.Scripted.is_making g.G.Scripted.making c.args.container.now in

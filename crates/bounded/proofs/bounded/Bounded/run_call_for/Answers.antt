@@ -19,7 +19,7 @@ returns-in-Done-clause-ran g c =
     let p = back m g.M-Parts.keeps id s op.operation c.in-Done.pass a keeps in
     of_put m id g.M-Parts.is_call (g.M-PutAt-Code.account key) (g.M-TakeAt-Code.account key) (g.M-CloseAt-Code.account key) (g.M-ShutAt-Code.account key) (g.M-LookAt-Code.account key)
     (λ call op'. IsPassAt m g.M-Parts.keeps id p × CallGives m.core.shape op'.begun call (pass_in p) (reply.Put a.reply))
-    c.args.op op c.in-Put.is (λ x made. (is_back m g.M-Parts.keeps id s op.operation c.in-Done.pass a keeps (begun_of m op.pass) e.0 e.3, (g.M-Parts-met.put_gives key op.operation c.in-Done.pass.seat.me.0 (begun_of m op.pass) x a made.call e.3).0))
+    c.args.op op c.in-Put.is (λ x made. (is_back m g.M-Parts.keeps id s op.operation c.in-Done.pass a keeps (begun_of m op.pass) e.0 e.3, (g.M-Parts-met.put_gives key op.operation c.in-Done.pass.seat.me.0 (begun_of m op.pass) x a made.call e.3)))
 
 pub returns-in-Done-run_for-clause-ran : goal.returns-in-Done-run_for-clause-ran
 returns-in-Done-run_for-clause-ran g c =
@@ -34,7 +34,7 @@ returns-in-Done-run_for-clause-ran g c =
     let p = back m g.M-Parts.keeps id s op.operation c.in-Done-run_for.pass a keeps in
     of_take m id g.M-Parts.is_call (g.M-PutAt-Code.account key) (g.M-TakeAt-Code.account key) (g.M-CloseAt-Code.account key) (g.M-ShutAt-Code.account key) (g.M-LookAt-Code.account key)
     (λ call op'. IsPassAt m g.M-Parts.keeps id p × CallGives m.core.shape op'.begun call (pass_in p) (reply.Take a.reply))
-    c.args.op op c.in-Take.is (λ made. (is_back m g.M-Parts.keeps id s op.operation c.in-Done-run_for.pass a keeps (begun_of m op.pass) e.0 e.3, (g.M-Parts-met.take_gives key op.operation c.in-Done-run_for.pass.seat.me.0 (begun_of m op.pass) a made.call e.3).0))
+    c.args.op op c.in-Take.is (λ made. (is_back m g.M-Parts.keeps id s op.operation c.in-Done-run_for.pass a keeps (begun_of m op.pass) e.0 e.3, (g.M-Parts-met.take_gives key op.operation c.in-Done-run_for.pass.seat.me.0 (begun_of m op.pass) a made.call e.3)))
 
 pub returns-in-Done-run_for-2-clause-ran : goal.returns-in-Done-run_for-2-clause-ran
 returns-in-Done-run_for-2-clause-ran g c =
@@ -49,7 +49,7 @@ returns-in-Done-run_for-2-clause-ran g c =
     let p = back m g.M-Parts.keeps id s op.operation c.in-Done-run_for-2.pass a keeps in
     of_close m id g.M-Parts.is_call (g.M-PutAt-Code.account key) (g.M-TakeAt-Code.account key) (g.M-CloseAt-Code.account key) (g.M-ShutAt-Code.account key) (g.M-LookAt-Code.account key)
     (λ call op'. IsPassAt m g.M-Parts.keeps id p × CallGives m.core.shape op'.begun call (pass_in p) (reply.Close a.reply))
-    c.args.op op c.in-Close.is (λ made. (is_back m g.M-Parts.keeps id s op.operation c.in-Done-run_for-2.pass a keeps (begun_of m op.pass) e.0 e.3, (g.M-Parts-met.close_gives key op.operation c.in-Done-run_for-2.pass.seat.me.0 (begun_of m op.pass) a made.call e.3).0))
+    c.args.op op c.in-Close.is (λ made. (is_back m g.M-Parts.keeps id s op.operation c.in-Done-run_for-2.pass a keeps (begun_of m op.pass) e.0 e.3, (g.M-Parts-met.close_gives key op.operation c.in-Done-run_for-2.pass.seat.me.0 (begun_of m op.pass) a made.call e.3)))
 
 pub returns-in-Done-run_for-3-clause-ran : goal.returns-in-Done-run_for-3-clause-ran
 returns-in-Done-run_for-3-clause-ran g c =
@@ -64,7 +64,7 @@ returns-in-Done-run_for-3-clause-ran g c =
     let p = back m g.M-Parts.keeps id s op.operation c.in-Done-run_for-3.pass a keeps in
     of_shut m id g.M-Parts.is_call (g.M-PutAt-Code.account key) (g.M-TakeAt-Code.account key) (g.M-CloseAt-Code.account key) (g.M-ShutAt-Code.account key) (g.M-LookAt-Code.account key)
     (λ call op'. IsPassAt m g.M-Parts.keeps id p × CallGives m.core.shape op'.begun call (pass_in p) (reply.Shut a.reply))
-    c.args.op op c.in-Shut.is (λ made. (is_back m g.M-Parts.keeps id s op.operation c.in-Done-run_for-3.pass a keeps (begun_of m op.pass) e.0 e.3, (g.M-Parts-met.shut_gives key op.operation c.in-Done-run_for-3.pass.seat.me.0 (begun_of m op.pass) a made.call e.3).0))
+    c.args.op op c.in-Shut.is (λ made. (is_back m g.M-Parts.keeps id s op.operation c.in-Done-run_for-3.pass a keeps (begun_of m op.pass) e.0 e.3, (g.M-Parts-met.shut_gives key op.operation c.in-Done-run_for-3.pass.seat.me.0 (begun_of m op.pass) a made.call e.3)))
 
 pub returns-in-Done-run_for-4-clause-ran : goal.returns-in-Done-run_for-4-clause-ran
 returns-in-Done-run_for-4-clause-ran g c =

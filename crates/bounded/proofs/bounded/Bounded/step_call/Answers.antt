@@ -20,7 +20,7 @@ returns-in-Done g c =
     let p = back m g.M-Parts.keeps id s op.operation c.in-Done.pass a keeps in
     of_put m id g.M-Parts.is_call (g.M-PutAt-Code.account key) (g.M-TakeAt-Code.account key) (g.M-CloseAt-Code.account key) (g.M-ShutAt-Code.account key) (g.M-LookAt-Code.account key)
     (λ call op'. IsPassAt m g.M-Parts.keeps id p × OneStep op'.now (pass_in p) × CallGives m.core.shape op'.begun call (pass_in p) (reply.Put a.reply))
-    c.args.op op c.in-Put.is (λ x made. (is_back m g.M-Parts.keeps id s op.operation c.in-Done.pass a keeps (begun_of m op.pass) e.0 e.4, e.1, (g.M-Parts-met.put_gives key op.operation c.in-Done.pass.seat.me.0 (begun_of m op.pass) x a made.call e.4).0))
+    c.args.op op c.in-Put.is (λ x made. (is_back m g.M-Parts.keeps id s op.operation c.in-Done.pass a keeps (begun_of m op.pass) e.0 e.4, e.1, (g.M-Parts-met.put_gives key op.operation c.in-Done.pass.seat.me.0 (begun_of m op.pass) x a made.call e.4)))
 
 pub returns-in-Done-step : goal.returns-in-Done-step
 returns-in-Done-step g c =
@@ -35,7 +35,7 @@ returns-in-Done-step g c =
     let p = back m g.M-Parts.keeps id s op.operation c.in-Done-step.pass a keeps in
     of_take m id g.M-Parts.is_call (g.M-PutAt-Code.account key) (g.M-TakeAt-Code.account key) (g.M-CloseAt-Code.account key) (g.M-ShutAt-Code.account key) (g.M-LookAt-Code.account key)
     (λ call op'. IsPassAt m g.M-Parts.keeps id p × OneStep op'.now (pass_in p) × CallGives m.core.shape op'.begun call (pass_in p) (reply.Take a.reply))
-    c.args.op op c.in-Take.is (λ made. (is_back m g.M-Parts.keeps id s op.operation c.in-Done-step.pass a keeps (begun_of m op.pass) e.0 e.4, e.1, (g.M-Parts-met.take_gives key op.operation c.in-Done-step.pass.seat.me.0 (begun_of m op.pass) a made.call e.4).0))
+    c.args.op op c.in-Take.is (λ made. (is_back m g.M-Parts.keeps id s op.operation c.in-Done-step.pass a keeps (begun_of m op.pass) e.0 e.4, e.1, (g.M-Parts-met.take_gives key op.operation c.in-Done-step.pass.seat.me.0 (begun_of m op.pass) a made.call e.4)))
 
 pub returns-in-Done-step-2 : goal.returns-in-Done-step-2
 returns-in-Done-step-2 g c =
@@ -50,7 +50,7 @@ returns-in-Done-step-2 g c =
     let p = back m g.M-Parts.keeps id s op.operation c.in-Done-step-2.pass a keeps in
     of_close m id g.M-Parts.is_call (g.M-PutAt-Code.account key) (g.M-TakeAt-Code.account key) (g.M-CloseAt-Code.account key) (g.M-ShutAt-Code.account key) (g.M-LookAt-Code.account key)
     (λ call op'. IsPassAt m g.M-Parts.keeps id p × OneStep op'.now (pass_in p) × CallGives m.core.shape op'.begun call (pass_in p) (reply.Close a.reply))
-    c.args.op op c.in-Close.is (λ made. (is_back m g.M-Parts.keeps id s op.operation c.in-Done-step-2.pass a keeps (begun_of m op.pass) e.0 e.4, e.1, (g.M-Parts-met.close_gives key op.operation c.in-Done-step-2.pass.seat.me.0 (begun_of m op.pass) a made.call e.4).0))
+    c.args.op op c.in-Close.is (λ made. (is_back m g.M-Parts.keeps id s op.operation c.in-Done-step-2.pass a keeps (begun_of m op.pass) e.0 e.4, e.1, (g.M-Parts-met.close_gives key op.operation c.in-Done-step-2.pass.seat.me.0 (begun_of m op.pass) a made.call e.4)))
 
 pub returns-in-Done-step-3 : goal.returns-in-Done-step-3
 returns-in-Done-step-3 g c =
@@ -65,7 +65,7 @@ returns-in-Done-step-3 g c =
     let p = back m g.M-Parts.keeps id s op.operation c.in-Done-step-3.pass a keeps in
     of_shut m id g.M-Parts.is_call (g.M-PutAt-Code.account key) (g.M-TakeAt-Code.account key) (g.M-CloseAt-Code.account key) (g.M-ShutAt-Code.account key) (g.M-LookAt-Code.account key)
     (λ call op'. IsPassAt m g.M-Parts.keeps id p × OneStep op'.now (pass_in p) × CallGives m.core.shape op'.begun call (pass_in p) (reply.Shut a.reply))
-    c.args.op op c.in-Shut.is (λ made. (is_back m g.M-Parts.keeps id s op.operation c.in-Done-step-3.pass a keeps (begun_of m op.pass) e.0 e.4, e.1, (g.M-Parts-met.shut_gives key op.operation c.in-Done-step-3.pass.seat.me.0 (begun_of m op.pass) a made.call e.4).0))
+    c.args.op op c.in-Shut.is (λ made. (is_back m g.M-Parts.keeps id s op.operation c.in-Done-step-3.pass a keeps (begun_of m op.pass) e.0 e.4, e.1, (g.M-Parts-met.shut_gives key op.operation c.in-Done-step-3.pass.seat.me.0 (begun_of m op.pass) a made.call e.4)))
 
 pub returns-in-Done-step-4 : goal.returns-in-Done-step-4
 returns-in-Done-step-4 g c =

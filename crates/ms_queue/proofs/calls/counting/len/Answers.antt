@@ -15,7 +15,7 @@ overflow_cast-result g c =
     let at = c.whole-pass.result.0 in
     let b = has_answered (machine_of q) keeps q.table.shared.table_id (len_account q.table.shared.key) (λ o a. tt) LenFirst c.args.by c.requires at c.whole-pass.result.1 (c.whole-pass.ensures c.args.by.pass c.first_step-first.ensures.ran) in
     let gives = len_keeps q.table.shared.key LoadHead at.pass.seat.me.0 (pass_in c.args.by) (answer_of at c.whole-pass.result.1) b.ended in
-    let low : c.whole-pass.result.1 ≤ room_of q = omega (arith, gives.1.holds, within_capacity (shape_of q) gives.1.at (legal_before (shape_of q) gives.1.until b.ended.rests.legal)) in
+    let low : c.whole-pass.result.1 ≤ room_of q = omega (arith, gives.0.1.holds, within_capacity (shape_of q) gives.0.1.at (legal_before (shape_of q) gives.0.1.until b.ended.rests.legal)) in
     omega (arith, low, q.table.shared.key.capacity_in_range)
 
 pub returns-clause-of : goal.returns-clause-of
@@ -30,7 +30,14 @@ returns-clause-gives g c =
     let q = c.args.on.now in
     let at = c.whole-pass.result.0 in
     let b = has_answered (machine_of q) keeps q.table.shared.table_id (len_account q.table.shared.key) (λ o a. tt) LenFirst c.args.by c.requires at c.whole-pass.result.1 (c.whole-pass.ensures c.args.by.pass c.first_step-first.ensures.ran) in
-    len_keeps q.table.shared.key LoadHead at.pass.seat.me.0 (pass_in c.args.by) (answer_of at c.whole-pass.result.1) b.ended
+    (len_keeps q.table.shared.key LoadHead at.pass.seat.me.0 (pass_in c.args.by) (answer_of at c.whole-pass.result.1) b.ended).0
+
+pub returns-clause-answered : goal.returns-clause-answered
+returns-clause-answered g c =
+    let q = c.args.on.now in
+    let at = c.whole-pass.result.0 in
+    let b = has_answered (machine_of q) keeps q.table.shared.table_id (len_account q.table.shared.key) (λ o a. tt) LenFirst c.args.by c.requires at c.whole-pass.result.1 (c.whole-pass.ensures c.args.by.pass c.first_step-first.ensures.ran) in
+    (len_keeps q.table.shared.key LoadHead at.pass.seat.me.0 (pass_in c.args.by) (answer_of at c.whole-pass.result.1) b.ended).1
 
 pub returns-clause-ran : goal.returns-clause-ran
 returns-clause-ran g c =

@@ -19,7 +19,14 @@ returns-clause-gives g c =
     let q = c.args.on.now in
     let at = c.whole.result.0 in
     let b = has_answered (machine_of q) keeps q.table.shared.table_id (gauge_account q.table.shared.key) (λ o a. tt) GaugeFirst c.args.by c.requires at c.whole.result.1 (c.whole.ensures c.args.by.pass c.first_step-first.ensures.ran) in
-    gauge_keeps q.table.shared.key (Seeking LoadTail) at.pass.seat.me.0 (pass_in c.args.by) (answer_of at c.whole.result.1) b.ended
+    (gauge_keeps q.table.shared.key (Seeking LoadTail) at.pass.seat.me.0 (pass_in c.args.by) (answer_of at c.whole.result.1) b.ended).0
+
+pub returns-clause-answered : goal.returns-clause-answered
+returns-clause-answered g c =
+    let q = c.args.on.now in
+    let at = c.whole.result.0 in
+    let b = has_answered (machine_of q) keeps q.table.shared.table_id (gauge_account q.table.shared.key) (λ o a. tt) GaugeFirst c.args.by c.requires at c.whole.result.1 (c.whole.ensures c.args.by.pass c.first_step-first.ensures.ran) in
+    (gauge_keeps q.table.shared.key (Seeking LoadTail) at.pass.seat.me.0 (pass_in c.args.by) (answer_of at c.whole.result.1) b.ended).1
 
 pub returns-clause-ran : goal.returns-clause-ran
 returns-clause-ran g c =

@@ -37,3 +37,10 @@ returns-clause-ran g c =
     let at = c.whole-pass.result.0 in
     let b = has_answered (machine_of q) keeps q.table.shared.table_id (len_account q.table.shared.key) (λ o a. refl) LenFirst c.args.by c.requires at c.whole-pass.result.1 (c.whole-pass.ensures c.args.by.pass c.first_step-first.ensures.ran) in
     b.ran
+
+pub returns-clause-answered : goal.returns-clause-answered
+returns-clause-answered g c =
+    let q = c.args.on.now in
+    let at = c.whole-pass.result.0 in
+    let b = has_answered (machine_of q) keeps q.table.shared.table_id (len_account q.table.shared.key) (λ o a. refl) LenFirst c.args.by c.requires at c.whole-pass.result.1 (c.whole-pass.ensures c.args.by.pass c.first_step-first.ensures.ran) in
+    b.ended.answered

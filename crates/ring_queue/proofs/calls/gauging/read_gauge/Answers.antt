@@ -26,3 +26,10 @@ returns-clause-ran g c =
     let at = c.whole.result.0 in
     let b = has_answered (machine_of q) keeps q.table.shared.table_id (gauge_account q.table.shared.key) (λ o a. refl) GaugeFirst c.args.by c.requires at c.whole.result.1 (c.whole.ensures c.args.by.pass c.first_step-first.ensures.ran) in
     b.ran
+
+pub returns-clause-answered : goal.returns-clause-answered
+returns-clause-answered g c =
+    let q = c.args.on.now in
+    let at = c.whole.result.0 in
+    let b = has_answered (machine_of q) keeps q.table.shared.table_id (gauge_account q.table.shared.key) (λ o a. refl) GaugeFirst c.args.by c.requires at c.whole.result.1 (c.whole.ensures c.args.by.pass c.first_step-first.ensures.ran) in
+    b.ended.answered

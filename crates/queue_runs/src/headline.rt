@@ -1,0 +1,24 @@
+//! What any table of a queue says as a whole.
+ghost use Rattle.std.specs.Prelude.{ℕ, ◌<◌, Option as Slot};
+ghost use Rattle.tagged_index.specs.declared.word.TheConstants.{NULL};
+ghost use Rattle.atomic_table.specs.Table.{State};
+ghost use Rattle.machine.specs.declared.seats.View.{View};
+ghost use Rattle.queue_machine.specs.declared.lines.Line.{Line};
+ghost use Rattle.queue_table.proofs.Laws.{queue};
+ghost use Rattle.running.specs.Rule.{Rule};
+ghost use Rattle.queue_runs.specs.Headline.{Headline};
+
+/// All passes of a queue see one history of one bounded queue. This holds in any table that meets
+/// the rule of a queue, as each queue's does between any two atomic steps of any threads:
+/// - the history is legal. In it no value is lost, doubled or reordered, and no put follows the close;
+/// - each pass has seen a part of it, with all its own events. No two seats are of one pass, and of two
+///   passes one has seen all that the other has;
+/// - no cell and no node is in two places;
+/// - the acts that led to the table have made that history. Each pass has made its steps in them, and
+///   its calls have answered in them what its view says;
+/// - the calls of these acts are linearizable.
+pub fn queue_headline<T>()
+    ensures { (n limit : ℕ) → 0 < n → n < NULL → 0 < limit
+        → (s : State (Slot T) (View T (Line T))) (r : Rule (queue T n limit) s)
+        → Headline T n limit s r }
+{}
