@@ -46,12 +46,7 @@ pub enum View<T, L> {
     /// A note: what its pass had seen when it was made.
     AtNote(LinkedList<Event<T>>),
     /// A pass that hears a note, what it knew of the acts at its last step, and its line.
-    AtHearing(
-        PassView<T>,
-        LinkedList<(u64, Doing<L>)>,
-        L,
-        LinkedList<Event<T>>,
-    ),
+    AtHearing(PassView<T>, LinkedList<(u64, Doing<L>)>, L, LinkedList<Event<T>>),
     /// A seat that was joined to another.
     Left,
 }

@@ -46,15 +46,16 @@ pub(crate) fn put_fast<T>(
 // function the memory of the whole call's result, and then keeps all of it in memory, on the fast
 // path too.
 #[inline(always)]
-fn apart<P, S, R>(
-    came: (P, Next<S, Answered<R>>),
-) -> (P, Next<S, Answered<R>>)
+fn apart<P, S, R>(came: (P, Next<S, Answered<R>>)) -> (P, Next<S, Answered<R>>)
     ensures { result ≡ came }
 {
     match came {
         (pass, Next::On(at)) => (pass, Next::On(at)),
         (pass, Next::Lost(at)) => (pass, Next::Lost(at)),
-        (pass, Next::Done(Answered { reply, kept })) => (pass, Next::Done(Answered { reply, kept })),
+        (pass, Next::Done(Answered { reply, kept })) => (
+            pass,
+            Next::Done(Answered { reply, kept }),
+        ),
     }
 }
 
