@@ -3,8 +3,9 @@
 ghost use Rattle.std.specs.Prelude.{◌≡◌, ℕ, IfOk, List};
 ghost use Rattle.bounded_model.specs.declared.commands.Command.{Command};
 ghost use Rattle.bounded_model.specs.declared.history.Order.TheVariants.{Lifo};
+ghost use Rattle.bounded_model.specs.declared.views.Answered.TheVariants.{Look as LookAnswered};
 ghost use Rattle.bounded_model.specs.Calls.{CallGives};
-ghost use Rattle.bounded_model.specs.Laws.{LookGives};
+ghost use Rattle.bounded_model.specs.Laws.{Answers, LookGives};
 ghost use Rattle.bounded_model.specs.Stepping.{GoesOn, MatchStepped, OneStep, Underway, no_step};
 ghost use Rattle.player.specs.Plays.{FoldTold, RangeTold};
 ghost use Rattle.step_names.specs.declared.step_name.StepName.{StepName};
@@ -53,7 +54,8 @@ pub trait Scripted<'a, C: Container<Value<'a>>> {
     fn look<R: Wait>(container: &C, rt: &R, by: C::Pass) -> (C::Pass, bool)
         requires { C.is_pass container.now by }
         ensures of { C.is_pass container.now result.0 }
-        ensures gives { LookGives (C.shape container.now) (C.pass by) (C.pass result.0) result.1 };
+        ensures gives { LookGives (C.shape container.now) (C.pass by) (C.pass result.0) result.1 }
+        ensures answered { Answers (C.pass by) (C.pass result.0) (LookAnswered result.1) };
 
     /// If the container is a stack, puts a range of values by one compare-and-swap. Returns the
     /// values that were not put, too.
