@@ -17,12 +17,12 @@ import shutil
 import subprocess
 import tempfile
 
-PAGES = ('README.md', 'docs/cpp.md', 'docs/c-api.md', 'docs/cli.md')
+PAGES = ('README.md', 'docs/cpp.md', 'docs/c-api.md', 'docs/cli.md', 'docs/lifetime.md')
 # Each block of these says how it is run; of the others those that say it are.
-STRICT = ('README.md', 'docs/cpp.md', 'docs/c-api.md')
+STRICT = ('README.md', 'docs/cpp.md', 'docs/c-api.md', 'docs/lifetime.md')
 ARCHIVE = os.environ.get('LOCKFREE_ARCHIVE', 'c/out/liblockfree.a')
 PROGRAM = 'crates/lockfree_tool/out/lockfree_tool'
-BLOCK = re.compile(r'(?:^<!-- ([a-z]+)(?:: (.*?))? -->\n)?^```(\w*)\n(.*?)\n?^```', re.S | re.M)
+BLOCK = re.compile(r'(?:^<!-- ([a-z]+)(?:: ([^\n]*?))? -->\n)?^```(\w*)\n(.*?)\n?^```', re.S | re.M)
 # What takes long, and what .ci/run runs by itself.
 ELSEWHERE = ('c/build', './lockfree --build', '.ci/run', 'c/package')
 LIMIT = 120
