@@ -30,6 +30,8 @@
 // code is in a call.
 #pragma once
 
+#include "lockfree/names.hpp"
+#if __cplusplus >= 201703L
 #include "lockfree.h"
 #include "lockfree/containers.hpp"
 
@@ -38,7 +40,7 @@
 static_assert(LOCKFREE_VERSION == LOCKFREE_H_VERSION, "lockfree: lockfree.h and lockfree.hpp are of different versions");
 
 namespace lockfree {
-inline namespace v0_2 {
+inline namespace LOCKFREE_NAMES {
 
 /// A bounded queue: first in, first out. Options: capacity<N>, or fixed_sized<true> and the capacity for the constructor.
 template <class T, class... Options> class queue : public detail::container<T, detail::kind::queue, Options...> {
@@ -83,5 +85,6 @@ std::unique_ptr<Container> make(Limits... most) noexcept {
     return detail::make<Container>(typename Container::limits(most...));
 }
 
-}  // namespace v0_2
+}  // namespace LOCKFREE_NAMES
 }  // namespace lockfree
+#endif

@@ -17,6 +17,7 @@
 #define BOOST_LOCKFREE_FORWARD_HPP_INCLUDED
 
 #include "lockfree.hpp"
+#if __cplusplus >= 201703L
 
 namespace boost {
 namespace lockfree {
@@ -37,3 +38,4 @@ template <class T, class... Options> class spsc_queue {
 
 }  // namespace lockfree
 }  // namespace boost
+#endif

@@ -14,7 +14,7 @@
 #include <type_traits>
 
 namespace lockfree {
-inline namespace v0_2 {
+inline namespace LOCKFREE_NAMES {
 namespace detail {
 
 /// A value to be made of what a range gives: moved if it can be moved back without an exception, else copied.
@@ -152,5 +152,5 @@ public:
 };
 
 }  // namespace detail
-}  // namespace v0_2
+}  // namespace LOCKFREE_NAMES
 }  // namespace lockfree

@@ -12,7 +12,7 @@
 #include <utility>
 
 namespace lockfree {
-inline namespace v0_2 {
+inline namespace LOCKFREE_NAMES {
 namespace detail {
 
 /// Into what can be assigned a T, or made of one: as Boost's pop.
@@ -206,5 +206,5 @@ private:
 };
 
 }  // namespace detail
-}  // namespace v0_2
+}  // namespace LOCKFREE_NAMES
 }  // namespace lockfree

@@ -24,7 +24,7 @@
 #include <utility>
 
 namespace lockfree {
-inline namespace v0_2 {
+inline namespace LOCKFREE_NAMES {
 namespace detail {
 
 /// Whether a T is itself the word that goes through the library.
@@ -213,5 +213,5 @@ private:
 };
 
 }  // namespace detail
-}  // namespace v0_2
+}  // namespace LOCKFREE_NAMES
 }  // namespace lockfree

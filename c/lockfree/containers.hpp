@@ -12,7 +12,7 @@
 #include <utility>
 
 namespace lockfree {
-inline namespace v0_2 {
+inline namespace LOCKFREE_NAMES {
 namespace detail {
 
 /// One thread's own way to a container: of `split`. It moves, and has no copy. When it ends it goes back to its container,
@@ -202,5 +202,5 @@ template <class Container, class... Room> std::unique_ptr<Container> make(Room..
 }
 
 }  // namespace detail
-}  // namespace v0_2
+}  // namespace LOCKFREE_NAMES
 }  // namespace lockfree

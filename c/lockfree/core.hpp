@@ -12,7 +12,7 @@
 #include <utility>
 
 namespace lockfree {
-inline namespace v0_2 {
+inline namespace LOCKFREE_NAMES {
 namespace detail {
 
 /// A pass, and what its thread has at hand. On cache lines of its own: its thread writes it at each call.
@@ -177,5 +177,5 @@ private:
 };
 
 }  // namespace detail
-}  // namespace v0_2
+}  // namespace LOCKFREE_NAMES
 }  // namespace lockfree

@@ -2,6 +2,7 @@
 #pragma once
 
 #include "../lockfree.h"
+#include "names.hpp"
 
 #include <cstdint>
 
@@ -18,7 +19,7 @@ extern "C" void __tsan_release(void *);
 #endif
 
 namespace lockfree {
-inline namespace v0_2 {
+inline namespace LOCKFREE_NAMES {
 namespace detail {
 
 /// What a push orders before the pop of its value, and a close before a call that it refuses. The library's atomics do it; ThreadSanitizer, which does not see
@@ -60,5 +61,5 @@ template <class Place> Place *place_of(std::uint64_t word) noexcept {
 }
 
 }  // namespace detail
-}  // namespace v0_2
+}  // namespace LOCKFREE_NAMES
 }  // namespace lockfree

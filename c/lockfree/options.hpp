@@ -1,12 +1,14 @@
 // The options of a container, Boost's names. What they cannot mean here is refused when it is compiled, with the reason.
 #pragma once
 
+#include "names.hpp"
+
 #include <cstddef>
 #include <cstdint>
 #include <type_traits>
 
 namespace lockfree {
-inline namespace v0_2 {
+inline namespace LOCKFREE_NAMES {
 
 /// The capacity, 1 to 1,048,573, known when it is compiled. Implies fixed_sized<true>.
 template <std::size_t N> struct capacity {};
@@ -105,5 +107,5 @@ template <class... Options> struct options {
 template <class...> inline constexpr bool never_compiled = false;
 
 }  // namespace detail
-}  // namespace v0_2
+}  // namespace LOCKFREE_NAMES
 }  // namespace lockfree

@@ -2,20 +2,15 @@
 #pragma once
 
 #include "../lockfree.h"
+#include "names.hpp"
 
 #include <cstdint>
 #include <cstdlib>
 #include <new>
 #include <stdexcept>
 
-#if defined(__cpp_exceptions)
-#define LOCKFREE_THROW(what) throw what
-#else
-#define LOCKFREE_THROW(what) std::abort()
-#endif
-
 namespace lockfree {
-inline namespace v0_2 {
+inline namespace LOCKFREE_NAMES {
 
 /// What became of a call. The numbers are lockfree.h's codes, but for `stopped`.
 enum class status : std::uint32_t {
@@ -74,5 +69,5 @@ inline void throw_if_not_made(status what) {
 }
 
 }  // namespace detail
-}  // namespace v0_2
+}  // namespace LOCKFREE_NAMES
 }  // namespace lockfree

@@ -8,7 +8,7 @@
 #include <utility>
 
 namespace lockfree {
-inline namespace v0_2 {
+inline namespace LOCKFREE_NAMES {
 namespace detail {
 
 /// The containers that a thread called last, and its seats of them. A thread keeps the core of each container that it
@@ -140,5 +140,5 @@ public:
 };
 
 }  // namespace detail
-}  // namespace v0_2
+}  // namespace LOCKFREE_NAMES
 }  // namespace lockfree

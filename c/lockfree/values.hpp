@@ -12,7 +12,7 @@
 #include <utility>
 
 namespace lockfree {
-inline namespace v0_2 {
+inline namespace LOCKFREE_NAMES {
 namespace detail {
 
 /// Ends a value when it goes out of scope.
@@ -196,5 +196,5 @@ private:
 };
 
 }  // namespace detail
-}  // namespace v0_2
+}  // namespace LOCKFREE_NAMES
 }  // namespace lockfree

@@ -9,7 +9,7 @@
 #include <utility>
 
 namespace lockfree {
-inline namespace v0_2 {
+inline namespace LOCKFREE_NAMES {
 
 /// The stop of a call that waits for ever.
 struct never_stops {
@@ -88,5 +88,5 @@ template <class Ask> auto waits_for(Ask &&ask) {
 inline constexpr auto tries_once = [] { return false; };
 
 }  // namespace detail
-}  // namespace v0_2
+}  // namespace LOCKFREE_NAMES
 }  // namespace lockfree
