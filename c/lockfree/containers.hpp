@@ -58,7 +58,7 @@ private:
     template <class F> status with_lent(F &&call) {
         const std::uint32_t code = ready();
         if (code != LOCKFREE_OK) return status_of(code);
-        const lent out(*of, by);
+        const lent out(*of, [this] { return &by; });
         return call(*of, *out.by);
     }
 };
@@ -96,7 +96,7 @@ public:
                       "lockfree: Boost's container of a size without fixed_sized<true> grows, and none here does: "
                       "say fixed_sized<true>, or bounded_queue<T> or bounded_stack<T>");
     }
-    explicit container(adopted by_make) noexcept : of(by_make.from), place(of->place % recent_calls) {}
+    explicit container(adopted by_make) noexcept : of(by_make.from), home(home_of(of)) {}
     container(const container &) = delete;
     container &operator=(const container &) = delete;
     /// No thread calls any more but by passes of `split`. All values that are left end, whoever pushed them; if it is spent
@@ -153,7 +153,7 @@ private:
     template <class, class> friend class bulk;
     template <class Container, class... Room> friend std::unique_ptr<Container> make(Room... room) noexcept;
     core *const of;
-    const std::size_t place;
+    const std::size_t home;
 
     static std::uint32_t make_core(core *&to, size_type room, limits most) noexcept {
         return core::make(room, layout_of<T>(), most, to);
@@ -169,25 +169,18 @@ private:
 
     /// By the seat that the thread has at hand, mostly.
     template <class F> status with(F &&call) {
-        const recent_call &known = recent[place];
-        if (__builtin_expect(known.of == of, 1)) return call(*of, *known.by);
-        return with_place(call);
+        const slot *const known = table_of_thread.find(of, home);
+        if (__builtin_expect(known && known->by, 1)) return call(*of, *known->by);
+        return with_caller(call);
     }
-    template <class F> [[gnu::cold, gnu::noinline]] status with_place(F &call) {
-        const seat_place here(*of);
-        if (here.code != LOCKFREE_OK) return status_of(here.code);
-        if (here.is_the_threads()) recent[place] = {of, *here.at};
-        return call(*of, **here.at);
+    template <class F> [[gnu::cold, gnu::noinline]] status with_caller(F &call) {
+        const caller me(*of);
+        return me.code == LOCKFREE_OK ? call(*of, *me.by) : status_of(me.code);
     }
     template <class F> status with_lent(F &&call) {
-        const seat_place here(*of);
-        if (here.code != LOCKFREE_OK) return status_of(here.code);
-        struct forgets {
-            recent_call &known;
-            explicit forgets(recent_call &at) noexcept : known(at) { known = {}; }
-            ~forgets() { known = {}; }
-        } const others(recent[place]);
-        const lent out(*of, *here.at);
+        caller me(*of);
+        if (me.code != LOCKFREE_OK) return status_of(me.code);
+        const lent out(*of, [&me] { return me.place(); });
         return call(*of, *out.by);
     }
 };

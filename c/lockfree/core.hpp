@@ -23,6 +23,9 @@ struct alignas(64) seat {
     seat *next_made = nullptr;
 };
 
+/// How many containers have ended, of all threads.
+inline std::atomic<std::size_t> cores_ended{0};
+
 /// The shared part of a container. Its seats and values live as long as it has a user: the container, or a pass of
 /// `split`. The core itself lives as long as it has a holder: a thread that has called it also is one.
 ///
@@ -45,8 +48,6 @@ public:
 
     const std::size_t room;
     const std::uint64_t life;  // the limit of tags, or of laps
-    /// Which of a thread's places at hand is this container's.
-    const std::size_t place = next_place();
     /// What some call has heard. They change once.
     std::atomic<bool> closed{false}, spent{false};
 
@@ -60,7 +61,7 @@ public:
     /// Nothing, if the container has ended meanwhile: its seats have, too.
     void give_back(seat *of) noexcept {
         const std::lock_guard<std::mutex> guard(lock);
-        if (!has_ended) of->next_resting = std::exchange(resting, of);
+        if (!ended()) of->next_resting = std::exchange(resting, of);
     }
 
     void *take_cell(seat &by) noexcept { return cells.take(by.cells, lock); }
@@ -74,10 +75,7 @@ public:
     void drop_holder() noexcept {
         if (holders.fetch_sub(1, std::memory_order_acq_rel) == 1) delete this;
     }
-    bool ended() noexcept {
-        const std::lock_guard<std::mutex> guard(lock);
-        return has_ended;
-    }
+    bool ended() const noexcept { return has_ended.load(std::memory_order_relaxed); }
 
     /// Hands the word of each value that is left to `use`, with a seat, while others may still call: as many as fit.
     template <class F> void take_left(F &&use) noexcept {
@@ -107,9 +105,10 @@ public:
     void end() noexcept {
         {
             const std::lock_guard<std::mutex> guard(lock);
-            has_ended = true;
+            has_ended.store(true, std::memory_order_relaxed);
             free_all();
         }
+        cores_ended.fetch_add(1, std::memory_order_relaxed);
         drop_holder();
     }
 
@@ -123,13 +122,8 @@ private:
     seat *kept = nullptr;     // the seat that no thread gets
     seat *resting = nullptr;  // those that nobody has
     std::atomic<seat *> made{nullptr};
-    bool has_ended = false;
+    std::atomic<bool> has_ended{false};  // written under the lock
     std::atomic<std::uint32_t> users{1}, holders{1};
-
-    static std::size_t next_place() noexcept {
-        static std::atomic<std::size_t> places{0};
-        return places.fetch_add(1, std::memory_order_relaxed);
-    }
 
     template <kind K> std::uint32_t make_root(limits<K> most) noexcept {
         const auto capacity = static_cast<std::uint32_t>(room);

@@ -11,22 +11,49 @@ namespace lockfree {
 inline namespace LOCKFREE_NAMES {
 namespace detail {
 
-/// The containers that a thread called last, and its seats of them. A thread keeps the core of each container that it
-/// has here, so an address names one container, also among those that other shared objects have made.
-struct recent_call {
-    const core *of;
+/// A thread's seat of a container: null if it has none yet, or if a fold has it.
+struct slot {
+    core *of;
     seat *by;
 };
-inline constexpr std::size_t recent_calls = 16;
-inline thread_local recent_call recent[recent_calls] = {};
 
-/// Whether the thread has called yet, and whether its seats have gone back already. This and `recent` need no destructor,
+/// The seats of a thread: a table of 2^n slots, at most half of them in use. A container's slot is the first one from
+/// `home_of` on that is its own, with no empty one before. A thread keeps the core of each container that is in it, so an
+/// address names one container, also among those that other shared objects have made.
+struct slot_table {
+    slot *slots;
+    std::size_t mask;
+
+    slot *find(const core *of, std::size_t home) const noexcept {
+        for (std::size_t at = home;; ++at) {
+            slot &known = slots[at & mask];
+            if (__builtin_expect(known.of == of, 1)) return &known;
+            if (!known.of) return nullptr;
+        }
+    }
+    slot &first_empty(std::size_t home) const noexcept {
+        std::size_t at = home;
+        while (slots[at & mask].of) ++at;
+        return slots[at & mask];
+    }
+};
+
+/// The top of a product, since containers often lie at equal distances.
+inline std::size_t home_of(const core *of) noexcept {
+    return static_cast<std::size_t>((word_of(of) * 0x9E3779B97F4A7C15) >> 32);
+}
+
+/// That of a thread that has called nothing. Nobody writes it.
+inline slot no_slot = {nullptr, nullptr};
+inline thread_local slot_table table_of_thread = {&no_slot, 0};
+
+/// Whether the thread has called yet, and whether its seats have gone back already. This and the table need no destructor,
 /// so they outlive the seats: what a thread still calls then, as from destructors of older objects, borrows a seat for
 /// each call.
 enum class thread_state : unsigned char { fresh, calls, ends };
 inline thread_local thread_state state_of_thread = thread_state::fresh;
 
-/// All seats of a thread.
+/// Owns the thread's table.
 class seats_of_thread {
 public:
     seats_of_thread() noexcept { state_of_thread = thread_state::calls; }
@@ -34,59 +61,84 @@ public:
     seats_of_thread &operator=(const seats_of_thread &) = delete;
     ~seats_of_thread() {
         state_of_thread = thread_state::ends;
-        for (entry *&first : table)
-            while (first) drop(first);
+        const slot_table last = std::exchange(table_of_thread, {&no_slot, 0});
+        for (std::size_t at = 0; at <= last.mask; ++at)
+            if (last.slots[at].of) leave(last.slots[at]);
+        if (last.slots != &no_slot) delete[] last.slots;
     }
 
-    /// The place of the thread's seat of a container. Null if there is no memory. The place may still be empty.
-    seat **place_of(core &of) noexcept {
-        for (entry *at = bucket(of); at; at = at->next)
-            if (at->of == &of) return &at->by;
-        if (count >= next_sweep) sweep();
-        entry *const made = new (std::nothrow) entry{&of, nullptr, bucket(of)};
-        if (!made) return nullptr;
+    /// The thread's slot of a container, without a seat if it is new. Null if there is no memory. It stays until the thread
+    /// calls another container for the first time.
+    slot *slot_of(core &of) noexcept {
+        slot_table &table = table_of_thread;
+        if (slot *const known = table.find(&of, home_of(&of))) return known;
+        const std::size_t ended = cores_ended.load(std::memory_order_relaxed);
+        if (ended - swept_at >= 8 + count / 2) sweep(ended);
+        if (2 * (count + 1) > table.mask && !resize(2 * table.mask + 2)) return nullptr;
         of.add_holder();
-        bucket(of) = made;
         ++count;
-        return &made->by;
+        slot &made = table.first_empty(home_of(&of));
+        made = {&of, nullptr};
+        return &made;
     }
 
     /// Gives back the seat of a container that ends, if the thread has one.
     void forget(const core &of) noexcept {
-        for (entry **at = &bucket(of); *at; at = &(*at)->next)
-            if ((*at)->of == &of) return drop(*at);
+        if (slot *const known = table_of_thread.find(&of, home_of(&of))) drop(*known);
     }
 
 private:
-    struct entry {
-        core *of;
-        seat *by;
-        entry *next;
-    };
-    static constexpr std::size_t buckets = 64;
-    entry *table[buckets] = {};
+    static constexpr std::size_t fewest = 8;
     std::size_t count = 0;
-    std::size_t next_sweep = 8;
+    std::size_t swept_at = 0;
 
-    entry *&bucket(const core &of) noexcept { return table[of.place % buckets]; }
-
-    void drop(entry *&at) noexcept {
-        entry *const last = std::exchange(at, at->next);
-        recent_call &known = recent[last->of->place % recent_calls];
-        if (known.of == last->of) known = {};
-        if (last->by) last->of->give_back(last->by);
-        last->of->drop_holder();
-        delete last;
-        --count;
+    /// Whether there was memory for a table of at least so many slots.
+    static bool resize(std::size_t slots) noexcept {
+        if (slots < fewest) slots = fewest;
+        slot_table made = {new (std::nothrow) slot[slots](), slots - 1};
+        if (!made.slots) return false;
+        const slot_table last = std::exchange(table_of_thread, made);
+        for (std::size_t at = 0; at <= last.mask; ++at)
+            if (last.slots[at].of) made.first_empty(home_of(last.slots[at].of)) = last.slots[at];
+        if (last.slots != &no_slot) delete[] last.slots;
+        return true;
     }
 
-    /// Forgets the containers that have ended. So at most 8 of these are kept, and as many as there are others.
-    void sweep() noexcept {
-        for (entry *&first : table)
-            for (entry **at = &first; *at;)
-                if ((*at)->of->ended()) drop(*at);
-                else at = &(*at)->next;
-        next_sweep = 2 * count + 8;
+    static void leave(const slot &of) noexcept {
+        if (of.by) of.of->give_back(of.by);
+        of.of->drop_holder();
+    }
+
+    /// Empties a slot, and moves those that follow it forward as far as each one's home lets it.
+    void drop(slot &at) noexcept {
+        leave(at);
+        --count;
+        const slot_table &table = table_of_thread;
+        std::size_t hole = static_cast<std::size_t>(&at - table.slots);
+        for (std::size_t next = hole + 1;; ++next) {
+            slot &moved = table.slots[next & table.mask];
+            if (!moved.of) break;
+            const std::size_t from_home = (next - home_of(moved.of)) & table.mask;
+            if (from_home < ((next - hole) & table.mask)) continue;
+            table.slots[hole & table.mask] = moved;
+            hole = next;
+        }
+        table.slots[hole & table.mask] = {nullptr, nullptr};
+    }
+
+    /// Forgets the containers that have ended. It is due if as many have ended, of all threads, as half of those that are
+    /// here, and 8 more. So after a thread's first call of a container it keeps fewer that have ended than others, and 16.
+    void sweep(std::size_t ended) noexcept {
+        swept_at = ended;
+        const slot_table &table = table_of_thread;
+        for (std::size_t at = 0; at <= table.mask;) {
+            slot &known = table.slots[at];
+            if (known.of && known.of->ended()) drop(known);
+            else ++at;
+        }
+        std::size_t slots = table.mask + 1;
+        while (slots > fewest && 8 * count < slots) slots /= 2;
+        if (slots <= table.mask) resize(slots);  // (if there is no memory, it stays as it is)
     }
 };
 
@@ -95,45 +147,68 @@ inline seats_of_thread &mine() {
     return all;
 }
 
-/// The thread's place for its seat of a container, with a seat in it. A thread that ends has none: then it is a place
-/// of this object, and its seat goes back with it.
-class seat_place {
+/// A call that a thread makes after its seats have gone back, and the seat that it has borrowed for it.
+struct late_call {
+    core *of;
+    seat *by;
+    late_call *outer;
+};
+inline thread_local late_call *late_calls = nullptr;
+
+/// The thread as a caller of a container: it has a seat, its own one, or a borrowed one that goes back when this ends.
+/// Calls that are made in a late call go by the seat that this one has borrowed.
+class caller {
 public:
-    explicit seat_place(core &from) noexcept
-        : of(from), at(state_of_thread == thread_state::ends ? &borrowed : mine().place_of(from)),
-          code(!at ? std::uint32_t{LOCKFREE_NO_MEMORY} : *at ? std::uint32_t{LOCKFREE_OK} : from.take_seat(*at)) {}
-    seat_place(const seat_place &) = delete;
-    seat_place &operator=(const seat_place &) = delete;
-    ~seat_place() {
-        if (borrowed) of.give_back(borrowed);
+    explicit caller(core &from) noexcept : of(from), late{&from, nullptr, late_calls} {
+        if (state_of_thread == thread_state::ends && !place()) late_calls = &late;
+        seat **const at = place();
+        if (at) code = *at ? std::uint32_t{LOCKFREE_OK} : of.take_seat(*at);
+        if (code == LOCKFREE_OK) by = *at;
     }
-    bool is_the_threads() const noexcept { return at != &borrowed; }
+    caller(const caller &) = delete;
+    caller &operator=(const caller &) = delete;
+    ~caller() {
+        if (late_calls != &late) return;
+        late_calls = late.outer;
+        if (late.by) of.give_back(late.by);
+    }
+
+    /// Where the thread's seat is. Null if there is no memory.
+    seat **place() noexcept {
+        if (state_of_thread != thread_state::ends) {
+            slot *const at = mine().slot_of(of);
+            return at ? &at->by : nullptr;
+        }
+        for (late_call *at = late_calls; at; at = at->outer)
+            if (at->of == &of) return &at->by;
+        return nullptr;
+    }
 
 private:
     core &of;
-    seat *borrowed = nullptr;
+    late_call late;
 
 public:
-    seat **const at;
     /// OK, NO_MEMORY, NO_PASS.
-    const std::uint32_t code;
+    std::uint32_t code = LOCKFREE_NO_MEMORY;
+    seat *by = nullptr;
 };
 
-/// Takes a seat out of its place during one fold. If the fold's function calls the container, that call finds the place
-/// empty and puts another seat there. That one goes back when the fold ends.
-class lent {
+/// Has a seat out of its place during one fold. If the fold's function calls the container, that call finds the place empty
+/// and puts another seat there. That one goes back when the fold ends. `Place` tells where the place is then.
+template <class Place> class lent {
 public:
-    lent(core &from, seat *&its_place) noexcept : of(from), place(its_place), by(std::exchange(its_place, nullptr)) {}
+    lent(core &from, Place its_place) noexcept : of(from), place(its_place), by(std::exchange(*place(), nullptr)) {}
     lent(const lent &) = delete;
     lent &operator=(const lent &) = delete;
     ~lent() {
-        if (place) of.give_back(place);
-        place = by;
+        seat *const other = std::exchange(*place(), by);
+        if (other) of.give_back(other);
     }
 
 private:
     core &of;
-    seat *&place;
+    Place place;
 
 public:
     seat *const by;

@@ -61,6 +61,49 @@ void first_calls_at_the_end() {
     CHECK(first.pop(out) && out == 7);
 }
 
+/// A late call of a ring in a function of a late call: it needs no second pass.
+void nested_calls_at_the_end() {
+    using ring = lockfree::ring_queue<int, lockfree::capacity<4>>;
+    ring numbers{lockfree::pass_limit{1}};
+    struct only_at_the_end {
+        ring *of = nullptr;
+        ~only_at_the_end() {
+            CHECK(of->try_push(1) == lockfree::status::ok && of->push(2));
+            int seen = 0;
+            CHECK(of->consume_one([&](int first) {
+                CHECK(first == 1 && of->try_push(3) == lockfree::status::ok);
+                CHECK(of->consume_one([&](int second) { seen = second; }));
+            }));
+            CHECK(seen == 2);
+        }
+    };
+    std::thread([&] {
+        static thread_local only_at_the_end last;
+        last.of = &numbers;
+        CHECK(numbers.empty());  // so its seats go back before `last` ends
+    }).join();
+    int out = 0;
+    CHECK(numbers.pop(out) && out == 3 && numbers.empty());
+}
+
+/// And a fold in such a function, with a call in the fold.
+void nested_folds_at_the_end() {
+    struct only_at_the_end {
+        ~only_at_the_end() {
+            CHECK(first.push(1) && first.push(2) && first.consume_one([&](int value) {
+                CHECK(value == 2 && first.consume_all_atomic([](int last) { CHECK(last == 1 && first.push(4)); }) == 1);
+            }));
+        }
+    };
+    std::thread([] {
+        static thread_local only_at_the_end last;
+        (void)last;
+        CHECK(first.empty());
+    }).join();
+    int out = 0;
+    CHECK(first.pop(out) && out == 4 && first.empty());
+}
+
 struct at_exit {
     ~at_exit() {
         int out = 0;
@@ -73,5 +116,7 @@ struct at_exit {
 int main() {
     passes_have_one_thread();
     first_calls_at_the_end();
+    nested_calls_at_the_end();
+    nested_folds_at_the_end();
     std::puts("passed");
 }
