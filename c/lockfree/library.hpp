@@ -4,6 +4,7 @@
 #include "../lockfree.h"
 #include "names.hpp"
 
+#include <cstddef>
 #include <cstdint>
 
 #if defined(__SANITIZE_THREAD__)
@@ -12,18 +13,24 @@
 #if __has_feature(thread_sanitizer)
 #define LOCKFREE_UNDER_TSAN 1
 #endif
+#if __has_feature(memory_sanitizer)
+#define LOCKFREE_UNDER_MSAN 1
+#endif
 #endif
 #ifdef LOCKFREE_UNDER_TSAN
 extern "C" void __tsan_acquire(void *);
 extern "C" void __tsan_release(void *);
+#endif
+#ifdef LOCKFREE_UNDER_MSAN
+extern "C" void __msan_unpoison(const volatile void *, std::size_t);
 #endif
 
 namespace lockfree {
 inline namespace LOCKFREE_NAMES {
 namespace detail {
 
-/// What a push orders before the pop of its value, and a close before a call that it refuses. The library's atomics do it; ThreadSanitizer, which does not see
-/// them, is told, of each container by itself.
+/// What a push orders before the pop of its value, and a close before a call that it refuses. The library's
+/// atomics do it; ThreadSanitizer, which does not see them, is told, of each container by itself.
 inline void gives([[maybe_unused]] const void *to) noexcept {
 #ifdef LOCKFREE_UNDER_TSAN
     __tsan_release(const_cast<void *>(to));
@@ -35,6 +42,21 @@ inline void gets([[maybe_unused]] const void *from) noexcept {
 #endif
 }
 
+/// A word whose bytes all count as written: MemorySanitizer would report those between a value's members when the word goes
+/// to the library, and does not see what the library writes.
+inline std::uint64_t defined(std::uint64_t word) noexcept {
+#ifdef LOCKFREE_UNDER_MSAN
+    __msan_unpoison(&word, sizeof word);
+#endif
+    return word;
+}
+inline lockfree_answer defined(lockfree_answer answer) noexcept {
+#ifdef LOCKFREE_UNDER_MSAN
+    __msan_unpoison(&answer, sizeof answer);
+#endif
+    return answer;
+}
+
 /// A root or a pass, freed when it ends. An empty one is all zero.
 struct handle : lockfree_handle {
     handle() noexcept : lockfree_handle{} {}
@@ -42,12 +64,15 @@ struct handle : lockfree_handle {
     handle &operator=(const handle &) = delete;
     ~handle() { free(); }
     void free() noexcept { lockfree_free(this); }
+    bool is_empty() const noexcept { return !at; }
 };
 
 /// Goes on with a call until it has another answer than BUSY. The names in parentheses go around lockfree.h's own
 /// messages to ThreadSanitizer, which order all containers with one another.
 inline lockfree_answer whole(handle &pass, lockfree_answer answer) noexcept {
-    while (__builtin_expect(answer.code == LOCKFREE_BUSY, 0)) answer = (lockfree_go_on)(&pass, UINT64_MAX);
+    answer = detail::defined(answer);
+    while (__builtin_expect(answer.code == LOCKFREE_BUSY, 0))
+        answer = detail::defined((lockfree_go_on)(&pass, UINT64_MAX));
     return answer;
 }
 inline lockfree_answer put(handle &pass, std::uint64_t word) noexcept {
