@@ -5,8 +5,10 @@
 #include "options.hpp"
 #include "status.hpp"
 
+#include <algorithm>
 #include <atomic>
 #include <cstddef>
+#include <memory>
 #include <mutex>
 #include <new>
 #include <utility>
@@ -21,6 +23,19 @@ struct alignas(64) seat {
     cells_at_hand cells;
     seat *next_resting = nullptr;
     seat *next_made = nullptr;
+    /// How many values it has pushed onto a stack, less those that it has popped. Its thread alone writes it.
+    std::atomic<std::ptrdiff_t> held{0};
+    /// For the words of a fold, once it has had one of many values.
+    std::unique_ptr<std::uint64_t[]> words;
+
+    template <kind K> void tally([[maybe_unused]] std::ptrdiff_t change) noexcept {
+        if constexpr (K == kind::stack)
+            held.store(held.load(std::memory_order_relaxed) + change, std::memory_order_relaxed);
+    }
+    std::uint64_t *words_for(std::size_t room) noexcept {
+        if (!words) words.reset(new (std::nothrow) std::uint64_t[room]);
+        return words.get();
+    }
 };
 
 /// How many containers have ended, of all threads.
@@ -64,8 +79,27 @@ public:
         if (!ended()) of->next_resting = std::exchange(resting, of);
     }
 
-    void *take_cell(seat &by) noexcept { return cells.take(by.cells, lock); }
+    void *take_cell(seat &by, bool may_grow) noexcept { return cells.take(by.cells, lock, may_grow); }
     void give_cell(seat &by, void *cell) noexcept { cells.give(by.cells, cell, lock); }
+
+    /// Says while it lives that a fold has values in hand.
+    struct fold_under_way {
+        std::atomic<std::uint32_t> &all;
+        explicit fold_under_way(std::atomic<std::uint32_t> &of) noexcept : all(of) { all.fetch_add(1); }
+        fold_under_way(const fold_under_way &) = delete;
+        fold_under_way &operator=(const fold_under_way &) = delete;
+        ~fold_under_way() { all.fetch_sub(1); }
+    };
+    fold_under_way begin_fold() noexcept { return fold_under_way(folds); }
+    bool is_folding() const noexcept { return folds.load(std::memory_order_relaxed) != 0; }
+
+    /// How many values a stack holds: exactly if nobody else calls, else but for calls under way.
+    std::size_t held() const noexcept {
+        std::ptrdiff_t sum = 0;
+        for (const seat *at = made.load(std::memory_order_acquire); at; at = at->next_made)
+            sum += at->held.load(std::memory_order_relaxed);
+        return sum < 0 ? 0 : std::min(static_cast<std::size_t>(sum), room);
+    }
 
     void add_user() noexcept { users.fetch_add(1, std::memory_order_relaxed); }
     /// Whether it was the last one, who then calls `end`.
@@ -83,6 +117,7 @@ public:
             const lockfree_answer answer = detail::take(kept->pass);
             if (answer.code != LOCKFREE_OK) break;
             gets(this);
+            kept->tally<kind::stack>(-1);
             use(*kept, answer.value);
         }
     }
@@ -90,10 +125,17 @@ public:
     /// The same, when nobody calls any more, of all that is left, also if it is spent or shut. Then no pass is left, and
     /// each call says closed. `use` may throw: then the remaining values stay for the next call.
     template <class F> void finish(F &&use) {
-        for (seat *at = made.load(std::memory_order_acquire); at; at = at->next_made) at->pass.free();
+        {
+            const std::lock_guard<std::mutex> guard(lock);
+            finished = true;
+            for (seat *at = made.load(std::memory_order_acquire); at; at = at->next_made) {
+                at->pass.free();
+                at->held.store(0, std::memory_order_relaxed);
+            }
+        }
         gets(this);
         for (;;) {
-            const lockfree_answer answer = lockfree_finish(&root);
+            const lockfree_answer answer = detail::defined(lockfree_finish(&root));
             if (answer.code != LOCKFREE_VALUE) break;
             use(*kept, answer.value);
         }
@@ -121,7 +163,10 @@ private:
     cell_store cells;
     seat *kept = nullptr;     // the seat that no thread gets
     seat *resting = nullptr;  // those that nobody has
-    std::atomic<seat *> made{nullptr};
+    std::atomic<seat *> made{nullptr};  // all of them
+    seat *half_made = nullptr;          // one that lacks something, for which there was no memory
+    bool finished = false;              // no pass can be had any more
+    std::atomic<std::uint32_t> folds{0};
     std::atomic<bool> has_ended{false};  // written under the lock
     std::atomic<std::uint32_t> users{1}, holders{1};
 
@@ -147,24 +192,26 @@ private:
         return code == LOCKFREE_OK ? cells.add_for(room, kept->cells) : code;
     }
 
+    /// What is made of a seat before memory is refused is the next caller's: a pass that is freed would not come again.
     std::uint32_t make_seat(seat *&to) noexcept {
-        seat *const last = new (std::nothrow) seat;
-        if (!last) return LOCKFREE_NO_MEMORY;
-        std::uint32_t code = lockfree_split(&root, &last->pass);
-        if (code == LOCKFREE_OK) code = cells.join(last->cells);
-        if (code != LOCKFREE_OK) {
-            delete last;
-            return code;
-        }
-        last->next_made = made.load(std::memory_order_relaxed);
-        made.store(last, std::memory_order_release);
-        to = last;
-        return LOCKFREE_OK;
+        if (!half_made && !(half_made = begin_seat())) return LOCKFREE_NO_MEMORY;
+        std::uint32_t code = LOCKFREE_OK;
+        if (half_made->pass.is_empty() && !finished) code = lockfree_split(&root, &half_made->pass);
+        if (code == LOCKFREE_OK) code = cells.join(half_made->cells, kept != nullptr);
+        if (code == LOCKFREE_OK) to = std::exchange(half_made, nullptr);
+        return code;
+    }
+    seat *begin_seat() noexcept {
+        seat *const begun = new (std::nothrow) seat;
+        if (!begun) return nullptr;
+        begun->next_made = made.load(std::memory_order_relaxed);
+        made.store(begun, std::memory_order_release);
+        return begun;
     }
 
     void free_all() noexcept {
         for (seat *at = made.exchange(nullptr); at;) delete std::exchange(at, at->next_made);
-        resting = nullptr;
+        resting = half_made = nullptr;
         cells.clear();
         root.free();
     }

@@ -98,6 +98,27 @@ template <class Container> void first_pushes() {
     CHECK(counted::alive == 0);
 }
 
+struct in_a_cell {
+    std::uint64_t words[2];
+};
+
+/// A call that finds no memory costs no pass: what was made for it is the next one's.
+template <class Container, class... Limits> void passes_stay(std::size_t passes, Limits... limits) {
+    Container container(2, limits...);
+    until_made([&] { return container.try_push(in_a_cell{}) != lockfree::status::no_memory; });
+    for (int round = 0; round < 20; ++round)
+        until_made([&] { return static_cast<bool>(container.try_split()); });
+    std::vector<decltype(container.split())> all;
+    for (std::size_t i = 0; i < passes; ++i) {
+        until_made([&] {
+            auto pass = container.try_split();
+            if (pass) granted = -1, all.push_back(std::move(pass));
+            return all.size() > i;
+        });
+        CHECK(all.back().try_push(in_a_cell{}) != lockfree::status::no_pass);
+    }
+}
+
 void ranges() {
     {
         lockfree::stack<counted, lockfree::fixed_sized<true>> stack(200);
@@ -132,5 +153,9 @@ int main() {
     all<lockfree::stack>();
     all<lockfree::ring_queue>();
     ranges();
+    passes_stay<lockfree::ring_queue<in_a_cell>>(4, lockfree::pass_limit{4});
+    passes_stay<lockfree::bounded_queue<in_a_cell>>(100);
+    passes_stay<lockfree::bounded_stack<in_a_cell>>(100);
+    CHECK(counted::alive == 0);
     std::puts("passed");
 }
