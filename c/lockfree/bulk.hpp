@@ -1,4 +1,4 @@
-// A stack's calls of many values at once.
+// Calls with many values: of a stack a range goes in at once, of a queue and a ring one value after another.
 #pragma once
 
 #include "calls.hpp"
@@ -7,7 +7,6 @@
 #include <array>
 #include <cstddef>
 #include <cstdint>
-#include <cstring>
 #include <iterator>
 #include <memory>
 #include <new>
@@ -17,11 +16,13 @@ namespace lockfree {
 inline namespace LOCKFREE_NAMES {
 namespace detail {
 
-/// A value to be made of what a range gives: moved if it can be moved back without an exception, else copied.
-template <class T, class From> decltype(auto) gently(From &&from) noexcept {
-    if constexpr (std::is_same_v<From, T> && !moves_back<T> && std::is_copy_constructible_v<T>) return std::as_const(from);
-    else return std::forward<From>(from);
-}
+/// Whether a range can be read twice. The iterators of C++20's views say so by another name than older ones.
+template <class It, class = void>
+inline constexpr bool reads_twice =
+    std::is_base_of_v<std::forward_iterator_tag, typename std::iterator_traits<It>::iterator_category>;
+template <class It>
+inline constexpr bool reads_twice<It, std::void_t<typename It::iterator_concept>> =
+    std::is_base_of_v<std::forward_iterator_tag, typename It::iterator_concept>;
 
 /// The words of a range: of up to 64 with no memory for them. Those that are not put end here, or go back to the range, if
 /// it gave them by rvalue.
@@ -32,24 +33,25 @@ public:
           room(many ? most : std::min(most, few.size())) {}
     range_words(const range_words &) = delete;
     range_words &operator=(const range_words &) = delete;
-    ~range_words() {
+    ~range_words() noexcept(moves_back<T>) {
         if constexpr (!goes_by_value<T>) {
+            const ends_rest end{*this};
             give_back();
-            while (count > put_count) use_word<T>(of, by, words()[--count], [](T &) {});
         }
     }
 
-    /// Makes values of the front of the range.
+    /// Makes values of the front of the range. Not `ok` if it stops before `room`.
     status collect() {
-        for (It at = first; count < room; ++at, ++count) {
+        for (It at = first; count < room; (void)++at, ++count) {
             std::uint64_t &word = words()[count] = 0;
             if constexpr (goes_by_value<T>) {
                 const T value(*at);
-                std::memcpy(&word, &value, sizeof value);
+                word = detail::word_of_value(value);
             } else {
                 held_cell cell(of, by);
-                if (!cell) return count == 0 ? status::no_memory : status::ok;
-                ::new (cell.at()) T(gently<T>(*at));
+                const status found = cell.find(tries_once);
+                if (found != status::ok) return found;
+                ::new (cell.at()) T(*at);
                 word = cell.word();
                 cell.given_away();
             }
@@ -57,18 +59,20 @@ public:
         return status::ok;
     }
 
-    /// Puts what was made, as many as cells can be had; `after` is the first that was not put.
-    status put_all(It &after) {
+    /// Puts what was made, as many as fit.
+    status put_all() noexcept {
         gives(&of);
-        const lockfree_answer answer = lockfree_push_range(&by.pass, words(), count);
-        if (answer.code != LOCKFREE_OK) return refused(of, answer.code);
+        const lockfree_answer answer = detail::defined(lockfree_push_range(&by.pass, words(), count));
+        if (answer.code != LOCKFREE_OK) return detail::refused(of, answer.code);
         put_count = static_cast<std::size_t>(answer.value);
-        after = std::next(first, static_cast<distance>(put_count));
-        return status::ok;
+        by.tally<kind::stack>(static_cast<std::ptrdiff_t>(put_count));
+        return put_count == count ? status::ok : status::full;
     }
+    std::size_t made() const noexcept { return count; }
+    std::size_t put() const noexcept { return put_count; }
 
 private:
-    using distance = typename std::iterator_traits<It>::difference_type;
+    using reference = typename std::iterator_traits<It>::reference;
     core &of;
     seat &by;
     const It first;
@@ -78,77 +82,87 @@ private:
     std::size_t count = 0;
     std::size_t put_count = 0;
 
+    struct ends_rest {
+        range_words &of;
+        ~ends_rest() {
+            while (of.count > of.put_count)
+                detail::use_word<T>(of.of, of.by, of.words()[--of.count], [](T &) {});
+        }
+    };
+
     std::uint64_t *words() noexcept { return many ? many.get() : few.data(); }
 
-    void give_back() noexcept {
-        if constexpr (std::is_same_v<typename std::iterator_traits<It>::reference, T &&> && moves_back<T>) {
-            It at = std::next(first, static_cast<distance>(put_count));
-            for (std::size_t i = put_count; i < count; ++i, ++at) {
+    void give_back() {
+        if constexpr (std::is_same_v<reference, T &&>) {
+            It at = first;
+            for (std::size_t i = 0; i < count; (void)++at, ++i) {
+                if (i < put_count) continue;
                 T &&from = *at;
-                move_back(*std::launder(place_of<T>(words()[i])), from);
+                detail::move_back(*std::launder(place_of<T>(words()[i])), from);
             }
         }
     }
 };
 
-/// Puts a range at once.
-template <class T, class It> status put_range(core &of, seat &by, It begin, It end, It &after) {
+/// Puts a range at once, and tells how many of it. `ok` if all of them.
+template <class T, class It> status put_range(core &of, seat &by, It begin, It end, std::size_t &put) {
     std::size_t most = 0;
-    for (It at = begin; at != end && most < of.room; ++at) ++most;
+    It rest = begin;
+    for (; rest != end && most < of.room; (void)++rest) ++most;
     if (most == 0) return status::ok;
     range_words<T, It> range(of, by, begin, most);
     const status made = range.collect();
-    return made == status::ok ? range.put_all(after) : made;
+    if (range.made() == 0) return made;
+    const status what = range.put_all();
+    put = range.put();
+    if (what != status::ok || made != status::ok) return what != status::ok ? what : made;
+    return put < most ? status::no_memory : rest == end ? status::ok : status::full;
 }
 
-template <class Me, class T> class bulk {
+/// The calls of all containers with many values.
+template <class Me, class T, kind K> class bulk {
 public:
-    /// Puts the values of a range from its front, as many as there is room for, all at once: others see all of them or
-    /// none, and the last one is on top. The first that was not put. Values that the range gives by rvalue and that are
-    /// not put stay in the range. Takes memory for more than 64 values; large
-    /// ranges of several threads at a time may take memory for cells. std::bad_alloc if there is none for the first value.
+    /// Puts the values of a range from its front, as many as there is room for. The first that was not put. Values that the
+    /// range gives by rvalue and that are not put are moved back into it.
     ///
-    /// Input iterators are read once: their values are put one after another, so that others may see a part.
+    /// A stack takes them all at once: others see all of them or none, and the last one is on top. That takes memory for
+    /// more than 64 values; large ranges of several threads at a time may take memory for cells. A range that can be read
+    /// only once, and each range of a queue or a ring, goes in one value after another, so that others may see a part.
     template <class It> It push(It begin, It end) {
-        using category = typename std::iterator_traits<It>::iterator_category;
-        if constexpr (std::is_base_of_v<std::forward_iterator_tag, category>) {
-            It after = begin;
-            throw_if_not_made(me().with([&](core &of, seat &by) { return put_range<T>(of, by, begin, end, after); }));
-            return after;
-        } else {
-            while (begin != end && me().emplace(*begin)) ++begin;
-            return begin;
-        }
+        auto [next, what] = try_push(begin, end);
+        if (next == begin) throw_if_not_made(what);
+        return next;
     }
     template <class It> It bounded_push(It begin, It end) { return push(begin, end); }
-
-    /// Takes all values at once, and hands them to `use` from the top down, as consume_one does. How many. `use` may call
-    /// the container, by a pass that is borrowed under a lock. If it throws, the values that it has not got end.
-    template <class F> std::size_t consume_all_atomic(F &&use) { return fold_all(false, use); }
-    /// From the bottom up.
-    template <class F> std::size_t consume_all_atomic_reversed(F &&use) { return fold_all(true, use); }
-
-private:
-    Me &me() noexcept { return static_cast<Me &>(*this); }
-
-    template <class F> std::size_t fold_all(bool reversed, F &use) {
-        std::size_t count = 0;
-        throw_if_not_made(me().with_lent([&](core &of, seat &by) {
-            fold<T> values(of, by, reversed);
-            while (values.next([&](T &value) { hand_over(use, value); })) ++count;
-            return status::ok;
-        }));
-        return count;
+    /// The same, with the reason if not all were put: full, closed, spent, no_memory, no_pass.
+    template <class It> put_range_result<It> try_push(It begin, It end) {
+        if constexpr (K == kind::stack && reads_twice<It>) {
+            std::size_t put = 0;
+            const status what = static_cast<Me &>(*this).with(
+                [&](core &of, seat &by) { return detail::put_range<T>(of, by, begin, end, put); });
+            return {std::next(begin, static_cast<typename std::iterator_traits<It>::difference_type>(put)), what};
+        } else {
+            status what = status::ok;
+            while (begin != end && (what = static_cast<Me &>(*this).try_emplace(*begin)) == status::ok) (void)++begin;
+            return {begin, what};
+        }
     }
-};
 
-template <class Me, class T, kind K> class all_calls : public calls<Me, T, K> {};
-template <class Me, class T> class all_calls<Me, T, kind::stack> : public calls<Me, T, kind::stack>, public bulk<Me, T> {
-public:
-    using bulk<Me, T>::bounded_push;
-    using bulk<Me, T>::push;
-    using calls<Me, T, kind::stack>::bounded_push;
-    using calls<Me, T, kind::stack>::push;
+    /// Takes up to `most` values, one after another, and assigns them to `to`, to the next place of it, and so on. How many.
+    template <class Out> std::size_t pop(Out to, std::size_t most) {
+        const batch taken = try_pop(to, most);
+        if (taken.count == 0) throw_if_not_made(taken.what);
+        return taken.count;
+    }
+    /// The same, with the reason if there were fewer: empty, closed, shut, spent, no_memory, no_pass.
+    template <class Out> batch try_pop(Out to, std::size_t most) {
+        batch taken{0, status::ok};
+        for (; taken.count < most; (void)++to, ++taken.count) {
+            taken.what = static_cast<Me &>(*this).try_consume_one([&](T &value) { *to = std::move(value); });
+            if (taken.what != status::ok) break;
+        }
+        return taken;
+    }
 };
 
 }  // namespace detail

@@ -3,6 +3,7 @@
 
 #include "bulk.hpp"
 #include "calls.hpp"
+#include "folds.hpp"
 #include "threads.hpp"
 
 #include <cstddef>
@@ -15,10 +16,32 @@ namespace lockfree {
 inline namespace LOCKFREE_NAMES {
 namespace detail {
 
+/// All calls of a container and of its passes.
+template <class Me, class T, kind K>
+class most_calls : public calls<Me, T, K>, public gauges<Me, K>, public bulk<Me, T, K> {
+public:
+    using bulk<Me, T, K>::bounded_push;
+    using bulk<Me, T, K>::pop;
+    using bulk<Me, T, K>::push;
+    using bulk<Me, T, K>::try_pop;
+    using bulk<Me, T, K>::try_push;
+    using calls<Me, T, K>::bounded_push;
+    using calls<Me, T, K>::pop;
+    using calls<Me, T, K>::push;
+    using calls<Me, T, K>::try_pop;
+    using calls<Me, T, K>::try_push;
+};
+template <class Me, class T, kind K> class all_calls : public most_calls<Me, T, K> {};
+template <class Me, class T>
+class all_calls<Me, T, kind::stack> : public most_calls<Me, T, kind::stack>, public folds<Me, T> {};
+
 /// One thread's own way to a container: of `split`. It moves, and has no copy. When it ends it goes back to its container,
 /// under a lock. It may outlive the container and still works then; values that it still pushes end with the last pass.
 template <class T, kind K> class pass_of : public all_calls<pass_of<T, K>, T, K> {
 public:
+    using value_type = T;
+    using size_type = std::size_t;
+
     /// An empty pass: each of its calls says no_pass.
     pass_of() noexcept = default;
     pass_of(pass_of &&other) noexcept : of(std::exchange(other.of, nullptr)), by(std::exchange(other.by, nullptr)) {}
@@ -41,7 +64,9 @@ public:
 private:
     template <class, kind, class...> friend class container;
     template <class, class, kind> friend class calls;
-    template <class, class> friend class bulk;
+    template <class, class, kind> friend class bulk;
+    template <class, kind> friend class gauges;
+    template <class, class> friend class folds;
     core *of = nullptr;
     seat *by = nullptr;  // null also if a fold has it
 
@@ -49,7 +74,10 @@ private:
     pass_of(core &from, seat &with) noexcept : of(&from), by(&with) { from.add_user(); }
 
     core *shared() const noexcept { return of; }
-    std::uint32_t ready() noexcept { return !of ? std::uint32_t{LOCKFREE_NO_PASS} : by ? std::uint32_t{LOCKFREE_OK} : of->take_seat(by); }
+    std::uint32_t ready() noexcept {
+        if (!of) return LOCKFREE_NO_PASS;
+        return by ? std::uint32_t{LOCKFREE_OK} : of->take_seat(by);
+    }
 
     template <class F> status with(F &&call) {
         const std::uint32_t code = ready();
@@ -62,6 +90,10 @@ private:
         return call(*of, *out.by);
     }
 };
+
+template <class Alloc, class = void> inline constexpr bool is_allocator = false;
+template <class Alloc>
+inline constexpr bool is_allocator<Alloc, std::void_t<decltype(std::declval<Alloc &>().allocate(std::size_t{1}))>> = true;
 
 /// A core that is a container's from now on.
 struct adopted {
@@ -86,7 +118,8 @@ public:
     /// With capacity<N>. Takes all memory that pushes and pops need, whatever T is. std::bad_alloc, and of limits
     /// std::invalid_argument.
     template <bool Sized = sized, class = std::enable_if_t<Sized>> container() : container(adopted{made(given::size, limits())}) {}
-    template <class First, class... More, bool Sized = sized, class = std::enable_if_t<Sized && are_limits<K, First, More...>>>
+    template <class First, class... More, bool Sized = sized,
+              class = std::enable_if_t<Sized && are_limits<K, First, More...>>>
     explicit container(First limit, More... more) : container(adopted{made(given::size, limits(limit, more...))}) {}
     /// With fixed_sized<true>, and a ring without capacity<N>. Room for 1 to 1,048,573 values. std::bad_alloc,
     /// std::invalid_argument.
@@ -95,6 +128,17 @@ public:
         static_assert(given::fixed || Sized || K == kind::ring,
                       "lockfree: Boost's container of a size without fixed_sized<true> grows, and none here does: "
                       "say fixed_sized<true>, or bounded_queue<T> or bounded_stack<T>");
+    }
+    /// Boost's with an allocator, and refused when compiled.
+    template <class Alloc, class = std::enable_if_t<is_allocator<Alloc>>>
+    explicit container(const Alloc &) : container(adopted{nullptr}) {
+        static_assert(never_compiled<Alloc>,
+                      "lockfree: no container here takes an allocator: its constructor takes all memory");
+    }
+    template <class Alloc, class = std::enable_if_t<is_allocator<Alloc>>>
+    container(size_type, const Alloc &) : container(adopted{nullptr}) {
+        static_assert(never_compiled<Alloc>,
+                      "lockfree: no container here takes an allocator: its constructor takes all memory");
     }
     explicit container(adopted by_make) noexcept : of(by_make.from), home(home_of(of)) {}
     container(const container &) = delete;
@@ -109,13 +153,14 @@ public:
 
     /// A pass that a thread keeps itself, which spares each call the look for it. Made under a lock; takes memory if more
     /// are out than ever before. At most 65,534 are out at a time, with those of the threads that have called; of a ring as
-    /// many as its pass_limit says. try_split's is empty if there is no memory or no pass; split throws std::bad_alloc or std::length_error.
-    pass split() {
+    /// many as its pass_limit says. try_split's is empty if there is no memory or no pass; split throws std::bad_alloc or
+    /// std::length_error. After `finish` it is a pass whose calls say closed.
+    [[nodiscard]] pass split() {
         seat *by = nullptr;
         throw_for(of->take_seat(by));
         return pass(*of, *by);
     }
-    pass try_split() noexcept {
+    [[nodiscard]] pass try_split() noexcept {
         seat *by = nullptr;
         return of->take_seat(by) == LOCKFREE_OK ? pass(*of, *by) : pass();
     }
@@ -127,7 +172,7 @@ public:
     template <class F> status finish(F &&use) {
         if (!of->has_one_user()) return status::shared;
         of->finish([&](seat &by, std::uint64_t word) {
-            use_word<T>(*of, by, word, [&](T &value) { hand_over(use, value); });
+            detail::use_word<T>(*of, by, word, [&](T &value) { detail::hand_over(use, value); });
         });
         return status::ok;
     }
@@ -135,22 +180,25 @@ public:
     /// For a thread that calls alone, as Boost's: the same calls here.
     bool unsynchronized_push(const T &value) { return base::push(value); }
     bool unsynchronized_push(T &&value) { return base::push(std::move(value)); }
-    template <class It, kind Of = K, class = std::enable_if_t<Of == kind::stack>> It unsynchronized_push(It begin, It end) {
-        return base::push(begin, end);
-    }
+    template <class D, class = std::enable_if_t<is_unreturnable<T, D>>> bool unsynchronized_push(D &&value) = delete;
+    template <class It> It unsynchronized_push(It begin, It end) { return base::push(begin, end); }
     template <class U> bool unsynchronized_pop(U &to) { return base::pop(to); }
 
     /// Boost's, and refused when compiled.
     template <class N> void reserve(N) {
-        static_assert(never_compiled<N>, "lockfree: no container here grows, so there is nothing to reserve: its constructor takes all memory");
+        static_assert(never_compiled<N>, "lockfree: no container here grows, so there is nothing to reserve: its "
+                                         "constructor takes all memory");
     }
     template <class N> void reserve_unsafe(N) {
-        static_assert(never_compiled<N>, "lockfree: no container here grows, so there is nothing to reserve: its constructor takes all memory");
+        static_assert(never_compiled<N>, "lockfree: no container here grows, so there is nothing to reserve: its "
+                                         "constructor takes all memory");
     }
 
 private:
     template <class, class, kind> friend class calls;
-    template <class, class> friend class bulk;
+    template <class, class, kind> friend class bulk;
+    template <class, kind> friend class gauges;
+    template <class, class> friend class folds;
     template <class Container, class... Room> friend std::unique_ptr<Container> make(Room... room) noexcept;
     core *const of;
     const std::size_t home;

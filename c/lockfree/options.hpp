@@ -28,7 +28,8 @@ struct tag_limit {
 };
 
 /// For a ring's constructor: how many passes are out at a time at most, of threads that have called it and of `split`
-/// together. 1 to 65,534, and with the capacity at most 1,048,574. A ring that is given none has 64.
+/// together. 1 to 65,534, and with the capacity at most 1,048,574. A ring that is given none has 256, which cost 5 KiB, and 12
+/// to 18 KiB more for values in cells: as many threads as a server has, and fewer if it has a ring for each connection.
 struct pass_limit {
     std::size_t most;
 };
@@ -46,6 +47,8 @@ enum class kind { queue, stack, ring };
 inline constexpr std::uint64_t greatest_tag = (std::uint64_t{1} << 42) - 1;
 inline constexpr std::uint64_t greatest_lap = greatest_tag / 2;
 
+inline constexpr std::size_t usual_passes = 256;
+
 /// What a constructor may be told besides the capacity, and what it does if it is not told.
 template <kind K> struct limits {
     std::uint64_t life;
@@ -54,9 +57,9 @@ template <kind K> struct limits {
 template <> struct limits<kind::ring> {
     std::uint64_t life;
     std::size_t passes;
-    explicit constexpr limits(pass_limit of_passes = {64}, lap_limit laps = {greatest_lap}) noexcept
+    explicit constexpr limits(pass_limit of_passes = {usual_passes}, lap_limit laps = {greatest_lap}) noexcept
         : life(laps.most), passes(of_passes.most) {}
-    explicit constexpr limits(lap_limit laps, pass_limit of_passes = {64}) noexcept : limits(of_passes, laps) {}
+    explicit constexpr limits(lap_limit laps, pass_limit of_passes = {usual_passes}) noexcept : limits(of_passes, laps) {}
 };
 template <kind K, class... Given> inline constexpr bool are_limits = std::is_constructible_v<limits<K>, Given...>;
 

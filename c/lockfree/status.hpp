@@ -4,6 +4,7 @@
 #include "../lockfree.h"
 #include "names.hpp"
 
+#include <cstddef>
 #include <cstdint>
 #include <cstdlib>
 #include <new>
@@ -13,7 +14,7 @@ namespace lockfree {
 inline namespace LOCKFREE_NAMES {
 
 /// What became of a call. The numbers are lockfree.h's codes, but for `stopped`.
-enum class status : std::uint32_t {
+enum class [[nodiscard]] status : std::uint32_t {
     ok = LOCKFREE_OK,
     full = LOCKFREE_FULL,            ///< A push: no room now.
     empty = LOCKFREE_EMPTY,          ///< A pop: no value now; more may come.
@@ -43,6 +44,18 @@ constexpr const char *to_string(status what) noexcept {
     return "unknown";
 }
 
+/// What became of a call with many values: how many it handled, and why not more.
+struct [[nodiscard]] batch {
+    std::size_t count;
+    status what;
+};
+
+/// What became of a push of a range: the first value that was not put, and why it was not; `ok` if all were.
+template <class It> struct [[nodiscard]] put_range_result {
+    It next;
+    status what;
+};
+
 namespace detail {
 
 /// The status of a code. After `finish` the handles are empty: then a container is as a closed one.
@@ -56,16 +69,21 @@ inline void throw_for(std::uint32_t code) {
     case LOCKFREE_OK: return;
     case LOCKFREE_NO_MEMORY: LOCKFREE_THROW(std::bad_alloc());
     case LOCKFREE_BAD_CAPACITY:
-        LOCKFREE_THROW(std::invalid_argument("lockfree: a capacity is 1 to 1,048,573, a tag limit 2 to 2^42 - 1; of a ring the passes are "
-                                             "1 to 65,534, with the capacity at most 1,048,574, and the laps 1 to 2^41 - 1"));
-    case LOCKFREE_NO_PASS: LOCKFREE_THROW(std::length_error("lockfree: all passes of the container are out, or this one is empty"));
+        LOCKFREE_THROW(std::invalid_argument(
+            "lockfree: a capacity is 1 to 1,048,573, a tag limit 2 to 2^42 - 1; a ring has 1 to 65,534 passes, with "
+            "the capacity at most 1,048,574, and 1 to 2^41 - 1 laps"));
+    case LOCKFREE_NO_PASS:
+        LOCKFREE_THROW(std::length_error("lockfree: all passes of the container are out, or this one is empty"));
     default: LOCKFREE_THROW(std::logic_error("lockfree: the archive is of another version than the headers"));
     }
 }
 
+/// Whether a call could not be made.
+constexpr bool is_not_made(status what) noexcept { return what == status::no_memory || what == status::no_pass; }
+
 /// Throws if a thread's first call could not be made, since there was no memory or no pass.
 inline void throw_if_not_made(status what) {
-    if (__builtin_expect(what == status::no_memory || what == status::no_pass, 0)) throw_for(static_cast<std::uint32_t>(what));
+    if (__builtin_expect(is_not_made(what), 0)) throw_for(static_cast<std::uint32_t>(what));
 }
 
 }  // namespace detail

@@ -3,6 +3,7 @@
 
 #include "options.hpp"
 
+#include <algorithm>
 #include <chrono>
 #include <thread>
 #include <type_traits>
@@ -19,19 +20,25 @@ struct never_stops {
 namespace detail {
 
 template <class T, class = void> inline constexpr bool is_stop_token = false;
-template <class T> inline constexpr bool is_stop_token<T, std::void_t<decltype(std::declval<const T &>().stop_requested())>> = true;
+template <class T>
+inline constexpr bool is_stop_token<T, std::void_t<decltype(std::declval<const T &>().stop_requested())>> = true;
 
 template <class T> inline constexpr bool is_time_point = false;
-template <class Clock, class Duration> inline constexpr bool is_time_point<std::chrono::time_point<Clock, Duration>> = true;
+template <class Clock, class Duration>
+inline constexpr bool is_time_point<std::chrono::time_point<Clock, Duration>> = true;
 
 template <class T> inline constexpr bool is_duration = false;
-template <class Rep, class Period> inline constexpr bool is_duration<std::chrono::duration<Rep, Period>> = true;
+template <class Rep, class Period>
+inline constexpr bool is_duration<std::chrono::duration<Rep, Period>> = true;
 
-/// The time so long after now; the end of time, if that is later than any.
-template <class Rep, class Period> std::chrono::steady_clock::time_point after(const std::chrono::duration<Rep, Period> &wait) {
+/// The time so long after now; now itself if it is before, and the end of time if that is later than any.
+template <class Rep, class Period>
+std::chrono::steady_clock::time_point after(const std::chrono::duration<Rep, Period> &wait) {
     using clock = std::chrono::steady_clock;
+    using seconds = std::chrono::duration<double>;
     const auto now = clock::now();
-    if (std::chrono::duration<double>(wait) >= std::chrono::duration<double>(clock::time_point::max() - now)) return clock::time_point::max();
+    if (wait <= wait.zero()) return now;
+    if (seconds(wait) >= seconds(clock::time_point::max() - now)) return clock::time_point::max();
     return now + std::chrono::duration_cast<clock::duration>(wait);
 }
 
@@ -44,16 +51,17 @@ template <class Stop> auto asks(Stop &stop) {
     } else if constexpr (is_time_point<given>) {
         return [&stop] { return given::clock::now() >= stop; };
     } else if constexpr (is_duration<given>) {
-        return [end = after(stop)] { return std::chrono::steady_clock::now() >= end; };
+        return [end = detail::after(stop)] { return std::chrono::steady_clock::now() >= end; };
     } else {
         static_assert(std::is_invocable_r_v<bool, Stop &>,
-                      "lockfree: a stop is a std::stop_token, a time_point, a duration, or a function that says true when it is to stop");
+                      "lockfree: a stop is a std::stop_token, a time_point, a duration, or a function that says true "
+                      "when it is to stop");
         return [&stop] { return static_cast<bool>(stop()); };
     }
 }
 
-/// Passes the time between two tries: at first a hint to the processor, then the turn to another thread, and at last
-/// 50 microseconds of sleep, so that a long wait leaves the processor to others.
+/// Passes the time between two tries: at first a hint to the processor, then the turn to another thread, and at last sleep,
+/// of 50 microseconds, and each time twice that, up to 1 millisecond. So a long wait takes some 0.2 % of a processor.
 class patience {
 public:
     void wait() {
@@ -66,13 +74,15 @@ public:
             ++rounds;
             std::this_thread::yield();
         } else {
-            std::this_thread::sleep_for(std::chrono::microseconds(50));
+            std::this_thread::sleep_for(sleep);
+            sleep = std::min(2 * sleep, std::chrono::microseconds(1000));
         }
     }
 
 private:
     static constexpr unsigned spins = 64, yields = 1000;
     unsigned rounds = 0;
+    std::chrono::microseconds sleep{50};
 };
 
 /// Whether to try again, once a try was refused: not if the stop says so. It has waited then.

@@ -74,7 +74,7 @@ template <template <class, class...> class Container> void of_waiting() {
     CHECK(three && *three == 3);
     bool thrown = false;
     try {
-        pointers.push_wait(std::move(three), []() -> bool { throw std::runtime_error("stop"); });
+        static_cast<void>(pointers.push_wait(std::move(three), []() -> bool { throw std::runtime_error("stop"); }));
     } catch (const std::runtime_error &) {
         thrown = true;
     }
