@@ -44,8 +44,9 @@ pub(crate) struct Cells<T> {
 struct Made<T> {
     /// Of the container of free chains.
     root: Root,
-    /// Its first pass, until a hand takes it.
-    first: Option<RawPass>,
+    /// A pass of it that the next hand takes: the first one, or one for whose hand there was no memory. (A ring gives no more
+    /// passes than it was made for, so none may be left over or lost.)
+    next: Option<RawPass>,
     blocks: Vec<Block<T>>,
     /// Free chains for which a stack has no room, since there are more passes than planned.
     crowd: Vec<NonNull<Cell<T>>>,
@@ -86,7 +87,7 @@ impl<T> Cells<T> {
 
     /// The cells for as many values of a container of this kind, and none for a pass.
     pub(crate) fn new(kind: Kind, capacity: u32) -> Result<Cells<T>, MakeError> {
-        let mut made = Made { root: Root::none(), first: None, blocks: Vec::new(), crowd: Vec::new(), chains: 0 };
+        let mut made = Made { root: Root::none(), next: None, blocks: Vec::new(), crowd: Vec::new(), chains: 0 };
         if !Self::ARE_WORDS {
             let (kind, planned) = match kind {
                 Kind::Queue { .. } | Kind::Stack { .. } => (Kind::Stack { tags: TAG_LIMIT }, PLANNED),
@@ -97,7 +98,7 @@ impl<T> Cells<T> {
             made.root = Root::new(kind, chains + (BROUGHT + 1) * planned)?;
             let mut pass = made.root.split()?;
             made.add_chains(chains, &mut pass)?;
-            made.first = Some(pass);
+            made.next = Some(pass);
         }
         Ok(Cells { made: Mutex::new(made) })
     }
@@ -107,12 +108,15 @@ impl<T> Cells<T> {
         let mut hand = Hand::none();
         if !Self::ARE_WORDS {
             let mut made = self.lock();
-            // A ring gives no more passes than it was made for, so none may be left over.
-            hand.pass = match made.first.take() {
+            let mut pass = match made.next.take() {
                 Some(pass) => pass,
                 None => made.root.split()?,
             };
-            made.add_chains(BROUGHT, &mut hand.pass)?;
+            if let Err(why) = made.add_chains(BROUGHT, &mut pass) {
+                made.next = Some(pass);
+                return Err(why);
+            }
+            hand.pass = pass;
         }
         Ok(hand)
     }

@@ -31,13 +31,16 @@ struct Seats<T> {
     root: Root,
     resting: Vec<Seat<T>>,
     made: usize,
+    /// A pass that was split off for a seat for which there was no memory then. The library gives no pass twice, so it is
+    /// the next seat's.
+    half_made: Option<RawPass>,
 }
 
 impl<T> Core<T> {
     pub(crate) fn new(kind: Kind, capacity: u32) -> Result<Core<T>, MakeError> {
         let root = Root::new(kind, capacity)?;
         Ok(Core {
-            seats: Mutex::new(Seats { root, resting: Vec::new(), made: 0 }),
+            seats: Mutex::new(Seats { root, resting: Vec::new(), made: 0, half_made: None }),
             cells: Cells::new(kind, capacity)?,
             capacity,
             kind,
@@ -54,10 +57,20 @@ impl<T> Core<T> {
         // There is room for each seat that was made, so that a pass that is dropped asks for no memory.
         let room = seats.made + 1;
         seats.resting.try_reserve(room).map_err(|_| MakeError::NoMemory)?;
-        let pass = seats.root.split()?;
-        let hand = self.cells.hand()?;
-        seats.made = room;
-        Ok(Seat { pass, hand })
+        let pass = match seats.half_made.take() {
+            Some(pass) => pass,
+            None => seats.root.split()?,
+        };
+        match self.cells.hand() {
+            Ok(hand) => {
+                seats.made = room;
+                Ok(Seat { pass, hand })
+            }
+            Err(why) => {
+                seats.half_made = Some(pass);
+                Err(why)
+            }
+        }
     }
 
     pub(crate) fn rest(&self, seat: Seat<T>) {
@@ -107,6 +120,7 @@ impl<T> Drop for Core<T> {
     fn drop(&mut self) {
         let seats = self.seats.get_mut().unwrap_or_else(PoisonError::into_inner);
         seats.resting.clear();
+        seats.half_made = None;
         drop_each(|| {
             let word = seats.root.finish()?;
             // SAFETY: the word comes out of the container, and its cell's memory is still there.
