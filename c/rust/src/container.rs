@@ -145,8 +145,6 @@ pub(crate) fn drop_each<T>(mut next: impl FnMut() -> Option<T>) {
 
 /// A bounded queue: first in, first out. It gives passes, one to each thread, and these make the calls.
 ///
-/// What it holds is dropped with it, also if passes are left; what they push afterwards is dropped with the last of them.
-///
 /// ```
 /// let queue = lockfree::Queue::new(64).unwrap();
 /// std::thread::scope(|scope| {
@@ -170,6 +168,8 @@ pub(crate) fn drop_each<T>(mut next: impl FnMut() -> Option<T>) {
 /// let queue = lockfree::Queue::<std::rc::Rc<u8>>::new(2).unwrap();
 /// std::thread::spawn(move || queue.capacity());
 /// ```
+///
+#[doc = include_str!("dropped.md")]
 pub struct Queue<T> {
     core: Arc<Core<T>>,
     // By which the container itself asks, and what is left is taken at the end.
@@ -178,8 +178,6 @@ pub struct Queue<T> {
 
 /// A bounded stack: last in, first out. It gives passes, one to each thread, and these make the calls.
 ///
-/// What it holds is dropped with it, also if passes are left; what they push afterwards is dropped with the last of them.
-///
 /// ```
 /// let stack = lockfree::Stack::new(64).unwrap();
 /// let mut pass = stack.pass().unwrap();
@@ -187,6 +185,8 @@ pub struct Queue<T> {
 /// pass.push("b").unwrap();
 /// assert_eq!(pass.drain().collect::<Vec<_>>(), ["b", "a"]);
 /// ```
+///
+#[doc = include_str!("dropped.md")]
 pub struct Stack<T> {
     core: Arc<Core<T>>,
     // By which the container itself asks, and what is left is taken at the end.
@@ -214,7 +214,7 @@ macro_rules! of_all_passes {
             }
 
             /// The same with a lower limit for its tags, 2 to 2^42 - 1, for tests of what a program does when a container is
-            /// spent. A queue of limit n takes n - 1 values in its life; a stack makes n pushes and pops in all.
+            /// spent. A queue of limit n takes n - 1 or n values in its life; a stack makes n pushes and pops in all.
             ///
             /// # Errors
             ///
@@ -296,7 +296,13 @@ macro_rules! container {
         impl<T> Drop for $Container<T> {
             fn drop(&mut self) {
                 let pass = self.last.get_mut().unwrap_or_else(PoisonError::into_inner);
-                drop_each(|| pass.pop().ok());
+                // At most as many values as there is room for, so that it ends beside threads that push, and with values that
+                // push again.
+                let mut most = self.core.capacity;
+                drop_each(|| {
+                    most = most.checked_sub(1)?;
+                    pass.pop().ok()
+                });
             }
         }
 

@@ -210,8 +210,8 @@ impl<T, K> Pass<T, K> {
         closed
     }
 
-    /// Shuts the container, so that no pop follows; pushes may. What it holds is dropped at the end. Whether this call
-    /// shut it.
+    /// Shuts the container, so that no pop follows; pushes may. What it holds is dropped when the container and all passes
+    /// have been. Whether this call shut it.
     ///
     /// ```
     /// let queue = lockfree::Queue::new(4).unwrap();

@@ -15,10 +15,8 @@ const PASS_LIMIT: u32 = 65_534;
 /// How many times a ring can be filled.
 pub(crate) const LAP_LIMIT: u64 = TAG_LIMIT / 2;
 
-/// A bounded queue for a known number of passes: first in, first out. Between threads it takes less time than a [`Queue`]. It
-/// gives passes, one to each thread, and these make the calls of [`Pass`].
-///
-/// What it holds is dropped with it, also if passes are left; what they push afterwards is dropped with the last of them.
+/// A bounded queue for a known number of passes: first in, first out. Between threads it takes less time than a
+/// [`Queue`](crate::Queue). It gives passes, one to each thread, and these make the calls of [`Pass`].
 ///
 /// ```
 /// let ring = lockfree::Ring::with_passes(64, 2).unwrap();
@@ -29,6 +27,8 @@ pub(crate) const LAP_LIMIT: u64 = TAG_LIMIT / 2;
 /// assert!(!taking.is_empty());
 /// assert_eq!(taking.drain().collect::<Vec<_>>(), ["a", "b"]);
 /// ```
+///
+#[doc = include_str!("dropped.md")]
 pub struct Ring<T> {
     core: Arc<Core<T>>,
     // By which what is left is taken at the end.

@@ -1,8 +1,8 @@
 //! Each value is dropped once: with its container, whoever pushed it, or with the last pass.
-use lockfree::{Queue, Stack};
+use lockfree::{Queue, QueuePass, Ring, Stack};
 use std::panic::{catch_unwind, AssertUnwindSafe};
 use std::sync::atomic::{AtomicUsize, Ordering};
-use std::sync::Arc;
+use std::sync::{Arc, Mutex};
 
 /// How many of `value` there are beside this one.
 fn others<T>(value: &Arc<T>) -> usize {
@@ -135,5 +135,77 @@ fn a_value_may_hold_a_pass_of_its_container() {
     assert!(pass.push(Holds(value.clone(), Some(other))).is_ok());
     assert!(pass.push(Holds(value.clone(), None)).is_ok());
     drop((queue, pass));
+    assert_eq!(others(&value), 0);
+}
+
+/// When it is dropped it pushes another of its kind, by a pass that is out.
+struct PushesAgain {
+    by: Arc<Mutex<Option<QueuePass<PushesAgain>>>>,
+    dropped: Arc<AtomicUsize>,
+}
+
+/// More drops than any test here asks for: a drop that has no end comes to this number.
+const MANY: usize = 10_000;
+
+impl Drop for PushesAgain {
+    fn drop(&mut self) {
+        if self.dropped.fetch_add(1, Ordering::Relaxed) < MANY {
+            // (taken out, since the push may drop a value)
+            let pass = self.by.lock().unwrap().take();
+            if let Some(mut pass) = pass {
+                let _ = pass.push(PushesAgain { by: self.by.clone(), dropped: self.dropped.clone() });
+                *self.by.lock().unwrap() = Some(pass);
+            }
+        }
+    }
+}
+
+#[test]
+fn a_container_drops_at_most_its_capacity_of_values_that_push_again() {
+    let dropped = Arc::new(AtomicUsize::new(0));
+    let queue = Queue::new(4).unwrap();
+    let by = Arc::new(Mutex::new(Some(queue.pass().unwrap())));
+    let mut pass = queue.pass().unwrap();
+    for _ in 0..3 {
+        assert!(pass.push(PushesAgain { by: by.clone(), dropped: dropped.clone() }).is_ok());
+    }
+    drop(queue);
+    assert_eq!(dropped.load(Ordering::Relaxed), 4);
+    // The last pass ends what they pushed. Then they have none to push by.
+    let last = by.lock().unwrap().take();
+    drop(last);
+    assert_eq!(dropped.load(Ordering::Relaxed), 4);
+    drop(pass);
+    assert_eq!((dropped.load(Ordering::Relaxed), Arc::strong_count(&by)), (7, 1));
+}
+
+#[test]
+fn what_a_shut_container_holds_is_dropped_with_the_last_pass() {
+    let value = Arc::new(());
+    let (queue, stack, ring) = (Queue::new(4).unwrap(), Stack::new(4).unwrap(), Ring::new(4).unwrap());
+    let (mut of_queue, mut of_stack, mut of_ring) =
+        (queue.pass().unwrap(), stack.pass().unwrap(), ring.pass().unwrap());
+    assert!(of_queue.push(value.clone()).is_ok() && of_queue.shut());
+    assert!(of_stack.push(value.clone()).is_ok() && of_stack.shut());
+    assert!(of_ring.push(value.clone()).is_ok() && of_ring.shut());
+    drop((queue, stack, ring));
+    assert_eq!(others(&value), 3);
+    drop((of_queue, of_stack, of_ring));
+    assert_eq!(others(&value), 0);
+}
+
+#[test]
+fn what_a_spent_container_holds_is_dropped_with_the_last_pass() {
+    let value = Arc::new(());
+    let (queue, stack) = (Queue::with_tag_limit(8, 4).unwrap(), Stack::with_tag_limit(8, 4).unwrap());
+    let (mut of_queue, mut of_stack) = (queue.pass().unwrap(), stack.pass().unwrap());
+    while of_queue.push(value.clone()).is_ok() {}
+    let in_the_queue = others(&value);
+    while of_stack.push(value.clone()).is_ok() {}
+    let in_the_stack = others(&value) - in_the_queue;
+    assert_eq!((in_the_queue >= 3, in_the_stack), (true, 4));
+    drop((queue, stack));
+    assert_eq!(others(&value), in_the_stack);
+    drop((of_queue, of_stack));
     assert_eq!(others(&value), 0);
 }
