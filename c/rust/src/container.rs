@@ -1,196 +1,63 @@
-//! The containers, and what one shares with its passes.
-use crate::cells::{self, Cells, Hand};
+//! The queue and the stack, and what all containers have: passes, and calls by `&`.
 use crate::pass::{Pass, QueuePass, StackPass};
-use crate::raw::{Code, Kind, RawPass, Root};
-use crate::{MakeError, TAG_LIMIT};
+use crate::raw::Kind;
+use crate::shared::Owner;
+use crate::waiting::{pop_until, push_until};
+use crate::{IntoIter, MakeError, PopError, PushError, Stop, TAG_LIMIT};
 use std::fmt;
-use std::panic::{catch_unwind, resume_unwind, AssertUnwindSafe};
-use std::sync::atomic::{AtomicBool, Ordering};
-use std::sync::{Arc, Mutex, PoisonError};
 
-/// What a container and its passes share. It ends with the last of them.
-pub(crate) struct Core<T> {
-    seats: Mutex<Seats<T>>,
-    pub(crate) cells: Cells<T>,
-    pub(crate) capacity: u32,
-    kind: Kind,
-    /// What some call has heard.
-    is_closed: AtomicBool,
-    is_spent: AtomicBool,
-}
-
-/// A pass of the library, with what its thread has at hand. It goes to the next pass when its own is dropped, so that
-/// the library's limit counts those that are out at one time. It has cache lines of its own.
-#[repr(align(64))]
-pub(crate) struct Seat<T> {
-    pub(crate) pass: RawPass,
-    pub(crate) hand: Hand<T>,
-}
-
-struct Seats<T> {
-    root: Root,
-    resting: Vec<Seat<T>>,
-    made: usize,
-    /// A pass that was split off for a seat for which there was no memory then. The library gives no pass twice, so it is
-    /// the next seat's.
-    half_made: Option<RawPass>,
-}
-
-impl<T> Core<T> {
-    pub(crate) fn new(kind: Kind, capacity: u32) -> Result<Core<T>, MakeError> {
-        let root = Root::new(kind, capacity)?;
-        Ok(Core {
-            seats: Mutex::new(Seats { root, resting: Vec::new(), made: 0, half_made: None }),
-            cells: Cells::new(kind, capacity)?,
-            capacity,
-            kind,
-            is_closed: AtomicBool::new(false),
-            is_spent: AtomicBool::new(false),
-        })
-    }
-
-    pub(crate) fn seat(&self) -> Result<Seat<T>, MakeError> {
-        let mut seats = self.seats.lock().unwrap_or_else(PoisonError::into_inner);
-        if let Some(seat) = seats.resting.pop() {
-            return Ok(seat);
-        }
-        // There is room for each seat that was made, so that a pass that is dropped asks for no memory.
-        let room = seats.made + 1;
-        seats.resting.try_reserve(room).map_err(|_| MakeError::NoMemory)?;
-        let pass = match seats.half_made.take() {
-            Some(pass) => pass,
-            None => seats.root.split()?,
-        };
-        match self.cells.hand() {
-            Ok(hand) => {
-                seats.made = room;
-                Ok(Seat { pass, hand })
-            }
-            Err(why) => {
-                seats.half_made = Some(pass);
-                Err(why)
-            }
-        }
-    }
-
-    pub(crate) fn rest(&self, seat: Seat<T>) {
-        self.seats.lock().unwrap_or_else(PoisonError::into_inner).resting.push(seat);
-    }
-
-    /// Keeps what a refusal says of the container.
-    #[cold]
-    pub(crate) fn note_refusal(&self, code: Code) {
-        match code {
-            Code::CLOSED => self.note_closed(),
-            Code::SPENT => self.is_spent.store(true, Ordering::Relaxed),
-            _ => (),
-        }
-    }
-
-    pub(crate) fn wear(&self, by: &mut RawPass) -> f64 {
-        if self.is_spent.load(Ordering::Relaxed) {
-            return 1.0;
-        }
-        let life = match self.kind {
-            Kind::Queue { tags } => tags as f64 - 1.0,
-            Kind::Stack { tags } => tags as f64,
-            Kind::Ring { laps, .. } => laps as f64 * f64::from(self.capacity),
-        };
-        (by.gauge().used as f64 / life).min(1.0)
-    }
-
-    pub(crate) fn note_closed(&self) {
-        self.is_closed.store(true, Ordering::Release);
-    }
-
-    pub(crate) fn is_closed(&self, by: &mut RawPass) -> bool {
-        self.is_closed.load(Ordering::Acquire) || by.gauge().is_closed
-    }
-}
-
-impl<T> Seat<T> {
-    /// What stands in for a seat that was given back.
-    pub(crate) const fn none() -> Seat<T> {
-        Seat { pass: RawPass::none(), hand: Hand::none() }
-    }
-}
-
-impl<T> Drop for Core<T> {
-    /// Drops what the container holds, without a pass, so that what a spent one holds is dropped too.
-    fn drop(&mut self) {
-        let seats = self.seats.get_mut().unwrap_or_else(PoisonError::into_inner);
-        seats.resting.clear();
-        seats.half_made = None;
-        drop_each(|| {
-            let word = seats.root.finish()?;
-            // SAFETY: the word comes out of the container, and its cell's memory is still there.
-            Some(unsafe { cells::read::<T>(word) }.0)
-        });
-    }
-}
-
-/// Drops each value. If drops panic, it continues, and then panics as the first of them did.
-pub(crate) fn drop_each<T>(mut next: impl FnMut() -> Option<T>) {
-    let mut first = None;
-    while let Some(value) = next() {
-        if let Err(panic) = catch_unwind(AssertUnwindSafe(|| drop(value))) {
-            first.get_or_insert(panic);
-        }
-    }
-    // A second panic while the first one unwinds would end the process.
-    if let Some(panic) = first.filter(|_| !std::thread::panicking()) {
-        resume_unwind(panic);
-    }
-}
-
-/// A bounded queue: first in, first out. It gives passes, one to each thread, and these make the calls.
+/// A bounded queue: first in, first out.
+///
+/// Threads share it by `&`, as `Arc<Queue<T>>` or in a scope, and call it so. It also gives passes: a thread that keeps one
+/// calls faster by it, and can use it where the queue itself cannot be borrowed.
 ///
 /// ```
 /// let queue = lockfree::Queue::new(64).unwrap();
 /// std::thread::scope(|scope| {
-///     let (mut putting, mut taking) = (queue.pass().unwrap(), queue.pass().unwrap());
-///     scope.spawn(move || {
+///     scope.spawn(|| {
 ///         for i in 0..1000 {
-///             putting.push_wait(i, None).unwrap();
+///             queue.push_wait(i, None).unwrap();
 ///         }
+///         queue.close();
 ///     });
+///     let mut pass = queue.pass().unwrap();
 ///     scope.spawn(move || {
 ///         for i in 0..1000 {
-///             assert_eq!(taking.pop_wait(None), Ok(i));
+///             assert_eq!(pass.pop_wait(None), Ok(i));
 ///         }
+///         assert_eq!(pass.pop_wait(None), Err(lockfree::PopError::Closed));
 ///     });
 /// });
 /// ```
 ///
-/// It is shared by threads if its values may be sent to them:
+#[doc = include_str!("dropped.md")]
+///
+/// It is `Send` and `Sync` if its values are `Send`:
 ///
 /// ```compile_fail
 /// let queue = lockfree::Queue::<std::rc::Rc<u8>>::new(2).unwrap();
 /// std::thread::spawn(move || queue.capacity());
 /// ```
-///
-#[doc = include_str!("dropped.md")]
 pub struct Queue<T> {
-    core: Arc<Core<T>>,
-    // By which the container itself asks, and what is left is taken at the end.
-    last: Mutex<QueuePass<T>>,
+    owner: Owner<T>,
 }
 
-/// A bounded stack: last in, first out. It gives passes, one to each thread, and these make the calls.
+/// A bounded stack: last in, first out.
+///
+/// Threads share it by `&`, as `Arc<Stack<T>>` or in a scope, and call it so. It also gives passes: a thread that keeps one
+/// calls faster by it, can use it where the stack itself cannot be borrowed, and has the calls of many values at once.
 ///
 /// ```
 /// let stack = lockfree::Stack::new(64).unwrap();
+/// stack.push("a").unwrap();
+/// stack.push("b").unwrap();
 /// let mut pass = stack.pass().unwrap();
-/// pass.push("a").unwrap();
-/// pass.push("b").unwrap();
 /// assert_eq!(pass.drain().collect::<Vec<_>>(), ["b", "a"]);
 /// ```
 ///
 #[doc = include_str!("dropped.md")]
 pub struct Stack<T> {
-    core: Arc<Core<T>>,
-    // By which the container itself asks, and what is left is taken at the end.
-    last: Mutex<StackPass<T>>,
+    owner: Owner<T>,
 }
 
 /// Containers that have as many passes as there may be.
@@ -223,23 +90,20 @@ macro_rules! of_all_passes {
             /// ```
             /// use lockfree::PushError;
             #[doc = concat!("let container = lockfree::", stringify!($Container), "::with_tag_limit(8, 3).unwrap();")]
-            /// let mut pass = container.pass().unwrap();
-            /// let refused = (0..4).find_map(|value| pass.push(value).err());
+            /// let refused = (0..4).find_map(|value| container.push(value).err());
             /// assert!(matches!(refused, Some(PushError::Spent(_))));
             /// ```
             pub fn with_tag_limit(capacity: u32, tag_limit: u64) -> Result<Self, MakeError> {
                 if !(2..=TAG_LIMIT).contains(&tag_limit) {
                     return Err(MakeError::BadLimit);
                 }
-                let core = Arc::new(Core::new(Kind::$Container { tags: tag_limit }, capacity)?);
-                let last = Mutex::new(Pass::new(&core)?);
-                Ok(Self { core, last })
+                Ok(Self { owner: Owner::new(Kind::$Container { tags: tag_limit }, capacity)? })
             }
         }
     };
 }
 
-/// What each container has: `core`, and `last`, by which it asks and takes what is left.
+/// What each container has, by its `owner`.
 macro_rules! container {
     ($Container:ident, $Pass:ident) => {
         impl<T> $Container<T> {
@@ -249,7 +113,7 @@ macro_rules! container {
             /// # Errors
             ///
             /// [`MakeError::NoPass`] if 65,534 are out at this time, or in a ring as many as it was made for, and
-            /// [`MakeError::NoMemory`].
+            /// [`MakeError::NoMemory`]. A later call may succeed.
             ///
             /// ```
             #[doc = concat!("let container = lockfree::", stringify!($Container), "::new(4).unwrap();")]
@@ -258,7 +122,7 @@ macro_rules! container {
             /// assert_eq!(other.pop(), Ok(7));
             /// ```
             pub fn pass(&self) -> Result<$Pass<T>, MakeError> {
-                Pass::new(&self.core)
+                Pass::new(&self.owner.core)
             }
 
             /// How many values it holds at most.
@@ -268,47 +132,212 @@ macro_rules! container {
             /// assert_eq!(container.capacity(), 4);
             /// ```
             pub fn capacity(&self) -> u32 {
-                self.core.capacity
+                self.owner.core.capacity
+            }
+        }
+
+        #[doc = include_str!("by_reference.md")]
+        impl<T> $Container<T> {
+            /// Pushes a value, as [`Pass::push`] does.
+            ///
+            /// # Errors
+            ///
+            /// With the value: [`PushError::Full`], [`PushError::Closed`], [`PushError::Spent`].
+            ///
+            /// ```
+            /// use lockfree::PushError;
+            #[doc = concat!("let container = lockfree::", stringify!($Container), "::new(1).unwrap();")]
+            /// assert_eq!(container.push("a"), Ok(0));
+            /// assert_eq!(container.push("b"), Err(PushError::Full("b")));
+            /// ```
+            pub fn push(&self, value: T) -> Result<u64, PushError<T>> {
+                let core = &*self.owner.core;
+                core.by_any_seat(|seat| core.push(seat, value))
             }
 
-            /// Whether it was closed, as [`Pass::is_closed`] says it. It takes a lock.
+            /// Pops a value, as [`Pass::pop`] does.
+            ///
+            /// # Errors
+            ///
+            /// [`PopError::Empty`], [`PopError::Closed`], [`PopError::Shut`], [`PopError::Spent`].
+            ///
+            /// ```
+            /// use lockfree::PopError;
+            #[doc = concat!("let container = lockfree::", stringify!($Container), "::new(1).unwrap();")]
+            /// container.push(7).unwrap();
+            /// assert_eq!((container.pop(), container.pop()), (Ok(7), Err(PopError::Empty)));
+            /// ```
+            pub fn pop(&self) -> Result<T, PopError> {
+                let core = &*self.owner.core;
+                core.by_any_seat(|seat| core.pop(seat))
+            }
+
+            /// Pushes a value, and waits as long as there is no room, as [`Pass::push_wait`] does.
+            ///
+            /// # Errors
+            ///
+            /// With the value: [`PushError::Full`] if the stop ended the wait, [`PushError::Closed`], [`PushError::Spent`].
+            ///
+            /// ```
+            /// use std::time::Duration;
+            #[doc = concat!("let container = lockfree::", stringify!($Container), "::new(1).unwrap();")]
+            /// assert!(container.push_wait('a', None).is_ok());
+            /// assert!(container.push_wait('b', Duration::from_millis(2)).unwrap_err().is_full());
+            /// ```
+            pub fn push_wait(&self, value: T, stop: impl Stop) -> Result<u64, PushError<T>> {
+                push_until(value, stop, |value| self.push(value))
+            }
+
+            /// Pops a value, and waits as long as there is none and one may come, as [`Pass::pop_wait`] does.
+            ///
+            /// # Errors
+            ///
+            /// [`PopError::Late`] if the stop ended the wait, [`PopError::Closed`], [`PopError::Shut`], [`PopError::Spent`].
+            ///
+            /// ```
+            /// use lockfree::PopError;
+            /// use std::time::Duration;
+            #[doc = concat!("let container = lockfree::", stringify!($Container), "::<u8>::new(1).unwrap();")]
+            /// assert_eq!(container.pop_wait(Duration::from_millis(2)), Err(PopError::Late));
+            /// ```
+            pub fn pop_wait(&self, stop: impl Stop) -> Result<T, PopError> {
+                pop_until(stop, || self.pop())
+            }
+
+            /// Closes it, so that no push follows; what it holds can be popped. Whether this call closed it.
+            ///
+            /// ```
+            #[doc = concat!("let container = lockfree::", stringify!($Container), "::new(4).unwrap();")]
+            /// assert!(container.close() && !container.close());
+            /// assert_eq!(container.push(1), Err(lockfree::PushError::Closed(1)));
+            /// ```
+            pub fn close(&self) -> bool {
+                let core = &*self.owner.core;
+                core.by_any_seat(|seat| core.close(seat))
+            }
+
+            /// Shuts it, so that no pop follows; pushes may. Whether this call shut it.
             ///
             /// ```
             #[doc = concat!("let container = lockfree::", stringify!($Container), "::<u8>::new(4).unwrap();")]
-            /// container.pass().unwrap().close();
+            /// assert!(container.shut() && !container.shut());
+            /// assert_eq!(container.pop(), Err(lockfree::PopError::Shut));
+            /// ```
+            pub fn shut(&self) -> bool {
+                self.owner.core.by_any_seat(|seat| seat.pass.shut())
+            }
+
+            /// Whether it was empty, as [`Pass::is_empty`] says it.
+            ///
+            /// ```
+            #[doc = concat!("let container = lockfree::", stringify!($Container), "::new(4).unwrap();")]
+            /// assert!(container.is_empty());
+            /// container.push(1).unwrap();
+            /// assert!(!container.is_empty());
+            /// ```
+            pub fn is_empty(&self) -> bool {
+                self.owner.core.by_any_seat(|seat| seat.pass.is_empty())
+            }
+
+            /// Whether it was closed, as [`Pass::is_closed`] says it.
+            ///
+            /// ```
+            #[doc = concat!("let container = lockfree::", stringify!($Container), "::<u8>::new(4).unwrap();")]
+            /// container.close();
             /// assert!(container.is_closed());
             /// ```
             pub fn is_closed(&self) -> bool {
-                self.last.lock().unwrap_or_else(PoisonError::into_inner).is_closed()
+                let core = &*self.owner.core;
+                core.by_any_seat(|seat| core.is_closed(seat))
             }
 
-            /// Which part of its life has gone, 0 to 1, as [`Pass::wear`] says it. It takes a lock.
+            /// Which part of its life has gone, 0 to 1, as [`Pass::wear`] says it.
             ///
             /// ```
             #[doc = concat!("let container = lockfree::", stringify!($Container), "::<u8>::new(4).unwrap();")]
             /// assert_eq!(container.wear(), 0.0);
             /// ```
             pub fn wear(&self) -> f64 {
-                self.last.lock().unwrap_or_else(PoisonError::into_inner).wear()
+                let core = &*self.owner.core;
+                core.by_any_seat(|seat| core.wear(seat))
             }
         }
 
-        impl<T> Drop for $Container<T> {
-            fn drop(&mut self) {
-                let pass = self.last.get_mut().unwrap_or_else(PoisonError::into_inner);
-                // At most as many values as there is room for, so that it ends beside threads that push, and with values that
-                // push again.
-                let mut most = self.core.capacity;
-                drop_each(|| {
-                    most = most.checked_sub(1)?;
-                    pass.pop().ok()
-                });
+        impl<T> IntoIterator for $Container<T> {
+            type Item = T;
+            type IntoIter = IntoIter<T>;
+
+            /// Ends the container, and gives what is left in it, in the order of pops.
+            fn into_iter(self) -> IntoIter<T> {
+                IntoIter::new(self.owner)
             }
         }
 
         impl<T> fmt::Debug for $Container<T> {
             fn fmt(&self, to: &mut fmt::Formatter<'_>) -> fmt::Result {
-                to.debug_struct(stringify!($Container)).field("capacity", &self.core.capacity).finish_non_exhaustive()
+                to.debug_struct(stringify!($Container)).field("capacity", &self.capacity()).finish_non_exhaustive()
+            }
+        }
+    };
+}
+
+/// What the containers have that know how many values they hold: a queue and a ring, and no stack.
+macro_rules! counts {
+    ($Container:ident, $Pass:ident) => {
+        /// How many values it holds.
+        impl<T> $Container<T> {
+            /// How many values it held. The count begins anew while others pop.
+            ///
+            /// ```
+            #[doc = concat!("let container = lockfree::", stringify!($Container), "::new(4).unwrap();")]
+            /// container.push('a').unwrap();
+            /// container.push('b').unwrap();
+            /// assert_eq!(container.len(), 2);
+            /// ```
+            pub fn len(&self) -> usize {
+                let core = &*self.owner.core;
+                core.by_any_seat(|seat| core.len(seat))
+            }
+
+            /// Whether it held as many values as its capacity. A push may be refused as full earlier, while other pushes and pops
+            /// are under way.
+            ///
+            /// ```
+            #[doc = concat!("let container = lockfree::", stringify!($Container), "::new(1).unwrap();")]
+            /// assert!(!container.is_full());
+            /// container.push('a').unwrap();
+            /// assert!(container.is_full());
+            /// ```
+            pub fn is_full(&self) -> bool {
+                self.len() == self.capacity() as usize
+            }
+        }
+
+        impl<T> $Pass<T> {
+            /// How many values the container held. The count begins anew while others pop.
+            ///
+            /// ```
+            #[doc = concat!("let container = lockfree::", stringify!($Container), "::new(4).unwrap();")]
+            /// let mut pass = container.pass().unwrap();
+            /// pass.push('a').unwrap();
+            /// pass.push('b').unwrap();
+            /// assert_eq!(pass.len(), 2);
+            /// ```
+            pub fn len(&mut self) -> usize {
+                self.core.len(&mut self.seat)
+            }
+
+            /// Whether the container held as many values as its capacity. A push may be refused as full earlier, while other
+            /// pushes and pops are under way.
+            ///
+            /// ```
+            #[doc = concat!("let container = lockfree::", stringify!($Container), "::new(1).unwrap();")]
+            /// let mut pass = container.pass().unwrap();
+            /// pass.push('a').unwrap();
+            /// assert!(pass.is_full());
+            /// ```
+            pub fn is_full(&mut self) -> bool {
+                self.len() == self.core.capacity as usize
             }
         }
     };
@@ -318,5 +347,6 @@ of_all_passes!(Queue, "queue");
 of_all_passes!(Stack, "stack");
 container!(Queue, QueuePass);
 container!(Stack, StackPass);
+counts!(Queue, QueuePass);
 
-pub(crate) use container;
+pub(crate) use {container, counts};

@@ -104,7 +104,7 @@ pub enum PopError {
     Shut,
     /// A tag is at its limit: the container gives no value any more. See [`Pass::wear`](crate::Pass::wear).
     Spent,
-    /// There was none until the deadline of a call that waits.
+    /// There was none until the [`Stop`](crate::Stop) ended the wait.
     Late,
 }
 
@@ -126,7 +126,7 @@ impl fmt::Display for PopError {
             PopError::Closed => "the container is empty and was closed",
             PopError::Shut => "the container was shut",
             PopError::Spent => "a tag of the container is at its limit",
-            PopError::Late => "no value came until the deadline",
+            PopError::Late => "no value came before the wait ended",
         })
     }
 }

@@ -8,17 +8,22 @@ compile_error!("liblockfree.a is for x86-64 and Linux");
 mod cells;
 mod container;
 mod errors;
+mod into_iter;
+mod lending;
 mod pass;
 mod raw;
 mod ring;
+mod shared;
 mod stack;
 mod waiting;
 
 pub use container::{Queue, Stack};
 pub use errors::{MakeError, PopError, PushError};
+pub use into_iter::IntoIter;
 pub use pass::{kind, Drain, Pass, QueuePass, RingPass, StackPass};
 pub use ring::Ring;
 pub use stack::Pushed;
+pub use waiting::Stop;
 
 /// The greatest tag, and the limit of a container's numbers.
 const TAG_LIMIT: u64 = (1 << 42) - 1;

@@ -1,12 +1,11 @@
 //! The calls that passes of all containers make.
-use crate::container::{Core, Seat};
-use crate::waiting::Waiting;
-use crate::{MakeError, PopError, PushError};
+use crate::shared::{Core, Seat};
+use crate::waiting::{pop_until, push_until};
+use crate::{MakeError, PopError, PushError, Stop};
 use std::fmt;
 use std::marker::PhantomData;
 use std::mem;
 use std::sync::Arc;
-use std::time::Instant;
 
 /// The kinds of containers, as types: what [`QueuePass`], [`StackPass`] and [`RingPass`] differ in.
 pub mod kind {
@@ -32,8 +31,9 @@ pub type RingPass<T> = Pass<T, kind::Ring>;
 
 /// One thread's way to a container: a [`QueuePass`], a [`StackPass`] or a [`RingPass`].
 ///
-/// Its calls take it by `&mut`, so that one thread uses it at a time. It is `Send`: it may be sent to another thread. It is
-/// not `Sync`:
+/// It borrows nothing, so it goes into `std::thread::spawn` and into a future, without a scope and without an `Arc` around the
+/// container. Its calls take it by `&mut`, so that one thread uses it at a time. It is `Send` if the values are. It is not
+/// `Sync`:
 ///
 /// ```compile_fail
 /// fn shared<T: Sync>() {}
@@ -42,10 +42,11 @@ pub type RingPass<T> = Pass<T, kind::Ring>;
 ///
 /// Calls whose names say `wait` wait for another thread; no other call does. A stack's `push_range` asks for memory; no other
 /// call does. A call of a ring takes no lock. Nor does one of a queue or a stack, unless its values are larger than 8 bytes
-/// and more than 64 passes were out at one time. A pass keeps what it needs if its container is dropped. It goes back to the
-/// container, under a lock, when it is dropped itself.
+/// and more than 64 passes were out at one time. A pass keeps what it needs if its container is dropped, but not the values
+/// that were in the container then. It goes back to the container, under a lock, when it is dropped itself.
 ///
 /// If a call says that something is so, it was so at one moment of the call: other threads may have changed it since.
+#[repr(align(64))] // (of cache lines of its own, since its calls write to the seat)
 pub struct Pass<T, K> {
     pub(crate) core: Arc<Core<T>>,
     pub(crate) seat: Seat<T>,
@@ -55,6 +56,24 @@ pub struct Pass<T, K> {
 impl<T, K> Pass<T, K> {
     pub(crate) fn new(core: &Arc<Core<T>>) -> Result<Self, MakeError> {
         Ok(Pass { core: core.clone(), seat: core.seat()?, kind: PhantomData })
+    }
+
+    /// Another pass of the same container, also if the container was dropped. Passes can run out and memory too, so this is no
+    /// `Clone`.
+    ///
+    /// # Errors
+    ///
+    /// Those of [`Queue::pass`](crate::Queue::pass).
+    ///
+    /// ```
+    /// let ring = lockfree::Ring::with_passes(4, 2).unwrap();
+    /// let mut one = ring.pass().unwrap();
+    /// let mut other = one.try_clone().unwrap();
+    /// std::thread::spawn(move || other.push(7)).join().unwrap().unwrap();
+    /// assert_eq!(one.pop(), Ok(7));
+    /// ```
+    pub fn try_clone(&self) -> Result<Self, MakeError> {
+        Pass::new(&self.core)
     }
 
     /// Pushes a value. Gives the push's number, counted from 0 over all threads: of a queue the pushes alone, of a stack the
@@ -73,14 +92,7 @@ impl<T, K> Pass<T, K> {
     /// assert_eq!(pass.push("c".to_string()), Err(PushError::Full("c".to_string())));
     /// ```
     pub fn push(&mut self, value: T) -> Result<u64, PushError<T>> {
-        let Seat { pass, hand } = &mut self.seat;
-        let word = hand.word(&self.core.cells, value).map_err(PushError::Full)?;
-        pass.put(word).map_err(|code| {
-            // SAFETY: the word was not put.
-            let value = unsafe { hand.value(&self.core.cells, word) };
-            self.core.note_refusal(code);
-            PushError::of(code, value)
-        })
+        self.core.push(&mut self.seat, value)
     }
 
     /// Pops a value.
@@ -100,15 +112,7 @@ impl<T, K> Pass<T, K> {
     /// assert_eq!(pass.pop(), Err(PopError::Closed));
     /// ```
     pub fn pop(&mut self) -> Result<T, PopError> {
-        let Seat { pass, hand } = &mut self.seat;
-        match pass.take() {
-            // SAFETY: the word comes out. (That none comes out twice is proved.)
-            Ok(word) => Ok(unsafe { hand.value(&self.core.cells, word) }),
-            Err(code) => {
-                self.core.note_refusal(code);
-                Err(PopError::of(code))
-            }
-        }
+        self.core.pop(&mut self.seat)
     }
 
     /// Pops a value, and gives the pop's number too: of a queue the number that the value's push had; of a stack pushes and
@@ -129,57 +133,45 @@ impl<T, K> Pass<T, K> {
         Ok((value, self.seat.pass.number()))
     }
 
-    /// Pushes a value, and waits as long as there is no room, until the deadline if there is one. It tries once at least.
-    /// It waits by trying again: at first at once, then after other threads had their turn, and at last ten thousand times
-    /// a second at most.
+    /// Pushes a value, and waits as long as there is no room, until the [`Stop`] ends the wait. It tries once at least. It
+    /// waits by trying again: at first at once, then after other threads had their turn, and at last after sleeps that grow
+    /// from 50 microseconds to a millisecond.
     ///
     /// # Errors
     ///
-    /// With the value: [`PushError::Full`] at the deadline, [`PushError::Closed`], [`PushError::Spent`].
+    /// With the value: [`PushError::Full`] if the stop ended the wait, [`PushError::Closed`], [`PushError::Spent`].
     ///
     /// ```
     /// use std::time::{Duration, Instant};
     /// let queue = lockfree::Queue::new(1).unwrap();
     /// let mut pass = queue.pass().unwrap();
     /// assert_eq!(pass.push_wait('a', None), Ok(0));
+    /// assert!(pass.push_wait('b', Duration::from_millis(2)).unwrap_err().is_full());
     /// let soon = Instant::now() + Duration::from_millis(2);
-    /// assert!(pass.push_wait('b', Some(soon)).unwrap_err().is_full());
+    /// assert!(pass.push_wait('b', soon).unwrap_err().is_full());
     /// ```
-    pub fn push_wait(&mut self, value: T, deadline: Option<Instant>) -> Result<u64, PushError<T>> {
-        let mut waiting = Waiting::until(deadline);
-        let mut value = value;
-        loop {
-            match self.push(value) {
-                Err(PushError::Full(back)) if waiting.go_on() => value = back,
-                answer => return answer,
-            }
-        }
+    pub fn push_wait(&mut self, value: T, stop: impl Stop) -> Result<u64, PushError<T>> {
+        push_until(value, stop, |value| self.push(value))
     }
 
-    /// Pops a value, and waits as long as there is none and one may come, until the deadline if there is one. It tries once
-    /// at least, and waits as [`push_wait`](Pass::push_wait) does.
+    /// Pops a value, and waits as long as there is none and one may come, until the [`Stop`] ends the wait. It tries once at
+    /// least, and waits as [`push_wait`](Pass::push_wait) does.
     ///
     /// # Errors
     ///
-    /// [`PopError::Late`] at the deadline, [`PopError::Closed`], [`PopError::Shut`], [`PopError::Spent`].
+    /// [`PopError::Late`] if the stop ended the wait, [`PopError::Closed`], [`PopError::Shut`], [`PopError::Spent`].
     ///
     /// ```
     /// use lockfree::PopError;
-    /// use std::time::{Duration, Instant};
+    /// use std::time::Duration;
     /// let queue = lockfree::Queue::<u8>::new(1).unwrap();
     /// let mut pass = queue.pass().unwrap();
-    /// let soon = Instant::now() + Duration::from_millis(2);
-    /// assert_eq!(pass.pop_wait(Some(soon)), Err(PopError::Late));
+    /// assert_eq!(pass.pop_wait(Duration::from_millis(2)), Err(PopError::Late));
+    /// pass.close();
+    /// assert_eq!(pass.pop_wait(None), Err(PopError::Closed));
     /// ```
-    pub fn pop_wait(&mut self, deadline: Option<Instant>) -> Result<T, PopError> {
-        let mut waiting = Waiting::until(deadline);
-        loop {
-            match self.pop() {
-                Err(PopError::Empty) if waiting.go_on() => continue,
-                Err(PopError::Empty) => return Err(PopError::Late),
-                answer => return answer,
-            }
-        }
+    pub fn pop_wait(&mut self, stop: impl Stop) -> Result<T, PopError> {
+        pop_until(stop, || self.pop())
     }
 
     /// Pops values one after another, until there is none: then it gives `None`, and may give values again later. What was
@@ -205,9 +197,7 @@ impl<T, K> Pass<T, K> {
     /// assert_eq!(pass.push(1), Err(lockfree::PushError::Closed(1)));
     /// ```
     pub fn close(&mut self) -> bool {
-        let closed = self.seat.pass.close();
-        self.core.note_closed();
-        closed
+        self.core.close(&mut self.seat)
     }
 
     /// Shuts the container, so that no pop follows; pushes may. What it holds is dropped when the container and all passes
@@ -234,7 +224,7 @@ impl<T, K> Pass<T, K> {
     /// assert!(pass.is_closed());
     /// ```
     pub fn is_closed(&mut self) -> bool {
-        self.core.is_closed(&mut self.seat.pass)
+        self.core.is_closed(&mut self.seat)
     }
 
     /// Whether the container was empty.
@@ -274,39 +264,7 @@ impl<T, K> Pass<T, K> {
     /// assert_eq!(pass.wear(), 0.5);
     /// ```
     pub fn wear(&mut self) -> f64 {
-        self.core.wear(&mut self.seat.pass)
-    }
-}
-
-impl<T> QueuePass<T> {
-    /// How many values the queue holds. It begins anew while others pop.
-    ///
-    /// ```
-    /// let queue = lockfree::Queue::new(4).unwrap();
-    /// let mut pass = queue.pass().unwrap();
-    /// pass.push('a').unwrap();
-    /// pass.push('b').unwrap();
-    /// assert_eq!(pass.len(), 2);
-    /// ```
-    pub fn len(&mut self) -> usize {
-        // (a queue holds no more than its capacity)
-        self.seat.pass.count() as usize
-    }
-}
-
-impl<T> RingPass<T> {
-    /// How many values the ring holds. It begins anew while others pop.
-    ///
-    /// ```
-    /// let ring = lockfree::Ring::new(4).unwrap();
-    /// let mut pass = ring.pass().unwrap();
-    /// pass.push('a').unwrap();
-    /// pass.push('b').unwrap();
-    /// assert_eq!(pass.len(), 2);
-    /// ```
-    pub fn len(&mut self) -> usize {
-        // (a ring holds no more than its capacity)
-        self.seat.pass.count() as usize
+        self.core.wear(&mut self.seat)
     }
 }
 

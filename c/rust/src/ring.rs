@@ -1,13 +1,15 @@
 //! The ring: a queue for a known number of passes.
-use crate::container::{container, drop_each, Core};
+use crate::container::{container, counts};
 use crate::pass::{Pass, RingPass};
 use crate::raw::Kind;
-use crate::{MakeError, TAG_LIMIT};
+use crate::shared::Owner;
+use crate::waiting::{pop_until, push_until};
+use crate::{IntoIter, MakeError, PopError, PushError, Stop, TAG_LIMIT};
 use std::fmt;
-use std::sync::{Arc, Mutex, PoisonError};
 
-/// The passes of a ring if its caller gives no number.
-const USUAL_PASSES: u32 = 64;
+/// The passes of a ring if its caller gives no number: enough for the threads of a large machine. Each one takes some 24 bytes,
+/// and 170 if values lie in cells.
+const USUAL_PASSES: u32 = 256;
 
 /// How many passes may be out at one time.
 const PASS_LIMIT: u32 = 65_534;
@@ -16,7 +18,10 @@ const PASS_LIMIT: u32 = 65_534;
 pub(crate) const LAP_LIMIT: u64 = TAG_LIMIT / 2;
 
 /// A bounded queue for a known number of passes: first in, first out. Between threads it takes less time than a
-/// [`Queue`](crate::Queue). It gives passes, one to each thread, and these make the calls of [`Pass`].
+/// [`Queue`](crate::Queue).
+///
+/// Threads share it by `&`, as `Arc<Ring<T>>` or in a scope, and call it so. It also gives passes: a thread that keeps one
+/// calls faster by it, and can use it where the ring itself cannot be borrowed.
 ///
 /// ```
 /// let ring = lockfree::Ring::with_passes(64, 2).unwrap();
@@ -24,19 +29,17 @@ pub(crate) const LAP_LIMIT: u64 = TAG_LIMIT / 2;
 /// assert!(ring.pass().is_err());
 /// putting.push("a").unwrap();
 /// putting.push("b").unwrap();
-/// assert!(!taking.is_empty());
+/// assert_eq!(ring.len(), 2);
 /// assert_eq!(taking.drain().collect::<Vec<_>>(), ["a", "b"]);
 /// ```
 ///
 #[doc = include_str!("dropped.md")]
 pub struct Ring<T> {
-    core: Arc<Core<T>>,
-    // By which what is left is taken at the end.
-    last: Mutex<RingPass<T>>,
+    owner: Owner<T>,
 }
 
 impl<T> Ring<T> {
-    /// A ring of at most `capacity` values, 1 to 1,048,510, and 64 passes. It takes its memory now.
+    /// A ring of at most `capacity` values, 1 to 1,048,318, and 256 passes. It takes its memory now.
     ///
     /// # Errors
     ///
@@ -93,10 +96,9 @@ impl<T> Ring<T> {
             return Err(MakeError::BadLimit);
         }
         // (one more: the ring's own)
-        let core = Arc::new(Core::new(Kind::Ring { laps, passes: passes + 1 }, capacity)?);
-        let last = Mutex::new(Pass::new(&core)?);
-        Ok(Self { core, last })
+        Ok(Self { owner: Owner::new(Kind::Ring { laps, passes: passes + 1 }, capacity)? })
     }
 }
 
 container!(Ring, RingPass);
+counts!(Ring, RingPass);

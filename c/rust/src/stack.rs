@@ -1,7 +1,7 @@
 //! The calls of a stack's pass alone: many values at once.
 use crate::cells::word_in_a_box;
-use crate::container::drop_each;
 use crate::raw::{Code, Folded, Word};
+use crate::shared::drop_each;
 use crate::{PopError, PushError, StackPass};
 
 /// A range that was pushed, as far as there was room for it.

@@ -1,28 +1,105 @@
-//! How a call waits that has to try again.
+//! How a call waits that has to try again, and what ends the wait.
+use crate::{PopError, PushError};
 use std::hint::spin_loop;
+use std::sync::atomic::{AtomicBool, Ordering};
 use std::thread::{sleep, yield_now};
 use std::time::{Duration, Instant};
+
+/// What ends the wait of [`push_wait`](crate::Pass::push_wait) and [`pop_wait`](crate::Pass::pop_wait), if there is no room
+/// and no value:
+///
+/// - `None`: nothing does
+/// - a [`Duration`]: that much time since the call was refused for the first time
+/// - an [`Instant`], or `Some` of it: the deadline
+/// - an `&AtomicBool`: it is true
+/// - a function: it says true. It is asked before each pause, so it should take little time
+///
+/// ```
+/// use lockfree::{PopError, Queue};
+/// use std::sync::atomic::{AtomicBool, Ordering};
+/// use std::time::{Duration, Instant};
+///
+/// let queue = Queue::<u8>::new(1).unwrap();
+/// let mut pass = queue.pass().unwrap();
+/// assert_eq!(pass.pop_wait(Duration::from_millis(2)), Err(PopError::Late));
+/// assert_eq!(pass.pop_wait(Instant::now() + Duration::from_millis(2)), Err(PopError::Late));
+/// let stops = AtomicBool::new(false);
+/// std::thread::scope(|scope| {
+///     let waiting = scope.spawn(|| queue.pop_wait(&stops));
+///     stops.store(true, Ordering::Release);
+///     assert_eq!(waiting.join().unwrap(), Err(PopError::Late));
+/// });
+/// let mut tries = 0;
+/// assert_eq!(pass.pop_wait(|| { tries += 1; tries == 3 }), Err(PopError::Late));
+/// ```
+pub trait Stop {
+    /// How much longer a call may wait that began to wait at `since`. If it is no time, the wait ends.
+    fn time_left(&mut self, since: Instant) -> Duration;
+}
+
+impl Stop for Duration {
+    fn time_left(&mut self, since: Instant) -> Duration {
+        self.saturating_sub(since.elapsed())
+    }
+}
+
+impl Stop for Instant {
+    fn time_left(&mut self, _: Instant) -> Duration {
+        self.saturating_duration_since(Instant::now())
+    }
+}
+
+impl Stop for Option<Instant> {
+    fn time_left(&mut self, since: Instant) -> Duration {
+        self.as_mut().map_or(Duration::MAX, |deadline| deadline.time_left(since))
+    }
+}
+
+impl Stop for &AtomicBool {
+    fn time_left(&mut self, _: Instant) -> Duration {
+        unless(self.load(Ordering::Acquire))
+    }
+}
+
+impl<F: FnMut() -> bool> Stop for F {
+    fn time_left(&mut self, _: Instant) -> Duration {
+        unless(self())
+    }
+}
+
+fn unless(stops: bool) -> Duration {
+    if stops {
+        Duration::ZERO
+    } else {
+        Duration::MAX
+    }
+}
 
 /// The first rounds go on at once.
 const AT_ONCE: u32 = 64;
 /// Those up to this one let other threads have their turn, and those after it sleep.
 const AWAKE: u32 = 256;
-const PAUSE: Duration = Duration::from_micros(100);
+/// Each sleep is twice as long as the one before, so that a wait of seconds leaves the processor to others.
+const FIRST_SLEEP: Duration = Duration::from_micros(50);
+const LONGEST_SLEEP: Duration = Duration::from_millis(1);
 
 /// The rounds of one call that waits.
-pub(crate) struct Waiting {
-    deadline: Option<Instant>,
+pub(crate) struct Waiting<S> {
+    stop: S,
+    since: Option<Instant>,
     rounds: u32,
+    sleep: Duration,
 }
 
-impl Waiting {
-    pub(crate) fn until(deadline: Option<Instant>) -> Waiting {
-        Waiting { deadline, rounds: 0 }
+impl<S: Stop> Waiting<S> {
+    pub(crate) fn until(stop: S) -> Waiting<S> {
+        Waiting { stop, since: None, rounds: 0, sleep: FIRST_SLEEP }
     }
 
-    /// Waits a moment. Whether it is still before the deadline.
+    /// Waits a moment. Whether the call tries again.
     pub(crate) fn go_on(&mut self) -> bool {
-        let left = self.deadline.map_or(PAUSE, |end| end.saturating_duration_since(Instant::now()));
+        let since = *self.since.get_or_insert_with(Instant::now);
+        let left = self.stop.time_left(since);
         if left.is_zero() {
             return false;
         }
@@ -32,8 +109,37 @@ impl Waiting {
         } else if self.rounds <= AWAKE {
             yield_now();
         } else {
-            sleep(left.min(PAUSE));
+            sleep(left.min(self.sleep));
+            self.sleep = LONGEST_SLEEP.min(2 * self.sleep);
         }
         true
+    }
+}
+
+/// Pushes by `push` until it is not refused as full, or the stop ends the wait.
+pub(crate) fn push_until<T>(
+    value: T,
+    stop: impl Stop,
+    mut push: impl FnMut(T) -> Result<u64, PushError<T>>,
+) -> Result<u64, PushError<T>> {
+    let mut waiting = Waiting::until(stop);
+    let mut value = value;
+    loop {
+        match push(value) {
+            Err(PushError::Full(back)) if waiting.go_on() => value = back,
+            answer => return answer,
+        }
+    }
+}
+
+/// Pops by `pop` until it is not refused as empty, or the stop ends the wait.
+pub(crate) fn pop_until<T>(stop: impl Stop, mut pop: impl FnMut() -> Result<T, PopError>) -> Result<T, PopError> {
+    let mut waiting = Waiting::until(stop);
+    loop {
+        match pop() {
+            Err(PopError::Empty) if waiting.go_on() => continue,
+            Err(PopError::Empty) => return Err(PopError::Late),
+            answer => return answer,
+        }
     }
 }

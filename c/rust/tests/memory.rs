@@ -1,5 +1,5 @@
-//! No call of a pass asks for memory, whatever a value's type, but the put of a range.
-use lockfree::{Pass, Queue, Ring, Stack};
+//! No call asks for memory, whatever a value's type, but the put of a range.
+use lockfree::{Pass, PushError, Queue, Ring, Stack};
 use std::alloc::{GlobalAlloc, Layout, System};
 use std::cell::Cell;
 
@@ -79,6 +79,40 @@ fn pushes_and_pops_take_no_memory() {
     of_type("a text that takes memory of its own".to_string());
     of_type(std::sync::Arc::new(7));
     of_type(Some(Box::new(7)));
+}
+
+/// Fills and empties containers by `&`, also at a thread's first call.
+fn by_reference<T: Clone>(value: T) {
+    const CAPACITY: u32 = 100;
+    let (queue, stack, ring) =
+        (Queue::new(CAPACITY).unwrap(), Stack::new(CAPACITY).unwrap(), Ring::new(CAPACITY).unwrap());
+    let mut values = vec![value; 3 * CAPACITY as usize + 3];
+    let mut back = Vec::with_capacity(values.len());
+    for _ in 0..10 {
+        let asked = counted(|| {
+            let (mut to_queue, mut to_stack, mut to_ring) = (true, true, true);
+            let mut refused =
+                |answer: Result<u64, PushError<T>>| answer.map_err(|why| back.push(why.into_inner())).is_ok();
+            while to_queue || to_stack || to_ring {
+                to_queue = to_queue && refused(queue.push(values.pop().unwrap()));
+                to_stack = to_stack && refused(stack.push(values.pop().unwrap()));
+                to_ring = to_ring && refused(ring.push(values.pop().unwrap()));
+            }
+            assert!(queue.is_full() && ring.is_full() && !stack.is_empty() && queue.len() == ring.len());
+            while let (Ok(a), Ok(b), Ok(c)) = (queue.pop(), stack.pop(), ring.pop()) {
+                back.extend([a, b, c]);
+            }
+        });
+        assert_eq!((asked, back.len()), (0, 3 * CAPACITY as usize + 3));
+        values.append(&mut back);
+    }
+}
+
+#[test]
+fn calls_by_reference_take_no_memory() {
+    by_reference(7u8);
+    by_reference([7u64; 8]);
+    by_reference("a text that takes memory of its own".to_string());
 }
 
 #[test]

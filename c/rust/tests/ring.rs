@@ -38,8 +38,8 @@ fn one_pass_more_than_it_was_made_for_is_refused() {
         assert_eq!(out[0].pop(), Ok([1; 3]));
     }
     let usual = Ring::<u8>::new(4).unwrap();
-    let all: Vec<_> = (0..64).map(|_| usual.pass().unwrap()).collect();
-    assert_eq!((usual.pass().err(), all.len()), (Some(MakeError::NoPass), 64));
+    let all: Vec<_> = (0..256).map(|_| usual.pass().unwrap()).collect();
+    assert_eq!((usual.pass().err(), all.len()), (Some(MakeError::NoPass), 256));
 }
 
 #[test]
@@ -50,6 +50,8 @@ fn limits() {
     assert_eq!((error(4, 2, 0), error(4, 2, laps + 1)), (Some(MakeError::BadLimit), Some(MakeError::BadLimit)));
     assert_eq!((error(0, 2, 3), error(1_048_573, 2, 3)), (Some(MakeError::BadCapacity), Some(MakeError::BadCapacity)));
     assert_eq!((error(4, 2, laps), error(1_048_573, 1, 3), error(2, 65_534, 3)), (None, None, None));
+    assert_eq!(Ring::<u64>::new(1_048_319).err(), Some(MakeError::BadCapacity));
+    assert!(Ring::<u64>::new(1_048_318).is_ok());
 }
 
 #[test]
