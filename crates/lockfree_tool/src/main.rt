@@ -4,20 +4,23 @@
 //! files and streams of a process.
 //!
 //! The name `-` stands for the standard input, once (`Source`, `open_sources`). The status and the line
-//! on standard error follow from the fault (`Failure`). If nobody reads the output any more, nothing
-//! goes to standard error either (`Output`, `Errors`).
+//! on standard error follow from the fault (`Failure`). On a terminal more is said: why it failed
+//! (`write_reason`), and that it waits for a script to be typed (`Awaited`).
 #![tactic(auto)]
 
 ghost use Rattle.std.specs.Prelude.{⊤};
 
+mod awaited;
+mod bad_line;
 mod failure;
+mod kept;
 mod opening;
-mod pipe;
+mod reason;
 mod session;
 mod source;
 
+use awaited::Awaited;
 use opening::OpenFiles;
-use pipe::{Errors, Output};
 use session::run;
 use std::cell::Cell;
 use std::io::{self, BufWriter};
@@ -33,6 +36,7 @@ const OUTPUT_BUFFER: usize = 65_536;
 #[derive(Drop)]
 struct HostFiles<'a, T> {
     rt: &'a T,
+    last_refusal: Cell<Option<io::Error>>,
 }
 
 impl<'a, T: Files> OpenFiles for HostFiles<'a, T> {
@@ -44,22 +48,29 @@ impl<'a, T: Files> OpenFiles for HostFiles<'a, T> {
     ghost cannot_open = { λ _ _. ⊤ };
 
     fn open(&self, name: &str) -> io::Result<T::File> {
-        fs::open(self.rt, name)
+        let opened = fs::open(self.rt, name);
+        if let Err(error) = &opened {
+            self.last_refusal.set(Some(*error));
+        }
+        opened
+    }
+
+    fn last_refusal(&self) -> Option<io::Error> {
+        self.last_refusal.get()
     }
 }
 
 fn main(rt: HostRuntime) -> ExitCode {
     let alloc = rt.alloc();
     let words = env::args(&rt).and_then(|words| Ok(words.collect(alloc)?));
-    let files = HostFiles { rt: &rt };
-    let is_read = Cell::new(true);
-    let mut errors = Errors::new(rt.stderr(), &is_read);
-    let output = Output::new(io::writer(&rt), &is_read);
-    let mut output = match BufWriter::with_capacity(alloc, OUTPUT_BUFFER, output) {
+    let files = HostFiles {
+        rt: &rt,
+        last_refusal: Cell::new(None),
+    };
+    let mut output = match BufWriter::with_capacity(alloc, OUTPUT_BUFFER, io::writer(&rt)) {
         Ok(output) => output,
         Err(_) => {
-            let output = Output::new(io::writer(&rt), &is_read);
-            let Ok(output) = BufWriter::with_capacity(alloc, 0, output) else {
+            let Ok(output) = BufWriter::with_capacity(alloc, 0, io::writer(&rt)) else {
                 unreachable!()
             };
             output
@@ -70,9 +81,9 @@ fn main(rt: HostRuntime) -> ExitCode {
         alloc,
         words,
         &files,
-        rt.reader(),
+        Awaited::new(rt.reader(), rt.stderr()),
         &mut output,
-        &mut errors,
+        &mut rt.stderr(),
     );
     ExitCode::from(status)
 }

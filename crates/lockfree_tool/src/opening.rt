@@ -25,6 +25,9 @@ pub trait OpenFiles {
     fn open(&self, name: &str) -> io::Result<Self::File>
         ensures file { IfOk result (is_file self.now name.now) }
         ensures none { IfErr result (λ _. cannot_open self.now name.now) };
+
+    /// Why the last file that could not be opened was refused, if it is known.
+    fn last_refusal(&self) -> Option<io::Error>;
 }
 
 /// The source of this name: the standard input for `-`, once. `None` if it was given before, or if

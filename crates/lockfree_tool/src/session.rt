@@ -6,7 +6,9 @@ ghost use Rattle.lockfree_tool.specs.declared.failure.Failure.TheVariants.{Outpu
 ghost use Rattle.words.specs.Ranges.{AreInRange, AskForDetails, IsDetailed};
 
 use crate::failure::Failure;
+use crate::kept::Kept;
 use crate::opening::{OpenFiles, open_source, open_sources};
+use crate::reason::write_reason;
 use crate::source::STANDARD_INPUT;
 use file_relay::{relay_main, relay_measured};
 use script_replay::{replay, replay_traced};
@@ -23,9 +25,9 @@ use words::{Chosen, WordsRefused, read_words};
 /// `input`.
 ///
 /// The output is flushed before the status is known. A failure is one line on `errors`, by one
-/// write if there is memory for it. If `errors` is a terminal and the arguments are refused, an
-/// explanation follows their line. If the arguments ask for them, the stats of a relay or the trace
-/// of a script are written on `errors`.
+/// write if there is memory for it. If `errors` is a terminal, the reason follows, as far as more is
+/// known than the line says. If the arguments ask for them, the stats of a relay or the trace of a
+/// script are written on `errors`.
 pub(crate) fn run<
     T: Threads + Wait + Clock + Sync,
     F: OpenFiles,
@@ -54,9 +56,26 @@ pub(crate) fn run<
         Ok(chosen) => chosen,
         Err(refused) => return refuse(alloc, &refused, output, errors),
     };
-    match attempt(rt, alloc, chosen, files, input, output, errors) {
+    let mut script = errors.is_terminal().then(|| Vec::new(alloc));
+    let done = attempt(
+        rt,
+        alloc,
+        &chosen,
+        files,
+        input,
+        output,
+        errors,
+        &mut script,
+    );
+    match done {
         Ok(()) => finish(alloc, output, errors),
-        Err(failure) => fail(alloc, failure, errors),
+        Err(failure) => {
+            let status = fail(alloc, failure, errors);
+            if errors.is_terminal() {
+                let _ = write_reason(failure, &chosen, files, script.as_deref(), errors);
+            }
+            status
+        }
     }
 }
 
@@ -131,43 +150,50 @@ fn fail<E: Write>(alloc: Global, failure: Failure, errors: &mut E) -> u8
     failure.status()
 }
 
-// Does what was chosen.
+// Does what was chosen. If there is a text in `script`, what is read of a script is added to it.
 fn attempt<T: Threads + Wait + Clock + Sync, F: OpenFiles, I: Read + Drop, O: Write, E: Write>(
     rt: &T,
     alloc: Global,
-    chosen: Chosen,
+    chosen: &Chosen,
     files: &F,
     input: I,
     output: &mut O,
     errors: &mut E,
+    script: &mut Option<Vec<u8>>,
 ) -> Result<(), Failure>
-    requires { AreInRange chosen }
+    requires { AreInRange chosen.now }
     ensures unwritten { IfErr result (λ failure. failure ≢ Output → output.new ≡ output.old) }
     ensures untold { OnErr result (errors.new ≡ errors.old) }
-    ensures silent { OnOk result (¬ (IsDetailed chosen) → errors.new ≡ errors.old) }
+    ensures silent { OnOk result (¬ (IsDetailed chosen.now) → errors.new ≡ errors.old) }
 {
     let mut input = Some(input);
     match chosen {
         Chosen::Replay(name) => {
             let name = name.as_ref().map_or(STANDARD_INPUT, |name| name.as_str());
             let source = open_source(files, name, &mut input);
-            let mut source = source.ok_or(Failure::ScriptUnopened)?;
-            Ok(replay(rt, alloc, &mut source, output)?)
+            let source = source.ok_or(Failure::ScriptUnopened)?;
+            let mut source = Kept::new(source, script.take());
+            let done = replay(rt, alloc, &mut source, output);
+            *script = source.into_text();
+            Ok(done?)
         }
         Chosen::Traced(name) => {
             let source = open_source(files, name.as_str(), &mut input);
-            let mut source = source.ok_or(Failure::ScriptUnopened)?;
+            let source = source.ok_or(Failure::ScriptUnopened)?;
+            let mut source = Kept::new(source, script.take());
+            let done = replay_traced(rt, alloc, &mut source, output, errors);
+            *script = source.into_text();
             // A trace or stats that cannot be written are no failure.
-            let _ = replay_traced(rt, alloc, &mut source, output, errors)?;
+            let _ = done?;
             Ok(())
         }
         Chosen::Relay(args, names) => {
-            let sources = open_sources(alloc, files, &names, input)?;
-            Ok(relay_main(rt, alloc, &args, sources, output)?)
+            let sources = open_sources(alloc, files, names, input)?;
+            Ok(relay_main(rt, alloc, args, sources, output)?)
         }
         Chosen::Measured(args, names) => {
-            let sources = open_sources(alloc, files, &names, input)?;
-            let _ = relay_measured(rt, alloc, &args, sources, output, errors)?;
+            let sources = open_sources(alloc, files, names, input)?;
+            let _ = relay_measured(rt, alloc, args, sources, output, errors)?;
             Ok(())
         }
     }

@@ -4,10 +4,10 @@ ghost use Rattle.std.specs.Prelude.{Contains, IsTrue, IfOk, IfSome, map};
 ghost use Rattle.relay_args.specs.Ranges.{IsInRange};
 ghost use Rattle.words.specs.Ranges.{AreInRange, IsAskedFor, IsRelay};
 
-use crate::command_line::command_line;
-use clap::ArgMatches;
+use crate::command_line::{command_line, relay};
 use clap::error::ErrorKind;
-use relay_args::{Kind, MAX_FILES, RelayArgs};
+use clap::{ArgMatches, Command};
+use relay_args::{Kind, MAX_FILES, MAX_RING_CAPACITY, RelayArgs};
 use std::alloc::{AllocError, AllocFailed, Global};
 use thiserror::Error;
 
@@ -39,7 +39,10 @@ pub enum WordsRefused {
 impl WordsRefused {
     /// An argument is not UTF-8.
     pub fn not_text(alloc: Global) -> WordsRefused {
-        mistake(alloc, "invalid UTF-8 was detected in one or more arguments")
+        mistake(
+            command_line(alloc),
+            "invalid UTF-8 was detected in one or more arguments",
+        )
     }
 }
 
@@ -68,9 +71,10 @@ impl From<clap::Error> for WordsRefused {
     }
 }
 
-// The error for a mistake that this crate finds and the parser does not, in the parser's own form.
-fn mistake(alloc: Global, message: &str) -> WordsRefused {
-    let error = match command_line(alloc) {
+// The error for a mistake that this crate finds and the parser does not, in the parser's own form,
+// with the usage of this command.
+fn mistake(command: Result<Command<'_>, AllocError>, message: &str) -> WordsRefused {
+    let error = match command {
         Ok(mut command) => command.error(ErrorKind::InvalidValue, message),
         Err(error) => Err(error),
     };
@@ -80,8 +84,17 @@ fn mistake(alloc: Global, message: &str) -> WordsRefused {
     }
 }
 
-fn out_of_range(alloc: Global) -> WordsRefused {
-    mistake(alloc, "a value is missing or not in its range")
+// The error for values that the parser lets through and `RelayArgs` does not. The parser has one
+// range for each option, so the only such value is a capacity that is too great for a ring.
+fn out_of_range(alloc: Global, found: &ArgMatches<'_>) -> WordsRefused {
+    let capacity = found.get_one::<u32>("capacity").unwrap_or_default();
+    let message = format!(in alloc;
+        "invalid value '{capacity}' for '--capacity <N>': a ring has 1 to {MAX_RING_CAPACITY}"
+    );
+    match message {
+        Ok(message) => mistake(relay(alloc), message.as_str()),
+        Err(error) => WordsRefused::from(error),
+    }
 }
 
 /// Reads the arguments of the command line, the program's name first.
@@ -99,7 +112,7 @@ pub fn read_words<'a>(alloc: Global, words: &'a [&'a str]) -> Result<Chosen, Wor
         None => Ok(Chosen::Replay(None)),
         Some(("replay", found)) => {
             let Some(file) = found.get_str("file") else {
-                return Err(out_of_range(alloc));
+                return Err(mistake(command_line(alloc), "the script is missing"));
             };
             let file = String::from_str(alloc, file)?;
             if found.get_flag("trace") && has_word(words, "--trace") {
@@ -136,14 +149,14 @@ fn relay_of(
     ensures relay { IfOk result (IsRelay is_measured) }
 {
     let Some(args) = args_of(found) else {
-        return Err(out_of_range(alloc));
+        return Err(out_of_range(alloc, found));
     };
     let mut files = Vec::new(alloc);
     for name in found.get_strs("files").unwrap_or_default() {
         files.push(String::from_str(alloc, name)?)?;
     }
     if files.is_empty() || files.len() > MAX_FILES {
-        return Err(out_of_range(alloc));
+        return Err(mistake(relay(alloc), "a relay has 1 to 16 files"));
     }
     if is_measured {
         return Ok(Chosen::Measured(args, files));

@@ -100,7 +100,8 @@ fn trace<'a>(alloc: Global) -> Arg<'a> {
         )
 }
 
-fn relay<'a>(alloc: Global) -> Result<Command<'a>, AllocError> {
+/// The words of a relay.
+pub fn relay<'a>(alloc: Global) -> Result<Command<'a>, AllocError> {
     let files = Arg::new(alloc, "files")
         .value_name("FILE")
         .required(true)
