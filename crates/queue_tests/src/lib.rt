@@ -1,7 +1,10 @@
-//! Tests of the queue alone: how a queue is made, looks, counts and gauges. `container_tests` tests what any
-//! container has. The program (`tests/cases`) plays all other calls and their steps.
+//! Tests of the queue alone: how a queue is made, looks, counts and gauges, and its five calls begun
+//! and stepped to their ends. `container_tests` tests what any container has. The program
+//! (`tests/cases`) plays all other calls and their steps.
 #![tactic(auto)]
 
+#[cfg(test)]
+mod begun;
 #[cfg(test)]
 mod counts;
 #[cfg(test)]

@@ -1,8 +1,11 @@
-//! Tests of the stack alone: ranges and folds in a crowd, ranges and folds in parts, how a stack is
-//! made, and how many passes it gives. `container_tests` tests what any container has. The program
-//! (`tests/cases`) plays all other calls and their steps.
+//! Tests of the stack alone: ranges and folds in a crowd, ranges and folds in parts, the five calls
+//! begun and stepped to their ends, how a stack is made, and how many passes it gives.
+//! `container_tests` tests what any container has. The program (`tests/cases`) plays all other calls
+//! and their steps.
 #![tactic(auto)]
 
+#[cfg(test)]
+mod begun;
 #[cfg(test)]
 mod crowd;
 #[cfg(test)]
