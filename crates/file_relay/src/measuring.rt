@@ -23,9 +23,11 @@ use std::thread::Threads;
 use std::time::{Clock, Instant};
 use told::{Told, tell};
 
-/// Relays as [`relay_main`](crate::relay_main) does, and then writes stats of the relay on
-/// `errors`: its time and messages a second, how many messages each consumer took, and the refusals
-/// that were met. Returns how much of the stats went out.
+/// Relays, and keeps what was relayed for the life of the process, as
+/// [`relay_main`](crate::relay_main) does. Then it writes stats of the relay.
+///
+/// The stats go to `errors`: the relay's time and messages a second, how many messages each consumer
+/// took, and the refusals that were met. Returns how much of the stats went out.
 ///
 /// The faults are those of `relay_main`. After a fault no stats are written. The stats are made
 /// before the outcome is written, so `Relay(NoMemory)` also comes if there is no memory for them.

@@ -32,8 +32,10 @@ use std::thread::Threads;
 use tagged_index::{Limits, MAX_TAG};
 use treiber_stack::Stacked;
 
-/// Relays what the readers give, reader `k`, counted from 0, as sender `k`. Writes the outcome: the
-/// audit, and then the list if `args` asks for it.
+/// Relays what the readers give, and keeps all messages in memory for the life of the process.
+///
+/// Reader `k`, counted from 0, is sender `k`. Writes the outcome: the audit, and then the list if
+/// `args` asks for it.
 ///
 /// All readers are read, in order, before the container is made. The faults:
 /// - `File`: the number, from 1, of the first reader that could not be read as a message file, and
@@ -42,8 +44,9 @@ use treiber_stack::Stacked;
 ///   and `NoPass` never comes.
 /// - `Output`: a write or the flush failed. Then a prefix of the text went out.
 ///
-/// After any fault but `Output` nothing was written. The memory of what was relayed is not given
-/// back, since the process is about to end.
+/// After any fault but `Output` nothing was written. What was relayed is never freed, because the
+/// process of a program ends after this; a caller that goes on loses the memory of all messages at
+/// each call.
 pub fn relay_main<T: Threads + Wait + Sync, R: Read + Drop, W: Write>(
     rt: &T,
     alloc: Global,
