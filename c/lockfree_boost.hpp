@@ -1,41 +1,92 @@
-// boost::lockfree's queue and stack, made of the proved ones, instead of <boost/lockfree/queue.hpp> and stack.hpp: a
-// program switches by this one include. If it includes Boost's two headers after it, they are empty.
+// boost::lockfree's queue and stack, made of the proved ones, instead of <boost/lockfree/queue.hpp> and stack.hpp, which are
+// empty if they are included after it. docs/cpp.md, "Moving from Boost", has the three steps, and what differs though it
+// compiles: above all `while (!queue.push(x));`, which does not end if the queue is closed or spent. Write push_wait.
 //
 // Code that would mean something else here is refused when it is compiled, with the reason: containers that grow,
-// allocators, reserve, options that are not known or are given twice. It does not go with Boost's own headers before it,
-// nor with spsc_queue, which is not here.
+// allocators, reserve, options that are not known or are given twice. Boost's other headers go with it, before or after:
+// its spsc_queue and its policies, which are used here if Boost is there.
 #pragma once
 
-#if defined(BOOST_LOCKFREE_FIFO_HPP_INCLUDED) || defined(BOOST_LOCKFREE_STACK_HPP_INCLUDED) || \
-    defined(BOOST_LOCKFREE_SPSC_QUEUE_HPP_INCLUDED) || defined(BOOST_LOCKFREE_POLICIES_HPP_INCLUDED)
-#error "lockfree_boost.hpp: Boost.Lockfree's own headers are included already: include lockfree_boost.hpp in their place"
-#endif
+#if defined(BOOST_LOCKFREE_FIFO_HPP_INCLUDED) || defined(BOOST_LOCKFREE_STACK_HPP_INCLUDED)
+#error "lockfree_boost.hpp: Boost.Lockfree's own queue or stack is included already: include lockfree_boost.hpp instead"
+#else
 #define BOOST_LOCKFREE_FIFO_HPP_INCLUDED
 #define BOOST_LOCKFREE_STACK_HPP_INCLUDED
-#define BOOST_LOCKFREE_SPSC_QUEUE_HPP_INCLUDED
-#define BOOST_LOCKFREE_POLICIES_HPP_INCLUDED
-#define BOOST_LOCKFREE_FORWARD_HPP_INCLUDED
 
 #include "lockfree.hpp"
 #if __cplusplus >= 201703L
 
+#if __has_include(<boost/lockfree/policies.hpp>)
+#include <boost/lockfree/policies.hpp>
+
+namespace lockfree {
+inline namespace LOCKFREE_NAMES {
+namespace detail {
+
+template <std::size_t N> struct option<::boost::lockfree::capacity<N>> : option<capacity<N>> {};
+template <bool Fixed> struct option<::boost::lockfree::fixed_sized<Fixed>> : option<fixed_sized<Fixed>> {};
+template <class Alloc> struct option<::boost::lockfree::allocator<Alloc>> : option<allocator<Alloc>> {};
+
+}  // namespace detail
+}  // namespace LOCKFREE_NAMES
+}  // namespace lockfree
+#else
 namespace boost {
 namespace lockfree {
 
 using ::lockfree::allocator;
 using ::lockfree::capacity;
 using ::lockfree::fixed_sized;
-using ::lockfree::queue;
-using ::lockfree::stack;
-using ::lockfree::uses_optional;
-using ::lockfree::uses_optional_t;
-
-/// Boost's queue of one producer and one consumer.
-template <class T, class... Options> class spsc_queue {
-    static_assert(::lockfree::detail::never_compiled<T>,
-                  "lockfree: spsc_queue is not here: take queue, which any number of threads may call, or Boost's own");
-};
 
 }  // namespace lockfree
 }  // namespace boost
+#endif
+
+// (Boost has this from 1.82 on.)
+#if __has_include(<boost/lockfree/detail/uses_optional.hpp>)
+#include <boost/lockfree/detail/uses_optional.hpp>
+#else
+namespace boost {
+namespace lockfree {
+
+using ::lockfree::uses_optional;
+using ::lockfree::uses_optional_t;
+
+}  // namespace lockfree
+}  // namespace boost
+#endif
+
+namespace boost {
+namespace lockfree {
+
+template <class T, class... Options> class queue : public ::lockfree::queue<T, Options...> {
+    using base = ::lockfree::queue<T, Options...>;
+
+public:
+    using base::base;
+    using base::pop;
+    std::optional<T> pop(uses_optional_t) { return base::pop(); }
+};
+
+template <class T, class... Options> class stack : public ::lockfree::stack<T, Options...> {
+    using base = ::lockfree::stack<T, Options...>;
+
+public:
+    using base::base;
+    using base::pop;
+    std::optional<T> pop(uses_optional_t) { return base::pop(); }
+};
+
+#if !__has_include(<boost/lockfree/spsc_queue.hpp>)
+/// Boost's queue of one producer and one consumer.
+template <class T, class... Options> class spsc_queue {
+    static_assert(::lockfree::detail::never_compiled<T>,
+                  "lockfree: spsc_queue is not here: take queue, which any number of threads may call, or Boost's own, "
+                  "whose header may be included beside this one");
+};
+#endif
+
+}  // namespace lockfree
+}  // namespace boost
+#endif
 #endif

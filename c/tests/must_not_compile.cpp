@@ -17,14 +17,15 @@
 // reason 14: without fixed_sized<true> grows
 // reason 15: no container here takes an allocator
 // reason 16: fixed_sized<false> cannot be had
-// reason 17: spsc_queue is not here
-// reason 18: own headers are included already
+// reason 17: no container here takes an allocator
+// reason 18: own queue or stack is included already
 // reason 19: there is nothing to reserve
+// reason 20: deleted
 #ifndef CASE
 #define CASE 0
 #endif
 #if CASE == 18
-#define BOOST_LOCKFREE_POLICIES_HPP_INCLUDED  // as Boost's header does
+#define BOOST_LOCKFREE_FIFO_HPP_INCLUDED  // as Boost's header does
 #endif
 #include "lockfree_boost.hpp"
 
@@ -35,6 +36,14 @@ using namespace lockfree;
 
 struct throws_at_its_end {
     ~throws_at_its_end() noexcept(false) {}
+};
+
+/// Cannot be moved back into an object of a derived class.
+struct unassignable {
+    const int kind = 0;
+};
+struct derived : unassignable {
+    std::string more;
 };
 
 int main() {
@@ -73,9 +82,12 @@ int main() {
 #elif CASE == 16
     boost::lockfree::queue<int, boost::lockfree::fixed_sized<false>> refused(8);
 #elif CASE == 17
-    boost::lockfree::spsc_queue<int, boost::lockfree::capacity<8>> refused;
+    queue<int, fixed_sized<true>> refused(8, std::allocator<int>());
 #elif CASE == 19
     also_sound.reserve_unsafe(8);
+#elif CASE == 20
+    queue<unassignable, capacity<8>> bases;
+    bases.push(derived());
 #endif
     return sound.push(1) && also_sound.push(2) ? 0 : 1;
 }
