@@ -6,7 +6,8 @@ int main() {
     lockfree::queue<int, lockfree::capacity<64>> queue;   // takes the memory for all values here
     std::thread producer([&] {
         for (int i = 0; i < 1000; ++i)
-            queue.push_wait(i);                           // waits while it is full
+            if (queue.push_wait(i) != lockfree::status::ok)  // waits while it is full
+                return;
         queue.close();                                    // no push follows
     });
     int value, sum = 0;
