@@ -77,8 +77,8 @@ fn unless(stops: bool) -> Duration {
 
 /// The first rounds go on at once.
 const AT_ONCE: u32 = 64;
-/// Those up to this one let other threads have their turn, and those after it sleep.
-const AWAKE: u32 = 256;
+/// Later ones let other threads have their turn until so much time has gone, and then they sleep.
+const AWAKE: Duration = Duration::from_micros(50);
 /// Each sleep is twice as long as the one before, so that a wait of seconds leaves the processor to others.
 const FIRST_SLEEP: Duration = Duration::from_micros(50);
 const LONGEST_SLEEP: Duration = Duration::from_millis(1);
@@ -106,7 +106,7 @@ impl<S: Stop> Waiting<S> {
         self.rounds = self.rounds.saturating_add(1);
         if self.rounds <= AT_ONCE {
             spin_loop();
-        } else if self.rounds <= AWAKE {
+        } else if since.elapsed() <= AWAKE {
             yield_now();
         } else {
             sleep(left.min(self.sleep));

@@ -130,6 +130,11 @@ fn values_of_a_range_are_dropped_once() {
     assert_eq!(Arc::strong_count(&value), 1);
 }
 
+/// Between two tries. (A sleep, since to yield takes very long on a machine that is busy with other things.)
+fn a_moment() {
+    std::thread::sleep(std::time::Duration::from_micros(10));
+}
+
 fn many_threads<K>(pass: impl Fn() -> Pass<Box<u64>, K> + Sync) {
     const EACH: u64 = 50_000;
     let (sum, count, pass) = (&AtomicU64::new(0), &AtomicU64::new(0), &pass);
@@ -141,7 +146,7 @@ fn many_threads<K>(pass: impl Fn() -> Pass<Box<u64>, K> + Sync) {
                     let mut value = Box::new(side * EACH + i);
                     while let Err(PushError::Full(back)) = pass.push(value) {
                         value = back;
-                        std::thread::yield_now();
+                        a_moment();
                     }
                 }
             })
@@ -157,7 +162,7 @@ fn many_threads<K>(pass: impl Fn() -> Pass<Box<u64>, K> + Sync) {
                             count.fetch_add(1, Ordering::Relaxed);
                         }
                         Err(PopError::Closed) => break,
-                        Err(_) => std::thread::yield_now(),
+                        Err(_) => a_moment(),
                     }
                 }
             });
