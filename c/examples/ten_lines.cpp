@@ -1,18 +1,14 @@
 #include <lockfree.hpp>
 #include <cstdio>
 #include <thread>
-
 int main() {
-    lockfree::queue<int, lockfree::capacity<64>> queue;   // takes the memory for all values here
+    lockfree::queue<int, lockfree::capacity<64>> queue;      // allocates memory for all values
     std::thread producer([&] {
-        for (int i = 0; i < 1000; ++i)
-            if (queue.push_wait(i) != lockfree::status::ok)  // waits while it is full
-                return;
-        queue.close();                                    // no push follows
+        for (int i = 0; i < 1000; ++i) queue.push_wait(i);   // waits while the queue is full
+        queue.close();                                       // no more values will come
     });
     int value, sum = 0;
-    while (queue.pop_wait(value) == lockfree::status::ok)  // then it is closed and empty
-        sum += value;
+    while (queue.pop_wait(value) == lockfree::status::ok) sum += value;   // until closed and empty
     producer.join();
-    std::printf("%d\n", sum);
+    std::printf("%d\n", sum);                                // 499500
 }
