@@ -4,7 +4,8 @@
 int main() {
     lockfree::queue<int, lockfree::capacity<64>> queue;      // allocates memory for all values
     std::thread producer([&] {
-        for (int i = 0; i < 1000; ++i) queue.push_wait(i);   // waits while the queue is full
+        for (int i = 0; i < 1000; ++i)
+            if (queue.push_wait(i) != lockfree::status::ok) return;   // waits while it is full
         queue.close();                                       // no more values will come
     });
     int value, sum = 0;
