@@ -1,14 +1,16 @@
-// boost::lockfree's queue and stack, made of the proved ones, instead of <boost/lockfree/queue.hpp> and stack.hpp, which are
-// empty if they are included after it. docs/cpp.md, "Moving from Boost", has the three steps, and what differs though it
-// compiles: above all `while (!queue.push(x));`, which does not end if the queue is closed or spent. Write push_wait.
+// boost::lockfree's queue and stack, made of the proved ones, instead of <boost/lockfree/queue.hpp>
+// and stack.hpp, which are empty if they are included after it. docs/cpp.md, "Moving from Boost",
+// has the three steps, and what differs though it compiles: above all `while (!queue.push(x));`,
+// which does not end if the queue is closed or spent. Write push_wait.
 //
-// Code that would mean something else here is refused when it is compiled, with the reason: containers that grow,
-// allocators, reserve, options that are not known or are given twice. Boost's other headers go with it, before or after:
-// its spsc_queue and its policies, which are used here if Boost is there.
+// Code that would mean something else here is refused when it is compiled, with the reason:
+// containers that grow, allocators, reserve, options that are not known or are given twice. Boost's
+// other headers go with it, before or after: its spsc_queue and its policies, which are used here
+// if Boost is there.
 #pragma once
 
 #if defined(BOOST_LOCKFREE_FIFO_HPP_INCLUDED) || defined(BOOST_LOCKFREE_STACK_HPP_INCLUDED)
-#error "lockfree_boost.hpp: Boost.Lockfree's own queue or stack is included already: include lockfree_boost.hpp instead"
+#error "lockfree_boost.hpp: Boost.Lockfree's own queue or stack is included already: include this instead"
 #else
 #define BOOST_LOCKFREE_FIFO_HPP_INCLUDED
 #define BOOST_LOCKFREE_STACK_HPP_INCLUDED
@@ -24,8 +26,10 @@ inline namespace LOCKFREE_NAMES {
 namespace detail {
 
 template <std::size_t N> struct option<::boost::lockfree::capacity<N>> : option<capacity<N>> {};
-template <bool Fixed> struct option<::boost::lockfree::fixed_sized<Fixed>> : option<fixed_sized<Fixed>> {};
-template <class Alloc> struct option<::boost::lockfree::allocator<Alloc>> : option<allocator<Alloc>> {};
+template <bool Fixed> struct option<::boost::lockfree::fixed_sized<Fixed>>
+    : option<fixed_sized<Fixed>> {};
+template <class Alloc> struct option<::boost::lockfree::allocator<Alloc>>
+    : option<allocator<Alloc>> {};
 
 }  // namespace detail
 }  // namespace LOCKFREE_NAMES
@@ -81,7 +85,8 @@ public:
 /// Boost's queue of one producer and one consumer.
 template <class T, class... Options> class spsc_queue {
     static_assert(::lockfree::detail::never_compiled<T>,
-                  "lockfree: spsc_queue is not here: take queue, which any number of threads may call, or Boost's own, "
+                  "lockfree: spsc_queue is not here: take queue, which any number of threads may "
+                  "call, or Boost's own, "
                   "whose header may be included beside this one");
 };
 #endif

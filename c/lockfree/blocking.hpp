@@ -1,5 +1,6 @@
-// A container whose waiting calls sleep until another call wakes them. For threads that wait long; the others need not
-// include this. Calls that push and pop without waiting look once whether somebody sleeps, and take a lock only if so.
+// A container whose waiting calls sleep until another call wakes them. For threads that wait long;
+// the others need not include this. Calls that push and pop without waiting look once whether
+// somebody sleeps, and take a lock only if so.
 //
 //     lockfree::blocking<lockfree::bounded_queue<job>> jobs(128);
 #pragma once
@@ -9,6 +10,8 @@
 #include <atomic>
 #include <chrono>
 #include <condition_variable>
+#include <cstddef>
+#include <cstdint>
 #include <mutex>
 #include <optional>
 #include <type_traits>
@@ -24,7 +27,8 @@ namespace detail {
 /// Threads that sleep until something may have changed.
 class sleepers {
 public:
-    /// The call before this has made a locked instruction, as have those who sleep: so it sees them, or they see it.
+    /// The call before this has made a locked instruction, as have those who sleep: so it sees
+    /// them, or they see it.
     void wake_one() noexcept {
         if (tell()) changed.notify_one();
     }
@@ -32,7 +36,8 @@ public:
         if (tell()) changed.notify_all();
     }
 
-    /// Tries until `once()` says something else than `refused`, or the stop says so: then `stopped`.
+    /// Tries until `once()` says something else than `refused`, or the stop says so: then
+    /// `stopped`.
     template <class Once, class Stop> status sleep_until(status refused, Once &&once, Stop &&stop) {
         status what = once();
         if (what != refused) return what;
@@ -71,12 +76,13 @@ private:
         return true;
     }
 
-    /// Until when to sleep at most. 100 milliseconds are for what wakes nobody: calls of the container itself, and a call that
-    /// was refused, and kept a last place meanwhile. A function that is asked whether to stop is asked each 10.
+    /// Until when to sleep at most. 100 milliseconds are for what wakes nobody: calls of the
+    /// container itself, and a call that was refused, and kept a last place meanwhile. A function
+    /// that is asked whether to stop is asked each 10.
     template <class Stop> static auto end_of(const Stop &stop) {
         using namespace std::chrono_literals;
-        constexpr bool is_function = !is_stop_token<Stop> && !is_time_point<Stop> && !is_duration<Stop> &&
-                                     !std::is_same_v<Stop, never_stops>;
+        constexpr bool is_function = !is_stop_token<Stop> && !is_time_point<Stop> &&
+                                     !is_duration<Stop> && !std::is_same_v<Stop, never_stops>;
         clock::time_point last = clock::time_point::max();
         if constexpr (is_duration<Stop>) last = detail::after(stop);
         if constexpr (is_time_point<Stop>) last = detail::after(stop - Stop::clock::now());
@@ -96,14 +102,21 @@ private:
 
 }  // namespace detail
 
-/// A container and those who wait beside it. All its calls may be made by any thread. Who pushes and pops calls these, and
-/// not the container's own: those wake nobody, so a sleeper notices them after up to 100 milliseconds.
+/// A container and those who wait beside it. All its calls may be made by any thread. Who pushes
+/// and pops calls these, and not the container's own: those wake nobody, so a sleeper notices them
+/// after up to 100 milliseconds.
 template <class Container> class blocking {
 public:
     using value_type = typename Container::value_type;
 
-    template <class... Args, class = std::enable_if_t<std::is_constructible_v<Container, Args...>>>
-    explicit blocking(Args... args) : inner(args...) {}
+    blocking() = default;
+    template <class... Limits,
+              class = std::enable_if_t<std::is_constructible_v<Container, std::size_t, Limits...>>>
+    explicit blocking(std::size_t room, Limits... most) : inner(room, most...) {}
+    template <class First, class... More,
+              class = std::enable_if_t<std::is_class_v<First> &&
+                                       std::is_constructible_v<Container, First, More...>>>
+    explicit blocking(First limit, More... more) : inner(limit, more...) {}
 
     /// The container, for calls that neither push nor pop nor close: size, capacity, wear, finish.
     Container &container() noexcept { return inner; }
@@ -122,13 +135,16 @@ public:
     }
 
     /// As the container's: until there is room or a value, it is closed, or the stop says so.
-    template <class Stop = never_stops> status push_wait(const value_type &value, const Stop &stop = never_stops()) {
+    template <class Stop = never_stops>
+    status push_wait(const value_type &value, const Stop &stop = never_stops()) {
         return for_room.sleep_until(status::full, [&] { return try_push(value); }, stop);
     }
-    template <class Stop = never_stops> status push_wait(value_type &&value, const Stop &stop = never_stops()) {
+    template <class Stop = never_stops>
+    status push_wait(value_type &&value, const Stop &stop = never_stops()) {
         return for_room.sleep_until(status::full, [&] { return try_push(std::move(value)); }, stop);
     }
-    template <class U, class Stop = never_stops, class = std::enable_if_t<detail::goes_into<value_type, U>>>
+    template <class U, class Stop = never_stops,
+              class = std::enable_if_t<detail::goes_into<value_type, U>>>
     status pop_wait(U &to, const Stop &stop = never_stops()) {
         return for_value.sleep_until(status::empty, [&] { return try_pop(to); }, stop);
     }
@@ -158,7 +174,8 @@ private:
         return what;
     }
     status pop_into(std::optional<value_type> &to) {
-        return popped(inner.try_consume_one([&](value_type &value) { to.emplace(std::move(value)); }));
+        return popped(
+            inner.try_consume_one([&](value_type &value) { to.emplace(std::move(value)); }));
     }
     status ended(status what) noexcept {
         for_room.wake_all();

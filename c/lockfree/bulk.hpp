@@ -1,4 +1,5 @@
-// Calls with many values: of a stack a range goes in at once, of a queue and a ring one value after another.
+// Calls with many values: of a stack a range goes in at once, of a queue and a ring one value after
+// another.
 #pragma once
 
 #include "calls.hpp"
@@ -16,20 +17,22 @@ namespace lockfree {
 inline namespace LOCKFREE_NAMES {
 namespace detail {
 
-/// Whether a range can be read twice. The iterators of C++20's views say so by another name than older ones.
-template <class It, class = void>
-inline constexpr bool reads_twice =
-    std::is_base_of_v<std::forward_iterator_tag, typename std::iterator_traits<It>::iterator_category>;
+/// Whether a range can be read twice. The iterators of C++20's views say so by another name than
+/// older ones.
+template <class It, class = void> inline constexpr bool reads_twice =
+    std::is_base_of_v<std::forward_iterator_tag,
+                      typename std::iterator_traits<It>::iterator_category>;
 template <class It>
 inline constexpr bool reads_twice<It, std::void_t<typename It::iterator_concept>> =
     std::is_base_of_v<std::forward_iterator_tag, typename It::iterator_concept>;
 
-/// The words of a range: of up to 64 with no memory for them. Those that are not put end here, or go back to the range, if
-/// it gave them by rvalue.
+/// The words of a range: of up to 64 with no memory for them. Those that are not put end here, or
+/// go back to the range, if it gave them by rvalue.
 template <class T, class It> class range_words {
 public:
     range_words(core &from, seat &with, It begin, std::size_t most) noexcept
-        : of(from), by(with), first(begin), many(most > few.size() ? new (std::nothrow) std::uint64_t[most] : nullptr),
+        : of(from), by(with), first(begin),
+          many(most > few.size() ? new (std::nothrow) std::uint64_t[most] : nullptr),
           room(many ? most : std::min(most, few.size())) {}
     range_words(const range_words &) = delete;
     range_words &operator=(const range_words &) = delete;
@@ -62,7 +65,8 @@ public:
     /// Puts what was made, as many as fit.
     status put_all() noexcept {
         gives(&of);
-        const lockfree_answer answer = detail::defined(lockfree_push_range(&by.pass, words(), count));
+        const lockfree_answer answer =
+            detail::defined(lockfree_push_range(&by.pass, words(), count));
         if (answer.code != LOCKFREE_OK) return detail::refused(of, answer.code);
         put_count = static_cast<std::size_t>(answer.value);
         by.tally<kind::stack>(static_cast<std::ptrdiff_t>(put_count));
@@ -105,7 +109,8 @@ private:
 };
 
 /// Puts a range at once, and tells how many of it. `ok` if all of them.
-template <class T, class It> status put_range(core &of, seat &by, It begin, It end, std::size_t &put) {
+template <class T, class It>
+status put_range(core &of, seat &by, It begin, It end, std::size_t &put) {
     std::size_t most = 0;
     It rest = begin;
     for (; rest != end && most < of.room; (void)++rest) ++most;
@@ -122,12 +127,13 @@ template <class T, class It> status put_range(core &of, seat &by, It begin, It e
 /// The calls of all containers with many values.
 template <class Me, class T, kind K> class bulk {
 public:
-    /// Puts the values of a range from its front, as many as there is room for. The first that was not put. Values that the
-    /// range gives by rvalue and that are not put are moved back into it.
+    /// Puts the values of a range from its front, as many as there is room for. The first that was
+    /// not put. Values that the range gives by rvalue and that are not put are moved back into it.
     ///
-    /// A stack takes them all at once: others see all of them or none, and the last one is on top. That takes memory for
-    /// more than 64 values; large ranges of several threads at a time may take memory for cells. A range that can be read
-    /// only once, and each range of a queue or a ring, goes in one value after another, so that others may see a part.
+    /// A stack takes them all at once: others see all of them or none, and the last one is on top.
+    /// That takes memory for more than 64 values; large ranges of several threads at a time may
+    /// take memory for cells. A range that can be read only once, and each range of a queue or a
+    /// ring, goes in one value after another, so that others may see a part.
     template <class It> It push(It begin, It end) {
         auto [next, what] = try_push(begin, end);
         if (next == begin) throw_if_not_made(what);
@@ -140,25 +146,32 @@ public:
             std::size_t put = 0;
             const status what = static_cast<Me &>(*this).with(
                 [&](core &of, seat &by) { return detail::put_range<T>(of, by, begin, end, put); });
-            return {std::next(begin, static_cast<typename std::iterator_traits<It>::difference_type>(put)), what};
+            return {std::next(begin,
+                              static_cast<typename std::iterator_traits<It>::difference_type>(put)),
+                    what};
         } else {
             status what = status::ok;
-            while (begin != end && (what = static_cast<Me &>(*this).try_emplace(*begin)) == status::ok) (void)++begin;
+            while (begin != end &&
+                   (what = static_cast<Me &>(*this).try_emplace(*begin)) == status::ok)
+                (void)++begin;
             return {begin, what};
         }
     }
 
-    /// Takes up to `most` values, one after another, and assigns them to `to`, to the next place of it, and so on. How many.
+    /// Takes up to `most` values, one after another, and assigns them to `to`, to the next place of
+    /// it, and so on. How many.
     template <class Out> std::size_t pop(Out to, std::size_t most) {
         const batch taken = try_pop(to, most);
         if (taken.count == 0) throw_if_not_made(taken.what);
         return taken.count;
     }
-    /// The same, with the reason if there were fewer: empty, closed, shut, spent, no_memory, no_pass.
+    /// The same, with the reason if there were fewer: empty, closed, shut, spent, no_memory,
+    /// no_pass.
     template <class Out> batch try_pop(Out to, std::size_t most) {
         batch taken{0, status::ok};
         for (; taken.count < most; (void)++to, ++taken.count) {
-            taken.what = static_cast<Me &>(*this).try_consume_one([&](T &value) { *to = std::move(value); });
+            taken.what =
+                static_cast<Me &>(*this).try_consume_one([&](T &value) { *to = std::move(value); });
             if (taken.what != status::ok) break;
         }
         return taken;

@@ -16,8 +16,8 @@ inline namespace LOCKFREE_NAMES {
 namespace detail {
 
 /// Whether a T goes into a U, by assignment or by making one of it: as Boost's pop.
-template <class T, class U>
-inline constexpr bool goes_into = std::is_assignable_v<U &, T &&> || std::is_constructible_v<U, T &&>;
+template <class T, class U> inline constexpr bool goes_into =
+    std::is_assignable_v<U &, T &&> || std::is_constructible_v<U, T &&>;
 template <class T, class U> void assign(T &from, U &to) {
     if constexpr (std::is_assignable_v<U &, T &&>) to = std::move(from);
     else to = U(std::move(from));
@@ -25,7 +25,8 @@ template <class T, class U> void assign(T &from, U &to) {
 
 /// To a function that takes an rvalue or a value by move; else by reference.
 template <class T, class F> void hand_over(F &use, T &value) {
-    if constexpr (std::is_invocable_v<F &, T &&>) static_cast<void>(std::invoke(use, std::move(value)));
+    if constexpr (std::is_invocable_v<F &, T &&>)
+        static_cast<void>(std::invoke(use, std::move(value)));
     else static_cast<void>(std::invoke(use, value));
 }
 
@@ -33,33 +34,41 @@ template <class T, class F> void hand_over(F &use, T &value) {
 template <class T, class... Args> inline constexpr bool is_one_rvalue = false;
 template <class T, class Arg> inline constexpr bool is_one_rvalue<T, Arg> = std::is_same_v<Arg, T>;
 
-/// The calls that all containers and their passes have, beside those of gauges.hpp and bulk.hpp. Any number of threads may
-/// call a container at a time, and one thread a pass. A thread's first call of a container takes a lock and memory. The
-/// others take neither, unless their comment says so. Each call takes effect at one moment, and fails to end only while
-/// other threads' calls succeed: both are proved of the algorithms, and docs/proof.md says what is proved of the code.
+/// The calls that all containers and their passes have, beside those of gauges.hpp and bulk.hpp.
+/// Any number of threads may call a container at a time, and one thread a pass. A thread's first
+/// call of a container takes a lock and memory. The others take neither, unless their comment says
+/// so. Each call takes effect at one moment, and fails to end only while other threads' calls
+/// succeed: both are proved of the algorithms, and docs/proof.md says what is proved of the code.
 ///
-/// Calls that say bool throw std::bad_alloc or std::length_error if a thread's first call finds no memory or no pass. Each
-/// has a form that begins with try_, returns a `status` instead, and throws nothing of its own. Exceptions of the value's
-/// own functions pass to the caller; then nothing is pushed.
+/// Calls that say bool throw std::bad_alloc or std::length_error if a thread's first call finds no
+/// memory or no pass. Each has a form that begins with try_, returns a `status` instead, and throws
+/// nothing of its own. Exceptions of the value's own functions pass to the caller; then nothing is
+/// pushed.
 template <class Me, class T, kind K> class calls {
 public:
     /// Pushes a copy. False if it is full, closed or spent.
     bool push(const T &value) { return said(try_push(value)); }
-    /// Pushes by move, always. False as above; the value is then moved back, by its move assignment. If it has none, it is
-    /// made anew in its place; but not if it is a part of an object of a derived class, which then is as a move leaves it.
-    /// A value that throws while it is moved back is lost; if it is made anew, that ends the program.
+    /// Pushes by move, always. False as above; the value is then moved back, by its move
+    /// assignment. If it has none, it is made anew in its place; but not if it is a part of an
+    /// object of a derived class, which then is as a move leaves it. A value that throws while it
+    /// is moved back is lost; if it is made anew, that ends the program.
     bool push(T &&value) { return said(try_push(std::move(value))); }
-    template <class D, class = std::enable_if_t<is_unreturnable<T, D>>> bool push(D &&value) = delete;
+    template <class D, class = std::enable_if_t<is_unreturnable<T, D>>>
+    bool push(D &&value) = delete;
     /// The same as push: each container here is bounded.
     bool bounded_push(const T &value) { return push(value); }
     bool bounded_push(T &&value) { return push(std::move(value)); }
-    template <class D, class = std::enable_if_t<is_unreturnable<T, D>>> bool bounded_push(D &&value) = delete;
-    /// Makes the value of these arguments in its place. If it is refused the value ends; a single argument that is an
-    /// rvalue of T is moved back, and what else was given as an rvalue is used up.
-    template <class... Args> bool emplace(Args &&...args) { return said(try_emplace(std::forward<Args>(args)...)); }
+    template <class D, class = std::enable_if_t<is_unreturnable<T, D>>>
+    bool bounded_push(D &&value) = delete;
+    /// Makes the value of these arguments in its place. If it is refused the value ends; a single
+    /// argument that is an rvalue of T is moved back, and what else was given as an rvalue is used
+    /// up.
+    template <class... Args> bool emplace(Args &&...args) {
+        return said(try_emplace(std::forward<Args>(args)...));
+    }
 
-    /// Moves the next value into `to`, by assignment, or by making a U of it. False if it is empty, shut or spent. The value
-    /// is lost if its move throws.
+    /// Moves the next value into `to`, by assignment, or by making a U of it. False if it is empty,
+    /// shut or spent. The value is lost if its move throws.
     template <class U> bool pop(U &to) { return said(try_pop(to)); }
     [[nodiscard]] std::optional<T> pop(uses_optional_t) {
         std::optional<T> to;
@@ -68,10 +77,12 @@ public:
     }
     [[nodiscard]] std::optional<T> pop() { return pop(uses_optional); }
 
-    /// The same calls, which say why not: full, closed, spent; empty, closed, shut, spent; no_memory, no_pass.
+    /// The same calls, which say why not: full, closed, spent; empty, closed, shut, spent;
+    /// no_memory, no_pass.
     status try_push(const T &value) { return make(tries_once, value); }
     status try_push(T &&value) { return move(tries_once, value); }
-    template <class D, class = std::enable_if_t<is_unreturnable<T, D>>> status try_push(D &&value) = delete;
+    template <class D, class = std::enable_if_t<is_unreturnable<T, D>>>
+    status try_push(D &&value) = delete;
     template <class... Args> status try_emplace(Args &&...args) {
         return put(tries_once, std::forward<Args>(args)...);
     }
@@ -85,15 +96,18 @@ public:
         return to;
     }
 
-    /// Push once there is room, pop once there is a value: they spin, then yield, then sleep, for 50 microseconds at first
-    /// and for 1 millisecond at last; lockfree/blocking.hpp has calls that are woken. `stopped` if the stop says so before:
-    /// a std::stop_token, a time_point, a duration, or a function that says true when it is to stop, which is asked after
-    /// each try. Never `full`, never `empty`; else as the calls above.
-    template <class Stop = const never_stops> status push_wait(const T &value, Stop &&stop = never_stops()) {
+    /// Push once there is room, pop once there is a value: they spin, then yield, then sleep, for
+    /// 50 microseconds at first and for 1 millisecond at last; lockfree/blocking.hpp has calls that
+    /// are woken. `stopped` if the stop says so before: a std::stop_token, a time_point, a
+    /// duration, or a function that says true when it is to stop, which is asked after each try.
+    /// Never `full`, never `empty`; else as the calls above.
+    template <class Stop = const never_stops>
+    status push_wait(const T &value, Stop &&stop = never_stops()) {
         auto again = detail::waits_for(detail::asks(stop));
         return make(again, value);
     }
-    template <class Stop = const never_stops> status push_wait(T &&value, Stop &&stop = never_stops()) {
+    template <class Stop = const never_stops>
+    status push_wait(T &&value, Stop &&stop = never_stops()) {
         auto again = detail::waits_for(detail::asks(stop));
         return move(again, value);
     }
@@ -125,8 +139,8 @@ public:
         return to;
     }
 
-    /// Takes the next value and hands it to `use`, as T&& if it takes that, else as T&. False if there was none. The value
-    /// ends when `use` returns or throws. `use` may call the container.
+    /// Takes the next value and hands it to `use`, as T&& if it takes that, else as T&. False if
+    /// there was none. The value ends when `use` returns or throws. `use` may call the container.
     template <class F> bool consume_one(F &&use) { return said(try_consume_one(use)); }
     template <class F> status try_consume_one(F &&use) {
         return take([&](T &value) { detail::hand_over(use, value); });

@@ -1,22 +1,24 @@
 // The cells of a container: they hold the values that are no word themselves.
 //
-// Free cells hang in chains of one length: 16 for small values, 2 for those of 256 bytes, and 1 from 1 KiB on. Whole chains
-// lie in a second container of the library, one word each. A caller keeps fewer than two chains at hand: a push takes a
-// cell from them, a pop puts one there. So one call in a chain's length moves a chain, and none does while pushes and pops
-// take turns.
+// Free cells hang in chains of one length: 16 for small values, 2 for those of 256 bytes, and 1
+// from 1 KiB on. Whole chains lie in a second container of the library, one word each. A caller
+// keeps fewer than two chains at hand: a push takes a cell from them, a pop puts one there. So one
+// call in a chain's length moves a chain, and none does while pushes and pops take turns.
 //
-// For a ring the second container is a ring too, for the same number of callers, and with a slot for each chain. So it
-// lasts as long. For a queue and a stack it is a stack, which makes at most one move for each value that is pushed, and one
-// for each chain that is made. Chains of 1 move twice as often, so there it is a ring for 64 callers, which lasts longer
-// than they do. If chains do not fit, or the stack is spent first, they are listed under the container's lock; a caller
+// For a ring the second container is a ring too, for the same number of callers, and with a slot
+// for each chain. So it lasts as long. For a queue and a stack it is a stack, which makes at most
+// one move for each value that is pushed, and one for each chain that is made. Chains of 1 move
+// twice as often, so there it is a ring for 64 callers, which lasts longer than they do. If chains
+// do not fit, or the stack is spent first, they are listed under the container's lock; a caller
 // that has no way to the ring gets its chains under the lock, too.
 //
-// Why no push lacks a cell: there are as many cells as values fit, and three chains more for each caller. A caller has at
-// most two of them, with the cell in hand. So if one has none, some chain is free. Of chains of 1 there are two more for
-// each caller, which has one of them at hand or in hand, or two if a function of consume_one pushes. Two uses can still
-// empty all chains: functions of consume_one that call again, deeper than this, and several large ranges at once. Then one
-// more chain is made. That takes memory, and the chain stays. While a fold has values in hand none is made: a push that
-// finds no cell is full.
+// Why no push lacks a cell: there are as many cells as values fit, and three chains more for each
+// caller. A caller has at most two of them, with the cell in hand. So if one has none, some chain
+// is free. Of chains of 1 there are two more for each caller, which has one of them at hand or in
+// hand, or two if a function of consume_one pushes. Two uses can still empty all chains: functions
+// of consume_one that call again, deeper than this, and several large ranges at once. Then one more
+// chain is made. That takes memory, and the chain stays. While a fold has values in hand none is
+// made: a push that finds no cell is full.
 #pragma once
 
 #include "library.hpp"
@@ -34,7 +36,8 @@ inline namespace LOCKFREE_NAMES {
 namespace detail {
 
 /// Whether a T is itself the word that goes through the library.
-template <class T> inline constexpr bool goes_by_value = std::is_trivially_copyable_v<T> && sizeof(T) <= sizeof(std::uint64_t);
+template <class T> inline constexpr bool goes_by_value = std::is_trivially_copyable_v<T> &&
+                                                         sizeof(T) <= sizeof(std::uint64_t);
 
 /// A free cell. The first one of a chain also has the next chain, if chains are listed.
 struct link {
@@ -57,14 +60,18 @@ struct cell_layout {
     std::uint32_t chain;
 };
 constexpr std::uint32_t chain_length(std::size_t size) noexcept {
-    return size >= 1024 ? 1 : size >= 256 ? 2 : size <= 32 ? 16 : static_cast<std::uint32_t>(512 / size);
+    return size >= 1024  ? 1
+           : size >= 256 ? 2
+           : size <= 32  ? 16
+                         : static_cast<std::uint32_t>(512 / size);
 }
 template <class T> constexpr cell_layout layout_of() noexcept {
     if constexpr (goes_by_value<T>) return {0, 0, 0};
     else return {sizeof(cell<T>), alignof(cell<T>), chain_length(sizeof(cell<T>))};
 }
 
-/// The free cells that one caller has at hand: `some`, fewer than a chain, and `chain`, a whole one or none.
+/// The free cells that one caller has at hand: `some`, fewer than a chain, and `chain`, a whole one
+/// or none.
 struct cells_at_hand {
     handle way;  // a pass of the container of chains
     link *some = nullptr;
@@ -74,8 +81,8 @@ struct cells_at_hand {
     bool has_chains = false;
 };
 
-/// All cells of a container. `take` and `give` are for many threads, each with its cells at hand; the remaining functions
-/// are called under the container's lock.
+/// All cells of a container. `take` and `give` are for many threads, each with its cells at hand;
+/// the remaining functions are called under the container's lock.
 class cell_store {
 public:
     explicit cell_store(cell_layout of) noexcept : layout(of) {}
@@ -83,13 +90,15 @@ public:
     cell_store &operator=(const cell_store &) = delete;
     ~cell_store() { clear(); }
 
-    /// Makes the container of chains, for a ring's number of callers, or for any if that is 0. OK, NO_MEMORY.
+    /// Makes the container of chains, for a ring's number of callers, or for any if that is 0. OK,
+    /// NO_MEMORY.
     std::uint32_t open(std::size_t values, std::uint32_t callers) noexcept {
         if (layout.chain == 0) return LOCKFREE_OK;
         const std::size_t of_callers = chains_of_caller() * (callers ? callers : planned);
         const std::uint32_t ways = callers ? callers : planned + 2;
         const std::size_t most = most_of_ring - ways;  // (more are listed)
-        const auto room = static_cast<std::uint32_t>(std::min(chains_for(values) + of_callers, most));
+        const auto room =
+            static_cast<std::uint32_t>(std::min(chains_for(values) + of_callers, most));
         if (callers) return lockfree_ring_new(&chains, room, ways);
         if (layout.chain > 1) return lockfree_stack_new(&chains, room);
         shares_a_way = true;
@@ -97,14 +106,16 @@ public:
         return code == LOCKFREE_OK ? lockfree_split(&chains, &shared_way) : code;
     }
 
-    /// A way to the chains for who comes, and some chains more. What is there already, if memory was refused before, stays.
-    /// OK, NO_MEMORY, NO_PASS.
+    /// A way to the chains for who comes, and some chains more. What is there already, if memory
+    /// was refused before, stays. OK, NO_MEMORY, NO_PASS.
     std::uint32_t join(cells_at_hand &by, bool is_caller) noexcept {
         if (layout.chain == 0 || by.has_chains) return LOCKFREE_OK;
         by.keeps_a_chain = is_caller;
-        std::uint32_t code = by.way.is_empty() ? lockfree_split(&chains, &by.way) : std::uint32_t{LOCKFREE_OK};
+        std::uint32_t code =
+            by.way.is_empty() ? lockfree_split(&chains, &by.way) : std::uint32_t{LOCKFREE_OK};
         if (code == LOCKFREE_NO_PASS && shares_a_way) code = LOCKFREE_OK;
-        if (code == LOCKFREE_OK && (is_caller || layout.chain > 1)) code = add(chains_of_caller(), by);
+        if (code == LOCKFREE_OK && (is_caller || layout.chain > 1))
+            code = add(chains_of_caller(), by);
         by.has_chains = code == LOCKFREE_OK;
         return code;
     }
@@ -139,7 +150,8 @@ public:
     }
 
 private:
-    /// This many callers' chains fit, if their number is not known. The chains of others are listed under the lock.
+    /// This many callers' chains fit, if their number is not known. The chains of others are listed
+    /// under the lock.
     static constexpr std::uint32_t planned = 64;
     /// What the capacity and the passes of a ring are together at most.
     static constexpr std::size_t most_of_ring = 1048575;
@@ -159,7 +171,9 @@ private:
     std::atomic<bool> has_listed{false};  // whether it ever had one
 
     std::size_t chains_of_caller() const noexcept { return layout.chain == 1 ? 2 : 3; }
-    std::size_t chains_for(std::size_t values) const noexcept { return (values + layout.chain - 1) / layout.chain; }
+    std::size_t chains_for(std::size_t values) const noexcept {
+        return (values + layout.chain - 1) / layout.chain;
+    }
 
     /// Makes chains. The first one comes to hand if there is none.
     std::uint32_t add(std::size_t count, cells_at_hand &by) noexcept {
@@ -176,7 +190,8 @@ private:
     /// New chains, one list of them; null if there is no memory.
     link *make(std::size_t count) noexcept {
         const std::size_t size = count * layout.chain * layout.size;
-        void *const memory = ::operator new(size + sizeof(block), std::align_val_t(layout.align), std::nothrow);
+        void *const memory =
+            ::operator new(size + sizeof(block), std::align_val_t(layout.align), std::nothrow);
         if (!memory) return nullptr;
         auto *const bytes = static_cast<unsigned char *>(memory);
         blocks = ::new (bytes + size) block{bytes, blocks};
@@ -204,8 +219,8 @@ private:
         return true;
     }
 
-    /// A free chain, from the container of chains or from the list. While one is free a try fails only if others move
-    /// chains from one to the other meanwhile.
+    /// A free chain, from the container of chains or from the list. While one is free a try fails
+    /// only if others move chains from one to the other meanwhile.
     link *find(cells_at_hand &by, std::mutex &lock) noexcept {
         const bool has_way = !by.way.is_empty();
         for (int tries = 0; tries < 64; ++tries) {
@@ -224,7 +239,8 @@ private:
         return answer.code == LOCKFREE_OK ? place_of<link>(answer.value) : nullptr;
     }
 
-    /// `some` is a whole chain: it stays at hand, and the chain that was at hand goes back to the stored ones.
+    /// `some` is a whole chain: it stays at hand, and the chain that was at hand goes back to the
+    /// stored ones.
     [[gnu::noinline]] void put_away(cells_at_hand &by, std::mutex &lock) noexcept {
         link *const whole_one = std::exchange(by.some, nullptr);
         by.count = 0;

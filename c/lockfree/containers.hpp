@@ -35,8 +35,9 @@ template <class Me, class T, kind K> class all_calls : public most_calls<Me, T, 
 template <class Me, class T>
 class all_calls<Me, T, kind::stack> : public most_calls<Me, T, kind::stack>, public folds<Me, T> {};
 
-/// One thread's own way to a container: of `split`. It moves, and has no copy. When it ends it goes back to its container,
-/// under a lock. It may outlive the container and still works then; values that it still pushes end with the last pass.
+/// One thread's own way to a container: of `split`. It moves, and has no copy. When it ends it goes
+/// back to its container, under a lock. It may outlive the container and still works then; values
+/// that it still pushes end with the last pass.
 template <class T, kind K> class pass_of : public all_calls<pass_of<T, K>, T, K> {
 public:
     using value_type = T;
@@ -44,7 +45,8 @@ public:
 
     /// An empty pass: each of its calls says no_pass.
     pass_of() noexcept = default;
-    pass_of(pass_of &&other) noexcept : of(std::exchange(other.of, nullptr)), by(std::exchange(other.by, nullptr)) {}
+    pass_of(pass_of &&other) noexcept
+        : of(std::exchange(other.of, nullptr)), by(std::exchange(other.by, nullptr)) {}
     pass_of &operator=(pass_of &&other) noexcept {
         pass_of(std::move(other)).swap(*this);
         return *this;
@@ -92,20 +94,24 @@ private:
 };
 
 template <class Alloc, class = void> inline constexpr bool is_allocator = false;
-template <class Alloc>
-inline constexpr bool is_allocator<Alloc, std::void_t<decltype(std::declval<Alloc &>().allocate(std::size_t{1}))>> = true;
+template <class Alloc> inline constexpr bool
+    is_allocator<Alloc, std::void_t<decltype(std::declval<Alloc &>().allocate(std::size_t{1}))>> =
+        true;
 
 /// A core that is a container's from now on.
 struct adopted {
     core *from;
 };
 
-template <class T, kind K, class... Options> class container : public all_calls<container<T, K, Options...>, T, K> {
+template <class T, kind K, class... Options> class container
+    : public all_calls<container<T, K, Options...>, T, K> {
     using given = options<Options...>;
     static_assert(given::sound());
-    static_assert(std::is_object_v<T> && !std::is_const_v<T> && !std::is_volatile_v<T> && !std::is_array_v<T>,
-                  "lockfree: values are of an object type, with no const or volatile, and no array");
-    static_assert(std::is_nothrow_destructible_v<T>, "lockfree: the destructor of a value throws nothing");
+    static_assert(
+        std::is_object_v<T> && !std::is_const_v<T> && !std::is_volatile_v<T> && !std::is_array_v<T>,
+        "lockfree: values are of an object type, with no const or volatile, and no array");
+    static_assert(std::is_nothrow_destructible_v<T>,
+                  "lockfree: the destructor of a value throws nothing");
     using base = all_calls<container, T, K>;
     static constexpr bool sized = given::size != 0;
 
@@ -115,46 +121,54 @@ public:
     using pass = pass_of<T, K>;
     using limits = detail::limits<K>;
 
-    /// With capacity<N>. Takes all memory that pushes and pops need, whatever T is. std::bad_alloc, and of limits
-    /// std::invalid_argument.
-    template <bool Sized = sized, class = std::enable_if_t<Sized>> container() : container(adopted{made(given::size, limits())}) {}
+    /// With capacity<N>. Takes all memory that pushes and pops need, whatever T is. std::bad_alloc,
+    /// and of limits std::invalid_argument.
+    template <bool Sized = sized, class = std::enable_if_t<Sized>> container()
+        : container(adopted{made(given::size, limits())}) {}
     template <class First, class... More, bool Sized = sized,
               class = std::enable_if_t<Sized && are_limits<K, First, More...>>>
-    explicit container(First limit, More... more) : container(adopted{made(given::size, limits(limit, more...))}) {}
-    /// With fixed_sized<true>, and a ring without capacity<N>. Room for 1 to 1,048,573 values. std::bad_alloc,
-    /// std::invalid_argument.
-    template <class... Limits, bool Sized = sized, class = std::enable_if_t<!Sized && are_limits<K, Limits...>>>
-    explicit container(size_type room, Limits... most) : container(adopted{made(room, limits(most...))}) {
+    explicit container(First limit, More... more)
+        : container(adopted{made(given::size, limits(limit, more...))}) {}
+    /// With fixed_sized<true>, and a ring without capacity<N>. Room for 1 to 1,048,573 values.
+    /// std::bad_alloc, std::invalid_argument.
+    template <class... Limits, bool Sized = sized,
+              class = std::enable_if_t<!Sized && are_limits<K, Limits...>>>
+    explicit container(size_type room, Limits... most)
+        : container(adopted{made(room, limits(most...))}) {
         static_assert(given::fixed || Sized || K == kind::ring,
-                      "lockfree: Boost's container of a size without fixed_sized<true> grows, and none here does: "
+                      "lockfree: Boost's container of a size without fixed_sized<true> grows, and "
+                      "none here does: "
                       "say fixed_sized<true>, or bounded_queue<T> or bounded_stack<T>");
     }
     /// Boost's with an allocator, and refused when compiled.
     template <class Alloc, class = std::enable_if_t<is_allocator<Alloc>>>
     explicit container(const Alloc &) : container(adopted{nullptr}) {
-        static_assert(never_compiled<Alloc>,
-                      "lockfree: no container here takes an allocator: its constructor takes all memory");
+        static_assert(
+            never_compiled<Alloc>,
+            "lockfree: no container here takes an allocator: its constructor takes all memory");
     }
     template <class Alloc, class = std::enable_if_t<is_allocator<Alloc>>>
     container(size_type, const Alloc &) : container(adopted{nullptr}) {
-        static_assert(never_compiled<Alloc>,
-                      "lockfree: no container here takes an allocator: its constructor takes all memory");
+        static_assert(
+            never_compiled<Alloc>,
+            "lockfree: no container here takes an allocator: its constructor takes all memory");
     }
     explicit container(adopted by_make) noexcept : of(by_make.from), home(home_of(of)) {}
     container(const container &) = delete;
     container &operator=(const container &) = delete;
-    /// No thread calls any more but by passes of `split`. All values that are left end, whoever pushed them; if it is spent
-    /// or shut and passes are out, with the last of these.
+    /// No thread calls any more but by passes of `split`. All values that are left end, whoever
+    /// pushed them; if it is spent or shut and passes are out, with the last of these.
     ~container() {
         if (!of->has_one_user()) end_left<T>(*of);
         if (state_of_thread == thread_state::calls) mine().forget(*of);
         drop_user<T>(*of);
     }
 
-    /// A pass that a thread keeps itself, which spares each call the look for it. Made under a lock; takes memory if more
-    /// are out than ever before. At most 65,534 are out at a time, with those of the threads that have called; of a ring as
-    /// many as its pass_limit says. try_split's is empty if there is no memory or no pass; split throws std::bad_alloc or
-    /// std::length_error. After `finish` it is a pass whose calls say closed.
+    /// A pass that a thread keeps itself, which spares each call the look for it. Made under a
+    /// lock; takes memory if more are out than ever before. At most 65,534 are out at a time, with
+    /// those of the threads that have called; of a ring as many as its pass_limit says. try_split's
+    /// is empty if there is no memory or no pass; split throws std::bad_alloc or std::length_error.
+    /// After `finish` it is a pass whose calls say closed.
     [[nodiscard]] pass split() {
         seat *by = nullptr;
         throw_for(of->take_seat(by));
@@ -165,10 +179,11 @@ public:
         return of->take_seat(by) == LOCKFREE_OK ? pass(*of, *by) : pass();
     }
 
-    /// Ends the container, and hands each value that is left to `use`, as consume_one does: a queue's from the front, a
-    /// stack's from the top; also of a container that is spent or shut. No other thread calls. `ok`, and from then on each
-    /// call says closed; or `shared` if a pass of `split` is out, and nothing has changed. If `use` throws, the values
-    /// that it has not got stay, for `finish` again.
+    /// Ends the container, and hands each value that is left to `use`, as consume_one does: a
+    /// queue's from the front, a stack's from the top; also of a container that is spent or shut.
+    /// No other thread calls. `ok`, and from then on each call says closed; or `shared` if a pass
+    /// of `split` is out, and nothing has changed. If `use` throws, the values that it has not got
+    /// stay, for `finish` again.
     template <class F> status finish(F &&use) {
         if (!of->has_one_user()) return status::shared;
         of->finish([&](seat &by, std::uint64_t word) {
@@ -180,18 +195,21 @@ public:
     /// For a thread that calls alone, as Boost's: the same calls here.
     bool unsynchronized_push(const T &value) { return base::push(value); }
     bool unsynchronized_push(T &&value) { return base::push(std::move(value)); }
-    template <class D, class = std::enable_if_t<is_unreturnable<T, D>>> bool unsynchronized_push(D &&value) = delete;
+    template <class D, class = std::enable_if_t<is_unreturnable<T, D>>>
+    bool unsynchronized_push(D &&value) = delete;
     template <class It> It unsynchronized_push(It begin, It end) { return base::push(begin, end); }
     template <class U> bool unsynchronized_pop(U &to) { return base::pop(to); }
 
     /// Boost's, and refused when compiled.
     template <class N> void reserve(N) {
-        static_assert(never_compiled<N>, "lockfree: no container here grows, so there is nothing to reserve: its "
-                                         "constructor takes all memory");
+        static_assert(never_compiled<N>,
+                      "lockfree: no container here grows, so there is nothing to reserve: its "
+                      "constructor takes all memory");
     }
     template <class N> void reserve_unsafe(N) {
-        static_assert(never_compiled<N>, "lockfree: no container here grows, so there is nothing to reserve: its "
-                                         "constructor takes all memory");
+        static_assert(never_compiled<N>,
+                      "lockfree: no container here grows, so there is nothing to reserve: its "
+                      "constructor takes all memory");
     }
 
 private:
@@ -199,14 +217,17 @@ private:
     template <class, class, kind> friend class bulk;
     template <class, kind> friend class gauges;
     template <class, class> friend class folds;
-    template <class Container, class... Room> friend std::unique_ptr<Container> make(Room... room) noexcept;
+    template <class Container, class... Room>
+    friend std::unique_ptr<Container> make(Room... room) noexcept;
     core *const of;
     const std::size_t home;
 
     static std::uint32_t make_core(core *&to, size_type room, limits most) noexcept {
         return core::make(room, layout_of<T>(), most, to);
     }
-    static std::uint32_t make_core(core *&to, limits most) noexcept { return make_core(to, given::size, most); }
+    static std::uint32_t make_core(core *&to, limits most) noexcept {
+        return make_core(to, given::size, most);
+    }
     static core *made(size_type room, limits most) {
         core *to = nullptr;
         throw_for(make_core(to, room, most));

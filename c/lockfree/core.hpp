@@ -17,13 +17,15 @@ namespace lockfree {
 inline namespace LOCKFREE_NAMES {
 namespace detail {
 
-/// A pass, and what its thread has at hand. On cache lines of its own: its thread writes it at each call.
+/// A pass, and what its thread has at hand. On cache lines of its own: its thread writes it at each
+/// call.
 struct alignas(64) seat {
     handle pass;
     cells_at_hand cells;
     seat *next_resting = nullptr;
     seat *next_made = nullptr;
-    /// How many values it has pushed onto a stack, less those that it has popped. Its thread alone writes it.
+    /// How many values it has pushed onto a stack, less those that it has popped. Its thread alone
+    /// writes it.
     std::atomic<std::ptrdiff_t> held{0};
     /// For the words of a fold, once it has had one of many values.
     std::unique_ptr<std::uint64_t[]> words;
@@ -41,15 +43,19 @@ struct alignas(64) seat {
 /// How many containers have ended, of all threads.
 inline std::atomic<std::size_t> cores_ended{0};
 
-/// The shared part of a container. Its seats and values live as long as it has a user: the container, or a pass of
-/// `split`. The core itself lives as long as it has a holder: a thread that has called it also is one.
+/// The shared part of a container. Its seats and values live as long as it has a user: the
+/// container, or a pass of `split`. The core itself lives as long as it has a holder: a thread that
+/// has called it also is one.
 ///
-/// A seat that is given back is the next caller's, so that only those count that are out at a time. One is always kept
-/// back: by this what is left is taken when the container ends, with no memory and no pass.
+/// A seat that is given back is the next caller's, so that only those count that are out at a time.
+/// One is always kept back: by this what is left is taken when the container ends, with no memory
+/// and no pass.
 class core {
 public:
-    /// A new core with one user, or null and why. OK, NO_MEMORY, BAD_CAPACITY; OTHER_HANDLE if archive and headers differ.
-    template <kind K> static std::uint32_t make(std::size_t room, cell_layout layout, limits<K> most, core *&to) noexcept {
+    /// A new core with one user, or null and why. OK, NO_MEMORY, BAD_CAPACITY; OTHER_HANDLE if
+    /// archive and headers differ.
+    template <kind K> static std::uint32_t make(std::size_t room, cell_layout layout,
+                                                limits<K> most, core *&to) noexcept {
         if (lockfree_version() / 100 != LOCKFREE_H_VERSION / 100) return LOCKFREE_OTHER_HANDLE;
         core *const made = new (std::nothrow) core(room, layout, most.life);
         if (!made) return LOCKFREE_NO_MEMORY;
@@ -79,13 +85,17 @@ public:
         if (!ended()) of->next_resting = std::exchange(resting, of);
     }
 
-    void *take_cell(seat &by, bool may_grow) noexcept { return cells.take(by.cells, lock, may_grow); }
+    void *take_cell(seat &by, bool may_grow) noexcept {
+        return cells.take(by.cells, lock, may_grow);
+    }
     void give_cell(seat &by, void *cell) noexcept { cells.give(by.cells, cell, lock); }
 
     /// Says while it lives that a fold has values in hand.
     struct fold_under_way {
         std::atomic<std::uint32_t> &all;
-        explicit fold_under_way(std::atomic<std::uint32_t> &of) noexcept : all(of) { all.fetch_add(1); }
+        explicit fold_under_way(std::atomic<std::uint32_t> &of) noexcept : all(of) {
+            all.fetch_add(1);
+        }
         fold_under_way(const fold_under_way &) = delete;
         fold_under_way &operator=(const fold_under_way &) = delete;
         ~fold_under_way() { all.fetch_sub(1); }
@@ -111,7 +121,8 @@ public:
     }
     bool ended() const noexcept { return has_ended.load(std::memory_order_relaxed); }
 
-    /// Hands the word of each value that is left to `use`, with a seat, while others may still call: as many as fit.
+    /// Hands the word of each value that is left to `use`, with a seat, while others may still
+    /// call: as many as fit.
     template <class F> void take_left(F &&use) noexcept {
         for (std::size_t count = 0; count < room; ++count) {
             const lockfree_answer answer = detail::take(kept->pass);
@@ -122,8 +133,9 @@ public:
         }
     }
 
-    /// The same, when nobody calls any more, of all that is left, also if it is spent or shut. Then no pass is left, and
-    /// each call says closed. `use` may throw: then the remaining values stay for the next call.
+    /// The same, when nobody calls any more, of all that is left, also if it is spent or shut. Then
+    /// no pass is left, and each call says closed. `use` may throw: then the remaining values stay
+    /// for the next call.
     template <class F> void finish(F &&use) {
         {
             const std::lock_guard<std::mutex> guard(lock);
@@ -143,7 +155,8 @@ public:
         spent.store(true);  // (its life is over)
     }
 
-    /// Frees all, when no value is left and nobody calls any more. The holder that the last user is goes, too.
+    /// Frees all, when no value is left and nobody calls any more. The holder that the last user is
+    /// goes, too.
     void end() noexcept {
         {
             const std::lock_guard<std::mutex> guard(lock);
@@ -155,7 +168,8 @@ public:
     }
 
 private:
-    core(std::size_t capacity, cell_layout layout, std::uint64_t whole_life) noexcept : room(capacity), life(whole_life), cells(layout) {}
+    core(std::size_t capacity, cell_layout layout, std::uint64_t whole_life) noexcept
+        : room(capacity), life(whole_life), cells(layout) {}
     ~core() { free_all(); }
 
     std::mutex lock;
@@ -173,9 +187,12 @@ private:
     template <kind K> std::uint32_t make_root(limits<K> most) noexcept {
         const auto capacity = static_cast<std::uint32_t>(room);
         if constexpr (K == kind::queue) return lockfree_queue_limited(&root, capacity, most.life);
-        else if constexpr (K == kind::stack) return lockfree_stack_limited(&root, capacity, most.life);
+        else if constexpr (K == kind::stack)
+            return lockfree_stack_limited(&root, capacity, most.life);
         else if (most.passes >= UINT32_MAX) return LOCKFREE_BAD_CAPACITY;
-        else return lockfree_ring_limited(&root, capacity, most.life, callers_of(most));  // one is kept back
+        else
+            return lockfree_ring_limited(&root, capacity, most.life,
+                                         callers_of(most));  // one is kept back
     }
 
     /// How many seats a ring has passes for; 0 of a queue and a stack.
@@ -192,7 +209,8 @@ private:
         return code == LOCKFREE_OK ? cells.add_for(room, kept->cells) : code;
     }
 
-    /// What is made of a seat before memory is refused is the next caller's: a pass that is freed would not come again.
+    /// What is made of a seat before memory is refused is the next caller's: a pass that is freed
+    /// would not come again.
     std::uint32_t make_seat(seat *&to) noexcept {
         if (!half_made && !(half_made = begin_seat())) return LOCKFREE_NO_MEMORY;
         std::uint32_t code = LOCKFREE_OK;

@@ -12,10 +12,11 @@ namespace lockfree {
 inline namespace LOCKFREE_NAMES {
 namespace detail {
 
-/// All values of a stack, taken at once. Their words are collected before the first one is handed out: then the stack has
-/// all of its room again, and a value's cell is free as soon as it was handed out. 64 words lie here, more of them in
-/// memory of the seat, which it takes once. If there is no memory for these, the stack keeps the places of the values
-/// until the last one is handed out. A fold goes to its end even if its values are not wanted any more.
+/// All values of a stack, taken at once. Their words are collected before the first one is handed
+/// out: then the stack has all of its room again, and a value's cell is free as soon as it was
+/// handed out. 64 words lie here, more of them in memory of the seat, which it takes once. If there
+/// is no memory for these, the stack keeps the places of the values until the last one is handed
+/// out. A fold goes to its end even if its values are not wanted any more.
 template <class T> class fold {
 public:
     fold(core &from, seat &with, bool reversed) noexcept
@@ -69,19 +70,25 @@ private:
 
 template <class Me, class T> class folds {
 public:
-    /// Takes all values at once, and hands them to `use` from the top down, as consume_one does. How many. `use` may call
-    /// the stack, by a pass that is borrowed under a lock, and finds all of its room free: a value that it pushes back fits.
-    /// Of more than 64 values it takes memory at the first such call of a pass (8 bytes for each value that fits); if there
-    /// is none, the stack keeps the room of all of them until this call ends. If `use` throws, the values that it has not
-    /// got end. Values in hand that lie in cells keep these: if the others are in use, a push is full.
-    template <class F> std::size_t consume_all_atomic(F &&use) { return said(try_consume_all_atomic(use)); }
+    /// Takes all values at once, and hands them to `use` from the top down, as consume_one does.
+    /// How many. `use` may call the stack, by a pass that is borrowed under a lock, and finds all
+    /// of its room free: a value that it pushes back fits. Of more than 64 values it takes memory
+    /// at the first such call of a pass (8 bytes for each value that fits); if there is none, the
+    /// stack keeps the room of all of them until this call ends. If `use` throws, the values that
+    /// it has not got end. Values in hand that lie in cells keep these: if the others are in use, a
+    /// push is full.
+    template <class F> std::size_t consume_all_atomic(F &&use) {
+        return said(try_consume_all_atomic(use));
+    }
     /// From the bottom up.
     template <class F> std::size_t consume_all_atomic_reversed(F &&use) {
         return said(try_consume_all_atomic_reversed(use));
     }
     /// The same, without exceptions of their own: `ok`, or no_memory, no_pass.
     template <class F> batch try_consume_all_atomic(F &&use) { return fold_all(false, use); }
-    template <class F> batch try_consume_all_atomic_reversed(F &&use) { return fold_all(true, use); }
+    template <class F> batch try_consume_all_atomic_reversed(F &&use) {
+        return fold_all(true, use);
+    }
 
 private:
     static std::size_t said(batch result) {

@@ -11,11 +11,13 @@ namespace lockfree {
 inline namespace LOCKFREE_NAMES {
 namespace detail {
 
-/// Each call that may throw std::bad_alloc or std::length_error, since it may be a thread's first call of the container, has
-/// a form that begins with try_ and throws nothing: it returns ok, no_memory or no_pass, and puts its answer into `to`.
+/// Each call that may throw std::bad_alloc or std::length_error, since it may be a thread's first
+/// call of the container, has a form that begins with try_ and throws nothing: it returns ok,
+/// no_memory or no_pass, and puts its answer into `to`.
 template <class Me, kind K> class gauges {
 public:
-    /// No push follows. Pops go on until it is empty, and then say closed. Whether this call closed it.
+    /// No push follows. Pops go on until it is empty, and then say closed. Whether this call closed
+    /// it.
     bool close() { return said(try_close()) == status::ok; }
     /// ok if this call closed it, closed if it was closed before; no_memory, no_pass.
     status try_close() noexcept {
@@ -25,9 +27,11 @@ public:
         if (!is_not_made(what)) of->closed.store(true, std::memory_order_release);
         return what;
     }
-    /// No pop follows; what is left ends with the container, or is handed out by `finish`. Whether this call shut it.
+    /// No pop follows; what is left ends with the container, or is handed out by `finish`. Whether
+    /// this call shut it.
     bool shut() { return said(try_shut()) == status::ok; }
-    /// ok if this call shut it, shut if it was shut before; no_memory, no_pass; closed after `finish`.
+    /// ok if this call shut it, shut if it was shut before; no_memory, no_pass; closed after
+    /// `finish`.
     status try_shut() noexcept {
         return ask([](handle &pass) { return (lockfree_shut)(&pass, UINT64_MAX); });
     }
@@ -38,9 +42,10 @@ public:
         const status what = ask([](handle &pass) { return (lockfree_look)(&pass, UINT64_MAX); });
         return answer(what, to, what != status::ok);
     }
-    /// How many values a queue or a ring held at one moment of the call, 0 to its capacity. It begins anew while others pop.
-    /// How many a stack holds, exactly if nobody calls meanwhile: else calls that are under way may count or not. It looks
-    /// at each pass that was ever out at a time.
+    /// How many values a queue or a ring held at one moment of the call, 0 to its capacity. It
+    /// begins anew while others pop. How many a stack holds, exactly if nobody calls meanwhile:
+    /// else calls that are under way may count or not. It looks at each pass that was ever out at a
+    /// time.
     std::size_t size() const { return answered<std::size_t>(&gauges::try_size); }
     status try_size(std::size_t &to) const noexcept {
         if constexpr (K == kind::stack) {
@@ -48,12 +53,13 @@ public:
             return answer(of ? status::ok : status::no_pass, to, of ? of->held() : 0);
         } else {
             std::uint64_t count = 0;
-            const status what = tell(count, [](handle &pass) { return (lockfree_count)(&pass, UINT64_MAX); });
+            const status what =
+                tell(count, [](handle &pass) { return (lockfree_count)(&pass, UINT64_MAX); });
             return answer(what, to, static_cast<std::size_t>(count));
         }
     }
-    /// Whether it held as many values as fit, by the same count. A push may be refused before: a queue or a stack is full
-    /// to it while other calls have the last places in hand.
+    /// Whether it held as many values as fit, by the same count. A push may be refused before: a
+    /// queue or a stack is full to it while other calls have the last places in hand.
     bool full() const { return answered<bool>(&gauges::try_full); }
     status try_full(bool &to) const noexcept {
         std::size_t count = 0;
@@ -74,14 +80,15 @@ public:
         const core *const of = me().shared();
         return of ? of->room : 0;
     }
-    /// True: no push and no pop waits for another thread, but for the lock of a thread's first call, and of values in cells
-    /// if more than 64 threads have called a queue or a stack.
+    /// True: no push and no pop waits for another thread, but for the lock of a thread's first
+    /// call, and of values in cells if more than 64 threads have called a queue or a stack.
     bool is_lock_free() const noexcept { return true; }
     static constexpr bool is_always_lock_free = true;
 
-    /// The part of its life that the container had used at one moment of the call, from 0 to 1. A queue takes 2^42 - 2
-    /// values in its life, a stack makes 2^42 - 1 pushes and pops, a ring takes 2^41 - 1 times its capacity. Then it is
-    /// spent, and each push says so, each pop of a stack too. 1 after `finish`.
+    /// The part of its life that the container had used at one moment of the call, from 0 to 1. A
+    /// queue takes 2^42 - 2 values in its life, a stack makes 2^42 - 1 pushes and pops, a ring
+    /// takes 2^41 - 1 times its capacity. Then it is spent, and each push says so, each pop of a
+    /// stack too. 1 after `finish`.
     double wear() const { return answered<double>(&gauges::try_wear); }
     status try_wear(double &to) const noexcept {
         const core *const of = me().shared();
@@ -111,7 +118,8 @@ private:
     }
 
     /// Asks, and tells the number that is answered.
-    template <class Question> status tell(std::uint64_t &number, Question &&question) const noexcept {
+    template <class Question>
+    status tell(std::uint64_t &number, Question &&question) const noexcept {
         return const_cast<gauges *>(this)->me().with([&](core &of, seat &by) {
             const lockfree_answer answer = detail::whole(by.pass, question(by.pass));
             number = answer.value;
@@ -128,8 +136,9 @@ private:
     }
     static double part(std::uint64_t used, const core &of) noexcept {
         const double life = static_cast<double>(of.life);
-        const double whole_life =
-            K == kind::queue ? life - 1 : K == kind::ring ? life * static_cast<double>(of.room) : life;
+        const double whole_life = K == kind::queue  ? life - 1
+                                  : K == kind::ring ? life * static_cast<double>(of.room)
+                                                    : life;
         const double of_life = static_cast<double>(used) / whole_life;
         return of_life < 1 ? of_life : 1;
     }

@@ -1,4 +1,5 @@
-// The C library as the C++ headers call it: handles that free themselves, whole calls, and what ThreadSanitizer is told.
+// The C library as the C++ headers call it: handles that free themselves, whole calls, and what
+// ThreadSanitizer is told.
 #pragma once
 
 #include "../lockfree.h"
@@ -29,8 +30,9 @@ namespace lockfree {
 inline namespace LOCKFREE_NAMES {
 namespace detail {
 
-/// What a push orders before the pop of its value, and a close before a call that it refuses. The library's
-/// atomics do it; ThreadSanitizer, which does not see them, is told, of each container by itself.
+/// What a push orders before the pop of its value, and a close before a call that it refuses. The
+/// library's atomics do it; ThreadSanitizer, which does not see them, is told, of each container by
+/// itself.
 inline void gives([[maybe_unused]] const void *to) noexcept {
 #ifdef LOCKFREE_UNDER_TSAN
     __tsan_release(const_cast<void *>(to));
@@ -42,8 +44,8 @@ inline void gets([[maybe_unused]] const void *from) noexcept {
 #endif
 }
 
-/// A word whose bytes all count as written: MemorySanitizer would report those between a value's members when the word goes
-/// to the library, and does not see what the library writes.
+/// A word whose bytes all count as written: MemorySanitizer would report those between a value's
+/// members when the word goes to the library, and does not see what the library writes.
 inline std::uint64_t defined(std::uint64_t word) noexcept {
 #ifdef LOCKFREE_UNDER_MSAN
     __msan_unpoison(&word, sizeof word);
@@ -67,8 +69,8 @@ struct handle : lockfree_handle {
     bool is_empty() const noexcept { return !at; }
 };
 
-/// Goes on with a call until it has another answer than BUSY. The names in parentheses go around lockfree.h's own
-/// messages to ThreadSanitizer, which order all containers with one another.
+/// Goes on with a call until it has another answer than BUSY. The names in parentheses go around
+/// lockfree.h's own messages to ThreadSanitizer, which order all containers with one another.
 inline lockfree_answer whole(handle &pass, lockfree_answer answer) noexcept {
     answer = detail::defined(answer);
     while (__builtin_expect(answer.code == LOCKFREE_BUSY, 0))
@@ -78,9 +80,13 @@ inline lockfree_answer whole(handle &pass, lockfree_answer answer) noexcept {
 inline lockfree_answer put(handle &pass, std::uint64_t word) noexcept {
     return whole(pass, (lockfree_put)(&pass, word, UINT64_MAX));
 }
-inline lockfree_answer take(handle &pass) noexcept { return whole(pass, (lockfree_take)(&pass, UINT64_MAX)); }
+inline lockfree_answer take(handle &pass) noexcept {
+    return whole(pass, (lockfree_take)(&pass, UINT64_MAX));
+}
 
-inline std::uint64_t word_of(const void *place) noexcept { return reinterpret_cast<std::uintptr_t>(place); }
+inline std::uint64_t word_of(const void *place) noexcept {
+    return reinterpret_cast<std::uintptr_t>(place);
+}
 template <class Place> Place *place_of(std::uint64_t word) noexcept {
     return reinterpret_cast<Place *>(static_cast<std::uintptr_t>(word));
 }

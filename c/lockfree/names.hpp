@@ -1,8 +1,9 @@
 // What a compiler must have, and the inline namespace of all names.
 //
-// A function is compiled in each file that calls it, and the linker keeps one of the copies. A copy that was compiled with
-// -fno-exceptions throws nothing, and tidies nothing up when an exception passes through it. So these copies have other
-// names: then no file gets the code of a file that was compiled in the other way.
+// A function is compiled in each file that calls it, and the linker keeps one of the copies. A copy
+// that was compiled with -fno-exceptions throws nothing, and tidies nothing up when an exception
+// passes through it. So these copies have other names: then no file gets the code of a file that
+// was compiled in the other way.
 #pragma once
 
 #if __cplusplus < 201703L

@@ -1,4 +1,5 @@
-// The options of a container, Boost's names. What they cannot mean here is refused when it is compiled, with the reason.
+// The options of a container, Boost's names. What they cannot mean here is refused when it is
+// compiled, with the reason.
 #pragma once
 
 #include "names.hpp"
@@ -12,29 +13,34 @@ inline namespace LOCKFREE_NAMES {
 
 /// The capacity, 1 to 1,048,573, known when it is compiled. Implies fixed_sized<true>.
 template <std::size_t N> struct capacity {};
-/// fixed_sized<true>: the capacity is given to the constructor. fixed_sized<false> is refused: no container here grows.
+/// fixed_sized<true>: the capacity is given to the constructor. fixed_sized<false> is refused: no
+/// container here grows.
 template <bool Fixed> struct fixed_sized {};
-/// Is refused: the memory of a container is the library's. (Boost's name, so that the reason can be said.)
+/// Is refused: the memory of a container is the library's. (Boost's name, so that the reason can be
+/// said.)
 template <class Alloc> struct allocator {};
 
 struct uses_optional_t {};
 /// For `pop(uses_optional)`, as Boost's.
 inline constexpr uses_optional_t uses_optional{};
 
-/// For a constructor: how far a container wears before it is spent, 2 to 2^42 - 1, so that a program can be tried with a
-/// spent container. A queue takes `most - 1` values in its life; a stack makes `most` pushes and pops in all.
+/// For a constructor: how far a container wears before it is spent, 2 to 2^42 - 1, so that a
+/// program can be tried with a spent container. A queue takes `most - 1` values in its life; a
+/// stack makes `most` pushes and pops in all.
 struct tag_limit {
     std::uint64_t most;
 };
 
-/// For a ring's constructor: how many passes are out at a time at most, of threads that have called it and of `split`
-/// together. 1 to 65,534, and with the capacity at most 1,048,574. A ring that is given none has 256, which cost 5 KiB, and 12
-/// to 18 KiB more for values in cells: as many threads as a server has, and fewer if it has a ring for each connection.
+/// For a ring's constructor: how many passes are out at a time at most, of threads that have called
+/// it and of `split` together. 1 to 65,534, and with the capacity at most 1,048,574. A ring that is
+/// given none has 256, which cost 5 KiB, and 12 to 18 KiB more for values in cells: as many threads
+/// as a server has, and fewer if it has a ring for each connection.
 struct pass_limit {
     std::size_t most;
 };
 
-/// For a ring's constructor, as a tag_limit: a ring of capacity n takes n * `most` values in its life. 1 to 2^41 - 1.
+/// For a ring's constructor, as a tag_limit: a ring of capacity n takes n * `most` values in its
+/// life. 1 to 2^41 - 1.
 struct lap_limit {
     std::uint64_t most;
 };
@@ -57,14 +63,18 @@ template <kind K> struct limits {
 template <> struct limits<kind::ring> {
     std::uint64_t life;
     std::size_t passes;
-    explicit constexpr limits(pass_limit of_passes = {usual_passes}, lap_limit laps = {greatest_lap}) noexcept
+    explicit constexpr limits(pass_limit of_passes = {usual_passes},
+                              lap_limit laps = {greatest_lap}) noexcept
         : life(laps.most), passes(of_passes.most) {}
-    explicit constexpr limits(lap_limit laps, pass_limit of_passes = {usual_passes}) noexcept : limits(of_passes, laps) {}
+    explicit constexpr limits(lap_limit laps, pass_limit of_passes = {usual_passes}) noexcept
+        : limits(of_passes, laps) {}
 };
-template <kind K, class... Given> inline constexpr bool are_limits = std::is_constructible_v<limits<K>, Given...>;
+template <kind K, class... Given> inline constexpr bool are_limits =
+    std::is_constructible_v<limits<K>, Given...>;
 
 struct plain_option {
-    static constexpr bool known = true, sizes = false, fixes = false, grows = false, allocates = false;
+    static constexpr bool known = true, sizes = false, fixes = false, grows = false,
+                          allocates = false;
     static constexpr std::size_t size = 0;
 };
 template <class Option> struct option : plain_option {
@@ -90,18 +100,22 @@ constexpr int count_of(bool holds) { return holds ? 1 : 0; }
 /// What the options of a container say together.
 template <class... Options> struct options {
     static constexpr std::size_t size = (std::size_t{0} + ... + option<Options>::size);
-    static constexpr bool fixed = (false || ... || (option<Options>::fixes || option<Options>::sizes));
+    static constexpr bool fixed =
+        (false || ... || (option<Options>::fixes || option<Options>::sizes));
 
     static constexpr bool sound() {
-        static_assert((true && ... && option<Options>::known),
-                      "lockfree: an option is not known: there are capacity<N> and fixed_sized<true>");
-        static_assert((0 + ... + count_of(option<Options>::sizes)) <= 1, "lockfree: capacity<N> is given twice");
+        static_assert(
+            (true && ... && option<Options>::known),
+            "lockfree: an option is not known: there are capacity<N> and fixed_sized<true>");
+        static_assert((0 + ... + count_of(option<Options>::sizes)) <= 1,
+                      "lockfree: capacity<N> is given twice");
         static_assert((0 + ... + count_of(option<Options>::fixes || option<Options>::grows)) <= 1,
                       "lockfree: fixed_sized is given twice");
         static_assert(!(false || ... || option<Options>::grows),
                       "lockfree: no container here grows, so fixed_sized<false> cannot be had");
-        static_assert(!(false || ... || option<Options>::allocates),
-                      "lockfree: no container here takes an allocator: its constructor takes all memory");
+        static_assert(
+            !(false || ... || option<Options>::allocates),
+            "lockfree: no container here takes an allocator: its constructor takes all memory");
         return true;
     }
 };

@@ -14,7 +14,7 @@ namespace lockfree {
 inline namespace LOCKFREE_NAMES {
 
 /// What became of a call. The numbers are lockfree.h's codes, but for `stopped`.
-enum class [[nodiscard]] status : std::uint32_t {
+enum class [[nodiscard]] status : std::uint32_t{
     ok = LOCKFREE_OK,
     full = LOCKFREE_FULL,            ///< A push: no room now.
     empty = LOCKFREE_EMPTY,          ///< A pop: no value now; more may come.
@@ -22,9 +22,10 @@ enum class [[nodiscard]] status : std::uint32_t {
     shut = LOCKFREE_SHUT,            ///< A pop: shut. Nothing comes out any more.
     spent = LOCKFREE_SPENT,          ///< The container is worn out: see `wear()`.
     no_memory = LOCKFREE_NO_MEMORY,  ///< The thread's first call found no memory for its pass.
-    no_pass = LOCKFREE_NO_PASS,      ///< As many passes are out as there may be; or the pass is an empty one.
-    shared = LOCKFREE_SHARED,        ///< finish: a pass of `split()` is still out.
-    stopped = 100                    ///< A waiting call: its stop said so.
+    no_pass =
+        LOCKFREE_NO_PASS,  ///< As many passes are out as there may be; or the pass is an empty one.
+    shared = LOCKFREE_SHARED,  ///< finish: a pass of `split()` is still out.
+    stopped = 100              ///< A waiting call: its stop said so.
 };
 
 /// The name of a status, as in the list above. Never null.
@@ -50,7 +51,8 @@ struct [[nodiscard]] batch {
     status what;
 };
 
-/// What became of a push of a range: the first value that was not put, and why it was not; `ok` if all were.
+/// What became of a push of a range: the first value that was not put, and why it was not; `ok` if
+/// all were.
 template <class It> struct [[nodiscard]] put_range_result {
     It next;
     status what;
@@ -60,26 +62,34 @@ namespace detail {
 
 /// The status of a code. After `finish` the handles are empty: then a container is as a closed one.
 constexpr status status_of(std::uint32_t code) noexcept {
-    return code == LOCKFREE_NO_HANDLE || code == LOCKFREE_OTHER_HANDLE ? status::closed : static_cast<status>(code);
+    return code == LOCKFREE_NO_HANDLE || code == LOCKFREE_OTHER_HANDLE ? status::closed
+                                                                       : static_cast<status>(code);
 }
 
-/// Throws what a constructor, `split` or a call that says bool throws for a code. OK throws nothing.
+/// Throws what a constructor, `split` or a call that says bool throws for a code. OK throws
+/// nothing.
 inline void throw_for(std::uint32_t code) {
     switch (code) {
     case LOCKFREE_OK: return;
     case LOCKFREE_NO_MEMORY: LOCKFREE_THROW(std::bad_alloc());
     case LOCKFREE_BAD_CAPACITY:
-        LOCKFREE_THROW(std::invalid_argument(
-            "lockfree: a capacity is 1 to 1,048,573, a tag limit 2 to 2^42 - 1; a ring has 1 to 65,534 passes, with "
-            "the capacity at most 1,048,574, and 1 to 2^41 - 1 laps"));
+        LOCKFREE_THROW(
+            std::invalid_argument("lockfree: a capacity is 1 to 1,048,573, a tag limit 2 to 2^42 - "
+                                  "1; a ring has 1 to 65,534 passes, with "
+                                  "the capacity at most 1,048,574, and 1 to 2^41 - 1 laps"));
     case LOCKFREE_NO_PASS:
-        LOCKFREE_THROW(std::length_error("lockfree: all passes of the container are out, or this one is empty"));
-    default: LOCKFREE_THROW(std::logic_error("lockfree: the archive is of another version than the headers"));
+        LOCKFREE_THROW(std::length_error(
+            "lockfree: all passes of the container are out, or this one is empty"));
+    default:
+        LOCKFREE_THROW(
+            std::logic_error("lockfree: the archive is of another version than the headers"));
     }
 }
 
 /// Whether a call could not be made.
-constexpr bool is_not_made(status what) noexcept { return what == status::no_memory || what == status::no_pass; }
+constexpr bool is_not_made(status what) noexcept {
+    return what == status::no_memory || what == status::no_pass;
+}
 
 /// Throws if a thread's first call could not be made, since there was no memory or no pass.
 inline void throw_if_not_made(status what) {

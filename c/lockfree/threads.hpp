@@ -1,4 +1,5 @@
-// Which seat a thread calls by: one of each container that it has called, from its first call to its end.
+// Which seat a thread calls by: one of each container that it has called, from its first call to
+// its end.
 #pragma once
 
 #include "core.hpp"
@@ -17,9 +18,10 @@ struct slot {
     seat *by;
 };
 
-/// The seats of a thread: a table of 2^n slots, at most half of them in use. A container's slot is the first one from
-/// `home_of` on that is its own, with no empty one before. A thread keeps the core of each container that is in it, so an
-/// address names one container, also among those that other shared objects have made.
+/// The seats of a thread: a table of 2^n slots, at most half of them in use. A container's slot is
+/// the first one from `home_of` on that is its own, with no empty one before. A thread keeps the
+/// core of each container that is in it, so an address names one container, also among those that
+/// other shared objects have made.
 struct slot_table {
     slot *slots;
     std::size_t mask;
@@ -47,9 +49,9 @@ inline std::size_t home_of(const core *of) noexcept {
 inline slot no_slot = {nullptr, nullptr};
 inline thread_local slot_table table_of_thread = {&no_slot, 0};
 
-/// Whether the thread has called yet, and whether its seats have gone back already. This and the table need no destructor,
-/// so they outlive the seats: what a thread still calls then, as from destructors of older objects, borrows a seat for
-/// each call.
+/// Whether the thread has called yet, and whether its seats have gone back already. This and the
+/// table need no destructor, so they outlive the seats: what a thread still calls then, as from
+/// destructors of older objects, borrows a seat for each call.
 enum class thread_state : unsigned char { fresh, calls, ends };
 inline thread_local thread_state state_of_thread = thread_state::fresh;
 
@@ -67,8 +69,8 @@ public:
         if (last.slots != &no_slot) delete[] last.slots;
     }
 
-    /// The thread's slot of a container, without a seat if it is new. Null if there is no memory. It stays until the thread
-    /// calls another container for the first time.
+    /// The thread's slot of a container, without a seat if it is new. Null if there is no memory.
+    /// It stays until the thread calls another container for the first time.
     slot *slot_of(core &of) noexcept {
         slot_table &table = table_of_thread;
         if (slot *const known = table.find(&of, home_of(&of))) return known;
@@ -126,8 +128,9 @@ private:
         table.slots[hole & table.mask] = {nullptr, nullptr};
     }
 
-    /// Forgets the containers that have ended. It is due if as many have ended, of all threads, as half of those that are
-    /// here, and 8 more. So after a thread's first call of a container it keeps fewer that have ended than others, and 16.
+    /// Forgets the containers that have ended. It is due if as many have ended, of all threads, as
+    /// half of those that are here, and 8 more. So after a thread's first call of a container it
+    /// keeps fewer that have ended than others, and 16.
     void sweep(std::size_t ended) noexcept {
         swept_at = ended;
         const slot_table &table = table_of_thread;
@@ -147,7 +150,8 @@ inline seats_of_thread &mine() {
     return all;
 }
 
-/// A call that a thread makes after its seats have gone back, and the seat that it has borrowed for it.
+/// A call that a thread makes after its seats have gone back, and the seat that it has borrowed for
+/// it.
 struct late_call {
     core *of;
     seat *by;
@@ -155,8 +159,9 @@ struct late_call {
 };
 inline thread_local late_call *late_calls = nullptr;
 
-/// The thread as a caller of a container: it has a seat, its own one, or a borrowed one that goes back when this ends.
-/// Calls that are made in a late call go by the seat that this one has borrowed.
+/// The thread as a caller of a container: it has a seat, its own one, or a borrowed one that goes
+/// back when this ends. Calls that are made in a late call go by the seat that this one has
+/// borrowed.
 class caller {
 public:
     explicit caller(core &from) noexcept : of(from), late{&from, nullptr, late_calls} {
@@ -194,11 +199,13 @@ public:
     seat *by = nullptr;
 };
 
-/// Has a seat out of its place during one fold. If the fold's function calls the container, that call finds the place empty
-/// and puts another seat there. That one goes back when the fold ends. `Place` tells where the place is then.
+/// Has a seat out of its place during one fold. If the fold's function calls the container, that
+/// call finds the place empty and puts another seat there. That one goes back when the fold ends.
+/// `Place` tells where the place is then.
 template <class Place> class lent {
 public:
-    lent(core &from, Place its_place) noexcept : of(from), place(its_place), by(std::exchange(*place(), nullptr)) {}
+    lent(core &from, Place its_place) noexcept
+        : of(from), place(its_place), by(std::exchange(*place(), nullptr)) {}
     lent(const lent &) = delete;
     lent &operator=(const lent &) = delete;
     ~lent() {

@@ -31,14 +31,15 @@ private:
 class held_cell {
 public:
     held_cell(core &from, seat &with) noexcept : of(from), by(with) {}
-    held_cell(core &from, seat &with, std::uint64_t word) noexcept : of(from), by(with), place(place_of<void>(word)) {}
+    held_cell(core &from, seat &with, std::uint64_t word) noexcept
+        : of(from), by(with), place(place_of<void>(word)) {}
     held_cell(const held_cell &) = delete;
     held_cell &operator=(const held_cell &) = delete;
     ~held_cell() {
         if (place) of.give_cell(by, place);
     }
-    /// Gets a free cell. If none is free one is made, unless a fold has values in hand: then it is full, and tries as long
-    /// as `again()` is true. OK, full, no_memory.
+    /// Gets a free cell. If none is free one is made, unless a fold has values in hand: then it is
+    /// full, and tries as long as `again()` is true. OK, full, no_memory.
     template <class Again> status find(Again &again) {
         for (;;) {
             const bool folding = of.is_folding();
@@ -58,15 +59,18 @@ private:
     void *place = nullptr;
 };
 
-/// Whether a refused rvalue is moved back with no exception. A value that throws while it is moved back is lost.
-template <class T>
-inline constexpr bool moves_back =
-    std::is_move_assignable_v<T> ? std::is_nothrow_move_assignable_v<T> : std::is_nothrow_move_constructible_v<T>;
+/// Whether a refused rvalue is moved back with no exception. A value that throws while it is moved
+/// back is lost.
+template <class T> inline constexpr bool moves_back = std::is_move_assignable_v<T>
+                                                          ? std::is_nothrow_move_assignable_v<T>
+                                                          : std::is_nothrow_move_constructible_v<T>;
 
-/// Whether a T is known to be no part of an object of a derived class. `made` is one that was made here. If T has virtual
-/// functions, a derived object has another table of them, at its begin. If it has none, a T that the caller hands over as
-/// an rvalue is taken for a whole one; rvalues of derived classes do not get here.
-template <class T> bool is_complete([[maybe_unused]] const T &of, [[maybe_unused]] const T &made) noexcept {
+/// Whether a T is known to be no part of an object of a derived class. `made` is one that was made
+/// here. If T has virtual functions, a derived object has another table of them, at its begin. If
+/// it has none, a T that the caller hands over as an rvalue is taken for a whole one; rvalues of
+/// derived classes do not get here.
+template <class T>
+bool is_complete([[maybe_unused]] const T &of, [[maybe_unused]] const T &made) noexcept {
     if constexpr (std::is_polymorphic_v<T> && !std::is_final_v<T>) {
         const void *const of_it = std::addressof(of), *const of_made = std::addressof(made);
         return std::memcmp(of_it, of_made, sizeof(void *)) == 0;
@@ -75,8 +79,8 @@ template <class T> bool is_complete([[maybe_unused]] const T &of, [[maybe_unused
     }
 }
 
-/// Back into the caller's object: by assignment, or if there is none by making it anew in its place. That is not done to a
-/// part of a derived object: it stays as the move left it.
+/// Back into the caller's object: by assignment, or if there is none by making it anew in its
+/// place. That is not done to a part of a derived object: it stays as the move left it.
 template <class T> void move_back(T &from, T &to) {
     if constexpr (std::is_move_assignable_v<T>) {
         to = std::move(from);
@@ -88,10 +92,11 @@ template <class T> void move_back(T &from, T &to) {
     }
 }
 
-/// Whether D is a class derived from T of which an rvalue must not be pushed as a T: it could not be moved back.
-template <class T, class D>
-inline constexpr bool is_unreturnable =
-    !std::is_same_v<T, D> && std::is_base_of_v<T, D> && !std::is_move_assignable_v<T> && !std::is_polymorphic_v<T>;
+/// Whether D is a class derived from T of which an rvalue must not be pushed as a T: it could not
+/// be moved back.
+template <class T, class D> inline constexpr bool is_unreturnable =
+    !std::is_same_v<T, D> && std::is_base_of_v<T, D> && !std::is_move_assignable_v<T> &&
+    !std::is_polymorphic_v<T>;
 
 /// The word that a value is.
 template <class T> std::uint64_t word_of_value(const T &value) noexcept {
@@ -135,7 +140,8 @@ template <class Again> status put_word(core &of, seat &by, std::uint64_t word, A
 }
 
 /// Puts a value that is made of `args` in its place.
-template <class T, class Again, class... Args> status put_made(core &of, seat &by, Again &again, Args &&...args) {
+template <class T, class Again, class... Args>
+status put_made(core &of, seat &by, Again &again, Args &&...args) {
     if constexpr (goes_by_value<T>) {
         const T value(std::forward<Args>(args)...);
         return detail::put_word(of, by, detail::word_of_value(value), again);
@@ -194,14 +200,16 @@ template <class T, kind K, class F> status take_value(core &of, seat &by, F &&us
 /// Ends what is left, whatever can still be taken of it.
 template <class T> void end_left(core &of) noexcept {
     if constexpr (!goes_by_value<T>)
-        of.take_left([&](seat &by, std::uint64_t word) { detail::use_word<T>(of, by, word, [](T &) {}); });
+        of.take_left(
+            [&](seat &by, std::uint64_t word) { detail::use_word<T>(of, by, word, [](T &) {}); });
 }
 
 /// Drops a user; with the last one all values end, and then the seats and cells.
 template <class T> void drop_user(core &of) noexcept {
     if (!of.drop_user()) return;
     if constexpr (!goes_by_value<T>)
-        of.finish([&](seat &by, std::uint64_t word) { detail::use_word<T>(of, by, word, [](T &) {}); });
+        of.finish(
+            [&](seat &by, std::uint64_t word) { detail::use_word<T>(of, by, word, [](T &) {}); });
     of.end();
 }
 

@@ -20,8 +20,8 @@ struct never_stops {
 namespace detail {
 
 template <class T, class = void> inline constexpr bool is_stop_token = false;
-template <class T>
-inline constexpr bool is_stop_token<T, std::void_t<decltype(std::declval<const T &>().stop_requested())>> = true;
+template <class T> inline constexpr bool
+    is_stop_token<T, std::void_t<decltype(std::declval<const T &>().stop_requested())>> = true;
 
 template <class T> inline constexpr bool is_time_point = false;
 template <class Clock, class Duration>
@@ -31,7 +31,8 @@ template <class T> inline constexpr bool is_duration = false;
 template <class Rep, class Period>
 inline constexpr bool is_duration<std::chrono::duration<Rep, Period>> = true;
 
-/// The time so long after now; now itself if it is before, and the end of time if that is later than any.
+/// The time so long after now; now itself if it is before, and the end of time if that is later
+/// than any.
 template <class Rep, class Period>
 std::chrono::steady_clock::time_point after(const std::chrono::duration<Rep, Period> &wait) {
     using clock = std::chrono::steady_clock;
@@ -42,8 +43,8 @@ std::chrono::steady_clock::time_point after(const std::chrono::duration<Rep, Per
     return now + std::chrono::duration_cast<clock::duration>(wait);
 }
 
-/// Asks a stop: a std::stop_token (or what has its stop_requested), a time_point, a duration from when the wait begins,
-/// or a function that says true when it is to stop.
+/// Asks a stop: a std::stop_token (or what has its stop_requested), a time_point, a duration from
+/// when the wait begins, or a function that says true when it is to stop.
 template <class Stop> auto asks(Stop &stop) {
     using given = std::remove_const_t<Stop>;
     if constexpr (is_stop_token<given>) {
@@ -54,14 +55,16 @@ template <class Stop> auto asks(Stop &stop) {
         return [end = detail::after(stop)] { return std::chrono::steady_clock::now() >= end; };
     } else {
         static_assert(std::is_invocable_r_v<bool, Stop &>,
-                      "lockfree: a stop is a std::stop_token, a time_point, a duration, or a function that says true "
+                      "lockfree: a stop is a std::stop_token, a time_point, a duration, or a "
+                      "function that says true "
                       "when it is to stop");
         return [&stop] { return static_cast<bool>(stop()); };
     }
 }
 
-/// Passes the time between two tries: at first a hint to the processor, then the turn to another thread, and at last sleep,
-/// of 50 microseconds, and each time twice that, up to 1 millisecond. So a long wait takes some 0.2 % of a processor.
+/// Passes the time between two tries: at first a hint to the processor, then the turn to another
+/// thread, and at last sleep, of 50 microseconds, and each time twice that, up to 1 millisecond. So
+/// a long wait takes some 0.2 % of a processor.
 class patience {
 public:
     void wait() {
