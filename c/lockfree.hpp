@@ -14,17 +14,19 @@
 // Values. A value of a trivially copyable type of up to 8 bytes is itself the word that the library
 // stores. Any other value lies in a cell of the container. The constructor makes the cells, and a
 // thread's first call some more. After that push and pop take no memory, whatever T is;
-// lockfree/cells.hpp names the two exceptions. A push(std::move(v)) that is refused moves v back.
+// lockfree/cells.hpp names the exceptions. A push(std::move(v)) that is refused moves v back.
 // The container destroys the values that are left in it.
 //
 // Answers. push and pop say bool, as Boost's. try_push and try_pop say why not: lockfree::status.
 // push_wait and pop_wait wait for room or a value, until the container is closed or a stop says so.
+// They poll; lockfree/blocking.hpp has calls that are woken.
 //
 // Exceptions. Constructors throw std::bad_alloc, and std::invalid_argument for a capacity that is
 // not 1 to 1,048,573. split, and calls that return a bool or a number, throw std::bad_alloc or
-// std::length_error if a thread's first call finds no memory or no pass. Calls that return a status
-// return it. With -fno-exceptions a call that would throw ends the program; `make`, `try_split` and
-// calls that return a status do not.
+// std::length_error if a thread's first call finds no memory or no pass. Each has a form that
+// begins with try_, which returns a status and throws nothing of its own. With -fno-exceptions a
+// call that would throw ends the program; `make` and calls that return a status do not. Files with
+// and without exceptions have containers of different types, and may be linked together.
 //
 // Wear. A queue takes 2^42 - 2 values in its life, a stack makes 2^42 - 1 pushes and pops. At ten
 // million pushes and pops a second that is five days for a queue, and two and a half for a stack. A

@@ -10,7 +10,7 @@
 #pragma once
 
 #if defined(BOOST_LOCKFREE_FIFO_HPP_INCLUDED) || defined(BOOST_LOCKFREE_STACK_HPP_INCLUDED)
-#error "lockfree_boost.hpp: Boost.Lockfree's own queue or stack is included already: include this instead"
+#error "lockfree_boost.hpp: Boost's own queue or stack is included already: include this instead"
 #else
 #define BOOST_LOCKFREE_FIFO_HPP_INCLUDED
 #define BOOST_LOCKFREE_STACK_HPP_INCLUDED
