@@ -7,8 +7,8 @@ use crate::waiting::{pop_until, push_until};
 use crate::{IntoIter, MakeError, PopError, PushError, Stop, TAG_LIMIT};
 use std::fmt;
 
-/// The passes of a ring if its caller gives no number: enough for the threads of a large machine. Each one takes some 24 bytes,
-/// and 170 if values lie in cells.
+/// The passes of a ring if its caller gives no number: enough for the threads of a large machine. (A ring takes memory for each
+/// of them, and calls by `&` need none of their own.)
 const USUAL_PASSES: u32 = 256;
 
 /// How many passes may be out at one time.
