@@ -103,8 +103,7 @@ def instructions(_):
     """The instructions of calls on one thread, as tests/instructions compares them."""
     with open(f"{kept.TOP}/tests/instructions.txt", encoding="utf-8") as file:
         counts = dict(line.split() for line in file if not line.startswith("#"))
-    columns = {"push and pop, from Rattle": "rattle.{}.pair", "push and pop, from C": "c.{}.pair-half-full", "refused push": "c.{}.refused-put",
-               "refused pop": "c.{}.refused-take", "look": "c.{}.look-full"}
+    columns = {"put and take": "rattle.{}.pair", "refused put": "rattle.{}.refused-put", "refused take": "rattle.{}.refused-take", "look": "rattle.{}.look"}
     yield "| Container | " + " | ".join(columns) + " |\n|---|" + "---|" * len(columns) + "\n"
     for name, called in NAMES.items():
         yield f"| {called} | " + " | ".join(f"{float(counts[form.format(name)]):.0f}" for form in columns.values()) + " |\n"
