@@ -99,18 +99,8 @@ def calls(_):
             yield f"| {NAMES[row['container']]} | {row['call']} | {float(row['here']):g} | {float(row['boost']):g} |\n"
 
 
-def instructions(_):
-    """The instructions of calls on one thread, as tests/instructions compares them."""
-    with open(f"{kept.TOP}/tests/instructions.txt", encoding="utf-8") as file:
-        counts = dict(line.split() for line in file if not line.startswith("#"))
-    columns = {"put and take": "rattle.{}.pair", "refused put": "rattle.{}.refused-put", "refused take": "rattle.{}.refused-take", "look": "rattle.{}.look"}
-    yield "| Container | " + " | ".join(columns) + " |\n|---|" + "---|" * len(columns) + "\n"
-    for name, called in NAMES.items():
-        yield f"| {called} | " + " | ".join(f"{float(counts[form.format(name)]):.0f}" for form in columns.values()) + " |\n"
-
-
 def measured(_):
     yield kept.origin() + "\n"
 
 
-TABLES = {"containers": containers, "cases": cases, "sizes": sizes, "calls": calls, "instructions": instructions, "measured": measured}
+TABLES = {"containers": containers, "cases": cases, "sizes": sizes, "calls": calls, "measured": measured}
